@@ -4,10 +4,10 @@ use Rattle.std.proofs.lemmas.List.{get_or-set_same, get_or-set_other, drop_all, 
 use Rattle.std.proofs.lemmas.Bool.Decides.{nat_tests}
 use Rattle.lmem_raw.specs.Bytes.{part, with_part}
 use Rattle.lmem_raw.proofs.Parts.{length-with_part, with_whole}
-use Rattle.geos_model.proofs.Words.{with_nothing}
-use Rattle.geos_model.specs.declared.name.Name.{Name}
-use Rattle.geos_model.specs.declared.name.Owner.{Owner}
-use Rattle.geos_model.specs.declared.name.Owner.TheVariants.{Mem, Vm}
+use Rattle.geos_terms.proofs.Words.{with_nothing}
+use Rattle.geos_terms.specs.declared.name.Name.{Name}
+use Rattle.geos_terms.specs.declared.name.Owner.{Owner}
+use Rattle.geos_terms.specs.declared.name.Owner.TheVariants.{Mem, Vm}
 use Rattle.block_handles.specs.Change.{with_block, without, with_locks, block_with_locks, blocks_with_bytes, with_bytes, block_after_write, blocks_after_write, after_write}
 use Rattle.block_handles.specs.Layout.{Apart, IsLaidOut}
 use Rattle.block_handles.specs.Offsets.{CoversRange, ReadsAs, WritesCovered, Copies}

@@ -5,7 +5,7 @@ use Rattle.std.proofs.lemmas.Bool.{cases_eq, cases_lt}
 use Rattle.block_handles.specs.Store.{Block, Store, block_at, bytes_in, IsBlock, IsThere, size_of, locks_in, locks_of, place_of, end_of, slot_count}
 use Rattle.block_handles.specs.Change.{with_block, with_place, with_locks, block_with_locks}
 use Rattle.block_handles.specs.Layout.{Apart, IsFree, IsFreeBut, IsLaidOut}
-use Rattle.geos_model.specs.Heap.{IsBlockSize}
+use Rattle.geos_terms.specs.Heap.{IsBlockSize}
 use Rattle.block_handles.specs.View.{IsIndexed}
 
 block_of_size : (b : Option Block) → 0 < length (bytes_in b) → IsBlock b

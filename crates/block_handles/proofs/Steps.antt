@@ -8,7 +8,7 @@ use Rattle.block_handles.specs.declared.arena.Entry.{Entry}
 use Rattle.block_handles.specs.Store.{Block, Store, bytes_of, locks_in, locks_of, IsBlock, IsThere, size_of, place_of}
 use Rattle.block_handles.specs.Change.{with_block, new_block, grown_block, with_locks, block_with_locks}
 use Rattle.block_handles.specs.Layout.{IsLaidOut, IsFreeBut}
-use Rattle.geos_model.specs.Heap.{IsBlockSize}
+use Rattle.geos_terms.specs.Heap.{IsBlockSize}
 use Rattle.block_handles.specs.View.{block_in, store_in, place_in, Lies, IsEntry, IsSound, IsIndexed}
 use Rattle.block_handles.proofs.Views.{OffEntry, entry_there, off_slot, off_same, off_less, store-set, part-two, block_there, bytes_there, place_there, lies_there, size_there, lies_set, length-part}
 use Rattle.block_handles.proofs.Layouts.{with_locks-shape, Differs, with_block-differs, laid-differs, laid-gone, SameShape, laid-same, indexed-same, size_of_none, there_small}

@@ -1,7 +1,7 @@
 -- How blocks lie in the region.
 use Rattle.std.specs.Prelude.{◌≡◌, ◌≢◌, ℕ, ◌≤◌, ◌⊎◌, List, length, None}
 use Rattle.lmem_raw.specs.Bytes.{part}
-use Rattle.geos_model.specs.Heap.{IsBlockSize}
+use Rattle.geos_terms.specs.Heap.{IsBlockSize}
 use Rattle.block_handles.specs.Store.{Store, block_at, IsThere, bytes_of, size_of, place_of, end_of, slot_count}
 
 -- one block ends before the other begins

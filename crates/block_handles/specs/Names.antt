@@ -1,8 +1,8 @@
 -- Names of blocks and their slots.
 use Rattle.std.specs.Prelude.{ℕ, ◌+◌, ◌-◌, ◌≤◌, nat_le, ◌&&◌, if◌then◌else◌}
-use Rattle.geos_model.specs.declared.name.Owner.{Owner}
-use Rattle.geos_model.specs.declared.name.Owner.TheVariants.{Mem, Vm}
-use Rattle.geos_model.specs.declared.name.Name.{Name}
+use Rattle.geos_terms.specs.declared.name.Owner.{Owner}
+use Rattle.geos_terms.specs.declared.name.Owner.TheVariants.{Mem, Vm}
+use Rattle.geos_terms.specs.declared.name.Name.{Name}
 
 -- the slot of an owner's handle 1
 abbrev pub first_slot : Owner → ℕ

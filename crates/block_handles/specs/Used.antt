@@ -1,6 +1,6 @@
 -- Which slots are in use, which handle is the lowest that is free, and how many bytes are.
 use Rattle.std.specs.Prelude.{◌≡◌, ℕ, ◌+◌, ◌<◌, ◌^◌, List, length}
-use Rattle.geos_model.specs.declared.name.Owner.{Owner}
+use Rattle.geos_terms.specs.declared.name.Owner.{Owner}
 use Rattle.block_handles.specs.declared.room.Gap.{Gap}
 use Rattle.block_handles.specs.Bits.{bit_of}
 use Rattle.block_handles.specs.Gap.{IsReady}

@@ -100,7 +100,7 @@ impl Arena {
     ghost use Rattle.block_handles.specs.Search.{IsFirst, IsLast, BeginsNone};
     ghost use Rattle.block_handles.specs.Store.{IsThere, bytes_of, size_of, place_of, end_of, locks_of, region_len};
     ghost use Rattle.block_handles.specs.Layout.{IsLaidOut, IsFreeBut};
-    ghost use Rattle.geos_model.specs.Heap.{IsBlockSize, most_block_bytes};
+    ghost use Rattle.geos_terms.specs.Heap.{IsBlockSize, most_block_bytes};
     ghost use Rattle.block_handles.specs.Change.{with_block, new_block, grown_block, with_place, with_locks, after_write};
     ghost use Rattle.block_handles.specs.Lending.{LendsBytes};
     ghost use Rattle.block_handles.specs.Offsets.{Copies, ReadsByte, ReadsWord};

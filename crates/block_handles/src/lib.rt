@@ -20,8 +20,8 @@ mod stretch;
 
 use arena::Arena;
 pub use error::{HandleError, RoomError};
-use geos_model::MOST_BLOCK_BYTES;
-pub use geos_model::{Name, Owner};
+use geos_terms::MOST_BLOCK_BYTES;
+pub use geos_terms::{Name, Owner};
 use name::{first_slot, name_of, slot_in_use, slot_of};
 use room::{Gap, room_for};
 use slots::SlotSet;
@@ -54,7 +54,7 @@ impl Blocks {
     ghost use Rattle.block_handles.specs.Calls.{Makes, Grows};
     ghost use Rattle.block_handles.specs.Change.{with_lock_more, with_lock_less, without, after_write};
     ghost use Rattle.block_handles.specs.Layout.{IsEmpty, IsLaidOut, IsRegion};
-    ghost use Rattle.geos_model.specs.Heap.{IsBlockSize, most_block_bytes};
+    ghost use Rattle.geos_terms.specs.Heap.{IsBlockSize, most_block_bytes};
     ghost use Rattle.block_handles.specs.LendingBlocks.{LendsBlock};
     ghost use Rattle.block_handles.specs.Names.{slot_of, IsHandle};
     ghost use Rattle.block_handles.specs.Offsets.{Copies, CopiesCovered, ReadsByte, ReadsWord, WritesCovered};

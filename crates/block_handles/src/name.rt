@@ -3,7 +3,7 @@
 ghost use Rattle.std.specs.Prelude.{◌≡◌, ◌<◌};
 ghost use Rattle.block_handles.specs.Names.{IsHandle, first_slot, slot_of};
 
-use geos_model::{Name, Owner};
+use geos_terms::{Name, Owner};
 
 /// The slot of an owner's handle 1.
 pub(crate) fn first_slot(owner: Owner) -> usize

@@ -1,15 +1,15 @@
 -- What an array needs with one element more.
 use Rattle.std.proofs.Common.{◌≡◌, ℕ, ◌+◌, ◌<◌, ◌≤◌, List, Some, length, refl, ap, sym, ◌∙◌, arith}
 use Rattle.lmem_raw.specs.Bytes.{part}
-use Rattle.geos_model.specs.Block.{chunks}
-use Rattle.geos_model.specs.Chunks.{chunk_of, bytes_of, need, with_bytes, with_inserted, with_zeros}
-use Rattle.geos_model.specs.Heap.{IsHeap}
-use Rattle.geos_model.specs.Arrays.{element_at, spelled, with_element}
-use Rattle.geos_model.specs.ArrayEdits.{array_of, with_array}
-use Rattle.geos_model.proofs.Resizes.{length-with_zeros}
-use Rattle.geos_model.proofs.ChunkItems.{known-bytes, chunk-written, need-length, need-least}
-use Rattle.geos_model.proofs.ArrayTests.{array-of}
-use Rattle.geos_model.proofs.ArrayPlaces.{element-bounds}
+use Rattle.geos_terms.specs.Block.{chunks}
+use Rattle.geos_terms.specs.Chunks.{chunk_of, bytes_of, need, with_bytes, with_inserted, with_zeros}
+use Rattle.geos_terms.specs.Heap.{IsHeap}
+use Rattle.geos_terms.specs.Arrays.{element_at, spelled, with_element}
+use Rattle.geos_terms.specs.ArrayEdits.{array_of, with_array}
+use Rattle.geos_terms.proofs.Resizes.{length-with_zeros}
+use Rattle.geos_terms.proofs.ChunkItems.{known-bytes, chunk-written, need-length, need-least}
+use Rattle.geos_terms.proofs.ArrayTests.{array-of}
+use Rattle.geos_terms.proofs.ArrayPlaces.{element-bounds}
 use Rattle.chunk_array.specs.declared.look.Found.{Found}
 use Rattle.chunk_array.specs.Found.{IsFound}
 use Rattle.chunk_array.specs.Insertions.{room_of, HasRoom}

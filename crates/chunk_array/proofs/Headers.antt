@@ -2,11 +2,11 @@
 use Rattle.std.proofs.Common.{◌≡◌, ℕ, ◌<◌, List, length, get_or, ◌∙◌, inl, inr, arith}
 use Rattle.std.proofs.lemmas.Bool.{cases_eq}
 use Rattle.std.proofs.lemmas.List.{drop_all}
-use Rattle.geos_model.specs.Bytes.{with_word}
-use Rattle.geos_model.specs.Arrays.{empty, first_at, spelled}
-use Rattle.geos_model.proofs.Words.{word-same, word-other, length-with_word}
-use Rattle.geos_model.proofs.ArraySpells.{spells, first-varying, first-fixed}
-use Rattle.geos_model.proofs.ArrayPlaces.{length-spelled}
+use Rattle.geos_terms.specs.Bytes.{with_word}
+use Rattle.geos_terms.specs.Arrays.{empty, first_at, spelled}
+use Rattle.geos_terms.proofs.Words.{word-same, word-other, length-with_word}
+use Rattle.geos_terms.proofs.ArraySpells.{spells, first-varying, first-fixed}
+use Rattle.geos_terms.proofs.ArrayPlaces.{length-spelled}
 
 -- a header of four words
 abbrev pub with_header : List ℕ → ℕ → List ℕ

@@ -5,16 +5,16 @@ use Rattle.std.proofs.lemmas.List.{get_or-take, get_or-drop, get_or_append_left,
 use Rattle.std.proofs.lemmas.List.Edits.{length-insert}
 use Rattle.std.proofs.lemmas.Grind.{same_number_lists}
 use Rattle.lmem_raw.specs.Bytes.{part}
-use Rattle.geos_model.specs.Bytes.{word, with_word}
-use Rattle.geos_model.specs.Chunks.{with_zeros}
-use Rattle.geos_model.specs.Arrays.{Array, first_at, element_at, new_length, with_element, spelled}
-use Rattle.geos_model.proofs.Words.{word-same, word-other, word-bytes, byte-other, length-with_word}
-use Rattle.geos_model.proofs.Resizes.{length-with_zeros, length-part}
-use Rattle.geos_model.proofs.Joined.{join, take-join}
-use Rattle.geos_model.proofs.JoinedEdits.{join-insert, take-insert, join-insert_behind, drop-front, zeros-front, zeros-behind}
-use Rattle.geos_model.proofs.ArraySpells.{spells, first-varying, first-fixed, element-at}
-use Rattle.geos_model.proofs.ArrayReads.{Reads}
-use Rattle.geos_model.proofs.ArrayPlaces.{element-bounds, drop-elements, length-spelled}
+use Rattle.geos_terms.specs.Bytes.{word, with_word}
+use Rattle.geos_terms.specs.Chunks.{with_zeros}
+use Rattle.geos_terms.specs.Arrays.{Array, first_at, element_at, new_length, with_element, spelled}
+use Rattle.geos_terms.proofs.Words.{word-same, word-other, word-bytes, byte-other, length-with_word}
+use Rattle.geos_terms.proofs.Resizes.{length-with_zeros, length-part}
+use Rattle.geos_terms.proofs.Joined.{join, take-join}
+use Rattle.geos_terms.proofs.JoinedEdits.{join-insert, take-insert, join-insert_behind, drop-front, zeros-front, zeros-behind}
+use Rattle.geos_terms.proofs.ArraySpells.{spells, first-varying, first-fixed, element-at}
+use Rattle.geos_terms.proofs.ArrayReads.{Reads}
+use Rattle.geos_terms.proofs.ArrayPlaces.{element-bounds, drop-elements, length-spelled}
 use Rattle.chunk_array.specs.Tables.{offset, OpensTable}
 
 pub new-varying : (a : Array) (n : ℕ) → a.element_size ≡ 0 → new_length a n ≡ n

@@ -2,8 +2,8 @@
 use Rattle.std.proofs.Common.{◌≡◌, ℕ, zero, suc, ◌+◌, ◌-◌, ◌*◌, ◌<◌, ◌≤◌, false, List, [], ◌∷◌, length, ap, sym, ◌∙◌, inl, inr, arith}
 use Rattle.std.specs.Prelude.{nat_le, ◌==◌, ◌&&◌}
 use Rattle.std.proofs.lemmas.Bool.{cases_eq, cases_lt, lt-leb, le-leb, eq-eqb, ne_eqb, and_left, and_right}
-use Rattle.geos_model.specs.Bytes.{word}
-use Rattle.geos_model.specs.Arrays.{are_offsets, never_fall, words_from}
+use Rattle.geos_terms.specs.Bytes.{word}
+use Rattle.geos_terms.specs.Arrays.{are_offsets, never_fall, words_from}
 
 -- no offset is past the end
 pub never-past : (at : ℕ) (rest : List ℕ) (end : ℕ) → end < at → never_fall at rest end ≡ false

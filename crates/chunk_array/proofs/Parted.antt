@@ -2,13 +2,13 @@
 use Rattle.std.proofs.Common.{◌≡◌, ◌≢◌, ℕ, ◌+◌, ◌-◌, ◌*◌, ◌<◌, ◌≤◌, List, length, take, drop, get_or, ap, sym, ◌∙◌, subst, inl, inr, arith, length-take}
 use Rattle.std.proofs.lemmas.Bool.{cases_eq, cases_lt}
 use Rattle.std.proofs.lemmas.List.{get_or-take, get_or-drop, get_or_append_left, get_or-append_right}
-use Rattle.geos_model.specs.Bytes.{with_word}
-use Rattle.geos_model.specs.Chunks.{without_part}
-use Rattle.geos_model.specs.Arrays.{Array, element_at, element}
-use Rattle.geos_model.proofs.ArraySpells.{first-varying}
-use Rattle.geos_model.proofs.ArrayReads.{Reads, reads}
-use Rattle.geos_model.proofs.ArrayPlaces.{element-bounds, element-ends, element-order}
-use Rattle.geos_model.proofs.Words.{length-with_word}
+use Rattle.geos_terms.specs.Bytes.{with_word}
+use Rattle.geos_terms.specs.Chunks.{without_part}
+use Rattle.geos_terms.specs.Arrays.{Array, element_at, element}
+use Rattle.geos_terms.proofs.ArraySpells.{first-varying}
+use Rattle.geos_terms.proofs.ArrayReads.{Reads, reads}
+use Rattle.geos_terms.proofs.ArrayPlaces.{element-bounds, element-ends, element-order}
+use Rattle.geos_terms.proofs.Words.{length-with_word}
 use Rattle.chunk_array.specs.declared.shape.ElementPlace.{ElementPlace}
 use Rattle.chunk_array.specs.declared.shape.Shape.{Shape}
 use Rattle.chunk_array.specs.Insertions.{room_of}

@@ -1,8 +1,8 @@
 -- An array that was found, of which an element is to go.
 use Rattle.std.proofs.Common.{◌≡◌, ℕ, ◌+◌, List, ap, sym, ◌∙◌, arith}
 use Rattle.lmem_raw.specs.Bytes.{part}
-use Rattle.geos_model.specs.Heap.{IsHeap}
-use Rattle.geos_model.specs.Arrays.{element_at}
+use Rattle.geos_terms.specs.Heap.{IsHeap}
+use Rattle.geos_terms.specs.Arrays.{element_at}
 use Rattle.chunk_array.specs.declared.look.Found.{Found}
 use Rattle.chunk_array.specs.declared.shape.ElementPlace.{ElementPlace}
 use Rattle.chunk_array.specs.Found.{HasIndex}

@@ -3,17 +3,17 @@ use Rattle.std.proofs.Common.{◌≡◌, ◌≢◌, ℕ, List, [], ◌∷◌, �
 use Rattle.std.specs.Prelude.{Bool, is_none, nat_lt}
 use Rattle.std.proofs.lemmas.Bool.{cases_lt}
 use Rattle.std.proofs.lemmas.List.{get_or_past}
-use Rattle.geos_model.specs.declared.refusal.Refusal.{Refusal}
-use Rattle.geos_model.specs.declared.refusal.Refusal.TheVariants.{BadChunk, BadArray, BadElement}
-use Rattle.geos_model.specs.Refusals.{first_refusal}
-use Rattle.geos_model.specs.Bytes.{AreBytes}
-use Rattle.geos_model.specs.Chunks.{chunk_of, bytes_of, with_new, new_handle, resized}
-use Rattle.geos_model.specs.Arrays.{Array, arr, element, empty, spelled, with_element, without_element, with_element_bytes}
-use Rattle.geos_model.specs.ArrayEdits.{array_of, count_of, no_array, is_fixed, is_past, with_array, create_array, append_element, insert_element, remove_element, clear_array, resize_element}
-use Rattle.geos_model.proofs.ArrayRound.{array-spelled, spelled-array}
-use Rattle.geos_model.proofs.ArrayReads.{not-headed}
-use Rattle.geos_model.proofs.ArrayTests.{array-of, fixed-refused}
-use Rattle.geos_model.proofs.ChunkItems.{known-bytes, chunk-written, chunk-new}
+use Rattle.geos_terms.specs.declared.refusal.Refusal.{Refusal}
+use Rattle.geos_terms.specs.declared.refusal.Refusal.TheVariants.{BadChunk, BadArray, BadElement}
+use Rattle.geos_terms.specs.Refusals.{first_refusal}
+use Rattle.geos_terms.specs.Bytes.{AreBytes}
+use Rattle.geos_terms.specs.Chunks.{chunk_of, bytes_of, with_new, new_handle, resized}
+use Rattle.geos_terms.specs.Arrays.{Array, arr, element, empty, spelled, with_element, without_element, with_element_bytes}
+use Rattle.geos_terms.specs.ArrayEdits.{array_of, count_of, no_array, is_fixed, is_past, with_array, create_array, append_element, insert_element, remove_element, clear_array, resize_element}
+use Rattle.geos_terms.proofs.ArrayRound.{array-spelled, spelled-array}
+use Rattle.geos_terms.proofs.ArrayReads.{not-headed}
+use Rattle.geos_terms.proofs.ArrayTests.{array-of, fixed-refused}
+use Rattle.geos_terms.proofs.ChunkItems.{known-bytes, chunk-written, chunk-new}
 use Rattle.chunk_array.specs.Changes.{IsSized, ChangesArray, EditsChangeArrays}
 use Rattle.chunk_array.proofs.Sized.{read-sized, empty-sized, with-sized, without-sized, with-bytes-sized}
 

@@ -3,16 +3,16 @@ use Rattle.std.proofs.Common.{◌≡◌, ℕ, suc, ◌+◌, ◌*◌, ◌<◌, �
 use Rattle.std.proofs.lemmas.Bool.{cases_lt}
 use Rattle.std.proofs.lemmas.List.{take-set-le, take_all}
 use Rattle.lmem_raw.specs.Bytes.{part}
-use Rattle.geos_model.specs.Bytes.{word}
-use Rattle.geos_model.specs.Chunks.{resized}
-use Rattle.geos_model.specs.Arrays.{Array, first_at, element_at, element, spelled}
-use Rattle.geos_model.proofs.Words.{word-bytes}
-use Rattle.geos_model.proofs.Resizes.{length-resized}
-use Rattle.geos_model.proofs.Joined.{join}
-use Rattle.geos_model.proofs.JoinedEdits.{join-set, join-set_behind, drop-front, length-resized_part}
-use Rattle.geos_model.proofs.ArraySpells.{spells, first-varying, element-at}
-use Rattle.geos_model.proofs.ArrayReads.{Reads, reads}
-use Rattle.geos_model.proofs.ArrayPlaces.{element-bounds, element-ends, element-order, drop-elements, part-element, length-spelled}
+use Rattle.geos_terms.specs.Bytes.{word}
+use Rattle.geos_terms.specs.Chunks.{resized}
+use Rattle.geos_terms.specs.Arrays.{Array, first_at, element_at, element, spelled}
+use Rattle.geos_terms.proofs.Words.{word-bytes}
+use Rattle.geos_terms.proofs.Resizes.{length-resized}
+use Rattle.geos_terms.proofs.Joined.{join}
+use Rattle.geos_terms.proofs.JoinedEdits.{join-set, join-set_behind, drop-front, length-resized_part}
+use Rattle.geos_terms.proofs.ArraySpells.{spells, first-varying, element-at}
+use Rattle.geos_terms.proofs.ArrayReads.{Reads, reads}
+use Rattle.geos_terms.proofs.ArrayPlaces.{element-bounds, element-ends, element-order, drop-elements, part-element, length-spelled}
 use Rattle.chunk_array.specs.declared.shape.ElementPlace.{ElementPlace}
 use Rattle.chunk_array.specs.declared.shape.Shape.{Shape}
 use Rattle.chunk_array.specs.Refits.{HasRefit, with_refit}

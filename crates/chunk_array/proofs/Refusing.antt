@@ -1,9 +1,9 @@
 -- Refusals of a heap that cannot come, and those that come first.
 use Rattle.std.proofs.Common.{◌≡◌, ℕ, ◌+◌, ◌≤◌, Bool, true, false, cond, List, [], ◌∷◌, ◌++◌, Option, Some, None, length, ap, sym, ◌∙◌, arith}
-use Rattle.geos_model.specs.Chunks.{chunk_of, bytes_of}
-use Rattle.geos_model.specs.declared.refusal.Refusal.{Refusal}
-use Rattle.geos_model.specs.Refusals.{first_refusal}
-use Rattle.geos_model.proofs.ChunkItems.{known-bytes}
+use Rattle.geos_terms.specs.Chunks.{chunk_of, bytes_of}
+use Rattle.geos_terms.specs.declared.refusal.Refusal.{Refusal}
+use Rattle.geos_terms.specs.Refusals.{first_refusal}
+use Rattle.geos_terms.proofs.ChunkItems.{known-bytes}
 use Rattle.lmem_heap.specs.declared.error.DeleteError.{DeleteError}
 use Rattle.lmem_heap.specs.declared.error.DeleteError.TheVariants.{BadChunk, Range}
 use Rattle.lmem_heap.specs.Refusals.{IsDeleteError}

@@ -5,15 +5,15 @@ use Rattle.std.proofs.lemmas.List.{get_or-drop}
 use Rattle.std.proofs.lemmas.List.Edits.{length-remove}
 use Rattle.std.proofs.lemmas.Grind.{same_number_lists}
 use Rattle.lmem_raw.specs.Bytes.{part}
-use Rattle.geos_model.specs.Bytes.{word, with_word}
-use Rattle.geos_model.specs.Chunks.{without_part}
-use Rattle.geos_model.specs.Arrays.{Array, first_at, element_at, element, without_element, spelled}
-use Rattle.geos_model.proofs.Words.{word-same, word-other, word-bytes, byte-other, length-with_word, part-shifted}
-use Rattle.geos_model.proofs.Joined.{join}
-use Rattle.geos_model.proofs.JoinedEdits.{join-remove, take-remove, join-remove_behind, drop-front, length-without}
-use Rattle.geos_model.proofs.ArraySpells.{spells, first-varying, first-fixed, element-at}
-use Rattle.geos_model.proofs.ArrayReads.{Reads}
-use Rattle.geos_model.proofs.ArrayPlaces.{element-bounds, element-ends, drop-elements}
+use Rattle.geos_terms.specs.Bytes.{word, with_word}
+use Rattle.geos_terms.specs.Chunks.{without_part}
+use Rattle.geos_terms.specs.Arrays.{Array, first_at, element_at, element, without_element, spelled}
+use Rattle.geos_terms.proofs.Words.{word-same, word-other, word-bytes, byte-other, length-with_word, part-shifted}
+use Rattle.geos_terms.proofs.Joined.{join}
+use Rattle.geos_terms.proofs.JoinedEdits.{join-remove, take-remove, join-remove_behind, drop-front, length-without}
+use Rattle.geos_terms.proofs.ArraySpells.{spells, first-varying, first-fixed, element-at}
+use Rattle.geos_terms.proofs.ArrayReads.{Reads}
+use Rattle.geos_terms.proofs.ArrayPlaces.{element-bounds, element-ends, drop-elements}
 use Rattle.chunk_array.specs.Tables.{offset, ClosesTable}
 use Rattle.chunk_array.proofs.Inserting.{front-word, front-elements, first-le, drop-word}
 

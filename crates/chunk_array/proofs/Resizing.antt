@@ -1,16 +1,16 @@
 -- An array that was found, of which an element gets another size.
 use Rattle.std.proofs.Common.{◌≡◌, ℕ, ◌+◌, ◌<◌, ◌≤◌, List, Some, None, length, ap, sym, ◌∙◌, arith}
 use Rattle.lmem_raw.specs.Bytes.{part}
-use Rattle.geos_model.specs.Block.{chunks}
-use Rattle.geos_model.specs.Chunks.{chunk_of, bytes_of, need, with_bytes, with_resized_part}
-use Rattle.geos_model.specs.Heap.{IsHeap}
-use Rattle.geos_model.specs.Refusals.{first_refusal}
-use Rattle.geos_model.specs.Arrays.{element_at, element, spelled}
-use Rattle.geos_model.specs.ArrayEdits.{resize_element, with_array}
-use Rattle.geos_model.proofs.JoinedEdits.{length-resized_part}
-use Rattle.geos_model.proofs.ChunkItems.{known-bytes, chunk-written, need-length}
-use Rattle.geos_model.proofs.ArrayTests.{array-of, resize-passes}
-use Rattle.geos_model.proofs.ArrayPlaces.{element-bounds, element-ends}
+use Rattle.geos_terms.specs.Block.{chunks}
+use Rattle.geos_terms.specs.Chunks.{chunk_of, bytes_of, need, with_bytes, with_resized_part}
+use Rattle.geos_terms.specs.Heap.{IsHeap}
+use Rattle.geos_terms.specs.Refusals.{first_refusal}
+use Rattle.geos_terms.specs.Arrays.{element_at, element, spelled}
+use Rattle.geos_terms.specs.ArrayEdits.{resize_element, with_array}
+use Rattle.geos_terms.proofs.JoinedEdits.{length-resized_part}
+use Rattle.geos_terms.proofs.ChunkItems.{known-bytes, chunk-written, need-length}
+use Rattle.geos_terms.proofs.ArrayTests.{array-of, resize-passes}
+use Rattle.geos_terms.proofs.ArrayPlaces.{element-bounds, element-ends}
 use Rattle.chunk_array.specs.declared.look.Found.{Found}
 use Rattle.chunk_array.specs.declared.shape.ElementPlace.{ElementPlace}
 use Rattle.chunk_array.specs.Found.{IsFound}

@@ -5,15 +5,15 @@ use Rattle.std.proofs.lemmas.Bool.{cases_lt}
 use Rattle.std.proofs.Common.{inl, inr}
 use Rattle.lmem_raw.specs.Bytes.{part, with_part}
 use Rattle.lmem_raw.proofs.Parts.{with_whole}
-use Rattle.geos_model.specs.Block.{Place, chunks, handle_word, place_of, bytes_at, IsPlaced}
+use Rattle.geos_terms.specs.Block.{Place, chunks, handle_word, place_of, bytes_at, IsPlaced}
 use Rattle.std.specs.Option.{option_map}
-use Rattle.geos_model.specs.Chunks.{with_bytes, chunk_of}
-use Rattle.geos_model.proofs.Places.{chunk-place}
-use Rattle.geos_model.specs.Heap.{IsHeap}
-use Rattle.geos_model.specs.Writes.{ChangesChunk}
-use Rattle.geos_model.proofs.Parts.{put_over}
-use Rattle.geos_model.proofs.Resizes.{length-part}
-use Rattle.geos_model.proofs.Writes.{writes-stay}
+use Rattle.geos_terms.specs.Chunks.{with_bytes, chunk_of}
+use Rattle.geos_terms.proofs.Places.{chunk-place}
+use Rattle.geos_terms.specs.Heap.{IsHeap}
+use Rattle.geos_terms.specs.Writes.{ChangesChunk}
+use Rattle.geos_terms.proofs.Parts.{put_over}
+use Rattle.geos_terms.proofs.Resizes.{length-part}
+use Rattle.geos_terms.proofs.Writes.{writes-stay}
 
 -- a heap with other bytes as the chunk of a handle
 pub record Rewrites (b d : List ℕ) (c : ℕ) (xs : List ℕ) : Type 0 where

@@ -3,13 +3,13 @@ use Rattle.std.proofs.Common.{◌≡◌, ◌≢◌, ℕ, ◌+◌, ◌*◌, ◌<�
 use Rattle.std.proofs.lemmas.Bool.{cases_eq, eq-eqb, ne_eqb}
 use Rattle.std.proofs.lemmas.List.Edits.{length-insert}
 use Rattle.std.proofs.Math.Nat.{mul-le-mul_left}
-use Rattle.geos_model.specs.Bytes.{with_word}
-use Rattle.geos_model.specs.Chunks.{with_zeros}
-use Rattle.geos_model.specs.Arrays.{Array, element_at, new_length, with_element, spelled}
-use Rattle.geos_model.proofs.Resizes.{length-with_zeros}
-use Rattle.geos_model.proofs.ArraySpells.{first-varying, first-fixed}
-use Rattle.geos_model.proofs.ArrayReads.{Reads, reads}
-use Rattle.geos_model.proofs.ArrayPlaces.{element-bounds}
+use Rattle.geos_terms.specs.Bytes.{with_word}
+use Rattle.geos_terms.specs.Chunks.{with_zeros}
+use Rattle.geos_terms.specs.Arrays.{Array, element_at, new_length, with_element, spelled}
+use Rattle.geos_terms.proofs.Resizes.{length-with_zeros}
+use Rattle.geos_terms.proofs.ArraySpells.{first-varying, first-fixed}
+use Rattle.geos_terms.proofs.ArrayReads.{Reads, reads}
+use Rattle.geos_terms.proofs.ArrayPlaces.{element-bounds}
 use Rattle.chunk_array.specs.declared.shape.ElementPlace.{ElementPlace}
 use Rattle.chunk_array.specs.declared.shape.Shape.{Shape}
 use Rattle.chunk_array.specs.Insertions.{room_of, HasRoom}

@@ -1,14 +1,14 @@
 -- What the shape of an array tells of it.
 use Rattle.std.proofs.Common.{◌≡◌, ◌≢◌, ℕ, ◌+◌, ◌*◌, ◌<◌, ◌≤◌, List, Some, length, get_or, ap, sym, ◌∙◌, subst, arith}
 use Rattle.lmem_raw.specs.Bytes.{part}
-use Rattle.geos_model.specs.Bytes.{word}
-use Rattle.geos_model.specs.Block.{chunks}
-use Rattle.geos_model.specs.Chunks.{chunk_of}
-use Rattle.geos_model.proofs.Resizes.{length-part}
-use Rattle.geos_model.specs.Arrays.{Array, arr, element_at}
-use Rattle.geos_model.proofs.ArraySpells.{first-varying}
-use Rattle.geos_model.proofs.ArrayReads.{Reads, reads}
-use Rattle.geos_model.proofs.ArrayPlaces.{same-array, element-bounds}
+use Rattle.geos_terms.specs.Bytes.{word}
+use Rattle.geos_terms.specs.Block.{chunks}
+use Rattle.geos_terms.specs.Chunks.{chunk_of}
+use Rattle.geos_terms.proofs.Resizes.{length-part}
+use Rattle.geos_terms.specs.Arrays.{Array, arr, element_at}
+use Rattle.geos_terms.proofs.ArraySpells.{first-varying}
+use Rattle.geos_terms.proofs.ArrayReads.{Reads, reads}
+use Rattle.geos_terms.proofs.ArrayPlaces.{same-array, element-bounds}
 use Rattle.chunk_array.specs.declared.shape.Shape.{Shape}
 use Rattle.chunk_array.specs.declared.look.Found.{Found}
 use Rattle.chunk_array.specs.Shapes.{HasShape}

@@ -4,8 +4,8 @@ use Rattle.std.specs.Prelude.{◌==◌, if◌then◌else◌, All}
 use Rattle.std.proofs.lemmas.Bool.{cases_Bool, and_parts, ne_eqb, eqb-true}
 use Rattle.std.proofs.lemmas.List.{length-replicate}
 use Rattle.std.proofs.lemmas.List.Elements.{All-nil, All-cons, All-append, All-take, All-drop, All-set}
-use Rattle.geos_model.specs.Arrays.{Array, arr, is_array, has_header, are_varying, are_equal, equal_parts, count_word, size_word, empty, new_length, with_element, without_element, with_element_bytes}
-use Rattle.geos_model.proofs.ArrayReads.{array_in}
+use Rattle.geos_terms.specs.Arrays.{Array, arr, is_array, has_header, are_varying, are_equal, equal_parts, count_word, size_word, empty, new_length, with_element, without_element, with_element_bytes}
+use Rattle.geos_terms.proofs.ArrayReads.{array_in}
 use Rattle.chunk_array.specs.Changes.{IsSized}
 use Rattle.chunk_array.proofs.Inserting.{new-fixed}
 

@@ -3,8 +3,8 @@ use Rattle.std.proofs.Common.{◌≡◌, ℕ, ◌+◌, ◌-◌, ◌*◌, ◌<◌
 use Rattle.std.proofs.lemmas.Bool.{cases_eq}
 use Rattle.lmem_raw.specs.Bytes.{part, with_part}
 use Rattle.lmem_raw.proofs.Parts.{length-with_part}
-use Rattle.geos_model.specs.Bytes.{with_word, IsShifted}
-use Rattle.geos_model.proofs.Words.{word-same, word-other, word-bytes, word-shifted, word-part_other, byte-other, length-with_word, part-moved, get_or-with_part_before, get_or-with_part_behind}
+use Rattle.geos_terms.specs.Bytes.{with_word, IsShifted}
+use Rattle.geos_terms.proofs.Words.{word-same, word-other, word-bytes, word-shifted, word-part_other, byte-other, length-with_word, part-moved, get_or-with_part_before, get_or-with_part_behind}
 use Rattle.chunk_array.specs.Tables.{offset, ShiftsOffsets, OpensTable, ClosesTable}
 
 -- nothing is shifted yet

@@ -1,8 +1,8 @@
 -- When calls on arrays refuse.
 use Rattle.std.specs.Prelude.{◌≡◌, Bool, List, Some}
-use Rattle.geos_model.specs.declared.refusal.Refusal.{Refusal}
-use Rattle.geos_model.specs.declared.refusal.Refusal.TheVariants as refusals
-use Rattle.geos_model.specs.Refusals.{first_refusal}
+use Rattle.geos_terms.specs.declared.refusal.Refusal.{Refusal}
+use Rattle.geos_terms.specs.declared.refusal.Refusal.TheVariants as refusals
+use Rattle.geos_terms.specs.Refusals.{first_refusal}
 use Rattle.chunk_array.specs.declared.error.ArrayError.{ArrayError}
 use Rattle.chunk_array.specs.declared.error.ArrayError.TheVariants.{BadChunk, BadArray}
 

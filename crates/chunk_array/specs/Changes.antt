@@ -1,10 +1,10 @@
 -- What becomes of the array in a chunk.
 use Rattle.std.specs.Prelude.{◌≡◌, ◌≢◌, ℕ, List, length, Option, Some, None, All}
-use Rattle.geos_model.specs.Chunks.{bytes_of, resized}
-use Rattle.geos_model.specs.Refusals.{first_refusal}
-use Rattle.geos_model.specs.Edits.{Edit}
-use Rattle.geos_model.specs.Arrays.{Array, arr, element, empty, with_element, without_element, with_element_bytes}
-use Rattle.geos_model.specs.ArrayEdits.{create_array, append_element, insert_element, remove_element, clear_array, resize_element}
+use Rattle.geos_terms.specs.Chunks.{bytes_of, resized}
+use Rattle.geos_terms.specs.Refusals.{first_refusal}
+use Rattle.geos_terms.specs.Edits.{Edit}
+use Rattle.geos_terms.specs.Arrays.{Array, arr, element, empty, with_element, without_element, with_element_bytes}
+use Rattle.geos_terms.specs.ArrayEdits.{create_array, append_element, insert_element, remove_element, clear_array, resize_element}
 
 -- where an array says which size its elements have, each has it
 abbrev pub IsSized : Array → Type 0

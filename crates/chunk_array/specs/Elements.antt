@@ -1,9 +1,9 @@
 -- Where elements stand in a block.
 use Rattle.std.specs.Prelude.{◌≡◌, ℕ, ◌+◌, ◌≤◌, List, length}
 use Rattle.lmem_raw.specs.Bytes.{part}
-use Rattle.geos_model.specs.Block.{chunks, IsPlaced}
-use Rattle.geos_model.specs.Edits.{Part}
-use Rattle.geos_model.specs.ArrayEdits.{refer_element, element_of}
+use Rattle.geos_terms.specs.Block.{chunks, IsPlaced}
+use Rattle.geos_terms.specs.Edits.{Part}
+use Rattle.geos_terms.specs.ArrayEdits.{refer_element, element_of}
 
 -- the element of this index
 abbrev pub part_of : List ℕ → ℕ → ℕ → Part

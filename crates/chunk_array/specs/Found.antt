@@ -1,8 +1,8 @@
 -- Arrays that calls find.
 use Rattle.std.specs.Prelude.{◌≡◌, ℕ, ◌+◌, ◌<◌, ◌≤◌, List, length, slice_index, Some}
 use Rattle.lmem_raw.specs.Bytes.{part}
-use Rattle.geos_model.specs.Block.{chunks, IsPlaced}
-use Rattle.geos_model.specs.Chunks.{chunk_of}
+use Rattle.geos_terms.specs.Block.{chunks, IsPlaced}
+use Rattle.geos_terms.specs.Chunks.{chunk_of}
 use Rattle.chunk_array.specs.declared.look.Found.{Found}
 use Rattle.chunk_array.specs.Shapes.{HasShape}
 

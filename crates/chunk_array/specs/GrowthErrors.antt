@@ -1,8 +1,8 @@
 -- When calls that may need more room refuse.
 use Rattle.std.specs.Prelude.{◌≡◌, ℕ, Bool, List, Some, None}
-use Rattle.geos_model.specs.declared.refusal.Refusal.{Refusal}
-use Rattle.geos_model.specs.declared.refusal.Refusal.TheVariants as refusals
-use Rattle.geos_model.specs.Refusals.{first_refusal}
+use Rattle.geos_terms.specs.declared.refusal.Refusal.{Refusal}
+use Rattle.geos_terms.specs.declared.refusal.Refusal.TheVariants as refusals
+use Rattle.geos_terms.specs.Refusals.{first_refusal}
 use Rattle.lmem_heap.specs.Refusals.{IsRoomError}
 use Rattle.chunk_array.specs.declared.error.AppendError.{AppendError}
 use Rattle.chunk_array.specs.declared.error.AppendError.TheVariants as append

@@ -1,8 +1,8 @@
 -- Bytes into which an element is to be put.
 use Rattle.std.specs.Prelude.{◌≡◌, ℕ, ◌+◌, ◌<◌, ◌≤◌, ◌==◌, if◌then◌else◌, List, length, slice_index, Some}
-use Rattle.geos_model.specs.Chunks.{with_zeros}
-use Rattle.geos_model.specs.Arrays.{Array, arr, element_at}
-use Rattle.geos_model.specs.Heap.{most_block_bytes}
+use Rattle.geos_terms.specs.Chunks.{with_zeros}
+use Rattle.geos_terms.specs.Arrays.{Array, arr, element_at}
+use Rattle.geos_terms.specs.Heap.{most_block_bytes}
 use Rattle.chunk_array.specs.declared.shape.ElementPlace.{ElementPlace}
 use Rattle.chunk_array.specs.declared.shape.Shape.{Shape}
 

@@ -1,8 +1,8 @@
 -- Bytes in which an element has got another size.
 use Rattle.std.specs.Prelude.{◌≡◌, ℕ, ◌<◌, ◌≤◌, List, length, slice_index, Some}
-use Rattle.geos_model.specs.Chunks.{resized, with_resized_part}
-use Rattle.geos_model.specs.Arrays.{Array, arr, element_at, element, with_element_bytes}
-use Rattle.geos_model.specs.Heap.{most_block_bytes}
+use Rattle.geos_terms.specs.Chunks.{resized, with_resized_part}
+use Rattle.geos_terms.specs.Arrays.{Array, arr, element_at, element, with_element_bytes}
+use Rattle.geos_terms.specs.Heap.{most_block_bytes}
 use Rattle.chunk_array.specs.declared.shape.ElementPlace.{ElementPlace}
 use Rattle.chunk_array.specs.declared.shape.Shape.{Shape}
 

@@ -1,9 +1,9 @@
 -- Bytes out of which an element is to go.
 use Rattle.std.specs.Prelude.{◌≡◌, ℕ, ◌+◌, ◌-◌, ◌<◌, ◌≤◌, List, length, slice_index, Some}
-use Rattle.geos_model.specs.Block.{chunks}
-use Rattle.geos_model.specs.Chunks.{with_bytes, without_part}
-use Rattle.geos_model.specs.Arrays.{Array, arr, element_at, spelled, without_element}
-use Rattle.geos_model.specs.Heap.{most_block_bytes}
+use Rattle.geos_terms.specs.Block.{chunks}
+use Rattle.geos_terms.specs.Chunks.{with_bytes, without_part}
+use Rattle.geos_terms.specs.Arrays.{Array, arr, element_at, spelled, without_element}
+use Rattle.geos_terms.specs.Heap.{most_block_bytes}
 use Rattle.chunk_array.specs.declared.shape.ElementPlace.{ElementPlace}
 use Rattle.chunk_array.specs.declared.shape.Shape.{Shape}
 use Rattle.chunk_array.specs.Insertions.{room_of}

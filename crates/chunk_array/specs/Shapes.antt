@@ -1,6 +1,6 @@
 -- What is read of an array's bytes.
 use Rattle.std.specs.Prelude.{◌≡◌, ℕ, List, length, Some}
-use Rattle.geos_model.specs.Arrays.{Array, arr}
+use Rattle.geos_terms.specs.Arrays.{Array, arr}
 use Rattle.chunk_array.specs.declared.shape.Shape.{Shape}
 
 -- the bytes spell an array of this count and this size of elements

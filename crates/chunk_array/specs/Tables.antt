@@ -1,6 +1,6 @@
 -- Changes of the table of offsets, and of what stands behind it.
 use Rattle.std.specs.Prelude.{◌≡◌, ℕ, ◌+◌, ◌*◌, ◌<◌, ◌≤◌, ◌⊎◌, List, length, slice_index}
-use Rattle.geos_model.specs.Bytes.{word, IsShifted}
+use Rattle.geos_terms.specs.Bytes.{word, IsShifted}
 
 -- an offset of the table
 abbrev pub offset : List ℕ → ℕ → ℕ

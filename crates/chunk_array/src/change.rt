@@ -1,10 +1,10 @@
 //! Changes of an array's bytes where they stand.
 ghost use Rattle.std.specs.Prelude.{◌≡◌, ℕ, ◌≤◌, List, length, Option, Some};
-ghost use Rattle.geos_model.specs.Arrays.{Array, spelled, with_element};
-ghost use Rattle.geos_model.specs.ArrayEdits.{with_array};
-ghost use Rattle.geos_model.specs.Block.{chunks, handle_word};
-ghost use Rattle.geos_model.specs.Chunks.{chunk_of};
-ghost use Rattle.geos_model.specs.Heap.{IsHeap};
+ghost use Rattle.geos_terms.specs.Arrays.{Array, spelled, with_element};
+ghost use Rattle.geos_terms.specs.ArrayEdits.{with_array};
+ghost use Rattle.geos_terms.specs.Block.{chunks, handle_word};
+ghost use Rattle.geos_terms.specs.Chunks.{chunk_of};
+ghost use Rattle.geos_terms.specs.Heap.{IsHeap};
 ghost use Rattle.std.specs.Prelude.{IsSomeAnd};
 ghost use Rattle.chunk_array.specs.Insertions.{HasRoom, IsRoomy};
 ghost use Rattle.chunk_array.specs.Refits.{HasRefit, IsRefitted, with_refit};

@@ -1,11 +1,11 @@
 //! Elements that come.
 ghost use Rattle.std.specs.Prelude.{◌≡◌, ◌≤◌, length, IfErr, OnErr, OnOk};
-ghost use Rattle.geos_model.specs.Arrays.{with_element};
-ghost use Rattle.geos_model.specs.ArrayEdits.{append_element, array_of, insert_element, with_array};
-ghost use Rattle.geos_model.specs.Block.{chunks, handle_word};
-ghost use Rattle.geos_model.specs.Chunks.{need};
-ghost use Rattle.geos_model.specs.Heap.{IsHeap};
-ghost use Rattle.geos_model.specs.Refusals.{first_refusal};
+ghost use Rattle.geos_terms.specs.Arrays.{with_element};
+ghost use Rattle.geos_terms.specs.ArrayEdits.{append_element, array_of, insert_element, with_array};
+ghost use Rattle.geos_terms.specs.Block.{chunks, handle_word};
+ghost use Rattle.geos_terms.specs.Chunks.{need};
+ghost use Rattle.geos_terms.specs.Heap.{IsHeap};
+ghost use Rattle.geos_terms.specs.Refusals.{first_refusal};
 ghost use Rattle.lmem_heap.specs.Refusals.{IsRoomError};
 ghost use Rattle.chunk_array.specs.Changes.{ChangesArray};
 ghost use Rattle.chunk_array.specs.Found.{IsFound};

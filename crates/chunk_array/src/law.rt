@@ -1,9 +1,9 @@
 //! The laws of arrays in bytes.
 ghost use Rattle.std.specs.Prelude.{◌≡◌, ◌≢◌, ℕ, List, length, Option, Some};
-ghost use Rattle.geos_model.specs.Bytes.{AreBytes};
-ghost use Rattle.geos_model.specs.Chunks.{bytes_of};
-ghost use Rattle.geos_model.specs.Arrays.{Array, arr, empty, spelled, with_element, without_element, with_element_bytes};
-ghost use Rattle.geos_model.specs.ArrayEdits.{array_of, with_array};
+ghost use Rattle.geos_terms.specs.Bytes.{AreBytes};
+ghost use Rattle.geos_terms.specs.Chunks.{bytes_of};
+ghost use Rattle.geos_terms.specs.Arrays.{Array, arr, empty, spelled, with_element, without_element, with_element_bytes};
+ghost use Rattle.geos_terms.specs.ArrayEdits.{array_of, with_array};
 ghost use Rattle.chunk_array.specs.Changes.{ChangesArray, EditsChangeArrays, IsSized};
 
 /// An array whose elements have the size that it says, where it says one, is read back out of

@@ -1,10 +1,10 @@
 //! Calls that look at an array.
 ghost use Rattle.std.specs.Prelude.{◌≡◌, ℕ, ◌+◌, ◌<◌, ◌≤◌, length, IfErr, IfOk, MatchResult, OnOk};
 ghost use Rattle.lmem_raw.specs.Bytes.{part};
-ghost use Rattle.geos_model.specs.Refusals.{first_refusal};
-ghost use Rattle.geos_model.specs.Block.{chunks, IsPlaced};
-ghost use Rattle.geos_model.specs.Heap.{IsHeap};
-ghost use Rattle.geos_model.specs.ArrayEdits.{count_elements, no_array, no_element};
+ghost use Rattle.geos_terms.specs.Refusals.{first_refusal};
+ghost use Rattle.geos_terms.specs.Block.{chunks, IsPlaced};
+ghost use Rattle.geos_terms.specs.Heap.{IsHeap};
+ghost use Rattle.geos_terms.specs.ArrayEdits.{count_elements, no_array, no_element};
 ghost use Rattle.chunk_array.specs.Found.{HasIndex, IsFound};
 ghost use Rattle.chunk_array.specs.Shapes.{HasShape};
 ghost use Rattle.chunk_array.specs.Elements.{HasElement};
@@ -24,7 +24,7 @@ pub(crate) struct Found {
 }
 
 impl Found {
-    ghost use Rattle.geos_model.specs.Arrays.{Array, arr, element_at};
+    ghost use Rattle.geos_terms.specs.Arrays.{Array, arr, element_at};
 
     /// Where an element begins, from the chunk's first byte on; at the count, where the last
     /// one ends.

@@ -1,11 +1,11 @@
 //! Arrays with no element.
 ghost use Rattle.std.specs.Prelude.{◌≡◌, length, IfErr, IfOk, OnErr, OnOk, IsSomeAnd, ◌≤◌};
-ghost use Rattle.geos_model.specs.Refusals.{first_refusal};
-ghost use Rattle.geos_model.specs.Block.{chunks, handle_word};
-ghost use Rattle.geos_model.specs.Chunks.{bytes_of, chunk_of, need};
-ghost use Rattle.geos_model.specs.Heap.{IsHeap};
-ghost use Rattle.geos_model.specs.Arrays.{arr, empty, spelled};
-ghost use Rattle.geos_model.specs.ArrayEdits.{clear_array, create_array, with_array};
+ghost use Rattle.geos_terms.specs.Refusals.{first_refusal};
+ghost use Rattle.geos_terms.specs.Block.{chunks, handle_word};
+ghost use Rattle.geos_terms.specs.Chunks.{bytes_of, chunk_of, need};
+ghost use Rattle.geos_terms.specs.Heap.{IsHeap};
+ghost use Rattle.geos_terms.specs.Arrays.{arr, empty, spelled};
+ghost use Rattle.geos_terms.specs.ArrayEdits.{clear_array, create_array, with_array};
 ghost use Rattle.lmem_heap.specs.Refusals.{IsRoomError};
 ghost use Rattle.chunk_array.specs.ArrayErrors.{IsArrayError};
 ghost use Rattle.chunk_array.specs.Changes.{ChangesArray};

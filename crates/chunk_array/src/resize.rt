@@ -1,11 +1,11 @@
 //! Elements that get another size.
 ghost use Rattle.std.specs.Prelude.{◌≡◌, ◌+◌, ◌≤◌, length, IfErr, IsSome, OnErr, OnOk};
-ghost use Rattle.geos_model.specs.Arrays.{element, with_element_bytes};
-ghost use Rattle.geos_model.specs.ArrayEdits.{resize_element};
-ghost use Rattle.geos_model.specs.Block.{chunks, handle_word};
-ghost use Rattle.geos_model.specs.Chunks.{bytes_of, chunk_of, need, resized, with_bytes, with_resized_part};
-ghost use Rattle.geos_model.specs.Heap.{IsHeap, most_block_bytes};
-ghost use Rattle.geos_model.specs.Refusals.{first_refusal};
+ghost use Rattle.geos_terms.specs.Arrays.{element, with_element_bytes};
+ghost use Rattle.geos_terms.specs.ArrayEdits.{resize_element};
+ghost use Rattle.geos_terms.specs.Block.{chunks, handle_word};
+ghost use Rattle.geos_terms.specs.Chunks.{bytes_of, chunk_of, need, resized, with_bytes, with_resized_part};
+ghost use Rattle.geos_terms.specs.Heap.{IsHeap, most_block_bytes};
+ghost use Rattle.geos_terms.specs.Refusals.{first_refusal};
 ghost use Rattle.lmem_heap.specs.Refusals.{IsRoomError};
 ghost use Rattle.chunk_array.specs.Changes.{ChangesArray};
 ghost use Rattle.chunk_array.specs.GrowthErrors.{IsGrowthError};

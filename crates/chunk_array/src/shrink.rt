@@ -1,10 +1,10 @@
 //! Elements that go.
 ghost use Rattle.std.specs.Prelude.{◌≡◌, IfErr, OnErr, OnOk};
-ghost use Rattle.geos_model.specs.Arrays.{without_element};
-ghost use Rattle.geos_model.specs.ArrayEdits.{remove_element};
-ghost use Rattle.geos_model.specs.Block.{chunks, handle_word};
-ghost use Rattle.geos_model.specs.Heap.{IsHeap};
-ghost use Rattle.geos_model.specs.Refusals.{first_refusal};
+ghost use Rattle.geos_terms.specs.Arrays.{without_element};
+ghost use Rattle.geos_terms.specs.ArrayEdits.{remove_element};
+ghost use Rattle.geos_terms.specs.Block.{chunks, handle_word};
+ghost use Rattle.geos_terms.specs.Heap.{IsHeap};
+ghost use Rattle.geos_terms.specs.Refusals.{first_refusal};
 ghost use Rattle.chunk_array.specs.Changes.{ChangesArray};
 ghost use Rattle.chunk_array.specs.ElementErrors.{IsElementError};
 

@@ -1,20 +1,20 @@
 -- No call on chunks refuses, by its own tests, what is refused from outside.
 use Rattle.std.proofs.Common.{◌≡◌, ◌∙◌, ℕ, Bool, true, false, List, [], ◌∷◌, Option, Some, None, cond, refl, ap, inl, inr, subst}
 use Rattle.std.specs.Prelude.{◌⊎◌, Err}
-use Rattle.geos_model.specs.declared.name.Name.{Name}
-use Rattle.geos_model.specs.declared.refusal.Refusal.{Refusal}
-use Rattle.geos_model.specs.declared.refusal.Refusal.TheVariants.{Disk, NoRoom}
-use Rattle.geos_model.specs.Edits.{Edit, refer}
-use Rattle.geos_model.specs.Refusals.{first_refusal}
-use Rattle.geos_table.specs.declared.call.Change.{Change}
-use Rattle.geos_table.specs.declared.call.Change.TheVariants as change
-use Rattle.geos_table.specs.declared.call.Make.{Make}
-use Rattle.geos_table.specs.declared.call.Make.TheVariants.{Lalloc, Canew}
-use Rattle.geos_table.specs.ChunkCalls.{change_edit, make_edit}
+use Rattle.geos_terms.specs.declared.name.Name.{Name}
+use Rattle.geos_terms.specs.declared.refusal.Refusal.{Refusal}
+use Rattle.geos_terms.specs.declared.refusal.Refusal.TheVariants.{Disk, NoRoom}
+use Rattle.geos_terms.specs.Edits.{Edit, refer}
+use Rattle.geos_terms.specs.Refusals.{first_refusal}
+use Rattle.geos_calls.specs.declared.call.Change.{Change}
+use Rattle.geos_calls.specs.declared.call.Change.TheVariants as change
+use Rattle.geos_calls.specs.declared.call.Make.{Make}
+use Rattle.geos_calls.specs.declared.call.Make.TheVariants.{Lalloc, Canew}
+use Rattle.geos_calls.specs.ChunkCalls.{change_edit, make_edit}
 use Rattle.block_handles.specs.Store.{Store}
 use Rattle.vm_blocks.specs.View.{VmState}
-use Rattle.heap_calls.specs.Edits.{Carries}
-use Rattle.heap_calls.specs.Heaps.{CannotHold, chunks_at}
+use Rattle.chunk_calls.specs.Edits.{Carries}
+use Rattle.chunk_calls.specs.Heaps.{CannotHold, chunks_at}
 
 -- room is refused from outside, and the device
 abbrev pub is_outside : Refusal → Bool

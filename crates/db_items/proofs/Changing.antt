@@ -2,16 +2,16 @@
 use Rattle.std.proofs.Common.{◌≡◌, ◌≢◌, ◌∙◌, ℕ, List, Option, Some, None, Bool, true, false, refl, sym, ap, inl, inr, subst}
 use Rattle.std.specs.Prelude.{◌⊎◌, IfSome, IsSomeAnd, Result, Ok, Err, option_map}
 use Rattle.std.proofs.lemmas.Bool.{cases_eq}
-use Rattle.geos_model.specs.Block.{chunks}
-use Rattle.geos_model.specs.Chunks.{need}
-use Rattle.geos_model.specs.Edits.{Edit}
-use Rattle.geos_model.specs.Names.{vm, group_uid}
-use Rattle.geos_model.specs.Refusals.{first_refusal}
-use Rattle.geos_model.specs.declared.refusal.Refusal.{Refusal}
-use Rattle.geos_model.specs.declared.refusal.Refusal.TheVariants as refusal
-use Rattle.geos_table.specs.Effects.{Call}
-use Rattle.geos_table.specs.ItemCalls.{on_group}
-use Rattle.geos_table.specs.Memory.{Memory, with_mark}
+use Rattle.geos_terms.specs.Block.{chunks}
+use Rattle.geos_terms.specs.Chunks.{need}
+use Rattle.geos_terms.specs.Edits.{Edit}
+use Rattle.geos_terms.specs.Names.{vm, group_uid}
+use Rattle.geos_terms.specs.Refusals.{first_refusal}
+use Rattle.geos_terms.specs.declared.refusal.Refusal.{Refusal}
+use Rattle.geos_terms.specs.declared.refusal.Refusal.TheVariants as refusal
+use Rattle.geos_calls.specs.Effects.{Call}
+use Rattle.geos_calls.specs.ItemCalls.{on_group}
+use Rattle.geos_calls.specs.Memory.{Memory, with_mark}
 use Rattle.block_handles.specs.Names.{IsHandle}
 use Rattle.block_handles.specs.Store.{Block, Store, IsBlock, IsThere, block_at, bytes_in, bytes_of, locks_in, locks_of}
 use Rattle.block_handles.specs.Stretch.{HasNoRoom}
@@ -33,11 +33,11 @@ use Rattle.vm_blocks.proofs.Bringing.{reads-as}
 use Rattle.vm_blocks.proofs.Marking.{stays-changed}
 use Rattle.vm_blocks.proofs.Thinning.{tied-thins}
 use Rattle.vm_blocks.proofs.Wanting.{discards-remain, remain-more, same-remain}
-use Rattle.heap_calls.specs.Edits.{Carries, DiscardsAndEdits}
-use Rattle.heap_calls.specs.Heaps as heaps
-use Rattle.heap_calls.specs.Others.{KeepsOthers}
-use Rattle.heap_calls.proofs.Kept.{vm-keeps}
-use Rattle.heap_calls.proofs.Regrown.{rechunked-other}
+use Rattle.chunk_calls.specs.Edits.{Carries, DiscardsAndEdits}
+use Rattle.chunk_calls.specs.Heaps as heaps
+use Rattle.chunk_calls.specs.Others.{KeepsOthers}
+use Rattle.chunk_calls.proofs.Kept.{vm-keeps}
+use Rattle.chunk_calls.proofs.Regrown.{rechunked-other}
 use Rattle.db_items.specs.Groups.{BringsGroup, IsGroup}
 use Rattle.db_items.specs.Items.{ChangesItem, LacksItemRoom, room_wanted}
 use Rattle.db_items.proofs.Asking.{AsksInside, carries-no_disk}

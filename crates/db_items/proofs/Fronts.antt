@@ -1,11 +1,11 @@
 -- Calls with tests in front of their own.
 use Rattle.std.proofs.Common.{◌≡◌, ◌∙◌, List, Option, Some, None, Bool, ◌++◌, refl, sym, ap}
 use Rattle.std.specs.Prelude.{Result, Ok, Err}
-use Rattle.geos_model.specs.declared.refusal.Refusal.{Refusal}
-use Rattle.geos_model.specs.Refusals.{first_refusal}
-use Rattle.geos_table.specs.Effects.{Effect, come_to, outcome}
-use Rattle.geos_table.specs.Memory.{Memory}
-use Rattle.geos_table.proofs.Laws.{first_refusal-passed}
+use Rattle.geos_terms.specs.declared.refusal.Refusal.{Refusal}
+use Rattle.geos_terms.specs.Refusals.{first_refusal}
+use Rattle.geos_calls.specs.Effects.{Effect, come_to, outcome}
+use Rattle.geos_calls.specs.Memory.{Memory}
+use Rattle.geos_calls.proofs.Laws.{first_refusal-passed}
 
 module _ {A : Type 0} where
   -- nothing was refused

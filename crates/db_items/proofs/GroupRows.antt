@@ -2,16 +2,16 @@
 use Rattle.std.proofs.Common.{◌≡◌, ◌≢◌, ◌∙◌, ℕ, [], ◌∷◌, true, false, refl, ap, arith}
 use Rattle.std.specs.Prelude.{◌==◌, Result, Err}
 use Rattle.std.proofs.lemmas.Bool.Decides.{nat_tests}
-use Rattle.geos_model.specs.declared.refusal.Refusal.{Refusal}
-use Rattle.geos_model.specs.declared.refusal.Refusal.TheVariants as refusal
-use Rattle.geos_model.specs.Names.{vm}
-use Rattle.geos_model.specs.Refusals.{first_refusal}
-use Rattle.geos_table.specs.Calls.{is_in_use}
-use Rattle.geos_table.specs.Effects.{come_to, unchanged}
-use Rattle.geos_table.specs.Given.{given_memory}
-use Rattle.geos_table.specs.ItemCalls.{gfree, isetmap, no_group}
-use Rattle.geos_table.specs.Memory.{is_group}
-use Rattle.geos_table.specs.VmCalls.{free_listed, no_listed, without_listed}
+use Rattle.geos_terms.specs.declared.refusal.Refusal.{Refusal}
+use Rattle.geos_terms.specs.declared.refusal.Refusal.TheVariants as refusal
+use Rattle.geos_terms.specs.Names.{vm}
+use Rattle.geos_terms.specs.Refusals.{first_refusal}
+use Rattle.geos_calls.specs.Calls.{is_in_use}
+use Rattle.geos_calls.specs.Effects.{come_to, unchanged}
+use Rattle.geos_calls.specs.Given.{given_memory}
+use Rattle.geos_calls.specs.ItemCalls.{gfree, isetmap, no_group}
+use Rattle.geos_calls.specs.Memory.{is_group}
+use Rattle.geos_calls.specs.VmCalls.{free_listed, no_listed, without_listed}
 use Rattle.block_handles.specs.Store.{Store}
 use Rattle.vm_file.specs.Device.{Medium}
 use Rattle.vm_blocks.specs.DoesRow.{DoesRow}

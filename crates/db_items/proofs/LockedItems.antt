@@ -2,20 +2,20 @@
 use Rattle.std.proofs.Common.{◌≡◌, ◌≢◌, ◌∙◌, ℕ, ◌+◌, ◌≤◌, List, [], ◌∷◌, Some, None, Bool, true, false, ◌++◌, refl, sym, ap, arith, subst}
 use Rattle.std.specs.Prelude.{◌==◌, Result, Ok, Err}
 use Rattle.std.proofs.lemmas.Bool.Decides.{nat_tests}
-use Rattle.geos_model.specs.Block.{chunks}
-use Rattle.geos_model.specs.Edits.{Edit, Part, refer}
-use Rattle.geos_model.specs.Names.{vm}
-use Rattle.geos_model.specs.Refusals.{first_refusal}
-use Rattle.geos_model.specs.declared.refusal.Refusal.{Refusal}
-use Rattle.geos_model.specs.declared.refusal.Refusal.TheVariants as refusal
-use Rattle.geos_table.specs.Calls.{deref, in_block, locks_full}
-use Rattle.geos_table.specs.Effects.{Choice, Reference, bringing, come_to, outcome, unchanged}
-use Rattle.geos_table.specs.Given.{given_memory}
-use Rattle.geos_table.specs.ItemCalls.{ilock, no_group}
-use Rattle.geos_table.specs.Memory as memory
-use Rattle.geos_table.specs.Memory.{Memory, is_group}
-use Rattle.geos_table.specs.VmCalls.{bring, no_listed}
-use Rattle.geos_table.proofs.Laws.{first_refusal-came}
+use Rattle.geos_terms.specs.Block.{chunks}
+use Rattle.geos_terms.specs.Edits.{Edit, Part, refer}
+use Rattle.geos_terms.specs.Names.{vm}
+use Rattle.geos_terms.specs.Refusals.{first_refusal}
+use Rattle.geos_terms.specs.declared.refusal.Refusal.{Refusal}
+use Rattle.geos_terms.specs.declared.refusal.Refusal.TheVariants as refusal
+use Rattle.geos_calls.specs.Calls.{deref, in_block, locks_full}
+use Rattle.geos_calls.specs.Effects.{Choice, Reference, bringing, come_to, outcome, unchanged}
+use Rattle.geos_calls.specs.Given.{given_memory}
+use Rattle.geos_calls.specs.ItemCalls.{ilock, no_group}
+use Rattle.geos_calls.specs.Memory as memory
+use Rattle.geos_calls.specs.Memory.{Memory, is_group}
+use Rattle.geos_calls.specs.VmCalls.{bring, no_listed}
+use Rattle.geos_calls.proofs.Laws.{first_refusal-came}
 use Rattle.block_handles.specs.Change.{with_locks}
 use Rattle.block_handles.specs.Store.{Store, IsThere, bytes_of, locks_of}
 use Rattle.vm_file.specs.Device.{Medium}
@@ -25,8 +25,8 @@ use Rattle.vm_blocks.specs.Tied.{IsTied}
 use Rattle.vm_blocks.specs.View.{VmState, vm_slot}
 use Rattle.vm_blocks.proofs.BringRows.{chosen}
 use Rattle.vm_blocks.proofs.LockRows.{few-locks, locks-told, memory-locked}
-use Rattle.heap_calls.specs.Edits.{Finds}
-use Rattle.heap_calls.proofs.Named.{chunks-known}
+use Rattle.chunk_calls.specs.Edits.{Finds}
+use Rattle.chunk_calls.proofs.Named.{chunks-known}
 use Rattle.db_items.specs.Groups.{IsGroup}
 use Rattle.db_items.specs.Items.{refers_to}
 use Rattle.db_items.proofs.Fronts.{came-err, fronted-err, fronted-ok}

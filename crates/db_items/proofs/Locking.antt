@@ -1,14 +1,14 @@
 -- Calls that lock a group for an item, put together: it is brought, the item is found, it is locked.
 use Rattle.std.proofs.Common.{◌≡◌, ◌≢◌, ◌∙◌, ℕ, zero, suc, ◌+◌, ◌≤◌, ◌<◌, length, Bool, true, false, List, [], ◌∷◌, Option, Some, None, refl, sym, ap, arith, inl, inr, subst}
 use Rattle.std.specs.Prelude.{◌⊎◌, is_none, nat_lt, Result, Ok, Err}
-use Rattle.geos_model.specs.Block.{chunks}
-use Rattle.geos_model.specs.Chunks.{chunk_of}
-use Rattle.geos_model.specs.Edits.{length_of, refer}
-use Rattle.geos_model.specs.Names.{vm}
-use Rattle.geos_model.specs.Refusals.{first_refusal}
-use Rattle.geos_model.specs.declared.refusal.Refusal.{Refusal}
-use Rattle.geos_model.specs.declared.refusal.Refusal.TheVariants as refusal
-use Rattle.geos_table.specs.ItemCalls.{ilock}
+use Rattle.geos_terms.specs.Block.{chunks}
+use Rattle.geos_terms.specs.Chunks.{chunk_of}
+use Rattle.geos_terms.specs.Edits.{length_of, refer}
+use Rattle.geos_terms.specs.Names.{vm}
+use Rattle.geos_terms.specs.Refusals.{first_refusal}
+use Rattle.geos_terms.specs.declared.refusal.Refusal.{Refusal}
+use Rattle.geos_terms.specs.declared.refusal.Refusal.TheVariants as refusal
+use Rattle.geos_calls.specs.ItemCalls.{ilock}
 use Rattle.block_handles.specs.Change.{with_locks}
 use Rattle.block_handles.specs.Names.{IsHandle}
 use Rattle.block_handles.specs.Store.{Store, bytes_in, bytes_of, locks_of}
@@ -23,7 +23,7 @@ use Rattle.vm_blocks.proofs.Bringing.{reads-as, reads-nothing}
 use Rattle.vm_blocks.proofs.Counts.{keeps-locked, locked-tied, locks-more}
 use Rattle.vm_blocks.proofs.LockRows.{not-brought-few}
 use Rattle.vm_blocks.proofs.Wanting.{always-listed, listed-more, locked-remain, same-remain}
-use Rattle.heap_calls.specs.Edits.{Finds}
+use Rattle.chunk_calls.specs.Edits.{Finds}
 use Rattle.db_items.specs.Groups.{BringsGroup, IsGroup}
 use Rattle.db_items.specs.Items.{LocksItem}
 use Rattle.db_items.proofs.Asking.{refer-inside}

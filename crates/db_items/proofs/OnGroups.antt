@@ -1,19 +1,19 @@
 -- Calls on the chunks of a group do their rows: the group is brought, its chunks change, it is marked.
 use Rattle.std.proofs.Common.{◌≡◌, ◌∙◌, ℕ, List, [], ◌∷◌, Option, Some, None, Bool, true, false, ◌++◌, refl, sym, ap, subst}
 use Rattle.std.specs.Prelude.{Ok, Err}
-use Rattle.geos_model.specs.declared.name.Name.{Name}
-use Rattle.geos_model.specs.declared.refusal.Refusal.{Refusal}
-use Rattle.geos_model.specs.declared.refusal.Refusal.TheVariants as refusal
-use Rattle.geos_model.specs.Edits.{Edit}
-use Rattle.geos_model.specs.Refusals.{first_refusal}
-use Rattle.geos_table.specs.Calls.{enlarges}
-use Rattle.geos_table.specs.ChunkCalls.{row_in}
-use Rattle.geos_table.specs.Effects.{Call, Choice, bringing, come_to, unchanged}
-use Rattle.geos_table.specs.Given.{given_memory}
-use Rattle.geos_table.specs.ItemCalls.{no_group, on_group}
-use Rattle.geos_table.specs.Memory.{Memory, is_group, with_mark}
-use Rattle.geos_table.specs.VmCalls.{bring, no_listed}
-use Rattle.geos_table.proofs.Laws.{first_refusal-came}
+use Rattle.geos_terms.specs.declared.name.Name.{Name}
+use Rattle.geos_terms.specs.declared.refusal.Refusal.{Refusal}
+use Rattle.geos_terms.specs.declared.refusal.Refusal.TheVariants as refusal
+use Rattle.geos_terms.specs.Edits.{Edit}
+use Rattle.geos_terms.specs.Refusals.{first_refusal}
+use Rattle.geos_calls.specs.Calls.{enlarges}
+use Rattle.geos_calls.specs.ChunkCalls.{row_in}
+use Rattle.geos_calls.specs.Effects.{Call, Choice, bringing, come_to, unchanged}
+use Rattle.geos_calls.specs.Given.{given_memory}
+use Rattle.geos_calls.specs.ItemCalls.{no_group, on_group}
+use Rattle.geos_calls.specs.Memory.{Memory, is_group, with_mark}
+use Rattle.geos_calls.specs.VmCalls.{bring, no_listed}
+use Rattle.geos_calls.proofs.Laws.{first_refusal-came}
 use Rattle.block_handles.specs.Store.{Store}
 use Rattle.vm_file.specs.Device.{Medium}
 use Rattle.vm_blocks.specs.DoesRow.{DoesRow, DoesRowAlone, IsChosen}

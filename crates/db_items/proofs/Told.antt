@@ -2,11 +2,11 @@
 use Rattle.std.proofs.Common.{◌≡◌, ◌≢◌, ◌∙◌, ℕ, List, Option, Some, None, true, false, refl, ap, arith}
 use Rattle.std.specs.Prelude.{◌==◌, IsSomeAnd, is_none, option_map}
 use Rattle.std.proofs.lemmas.Bool.Decides.{nat_tests}
-use Rattle.geos_table.specs.Directories.{VmBlock, uid_in}
-use Rattle.geos_model.specs.Names.{group_uid}
-use Rattle.geos_table.specs.Given.{given_memory}
-use Rattle.geos_table.specs.Memory.{Memory, at_handle, is_group, listed_at}
-use Rattle.geos_table.proofs.LegalGiven.{entry-told_given, listed-given}
+use Rattle.geos_calls.specs.Directories.{VmBlock, uid_in}
+use Rattle.geos_terms.specs.Names.{group_uid}
+use Rattle.geos_calls.specs.Given.{given_memory}
+use Rattle.geos_calls.specs.Memory.{Memory, at_handle, is_group, listed_at}
+use Rattle.geos_calls.proofs.LegalGiven.{entry-told_given, listed-given}
 use Rattle.block_handles.specs.Store.{Store}
 use Rattle.vm_file.specs.Device.{Medium}
 use Rattle.vm_blocks.specs.FileOf.{IsMemoryOf}

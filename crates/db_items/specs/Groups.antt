@@ -1,9 +1,9 @@
 -- Groups, and how one is brought into memory.
 use Rattle.std.specs.Prelude.{◌≡◌, ℕ, IsSomeAnd, OnOk, Result, Err}
-use Rattle.geos_model.specs.Names.{group_uid}
-use Rattle.geos_model.specs.declared.refusal.Refusal.{Refusal}
-use Rattle.geos_model.specs.declared.refusal.Refusal.TheVariants.{BadHandle, Disk, NoRoom, Short}
-use Rattle.geos_table.specs.VmCalls.{bring}
+use Rattle.geos_terms.specs.Names.{group_uid}
+use Rattle.geos_terms.specs.declared.refusal.Refusal.{Refusal}
+use Rattle.geos_terms.specs.declared.refusal.Refusal.TheVariants.{BadHandle, Disk, NoRoom, Short}
+use Rattle.geos_calls.specs.VmCalls.{bring}
 use Rattle.block_handles.specs.Store.{Store, IsThere}
 use Rattle.vm_file.specs.Device.{Medium}
 use Rattle.vm_blocks.specs.Bring.{Brought}

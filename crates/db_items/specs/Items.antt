@@ -1,14 +1,14 @@
 -- What calls on items make of the blocks, the table and the device.
 use Rattle.std.specs.Prelude.{◌≡◌, ℕ, ◌+◌, ◌≤◌, ◌<◌, List, length, Option, Some, None, IfOk, IfSome, OnErr, OnOk, Result, Ok, Err, option_map}
-use Rattle.geos_model.specs.Block.{chunks}
-use Rattle.geos_model.specs.Chunks.{need}
-use Rattle.geos_model.specs.Edits.{Edit, refer}
-use Rattle.geos_model.specs.Names.{vm}
-use Rattle.geos_model.specs.declared.refusal.Refusal.{Refusal}
-use Rattle.geos_model.specs.declared.refusal.Refusal.TheVariants.{Disk, NoRoom, Short}
-use Rattle.geos_table.specs.Calls.{in_block}
-use Rattle.geos_table.specs.Effects.{Call, Reference}
-use Rattle.geos_table.specs.ItemCalls.{ilock}
+use Rattle.geos_terms.specs.Block.{chunks}
+use Rattle.geos_terms.specs.Chunks.{need}
+use Rattle.geos_terms.specs.Edits.{Edit, refer}
+use Rattle.geos_terms.specs.Names.{vm}
+use Rattle.geos_terms.specs.declared.refusal.Refusal.{Refusal}
+use Rattle.geos_terms.specs.declared.refusal.Refusal.TheVariants.{Disk, NoRoom, Short}
+use Rattle.geos_calls.specs.Calls.{in_block}
+use Rattle.geos_calls.specs.Effects.{Call, Reference}
+use Rattle.geos_calls.specs.ItemCalls.{ilock}
 use Rattle.block_handles.specs.Change.{with_lock_more}
 use Rattle.block_handles.specs.Store.{Block, Store, IsThere, block_at, bytes_of, locks_of}
 use Rattle.block_handles.specs.Stretch.{HasNoRoom}
@@ -21,7 +21,7 @@ use Rattle.vm_blocks.specs.DoesRow.{DoesRow}
 use Rattle.vm_blocks.specs.Room.{LacksRoom, NoneIdle, RemainOrNoRoom}
 use Rattle.vm_blocks.specs.Tied.{IsTied}
 use Rattle.vm_blocks.specs.View.{VmState, held_at, vm_slot, with_device, with_held}
-use Rattle.heap_calls.specs.Edits.{Finds}
+use Rattle.chunk_calls.specs.Edits.{Finds}
 use Rattle.db_items.specs.Groups.{RefusesNoGroup}
 
 -- what a group needs for a call: its listed length where it is not in memory, else what its chunks

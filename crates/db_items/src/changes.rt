@@ -1,21 +1,21 @@
 //! Calls that change the chunks of a group: the two ways in.
-ghost use Rattle.geos_model.specs.Names.{vm as vm_name};
-ghost use Rattle.geos_table.specs.ChunkCalls.{change_edit, change_row, make_edit, make_row};
-ghost use Rattle.geos_table.specs.ItemCalls.{on_group};
+ghost use Rattle.geos_terms.specs.Names.{vm as vm_name};
+ghost use Rattle.geos_calls.specs.ChunkCalls.{change_edit, change_row, make_edit, make_row};
+ghost use Rattle.geos_calls.specs.ItemCalls.{on_group};
 ghost use Rattle.vm_blocks.specs.Tied.{IsTied};
 ghost use Rattle.db_items.specs.Items.{ChangesItem};
 
 use crate::groups::bring_group;
 use block_handles::Blocks;
-use geos_model::{Name, Refusal};
-use geos_table::{Change, Make};
-use heap_calls::{change as change_chunks, make as make_chunk};
+use chunk_calls::{change as change_chunks, make as make_chunk};
+use geos_calls::{Change, Make};
+use geos_terms::{Name, Refusal};
 use vm_blocks::VmBlocks;
 use vm_file::Device;
 
 /// Makes a change in a group, which is brought into memory first, and marked where the change is
 /// made. `BadHandle` where no group has this handle; `NoRoom` and `Disk` where it does not come into
-/// memory; then what `heap_calls::change` refuses.
+/// memory; then what `chunk_calls::change` refuses.
 pub fn item_change<D: Device + Drop>(
     vm: &mut VmBlocks<D>,
     blocks: &mut Blocks,

@@ -1,8 +1,8 @@
 //! Groups: which blocks are groups, new ones, those that go, and those that come into memory.
 ghost use Rattle.std.specs.Prelude.{◌≡◌, ◌⊎◌, ◌<◌, ◌↔◌, ℕ, Err, IsTrue, IfOk, IfErr, OnOk, OnErr};
 ghost use Rattle.block_handles.specs.Store.{locks_of};
-ghost use Rattle.geos_table.specs.ItemCalls.{gfree, gnew};
-ghost use Rattle.geos_model.specs.Names.{group_uid};
+ghost use Rattle.geos_calls.specs.ItemCalls.{gfree, gnew};
+ghost use Rattle.geos_terms.specs.Names.{group_uid};
 ghost use Rattle.vm_blocks.specs.Blocks.{Adds, AllListed, IsLowestUnlisted, LacksRoomForNew, without_held};
 ghost use Rattle.vm_blocks.specs.Bring.{Drops};
 ghost use Rattle.vm_blocks.specs.DoesRow.{DoesRow};
@@ -12,7 +12,7 @@ ghost use Rattle.vm_blocks.specs.View.{vm_slot};
 ghost use Rattle.db_items.specs.Groups.{BringsGroup, IsGroup, RefusesNoGroup};
 
 use block_handles::Blocks;
-use geos_model::Refusal;
+use geos_terms::Refusal;
 use vm_blocks::VmBlocks;
 use vm_file::{Device, GROUP_UID};
 

@@ -1,13 +1,13 @@
 //! Items that are made, freed, and get other lengths.
-ghost use Rattle.geos_model.specs.Edits.{alloc, delete_bytes, free, insert_bytes, realloc};
-ghost use Rattle.geos_table.specs.ItemCalls.{idel, ifree, iins, inew, irealloc};
+ghost use Rattle.geos_terms.specs.Edits.{alloc, delete_bytes, free, insert_bytes, realloc};
+ghost use Rattle.geos_calls.specs.ItemCalls.{idel, ifree, iins, inew, irealloc};
 ghost use Rattle.vm_blocks.specs.Tied.{IsTied};
 ghost use Rattle.db_items.specs.Items.{ChangesItem};
 
 use crate::changes::{item_change, item_make};
 use block_handles::Blocks;
-use geos_model::Refusal;
-use geos_table::{Change, Make};
+use geos_calls::{Change, Make};
+use geos_terms::Refusal;
 use vm_blocks::VmBlocks;
 use vm_file::Device;
 

@@ -1,6 +1,6 @@
 //! Groups that are locked for an item, unlocked and marked.
 ghost use Rattle.std.specs.Prelude.{◌≡◌, ◌<◌, ◌↔◌, IsTrue, Ok, Err, option_map};
-ghost use Rattle.geos_table.specs.ItemCalls.{idirty, iunlock};
+ghost use Rattle.geos_calls.specs.ItemCalls.{idirty, iunlock};
 ghost use Rattle.block_handles.specs.Change.{with_lock_less};
 ghost use Rattle.block_handles.specs.Store.{IsThere, locks_of};
 ghost use Rattle.vm_blocks.specs.Blocks.{marked};
@@ -12,9 +12,9 @@ ghost use Rattle.db_items.specs.Items.{LocksItem};
 
 use crate::groups::{bring_group, is_group};
 use block_handles::Blocks;
-use geos_model::{Name, Refusal};
-use geos_table::Refer;
-use heap_calls::find;
+use chunk_calls::find;
+use geos_calls::Refer;
+use geos_terms::{Name, Refusal};
 use vm_blocks::VmBlocks;
 use vm_file::Device;
 

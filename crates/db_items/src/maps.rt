@@ -1,13 +1,13 @@
 //! The map item.
 ghost use Rattle.std.specs.Prelude.{◌≡◌, ◌≢◌, ◌↔◌, Ok, Err, OnOk, OnErr};
 ghost use Rattle.block_handles.specs.Store.{Store};
-ghost use Rattle.geos_table.specs.ItemCalls.{igetmap, isetmap};
+ghost use Rattle.geos_calls.specs.ItemCalls.{igetmap, isetmap};
 ghost use Rattle.vm_blocks.specs.DoesRow.{DoesRow};
 ghost use Rattle.vm_blocks.specs.Tied.{IsTied};
 ghost use Rattle.db_items.specs.Groups.{IsGroup};
 
 use crate::groups::is_group;
-use geos_model::Refusal;
+use geos_terms::Refusal;
 use vm_blocks::VmBlocks;
 use vm_file::Device;
 

@@ -5,10 +5,10 @@ use Rattle.std.specs.Str.Lines.{lines}
 use Rattle.std.specs.Io.KnownBytes.{Appends, Keeps}
 use Rattle.std.proofs.KnownBytes.{Appends-kept, Appends-nil, Appends-trans}
 use Rattle.std.proofs.lemmas.List.{take_more, take_all}
-use Rattle.geos_model.specs.declared.refusal.Refusal.{Refusal}
-use Rattle.geos_table.specs.VmFile.{Kept, VmFile}
-use Rattle.geos_table.specs.VmCalls.{commit}
-use Rattle.geos_table.specs.Effects.{Choice}
+use Rattle.geos_terms.specs.declared.refusal.Refusal.{Refusal}
+use Rattle.geos_calls.specs.VmFile.{Kept, VmFile}
+use Rattle.geos_calls.specs.VmCalls.{commit}
+use Rattle.geos_calls.specs.Effects.{Choice}
 use Rattle.vm_file.specs.declared.commit.How.{How}
 use Rattle.vm_file.specs.Device.{Medium}
 use Rattle.vm_file.proofs.Moments.{goes_on, weaker}

@@ -2,18 +2,18 @@
 use Rattle.std.proofs.Common.{◌≡◌, Option, Some, None, ap, ◌∙◌, subst}
 use Rattle.std.specs.Prelude.{Result}
 use Rattle.std.proofs.lemmas.Bool.{cond_both}
-use Rattle.geos_model.specs.declared.refusal.Refusal.{Refusal}
-use Rattle.geos_model.specs.declared.refusal.Refusal.TheVariants as refusal
-use Rattle.geos_model.specs.Names.{vm}
-use Rattle.geos_model.specs.Refusals.{first_refusal}
-use Rattle.geos_table.specs.Memory.{Memory}
-use Rattle.geos_table.specs.Given.{given_memory}
-use Rattle.geos_table.specs.Effects.{Choice, outcome, effect_of, come_to}
-use Rattle.geos_table.specs.VmCalls.{Keeper, commit, committed, in_doubt, left_by_commit, pair_to_keep}
-use Rattle.geos_table.specs.VmFile.{Pair}
-use Rattle.geos_table.specs.Leaving.{NoneLocked}
-use Rattle.geos_table.proofs.Leaves.{commit-counts}
-use Rattle.geos_table.proofs.LegalGiven.{locks_of-given}
+use Rattle.geos_terms.specs.declared.refusal.Refusal.{Refusal}
+use Rattle.geos_terms.specs.declared.refusal.Refusal.TheVariants as refusal
+use Rattle.geos_terms.specs.Names.{vm}
+use Rattle.geos_terms.specs.Refusals.{first_refusal}
+use Rattle.geos_calls.specs.Memory.{Memory}
+use Rattle.geos_calls.specs.Given.{given_memory}
+use Rattle.geos_calls.specs.Effects.{Choice, outcome, effect_of, come_to}
+use Rattle.geos_calls.specs.VmCalls.{Keeper, commit, committed, in_doubt, left_by_commit, pair_to_keep}
+use Rattle.geos_calls.specs.VmFile.{Pair}
+use Rattle.geos_calls.specs.Leaving.{NoneLocked}
+use Rattle.geos_calls.proofs.Leaves.{commit-counts}
+use Rattle.geos_calls.proofs.LegalGiven.{locks_of-given}
 
 -- no block of the file is locked behind a refused commit, where none was before it
 left-unlocked : (choice : Choice) (m : Memory) (pair : Pair) (why : Refusal) → NoneLocked m → NoneLocked (left_by_commit choice m pair why)

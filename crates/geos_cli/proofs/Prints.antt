@@ -1,8 +1,8 @@
 -- What commands print, one after another.
 use Rattle.std.proofs.Common.{ℕ, inl, inr, List, [], ◌∷◌, ◌++◌, refl, sym, ap, ◌∙◌, subst, append_assoc, append-nil}
-use Rattle.geos_table.specs.Memory.{Memory}
-use Rattle.geos_table.specs.VmFile.{Kept}
-use Rattle.geos_table.specs.Effects.{Choice}
+use Rattle.geos_calls.specs.Memory.{Memory}
+use Rattle.geos_calls.specs.VmFile.{Kept}
+use Rattle.geos_calls.specs.Effects.{Choice}
 use Rattle.geos_image.specs.Parts.{Parts}
 use Rattle.geos_machine.specs.declared.outcome.Outcome.{Outcome}
 use Rattle.geos_machine.specs.Runs.{Ran}

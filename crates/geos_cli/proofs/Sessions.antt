@@ -4,10 +4,10 @@ use Rattle.std.specs.Prelude.{Result, Ok, Err, IfOk, IfErr, IsErrAnd}
 use Rattle.std.specs.Str.Lines.{lines}
 use Rattle.std.specs.Io.KnownBytes.{Keeps}
 use Rattle.std.proofs.KnownBytes.{Appends-kept}
-use Rattle.geos_table.specs.Memory as model
-use Rattle.geos_table.specs.VmFile.{Kept, VmFile, empty_file}
+use Rattle.geos_calls.specs.Memory as model
+use Rattle.geos_calls.specs.VmFile.{Kept, VmFile, empty_file}
 use Rattle.geos_machine.specs.Runs.{Within}
-use Rattle.geos_table.specs.Effects.{Choice}
+use Rattle.geos_calls.specs.Effects.{Choice}
 use Rattle.geos_kernel.specs.View.{KernelState, failed_in, memory_of, IsFileOf}
 use Rattle.geos_image.specs.Parts.{Parts}
 use Rattle.geos_input.specs.Hex.{hex_fault, image_bytes, script_lines, IsBadHex}

@@ -5,12 +5,12 @@ use Rattle.std.specs.Prelude.{Option, Some, None, option_map, option_and_then, i
 use Rattle.std.specs.List.{position_from}
 use Rattle.std.specs.Str.Lines.{lines}
 use Rattle.std.specs.Io.KnownBytes.{Appends}
-use Rattle.geos_table.specs.Memory as model
-use Rattle.geos_table.specs.VmFile.{Kept, VmFile}
-use Rattle.geos_model.specs.declared.refusal.Refusal.{Refusal}
-use Rattle.geos_model.specs.Refusals.{refusal_number}
-use Rattle.geos_table.specs.Effects.{Choice, outcome, effect_of}
-use Rattle.geos_table.specs.VmCalls.{commit}
+use Rattle.geos_calls.specs.Memory as model
+use Rattle.geos_calls.specs.VmFile.{Kept, VmFile}
+use Rattle.geos_terms.specs.declared.refusal.Refusal.{Refusal}
+use Rattle.geos_terms.specs.Refusals.{refusal_number}
+use Rattle.geos_calls.specs.Effects.{Choice, outcome, effect_of}
+use Rattle.geos_calls.specs.VmCalls.{commit}
 use Rattle.vm_file.specs.declared.commit.How.{How}
 use Rattle.vm_file.specs.declared.commit.How.TheVariants.{Update, Save, Revert}
 use Rattle.vm_blocks.specs.ListedCalls.{keeper_of}

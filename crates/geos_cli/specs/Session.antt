@@ -2,8 +2,8 @@
 use Rattle.std.specs.Prelude.{◌≡◌, ◌<◌, ◌≤◌, ◌⊎◌, ℕ, List, length, replicate, Option, Some, None}
 use Rattle.std.specs.Str.Lines.{lines}
 use Rattle.std.specs.Io.KnownBytes.{Appends, Consumes}
-use Rattle.geos_table.specs.VmFile.{Kept, empty_file}
-use Rattle.geos_table.specs.Memory as model
+use Rattle.geos_calls.specs.VmFile.{Kept, empty_file}
+use Rattle.geos_calls.specs.Memory as model
 use Rattle.geos_input.specs.declared.fault.ScriptFault.{ScriptFault}
 use Rattle.geos_input.specs.declared.fault.ScriptFault.TheVariants.{TooLong, BadHex, Read, Memory}
 use Rattle.geos_input.specs.Hex.{hex_fault, image_bytes, script_lines}

@@ -9,7 +9,7 @@ ghost use Rattle.geos_cli.specs.Commits.{IsGiven};
 ghost use Rattle.geos_cli.specs.Script.{printed, committed};
 
 use geos_input::{Counted, ScriptFault};
-use geos_model::Refusal;
+use geos_terms::Refusal;
 use std::io::Write;
 
 fn write<W: Write>(out: &mut Counted<W>, bytes: &[u8]) -> Result<(), ScriptFault>

@@ -4,10 +4,10 @@ use Rattle.std.specs.Prelude.{◌==◌, ◌&&◌, nat_le, IsSome}
 use Rattle.std.specs.List.{flat_map}
 use Rattle.std.proofs.lemmas.Bool.{and_from, eq-eqb, le-leb}
 use Rattle.std.proofs.lemmas.List.{append-nil}
-use Rattle.geos_model.specs.Chunks.{bytes_of, chunk_of, entry_of}
-use Rattle.geos_model.proofs.ChunkItems.{chunk-known, known-bytes}
+use Rattle.geos_terms.specs.Chunks.{bytes_of, chunk_of, entry_of}
+use Rattle.geos_terms.proofs.ChunkItems.{chunk-known, known-bytes}
 use Rattle.lmem_block.specs.Found.{IsLast, IsNext}
-use Rattle.geos_model.proofs.HeapTests.{both}
+use Rattle.geos_terms.proofs.HeapTests.{both}
 use Rattle.vm_file.proofs.ReadLaws.{leb-le}
 use Rattle.std.proofs.lemmas.Bool.{eqb-true}
 use Rattle.geos_dump.specs.DumpText.{Chunk, chunks_from}

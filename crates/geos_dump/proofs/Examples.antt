@@ -2,7 +2,7 @@
 use Rattle.std.proofs.Common.{◌≡◌, ℕ, [], ◌∷◌, replicate, refl}
 use Rattle.std.specs.Prelude.{codes}
 use Rattle.std.specs.Fmt.{digits}
-use Rattle.geos_model.specs.Bytes.{word}
+use Rattle.geos_terms.specs.Bytes.{word}
 use Rattle.vm_file.specs.Contents.{Block, Pair}
 use Rattle.geos_dump.specs.declared.text.Detail.TheVariants.{Lines, Bytes}
 use Rattle.geos_dump.specs.DumpText.{block_text, dump_text}

@@ -2,7 +2,7 @@
 use Rattle.std.proofs.Common.{◌≡◌, ◌∙◌, ℕ, ◌+◌, ◌*◌, ◌<◌, List, get_or, ap, arith, drop}
 use Rattle.std.proofs.lemmas.List.{get_or-drop, get_or-take}
 use Rattle.lmem_raw.specs.Bytes.{part}
-use Rattle.geos_model.specs.Bytes.{word}
+use Rattle.geos_terms.specs.Bytes.{word}
 
 part-at : (bytes : List ℕ) (at n k : ℕ) → k < n → get_or (part bytes at n) k 0 ≡ get_or bytes (at + k) 0
 part-at bytes at n k lt = get_or-take n (drop at bytes) k 0 lt ∙ get_or-drop at bytes k 0

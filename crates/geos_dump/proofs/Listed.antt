@@ -10,7 +10,7 @@ use Rattle.vm_file.specs.Contents.{Block, entry_of}
 use Rattle.vm_file.specs.Directories.{are_entries, is_directory, is_entry}
 use Rattle.vm_file.specs.State.{HasBlock, bytes_of_block}
 use Rattle.vm_file.proofs.DirectoryLaws.{behind_from, has_size, legal_from}
-use Rattle.geos_model.proofs.HeapTests.{both}
+use Rattle.geos_terms.proofs.HeapTests.{both}
 use Rattle.geos_dump.specs.Sides.{IsEntryOf, no_block}
 
 get-listed : (bs : List Block) (i : ℕ) (e : Entry) → i < length bs → get_or (map entry_of bs) i e ≡ entry_of (get_or bs i no_block)

@@ -1,7 +1,7 @@
 -- The text of what a VM file keeps.
 use Rattle.std.specs.Prelude.{ℕ, ◌+◌, List, [], ◌∷◌, ◌++◌, Option, Some, None, length, flat_map, codes, decimal}
 use Rattle.std.specs.List.{concat}
-use Rattle.geos_model.specs.Block.{chunks}
+use Rattle.geos_terms.specs.Block.{chunks}
 use Rattle.vm_file.specs.declared.directory.Directory.{Directory}
 use Rattle.vm_file.specs.Contents.{Block, Contents, Pair, listed}
 use Rattle.geos_dump.specs.declared.text.Detail.{Detail}

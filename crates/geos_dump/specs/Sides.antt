@@ -1,6 +1,6 @@
 -- What is seen on either side of a file that is only read.
 use Rattle.std.specs.Prelude.{◌≡◌, ◌≤◌, ℕ, List, [], Result, Ok, Err, codes, slice_index_or}
-use Rattle.geos_model.specs.Heap.{most_block_bytes}
+use Rattle.geos_terms.specs.Heap.{most_block_bytes}
 use Rattle.vm_file.specs.declared.directory.Directory.{Directory}
 use Rattle.vm_file.specs.declared.directory.Entry.{Entry}
 use Rattle.vm_file.specs.Contents.{Block, Contents, Pair}

@@ -1,7 +1,7 @@
 //! The areas of a file.
 
 ghost use Rattle.std.specs.Prelude.{◌≡◌, ◌+◌, ◌*◌, IfOk, slice_index};
-ghost use Rattle.geos_model.specs.Bytes.{word};
+ghost use Rattle.geos_terms.specs.Bytes.{word};
 ghost use Rattle.vm_file.specs.Outcomes.{CausesDisk, ReadsOnly};
 ghost use Rattle.vm_file.specs.Reading.{is_second};
 

@@ -1,9 +1,9 @@
 //! The chunks of a block, as text.
 
 ghost use Rattle.std.specs.Prelude.{◌≡◌, ◌<◌, ◌++◌, OnOk, flat_map, length};
-ghost use Rattle.geos_model.specs.Block.{chunks};
-ghost use Rattle.geos_model.specs.Chunks.{bytes_of};
-ghost use Rattle.geos_model.specs.Heap.{IsHeap};
+ghost use Rattle.geos_terms.specs.Block.{chunks};
+ghost use Rattle.geos_terms.specs.Chunks.{bytes_of};
+ghost use Rattle.geos_terms.specs.Heap.{IsHeap};
 ghost use Rattle.geos_dump.specs.DumpText.{chunks_from, chunk_dump, chunk_text};
 
 use crate::hex::put_hex_lines;

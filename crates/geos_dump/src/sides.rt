@@ -1,7 +1,7 @@
 //! The two directories of a file, and their blocks.
 
 ghost use Rattle.std.specs.Prelude.{◌≡◌, ◌<◌, ◌≤◌, true, length, OnOk, OnErr};
-ghost use Rattle.geos_model.specs.Heap.{IsHeap};
+ghost use Rattle.geos_terms.specs.Heap.{IsHeap};
 ghost use Rattle.vm_file.specs.Contents.{listed};
 ghost use Rattle.vm_file.specs.Device.{Rose};
 ghost use Rattle.vm_file.specs.Directories.{is_directory};

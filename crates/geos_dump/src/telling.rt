@@ -1,7 +1,7 @@
 //! What is told of a file: the text of what it keeps, or a picture of how full its blocks are.
 
 ghost use Rattle.std.specs.Prelude.{◌≡◌, ◌≤◌, ◌<◌, OnOk, length};
-ghost use Rattle.geos_model.specs.Heap.{IsHeap, most_block_bytes};
+ghost use Rattle.geos_terms.specs.Heap.{IsHeap, most_block_bytes};
 ghost use Rattle.vm_file.specs.State.{HasBlock};
 ghost use Rattle.geos_dump.specs.DumpText.{block_text, directory_line, dump_text};
 ghost use Rattle.geos_dump.specs.Sides.{directory_on};
@@ -11,7 +11,7 @@ use crate::error::DumpError;
 use crate::picture::{Scale, put_columns_line, put_row, used_bytes};
 use crate::sides::{Listed, Side, count, directory, entry_at, read_block, word_of};
 use crate::text::{Detail, put_block_text, put_directory_line};
-use geos_model::MOST_BLOCK_BYTES;
+use geos_terms::MOST_BLOCK_BYTES;
 use std::alloc::{AllocError, Global};
 use vm_file::{Device, Directory, Entry, VmFile};
 

@@ -1,7 +1,7 @@
 //! The text of what a file keeps.
 
 ghost use Rattle.std.specs.Prelude.{◌≡◌, ◌++◌, OnOk, IfOk};
-ghost use Rattle.geos_model.specs.Heap.{IsHeap};
+ghost use Rattle.geos_terms.specs.Heap.{IsHeap};
 ghost use Rattle.vm_file.specs.Outcomes.{ReadsOnly};
 ghost use Rattle.vm_file.specs.State.{pair_of};
 ghost use Rattle.geos_dump.specs.DumpText.{block_line, block_text, directory_line, dump_text};

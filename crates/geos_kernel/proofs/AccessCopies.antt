@@ -9,12 +9,12 @@ use Rattle.block_handles.specs.Store.{Store}
 use Rattle.block_handles.specs.Change.{with_bytes}
 use Rattle.block_handles.specs.Offsets.{WritesCovered, CopiesCovered}
 use Rattle.block_handles.proofs.Laws.{with_own}
-use Rattle.geos_table.specs.Legal.{AreBytes}
-use Rattle.geos_table.specs.Memory.{Memory}
-use Rattle.geos_table.specs.Effects.{Reference}
-use Rattle.geos_table.specs.Calls as table
-use Rattle.geos_table.proofs.LegalBytes.{bytes-part}
-use Rattle.geos_model.proofs.Words.{with_nothing}
+use Rattle.geos_calls.specs.Legal.{AreBytes}
+use Rattle.geos_calls.specs.Memory.{Memory}
+use Rattle.geos_calls.specs.Effects.{Reference}
+use Rattle.geos_calls.specs.Calls as table
+use Rattle.geos_calls.proofs.LegalBytes.{bytes-part}
+use Rattle.geos_terms.proofs.Words.{with_nothing}
 use Rattle.vm_file.specs.Device.{Medium}
 use Rattle.vm_blocks.specs.FileOf.{IsMemoryOf}
 use Rattle.vm_blocks.specs.View.{VmState}

@@ -12,20 +12,20 @@ use Rattle.block_handles.proofs.Layouts.{there_of_locks}
 use Rattle.block_handles.proofs.Writes.{part-part}
 use Rattle.vm_blocks.specs.FileOf.{IsMemoryOf}
 use Rattle.vm_blocks.specs.View.{VmState}
-use Rattle.geos_model.specs.Block as block
-use Rattle.geos_model.specs.Bytes.{word}
-use Rattle.geos_model.specs.Chunks.{bytes_of}
-use Rattle.geos_table.specs.Memory as model
-use Rattle.geos_table.specs.Memory.{Memory}
-use Rattle.geos_table.specs.Effects.{Reference}
-use Rattle.geos_table.specs.Calls as table
-use Rattle.geos_model.proofs.Places.{chunk-place}
+use Rattle.geos_terms.specs.Block as block
+use Rattle.geos_terms.specs.Bytes.{word}
+use Rattle.geos_terms.specs.Chunks.{bytes_of}
+use Rattle.geos_calls.specs.Memory as model
+use Rattle.geos_calls.specs.Memory.{Memory}
+use Rattle.geos_calls.specs.Effects.{Reference}
+use Rattle.geos_calls.specs.Calls as table
+use Rattle.geos_terms.proofs.Places.{chunk-place}
 use Rattle.vm_file.specs.Device.{Medium}
 use Rattle.geos_kernel.specs.declared.span.Span.{Span}
 use Rattle.geos_kernel.specs.View.{KernelOn, KernelState, core_of, kernel_of}
 use Rattle.geos_kernel.specs.Spans.{Stands, IsStanding}
 use Rattle.geos_kernel.specs.Kernel.{IsKernel, Calls}
-use Rattle.heap_calls.proofs.Named.{chunks-known}
+use Rattle.chunk_calls.proofs.Named.{chunks-known}
 use Rattle.geos_kernel.proofs.Rowed.{telling-calls}
 
 -- the place of a reference's chunk in its block

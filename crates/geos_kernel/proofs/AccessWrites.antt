@@ -6,7 +6,7 @@ use Rattle.std.proofs.lemmas.Bool.{cases_eq}
 use Rattle.std.proofs.lemmas.List.Elements.{All-cons, All-nil}
 use Rattle.lmem_raw.specs.Bytes.{with_part}
 use Rattle.lmem_raw.proofs.Parts.{length-with_part, with_whole}
-use Rattle.geos_model.specs.declared.name.Owner.TheVariants.{Vm}
+use Rattle.geos_terms.specs.declared.name.Owner.TheVariants.{Vm}
 use Rattle.block_handles.specs.Layout.{IsLaidOut}
 use Rattle.block_handles.specs.Names.{IsHandle, slot_of}
 use Rattle.block_handles.specs.Store as store
@@ -15,23 +15,23 @@ use Rattle.block_handles.specs.Change.{with_bytes}
 use Rattle.block_handles.specs.Offsets.{WritesCovered}
 use Rattle.block_handles.proofs.Laws.{handle_of_there, laid-with_bytes}
 use Rattle.block_handles.proofs.Writes.{blocks_with_bytes-set}
-use Rattle.geos_model.specs.Block as block
-use Rattle.geos_model.specs.Bytes.{word_bytes}
-use Rattle.geos_model.specs.Chunks as chunks
-use Rattle.geos_model.specs.Heap.{IsHeap}
-use Rattle.geos_table.specs.Blocks.{rechunked_block}
-use Rattle.geos_table.specs.Legal.{AreBytes, IsLegalBlock}
-use Rattle.geos_table.specs.Memory as model
-use Rattle.geos_table.specs.Memory.{Memory}
-use Rattle.geos_table.specs.VmFile.{VmFile}
-use Rattle.geos_table.specs.Effects.{Reference, Nothing}
-use Rattle.geos_table.specs.Calls as table
-use Rattle.geos_table.proofs.LegalBlocks.{rechunked-legal}
-use Rattle.geos_table.proofs.LegalChunks.{with_written-legal}
-use Rattle.geos_model.specs.Writes.{ChangesChunk}
-use Rattle.geos_model.proofs.Fits.{need-fits}
-use Rattle.geos_model.proofs.Places.{chunk-place}
-use Rattle.geos_model.proofs.Writes.{writes-stay}
+use Rattle.geos_terms.specs.Block as block
+use Rattle.geos_terms.specs.Bytes.{word_bytes}
+use Rattle.geos_terms.specs.Chunks as chunks
+use Rattle.geos_terms.specs.Heap.{IsHeap}
+use Rattle.geos_calls.specs.Blocks.{rechunked_block}
+use Rattle.geos_calls.specs.Legal.{AreBytes, IsLegalBlock}
+use Rattle.geos_calls.specs.Memory as model
+use Rattle.geos_calls.specs.Memory.{Memory}
+use Rattle.geos_calls.specs.VmFile.{VmFile}
+use Rattle.geos_calls.specs.Effects.{Reference, Nothing}
+use Rattle.geos_calls.specs.Calls as table
+use Rattle.geos_calls.proofs.LegalBlocks.{rechunked-legal}
+use Rattle.geos_calls.proofs.LegalChunks.{with_written-legal}
+use Rattle.geos_terms.specs.Writes.{ChangesChunk}
+use Rattle.geos_terms.proofs.Fits.{need-fits}
+use Rattle.geos_terms.proofs.Places.{chunk-place}
+use Rattle.geos_terms.proofs.Writes.{writes-stay}
 use Rattle.vm_file.specs.Device.{Medium}
 use Rattle.vm_blocks.specs.DoesRow.{DoesRow}
 use Rattle.vm_blocks.specs.FileOf.{IsMemoryOf}
@@ -42,11 +42,11 @@ use Rattle.geos_kernel.specs.View.{KernelOn, KernelState, core_of, kernel_of, Ma
 use Rattle.geos_kernel.specs.Spans.{IsWritable, Stands, SpansStay}
 use Rattle.geos_kernel.specs.Kernel.{IsKernel, Calls, Stores}
 use Rattle.geos_kernel.proofs.AccessReads.{HasPlace, Lies, chunk-placed, lies, stands-there}
-use Rattle.heap_calls.specs.Heaps.{HoldsHeap}
-use Rattle.heap_calls.specs.Others.{KeepsBut, KeepsOthers}
-use Rattle.heap_calls.proofs.Kept.{named-changed, named-tied}
-use Rattle.heap_calls.proofs.Named.{chunks-known}
-use Rattle.heap_calls.proofs.Rows.{there-is}
+use Rattle.chunk_calls.specs.Heaps.{HoldsHeap}
+use Rattle.chunk_calls.specs.Others.{KeepsBut, KeepsOthers}
+use Rattle.chunk_calls.proofs.Kept.{named-changed, named-tied}
+use Rattle.chunk_calls.proofs.Named.{chunks-known}
+use Rattle.chunk_calls.proofs.Rows.{there-is}
 use Rattle.geos_kernel.proofs.Changed.{slot-keeps, slot-other, slot-own}
 use Rattle.geos_kernel.proofs.Chunks.{others-kernel}
 use Rattle.geos_kernel.proofs.Named.{named-legal}

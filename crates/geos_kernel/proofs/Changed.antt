@@ -1,14 +1,14 @@
 -- Where one slot changes.
 use Rattle.std.proofs.Common.{◌≡◌, ◌≢◌, ℕ, ◌<◌, length, set, get_or, Option, None, ap, ◌∙◌, arith, inl}
 use Rattle.std.proofs.lemmas.List.{get_or-set_same, get_or-set_other}
-use Rattle.geos_model.specs.declared.name.Name.{Name}
+use Rattle.geos_terms.specs.declared.name.Name.{Name}
 use Rattle.block_handles.specs.Change.{LockedStay}
 use Rattle.block_handles.specs.Layout.{IsLaidOut}
 use Rattle.block_handles.specs.Names.{IsHandle, slot_of}
 use Rattle.block_handles.specs.Store.{Block, Store, block_at}
 use Rattle.block_handles.proofs.Laws.{slot_of-small}
 use Rattle.vm_blocks.specs.View.{VmState}
-use Rattle.heap_calls.specs.Others.{KeepsBut}
+use Rattle.chunk_calls.specs.Others.{KeepsBut}
 
 module _ (s t : Store) (name : Name) (c : Option Block) (blocks : t.blocks ≡ set s.blocks (slot_of name) c) where
   pub slot-own : IsLaidOut s → IsHandle name.h → block_at t (slot_of name) ≡ c

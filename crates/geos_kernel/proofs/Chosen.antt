@@ -1,7 +1,7 @@
 -- What may come from outside over some calls, and over others beside them.
 use Rattle.std.proofs.Common.{◌≡◌, ℕ, arith, inl, inr}
 use Rattle.std.specs.Prelude.{◌⊎◌}
-use Rattle.geos_table.specs.Effects.{Choice}
+use Rattle.geos_calls.specs.Effects.{Choice}
 use Rattle.geos_kernel.specs.Kernel.{HasRisen, IsChosen, NeverFell}
 use Rattle.geos_kernel.specs.View.{KernelState, failed_in}
 

@@ -1,18 +1,18 @@
 -- What calls that change the chunks of a named block make of the kernel.
 use Rattle.std.proofs.Common.{◌≡◌, ℕ, Bool, true, false, List, Option, Some, refl, sym, ap, ◌∙◌, arith, subst, inl, inr}
 use Rattle.std.specs.Prelude.{Result, Ok, Err}
-use Rattle.geos_model.specs.declared.name.Name.{Name}
-use Rattle.geos_model.specs.declared.refusal.Refusal.{Refusal}
-use Rattle.geos_model.specs.declared.refusal.Refusal.TheVariants.{NoRoom}
-use Rattle.geos_model.specs.Block as block
-use Rattle.geos_model.specs.Chunks.{need}
-use Rattle.geos_model.specs.Edits.{Edit, contract}
-use Rattle.geos_model.specs.Refusals.{first_refusal}
-use Rattle.geos_table.specs.Calls.{lcontract}
-use Rattle.geos_table.specs.Effects.{Call, Choice, InBlock, effect_of}
-use Rattle.geos_table.specs.Legal.{AreBytes}
-use Rattle.geos_table.specs.VmFile.{VmFile}
-use Rattle.geos_table.specs.Memory.{Memory}
+use Rattle.geos_terms.specs.declared.name.Name.{Name}
+use Rattle.geos_terms.specs.declared.refusal.Refusal.{Refusal}
+use Rattle.geos_terms.specs.declared.refusal.Refusal.TheVariants.{NoRoom}
+use Rattle.geos_terms.specs.Block as block
+use Rattle.geos_terms.specs.Chunks.{need}
+use Rattle.geos_terms.specs.Edits.{Edit, contract}
+use Rattle.geos_terms.specs.Refusals.{first_refusal}
+use Rattle.geos_calls.specs.Calls.{lcontract}
+use Rattle.geos_calls.specs.Effects.{Call, Choice, InBlock, effect_of}
+use Rattle.geos_calls.specs.Legal.{AreBytes}
+use Rattle.geos_calls.specs.VmFile.{VmFile}
+use Rattle.geos_calls.specs.Memory.{Memory}
 use Rattle.block_handles.specs.Names.{slot_of}
 use Rattle.block_handles.specs.Store.{Store, bytes_in, bytes_of}
 use Rattle.block_handles.specs.Stretch.{HasNoRoom}
@@ -22,14 +22,14 @@ use Rattle.vm_file.specs.Device.{Medium}
 use Rattle.vm_blocks.specs.DoesRow.{DoesRow}
 use Rattle.vm_blocks.specs.Tied.{IsTied}
 use Rattle.vm_blocks.specs.View.{VmState}
-use Rattle.heap_calls.specs.Edits.{Carries, Changes, DiscardsAndEdits, Grows}
-use Rattle.heap_calls.specs.Heaps as heaps
-use Rattle.heap_calls.specs.Heaps.{HoldsHeap, chunks_at}
-use Rattle.heap_calls.specs.Others.{IsMarkedIfVm, KeepsOthers}
-use Rattle.heap_calls.proofs.Asking.{AsksNoRoom}
-use Rattle.heap_calls.proofs.Changing.{changes-keeps, others-locked}
-use Rattle.heap_calls.proofs.Kept.{named-tied}
-use Rattle.heap_calls.proofs.Rows.{changes-row}
+use Rattle.chunk_calls.specs.Edits.{Carries, Changes, DiscardsAndEdits, Grows}
+use Rattle.chunk_calls.specs.Heaps as heaps
+use Rattle.chunk_calls.specs.Heaps.{HoldsHeap, chunks_at}
+use Rattle.chunk_calls.specs.Others.{IsMarkedIfVm, KeepsOthers}
+use Rattle.chunk_calls.proofs.Asking.{AsksNoRoom}
+use Rattle.chunk_calls.proofs.Changing.{changes-keeps, others-locked}
+use Rattle.chunk_calls.proofs.Kept.{named-tied}
+use Rattle.chunk_calls.proofs.Rows.{changes-row}
 use Rattle.geos_kernel.specs.View.{IsLocked, KernelOn, core_of, kernel_of, memory_of}
 use Rattle.geos_kernel.specs.Spans.{SpansStay}
 use Rattle.geos_kernel.specs.Kernel.{Calls, HasNoRoomFor, IsKernel}

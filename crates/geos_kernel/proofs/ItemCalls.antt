@@ -2,16 +2,16 @@
 use Rattle.std.proofs.Common.{◌≡◌, ℕ, ◌<◌, ◌⊎◌, ◌+◌, Bool, true, false, List, Option, refl, sym, ap, ◌∙◌, arith, subst, inl, inr}
 use Rattle.std.specs.Prelude.{Result, Ok, Err, OnErr, OnOk}
 use Rattle.std.proofs.lemmas.Bool.{cases_eq}
-use Rattle.geos_model.specs.declared.refusal.Refusal.{Refusal}
-use Rattle.geos_model.specs.declared.refusal.Refusal.TheVariants as refusal
-use Rattle.geos_model.specs.Edits.{Edit, refer}
-use Rattle.geos_model.specs.Names.{vm}
-use Rattle.geos_table.specs.Calls.{in_block}
-use Rattle.geos_table.specs.Effects.{Call, Choice, InBlock, effect_of}
-use Rattle.geos_table.specs.Given.{given_memory}
-use Rattle.geos_table.specs.ItemCalls.{ilock, in_group}
-use Rattle.geos_table.specs.Memory.{is_group}
-use Rattle.geos_table.specs.VmFile.{VmFile}
+use Rattle.geos_terms.specs.declared.refusal.Refusal.{Refusal}
+use Rattle.geos_terms.specs.declared.refusal.Refusal.TheVariants as refusal
+use Rattle.geos_terms.specs.Edits.{Edit, refer}
+use Rattle.geos_terms.specs.Names.{vm}
+use Rattle.geos_calls.specs.Calls.{in_block}
+use Rattle.geos_calls.specs.Effects.{Call, Choice, InBlock, effect_of}
+use Rattle.geos_calls.specs.Given.{given_memory}
+use Rattle.geos_calls.specs.ItemCalls.{ilock, in_group}
+use Rattle.geos_calls.specs.Memory.{is_group}
+use Rattle.geos_calls.specs.VmFile.{VmFile}
 use Rattle.block_handles.specs.Names.{slot_of}
 use Rattle.block_handles.specs.Store.{Store, IsThere, locks_of, place_of}
 use Rattle.block_handles.proofs.Laws.{handle_of_there, same-name}
@@ -20,7 +20,7 @@ use Rattle.vm_file.specs.Device.{Medium}
 use Rattle.vm_blocks.specs.Bring.{Keeps, LockedMore}
 use Rattle.vm_blocks.specs.Bringing.{ReadsDevice}
 use Rattle.vm_blocks.specs.View.{VmState, vm_slot}
-use Rattle.heap_calls.proofs.Changing.{goes-free}
+use Rattle.chunk_calls.proofs.Changing.{goes-free}
 use Rattle.db_items.specs.Groups.{IsGroup}
 use Rattle.db_items.specs.Items.{ChangesItem, LocksItem, refers_to}
 use Rattle.db_items.proofs.Told.{group-told, is_group-given}

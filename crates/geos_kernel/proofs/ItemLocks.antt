@@ -1,15 +1,15 @@
 -- What the kernel promises of calls on items, and of a group that is locked with the span of an item of it.
 use Rattle.std.proofs.Common.{◌≡◌, ℕ, ◌+◌, ◌≤◌, List, Option, refl, ap, subst}
 use Rattle.std.specs.Prelude.{IfOk, OnOk, Result, Ok, Err}
-use Rattle.geos_model.specs.declared.refusal.Refusal.{Refusal}
-use Rattle.geos_model.specs.declared.refusal.Refusal.TheVariants.{Disk, NoRoom}
-use Rattle.geos_model.specs.Edits.{Edit}
-use Rattle.geos_model.specs.Names.{vm}
-use Rattle.geos_table.specs.Calls.{in_block}
-use Rattle.geos_table.specs.Effects.{Call, Choice, effect_of}
-use Rattle.geos_table.specs.Given.{given_memory}
-use Rattle.geos_table.specs.ItemCalls.{ilock, in_group}
-use Rattle.geos_table.specs.VmFile.{VmFile}
+use Rattle.geos_terms.specs.declared.refusal.Refusal.{Refusal}
+use Rattle.geos_terms.specs.declared.refusal.Refusal.TheVariants.{Disk, NoRoom}
+use Rattle.geos_terms.specs.Edits.{Edit}
+use Rattle.geos_terms.specs.Names.{vm}
+use Rattle.geos_calls.specs.Calls.{in_block}
+use Rattle.geos_calls.specs.Effects.{Call, Choice, effect_of}
+use Rattle.geos_calls.specs.Given.{given_memory}
+use Rattle.geos_calls.specs.ItemCalls.{ilock, in_group}
+use Rattle.geos_calls.specs.VmFile.{VmFile}
 use Rattle.block_handles.specs.Change.{with_lock_more}
 use Rattle.block_handles.specs.Store.{Store, IsThere, place_of}
 use Rattle.vm_file.specs.Device.{Medium}

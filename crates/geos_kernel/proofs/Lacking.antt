@@ -1,7 +1,7 @@
 -- That a new block of the file has no room.
 use Rattle.std.proofs.Common.{◌≡◌, ℕ, refl, sym, subst}
 use Rattle.std.specs.Prelude.{OnErr, Result, Ok, Err}
-use Rattle.geos_model.specs.declared.refusal.Refusal.TheVariants as refusal
+use Rattle.geos_terms.specs.declared.refusal.Refusal.TheVariants as refusal
 use Rattle.block_handles.specs.Store.{Store}
 use Rattle.vm_file.specs.Device.{Medium}
 use Rattle.vm_blocks.specs.declared.error.NewError.{NewError}

@@ -1,11 +1,11 @@
 -- The memory of a kernel is legal.
 use Rattle.std.proofs.Common.{ℕ, ◌≤◌, List, Option, Some, None}
 use Rattle.std.specs.Prelude.{IfSome}
-use Rattle.geos_model.specs.Names.{mem}
-use Rattle.geos_model.specs.Heap.{IsHeap}
-use Rattle.geos_table.specs.Legal.{AreBytes, IsLegalBlock, IsMemory}
-use Rattle.geos_table.specs.Memory.{Memory, block_of}
-use Rattle.geos_table.proofs.LegalHeaps.{heap-legal}
+use Rattle.geos_terms.specs.Names.{mem}
+use Rattle.geos_terms.specs.Heap.{IsHeap}
+use Rattle.geos_calls.specs.Legal.{AreBytes, IsLegalBlock, IsMemory}
+use Rattle.geos_calls.specs.Memory.{Memory, block_of}
+use Rattle.geos_calls.proofs.LegalHeaps.{heap-legal}
 use Rattle.block_handles.specs.Names.{slot_of}
 use Rattle.block_handles.specs.Layout.{IsRegion}
 use Rattle.block_handles.specs.Store.{Block, Store, block_at, bytes_in, IsBlock, locks_in}
@@ -15,8 +15,8 @@ use Rattle.vm_blocks.specs.Spelled.{block_in}
 use Rattle.vm_blocks.specs.View.{VmState}
 use Rattle.geos_kernel.specs.Kernel.{IsKernel}
 use Rattle.geos_kernel.proofs.Lowest.{count}
-use Rattle.heap_calls.proofs.Named.{mem-known}
-use Rattle.heap_calls.proofs.Values.{values-of}
+use Rattle.chunk_calls.proofs.Named.{mem-known}
+use Rattle.chunk_calls.proofs.Values.{values-of}
 
 -- a block of bytes that are a heap spells a legal one
 block-legal : (o : Option Block) → (IsBlock o → IsHeap (bytes_in o)) → AreBytes (bytes_in o) → locks_in o ≤ 65535 → IfSome (block_in o) IsLegalBlock

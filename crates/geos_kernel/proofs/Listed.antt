@@ -2,14 +2,14 @@
 use Rattle.std.proofs.Common.{◌≡◌, ◌≢◌, ℕ, ◌<◌, ◌≤◌, Option, Some, None, refl, sym, ap, ◌∙◌, arith, subst, inl, inr}
 use Rattle.std.specs.Prelude.{Result}
 use Rattle.std.proofs.lemmas.Bool.{cases_eq}
-use Rattle.geos_model.specs.declared.name.Owner.{Owner}
-use Rattle.geos_model.specs.declared.name.Owner.TheVariants.{Mem, Vm}
-use Rattle.geos_model.specs.declared.refusal.Refusal.{Refusal}
-use Rattle.geos_model.specs.Block as block
-use Rattle.geos_model.specs.Heap.{IsHeap}
-use Rattle.geos_model.specs.Names.{mem, named, vm as vm_name}
-use Rattle.geos_table.specs.Effects.{Call, Staleness, effect_of}
-use Rattle.geos_table.specs.VmFile.{VmFile}
+use Rattle.geos_terms.specs.declared.name.Owner.{Owner}
+use Rattle.geos_terms.specs.declared.name.Owner.TheVariants.{Mem, Vm}
+use Rattle.geos_terms.specs.declared.refusal.Refusal.{Refusal}
+use Rattle.geos_terms.specs.Block as block
+use Rattle.geos_terms.specs.Heap.{IsHeap}
+use Rattle.geos_terms.specs.Names.{mem, named, vm as vm_name}
+use Rattle.geos_calls.specs.Effects.{Call, Staleness, effect_of}
+use Rattle.geos_calls.specs.VmFile.{VmFile}
 use Rattle.block_handles.specs.Layout.{IsLaidOut}
 use Rattle.block_handles.specs.Names.{IsHandle, slot_of}
 use Rattle.block_handles.specs.Store.{Block, Store, block_at, bytes_in, bytes_of, IsBlock, IsThere, locks_in, locks_of, place_of}
@@ -28,10 +28,10 @@ use Rattle.vm_blocks.specs.Tied.{IsTied, TiedAt}
 use Rattle.vm_blocks.specs.View.{VmState, held_at, vm_slot}
 use Rattle.vm_blocks.proofs.Slots.{slot-is}
 use Rattle.vm_blocks.proofs.Tables.{handle-or}
-use Rattle.heap_calls.proofs.Changing.{goes-free}
-use Rattle.heap_calls.proofs.Kept.{mem-kept}
-use Rattle.heap_calls.proofs.Named.{slot_of-mem, slot_of-past}
-use Rattle.heap_calls.proofs.Rows.{few-named}
+use Rattle.chunk_calls.proofs.Changing.{goes-free}
+use Rattle.chunk_calls.proofs.Kept.{mem-kept}
+use Rattle.chunk_calls.proofs.Named.{slot_of-mem, slot_of-past}
+use Rattle.chunk_calls.proofs.Rows.{few-named}
 use Rattle.geos_kernel.specs.View.{core_of, memory_of}
 use Rattle.geos_kernel.specs.Spans.{SpansStay}
 use Rattle.geos_kernel.specs.Kernel.{Calls, IsKernel, NeverFell}

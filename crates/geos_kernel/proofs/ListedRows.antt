@@ -2,17 +2,17 @@
 use Rattle.std.proofs.Common.{◌≡◌, ◌≢◌, ◌∙◌, ℕ, List, [], ◌∷◌, Bool, Option, Some, None, true, false, refl, ap, arith}
 use Rattle.std.specs.Prelude.{◌==◌, ◌&&◌, ◌+◌, not, is_none, is_some, unwrap_or, option_map, Result, Err}
 use Rattle.std.proofs.lemmas.Bool.Decides.{nat_tests}
-use Rattle.geos_model.specs.declared.name.Owner.TheVariants.{Vm}
-use Rattle.geos_model.specs.declared.refusal.Refusal.{Refusal}
-use Rattle.geos_model.specs.declared.refusal.Refusal.TheVariants as refusal
-use Rattle.geos_model.specs.Names.{vm, group_uid}
-use Rattle.geos_model.specs.Refusals.{first_refusal}
-use Rattle.geos_table.specs.Calls.{is_in_use, locks_full}
-use Rattle.geos_table.specs.Directories.{VmBlock}
-use Rattle.geos_table.specs.Effects.{Call, Choice, bringing, cannot_make, come_to, unchanged}
-use Rattle.geos_table.specs.Given.{given_memory}
-use Rattle.geos_table.specs.Memory.{Memory, is_group, listed_at, locks_of, lowest_handle, with_listed, with_locks}
-use Rattle.geos_table.specs.VmCalls.{does, free_listed, is_reserved, lock_listed, names_group, new_listed, no_listed, vfind, vfree, vlock, vnew, vsetmap, without_listed}
+use Rattle.geos_terms.specs.declared.name.Owner.TheVariants.{Vm}
+use Rattle.geos_terms.specs.declared.refusal.Refusal.{Refusal}
+use Rattle.geos_terms.specs.declared.refusal.Refusal.TheVariants as refusal
+use Rattle.geos_terms.specs.Names.{vm, group_uid}
+use Rattle.geos_terms.specs.Refusals.{first_refusal}
+use Rattle.geos_calls.specs.Calls.{is_in_use, locks_full}
+use Rattle.geos_calls.specs.Directories.{VmBlock}
+use Rattle.geos_calls.specs.Effects.{Call, Choice, bringing, cannot_make, come_to, unchanged}
+use Rattle.geos_calls.specs.Given.{given_memory}
+use Rattle.geos_calls.specs.Memory.{Memory, is_group, listed_at, locks_of, lowest_handle, with_listed, with_locks}
+use Rattle.geos_calls.specs.VmCalls.{does, free_listed, is_reserved, lock_listed, names_group, new_listed, no_listed, vfind, vfree, vlock, vnew, vsetmap, without_listed}
 use Rattle.block_handles.specs.Store.{Store}
 use Rattle.vm_file.specs.Device.{Medium}
 use Rattle.vm_blocks.specs.declared.entries.Held.{Held}

@@ -4,18 +4,18 @@ use Rattle.std.specs.Prelude.{Result, Ok, Err, ◌↔◌, OnOk, OnErr, IfSome, i
 use Rattle.std.proofs.lemmas.Bool.{cases_eq}
 use Rattle.std.proofs.lemmas.Bool.Decides.{Decides-eqb, Decides-ltb}
 use Rattle.std.proofs.lemmas.List.{get_or-set_other}
-use Rattle.geos_model.specs.declared.name.Name.{Name}
-use Rattle.geos_model.specs.declared.name.Owner.{Owner}
-use Rattle.geos_model.specs.declared.name.Owner.TheVariants.{Mem, Vm}
-use Rattle.geos_model.specs.Names.{mem, named}
-use Rattle.geos_table.specs.Blocks.{locked_block}
-use Rattle.geos_table.specs.Legal.{IsLegalBlock}
-use Rattle.geos_table.specs.Memory as model
-use Rattle.geos_table.specs.Memory.{Memory}
-use Rattle.geos_table.specs.VmFile.{VmFile}
-use Rattle.geos_model.specs.declared.refusal.Refusal.TheVariants.{BadHandle, Locked}
-use Rattle.geos_table.specs.Effects.{Call, Reference, Nothing, InBlock, OfLock, unchanged}
-use Rattle.geos_table.specs.Calls as table
+use Rattle.geos_terms.specs.declared.name.Name.{Name}
+use Rattle.geos_terms.specs.declared.name.Owner.{Owner}
+use Rattle.geos_terms.specs.declared.name.Owner.TheVariants.{Mem, Vm}
+use Rattle.geos_terms.specs.Names.{mem, named}
+use Rattle.geos_calls.specs.Blocks.{locked_block}
+use Rattle.geos_calls.specs.Legal.{IsLegalBlock}
+use Rattle.geos_calls.specs.Memory as model
+use Rattle.geos_calls.specs.Memory.{Memory}
+use Rattle.geos_calls.specs.VmFile.{VmFile}
+use Rattle.geos_terms.specs.declared.refusal.Refusal.TheVariants.{BadHandle, Locked}
+use Rattle.geos_calls.specs.Effects.{Call, Reference, Nothing, InBlock, OfLock, unchanged}
+use Rattle.geos_calls.specs.Calls as table
 use Rattle.block_handles.specs.declared.error.HandleError.{HandleError}
 use Rattle.block_handles.specs.declared.error.HandleError.TheVariants as handle
 use Rattle.block_handles.specs.Names.{IsHandle, slot_of}
@@ -36,10 +36,10 @@ use Rattle.geos_kernel.specs.View.{KernelState, core_of, memory_of, IsFileOf}
 use Rattle.geos_kernel.specs.Spans.{Stands, SpansStay}
 use Rattle.geos_kernel.specs.Kernel.{IsKernel, Calls}
 use Rattle.geos_kernel.specs.Refused.{of_handle}
-use Rattle.heap_calls.specs.Others.{KeepsBut}
-use Rattle.heap_calls.proofs.Kept.{mem-changed, mem-tied, named-changed}
-use Rattle.heap_calls.proofs.Named.{locks-known, there-known}
-use Rattle.heap_calls.proofs.Rows.{there-is}
+use Rattle.chunk_calls.specs.Others.{KeepsBut}
+use Rattle.chunk_calls.proofs.Kept.{mem-changed, mem-tied, named-changed}
+use Rattle.chunk_calls.proofs.Named.{locks-known, there-known}
+use Rattle.chunk_calls.proofs.Rows.{there-is}
 use Rattle.geos_kernel.proofs.Changed.{slot-keeps}
 use Rattle.geos_kernel.proofs.Named.{block-absent, named-legal, other-slot}
 use Rattle.geos_kernel.proofs.Rowed.{does-willing, row-calls}

@@ -1,21 +1,21 @@
 -- The calls that look at chunks.
 use Rattle.std.proofs.Common.{◌≡◌, ℕ, ◌+◌, ◌<◌, List, Option, Some, None, refl, arith}
 use Rattle.std.specs.Prelude.{Result, Ok, Err, IfSome}
-use Rattle.geos_model.specs.declared.name.Name.{Name}
-use Rattle.geos_model.specs.declared.refusal.Refusal.{Refusal}
-use Rattle.geos_model.specs.Block as block
-use Rattle.geos_model.specs.Edits.{Edit, Part}
-use Rattle.geos_model.specs.Refusals.{first_refusal}
-use Rattle.geos_table.specs.Calls as table
-use Rattle.geos_table.specs.Effects.{Call, Reference}
+use Rattle.geos_terms.specs.declared.name.Name.{Name}
+use Rattle.geos_terms.specs.declared.refusal.Refusal.{Refusal}
+use Rattle.geos_terms.specs.Block as block
+use Rattle.geos_terms.specs.Edits.{Edit, Part}
+use Rattle.geos_terms.specs.Refusals.{first_refusal}
+use Rattle.geos_calls.specs.Calls as table
+use Rattle.geos_calls.specs.Effects.{Call, Reference}
 use Rattle.block_handles.specs.Names.{slot_of}
 use Rattle.block_handles.specs.Store as store
 use Rattle.block_handles.specs.Store.{Store}
 use Rattle.vm_file.specs.Device.{Medium}
 use Rattle.vm_blocks.specs.View.{VmState}
-use Rattle.heap_calls.specs.Edits.{Finds, Tells}
-use Rattle.heap_calls.specs.Heaps.{HoldsHeap}
-use Rattle.heap_calls.proofs.Rows.{refers-not-row, refers-row, tells-row}
+use Rattle.chunk_calls.specs.Edits.{Finds, Tells}
+use Rattle.chunk_calls.specs.Heaps.{HoldsHeap}
+use Rattle.chunk_calls.proofs.Rows.{refers-not-row, refers-row, tells-row}
 use Rattle.geos_kernel.specs.declared.span.Span.{Span}
 use Rattle.geos_kernel.specs.View.{KernelState, chunks_at, core_of}
 use Rattle.geos_kernel.specs.Spans.{Stands, IsStanding}

@@ -4,9 +4,9 @@ use Rattle.std.specs.Prelude.{is_none, nat_lt}
 use Rattle.std.specs.List.{position_or_len}
 use Rattle.std.proofs.lemmas.List.{length-map}
 use Rattle.std.proofs.lemmas.List.Sums.{position_or_len_is}
-use Rattle.geos_model.specs.declared.name.Owner.TheVariants.{Mem}
-use Rattle.geos_model.specs.Names.{mem}
-use Rattle.geos_table.specs.Memory.{Memory, lowest_handle}
+use Rattle.geos_terms.specs.declared.name.Owner.TheVariants.{Mem}
+use Rattle.geos_terms.specs.Names.{mem}
+use Rattle.geos_calls.specs.Memory.{Memory, lowest_handle}
 use Rattle.block_handles.specs.Names.{slot_of}
 use Rattle.block_handles.specs.Store.{Store, block_at, IsThere}
 use Rattle.block_handles.specs.Used.{IsLowest, AllInUse}
@@ -15,7 +15,7 @@ use Rattle.vm_blocks.specs.FileOf.{IsMemoryOf}
 use Rattle.vm_blocks.specs.Spelled.{block_in}
 use Rattle.vm_blocks.specs.Tied.{IsTied}
 use Rattle.vm_blocks.specs.View.{VmState}
-use Rattle.heap_calls.proofs.Named.{mem-known}
+use Rattle.chunk_calls.proofs.Named.{mem-known}
 use Rattle.geos_kernel.proofs.Named.{view-there, view-absent}
 
 module _ {D : Type 0} (medium : Medium D) (v : VmState D) (s : Store) (m : Memory) (tied : IsTied medium v s) (is : IsMemoryOf medium v s m) where

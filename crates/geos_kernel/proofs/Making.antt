@@ -10,12 +10,12 @@ use Rattle.block_handles.specs.Layout.{IsLaidOut}
 use Rattle.block_handles.specs.Names.{IsHandle, slot_of}
 use Rattle.block_handles.proofs.Laws.{laid-with_bytes, laid-with_locks, slot_of-small}
 use Rattle.block_handles.specs.Store.{Block, Store, block_at, IsBlock, IsThere, bytes_of, place_of, locks_of, locks_in, bytes_in}
-use Rattle.geos_model.specs.declared.name.Name.{Name}
-use Rattle.geos_model.specs.Block as block
-use Rattle.geos_model.specs.Heap.{IsHeap}
+use Rattle.geos_terms.specs.declared.name.Name.{Name}
+use Rattle.geos_terms.specs.Block as block
+use Rattle.geos_terms.specs.Heap.{IsHeap}
 use Rattle.vm_blocks.specs.Room.{DiscardsAndMakes}
 use Rattle.vm_blocks.specs.View.{VmState}
-use Rattle.heap_calls.proofs.Lent.{with_bytes-set}
+use Rattle.chunk_calls.proofs.Lent.{with_bytes-set}
 use Rattle.geos_kernel.specs.Kernel.{MakesHeap, MakesRoomFor}
 use Rattle.geos_kernel.proofs.Locks.{LocksSlot}
 

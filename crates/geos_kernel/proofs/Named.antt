@@ -1,12 +1,12 @@
 -- What the model has of a named block, whosever it is.
 use Rattle.std.proofs.Common.{◌≡◌, ◌≢◌, ℕ, Option, Some, None, refl, sym, ◌∙◌, subst, inl}
-use Rattle.geos_model.specs.declared.name.Name.{Name}
-use Rattle.geos_model.specs.declared.name.Owner.{Owner}
-use Rattle.geos_model.specs.declared.name.Owner.TheVariants.{Mem, Vm}
-use Rattle.geos_model.specs.Names.{mem, named}
-use Rattle.geos_table.specs.Legal.{IsLegalBlock}
-use Rattle.geos_table.specs.Memory as memory
-use Rattle.geos_table.specs.Memory.{Memory}
+use Rattle.geos_terms.specs.declared.name.Name.{Name}
+use Rattle.geos_terms.specs.declared.name.Owner.{Owner}
+use Rattle.geos_terms.specs.declared.name.Owner.TheVariants.{Mem, Vm}
+use Rattle.geos_terms.specs.Names.{mem, named}
+use Rattle.geos_calls.specs.Legal.{IsLegalBlock}
+use Rattle.geos_calls.specs.Memory as memory
+use Rattle.geos_calls.specs.Memory.{Memory}
 use Rattle.block_handles.specs.Layout.{IsLaidOut}
 use Rattle.block_handles.specs.Names.{slot_of}
 use Rattle.block_handles.specs.Store.{Block, Store, block_at, bytes_in, IsBlock, IsThere, locks_in}
@@ -19,7 +19,7 @@ use Rattle.vm_blocks.specs.Tied.{IsTied}
 use Rattle.vm_blocks.specs.View.{VmState}
 use Rattle.vm_blocks.proofs.Changed.{own-legal}
 use Rattle.vm_blocks.proofs.LockRows.{known}
-use Rattle.heap_calls.proofs.Named.{mem-known}
+use Rattle.chunk_calls.proofs.Named.{mem-known}
 
 -- two names with blocks have one slot only where they are one
 pub other-slot : (s : Store) (a b : Name) → IsLaidOut s → IsThere s (slot_of a) → IsThere s (slot_of b) → a ≢ b → slot_of a ≢ slot_of b

@@ -1,17 +1,17 @@
 -- The call that makes a block.
 use Rattle.std.proofs.Common.{◌≡◌, ◌≢◌, ℕ, ◌<◌, Option, Some, None, true, refl, sym, ap, ◌∙◌, arith, subst}
 use Rattle.std.specs.Prelude.{Ok, Err}
-use Rattle.geos_model.specs.declared.name.Owner.TheVariants.{Mem}
-use Rattle.geos_model.specs.declared.refusal.Refusal.TheVariants.{NoHandle, NoRoom}
-use Rattle.geos_model.specs.Block as block
-use Rattle.geos_model.specs.Heap.{IsHeap}
-use Rattle.geos_model.specs.Names.{mem}
-use Rattle.geos_table.specs.Memory as model
-use Rattle.geos_table.specs.Memory.{Memory}
-use Rattle.geos_table.specs.Tight.{is_tight}
-use Rattle.geos_table.specs.VmFile.{VmFile}
-use Rattle.geos_table.specs.Effects.{Nothing}
-use Rattle.geos_table.specs.Calls as table
+use Rattle.geos_terms.specs.declared.name.Owner.TheVariants.{Mem}
+use Rattle.geos_terms.specs.declared.refusal.Refusal.TheVariants.{NoHandle, NoRoom}
+use Rattle.geos_terms.specs.Block as block
+use Rattle.geos_terms.specs.Heap.{IsHeap}
+use Rattle.geos_terms.specs.Names.{mem}
+use Rattle.geos_calls.specs.Memory as model
+use Rattle.geos_calls.specs.Memory.{Memory}
+use Rattle.geos_calls.specs.Tight.{is_tight}
+use Rattle.geos_calls.specs.VmFile.{VmFile}
+use Rattle.geos_calls.specs.Effects.{Nothing}
+use Rattle.geos_calls.specs.Calls as table
 use Rattle.block_handles.specs.Names.{slot_of}
 use Rattle.block_handles.specs.Store as store
 use Rattle.block_handles.specs.Store.{Block, Store}
@@ -29,9 +29,9 @@ use Rattle.vm_blocks.proofs.Tightness.{tight-mem}
 use Rattle.geos_kernel.specs.View.{KernelState, core_of, memory_of}
 use Rattle.geos_kernel.specs.Spans.{SpansStay}
 use Rattle.geos_kernel.specs.Kernel.{IsKernel, Calls, MakesRoomFor}
-use Rattle.heap_calls.specs.Others.{KeepsBut}
-use Rattle.heap_calls.proofs.Kept.{mem-changed, mem-tied}
-use Rattle.heap_calls.proofs.Named.{slot_of-mem}
+use Rattle.chunk_calls.specs.Others.{KeepsBut}
+use Rattle.chunk_calls.proofs.Kept.{mem-changed, mem-tied}
+use Rattle.chunk_calls.proofs.Named.{slot_of-mem}
 use Rattle.geos_kernel.proofs.Changed.{slot-keeps, slot-other, slot-own}
 use Rattle.geos_kernel.proofs.Lowest.{lowest-some, lowest-none}
 use Rattle.geos_kernel.proofs.Rowed.{does-cramped, does-willing, row-calls}

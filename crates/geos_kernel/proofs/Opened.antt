@@ -1,12 +1,12 @@
 -- The model's VM file of a kernel without a block.
 use Rattle.std.proofs.Common.{◌≡◌, ℕ, ◌<◌, ◌≤◌, List, length, length-take, map, take, replicate, Option, None, true, refl, sym, ap, ◌∙◌, subst, arith}
 use Rattle.std.proofs.lemmas.List.{ext_get_or, get_or-map, get_or-replicate, get_or-take, length-map, length-replicate}
-use Rattle.geos_table.specs.Blocks.{Block as ModelBlock}
-use Rattle.geos_table.specs.Directories.{KeptBlock, VmBlock, no_directory}
-use Rattle.geos_table.specs.Handles.{at_handle}
-use Rattle.geos_table.specs.Memory.{Memory}
-use Rattle.geos_table.specs.VmFile.{VmFile, empty_file}
-use Rattle.geos_table.proofs.LegalDirectories.{empty_file-legal, none-listed}
+use Rattle.geos_calls.specs.Blocks.{Block as ModelBlock}
+use Rattle.geos_calls.specs.Directories.{KeptBlock, VmBlock, no_directory}
+use Rattle.geos_calls.specs.Handles.{at_handle}
+use Rattle.geos_calls.specs.Memory.{Memory}
+use Rattle.geos_calls.specs.VmFile.{VmFile, empty_file}
+use Rattle.geos_calls.proofs.LegalDirectories.{empty_file-legal, none-listed}
 use Rattle.block_handles.specs.Layout.{IsEmpty}
 use Rattle.block_handles.specs.Names.{slot_of}
 use Rattle.block_handles.specs.Store.{Store, block_at, IsBlock, locks_in}

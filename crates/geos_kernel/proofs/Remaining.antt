@@ -2,11 +2,11 @@
 use Rattle.std.proofs.Common.{◌≡◌, ◌≢◌, ◌∙◌, ◌+◌, ℕ, List, Option, None, refl, sym, ap, arith, subst, inl, inr}
 use Rattle.std.specs.Prelude.{OnErr, OnOk, Result, Ok, Err}
 use Rattle.std.proofs.lemmas.Bool.{cases_eq}
-use Rattle.geos_model.specs.declared.name.Name.{Name}
-use Rattle.geos_model.specs.declared.name.Owner.TheVariants.{Vm}
-use Rattle.geos_model.specs.declared.refusal.Refusal.{Refusal}
-use Rattle.geos_model.specs.Edits.{Edit}
-use Rattle.geos_model.specs.Names.{mem}
+use Rattle.geos_terms.specs.declared.name.Name.{Name}
+use Rattle.geos_terms.specs.declared.name.Owner.TheVariants.{Vm}
+use Rattle.geos_terms.specs.declared.refusal.Refusal.{Refusal}
+use Rattle.geos_terms.specs.Edits.{Edit}
+use Rattle.geos_terms.specs.Names.{mem}
 use Rattle.block_handles.specs.Change.{after_write, with_lock_more, with_locks, without}
 use Rattle.block_handles.specs.Layout.{IsLaidOut}
 use Rattle.block_handles.specs.Names.{IsHandle, slot_of}
@@ -18,10 +18,10 @@ use Rattle.vm_blocks.specs.Bring.{Drops}
 use Rattle.vm_blocks.specs.View.{vm_slot}
 use Rattle.vm_blocks.proofs.Slots.{slot-is}
 use Rattle.vm_blocks.proofs.Tables.{handle-or}
-use Rattle.heap_calls.specs.Edits.{Changes}
-use Rattle.heap_calls.specs.Heaps.{Rechunks}
-use Rattle.heap_calls.proofs.Named.{slot_of-past}
-use Rattle.heap_calls.proofs.Regrown.{rechunked-other, rechunked-there}
+use Rattle.chunk_calls.specs.Edits.{Changes}
+use Rattle.chunk_calls.specs.Heaps.{Rechunks}
+use Rattle.chunk_calls.proofs.Named.{slot_of-past}
+use Rattle.chunk_calls.proofs.Regrown.{rechunked-other, rechunked-there}
 use Rattle.geos_kernel.specs.Kernel.{Remain}
 use Rattle.geos_kernel.proofs.Listed.{apart}
 

@@ -2,11 +2,11 @@
 -- that they are to who sees the kernel.
 use Rattle.std.proofs.Common.{◌≡◌, refl, inl}
 use Rattle.std.specs.Prelude.{Result}
-use Rattle.geos_model.specs.declared.refusal.Refusal.{Refusal}
-use Rattle.geos_table.specs.Effects.{Call, Choice, effect_of, outcome}
-use Rattle.geos_table.specs.Memory.{Memory}
-use Rattle.geos_table.specs.VmFile.{VmFile}
-use Rattle.geos_table.proofs.Laws.{willing, cramped}
+use Rattle.geos_terms.specs.declared.refusal.Refusal.{Refusal}
+use Rattle.geos_calls.specs.Effects.{Call, Choice, effect_of, outcome}
+use Rattle.geos_calls.specs.Memory.{Memory}
+use Rattle.geos_calls.specs.VmFile.{VmFile}
+use Rattle.geos_calls.proofs.Laws.{willing, cramped}
 use Rattle.block_handles.specs.Store.{Store}
 use Rattle.vm_file.specs.Device.{Medium}
 use Rattle.vm_blocks.specs.DoesRow.{DoesRow, IsChosen}

@@ -2,11 +2,11 @@
 -- answers as its row says.
 use Rattle.std.proofs.Common.{◌≡◌, ℕ, None, refl, ap, ◌∙◌, arith, subst, inl, inr}
 use Rattle.std.specs.Prelude.{Result}
-use Rattle.geos_model.specs.declared.refusal.Refusal.{Refusal}
-use Rattle.geos_table.specs.Effects.{Call}
-use Rattle.geos_table.specs.Handles.{at_handle}
-use Rattle.geos_table.specs.Memory.{Memory}
-use Rattle.geos_table.specs.VmFile.{VmFile, Kept, Sure, Unsure}
+use Rattle.geos_terms.specs.declared.refusal.Refusal.{Refusal}
+use Rattle.geos_calls.specs.Effects.{Call}
+use Rattle.geos_calls.specs.Handles.{at_handle}
+use Rattle.geos_calls.specs.Memory.{Memory}
+use Rattle.geos_calls.specs.VmFile.{VmFile, Kept, Sure, Unsure}
 use Rattle.block_handles.specs.Store.{Store, block_at}
 use Rattle.vm_file.specs.Device.{Medium, Rose}
 use Rattle.vm_file.specs.State.{pair_of}

@@ -1,11 +1,11 @@
 -- Spans that stay, and blocks that still are a kernel's.
 use Rattle.std.proofs.Common.{◌≡◌, ◌≢◌, ℕ, ◌<◌, ◌≤◌, None, refl, ap, ◌∙◌, subst, sym, ◌⊎◌, arith, inl, inr}
 use Rattle.std.proofs.lemmas.Bool.{cases_eq}
-use Rattle.geos_model.specs.declared.name.Name.{Name}
-use Rattle.geos_model.specs.Block as block
-use Rattle.geos_table.specs.VmFile.{VmFile}
-use Rattle.geos_table.specs.Effects.{Reference, Staleness}
-use Rattle.geos_model.specs.Heap.{IsHeap}
+use Rattle.geos_terms.specs.declared.name.Name.{Name}
+use Rattle.geos_terms.specs.Block as block
+use Rattle.geos_calls.specs.VmFile.{VmFile}
+use Rattle.geos_calls.specs.Effects.{Reference, Staleness}
+use Rattle.geos_terms.specs.Heap.{IsHeap}
 use Rattle.block_handles.specs.Names.{IsHandle, slot_of}
 use Rattle.block_handles.specs.Store.{Store, block_at, IsBlock, IsThere, bytes_in, bytes_of, locks_in, locks_of, place_of}
 use Rattle.block_handles.proofs.Laws.{handle_of_there, same-name}
@@ -15,8 +15,8 @@ use Rattle.vm_blocks.specs.FileOf as vm
 use Rattle.vm_blocks.specs.Room.{StaysOrGoes, Thins, own_handle}
 use Rattle.vm_blocks.specs.Tied.{IsTied}
 use Rattle.vm_blocks.specs.View.{VmState}
-use Rattle.heap_calls.specs.Others.{KeepsBut}
-use Rattle.heap_calls.proofs.Changing.{goes-free}
+use Rattle.chunk_calls.specs.Others.{KeepsBut}
+use Rattle.chunk_calls.proofs.Changing.{goes-free}
 use Rattle.geos_kernel.specs.declared.span.Span.{Span}
 use Rattle.geos_kernel.specs.View.{KernelState}
 use Rattle.geos_kernel.specs.Spans.{Stands, SpansStay}

@@ -1,8 +1,8 @@
 -- What a stop leaves at any moment of a call.
 use Rattle.std.proofs.Common.{◌≡◌, ℕ, List, refl, subst, inl, inr, ⊎_elim}
 use Rattle.std.specs.Prelude.{◌⊎◌}
-use Rattle.geos_table.specs.Memory.{Memory}
-use Rattle.geos_table.specs.VmFile.{VmFile}
+use Rattle.geos_calls.specs.Memory.{Memory}
+use Rattle.geos_calls.specs.VmFile.{VmFile}
 use Rattle.block_handles.specs.Store.{Store}
 use Rattle.vm_file.specs.Committing.{FindsEither}
 use Rattle.vm_file.specs.Device.{Medium, Passes}

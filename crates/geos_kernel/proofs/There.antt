@@ -1,9 +1,9 @@
 -- Calls on a block of the file that is in memory, by what was done below; and those that change nothing.
 use Rattle.std.proofs.Common.{◌≡◌, ◌∙◌, ℕ, ◌<◌, Option, None, Some, refl, ap, sym, arith, subst}
 use Rattle.std.specs.Prelude.{◌↔◌, IfSome, IsSomeAnd, MatchResult, OnErr, OnOk, Result, Ok, Err}
-use Rattle.geos_model.specs.Names.{vm}
-use Rattle.geos_model.specs.declared.refusal.Refusal.{Refusal}
-use Rattle.geos_model.specs.declared.refusal.Refusal.TheVariants as refusal
+use Rattle.geos_terms.specs.Names.{vm}
+use Rattle.geos_terms.specs.declared.refusal.Refusal.{Refusal}
+use Rattle.geos_terms.specs.declared.refusal.Refusal.TheVariants as refusal
 use Rattle.block_handles.specs.Store.{Store, IsThere, locks_of}
 use Rattle.block_handles.proofs.Layouts.{there_of_locks}
 use Rattle.vm_file.specs.Device.{Medium}

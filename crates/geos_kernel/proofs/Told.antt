@@ -1,9 +1,9 @@
 -- What the kernel tells of locks is what the model has.
 use Rattle.std.proofs.Common.{◌≡◌, ℕ, Bool, None, sym, ap, ◌∙◌, inl, inr}
 use Rattle.std.specs.Prelude.{◌↔◌, IsTrue, option_map}
-use Rattle.geos_model.specs.Names.{vm}
-use Rattle.geos_table.specs.Directories.{VmBlock}
-use Rattle.geos_table.specs.Memory.{Memory, locks_in, locks_of}
+use Rattle.geos_terms.specs.Names.{vm}
+use Rattle.geos_calls.specs.Directories.{VmBlock}
+use Rattle.geos_calls.specs.Memory.{Memory, locks_in, locks_of}
 use Rattle.block_handles.specs.Store.{Store}
 use Rattle.vm_file.specs.Device.{Medium}
 use Rattle.vm_blocks.specs.FileOf.{IsMemoryOf}
@@ -11,7 +11,7 @@ use Rattle.vm_blocks.specs.Listed.{NoneLocked}
 use Rattle.vm_blocks.specs.Tied.{IsTied}
 use Rattle.vm_blocks.specs.View.{VmState}
 use Rattle.vm_blocks.proofs.Tables.{handle-or, table-past}
-use Rattle.heap_calls.proofs.Named.{locks-known}
+use Rattle.chunk_calls.proofs.Named.{locks-known}
 
 module _ {D : Type 0} (medium : Medium D) (v : VmState D) (s : Store) (m : Memory) (tied : IsTied medium v s) (is : IsMemoryOf medium v s m) where
   -- no block of the file is locked where the model has none locked

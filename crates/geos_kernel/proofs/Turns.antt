@@ -1,9 +1,9 @@
 -- Calls answered one after another.
 use Rattle.std.proofs.Common.{List, [], ◌∷◌, refl, sym, ap, subst, inl}
 use Rattle.std.specs.Prelude.{◌↔◌, Result}
-use Rattle.geos_model.specs.declared.refusal.Refusal.{Refusal}
-use Rattle.geos_table.specs.VmFile.{VmFile}
-use Rattle.geos_table.specs.Effects.{Call, Choice, Reference}
+use Rattle.geos_terms.specs.declared.refusal.Refusal.{Refusal}
+use Rattle.geos_calls.specs.VmFile.{VmFile}
+use Rattle.geos_calls.specs.Effects.{Call, Choice, Reference}
 use Rattle.geos_kernel.specs.declared.span.Span.{Span}
 use Rattle.geos_kernel.specs.Spans.{Stands, IsFresh}
 use Rattle.geos_kernel.specs.Kernel.{Calls, IsChosen, NeverFell}

@@ -1,12 +1,12 @@
 -- The calls on blocks of the file, and on the file, by what was done below.
 use Rattle.std.proofs.Common.{◌≡◌, ◌∙◌, ℕ, ◌<◌, ◌⊎◌, Option, Some, None, refl, sym, ap, arith, subst, inl, inr}
 use Rattle.std.specs.Prelude.{Result, Ok, Err, ◌↔◌, IfOk, IfErr, OnErr, OnOk}
-use Rattle.geos_model.specs.declared.name.Name.{Name}
-use Rattle.geos_model.specs.declared.name.Owner.TheVariants.{Vm}
-use Rattle.geos_model.specs.declared.refusal.Refusal.{Refusal}
-use Rattle.geos_model.specs.declared.refusal.Refusal.TheVariants as refusal
-use Rattle.geos_model.specs.Names.{vm as vm_name}
-use Rattle.geos_table.specs.Effects.{Call}
+use Rattle.geos_terms.specs.declared.name.Name.{Name}
+use Rattle.geos_terms.specs.declared.name.Owner.TheVariants.{Vm}
+use Rattle.geos_terms.specs.declared.refusal.Refusal.{Refusal}
+use Rattle.geos_terms.specs.declared.refusal.Refusal.TheVariants as refusal
+use Rattle.geos_terms.specs.Names.{vm as vm_name}
+use Rattle.geos_calls.specs.Effects.{Call}
 use Rattle.block_handles.specs.Layout.{IsLaidOut}
 use Rattle.block_handles.specs.Names.{IsHandle}
 use Rattle.block_handles.specs.Store.{Block, Store, block_at, locks_in, locks_of}

@@ -6,19 +6,19 @@ use Rattle.block_handles.specs.Change.{LockedStay}
 use Rattle.block_handles.specs.Layout.{IsLaidOut}
 use Rattle.block_handles.specs.Used.{IsLowest}
 use Rattle.block_handles.specs.Stretch.{HasNoRoom}
-use Rattle.geos_model.specs.declared.name.Owner.TheVariants.{Mem}
-use Rattle.geos_model.specs.declared.name.Name.{Name}
-use Rattle.geos_model.specs.Names.{mem, vm}
-use Rattle.geos_model.specs.Block as block
-use Rattle.geos_model.specs.Chunks.{need}
-use Rattle.geos_model.specs.Edits.{Edit}
-use Rattle.geos_model.specs.Heap.{IsHeap}
-use Rattle.geos_model.specs.declared.refusal.Refusal.{Refusal}
-use Rattle.geos_model.specs.declared.refusal.Refusal.TheVariants.{NoRoom}
+use Rattle.geos_terms.specs.declared.name.Owner.TheVariants.{Mem}
+use Rattle.geos_terms.specs.declared.name.Name.{Name}
+use Rattle.geos_terms.specs.Names.{mem, vm}
+use Rattle.geos_terms.specs.Block as block
+use Rattle.geos_terms.specs.Chunks.{need}
+use Rattle.geos_terms.specs.Edits.{Edit}
+use Rattle.geos_terms.specs.Heap.{IsHeap}
+use Rattle.geos_terms.specs.declared.refusal.Refusal.{Refusal}
+use Rattle.geos_terms.specs.declared.refusal.Refusal.TheVariants.{NoRoom}
 use Rattle.vm_file.specs.Device.{Medium}
-use Rattle.geos_table.specs.VmFile.{VmFile}
-use Rattle.geos_table.specs.Calls.{store}
-use Rattle.geos_table.specs.Effects.{Choice, Call, Reference, outcome, effect_of}
+use Rattle.geos_calls.specs.VmFile.{VmFile}
+use Rattle.geos_calls.specs.Calls.{store}
+use Rattle.geos_calls.specs.Effects.{Choice, Call, Reference, outcome, effect_of}
 use Rattle.vm_blocks.specs.FileOf as vm
 use Rattle.vm_blocks.specs.Room.{NoneIdle, Thins, own_handle}
 pub use Rattle.vm_blocks.specs.Room.{Remain}

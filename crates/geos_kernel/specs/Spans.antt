@@ -1,13 +1,13 @@
 -- Spans of the region, and the references that they stand for.
 use Rattle.std.specs.Prelude.{◌≡◌, ◌≢◌, ℕ, ◌+◌, ◌<◌, ◌≤◌, ◌==◌, if◌then◌else◌, List, length, Option, Some, None, IfSome}
-use Rattle.geos_model.specs.declared.name.Name.{Name}
+use Rattle.geos_terms.specs.declared.name.Name.{Name}
 use Rattle.block_handles.specs.Names.{slot_of}
 use Rattle.block_handles.specs.Store.{bytes_of, locks_of, place_of}
-use Rattle.geos_model.specs.Block as block
-use Rattle.geos_model.specs.Chunks.{chunk_of}
-use Rattle.geos_table.specs.Memory as model
-use Rattle.geos_table.specs.VmFile.{VmFile}
-use Rattle.geos_table.specs.Effects.{Reference, Staleness, Nothing, InBlock, OfLock}
+use Rattle.geos_terms.specs.Block as block
+use Rattle.geos_terms.specs.Chunks.{chunk_of}
+use Rattle.geos_calls.specs.Memory as model
+use Rattle.geos_calls.specs.VmFile.{VmFile}
+use Rattle.geos_calls.specs.Effects.{Reference, Staleness, Nothing, InBlock, OfLock}
 use Rattle.geos_kernel.specs.declared.span.Span.{Span}
 use Rattle.geos_kernel.specs.View.{KernelState, memory_of, chunks_at, MayChange}
 

@@ -1,9 +1,9 @@
 -- Calls made one after another, and what their rows in the table of calls make of them.
 use Rattle.std.specs.Prelude.{◌≡◌, ℕ, List, [], ◌∷◌, map, Result}
-use Rattle.geos_model.specs.declared.refusal.Refusal.{Refusal}
-use Rattle.geos_table.specs.VmFile.{VmFile}
-use Rattle.geos_table.specs.Memory.{Memory}
-use Rattle.geos_table.specs.Effects.{Choice, Staleness, Reference, Call, outcome, effect_of}
+use Rattle.geos_terms.specs.declared.refusal.Refusal.{Refusal}
+use Rattle.geos_calls.specs.VmFile.{VmFile}
+use Rattle.geos_calls.specs.Memory.{Memory}
+use Rattle.geos_calls.specs.Effects.{Choice, Staleness, Reference, Call, outcome, effect_of}
 use Rattle.geos_kernel.specs.declared.span.Span.{Span}
 use Rattle.geos_kernel.specs.Kernel.{IsChosen, Calls, LeadsToSpan, StandsFor}
 use Rattle.geos_kernel.specs.Spans.{Stands, IsFresh}

@@ -1,18 +1,18 @@
 -- The memory of the model that a kernel's blocks spell, beside a VM file.
 use Rattle.std.specs.Prelude.{ℕ, ◌≡◌, ◌<◌, true, List, take, map}
-use Rattle.geos_model.specs.declared.name.Name.{Name}
-use Rattle.geos_model.specs.declared.name.Owner.TheVariants.{Vm}
+use Rattle.geos_terms.specs.declared.name.Name.{Name}
+use Rattle.geos_terms.specs.declared.name.Owner.TheVariants.{Vm}
 use Rattle.block_handles.specs.Names.{slot_of}
 use Rattle.block_handles.specs.Store as store
-use Rattle.geos_table.specs.Memory as model
-use Rattle.geos_table.specs.VmFile.{VmFile}
+use Rattle.geos_calls.specs.Memory as model
+use Rattle.geos_calls.specs.VmFile.{VmFile}
 use Rattle.vm_file.specs.Device.{Medium}
 use Rattle.vm_file.specs.State.{FileState}
 use Rattle.vm_blocks.specs.View.{VmState, held_at}
 use Rattle.vm_blocks.specs.Blocks.{is_marked_in}
 use Rattle.vm_blocks.specs.FileOf as vm
 pub use Rattle.vm_blocks.specs.Spelled.{block_in, spelled}
-pub use Rattle.heap_calls.specs.Heaps.{chunks_at, size_at}
+pub use Rattle.chunk_calls.specs.Heaps.{chunks_at, size_at}
 
 -- what contracts see of a device: the bytes that it gives, and how often it has failed
 pub record Seen : Type 0 where

@@ -10,10 +10,10 @@ use crate::span::Span;
 use vm_file::Device;
 
 impl<D: Device + Drop> Kernel<D> {
-    ghost use Rattle.geos_model.specs.Bytes.{word_bytes};
-    ghost use Rattle.geos_table.specs.Calls as table;
-    ghost use Rattle.geos_table.specs.VmFile.{VmFile};
-    ghost use Rattle.geos_table.specs.Effects.{Reference, Nothing};
+    ghost use Rattle.geos_terms.specs.Bytes.{word_bytes};
+    ghost use Rattle.geos_calls.specs.Calls as table;
+    ghost use Rattle.geos_calls.specs.VmFile.{VmFile};
+    ghost use Rattle.geos_calls.specs.Effects.{Reference, Nothing};
     ghost use Rattle.geos_kernel.specs.Kernel.{Calls, LeavesVm, Remain, Stores};
     ghost use Rattle.geos_kernel.specs.Spans.{Stands, IsStanding, IsWritable, SpansStay};
     ghost use Rattle.geos_kernel.specs.View.{IsFileOf};

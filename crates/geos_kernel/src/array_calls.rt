@@ -4,14 +4,14 @@ ghost use Rattle.std.specs.Prelude.{◌≡◌, ◌≤◌, IfOk, Err};
 
 use crate::kernel::Kernel;
 use crate::span::Span;
-use geos_model::{Name, Refusal};
-use geos_table::{Ask, Change, Make, Refer};
+use geos_calls::{Ask, Change, Make, Refer};
+use geos_terms::{Name, Refusal};
 use vm_file::Device;
 
 impl<D: Device + Drop> Kernel<D> {
-    ghost use Rattle.geos_model.specs.declared.refusal.Refusal.TheVariants.{NoRoom};
-    ghost use Rattle.geos_table.specs.ArrayCalls as table;
-    ghost use Rattle.geos_model.specs.ArrayEdits.{create_array, append_element, insert_element, resize_element};
+    ghost use Rattle.geos_terms.specs.declared.refusal.Refusal.TheVariants.{NoRoom};
+    ghost use Rattle.geos_calls.specs.ArrayCalls as table;
+    ghost use Rattle.geos_terms.specs.ArrayEdits.{create_array, append_element, insert_element, resize_element};
     ghost use Rattle.geos_kernel.specs.Kernel.{Calls, GivesSpan, HasNoRoomFor, LeavesVm, Remain, StaysIfRefused};
     ghost use Rattle.geos_kernel.specs.Spans.{IsStanding, IsWritable};
     ghost use Rattle.geos_kernel.specs.View.{chunks_at, IsLocked, MayChange};

@@ -2,7 +2,7 @@
 
 ghost use Rattle.std.specs.Prelude.{◌≡◌, ◌≤◌, IfOk, None, replicate};
 ghost use Rattle.block_handles.specs.Layout.{IsEmpty};
-ghost use Rattle.geos_table.specs.VmFile.{VmFile, empty_file};
+ghost use Rattle.geos_calls.specs.VmFile.{VmFile, empty_file};
 ghost use Rattle.vm_file.specs.Memory.{IsHonest};
 ghost use Rattle.geos_kernel.specs.View.{failed_in, IsFileOf, memory_of};
 

@@ -7,20 +7,20 @@ use crate::span::Span;
 use db_items::{
     group_free, group_new, item_change, item_lock_part, item_make, map_item, set_map_item,
 };
-use geos_model::{Name, Refusal};
-use geos_table::{Change, Make};
+use geos_calls::{Change, Make};
+use geos_terms::{Name, Refusal};
 use vm_file::Device;
 
 impl<D: Device + Drop> Kernel<D> {
-    ghost use Rattle.geos_model.specs.declared.name.Owner.TheVariants as owner;
+    ghost use Rattle.geos_terms.specs.declared.name.Owner.TheVariants as owner;
     ghost use Rattle.block_handles.specs.Change.{with_lock_more};
     ghost use Rattle.block_handles.specs.Store.{IsThere};
     ghost use Rattle.db_items.specs.Groups.{IsGroup};
     ghost use Rattle.vm_blocks.specs.View.{vm_slot};
-    ghost use Rattle.geos_model.specs.Edits.{alloc, delete_bytes, free, insert_bytes, realloc};
-    ghost use Rattle.geos_model.specs.Names.{vm};
-    ghost use Rattle.geos_table.specs.ChunkCalls.{change_edit, change_row, make_edit, make_row};
-    ghost use Rattle.geos_table.specs.ItemCalls as table;
+    ghost use Rattle.geos_terms.specs.Edits.{alloc, delete_bytes, free, insert_bytes, realloc};
+    ghost use Rattle.geos_terms.specs.Names.{vm};
+    ghost use Rattle.geos_calls.specs.ChunkCalls.{change_edit, change_row, make_edit, make_row};
+    ghost use Rattle.geos_calls.specs.ItemCalls as table;
     ghost use Rattle.geos_kernel.specs.Files.{AsksNothing, CallsItem, InMemory, ReadsFile};
     ghost use Rattle.geos_kernel.specs.Kernel.{Calls, LeadsToSpan, LeavesVm, ListedHasNoRoom, NewListedHasNoRoom, Remain};
     ghost use Rattle.geos_kernel.specs.Spans.{IsStanding, IsWritable};

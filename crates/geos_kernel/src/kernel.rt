@@ -11,9 +11,9 @@ ghost use Rattle.geos_kernel.specs.Kernel.{MakesRoomFor};
 use crate::refused::of_handle;
 use crate::span::Span;
 use block_handles::Blocks;
-use geos_model::{Name, Owner, Refusal};
-use geos_table::{Ask, Change, Make, Refer};
-use heap_calls::{find, tell};
+use chunk_calls::{find, tell};
+use geos_calls::{Ask, Change, Make, Refer};
+use geos_terms::{Name, Owner, Refusal};
 use lmem_heap::init;
 use std::alloc::{AllocError, Global};
 use std::marker::Model;
@@ -51,13 +51,13 @@ impl<D: Device + Drop> Kernel<D> {
     ghost use Rattle.block_handles.specs.Layout.{IsEmpty};
     ghost use Rattle.block_handles.specs.Store.{bytes_of};
     ghost use Rattle.block_handles.specs.Store as store;
-    ghost use Rattle.geos_table.specs.Calls as table;
-    ghost use Rattle.geos_table.specs.ChunkCalls.{change_edit, change_row, make_edit, make_row, ask_row, refer_row, least, may_grow};
-    ghost use Rattle.geos_model.specs.Heap.{IsCompact};
-    ghost use Rattle.geos_table.specs.Legal.{IsMemory};
-    ghost use Rattle.geos_table.specs.Memory as model;
-    ghost use Rattle.geos_table.specs.VmFile as model_file;
-    ghost use Rattle.geos_model.specs.Names.{mem, vm};
+    ghost use Rattle.geos_calls.specs.Calls as table;
+    ghost use Rattle.geos_calls.specs.ChunkCalls.{change_edit, change_row, make_edit, make_row, ask_row, refer_row, least, may_grow};
+    ghost use Rattle.geos_terms.specs.Heap.{IsCompact};
+    ghost use Rattle.geos_calls.specs.Legal.{IsMemory};
+    ghost use Rattle.geos_calls.specs.Memory as model;
+    ghost use Rattle.geos_calls.specs.VmFile as model_file;
+    ghost use Rattle.geos_terms.specs.Names.{mem, vm};
     ghost use Rattle.vm_blocks.specs.Blocks.{is_marked_in};
     ghost use Rattle.vm_blocks.specs.Listed.{IsListOf};
     ghost use Rattle.vm_blocks.specs.Opened.{opened_file};
@@ -218,7 +218,7 @@ impl<D: Device + Drop> Kernel<D> {
         ensures remain { may_grow change ≡ false → Remain self.old.core.blocks self.new.core.blocks 0 }
         ensures compact { change ≡ Change.Lcontract → IsCompact (bytes_of self.new.core.blocks (slot_of name)) }
     {
-        heap_calls::change(&self.vm, &mut self.blocks, name, change)
+        chunk_calls::change(&self.vm, &mut self.blocks, name, change)
     }
 
     /// Makes a chunk in a locked block, as the value says, and answers its handle: the lowest
@@ -233,7 +233,7 @@ impl<D: Device + Drop> Kernel<D> {
         ensures refused { StaysIfRefused result self.old.core.blocks self.new.core.blocks }
         ensures vm { LeavesVm self.old self.new }
     {
-        heap_calls::make(&self.vm, &mut self.blocks, name, make)
+        chunk_calls::make(&self.vm, &mut self.blocks, name, make)
     }
 
     /// Tells a number of the chunks of a locked block, as the value says. `BadChunk` where no
@@ -275,7 +275,7 @@ impl<D: Device + Drop> Kernel<D> {
         ensures vm { LeavesVm self.old self.new }
         ensures remain { Remain self.old.core.blocks self.new.core.blocks 0 }
     {
-        heap_calls::contract(&mut self.blocks, name);
+        chunk_calls::contract(&mut self.blocks, name);
         // what lies in the region are bytes, as the block is to spell
         let _ = self.blocks.region();
     }

@@ -8,17 +8,17 @@
 
 mod access;
 mod array_calls;
-mod chunk_calls;
 mod in_memory;
 mod item_calls;
 mod kernel;
 mod law;
+mod local_calls;
 mod refused;
 mod span;
 mod vm_calls;
 
-pub use geos_model::{Name, Owner, Refusal};
-pub use geos_table::{Ask, Change, Make, Refer};
+pub use geos_calls::{Ask, Change, Make, Refer};
+pub use geos_terms::{Name, Owner, Refusal};
 pub use in_memory::kernel_in_memory;
 pub use kernel::Kernel;
 pub use law::{calls_answer_in_turn, later_calls_answer_alike};

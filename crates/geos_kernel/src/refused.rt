@@ -5,7 +5,7 @@ ghost use Rattle.vm_blocks.specs.Refused.{of_commit, of_free, of_lock, of_new, o
 ghost use Rattle.geos_kernel.specs.Refused.{of_handle};
 
 use block_handles::HandleError;
-use geos_model::Refusal;
+use geos_terms::Refusal;
 use vm_blocks::{FreeError, LockError, NewError};
 use vm_file::CommitError;
 

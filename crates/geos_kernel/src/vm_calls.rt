@@ -5,13 +5,13 @@ ghost use Rattle.std.specs.Prelude.{◌≡◌, ℕ, List, Ok, Err, IfOk, OnErr, 
 use crate::kernel::Kernel;
 use crate::refused::{of_commit, of_free, of_lock, of_new, of_uid};
 use db_items::is_group;
-use geos_model::{Name, Refusal};
+use geos_terms::{Name, Refusal};
 use vm_file::{Device, GROUP_UID, How};
 
 impl<D: Device + Drop> Kernel<D> {
-    ghost use Rattle.geos_model.specs.declared.name.Owner.TheVariants as owner;
-    ghost use Rattle.geos_model.specs.Names.{vm};
-    ghost use Rattle.geos_table.specs.VmCalls as table;
+    ghost use Rattle.geos_terms.specs.declared.name.Owner.TheVariants as owner;
+    ghost use Rattle.geos_terms.specs.Names.{vm};
+    ghost use Rattle.geos_calls.specs.VmCalls as table;
     ghost use Rattle.block_handles.specs.Change.{with_lock_more};
     ghost use Rattle.block_handles.specs.Store.{IsThere};
     ghost use Rattle.vm_blocks.specs.View.{vm_slot};

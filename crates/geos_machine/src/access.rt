@@ -9,7 +9,7 @@ use crate::machine::Machine;
 use crate::step::{Goes, refuse};
 use geos_image::{Instr, Opcode};
 use geos_kernel::{Kernel, Span};
-use geos_model::Refusal;
+use geos_terms::Refusal;
 use vm_file::Device;
 
 /// The low byte of a word.

@@ -10,7 +10,7 @@ use crate::machine::Machine;
 use crate::step::{Goes, refuse, to_if};
 use geos_image::{Instr, Opcode};
 use geos_kernel::Kernel;
-use geos_model::Name;
+use geos_terms::Name;
 use vm_file::Device;
 
 /// Makes a block, and locks it into a slot.

@@ -13,7 +13,7 @@ use crate::machine::Machine;
 use crate::step::{Goes, refuse};
 use geos_image::{Instr, Opcode};
 use geos_kernel::{Kernel, Make};
-use geos_model::{Name, Refusal};
+use geos_terms::{Name, Refusal};
 use vm_file::Device;
 
 /// Makes a block of the file, and locks it into a slot.

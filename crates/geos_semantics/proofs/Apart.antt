@@ -3,10 +3,10 @@ use Rattle.std.proofs.Common.{◌≡◌, ◌≢◌, ℕ, zero, suc, Bool, true, 
 use Rattle.std.specs.Prelude.{◌==◌, ◌&&◌, ◌||◌, not, option_map}
 use Rattle.std.proofs.lemmas.Bool.{and_parts, or_parts, eqb-true, eqb-false, not-true, not-false}
 use Rattle.std.proofs.lemmas.List.{get_or-set_other}
-use Rattle.geos_model.specs.declared.name.Name.{Name}
-use Rattle.geos_model.specs.declared.name.Owner.TheVariants.{Mem, Vm}
-use Rattle.geos_model.specs.Names.{named}
-use Rattle.geos_table.specs.Memory.{Memory, is_group}
+use Rattle.geos_terms.specs.declared.name.Name.{Name}
+use Rattle.geos_terms.specs.declared.name.Owner.TheVariants.{Mem, Vm}
+use Rattle.geos_terms.specs.Names.{named}
+use Rattle.geos_calls.specs.Memory.{Memory, is_group}
 use Rattle.geos_image.specs.declared.row.Row.{Row}
 use Rattle.geos_opcodes.specs.declared.uses.Kind.{Kind}
 use Rattle.geos_opcodes.specs.declared.uses.Kind.TheVariants.{MemBlock, VmBlock, DbGroup}

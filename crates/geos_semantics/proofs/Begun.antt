@@ -1,10 +1,10 @@
 -- What a device gives leaves a good state good.
 use Rattle.std.proofs.Common.{◌≡◌, ℕ, ◌<◌, Option, Some, None, get_or, ap, ◌∙◌, arith}
-use Rattle.geos_model.specs.declared.name.Name.{Name}
-use Rattle.geos_table.specs.Memory.{chunks_in, locks_of}
-use Rattle.geos_table.specs.Given.{given_memory}
-use Rattle.geos_table.specs.Effects.{Choice}
-use Rattle.geos_table.proofs.LegalGiven.{memory-given, locks_of-given, block_of-given}
+use Rattle.geos_terms.specs.declared.name.Name.{Name}
+use Rattle.geos_calls.specs.Memory.{chunks_in, locks_of}
+use Rattle.geos_calls.specs.Given.{given_memory}
+use Rattle.geos_calls.specs.Effects.{Choice}
+use Rattle.geos_calls.proofs.LegalGiven.{memory-given, locks_of-given, block_of-given}
 use Rattle.geos_semantics.specs.State.{SlotReference, State}
 use Rattle.geos_semantics.specs.Model.{begun}
 use Rattle.geos_image.specs.declared.row.Row.{Row}

@@ -3,26 +3,26 @@ use Rattle.std.proofs.Common.{◌≡◌, ℕ, ◌+◌, ◌≤◌, false, Option,
 use Rattle.std.specs.Prelude.{is_none, unwrap_or}
 use Rattle.std.proofs.lemmas.Bool.{ltb-false, leb-false}
 use Rattle.std.proofs.lemmas.List.{length-set}
-use Rattle.geos_model.specs.declared.name.Name.{Name}
-use Rattle.geos_model.specs.Refusals.{first_refusal}
-use Rattle.geos_model.specs.Chunks.{entry_of, chunk_of, bytes_of, with_new, new_handle}
-use Rattle.geos_table.specs.Memory.{Memory, chunks_at}
-use Rattle.geos_model.specs.Arrays.{arr, spelled, empty}
-use Rattle.geos_model.specs.ArrayEdits.{array_of, count_of, element_of, create_array}
-use Rattle.geos_table.specs.declared.call.Make.{Make}
-use Rattle.geos_table.specs.declared.call.Make.TheVariants.{Lalloc, Canew}
-use Rattle.geos_table.specs.declared.call.Ask.{Ask}
-use Rattle.geos_table.specs.declared.call.Ask.TheVariants.{Lsize, Cacount}
-use Rattle.geos_table.specs.declared.call.Refer.{Refer}
-use Rattle.geos_table.specs.declared.call.Refer.TheVariants.{Deref, Caelt}
-use Rattle.geos_table.specs.ChunkCalls.{make_row, ask_row, refer_row, least}
-use Rattle.geos_table.specs.Legal.{IsMemory}
-use Rattle.geos_table.specs.Effects.{Choice}
-use Rattle.geos_table.proofs.Keeps.{grown-small}
-use Rattle.geos_table.proofs.LegalChunks.{bytes_of-legal}
-use Rattle.geos_table.proofs.LegalBlocks.{chunks-bytes}
-use Rattle.geos_model.proofs.ArrayReads.{Reads, reads}
-use Rattle.geos_model.proofs.ArrayPlaces.{element-bounds, element-ends}
+use Rattle.geos_terms.specs.declared.name.Name.{Name}
+use Rattle.geos_terms.specs.Refusals.{first_refusal}
+use Rattle.geos_terms.specs.Chunks.{entry_of, chunk_of, bytes_of, with_new, new_handle}
+use Rattle.geos_calls.specs.Memory.{Memory, chunks_at}
+use Rattle.geos_terms.specs.Arrays.{arr, spelled, empty}
+use Rattle.geos_terms.specs.ArrayEdits.{array_of, count_of, element_of, create_array}
+use Rattle.geos_calls.specs.declared.call.Make.{Make}
+use Rattle.geos_calls.specs.declared.call.Make.TheVariants.{Lalloc, Canew}
+use Rattle.geos_calls.specs.declared.call.Ask.{Ask}
+use Rattle.geos_calls.specs.declared.call.Ask.TheVariants.{Lsize, Cacount}
+use Rattle.geos_calls.specs.declared.call.Refer.{Refer}
+use Rattle.geos_calls.specs.declared.call.Refer.TheVariants.{Deref, Caelt}
+use Rattle.geos_calls.specs.ChunkCalls.{make_row, ask_row, refer_row, least}
+use Rattle.geos_calls.specs.Legal.{IsMemory}
+use Rattle.geos_calls.specs.Effects.{Choice}
+use Rattle.geos_calls.proofs.Keeps.{grown-small}
+use Rattle.geos_calls.proofs.LegalChunks.{bytes_of-legal}
+use Rattle.geos_calls.proofs.LegalBlocks.{chunks-bytes}
+use Rattle.geos_terms.proofs.ArrayReads.{Reads, reads}
+use Rattle.geos_terms.proofs.ArrayPlaces.{element-bounds, element-ends}
 use Rattle.geos_verify.proofs.Passed.{passed}
 use Rattle.geos_semantics.specs.Meets.{IsInChunk}
 use Rattle.geos_semantics.proofs.Bounds.{byte-most, word-most, handle-fits, length-most}

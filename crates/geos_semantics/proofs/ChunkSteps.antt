@@ -1,17 +1,17 @@
 -- Each step of an instruction that works on chunks of a block goes well.
 use Rattle.std.proofs.Common.{◌≡◌, ◌+◌, false, refl, sym, arith}
 use Rattle.std.specs.Prelude.{is_none}
-use Rattle.geos_table.specs.Memory.{chunks_at}
-use Rattle.geos_table.specs.declared.call.Change.{Change}
-use Rattle.geos_table.specs.declared.call.Change.TheVariants as change
-use Rattle.geos_table.specs.declared.call.Make.{Make}
-use Rattle.geos_table.specs.declared.call.Ask.{Ask}
-use Rattle.geos_table.specs.declared.call.Refer.{Refer}
-use Rattle.geos_table.specs.ChunkCalls.{change_edit, change_row, make_edit, make_row, ask_row, refer_row, least}
-use Rattle.geos_table.specs.Effects.{Choice}
-use Rattle.geos_table.specs.Keeping.{HasWordSize}
-use Rattle.geos_table.proofs.Keeps.{rows_keep_memory}
-use Rattle.geos_table.proofs.Laws.{change-shape}
+use Rattle.geos_calls.specs.Memory.{chunks_at}
+use Rattle.geos_calls.specs.declared.call.Change.{Change}
+use Rattle.geos_calls.specs.declared.call.Change.TheVariants as change
+use Rattle.geos_calls.specs.declared.call.Make.{Make}
+use Rattle.geos_calls.specs.declared.call.Ask.{Ask}
+use Rattle.geos_calls.specs.declared.call.Refer.{Refer}
+use Rattle.geos_calls.specs.ChunkCalls.{change_edit, change_row, make_edit, make_row, ask_row, refer_row, least}
+use Rattle.geos_calls.specs.Effects.{Choice}
+use Rattle.geos_calls.specs.Keeping.{HasWordSize}
+use Rattle.geos_calls.proofs.Keeps.{rows_keep_memory}
+use Rattle.geos_calls.proofs.Laws.{change-shape}
 use Rattle.geos_opcodes.specs.declared.opcode.Opcode.TheVariants as op
 use Rattle.geos_opcodes.specs.declared.uses.SlotUse.TheVariants.{Moves, LooksAt}
 use Rattle.geos_verify.specs.Rows.{with_bound}

@@ -3,20 +3,20 @@ use Rattle.std.proofs.Common.{◌≡◌, ℕ, zero, suc, ◌+◌, false, Option,
 use Rattle.std.specs.List.{list_any}
 use Rattle.std.proofs.lemmas.Bool.{or_parts, cond_both}
 use Rattle.std.proofs.lemmas.List.Sums.{sum_by-cons}
-use Rattle.geos_model.specs.declared.name.Name.{Name}
-use Rattle.geos_model.specs.declared.refusal.Refusal.{Refusal}
-use Rattle.geos_model.specs.declared.refusal.Refusal.TheVariants as refusal
-use Rattle.geos_model.specs.Names.{mem, vm}
-use Rattle.geos_table.specs.Directories.{KeptBlock, Directory}
-use Rattle.geos_table.specs.Handles.{at_handle}
-use Rattle.geos_table.specs.VmFile.{Pair}
-use Rattle.geos_table.specs.Memory.{Memory, block_of, chunks_in, locks_of}
-use Rattle.geos_table.specs.Legal.{IsStored, IsPair, IsMemory}
-use Rattle.geos_table.specs.Effects.{Choice, Nothing}
-use Rattle.geos_table.specs.VmCalls.{Keeper, keep_current, keep_saved, keep_reverted, pair_to_keep, committed, in_doubt, left_by_commit, commit}
-use Rattle.geos_table.specs.Leaving.{NoneLocked}
-use Rattle.geos_table.proofs.KeepsFile.{pair-legal, left-legal, commit-kept}
-use Rattle.geos_table.proofs.Leaves.{commit-counts}
+use Rattle.geos_terms.specs.declared.name.Name.{Name}
+use Rattle.geos_terms.specs.declared.refusal.Refusal.{Refusal}
+use Rattle.geos_terms.specs.declared.refusal.Refusal.TheVariants as refusal
+use Rattle.geos_terms.specs.Names.{mem, vm}
+use Rattle.geos_calls.specs.Directories.{KeptBlock, Directory}
+use Rattle.geos_calls.specs.Handles.{at_handle}
+use Rattle.geos_calls.specs.VmFile.{Pair}
+use Rattle.geos_calls.specs.Memory.{Memory, block_of, chunks_in, locks_of}
+use Rattle.geos_calls.specs.Legal.{IsStored, IsPair, IsMemory}
+use Rattle.geos_calls.specs.Effects.{Choice, Nothing}
+use Rattle.geos_calls.specs.VmCalls.{Keeper, keep_current, keep_saved, keep_reverted, pair_to_keep, committed, in_doubt, left_by_commit, commit}
+use Rattle.geos_calls.specs.Leaving.{NoneLocked}
+use Rattle.geos_calls.proofs.KeepsFile.{pair-legal, left-legal, commit-kept}
+use Rattle.geos_calls.proofs.Leaves.{commit-counts}
 use Rattle.geos_image.specs.declared.row.Row.{Row}
 use Rattle.geos_opcodes.specs.declared.opcode.Opcode.TheVariants as op
 use Rattle.geos_opcodes.specs.declared.uses.Kind.{Kind}
@@ -24,7 +24,7 @@ use Rattle.geos_opcodes.specs.declared.uses.Kind.TheVariants.{MemBlock, VmBlock,
 use Rattle.geos_opcodes.specs.declared.uses.SlotUse.TheVariants.{Commits}
 use Rattle.geos_verify.specs.Rows as rows
 use Rattle.geos_verify.specs.Potentials.{pays}
-use Rattle.geos_table.proofs.Outcomes.{after-kept}
+use Rattle.geos_calls.proofs.Outcomes.{after-kept}
 use Rattle.geos_semantics.specs.State.{Held, owner_of, name_of, SlotReference, State, slot, kept_pointer, kept_pointers}
 use Rattle.geos_semantics.specs.Faults.{is_vm, holds_of_file}
 use Rattle.geos_semantics.specs.Model.{calls, nowhere}

@@ -4,12 +4,12 @@ use Rattle.std.specs.Prelude.{is_none, option_map, unwrap_or, position, drop, If
 use Rattle.std.proofs.lemmas.Bool.{cases_lt}
 use Rattle.std.proofs.lemmas.List.{get_or_past, length-drop}
 use Rattle.std.proofs.lemmas.List.Quantifiers.{position-Some}
-use Rattle.geos_table.specs.Directories.{VmBlock, uid_in}
-use Rattle.geos_model.specs.Names.{group_uid}
-use Rattle.geos_table.specs.Handles.{at_handle}
-use Rattle.geos_table.specs.Memory.{Memory, listed_at}
-use Rattle.geos_table.specs.Legal.{IsLegalListed, IsMemory}
-use Rattle.geos_table.specs.VmCalls.{has_uid, found_above}
+use Rattle.geos_calls.specs.Directories.{VmBlock, uid_in}
+use Rattle.geos_terms.specs.Names.{group_uid}
+use Rattle.geos_calls.specs.Handles.{at_handle}
+use Rattle.geos_calls.specs.Memory.{Memory, listed_at}
+use Rattle.geos_calls.specs.Legal.{IsLegalListed, IsMemory}
+use Rattle.geos_calls.specs.VmCalls.{has_uid, found_above}
 
 -- a handle under which something is listed is within the list
 listed-within : {X : Type 0} (xs : List (Option X)) (h : ℕ) → is_none (at_handle None xs h) ≡ false → h ≤ length xs

@@ -3,28 +3,28 @@ use Rattle.std.proofs.Common.{◌≡◌, ℕ, ◌+◌, Bool, true, false, not, L
 use Rattle.std.specs.Prelude.{◌==◌, IsSome, is_none, option_map}
 use Rattle.std.proofs.lemmas.Bool.{not-false}
 use Rattle.std.proofs.lemmas.List.{get_or-set_same, set-get_or}
-use Rattle.geos_model.specs.declared.name.Name.{Name}
-use Rattle.geos_model.specs.declared.name.Owner.{Owner}
-use Rattle.geos_model.specs.declared.name.Owner.TheVariants as owner
-use Rattle.geos_model.specs.declared.refusal.Refusal.{Refusal}
-use Rattle.geos_model.specs.Names.{named, vm, group_uid}
-use Rattle.geos_table.specs.Directories.{uid_in}
-use Rattle.geos_table.specs.Directories as directories
-use Rattle.geos_table.specs.Memory.{Memory, Block, listed_at, is_group, is_marked, with_mark, block_of, chunks_in, locks_in, locks_of}
-use Rattle.geos_table.specs.Legal.{IsMemory}
-use Rattle.geos_table.specs.Effects.{Choice, Nothing, bringing}
-use Rattle.geos_table.specs.Calls.{locks_full, deref}
-use Rattle.geos_table.specs.VmCalls.{names_group, new_listed, no_listed, vnew}
-use Rattle.geos_table.specs.ItemCalls.{no_group, ilock}
-use Rattle.geos_table.specs.Leaving.{new_vm}
-use Rattle.geos_table.specs.Table.{Vnew}
-use Rattle.geos_table.specs.declared.call.Refer.TheVariants.{Deref}
-use Rattle.geos_table.proofs.HandleLists.{entry-kept, lowest-none}
-use Rattle.geos_table.proofs.Keeps.{rows_keep_memory}
-use Rattle.geos_table.proofs.Outcomes.{after-kept}
-use Rattle.geos_table.proofs.Leaves.{rows_leave}
-use Rattle.geos_table.proofs.NamedBlocks.{locks_of-mark, marked-set}
-use Rattle.geos_table.proofs.Passing.{none-behind}
+use Rattle.geos_terms.specs.declared.name.Name.{Name}
+use Rattle.geos_terms.specs.declared.name.Owner.{Owner}
+use Rattle.geos_terms.specs.declared.name.Owner.TheVariants as owner
+use Rattle.geos_terms.specs.declared.refusal.Refusal.{Refusal}
+use Rattle.geos_terms.specs.Names.{named, vm, group_uid}
+use Rattle.geos_calls.specs.Directories.{uid_in}
+use Rattle.geos_calls.specs.Directories as directories
+use Rattle.geos_calls.specs.Memory.{Memory, Block, listed_at, is_group, is_marked, with_mark, block_of, chunks_in, locks_in, locks_of}
+use Rattle.geos_calls.specs.Legal.{IsMemory}
+use Rattle.geos_calls.specs.Effects.{Choice, Nothing, bringing}
+use Rattle.geos_calls.specs.Calls.{locks_full, deref}
+use Rattle.geos_calls.specs.VmCalls.{names_group, new_listed, no_listed, vnew}
+use Rattle.geos_calls.specs.ItemCalls.{no_group, ilock}
+use Rattle.geos_calls.specs.Leaving.{new_vm}
+use Rattle.geos_calls.specs.Table.{Vnew}
+use Rattle.geos_calls.specs.declared.call.Refer.TheVariants.{Deref}
+use Rattle.geos_calls.proofs.HandleLists.{entry-kept, lowest-none}
+use Rattle.geos_calls.proofs.Keeps.{rows_keep_memory}
+use Rattle.geos_calls.proofs.Outcomes.{after-kept}
+use Rattle.geos_calls.proofs.Leaves.{rows_leave}
+use Rattle.geos_calls.proofs.NamedBlocks.{locks_of-mark, marked-set}
+use Rattle.geos_calls.proofs.Passing.{none-behind}
 use Rattle.geos_image.specs.declared.instr.Instr.{Instr}
 use Rattle.geos_image.specs.declared.row.Row.{Row}
 use Rattle.geos_image.specs.declared.row.SlotState.{SlotState}

@@ -2,22 +2,22 @@
 use Rattle.std.proofs.Common.{◌≡◌, ℕ, ◌+◌, None, refl, ap, ◌∙◌, subst, arith}
 use Rattle.std.specs.Prelude.{◌==◌, is_none}
 use Rattle.std.proofs.lemmas.Bool.{ltb-false}
-use Rattle.geos_model.specs.declared.name.Owner.{Owner}
-use Rattle.geos_model.specs.declared.name.Owner.TheVariants as owner
-use Rattle.geos_model.specs.Names.{vm, group_uid}
-use Rattle.geos_model.specs.Refusals.{first_refusal}
-use Rattle.geos_table.specs.Directories.{uid_in, is_marked_in}
-use Rattle.geos_table.specs.Handles.{at_handle}
-use Rattle.geos_table.specs.Memory.{Memory, owned_block, locks_in, chunks_in, locks_of}
-use Rattle.geos_table.specs.Legal.{IsMemory}
-use Rattle.geos_table.specs.Effects.{Choice, Nothing, come_to}
-use Rattle.geos_table.specs.VmCalls.{vfind, vuid, vsetmap}
-use Rattle.geos_table.specs.ItemCalls.{isetmap}
-use Rattle.geos_table.specs.Table.{KernelCall, Vfree, Gfree, row}
-use Rattle.geos_table.specs.Leaving.{scope_of, LeavesOthers}
-use Rattle.geos_table.proofs.Keeps.{rows_keep_memory}
-use Rattle.geos_table.proofs.Outcomes.{after-kept}
-use Rattle.geos_table.proofs.Leaves.{rows_leave}
+use Rattle.geos_terms.specs.declared.name.Owner.{Owner}
+use Rattle.geos_terms.specs.declared.name.Owner.TheVariants as owner
+use Rattle.geos_terms.specs.Names.{vm, group_uid}
+use Rattle.geos_terms.specs.Refusals.{first_refusal}
+use Rattle.geos_calls.specs.Directories.{uid_in, is_marked_in}
+use Rattle.geos_calls.specs.Handles.{at_handle}
+use Rattle.geos_calls.specs.Memory.{Memory, owned_block, locks_in, chunks_in, locks_of}
+use Rattle.geos_calls.specs.Legal.{IsMemory}
+use Rattle.geos_calls.specs.Effects.{Choice, Nothing, come_to}
+use Rattle.geos_calls.specs.VmCalls.{vfind, vuid, vsetmap}
+use Rattle.geos_calls.specs.ItemCalls.{isetmap}
+use Rattle.geos_calls.specs.Table.{KernelCall, Vfree, Gfree, row}
+use Rattle.geos_calls.specs.Leaving.{scope_of, LeavesOthers}
+use Rattle.geos_calls.proofs.Keeps.{rows_keep_memory}
+use Rattle.geos_calls.proofs.Outcomes.{after-kept}
+use Rattle.geos_calls.proofs.Leaves.{rows_leave}
 use Rattle.geos_opcodes.specs.declared.opcode.Opcode.TheVariants as op
 use Rattle.geos_opcodes.specs.declared.uses.SlotUse.TheVariants.{NoSlot}
 use Rattle.geos_verify.proofs.Passed.{passed}

@@ -3,12 +3,12 @@ use Rattle.std.proofs.Common.{◌≡◌, ℕ, ◌+◌, ◌≤◌, Option, Some, 
 use Rattle.std.specs.Prelude.{map, unwrap_or}
 use Rattle.lmem_raw.specs.Bytes.{with_part}
 use Rattle.lmem_raw.proofs.Parts.{length-with_part}
-use Rattle.geos_model.specs.declared.name.Name.{Name}
-use Rattle.geos_model.specs.Chunks.{chunk_of, bytes_of, with_bytes}
-use Rattle.geos_table.specs.Memory.{Memory, chunks_at, rechunked_block, with_chunks}
-use Rattle.geos_table.specs.Legal.{IsMemory}
-use Rattle.geos_table.specs.Calls.{written}
-use Rattle.geos_table.specs.Effects.{Reference, Nothing, InBlock}
+use Rattle.geos_terms.specs.declared.name.Name.{Name}
+use Rattle.geos_terms.specs.Chunks.{chunk_of, bytes_of, with_bytes}
+use Rattle.geos_calls.specs.Memory.{Memory, chunks_at, rechunked_block, with_chunks}
+use Rattle.geos_calls.specs.Legal.{IsMemory}
+use Rattle.geos_calls.specs.Calls.{written}
+use Rattle.geos_calls.specs.Effects.{Reference, Nothing, InBlock}
 use Rattle.geos_image.specs.declared.instr.Instr.{Instr}
 use Rattle.geos_image.specs.declared.row.Row.{Row}
 use Rattle.geos_image.specs.declared.row.Pointer.{Pointer}

@@ -1,13 +1,13 @@
 -- What locks, unlocks, new blocks and freed ones do to a state that is sound and as a row says.
 use Rattle.std.proofs.Common.{◌≡◌, ℕ, ◌+◌, ◌-◌, ◌<◌, Bool, true, false, Option, Some, None, get_or, set, refl, sym, ap, ◌∙◌, subst, arith}
 use Rattle.std.specs.Prelude.{◌==◌, map, is_none, IsSome}
-use Rattle.geos_model.specs.declared.name.Name.{Name}
-use Rattle.geos_model.specs.declared.name.Owner.TheVariants as owner
-use Rattle.geos_model.specs.Names.{mem}
-use Rattle.geos_table.specs.Memory.{Memory, Block, new_heap, block_of, with_block, locked_block, locks_in, chunks_in, locks_of, with_locks, lowest_handle}
-use Rattle.geos_table.specs.Legal.{IsMemory}
-use Rattle.geos_table.specs.Effects.{Nothing, OfLock}
-use Rattle.geos_table.specs.Leaving.{OneBlock, LeavesOthers}
+use Rattle.geos_terms.specs.declared.name.Name.{Name}
+use Rattle.geos_terms.specs.declared.name.Owner.TheVariants as owner
+use Rattle.geos_terms.specs.Names.{mem}
+use Rattle.geos_calls.specs.Memory.{Memory, Block, new_heap, block_of, with_block, locked_block, locks_in, chunks_in, locks_of, with_locks, lowest_handle}
+use Rattle.geos_calls.specs.Legal.{IsMemory}
+use Rattle.geos_calls.specs.Effects.{Nothing, OfLock}
+use Rattle.geos_calls.specs.Leaving.{OneBlock, LeavesOthers}
 use Rattle.geos_image.specs.declared.instr.Instr.{Instr}
 use Rattle.geos_image.specs.declared.row.Row.{Row}
 use Rattle.geos_image.specs.declared.row.Pointer.{Pointer}

@@ -1,22 +1,22 @@
 -- Each step of an instruction that makes a group, or works on items, goes well.
 use Rattle.std.proofs.Common.{◌≡◌, ℕ, ◌+◌, true, Option, None, List, ◌∷◌, refl, subst}
 use Rattle.std.proofs.lemmas.Bool.{not-false}
-use Rattle.geos_model.specs.declared.refusal.Refusal.{Refusal}
-use Rattle.geos_model.specs.Names.{vm, group_uid}
-use Rattle.geos_model.specs.Refusals.{first_refusal}
-use Rattle.geos_table.specs.Memory.{is_group, with_mark, chunks_at}
-use Rattle.geos_table.specs.Legal.{IsMemory}
-use Rattle.geos_table.specs.Effects.{Choice, Call, bringing}
-use Rattle.geos_table.specs.declared.call.Change.{Change}
-use Rattle.geos_table.specs.declared.call.Make.{Make}
-use Rattle.geos_table.specs.ChunkCalls.{change_edit, change_row, make_edit, make_row}
-use Rattle.geos_table.specs.ItemCalls.{no_group, in_group, on_group, gnew}
-use Rattle.geos_table.specs.Keeping.{Keeps, HasWordSize}
-use Rattle.geos_table.specs.Leaving.{new_vm}
-use Rattle.geos_table.proofs.Keeps.{rows_keep_memory}
-use Rattle.geos_table.proofs.Outcomes.{after-kept}
-use Rattle.geos_table.proofs.Laws.{change-shape}
-use Rattle.geos_table.proofs.Passing.{none-behind}
+use Rattle.geos_terms.specs.declared.refusal.Refusal.{Refusal}
+use Rattle.geos_terms.specs.Names.{vm, group_uid}
+use Rattle.geos_terms.specs.Refusals.{first_refusal}
+use Rattle.geos_calls.specs.Memory.{is_group, with_mark, chunks_at}
+use Rattle.geos_calls.specs.Legal.{IsMemory}
+use Rattle.geos_calls.specs.Effects.{Choice, Call, bringing}
+use Rattle.geos_calls.specs.declared.call.Change.{Change}
+use Rattle.geos_calls.specs.declared.call.Make.{Make}
+use Rattle.geos_calls.specs.ChunkCalls.{change_edit, change_row, make_edit, make_row}
+use Rattle.geos_calls.specs.ItemCalls.{no_group, in_group, on_group, gnew}
+use Rattle.geos_calls.specs.Keeping.{Keeps, HasWordSize}
+use Rattle.geos_calls.specs.Leaving.{new_vm}
+use Rattle.geos_calls.proofs.Keeps.{rows_keep_memory}
+use Rattle.geos_calls.proofs.Outcomes.{after-kept}
+use Rattle.geos_calls.proofs.Laws.{change-shape}
+use Rattle.geos_calls.proofs.Passing.{none-behind}
 use Rattle.geos_image.specs.declared.row.Row.{Row}
 use Rattle.geos_opcodes.specs.declared.opcode.Opcode.TheVariants as op
 use Rattle.geos_opcodes.specs.declared.uses.SlotUse.TheVariants.{NoSlot, MovesGroup}

@@ -1,17 +1,17 @@
 -- What calls on items of a group do to a state that is sound and as a row says.
 use Rattle.std.proofs.Common.{◌≡◌, ℕ, Bool, true, false, Option, Some, None, List, get_or, refl, sym, ap, ◌∙◌, subst}
 use Rattle.std.specs.Prelude.{◌==◌, cond, not, is_none, IsSome, option_map}
-use Rattle.geos_model.specs.declared.name.Name.{Name}
-use Rattle.geos_model.specs.declared.name.Owner.{Owner}
-use Rattle.geos_model.specs.declared.name.Owner.TheVariants.{Mem, Vm}
-use Rattle.geos_model.specs.Names.{vm, group_uid}
-use Rattle.geos_table.specs.Directories.{VmBlock, uid_in, is_marked_in, marked_block}
-use Rattle.geos_table.specs.Memory.{Memory, listed_at, with_listed, is_group, is_marked, with_mark, owned_block, block_of, chunks_in, rechunked_block, with_chunks}
-use Rattle.geos_table.specs.Legal.{IsMemory}
-use Rattle.geos_table.specs.Effects.{Nothing, InBlock}
-use Rattle.geos_table.specs.ItemCalls.{in_group}
-use Rattle.geos_table.proofs.HandleLists.{entry-told, entry-kept}
-use Rattle.geos_table.proofs.NamedBlocks.{block_in_file, locks_of-mark}
+use Rattle.geos_terms.specs.declared.name.Name.{Name}
+use Rattle.geos_terms.specs.declared.name.Owner.{Owner}
+use Rattle.geos_terms.specs.declared.name.Owner.TheVariants.{Mem, Vm}
+use Rattle.geos_terms.specs.Names.{vm, group_uid}
+use Rattle.geos_calls.specs.Directories.{VmBlock, uid_in, is_marked_in, marked_block}
+use Rattle.geos_calls.specs.Memory.{Memory, listed_at, with_listed, is_group, is_marked, with_mark, owned_block, block_of, chunks_in, rechunked_block, with_chunks}
+use Rattle.geos_calls.specs.Legal.{IsMemory}
+use Rattle.geos_calls.specs.Effects.{Nothing, InBlock}
+use Rattle.geos_calls.specs.ItemCalls.{in_group}
+use Rattle.geos_calls.proofs.HandleLists.{entry-told, entry-kept}
+use Rattle.geos_calls.proofs.NamedBlocks.{block_in_file, locks_of-mark}
 use Rattle.geos_image.specs.declared.instr.Instr.{Instr}
 use Rattle.geos_image.specs.declared.row.Row.{Row}
 use Rattle.geos_image.specs.declared.row.Pointer.{Pointer}

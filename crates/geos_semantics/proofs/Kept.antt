@@ -1,10 +1,10 @@
 -- Soundness, and what a row knows of pointers, over calls that make some pointers stale.
 use Rattle.std.proofs.Common.{◌≡◌, ℕ, Bool, true, false, Option, Some, None, List, [], ◌∷◌, refl, ◌∙◌}
 use Rattle.std.specs.Prelude.{map, cond}
-use Rattle.geos_model.specs.declared.name.Name.{Name}
-use Rattle.geos_table.specs.Memory.{Memory, locks_of}
-use Rattle.geos_table.specs.Legal.{IsMemory}
-use Rattle.geos_table.specs.Effects.{Staleness, Nothing}
+use Rattle.geos_terms.specs.declared.name.Name.{Name}
+use Rattle.geos_calls.specs.Memory.{Memory, locks_of}
+use Rattle.geos_calls.specs.Legal.{IsMemory}
+use Rattle.geos_calls.specs.Effects.{Staleness, Nothing}
 use Rattle.geos_image.specs.declared.row.Pointer.{Pointer}
 use Rattle.geos_verify.specs.Rows.{stale_where}
 use Rattle.geos_semantics.specs.Lists.{Each, Each2}

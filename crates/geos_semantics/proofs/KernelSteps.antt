@@ -1,17 +1,17 @@
 -- What it takes that the step of a kernel call goes well.
 use Rattle.std.proofs.Common.{◌≡◌, ℕ, ◌+◌, ◌≤◌, false, Option, Some, None, List, [], refl, sym, ap, subst, ◌∙◌, set, arith}
 use Rattle.std.specs.Prelude.{is_none}
-use Rattle.geos_model.specs.declared.name.Name.{Name}
-use Rattle.geos_model.specs.declared.refusal.Refusal.{Refusal}
-use Rattle.geos_model.specs.Refusals.{refusal_number, first_refusal}
-use Rattle.geos_table.specs.Memory.{Memory, locks_of, with_chunks}
-use Rattle.geos_table.specs.Legal.{AreBytes, IsMemory}
-use Rattle.geos_table.specs.Effects.{Choice, Reference, Nothing, InBlock, Effect, Call, come_to}
-use Rattle.geos_table.specs.Keeping.{Keeps}
-use Rattle.geos_table.specs.Leaving.{LeavesOthers, OneBlock}
-use Rattle.geos_table.specs.Calls.{written}
-use Rattle.geos_table.proofs.Keeps.{rows_keep_memory}
-use Rattle.geos_table.proofs.Outcomes.{after-kept}
+use Rattle.geos_terms.specs.declared.name.Name.{Name}
+use Rattle.geos_terms.specs.declared.refusal.Refusal.{Refusal}
+use Rattle.geos_terms.specs.Refusals.{refusal_number, first_refusal}
+use Rattle.geos_calls.specs.Memory.{Memory, locks_of, with_chunks}
+use Rattle.geos_calls.specs.Legal.{AreBytes, IsMemory}
+use Rattle.geos_calls.specs.Effects.{Choice, Reference, Nothing, InBlock, Effect, Call, come_to}
+use Rattle.geos_calls.specs.Keeping.{Keeps}
+use Rattle.geos_calls.specs.Leaving.{LeavesOthers, OneBlock}
+use Rattle.geos_calls.specs.Calls.{written}
+use Rattle.geos_calls.proofs.Keeps.{rows_keep_memory}
+use Rattle.geos_calls.proofs.Outcomes.{after-kept}
 use Rattle.geos_image.specs.declared.row.Row.{Row}
 use Rattle.geos_opcodes.specs.declared.uses.SlotUse.{SlotUse}
 use Rattle.geos_opcodes.specs.declared.uses.SlotUse.TheVariants.{Moves, NoSlot, LooksAt}

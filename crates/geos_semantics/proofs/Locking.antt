@@ -4,12 +4,12 @@ use Rattle.std.specs.Prelude.{◌==◌, ◌&&◌, nat_le, cond, IsSome, is_none}
 use Rattle.std.proofs.lemmas.Bool.{eqb-false}
 use Rattle.std.proofs.lemmas.List.{get_or-set_other, length-set}
 use Rattle.std.proofs.lemmas.List.Sums.{sum_by-set, sum_by-cons}
-use Rattle.geos_model.specs.declared.name.Name.{Name}
-use Rattle.geos_model.specs.Chunks.{chunk_of}
-use Rattle.geos_table.specs.Memory.{Block, Memory, block_of, locks_in, chunks_in, locks_of}
-use Rattle.geos_table.specs.Legal.{IsMemory}
-use Rattle.geos_table.specs.Effects.{Reference, Nothing, OfLock}
-use Rattle.geos_table.specs.Leaving.{OneBlock, LeavesOthers}
+use Rattle.geos_terms.specs.declared.name.Name.{Name}
+use Rattle.geos_terms.specs.Chunks.{chunk_of}
+use Rattle.geos_calls.specs.Memory.{Block, Memory, block_of, locks_in, chunks_in, locks_of}
+use Rattle.geos_calls.specs.Legal.{IsMemory}
+use Rattle.geos_calls.specs.Effects.{Reference, Nothing, OfLock}
+use Rattle.geos_calls.specs.Leaving.{OneBlock, LeavesOthers}
 use Rattle.geos_semantics.specs.Lists.{Each}
 use Rattle.geos_semantics.specs.State.{Held, name_of, SlotReference, State, slot, same_name, kept_pointer, kept_pointers}
 use Rattle.geos_semantics.specs.Meets.{name_held, IsOfKind, SlotIsSound, IsInChunk, PointerIsSound, holds_once, holds, Sound}

@@ -5,21 +5,21 @@ use Rattle.std.proofs.lemmas.Bool.{and_parts, eqb-true, eqb-false, eq-eqb}
 use Rattle.std.proofs.lemmas.List.{get_or-set_same}
 use Rattle.std.proofs.lemmas.List.Quantifiers.{position-Some}
 use Rattle.std.proofs.lemmas.List.Sums.{sum_by-cons}
-use Rattle.geos_model.specs.declared.name.Name.{Name}
-use Rattle.geos_model.specs.declared.name.Owner.{Owner}
-use Rattle.geos_model.specs.declared.name.Owner.TheVariants.{Mem, Vm}
-use Rattle.geos_model.specs.Names.{mem}
-use Rattle.geos_model.specs.Chunks.{cost, cost_of, entry_of, chunk_of, with_bytes}
-use Rattle.geos_table.specs.Directories.{VmBlock, relisted}
-use Rattle.geos_table.specs.Handles.{lowest_of}
-use Rattle.geos_table.specs.Memory.{Block, Memory, listed_at, owned_block, with_owned_block, block_of, with_block, locks_in, chunks_in, locks_of, chunks_at, lowest_handle, locked_block, rechunked_block, with_locks, with_chunks}
-use Rattle.geos_table.specs.Legal.{IsMemory}
-use Rattle.geos_model.proofs.Costs.{cost-over}
-use Rattle.geos_table.proofs.Laws.{entry-other}
-use Rattle.geos_table.proofs.LegalBlocks.{chunks-need}
-use Rattle.geos_table.proofs.HandleLists.{none-is}
-use Rattle.geos_table.proofs.NamedBlocks.{told-mapped}
-pub use Rattle.geos_table.proofs.NamedBlocks.{block_of-mapped, block_of-gone, locks_of-chunks, locks_of-set}
+use Rattle.geos_terms.specs.declared.name.Name.{Name}
+use Rattle.geos_terms.specs.declared.name.Owner.{Owner}
+use Rattle.geos_terms.specs.declared.name.Owner.TheVariants.{Mem, Vm}
+use Rattle.geos_terms.specs.Names.{mem}
+use Rattle.geos_terms.specs.Chunks.{cost, cost_of, entry_of, chunk_of, with_bytes}
+use Rattle.geos_calls.specs.Directories.{VmBlock, relisted}
+use Rattle.geos_calls.specs.Handles.{lowest_of}
+use Rattle.geos_calls.specs.Memory.{Block, Memory, listed_at, owned_block, with_owned_block, block_of, with_block, locks_in, chunks_in, locks_of, chunks_at, lowest_handle, locked_block, rechunked_block, with_locks, with_chunks}
+use Rattle.geos_calls.specs.Legal.{IsMemory}
+use Rattle.geos_terms.proofs.Costs.{cost-over}
+use Rattle.geos_calls.proofs.Laws.{entry-other}
+use Rattle.geos_calls.proofs.LegalBlocks.{chunks-need}
+use Rattle.geos_calls.proofs.HandleLists.{none-is}
+use Rattle.geos_calls.proofs.NamedBlocks.{told-mapped}
+pub use Rattle.geos_calls.proofs.NamedBlocks.{block_of-mapped, block_of-gone, locks_of-chunks, locks_of-set}
 use Rattle.geos_semantics.specs.State.{same_owner, same_name}
 
 -- Names

@@ -1,19 +1,19 @@
 -- Memory after a block of the VM file was made.
 use Rattle.std.proofs.Common.{◌≡◌, ℕ, ◌≤◌, true, false, Some, None, refl, sym, ap, ◌∙◌, subst, arith}
 use Rattle.std.specs.Prelude.{not, is_none, option_map}
-use Rattle.geos_model.specs.declared.name.Name.{Name}
-use Rattle.geos_model.specs.declared.name.Owner.{Owner}
-use Rattle.geos_model.specs.declared.name.Owner.TheVariants.{Mem, Vm}
-use Rattle.geos_model.specs.Names.{vm}
-use Rattle.geos_table.specs.Directories.{is_marked_in}
-use Rattle.geos_table.specs.Memory.{Memory, with_listed, owned_block, block_of, locks_in, chunks_in, locks_of}
-use Rattle.geos_table.specs.Legal.{IsMemory}
-use Rattle.geos_table.specs.Effects.{Nothing}
-use Rattle.geos_table.specs.VmCalls.{new_listed}
-use Rattle.geos_table.specs.Leaving.{OneBlock, new_vm, LeavesOthers}
-use Rattle.geos_table.proofs.HandleLists.{entry-told, entry-kept, lowest-none}
-use Rattle.geos_table.proofs.Laws.{entry-other}
-use Rattle.geos_table.proofs.NamedBlocks.{block_in_file}
+use Rattle.geos_terms.specs.declared.name.Name.{Name}
+use Rattle.geos_terms.specs.declared.name.Owner.{Owner}
+use Rattle.geos_terms.specs.declared.name.Owner.TheVariants.{Mem, Vm}
+use Rattle.geos_terms.specs.Names.{vm}
+use Rattle.geos_calls.specs.Directories.{is_marked_in}
+use Rattle.geos_calls.specs.Memory.{Memory, with_listed, owned_block, block_of, locks_in, chunks_in, locks_of}
+use Rattle.geos_calls.specs.Legal.{IsMemory}
+use Rattle.geos_calls.specs.Effects.{Nothing}
+use Rattle.geos_calls.specs.VmCalls.{new_listed}
+use Rattle.geos_calls.specs.Leaving.{OneBlock, new_vm, LeavesOthers}
+use Rattle.geos_calls.proofs.HandleLists.{entry-told, entry-kept, lowest-none}
+use Rattle.geos_calls.proofs.Laws.{entry-other}
+use Rattle.geos_calls.proofs.NamedBlocks.{block_in_file}
 use Rattle.geos_semantics.specs.State.{Held, owner_of, name_of}
 use Rattle.geos_semantics.specs.Faults.{is_unmarked_block}
 use Rattle.geos_semantics.proofs.Memories.{lowest-within}

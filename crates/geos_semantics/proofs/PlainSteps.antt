@@ -5,9 +5,9 @@ use Rattle.std.proofs.lemmas.Bool.{ltb-false, cond_both, ltb-true}
 use Rattle.std.proofs.lemmas.List.{set-get_or}
 use Rattle.std.proofs.lemmas.Nat.{and_le_l}
 use Rattle.std.proofs.Math.Nat.{div-le_self}
-use Rattle.geos_model.specs.declared.refusal.Refusal.{Refusal}
-use Rattle.geos_model.specs.declared.refusal.Refusal.TheVariants.{Full}
-use Rattle.geos_model.specs.Refusals.{refusal_number, first_refusal}
+use Rattle.geos_terms.specs.declared.refusal.Refusal.{Refusal}
+use Rattle.geos_terms.specs.declared.refusal.Refusal.TheVariants.{Full}
+use Rattle.geos_terms.specs.Refusals.{refusal_number, first_refusal}
 use Rattle.geos_opcodes.specs.declared.opcode.Opcode.{Opcode}
 use Rattle.geos_opcodes.specs.declared.opcode.Opcode.TheVariants as op
 use Rattle.geos_image.specs.declared.potential.Potential.{Potential}

@@ -3,11 +3,11 @@ use Rattle.std.proofs.Common.{◌≡◌, ℕ, ◌+◌, ◌≤◌, false, take, r
 use Rattle.std.specs.Prelude.{is_none}
 use Rattle.std.proofs.lemmas.Bool.{or_parts}
 use Rattle.std.proofs.lemmas.List.Elements.{All-take}
-use Rattle.geos_table.specs.Memory.{Memory}
-use Rattle.geos_table.specs.Legal.{AreBytes, IsMemory}
-use Rattle.geos_table.specs.Effects.{Choice, Reference, Nothing}
-use Rattle.geos_table.specs.Calls.{store, named_bytes, written}
-use Rattle.geos_table.proofs.Keeps.{named_bytes-legal}
+use Rattle.geos_calls.specs.Memory.{Memory}
+use Rattle.geos_calls.specs.Legal.{AreBytes, IsMemory}
+use Rattle.geos_calls.specs.Effects.{Choice, Reference, Nothing}
+use Rattle.geos_calls.specs.Calls.{store, named_bytes, written}
+use Rattle.geos_calls.proofs.Keeps.{named_bytes-legal}
 use Rattle.geos_opcodes.specs.declared.opcode.Opcode.TheVariants as op
 use Rattle.geos_opcodes.specs.declared.uses.Width.{Width}
 use Rattle.geos_opcodes.specs.declared.uses.Width.TheVariants.{Byte, Both}

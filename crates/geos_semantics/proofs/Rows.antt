@@ -11,7 +11,7 @@ use Rattle.geos_image.specs.declared.row.SlotState.{SlotState}
 use Rattle.geos_image.specs.declared.row.SlotState.TheVariants.{Empty, Mem, Vm, Db}
 use Rattle.geos_verify.specs.Lists.{all2}
 use Rattle.geos_verify.specs.Rows.{bound, with_bound, or_any, mark_fits, slot_fits, pointer_fits, pair_fits, fits}
-use Rattle.geos_table.specs.Memory.{Memory}
+use Rattle.geos_calls.specs.Memory.{Memory}
 use Rattle.geos_verify.specs.Pairs.{slot_pairs}
 use Rattle.geos_semantics.specs.State.{Held, SlotReference, State, word, with_word}
 use Rattle.geos_semantics.specs.Meets.{SlotMeets, PointerMeets, PairMeets, Meets}

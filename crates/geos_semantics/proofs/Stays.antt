@@ -1,19 +1,19 @@
 -- What slots know of blocks stays so, whatever else becomes of memory.
 use Rattle.std.proofs.Common.{◌≡◌, ℕ, suc, true, false, Option, Some, None, List, [], ◌∷◌, get_or, refl, sym, ap, ◌∙◌, subst}
 use Rattle.std.specs.Prelude.{◌==◌, not, IsSome, is_none, option_map}
-use Rattle.geos_model.specs.declared.name.Name.{Name}
-use Rattle.geos_model.specs.declared.name.Owner.{Owner}
-use Rattle.geos_model.specs.declared.name.Owner.TheVariants as owner
-use Rattle.geos_model.specs.Names.{named, mem, vm, group_uid}
-use Rattle.geos_table.specs.Directories.{VmBlock, uid_in, is_marked_in, relisted}
-use Rattle.geos_table.specs.Handles.{at_handle}
-use Rattle.geos_table.specs.Memory.{Block, Memory, listed_at, is_group, is_marked, owned_block, with_owned_block, block_of, with_block}
-use Rattle.geos_table.specs.Given.{given_memory}
-use Rattle.geos_table.specs.Leaving.{OneBlock, LeavesOthers}
-use Rattle.geos_table.proofs.HandleLists.{entry-told}
-use Rattle.geos_table.proofs.Laws.{entry-other}
-use Rattle.geos_table.proofs.LegalGiven.{listed-given, entry-told_given, there-given, is_marked-given}
-use Rattle.geos_table.proofs.NamedBlocks.{changed_in, relisted-changed, marks-mapped, told-mapped}
+use Rattle.geos_terms.specs.declared.name.Name.{Name}
+use Rattle.geos_terms.specs.declared.name.Owner.{Owner}
+use Rattle.geos_terms.specs.declared.name.Owner.TheVariants as owner
+use Rattle.geos_terms.specs.Names.{named, mem, vm, group_uid}
+use Rattle.geos_calls.specs.Directories.{VmBlock, uid_in, is_marked_in, relisted}
+use Rattle.geos_calls.specs.Handles.{at_handle}
+use Rattle.geos_calls.specs.Memory.{Block, Memory, listed_at, is_group, is_marked, owned_block, with_owned_block, block_of, with_block}
+use Rattle.geos_calls.specs.Given.{given_memory}
+use Rattle.geos_calls.specs.Leaving.{OneBlock, LeavesOthers}
+use Rattle.geos_calls.proofs.HandleLists.{entry-told}
+use Rattle.geos_calls.proofs.Laws.{entry-other}
+use Rattle.geos_calls.proofs.LegalGiven.{listed-given, entry-told_given, there-given, is_marked-given}
+use Rattle.geos_calls.proofs.NamedBlocks.{changed_in, relisted-changed, marks-mapped, told-mapped}
 use Rattle.geos_image.specs.declared.row.SlotState.{SlotState}
 use Rattle.geos_image.specs.declared.row.SlotState.TheVariants.{Vm, Db}
 use Rattle.geos_opcodes.specs.declared.uses.Kind.{Kind}

@@ -1,6 +1,6 @@
 -- Where no rule refuses a point, each one's test is false.
 use Rattle.std.proofs.Common.{◌≡◌, ℕ, Bool, true, false, None, List, [], ◌∷◌, refl}
-use Rattle.geos_model.specs.Refusals.{first_refusal}
+use Rattle.geos_terms.specs.Refusals.{first_refusal}
 use Rattle.geos_image.specs.declared.routine.Routine.{Routine}
 use Rattle.geos_verify.specs.declared.place.Place.{Place}
 use Rattle.geos_image.specs.Parts.{Parts}

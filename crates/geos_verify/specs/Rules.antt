@@ -1,7 +1,7 @@
 -- The rules of the verifier, and the images that it accepts.
 use Rattle.std.specs.Prelude.{◌≡◌, ◌<◌, ◌≤◌, ℕ, ◌+◌, length, Bool, true, false, ◌&&◌, ◌||◌, not, nat_lt, nat_le, ◌==◌, List, [], ◌∷◌, Option, Some, None, IfSome, slice_get}
 use Rattle.std.specs.List.{list_any}
-use Rattle.geos_model.specs.Refusals.{first_refusal}
+use Rattle.geos_terms.specs.Refusals.{first_refusal}
 use Rattle.geos_opcodes.specs.declared.opcode.Opcode.{Opcode}
 use Rattle.geos_opcodes.specs.declared.opcode.Opcode.TheVariants.{Ret}
 use Rattle.geos_image.specs.declared.instr.Instr.{Instr}

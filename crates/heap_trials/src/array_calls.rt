@@ -1,6 +1,6 @@
 //! Lines with a call on an array in a chunk.
 
-ghost use Rattle.geos_model.specs.Heap.{IsHeap};
+ghost use Rattle.geos_terms.specs.Heap.{IsHeap};
 
 use crate::Answer;
 use crate::heap_calls::count_up;

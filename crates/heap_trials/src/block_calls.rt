@@ -1,10 +1,10 @@
 //! Lines that make the block, look at its bytes and change them.
 
 ghost use Rattle.std.specs.Prelude.{◌≤◌, ◌↔◌, IsTrue, length, take};
-ghost use Rattle.geos_model.specs.Heap.{IsBlockSize, IsHeap};
+ghost use Rattle.geos_terms.specs.Heap.{IsBlockSize, IsHeap};
 
 use crate::{Answer, heap_calls};
-use geos_model::is_block_size;
+use geos_terms::is_block_size;
 use lmem_heap::{check, enlarged, init};
 use std::alloc::{AllocError, Global};
 use trial_lines::{Line, shown};

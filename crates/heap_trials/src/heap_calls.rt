@@ -1,6 +1,6 @@
 //! Lines with a call on the heap.
 
-ghost use Rattle.geos_model.specs.Heap.{IsHeap};
+ghost use Rattle.geos_terms.specs.Heap.{IsHeap};
 
 use crate::{Answer, array_calls};
 use lmem_heap::{

@@ -6,7 +6,7 @@ use crate::Answer;
 use crate::calls::{NOT_MARKED, may_change};
 use crate::spans::length;
 use geos_kernel::{Ask, Change, Kernel, Make, Refer};
-use geos_model::Name;
+use geos_terms::Name;
 use trial_lines::Line;
 use vm_file::Device;
 

@@ -8,7 +8,7 @@ use crate::block_call::BlockCall;
 use crate::file_calls::file_call;
 use crate::spans::{is_span_call, span_call};
 use geos_kernel::Kernel;
-use geos_model::{Name, Owner};
+use geos_terms::{Name, Owner};
 use std::alloc::{AllocError, Global};
 use trial_lines::{Line, Series};
 use vm_file::Device;

@@ -6,7 +6,7 @@ use crate::Answer;
 use crate::calls::NOT_LOCKED;
 use crate::spans::length;
 use geos_kernel::Kernel;
-use geos_model::{Name, Refusal};
+use geos_terms::{Name, Refusal};
 use std::alloc::{AllocError, Global};
 use trial_lines::Line;
 use vm_file::Device;

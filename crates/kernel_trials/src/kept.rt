@@ -1,6 +1,6 @@
 //! What a device keeps: both directories of its VM file.
 
-ghost use Rattle.geos_model.specs.Heap.{IsHeap};
+ghost use Rattle.geos_terms.specs.Heap.{IsHeap};
 
 use crate::state::Detail;
 use lmem_heap::{check, next, size};

@@ -34,7 +34,7 @@ mod state;
 
 use crate::routines::Routines;
 use crate::stand::{Fault, NO_KERNEL, Stand};
-use geos_model::Refusal;
+use geos_terms::Refusal;
 use std::alloc::{AllocError, Global};
 use std::io;
 use trial_lines::{Line, carry_out};

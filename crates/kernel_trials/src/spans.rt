@@ -7,7 +7,7 @@ ghost use Rattle.geos_kernel.specs.View.{IsLocked, MayChange};
 use crate::Answer;
 use crate::calls::{NOT_LOCKED, NOT_MARKED, block_of, may_change};
 use geos_kernel::{Kernel, Refer, Span};
-use geos_model::{Name, Refusal};
+use geos_terms::{Name, Refusal};
 use std::alloc::{AllocError, Global};
 use std::fmt::Write;
 use trial_lines::Line;

@@ -6,7 +6,7 @@ use crate::Answer;
 use crate::file_calls::{MOST_CHUNKS, chunk_of, lock_any};
 use crate::spans::bytes_of;
 use geos_kernel::Kernel;
-use geos_model::{Name, Refusal};
+use geos_terms::{Name, Refusal};
 use std::alloc::{AllocError, Global};
 use std::fmt::Write;
 use trial_lines::Runs;

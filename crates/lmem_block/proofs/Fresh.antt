@@ -1,10 +1,10 @@
 -- A block that was just made.
 use Rattle.std.proofs.Common.{◌≡◌, ℕ, zero, suc, ◌+◌, ◌-◌, ◌*◌, ◌<◌, ◌≤◌, ◌%◌, List, [], ◌∷◌, None, map, length, ap, sym, ◌∙◌, arith}
 use Rattle.std.specs.List.{range_with_len}
-use Rattle.geos_model.proofs.Entries.{chunk-none}
-use Rattle.geos_model.specs.Block.{table_end, entry, entries, chunk_at, chunks}
-use Rattle.geos_model.specs.Bytes.{word, AreWords}
-use Rattle.geos_model.specs.Heap.{IsHeap, Free, IsOffset}
+use Rattle.geos_terms.proofs.Entries.{chunk-none}
+use Rattle.geos_terms.specs.Block.{table_end, entry, entries, chunk_at, chunks}
+use Rattle.geos_terms.specs.Bytes.{word, AreWords}
+use Rattle.geos_terms.specs.Heap.{IsHeap, Free, IsOffset}
 
 none_told : (b : List ℕ) → entries b ≡ 2 → word b 16 ≡ 0 → word b 18 ≡ 0 → (i : ℕ) → i < entries b → IsOffset (entry b i) → ⊥
 none_told b n e f zero h t = t.0 e

@@ -1,12 +1,12 @@
 -- What the marks of `check` say.
 use Rattle.std.proofs.Common.{◌≡◌, ◌≢◌, ℕ, zero, suc, ◌+◌, ◌/◌, ◌%◌, ◌<◌, ◌≤◌, ◌⊎◌, Bool, true, false, List, [], ◌∷◌, length, get_or, set, replicate, refl, ap, sym, ◌∙◌, subst, inl, inr, arith, get_or-set_same, get_or-set_other}
 use Rattle.std.proofs.lemmas.Bool.{cases_eq, cases_lt, false≢true}
-use Rattle.geos_model.proofs.Costs.{cost-fours, cost-four}
-use Rattle.geos_model.proofs.Pieces.{lies}
-use Rattle.geos_model.specs.Block.{entry, entries, table_end}
-use Rattle.geos_model.specs.Bytes.{word}
-use Rattle.geos_model.specs.Chunks.{cost}
-use Rattle.geos_model.specs.Heap.{Piece, Used, Free, Tiles, HasChunk, IsOffset, IsHeader}
+use Rattle.geos_terms.proofs.Costs.{cost-fours, cost-four}
+use Rattle.geos_terms.proofs.Pieces.{lies}
+use Rattle.geos_terms.specs.Block.{entry, entries, table_end}
+use Rattle.geos_terms.specs.Bytes.{word}
+use Rattle.geos_terms.specs.Chunks.{cost}
+use Rattle.geos_terms.specs.Heap.{Piece, Used, Free, Tiles, HasChunk, IsOffset, IsHeader}
 use Rattle.lmem_block.specs.Check.{IsTiled, Marks}
 
 pub aligned : (b : List ℕ) (at f : ℕ) (ps : List Piece) (end next i : ℕ) → at % 4 ≡ 0 → Tiles b at f ps end next → HasChunk i ps → entry b i % 4 ≡ 2

@@ -1,12 +1,12 @@
 -- A walk over the pieces of a block, one at a time.
 use Rattle.std.proofs.Common.{◌≡◌, ◌≢◌, ℕ, ◌+◌, ◌-◌, ◌*◌, ◌/◌, ◌%◌, ◌<◌, ◌≤◌, ◌⊎◌, ◌↔◌, Bool, true, false, List, [], ◌∷◌, length, get_or, ap, sym, ◌∙◌, subst, inl, inr, arith}
 use Rattle.std.proofs.lemmas.Bool.{cases_eq, cases_lt, false≢true}
-use Rattle.geos_model.proofs.Costs.{cost_is, cost-four}
-use Rattle.geos_model.proofs.Pieces.{lies, tiles-le}
-use Rattle.geos_model.specs.Block.{entry, entries, table_end}
-use Rattle.geos_model.specs.Bytes.{word}
-use Rattle.geos_model.specs.Chunks.{cost}
-use Rattle.geos_model.specs.Heap.{Piece, Used, Free, Tiles, HasChunk, free_bytes, IsOffset}
+use Rattle.geos_terms.proofs.Costs.{cost_is, cost-four}
+use Rattle.geos_terms.proofs.Pieces.{lies, tiles-le}
+use Rattle.geos_terms.specs.Block.{entry, entries, table_end}
+use Rattle.geos_terms.specs.Bytes.{word}
+use Rattle.geos_terms.specs.Chunks.{cost}
+use Rattle.geos_terms.specs.Heap.{Piece, Used, Free, Tiles, HasChunk, free_bytes, IsOffset}
 use Rattle.lmem_block.proofs.Counting.{marks-yes, marks-no, marks-le, marks-same, marks-clear, marks-none_from}
 use Rattle.lmem_block.specs.Check.{CanTile, Goes, IsTiled, Marks, marks_from}
 

@@ -1,9 +1,9 @@
 -- What `check` knows on its way.
 use Rattle.std.specs.Prelude.{◌≡◌, ℕ, ◌+◌, ◌*◌, ◌/◌, ◌%◌, ◌<◌, ◌≤◌, Bool, true, false, List, length, drop, slice_index_or}
 use Rattle.std.specs.List.{count_by}
-use Rattle.geos_model.specs.Block.{entry, entries, table_end}
-use Rattle.geos_model.specs.Bytes.{word}
-use Rattle.geos_model.specs.Heap.{Piece, Tiles, HasChunk, free_bytes, IsOffset, IsTiledBy}
+use Rattle.geos_terms.specs.Block.{entry, entries, table_end}
+use Rattle.geos_terms.specs.Bytes.{word}
+use Rattle.geos_terms.specs.Heap.{Piece, Tiles, HasChunk, free_bytes, IsOffset, IsTiledBy}
 
 -- these pieces tile the rest of a block, from `at` on: the first free one is at `free`, and
 -- `sum` bytes were free before

@@ -1,7 +1,7 @@
 -- What calls that look find.
 use Rattle.std.specs.Prelude.{◌≡◌, ◌≢◌, ℕ, ◌<◌, List, Option, None, IsSome}
-use Rattle.geos_model.specs.Chunks.{chunk_of, handle_of}
-use Rattle.geos_model.specs.Block.{entries, entry}
+use Rattle.geos_terms.specs.Chunks.{chunk_of, handle_of}
+use Rattle.geos_terms.specs.Block.{entries, entry}
 
 -- the entry of a handle that has a chunk
 abbrev pub HasEntry : List ℕ → ℕ → ℕ → Type 0

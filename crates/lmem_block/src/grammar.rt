@@ -1,7 +1,7 @@
 //! Whether bytes are a heap.
 ghost use Rattle.std.specs.Prelude.{◌≡◌, ℕ, ◌+◌, ◌*◌, ◌/◌, ◌%◌, ◌<◌, ◌≤◌, Bool, true, false, length, MatchOption, IsTrue, ◌↔◌, slice_index_or};
-ghost use Rattle.geos_model.specs.Block.{table_end, entries};
-ghost use Rattle.geos_model.specs.Heap.{IsHeader, IsHeap};
+ghost use Rattle.geos_terms.specs.Block.{table_end, entries};
+ghost use Rattle.geos_terms.specs.Heap.{IsHeader, IsHeap};
 ghost use Rattle.lmem_block.specs.Check.{CanTile, Goes, IsTiled, Marks, marks_from};
 
 use crate::header::{
@@ -9,7 +9,7 @@ use crate::header::{
 };
 use crate::marks::mark;
 use crate::words::get16;
-use geos_model::is_block_size;
+use geos_terms::is_block_size;
 
 /// One place for each four bytes of the largest block.
 const PLACES: usize = 16384;

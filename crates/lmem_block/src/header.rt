@@ -1,8 +1,8 @@
 //! The header's words and the entries of the table.
 ghost use Rattle.std.specs.Prelude.{◌≡◌, ◌+◌, ◌*◌, ◌<◌, ◌≤◌, length};
-ghost use Rattle.geos_model.specs.Bytes.{with_word};
-ghost use Rattle.geos_model.specs.Chunks.{handle_of};
-ghost use Rattle.geos_model.specs.Block.{entries, entry, entry_offset, table_end};
+ghost use Rattle.geos_terms.specs.Bytes.{with_word};
+ghost use Rattle.geos_terms.specs.Chunks.{handle_of};
+ghost use Rattle.geos_terms.specs.Block.{entries, entry, entry_offset, table_end};
 
 use crate::words::{get16, put16};
 

@@ -6,8 +6,8 @@
 #![tactic(auto)]
 
 ghost use Rattle.std.specs.Prelude.{◌≡◌, [], ◌∷◌, length};
-ghost use Rattle.geos_model.specs.Block.{chunks, handle_word};
-ghost use Rattle.geos_model.specs.Heap.{IsBlockSize, IsHeap};
+ghost use Rattle.geos_terms.specs.Block.{chunks, handle_word};
+ghost use Rattle.geos_terms.specs.Heap.{IsBlockSize, IsHeap};
 
 mod grammar;
 mod header;

@@ -1,7 +1,7 @@
 //! Where the chunks of a table begin.
 ghost use Rattle.std.specs.Prelude.{◌≡◌, ℕ, ◌*◌, ◌≤◌, false, length, MatchOption, slice_index_or};
-ghost use Rattle.geos_model.specs.Block.{entries};
-ghost use Rattle.geos_model.specs.Heap.{IsHeader};
+ghost use Rattle.geos_terms.specs.Block.{entries};
+ghost use Rattle.geos_terms.specs.Heap.{IsHeader};
 ghost use Rattle.lmem_block.specs.Check.{IsTiled, Marks, marks_from};
 
 use crate::header::{NO_BYTE, entries, entry, table_end};

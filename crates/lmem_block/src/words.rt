@@ -1,7 +1,7 @@
 //! Words and parts of a block.
 ghost use Rattle.std.specs.Prelude.{◌≡◌, ◌+◌, ◌*◌, ◌≤◌, length, replicate};
 ghost use Rattle.lmem_raw.specs.Bytes.{part, with_part};
-ghost use Rattle.geos_model.specs.Bytes.{AreWords, with_word, with_words, word};
+ghost use Rattle.geos_terms.specs.Bytes.{AreWords, with_word, with_words, word};
 
 use byteorder::{ByteOrder, LittleEndian};
 

@@ -3,15 +3,15 @@ use Rattle.std.proofs.Common.{◌≡◌, ℕ, ◌+◌, ◌*◌, ◌%◌, ◌<◌
 use Rattle.std.specs.List.{range_with_len}
 use Rattle.std.proofs.lemmas.Bool.{cases_eq, cases_lt}
 use Rattle.std.proofs.lemmas.List.FromFn.{map-range_with_len_more}
-use Rattle.geos_model.specs.Bytes.{word}
-use Rattle.geos_model.specs.Block.{entry, entries, table_end, chunk_at, chunks, total_free}
-use Rattle.geos_model.specs.Heap.{Tiles, IsHeader}
-use Rattle.geos_model.proofs.Costs.{cost-four}
-use Rattle.geos_model.proofs.Pieces.{lies, tiles-le}
-use Rattle.geos_model.proofs.Entries.{chunk-none}
-use Rattle.geos_model.proofs.Moves.{tiles-shifted, chunk-shifted}
-use Rattle.geos_model.proofs.Tables.{chunk-cases, map-range}
-use Rattle.geos_model.proofs.Headers.{head-word}
+use Rattle.geos_terms.specs.Bytes.{word}
+use Rattle.geos_terms.specs.Block.{entry, entries, table_end, chunk_at, chunks, total_free}
+use Rattle.geos_terms.specs.Heap.{Tiles, IsHeader}
+use Rattle.geos_terms.proofs.Costs.{cost-four}
+use Rattle.geos_terms.proofs.Pieces.{lies, tiles-le}
+use Rattle.geos_terms.proofs.Entries.{chunk-none}
+use Rattle.geos_terms.proofs.Moves.{tiles-shifted, chunk-shifted}
+use Rattle.geos_terms.proofs.Tables.{chunk-cases, map-range}
+use Rattle.geos_terms.proofs.Headers.{head-word}
 use Rattle.lmem_heap.specs.Packed.{IsPacked, GrowsTable, chunks_end}
 use Rattle.lmem_heap.proofs.Movers.{moved-in, moved-low, moved-high}
 

@@ -1,11 +1,11 @@
 -- Gaps that close one after the other before the table is written.
 use Rattle.std.proofs.Common.{◌≡◌, ℕ, ◌+◌, ◌-◌, ◌*◌, ◌<◌, List, [], ◌∷◌, ◌++◌, length, get_or, refl, ap, sym, ◌∙◌, subst, inl, inr, arith, length-append}
-use Rattle.geos_model.specs.Bytes.{word}
-use Rattle.geos_model.specs.Block.{entries, table_end, first_free}
-use Rattle.geos_model.specs.Heap.{IsCompact, IsHeap}
-use Rattle.geos_model.proofs.Pieces.{tiles-le}
-use Rattle.geos_model.proofs.FreePieces.{first-room}
-use Rattle.geos_model.proofs.Headers.{head-word}
+use Rattle.geos_terms.specs.Bytes.{word}
+use Rattle.geos_terms.specs.Block.{entries, table_end, first_free}
+use Rattle.geos_terms.specs.Heap.{IsCompact, IsHeap}
+use Rattle.geos_terms.proofs.Pieces.{tiles-le}
+use Rattle.geos_terms.proofs.FreePieces.{first-room}
+use Rattle.geos_terms.proofs.Headers.{head-word}
 use Rattle.lmem_heap.specs.declared.compact.Gap.{Gap}
 use Rattle.lmem_heap.specs.declared.slides.Slide.{Slide}
 use Rattle.lmem_heap.specs.Moves.{MapsEntries}

@@ -1,15 +1,15 @@
 -- A gap that closes leaves a heap with the same chunks.
 use Rattle.std.proofs.Common.{◌≡◌, ℕ, ◌+◌, ◌-◌, ◌*◌, ◌<◌, ◌≤◌, ◌⊎◌, List, ◌∷◌, ◌++◌, length, get_or, refl, ap, sym, ◌∙◌, subst, inl, inr, arith}
-use Rattle.geos_model.specs.Bytes.{word, with_word}
-use Rattle.geos_model.proofs.Words.{word-same, word-other, length-with_word, byte-other, word-bytes}
-use Rattle.geos_model.specs.Block.{entry, entries, table_end, chunks, first_free}
-use Rattle.geos_model.specs.Heap.{Piece, Free, Tiles, IsOffset, IsHeader, IsTiledBy, IsHeap}
-use Rattle.geos_model.proofs.Costs.{cost-four}
-use Rattle.geos_model.proofs.Pieces.{lies, tiles-le, tiles-join, has-left, has-right, free_bytes-append}
-use Rattle.geos_model.proofs.Moves.{tiles-kept, tiles-shifted, chunk-shifted, chunk-stays}
-use Rattle.geos_model.proofs.Tables.{chunks-same, chunk-cases}
-use Rattle.geos_model.proofs.Headers.{head-word, same-header}
-use Rattle.geos_model.proofs.FreePieces.{used-any, used-free}
+use Rattle.geos_terms.specs.Bytes.{word, with_word}
+use Rattle.geos_terms.proofs.Words.{word-same, word-other, length-with_word, byte-other, word-bytes}
+use Rattle.geos_terms.specs.Block.{entry, entries, table_end, chunks, first_free}
+use Rattle.geos_terms.specs.Heap.{Piece, Free, Tiles, IsOffset, IsHeader, IsTiledBy, IsHeap}
+use Rattle.geos_terms.proofs.Costs.{cost-four}
+use Rattle.geos_terms.proofs.Pieces.{lies, tiles-le, tiles-join, has-left, has-right, free_bytes-append}
+use Rattle.geos_terms.proofs.Moves.{tiles-kept, tiles-shifted, chunk-shifted, chunk-stays}
+use Rattle.geos_terms.proofs.Tables.{chunks-same, chunk-cases}
+use Rattle.geos_terms.proofs.Headers.{head-word, same-header}
+use Rattle.geos_terms.proofs.FreePieces.{used-any, used-free}
 use Rattle.lmem_heap.specs.declared.compact.Gap.{Gap}
 use Rattle.lmem_heap.specs.Moves.{MovesRun}
 use Rattle.lmem_heap.specs.Gaps.{HasGap, ClosesGap, closing_words}

@@ -5,9 +5,9 @@ use Rattle.std.proofs.lemmas.Grind.{same_number_lists}
 use Rattle.std.proofs.lemmas.List.{get_or-take, get_or-drop, get_or_past, length-replicate}
 use Rattle.lmem_raw.specs.Bytes.{part, with_part}
 use Rattle.lmem_raw.proofs.Parts.{length-with_part}
-use Rattle.geos_model.specs.Chunks.{resized}
-use Rattle.geos_model.proofs.Words.{get_or-with_part_before, get_or-with_part_behind, get_or-with_part_within}
-use Rattle.geos_model.proofs.Resizes.{length-part, length-resized, get_or-resized, zero-at}
+use Rattle.geos_terms.specs.Chunks.{resized}
+use Rattle.geos_terms.proofs.Words.{get_or-with_part_before, get_or-with_part_behind, get_or-with_part_within}
+use Rattle.geos_terms.proofs.Resizes.{length-part, length-resized, get_or-resized, zero-at}
 
 -- zeros that are written leave the length
 pub length-zeros : (d c : List ℕ) (from m : ℕ) → c ≡ with_part d from (replicate m 0) → length c ≡ length d

@@ -2,18 +2,18 @@
 use Rattle.std.proofs.Common.{◌≡◌, ◌≢◌, ℕ, ◌+◌, ◌-◌, ◌*◌, ◌<◌, ◌≤◌, ◌⊎◌, List, ◌∷◌, ◌++◌, Some, None, length, drop, set, get_or, ap, sym, ◌∙◌, subst, inl, inr, arith, length-take, length-drop}
 use Rattle.std.proofs.lemmas.Bool.{cases_eq}
 use Rattle.lmem_raw.specs.Bytes.{part}
-use Rattle.geos_model.specs.Bytes.{word}
-use Rattle.geos_model.specs.Chunks.{cost, cost_of, resized}
-use Rattle.geos_model.specs.Block.{entry, entries, table_end, chunk_at, chunks, total_free}
-use Rattle.geos_model.specs.Heap.{Piece, Used, Tiles, HasChunk, AreUsed, IsOffset, IsHeader}
-use Rattle.geos_model.proofs.Costs.{cost-least, cost-four, cost-fours}
-use Rattle.geos_model.proofs.Pieces.{lies, tiles-le, tiles-join, has-split, has-left, has-right}
-use Rattle.geos_model.proofs.Found.{find}
-use Rattle.geos_model.proofs.Entries.{chunk-told, chunks-at}
-use Rattle.geos_model.proofs.Moves.{tiles-kept, tiles-shifted, chunk-shifted, chunk-stays}
-use Rattle.geos_model.proofs.Tables.{chunks-set, chunk-cases}
-use Rattle.geos_model.proofs.Headers.{head-word, same-header}
-use Rattle.geos_model.proofs.FreePieces.{used-any, used-left, used-right, used-both}
+use Rattle.geos_terms.specs.Bytes.{word}
+use Rattle.geos_terms.specs.Chunks.{cost, cost_of, resized}
+use Rattle.geos_terms.specs.Block.{entry, entries, table_end, chunk_at, chunks, total_free}
+use Rattle.geos_terms.specs.Heap.{Piece, Used, Tiles, HasChunk, AreUsed, IsOffset, IsHeader}
+use Rattle.geos_terms.proofs.Costs.{cost-least, cost-four, cost-fours}
+use Rattle.geos_terms.proofs.Pieces.{lies, tiles-le, tiles-join, has-split, has-left, has-right}
+use Rattle.geos_terms.proofs.Found.{find}
+use Rattle.geos_terms.proofs.Entries.{chunk-told, chunks-at}
+use Rattle.geos_terms.proofs.Moves.{tiles-kept, tiles-shifted, chunk-shifted, chunk-stays}
+use Rattle.geos_terms.proofs.Tables.{chunks-set, chunk-cases}
+use Rattle.geos_terms.proofs.Headers.{head-word, same-header}
+use Rattle.geos_terms.proofs.FreePieces.{used-any, used-left, used-right, used-both}
 use Rattle.lmem_heap.specs.Packed.{IsPacked, EditsChunk, HasResized, chunks_end, chunk_end, chunk_length}
 use Rattle.lmem_heap.proofs.Movers.{moved-in, moved-low, moved-high}
 

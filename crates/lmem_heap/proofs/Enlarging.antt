@@ -1,13 +1,13 @@
 -- A heap with more bytes behind it.
 use Rattle.std.proofs.Common.{◌≡◌, ℕ, ◌+◌, ◌*◌, ◌%◌, ◌<◌, ◌≤◌, ◌⊎◌, List, [], length, take, get_or, refl, ap, sym, ◌∙◌, subst, inl, inr, arith, length-take}
 use Rattle.std.proofs.lemmas.List.{get_or-take}
-use Rattle.geos_model.specs.Bytes.{word, with_word, IsShifted}
-use Rattle.geos_model.specs.Block.{entry, entries, table_end, first_free, total_free, chunks, handle_word}
-use Rattle.geos_model.specs.Heap.{Tiles, IsBlockSize, IsHeap}
-use Rattle.geos_model.proofs.Words.{word-same, word-other, length-with_word, byte-other, word-bytes}
-use Rattle.geos_model.proofs.Pieces.{lies}
-use Rattle.geos_model.proofs.Moves.{tiles-kept}
-use Rattle.geos_model.proofs.Tables.{chunks-same, chunk-kept}
+use Rattle.geos_terms.specs.Bytes.{word, with_word, IsShifted}
+use Rattle.geos_terms.specs.Block.{entry, entries, table_end, first_free, total_free, chunks, handle_word}
+use Rattle.geos_terms.specs.Heap.{Tiles, IsBlockSize, IsHeap}
+use Rattle.geos_terms.proofs.Words.{word-same, word-other, length-with_word, byte-other, word-bytes}
+use Rattle.geos_terms.proofs.Pieces.{lies}
+use Rattle.geos_terms.proofs.Moves.{tiles-kept}
+use Rattle.geos_terms.proofs.Tables.{chunks-same, chunk-kept}
 use Rattle.lmem_heap.specs.Holes.{IsOpen}
 
 -- the new size is in the header, and the rest of the heap is as it was

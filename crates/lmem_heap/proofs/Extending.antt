@@ -1,11 +1,11 @@
 -- What the words of a chunk say of where it lies.
 use Rattle.std.proofs.Common.{◌≡◌, ℕ, ◌+◌, ◌-◌, ◌<◌, ◌≤◌, List, length, refl, ap, ◌∙◌, arith}
-use Rattle.geos_model.specs.Bytes.{word}
-use Rattle.geos_model.specs.Chunks.{cost}
-use Rattle.geos_model.specs.Block.{entry, entries, table_end}
-use Rattle.geos_model.specs.Heap.{IsHeap, IsOffset}
-use Rattle.geos_model.proofs.Costs.{cost-least}
-use Rattle.geos_model.proofs.Entries.{told}
+use Rattle.geos_terms.specs.Bytes.{word}
+use Rattle.geos_terms.specs.Chunks.{cost}
+use Rattle.geos_terms.specs.Block.{entry, entries, table_end}
+use Rattle.geos_terms.specs.Heap.{IsHeap, IsOffset}
+use Rattle.geos_terms.proofs.Costs.{cost-least}
+use Rattle.geos_terms.proofs.Entries.{told}
 use Rattle.lmem_heap.specs.Packed.{chunk_end, chunk_length}
 use Rattle.lmem_heap.specs.Extents.{HasExtent, IsExtent}
 

@@ -2,19 +2,19 @@
 use Rattle.std.proofs.Common.{◌≡◌, ◌≢◌, ℕ, ◌+◌, ◌-◌, ◌*◌, ◌%◌, ◌<◌, ◌≤◌, ◌⊎◌, List, [], ◌∷◌, ◌++◌, Some, None, length, get_or, set, refl, ap, sym, ◌∙◌, subst, inl, inr, arith}
 use Rattle.std.proofs.lemmas.Bool.{cases_eq, cases_lt}
 use Rattle.lmem_raw.specs.Bytes.{part}
-use Rattle.geos_model.specs.Bytes.{word, with_word, IsShifted}
-use Rattle.geos_model.specs.Chunks.{cost}
-use Rattle.geos_model.specs.Block.{entry, entries, table_end, first_free, total_free, chunk_at, chunks}
-use Rattle.geos_model.specs.Heap.{Piece, Used, Tiles, HasChunk, IsOffset, AreUsed, IsHeap, free_bytes}
-use Rattle.geos_model.proofs.Words.{word-same, word-other, length-with_word, byte-other, word-bytes}
-use Rattle.geos_model.proofs.Costs.{cost-four, cost-least, cost-fours}
-use Rattle.geos_model.proofs.Pieces.{lies, tiles-le, tiles-join, has-left, has-right, has-split, free_bytes-append}
-use Rattle.geos_model.proofs.Moves.{tiles-kept}
-use Rattle.geos_model.proofs.Tables.{chunks-set, chunk-kept}
-use Rattle.geos_model.proofs.Headers.{SameHead, head-word, same-header}
-use Rattle.geos_model.proofs.Entries.{told, chunk-told, chunk-none}
-use Rattle.geos_model.proofs.Found.{find}
-use Rattle.geos_model.proofs.FreePieces.{used-both}
+use Rattle.geos_terms.specs.Bytes.{word, with_word, IsShifted}
+use Rattle.geos_terms.specs.Chunks.{cost}
+use Rattle.geos_terms.specs.Block.{entry, entries, table_end, first_free, total_free, chunk_at, chunks}
+use Rattle.geos_terms.specs.Heap.{Piece, Used, Tiles, HasChunk, IsOffset, AreUsed, IsHeap, free_bytes}
+use Rattle.geos_terms.proofs.Words.{word-same, word-other, length-with_word, byte-other, word-bytes}
+use Rattle.geos_terms.proofs.Costs.{cost-four, cost-least, cost-fours}
+use Rattle.geos_terms.proofs.Pieces.{lies, tiles-le, tiles-join, has-left, has-right, has-split, free_bytes-append}
+use Rattle.geos_terms.proofs.Moves.{tiles-kept}
+use Rattle.geos_terms.proofs.Tables.{chunks-set, chunk-kept}
+use Rattle.geos_terms.proofs.Headers.{SameHead, head-word, same-header}
+use Rattle.geos_terms.proofs.Entries.{told, chunk-told, chunk-none}
+use Rattle.geos_terms.proofs.Found.{find}
+use Rattle.geos_terms.proofs.FreePieces.{used-both}
 use Rattle.lmem_heap.specs.Holes.{IsOpen}
 use Rattle.lmem_heap.specs.Packed.{chunk_end, chunk_length}
 use Rattle.lmem_heap.proofs.FreeLists.{link-place, open-place, tiles-fours}

@@ -1,12 +1,12 @@
 -- The free list of a heap with a hole: how it is walked.
 use Rattle.std.proofs.Common.{◌≡◌, ◌≢◌, ℕ, ◌+◌, ◌-◌, ◌%◌, ◌<◌, ◌≤◌, ◌⊎◌, List, [], ◌∷◌, ◌++◌, length, refl, ap, sym, ◌∙◌, subst, inl, inr, arith}
-use Rattle.geos_model.specs.Bytes.{word}
-use Rattle.geos_model.specs.Chunks.{cost}
-use Rattle.geos_model.specs.Block.{entry, table_end, first_free, total_free}
-use Rattle.geos_model.specs.Heap.{Piece, Used, Free, Tiles, HasChunk, AreUsed, IsHeap, free_bytes}
-use Rattle.geos_model.proofs.Costs.{cost-fours}
-use Rattle.geos_model.proofs.Pieces.{LiesWithin, lies, tiles-le, tiles-join, has-split, has-left, has-right, free_bytes-append}
-use Rattle.geos_model.proofs.FreePieces.{nothing-left}
+use Rattle.geos_terms.specs.Bytes.{word}
+use Rattle.geos_terms.specs.Chunks.{cost}
+use Rattle.geos_terms.specs.Block.{entry, table_end, first_free, total_free}
+use Rattle.geos_terms.specs.Heap.{Piece, Used, Free, Tiles, HasChunk, AreUsed, IsHeap, free_bytes}
+use Rattle.geos_terms.proofs.Costs.{cost-fours}
+use Rattle.geos_terms.proofs.Pieces.{LiesWithin, lies, tiles-le, tiles-join, has-split, has-left, has-right, free_bytes-append}
+use Rattle.geos_terms.proofs.FreePieces.{nothing-left}
 use Rattle.lmem_heap.specs.Holes.{IsLink, IsOpen, IsBeside, FitsBehind}
 
 -- the first free piece is the end's next one, or not before the end

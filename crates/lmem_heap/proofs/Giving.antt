@@ -1,14 +1,14 @@
 -- Free chunks that are taken, and bytes that are given back.
 use Rattle.std.proofs.Common.{◌≡◌, ◌≢◌, ℕ, ◌+◌, ◌-◌, ◌*◌, ◌%◌, ◌<◌, ◌≤◌, ◌⊎◌, List, [], ◌∷◌, ◌++◌, length, get_or, refl, ap, sym, ◌∙◌, subst, inl, inr, arith}
-use Rattle.geos_model.specs.Bytes.{word, IsShifted}
-use Rattle.geos_model.specs.Block.{entry, entries, table_end, first_free, total_free}
-use Rattle.geos_model.specs.Heap.{Piece, Free, Tiles, HasChunk, IsOffset, free_bytes}
-use Rattle.geos_model.proofs.Words.{word-bytes}
-use Rattle.geos_model.proofs.Pieces.{LiesWithin, lies, tiles-le, has-left, has-split, free_bytes-append}
-use Rattle.geos_model.proofs.Moves.{tiles-kept}
-use Rattle.geos_model.proofs.Tables.{chunks-same}
-use Rattle.geos_model.proofs.Headers.{SameHead, head-word, same-header}
-use Rattle.geos_model.proofs.FreePieces.{nothing-left}
+use Rattle.geos_terms.specs.Bytes.{word, IsShifted}
+use Rattle.geos_terms.specs.Block.{entry, entries, table_end, first_free, total_free}
+use Rattle.geos_terms.specs.Heap.{Piece, Free, Tiles, HasChunk, IsOffset, free_bytes}
+use Rattle.geos_terms.proofs.Words.{word-bytes}
+use Rattle.geos_terms.proofs.Pieces.{LiesWithin, lies, tiles-le, has-left, has-split, free_bytes-append}
+use Rattle.geos_terms.proofs.Moves.{tiles-kept}
+use Rattle.geos_terms.proofs.Tables.{chunks-same}
+use Rattle.geos_terms.proofs.Headers.{SameHead, head-word, same-header}
+use Rattle.geos_terms.proofs.FreePieces.{nothing-left}
 use Rattle.lmem_heap.specs.Holes.{IsOpen, IsBeside, Widens, GivesBack}
 use Rattle.lmem_heap.proofs.FreeLists.{first-behind, used-next, link-place, open-place, open-heap}
 use Rattle.lmem_heap.proofs.Relinking.{Apart, KeepsFront, KeepsBack, reopened, relinks, kept-entry, kept-chunk, front-kept, mid-kept, FreeBehind, free-behind}

@@ -1,9 +1,9 @@
 -- What stays of a chunk of a heap that goes.
 use Rattle.std.proofs.Common.{◌≡◌, ℕ, ◌+◌, ◌-◌, ◌<◌, List, ap, sym, ◌∙◌, arith}
 use Rattle.lmem_raw.specs.Bytes.{part}
-use Rattle.geos_model.specs.Chunks.{entry_bytes}
-use Rattle.geos_model.specs.Block.{chunks, entry, entries}
-use Rattle.geos_model.specs.Heap.{IsOffset}
+use Rattle.geos_terms.specs.Chunks.{entry_bytes}
+use Rattle.geos_terms.specs.Block.{chunks, entry, entries}
+use Rattle.geos_terms.specs.Heap.{IsOffset}
 use Rattle.lmem_heap.specs.declared.extents.Extent.{Extent}
 use Rattle.lmem_heap.specs.Packed.{chunk_length}
 use Rattle.lmem_heap.specs.Extents.{IsExtent}

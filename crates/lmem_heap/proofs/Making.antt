@@ -3,13 +3,13 @@ use Rattle.std.proofs.Common.{◌≡◌, ℕ, ◌+◌, ◌-◌, ◌*◌, ◌<◌
 use Rattle.std.proofs.lemmas.Bool.{cases_lt}
 use Rattle.std.proofs.lemmas.List.{get_or-take, get_or-drop}
 use Rattle.lmem_raw.specs.Bytes.{part, with_part}
-use Rattle.geos_model.specs.Bytes.{word, with_word}
-use Rattle.geos_model.specs.Chunks.{cost}
-use Rattle.geos_model.specs.Block.{entry, entries, table_end, total_free}
-use Rattle.geos_model.specs.Heap.{IsOffset}
-use Rattle.geos_model.proofs.Words.{word-same, word-other, word-part_other, length-with_word, byte-other, word-bytes}
-use Rattle.geos_model.proofs.Costs.{cost-least}
-use Rattle.geos_model.proofs.Resizes.{length-part}
+use Rattle.geos_terms.specs.Bytes.{word, with_word}
+use Rattle.geos_terms.specs.Chunks.{cost}
+use Rattle.geos_terms.specs.Block.{entry, entries, table_end, total_free}
+use Rattle.geos_terms.specs.Heap.{IsOffset}
+use Rattle.geos_terms.proofs.Words.{word-same, word-other, word-part_other, length-with_word, byte-other, word-bytes}
+use Rattle.geos_terms.proofs.Costs.{cost-least}
+use Rattle.geos_terms.proofs.Resizes.{length-part}
 use Rattle.lmem_heap.specs.Moves.{MovesRun}
 use Rattle.lmem_heap.specs.Packed.{IsPacked, EndsFree, SetsTail, EditsChunk, HasResized, GrowsTable, chunks_end, chunk_end, chunk_length}
 use Rattle.lmem_heap.specs.Extents.{IsExtent}

@@ -4,9 +4,9 @@ use Rattle.std.proofs.lemmas.Bool.{cases_eq, cases_lt}
 use Rattle.std.proofs.lemmas.Bool.Decides.{nat_tests}
 use Rattle.lmem_raw.specs.Bytes.{part, with_part}
 use Rattle.lmem_raw.proofs.Parts.{length-with_part}
-use Rattle.geos_model.specs.Bytes.{word, with_word}
-use Rattle.geos_model.specs.Block.{entry, entries, table_end}
-use Rattle.geos_model.proofs.Words.{word-same, word-other, length-with_word, byte-other, word-bytes, part-moved, get_or-with_part_before, get_or-with_part_behind}
+use Rattle.geos_terms.specs.Bytes.{word, with_word}
+use Rattle.geos_terms.specs.Block.{entry, entries, table_end}
+use Rattle.geos_terms.proofs.Words.{word-same, word-other, length-with_word, byte-other, word-bytes, part-moved, get_or-with_part_before, get_or-with_part_behind}
 use Rattle.lmem_heap.specs.Moves.{entry_moved, MapsEntries, MovesRun}
 
 pub moved-in : (from end to e : ℕ) → from < e → e < end → entry_moved from end to e ≡ e - from + to

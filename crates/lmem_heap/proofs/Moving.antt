@@ -4,18 +4,18 @@ use Rattle.std.proofs.lemmas.Bool.{cases_eq}
 use Rattle.std.proofs.lemmas.List.{get_or-take, get_or-drop}
 use Rattle.lmem_raw.specs.Bytes.{part, with_part}
 use Rattle.lmem_raw.proofs.Parts.{length-with_part}
-use Rattle.geos_model.specs.Bytes.{word, with_word}
-use Rattle.geos_model.specs.Chunks.{cost, resized}
-use Rattle.geos_model.specs.Block.{entry, entries, table_end, first_free, chunks}
-use Rattle.geos_model.specs.Heap.{Piece, Used, Tiles, HasChunk, IsOffset, free_bytes}
-use Rattle.geos_model.proofs.Words.{word-bytes, get_or-with_part_before, get_or-with_part_behind, get_or-with_part_within}
-use Rattle.geos_model.proofs.Costs.{cost-four, cost-least}
-use Rattle.geos_model.proofs.Pieces.{lies, tiles-le, tiles-join, has-left, has-right, has-split, free_bytes-append}
-use Rattle.geos_model.proofs.Moves.{tiles-kept}
-use Rattle.geos_model.proofs.Resizes.{length-part}
-use Rattle.geos_model.proofs.Tables.{chunks-set}
-use Rattle.geos_model.proofs.Headers.{head-word, same-header}
-use Rattle.geos_model.proofs.Found.{Found, find}
+use Rattle.geos_terms.specs.Bytes.{word, with_word}
+use Rattle.geos_terms.specs.Chunks.{cost, resized}
+use Rattle.geos_terms.specs.Block.{entry, entries, table_end, first_free, chunks}
+use Rattle.geos_terms.specs.Heap.{Piece, Used, Tiles, HasChunk, IsOffset, free_bytes}
+use Rattle.geos_terms.proofs.Words.{word-bytes, get_or-with_part_before, get_or-with_part_behind, get_or-with_part_within}
+use Rattle.geos_terms.proofs.Costs.{cost-four, cost-least}
+use Rattle.geos_terms.proofs.Pieces.{lies, tiles-le, tiles-join, has-left, has-right, has-split, free_bytes-append}
+use Rattle.geos_terms.proofs.Moves.{tiles-kept}
+use Rattle.geos_terms.proofs.Resizes.{length-part}
+use Rattle.geos_terms.proofs.Tables.{chunks-set}
+use Rattle.geos_terms.proofs.Headers.{head-word, same-header}
+use Rattle.geos_terms.proofs.Found.{Found, find}
 use Rattle.lmem_heap.specs.Holes.{IsOpen}
 use Rattle.lmem_heap.specs.Packed.{chunk_end, chunk_length}
 use Rattle.lmem_heap.proofs.Contents.{length-zeros, beside-zeros, within-zeros, kept-bytes}

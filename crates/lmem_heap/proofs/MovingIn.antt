@@ -2,11 +2,11 @@
 use Rattle.std.proofs.Common.{◌≡◌, ℕ, ◌+◌, ◌-◌, ◌*◌, ◌<◌, ◌≤◌, ◌⊎◌, List, length, min, replicate, sym, subst, inl, inr, arith}
 use Rattle.std.proofs.lemmas.Bool.{cases_lt}
 use Rattle.lmem_raw.specs.Bytes.{part, with_part}
-use Rattle.geos_model.specs.Bytes.{with_word}
-use Rattle.geos_model.specs.Chunks.{cost, resized}
-use Rattle.geos_model.specs.Block.{entry, entries}
-use Rattle.geos_model.specs.Heap.{IsOffset}
-use Rattle.geos_model.proofs.Costs.{cost-least}
+use Rattle.geos_terms.specs.Bytes.{with_word}
+use Rattle.geos_terms.specs.Chunks.{cost, resized}
+use Rattle.geos_terms.specs.Block.{entry, entries}
+use Rattle.geos_terms.specs.Heap.{IsOffset}
+use Rattle.geos_terms.proofs.Costs.{cost-least}
 use Rattle.lmem_heap.specs.declared.extents.Extent.{Extent}
 use Rattle.lmem_heap.specs.Extents.{HasExtent, IsExtent}
 use Rattle.lmem_heap.specs.Holes.{IsOpen}

@@ -1,10 +1,10 @@
 -- The first gap of a heap, and what is behind it.
 use Rattle.std.proofs.Common.{◌++◌, ◌≡◌, ◌≢◌, ℕ, ◌+◌, ◌<◌, ◌≤◌, List, [], ◌∷◌, length, refl, ap, sym, ◌∙◌, subst, inl, inr, arith}
-use Rattle.geos_model.specs.Bytes.{word}
-use Rattle.geos_model.specs.Block.{table_end, first_free}
-use Rattle.geos_model.specs.Heap.{Piece, Free, Tiles, HasChunk, free_bytes, IsCompact, IsHeap}
-use Rattle.geos_model.proofs.Pieces.{tiles-le, has-split, free_bytes-append}
-use Rattle.geos_model.proofs.FreePieces.{first-piece, first-room, none-free, used-free, used-any}
+use Rattle.geos_terms.specs.Bytes.{word}
+use Rattle.geos_terms.specs.Block.{table_end, first_free}
+use Rattle.geos_terms.specs.Heap.{Piece, Free, Tiles, HasChunk, free_bytes, IsCompact, IsHeap}
+use Rattle.geos_terms.proofs.Pieces.{tiles-le, has-split, free_bytes-append}
+use Rattle.geos_terms.proofs.FreePieces.{first-piece, first-room, none-free, used-free, used-any}
 use Rattle.lmem_heap.specs.declared.compact.Gap.{Gap}
 use Rattle.lmem_heap.specs.Gaps.{HasGap}
 

@@ -1,14 +1,14 @@
 -- Packed heaps are the compact ones.
 use Rattle.std.proofs.Common.{◌≡◌, ◌≢◌, ℕ, ◌+◌, ◌%◌, ◌≤◌, List, [], ◌∷◌, ◌++◌, None, get_or, ◌<◌, length, refl, ap, sym, ◌∙◌, subst, inl, inr, arith}
 use Rattle.std.proofs.lemmas.Bool.{cases_eq}
-use Rattle.geos_model.specs.Bytes.{word}
-use Rattle.geos_model.specs.Chunks.{used_bytes}
-use Rattle.geos_model.specs.Block.{chunks, entries, entry, table_end, first_free, total_free}
-use Rattle.geos_model.proofs.Lowest.{block-used, entries-same, unused}
-use Rattle.geos_model.proofs.Entries.{chunks-at, chunk-none}
-use Rattle.geos_model.specs.Heap.{Piece, Free, Tiles, HasChunk, free_bytes, IsHeap, IsCompact}
-use Rattle.geos_model.proofs.Pieces.{tiles-le, tiles-join, has-split, has-left, free_bytes-append}
-use Rattle.geos_model.proofs.FreePieces.{first-piece, none-free, used-free, used-any, nothing-left}
+use Rattle.geos_terms.specs.Bytes.{word}
+use Rattle.geos_terms.specs.Chunks.{used_bytes}
+use Rattle.geos_terms.specs.Block.{chunks, entries, entry, table_end, first_free, total_free}
+use Rattle.geos_terms.proofs.Lowest.{block-used, entries-same, unused}
+use Rattle.geos_terms.proofs.Entries.{chunks-at, chunk-none}
+use Rattle.geos_terms.specs.Heap.{Piece, Free, Tiles, HasChunk, free_bytes, IsHeap, IsCompact}
+use Rattle.geos_terms.proofs.Pieces.{tiles-le, tiles-join, has-split, has-left, free_bytes-append}
+use Rattle.geos_terms.proofs.FreePieces.{first-piece, none-free, used-free, used-any, nothing-left}
 use Rattle.lmem_heap.specs.Holes.{FirstIsSmaller}
 use Rattle.lmem_heap.specs.Packed.{IsPacked, chunks_end}
 

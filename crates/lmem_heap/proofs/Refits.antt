@@ -2,13 +2,13 @@
 use Rattle.std.proofs.Common.{◌≡◌, ℕ, zero, suc, ◌<◌, List, [], ◌∷◌, None, length, get_or, set, unwrap_or, refl, ap, sym, ◌∙◌, arith, length-set, get_or-set_same}
 use Rattle.std.proofs.lemmas.Grind.{same_number_lists}
 use Rattle.lmem_raw.specs.Bytes.{part}
-use Rattle.geos_model.specs.Chunks.{resized, entry_bytes}
-use Rattle.geos_model.specs.Block.{entry, entries, chunks}
-use Rattle.geos_model.specs.Heap.{IsHeap, IsOffset}
-use Rattle.geos_model.proofs.Sums.{count-chunks}
-use Rattle.geos_model.proofs.Entries.{chunks-at, chunk-nothing}
-use Rattle.geos_model.proofs.Resizes.{length-resized, get_or-resized, length-part}
-use Rattle.geos_model.proofs.Lowest.{unused, in-use-same}
+use Rattle.geos_terms.specs.Chunks.{resized, entry_bytes}
+use Rattle.geos_terms.specs.Block.{entry, entries, chunks}
+use Rattle.geos_terms.specs.Heap.{IsHeap, IsOffset}
+use Rattle.geos_terms.proofs.Sums.{count-chunks}
+use Rattle.geos_terms.proofs.Entries.{chunks-at, chunk-nothing}
+use Rattle.geos_terms.proofs.Resizes.{length-resized, get_or-resized, length-part}
+use Rattle.geos_terms.proofs.Lowest.{unused, in-use-same}
 use Rattle.lmem_heap.specs.Packed.{chunk_length}
 use Rattle.lmem_heap.proofs.Edits.{chunk-bytes}
 use Rattle.lmem_heap.proofs.Extending.{heap-extent}

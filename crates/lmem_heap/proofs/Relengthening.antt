@@ -1,12 +1,12 @@
 -- A chunk that gets another length and takes as many bytes of the block.
 use Rattle.std.proofs.Common.{◌≡◌, ℕ, ◌+◌, ◌-◌, ◌*◌, ◌<◌, List, Some, None, length, set, replicate, refl, ap, sym, ◌∙◌, subst, arith}
 use Rattle.lmem_raw.specs.Bytes.{part, with_part}
-use Rattle.geos_model.specs.Bytes.{with_word}
-use Rattle.geos_model.specs.Chunks.{cost, entry_bytes, resized}
-use Rattle.geos_model.specs.Block.{chunks, entry, entries, table_end}
-use Rattle.geos_model.specs.Heap.{IsHeap, IsOffset}
-use Rattle.geos_model.proofs.Words.{length-with_word, byte-other, part-shifted}
-use Rattle.geos_model.proofs.Lowest.{set-twice}
+use Rattle.geos_terms.specs.Bytes.{with_word}
+use Rattle.geos_terms.specs.Chunks.{cost, entry_bytes, resized}
+use Rattle.geos_terms.specs.Block.{chunks, entry, entries, table_end}
+use Rattle.geos_terms.specs.Heap.{IsHeap, IsOffset}
+use Rattle.geos_terms.proofs.Words.{length-with_word, byte-other, part-shifted}
+use Rattle.geos_terms.proofs.Lowest.{set-twice}
 use Rattle.lmem_heap.specs.Holes.{IsOpen, ResizesChunk}
 use Rattle.lmem_heap.specs.declared.extents.Extent.{Extent}
 use Rattle.lmem_heap.specs.Extents.{IsExtent}

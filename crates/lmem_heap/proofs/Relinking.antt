@@ -1,16 +1,16 @@
 -- Blocks whose free list changes at a hole.
 use Rattle.std.proofs.Common.{◌≡◌, ◌≢◌, ℕ, ◌+◌, ◌-◌, ◌*◌, ◌<◌, ◌≤◌, ◌⊎◌, List, [], ◌∷◌, length, get_or, refl, ap, sym, ◌∙◌, subst, inl, inr, arith}
-use Rattle.geos_model.specs.Bytes.{word, with_word, IsShifted}
-use Rattle.geos_model.specs.Chunks.{cost}
-use Rattle.geos_model.specs.Block.{entry, entries, table_end, first_free, total_free, chunk_at}
-use Rattle.geos_model.specs.Heap.{Piece, Used, Free, Tiles, HasChunk, IsOffset, IsHeader, free_bytes}
-use Rattle.geos_model.proofs.Words.{word-same, word-other, length-with_word, byte-other, word-bytes}
-use Rattle.geos_model.proofs.Costs.{cost-four}
-use Rattle.geos_model.proofs.Pieces.{LiesWithin, lies, tiles-le}
-use Rattle.geos_model.proofs.Moves.{tiles-kept, chunk-stays}
-use Rattle.geos_model.proofs.Tables.{chunk-cases}
-use Rattle.geos_model.proofs.Headers.{SameHead, head-word, same-header}
-use Rattle.geos_model.proofs.FreePieces.{used-any}
+use Rattle.geos_terms.specs.Bytes.{word, with_word, IsShifted}
+use Rattle.geos_terms.specs.Chunks.{cost}
+use Rattle.geos_terms.specs.Block.{entry, entries, table_end, first_free, total_free, chunk_at}
+use Rattle.geos_terms.specs.Heap.{Piece, Used, Free, Tiles, HasChunk, IsOffset, IsHeader, free_bytes}
+use Rattle.geos_terms.proofs.Words.{word-same, word-other, length-with_word, byte-other, word-bytes}
+use Rattle.geos_terms.proofs.Costs.{cost-four}
+use Rattle.geos_terms.proofs.Pieces.{LiesWithin, lies, tiles-le}
+use Rattle.geos_terms.proofs.Moves.{tiles-kept, chunk-stays}
+use Rattle.geos_terms.proofs.Tables.{chunk-cases}
+use Rattle.geos_terms.proofs.Headers.{SameHead, head-word, same-header}
+use Rattle.geos_terms.proofs.FreePieces.{used-any}
 use Rattle.lmem_heap.specs.Holes.{IsLink, IsOpen, IsBeside}
 use Rattle.lmem_heap.proofs.FreeLists.{first-behind, used-next, link-lies, link-place, open-place}
 

@@ -2,13 +2,13 @@
 use Rattle.std.proofs.Common.{◌≡◌, ℕ, ◌+◌, ◌-◌, ◌<◌, ◌≤◌, List, Some, length, replicate, set, ap, sym, ◌∙◌, arith}
 use Rattle.std.proofs.lemmas.List.{length-replicate}
 use Rattle.lmem_raw.specs.Bytes.{part, with_part}
-use Rattle.geos_model.specs.Chunks.{entry_bytes}
-use Rattle.geos_model.specs.Block.{Place, entry, entries, chunks, handle_word, place_at, bytes_at}
-use Rattle.geos_model.specs.Heap.{IsHeap}
-use Rattle.geos_model.proofs.Places.{placed-bytes, placed-length}
-use Rattle.geos_model.proofs.Resizes.{length-part}
-use Rattle.geos_model.proofs.Lowest.{set-twice}
-use Rattle.geos_model.proofs.Entered.{WritesEntry, writes-entry, part-part}
+use Rattle.geos_terms.specs.Chunks.{entry_bytes}
+use Rattle.geos_terms.specs.Block.{Place, entry, entries, chunks, handle_word, place_at, bytes_at}
+use Rattle.geos_terms.specs.Heap.{IsHeap}
+use Rattle.geos_terms.proofs.Places.{placed-bytes, placed-length}
+use Rattle.geos_terms.proofs.Resizes.{length-part}
+use Rattle.geos_terms.proofs.Lowest.{set-twice}
+use Rattle.geos_terms.proofs.Entered.{WritesEntry, writes-entry, part-part}
 
 -- a heap with other bytes as the chunk of an entry
 pub record HasBytes (b d : List ℕ) (i : ℕ) (bytes : List ℕ) : Type 0 where

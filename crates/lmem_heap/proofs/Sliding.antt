@@ -3,7 +3,7 @@ use Rattle.std.proofs.Common.{◌≡◌, ℕ, zero, suc, ◌+◌, ◌-◌, ◌<�
 use Rattle.std.proofs.lemmas.Bool.{cases_lt}
 use Rattle.std.proofs.lemmas.Bool.Decides.{nat_tests}
 use Rattle.lmem_heap.specs.declared.slides.Slide.{Slide}
-use Rattle.geos_model.specs.Block.{entry}
+use Rattle.geos_terms.specs.Block.{entry}
 use Rattle.lmem_heap.specs.Moves.{entry_moved, MapsEntries}
 use Rattle.lmem_heap.specs.Slides.{AreInOrder, entry_slid, run_at}
 use Rattle.lmem_heap.proofs.Movers.{moved-in, moved-low, moved-high, entries-kept}

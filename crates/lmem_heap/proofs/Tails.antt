@@ -1,7 +1,7 @@
 -- The writes that make the last bytes free.
 use Rattle.std.proofs.Common.{◌≡◌, ◌≢◌, ℕ, ◌+◌, ◌-◌, ◌%◌, ◌≤◌, ◌⊎◌, List, length, get_or, ap, sym, ◌∙◌, inl, inr, arith}
-use Rattle.geos_model.specs.Bytes.{word, with_word}
-use Rattle.geos_model.proofs.Words.{word-same, word-other, length-with_word, byte-other}
+use Rattle.geos_terms.specs.Bytes.{word, with_word}
+use Rattle.geos_terms.proofs.Words.{word-same, word-other, length-with_word, byte-other}
 use Rattle.lmem_heap.specs.Packed.{SetsTail}
 
 -- no bytes

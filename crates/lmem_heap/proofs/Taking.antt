@@ -3,14 +3,14 @@ use Rattle.std.proofs.Common.{◌≡◌, ◌≢◌, ℕ, ◌+◌, ◌-◌, ◌*�
 use Rattle.std.proofs.lemmas.Bool.{cases_lt}
 use Rattle.std.proofs.lemmas.List.{get_or-take, get_or-drop}
 use Rattle.lmem_raw.specs.Bytes.{part, with_part}
-use Rattle.geos_model.specs.Bytes.{word, with_word}
-use Rattle.geos_model.specs.Chunks.{cost, resized}
-use Rattle.geos_model.specs.Block.{entry, entries, table_end, total_free}
-use Rattle.geos_model.specs.Heap.{free_bytes}
-use Rattle.geos_model.proofs.Words.{word-part_other}
-use Rattle.geos_model.proofs.Pieces.{tiles-le}
-use Rattle.geos_model.proofs.Costs.{cost-least}
-use Rattle.geos_model.proofs.Resizes.{length-part}
+use Rattle.geos_terms.specs.Bytes.{word, with_word}
+use Rattle.geos_terms.specs.Chunks.{cost, resized}
+use Rattle.geos_terms.specs.Block.{entry, entries, table_end, total_free}
+use Rattle.geos_terms.specs.Heap.{free_bytes}
+use Rattle.geos_terms.proofs.Words.{word-part_other}
+use Rattle.geos_terms.proofs.Pieces.{tiles-le}
+use Rattle.geos_terms.proofs.Costs.{cost-least}
+use Rattle.geos_terms.proofs.Resizes.{length-part}
 use Rattle.lmem_heap.specs.Holes.{IsOpen, IsBeside, Widens, GivesBack}
 use Rattle.lmem_heap.proofs.Contents.{length-zeros, beside-zeros, within-zeros, kept-bytes}
 use Rattle.lmem_heap.proofs.FreeLists.{OpenPlace, open-place}

@@ -1,14 +1,14 @@
 -- An entry that is written where no chunk stands: 0 for 0xFFFF, or 0xFFFF for 0.
 use Rattle.std.proofs.Common.{◌≡◌, ◌≢◌, ℕ, ◌+◌, ◌*◌, ◌<◌, ◌≤◌, List, Option, Some, None, length, set, get_or, replicate, refl, ap, sym, ◌∙◌, subst, inl, inr, arith}
 use Rattle.std.proofs.lemmas.Bool.{cases_eq, cases_lt}
-use Rattle.geos_model.specs.Bytes.{word, with_word, IsShifted}
-use Rattle.geos_model.specs.Block.{entry, entries, table_end, chunk_at, chunks, first_free, handle_word}
-use Rattle.geos_model.specs.Heap.{Tiles, IsOffset, IsHeap}
-use Rattle.geos_model.proofs.Words.{word-same, word-other, length-with_word, byte-other}
-use Rattle.geos_model.proofs.Entries.{chunk-none, chunk-nothing, told}
-use Rattle.geos_model.proofs.Moves.{tiles-kept}
-use Rattle.geos_model.proofs.Tables.{chunks-set, chunk-kept}
-use Rattle.geos_model.proofs.Headers.{same-header}
+use Rattle.geos_terms.specs.Bytes.{word, with_word, IsShifted}
+use Rattle.geos_terms.specs.Block.{entry, entries, table_end, chunk_at, chunks, first_free, handle_word}
+use Rattle.geos_terms.specs.Heap.{Tiles, IsOffset, IsHeap}
+use Rattle.geos_terms.proofs.Words.{word-same, word-other, length-with_word, byte-other}
+use Rattle.geos_terms.proofs.Entries.{chunk-none, chunk-nothing, told}
+use Rattle.geos_terms.proofs.Moves.{tiles-kept}
+use Rattle.geos_terms.proofs.Tables.{chunks-set, chunk-kept}
+use Rattle.geos_terms.proofs.Headers.{same-header}
 
 -- what such a write leaves
 pub record EntersHeap (b c : List ℕ) (i e : ℕ) (chunk : Option (List ℕ)) : Type 0 where

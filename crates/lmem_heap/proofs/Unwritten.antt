@@ -3,16 +3,16 @@ use Rattle.std.proofs.Common.{◌≡◌, ◌≢◌, ℕ, zero, suc, ◌+◌, ◌
 use Rattle.std.proofs.lemmas.Bool.{cases_eq}
 use Rattle.lmem_raw.specs.Bytes.{part, with_part}
 use Rattle.lmem_raw.proofs.Parts.{length-with_part}
-use Rattle.geos_model.specs.Bytes.{word, with_word, word_bytes, IsShifted}
-use Rattle.geos_model.specs.Block.{entry, entries, table_end, chunks, first_free, handle_word}
-use Rattle.geos_model.specs.Heap.{Tiles, IsCompact, IsHeap, IsOffset}
-use Rattle.geos_model.proofs.Words.{word-bytes, part-shifted, length-with_word, get_or-with_part_before}
-use Rattle.geos_model.proofs.Entries.{told}
-use Rattle.geos_model.proofs.Pieces.{tiles-le}
-use Rattle.geos_model.proofs.Moves.{tiles-kept}
-use Rattle.geos_model.proofs.Tables.{chunks-same, chunk-kept}
-use Rattle.geos_model.proofs.Headers.{head-word, same-header}
-use Rattle.geos_model.proofs.FreePieces.{first-room}
+use Rattle.geos_terms.specs.Bytes.{word, with_word, word_bytes, IsShifted}
+use Rattle.geos_terms.specs.Block.{entry, entries, table_end, chunks, first_free, handle_word}
+use Rattle.geos_terms.specs.Heap.{Tiles, IsCompact, IsHeap, IsOffset}
+use Rattle.geos_terms.proofs.Words.{word-bytes, part-shifted, length-with_word, get_or-with_part_before}
+use Rattle.geos_terms.proofs.Entries.{told}
+use Rattle.geos_terms.proofs.Pieces.{tiles-le}
+use Rattle.geos_terms.proofs.Moves.{tiles-kept}
+use Rattle.geos_terms.proofs.Tables.{chunks-same, chunk-kept}
+use Rattle.geos_terms.proofs.Headers.{head-word, same-header}
+use Rattle.geos_terms.proofs.FreePieces.{first-room}
 use Rattle.lmem_heap.specs.declared.compact.Gap.{Gap}
 use Rattle.lmem_heap.specs.Moves.{entry_moved, MapsEntries, MovesRun}
 use Rattle.lmem_heap.specs.declared.slides.Slide.{Slide}

@@ -1,7 +1,7 @@
 -- What the calls do to the chunks.
 use Rattle.std.specs.Prelude.{ℕ, ◌+◌, ◌-◌, List, Option, Some, length, replicate, slice_set}
 use Rattle.lmem_raw.specs.Bytes.{part, with_part}
-use Rattle.geos_model.specs.Chunks.{entry_bytes, resized}
+use Rattle.geos_terms.specs.Chunks.{entry_bytes, resized}
 
 -- the chunk of an entry has got n bytes
 abbrev pub entry_resized : List (Option (List ℕ)) → ℕ → ℕ → List (Option (List ℕ))

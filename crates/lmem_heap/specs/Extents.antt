@@ -1,8 +1,8 @@
 -- Where the chunk of an entry lies.
 use Rattle.std.specs.Prelude.{◌≡◌, ℕ, ◌+◌, ◌<◌, ◌≤◌, List, length}
-use Rattle.geos_model.specs.Chunks.{cost}
-use Rattle.geos_model.specs.Block.{entry, entries, table_end}
-use Rattle.geos_model.specs.Heap.{most_block_bytes}
+use Rattle.geos_terms.specs.Chunks.{cost}
+use Rattle.geos_terms.specs.Block.{entry, entries, table_end}
+use Rattle.geos_terms.specs.Heap.{most_block_bytes}
 use Rattle.lmem_heap.specs.declared.extents.Extent.{Extent}
 use Rattle.lmem_heap.specs.Packed.{chunk_end, chunk_length}
 

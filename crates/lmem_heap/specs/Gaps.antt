@@ -1,9 +1,9 @@
 -- Free chunks that go up past the chunks behind them.
 use Rattle.std.specs.Prelude.{◌≡◌, ◌≢◌, ℕ, ◌+◌, ◌-◌, ◌%◌, ◌<◌, ◌≤◌, ◌⊎◌, List, [], length, slice_index}
 use Rattle.lmem_raw.specs.Bytes.{part, with_part}
-use Rattle.geos_model.specs.Bytes.{word, with_word, IsShifted}
-use Rattle.geos_model.specs.Block.{chunks, entry, entries, handle_word, table_end, first_free, total_free}
-use Rattle.geos_model.specs.Heap.{Piece, Tiles, HasChunk, IsHeap, IsOffset, AreUsed, free_bytes}
+use Rattle.geos_terms.specs.Bytes.{word, with_word, IsShifted}
+use Rattle.geos_terms.specs.Block.{chunks, entry, entries, handle_word, table_end, first_free, total_free}
+use Rattle.geos_terms.specs.Heap.{Piece, Tiles, HasChunk, IsHeap, IsOffset, AreUsed, free_bytes}
 use Rattle.lmem_heap.specs.Moves.{entry_moved}
 use Rattle.lmem_heap.specs.Slides.{AreInOrder, HasSlid, IsButForEntries}
 use Rattle.lmem_heap.specs.declared.compact.Gap.{Gap}

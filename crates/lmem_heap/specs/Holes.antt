@@ -1,9 +1,9 @@
 -- Bytes that no piece has, and the free list that passes over them.
 use Rattle.std.specs.Prelude.{◌≡◌, ◌≢◌, ℕ, ◌+◌, ◌-◌, ◌%◌, ◌<◌, ◌≤◌, ◌⊎◌, List, [], ◌∷◌, ◌++◌, length, replicate, slice_set, Some}
-use Rattle.geos_model.specs.Bytes.{word, IsShifted}
+use Rattle.geos_terms.specs.Bytes.{word, IsShifted}
 use Rattle.lmem_heap.specs.Changes.{entry_resized}
-use Rattle.geos_model.specs.Block.{chunks, entry, entries, handle_word, table_end, first_free, total_free}
-use Rattle.geos_model.specs.Heap.{Piece, Free, Tiles, HasChunk, IsOffset, AreUsed, IsHeader, IsHeap, free_bytes}
+use Rattle.geos_terms.specs.Block.{chunks, entry, entries, handle_word, table_end, first_free, total_free}
+use Rattle.geos_terms.specs.Heap.{Piece, Free, Tiles, HasChunk, IsOffset, AreUsed, IsHeader, IsHeap, free_bytes}
 
 -- a link that is the header's word: no piece stands before it
 pub record IsFirstLink (block : List ℕ) (link upto : ℕ) (before : List Piece) : Type 0 where

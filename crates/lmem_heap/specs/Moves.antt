@@ -1,7 +1,7 @@
 -- Chunks that move, and their entries with them.
 use Rattle.std.specs.Prelude.{◌≡◌, ℕ, ◌+◌, ◌-◌, ◌<◌, ◌≤◌, ◌⊎◌, ◌&&◌, nat_lt, if◌then◌else◌, List, length, slice_index}
-use Rattle.geos_model.specs.Bytes.{IsShifted}
-use Rattle.geos_model.specs.Block.{entry, entries, table_end}
+use Rattle.geos_terms.specs.Bytes.{IsShifted}
+use Rattle.geos_terms.specs.Block.{entry, entries, table_end}
 
 -- an entry, where what stood from `from` to `end` is at `to` now
 abbrev pub entry_moved : ℕ → ℕ → ℕ → ℕ → ℕ

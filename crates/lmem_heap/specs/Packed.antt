@@ -1,10 +1,10 @@
 -- Heaps with all free bytes at the end, and the steps from one to the next.
 use Rattle.std.specs.Prelude.{◌≡◌, ◌≢◌, ℕ, ◌+◌, ◌-◌, ◌%◌, ◌<◌, ◌≤◌, ◌⊎◌, List, length, slice_index}
 use Rattle.lmem_raw.specs.Bytes.{part}
-use Rattle.geos_model.specs.Bytes.{word, IsShifted}
-use Rattle.geos_model.specs.Chunks.{cost, resized}
-use Rattle.geos_model.specs.Block.{entry, entries, table_end, first_free, total_free}
-use Rattle.geos_model.specs.Heap.{Piece, Tiles, HasChunk, IsOffset, AreUsed, IsHeader}
+use Rattle.geos_terms.specs.Bytes.{word, IsShifted}
+use Rattle.geos_terms.specs.Chunks.{cost, resized}
+use Rattle.geos_terms.specs.Block.{entry, entries, table_end, first_free, total_free}
+use Rattle.geos_terms.specs.Heap.{Piece, Tiles, HasChunk, IsOffset, AreUsed, IsHeader}
 use Rattle.lmem_heap.specs.Moves.{entry_moved}
 
 -- the free bytes begin at an offset: one free chunk, or none where there are none

@@ -1,7 +1,7 @@
 -- When calls refuse.
 use Rattle.std.specs.Prelude.{◌≡◌, ℕ, ◌+◌, ◌<◌, ◌≤◌, List, Option, None, length, IsSome}
-use Rattle.geos_model.specs.Chunks.{chunk_of, bytes_of, need, with_inserted, with_resized}
-use Rattle.geos_model.specs.Heap.{most_block_bytes}
+use Rattle.geos_terms.specs.Chunks.{chunk_of, bytes_of, need, with_inserted, with_resized}
+use Rattle.geos_terms.specs.Heap.{most_block_bytes}
 use Rattle.lmem_heap.specs.declared.error.DeleteError.{DeleteError}
 use Rattle.lmem_heap.specs.declared.error.DeleteError.TheVariants as deletes
 use Rattle.lmem_heap.specs.declared.error.InsertError.{InsertError}

@@ -1,7 +1,7 @@
 -- Runs of chunks that have moved, while the table still says where they stood.
 use Rattle.std.specs.Prelude.{◌≡◌, ℕ, ◌+◌, ◌-◌, ◌<◌, ◌≤◌, ◌⊎◌, ◌&&◌, nat_lt, if◌then◌else◌, List, [], ◌∷◌, length, slice_index, slice_index_or}
-use Rattle.geos_model.specs.Block.{entry, entries, table_end}
-use Rattle.geos_model.specs.Heap.{IsHeap}
+use Rattle.geos_terms.specs.Block.{entry, entries, table_end}
+use Rattle.geos_terms.specs.Heap.{IsHeap}
 use Rattle.lmem_heap.specs.declared.slides.Slide.{Slide}
 
 -- an entry, where these runs have moved

@@ -1,8 +1,8 @@
 //! Chunks that come and go.
 ghost use Rattle.std.specs.Prelude.{◌≡◌, ◌≢◌, ℕ, ◌<◌, ◌≤◌, length, IfErr, IfOk, IsSome, OnErr, OnOk};
-ghost use Rattle.geos_model.specs.Chunks.{chunk_of, lowest_entry, need, new_handle, used_bytes, with_entry, with_new, without};
-ghost use Rattle.geos_model.specs.Block.{chunks, entries, entry, handle_word};
-ghost use Rattle.geos_model.specs.Heap.{IsHeap};
+ghost use Rattle.geos_terms.specs.Chunks.{chunk_of, lowest_entry, need, new_handle, used_bytes, with_entry, with_new, without};
+ghost use Rattle.geos_terms.specs.Block.{chunks, entries, entry, handle_word};
+ghost use Rattle.geos_terms.specs.Heap.{IsHeap};
 ghost use Rattle.lmem_heap.specs.Refusals.{IsRoomError};
 
 use crate::chunks::{new_chunk, release_chunk};

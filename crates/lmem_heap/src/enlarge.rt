@@ -1,7 +1,7 @@
 //! Blocks that got longer.
 ghost use Rattle.std.specs.Prelude.{◌≡◌, ◌≤◌, length, take};
-ghost use Rattle.geos_model.specs.Block.{chunks, handle_word};
-ghost use Rattle.geos_model.specs.Heap.{IsBlockSize, IsHeap};
+ghost use Rattle.geos_terms.specs.Block.{chunks, handle_word};
+ghost use Rattle.geos_terms.specs.Heap.{IsBlockSize, IsHeap};
 
 use crate::holes::Hole;
 use lmem_block::{BLOCK_SIZE, put16};

@@ -7,7 +7,7 @@
 //! heap is in `lmem_block`, and stands here too. (GEOS SDK Concepts Book, chapter Local Memory.)
 #![tactic(auto)]
 
-ghost use Rattle.geos_model.specs.Writes.{WritesStayInTheirChunk};
+ghost use Rattle.geos_terms.specs.Writes.{WritesStayInTheirChunk};
 
 mod allocate;
 mod chunks;

@@ -1,13 +1,13 @@
 //! Whether a block has room.
 ghost use Rattle.std.specs.Prelude.{◌≡◌, ◌≢◌, ℕ, ◌+◌, ◌%◌, ◌<◌, ◌≤◌, List, length, slice_set, MatchResult};
-ghost use Rattle.geos_model.specs.Chunks.{lowest_entry, sixteens, used_bytes, with_new};
-ghost use Rattle.geos_model.specs.Block.{chunks, entries, entry};
-ghost use Rattle.geos_model.specs.Heap.{IsBlockSize, IsHeap};
+ghost use Rattle.geos_terms.specs.Chunks.{lowest_entry, sixteens, used_bytes, with_new};
+ghost use Rattle.geos_terms.specs.Block.{chunks, entries, entry};
+ghost use Rattle.geos_terms.specs.Heap.{IsBlockSize, IsHeap};
 ghost use Rattle.lmem_heap.specs.Refusals.{IsRoomError};
 
 use crate::chunks::cost;
 use crate::error::RoomError;
-use geos_model::MOST_BLOCK_BYTES;
+use geos_terms::MOST_BLOCK_BYTES;
 use lmem_block::{TOTAL_FREE, entries, get16, place_of_entry};
 
 /// Whether a block of this size has room for so many bytes; else how large it must be.

@@ -1,7 +1,7 @@
 //! Chunks that move within a block.
 ghost use Rattle.std.specs.Prelude.{◌≡◌, ℕ, ◌+◌, ◌-◌, ◌≤◌, length};
-ghost use Rattle.geos_model.specs.Block.{entries, table_end};
-ghost use Rattle.geos_model.specs.Heap.{most_block_bytes};
+ghost use Rattle.geos_terms.specs.Block.{entries, table_end};
+ghost use Rattle.geos_terms.specs.Heap.{most_block_bytes};
 ghost use Rattle.lmem_heap.specs.Moves.{entry_moved, MapsEntries, MovesRun};
 
 use lmem_block::{entries, entry, move_bytes, put_entry};

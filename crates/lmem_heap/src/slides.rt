@@ -1,6 +1,6 @@
 //! Runs of chunks that have moved, while the table still says where they stood.
 ghost use Rattle.std.specs.Prelude.{◌≡◌, ℕ, ◌+◌, ◌<◌, ◌≤◌, ◌⊎◌, false, length, IsTrue};
-ghost use Rattle.geos_model.specs.Block.{entries, entry, entry_offset, table_end};
+ghost use Rattle.geos_terms.specs.Block.{entries, entry, entry_offset, table_end};
 ghost use Rattle.lmem_heap.specs.Moves.{entry_moved, MapsEntries};
 ghost use Rattle.lmem_heap.specs.Slides.{AreInOrder, entry_slid, run_at};
 

@@ -1,8 +1,8 @@
 //! The table of chunk handles.
 ghost use Rattle.std.specs.Prelude.{◌≡◌, ◌≢◌, ℕ, ◌+◌, ◌*◌, ◌<◌, ◌≤◌, [], ◌∷◌, ◌++◌, length, IsTrue};
-ghost use Rattle.geos_model.specs.Chunks.{lowest_entry};
-ghost use Rattle.geos_model.specs.Block.{chunks, entries, entry, entry_offset, handle_word, table_end, total_free};
-ghost use Rattle.geos_model.specs.Heap.{IsHeap};
+ghost use Rattle.geos_terms.specs.Chunks.{lowest_entry};
+ghost use Rattle.geos_terms.specs.Block.{chunks, entries, entry, entry_offset, handle_word, table_end, total_free};
+ghost use Rattle.geos_terms.specs.Heap.{IsHeap};
 ghost use Rattle.lmem_heap.specs.Packed.{GrowsTable, IsPacked};
 
 use crate::runs::move_run;

@@ -1,7 +1,7 @@
 //! The free bytes at the end of a packed heap.
 ghost use Rattle.std.specs.Prelude.{◌≡◌, ◌-◌, ◌%◌, ◌≤◌, length};
-ghost use Rattle.geos_model.specs.Block.{chunks, handle_word};
-ghost use Rattle.geos_model.specs.Heap.{IsHeap, most_block_bytes};
+ghost use Rattle.geos_terms.specs.Block.{chunks, handle_word};
+ghost use Rattle.geos_terms.specs.Heap.{IsHeap, most_block_bytes};
 ghost use Rattle.lmem_heap.specs.Packed.{chunks_end, IsPacked, SetsTail};
 
 use crate::compact::contract;

@@ -5,15 +5,15 @@ use Rattle.std.specs.List.{range_with_len}
 use Rattle.std.proofs.lemmas.List.{length-map}
 use Rattle.std.proofs.lemmas.List.Elements.{All-drop, All-nil, All-take}
 use Rattle.std.proofs.lemmas.List.FromFn.{length-map-range_with_len}
-use Rattle.geos_model.specs.Bytes.{AreBytes}
-use Rattle.geos_table.specs.Directories.{KeptBlock, idle_block, with_each}
-use Rattle.geos_model.specs.Names.{group_uid}
-use Rattle.geos_table.specs.Directories as model
-use Rattle.geos_table.specs.Handles.{at_handle}
-use Rattle.geos_table.specs.Legal.{ArePairs, IsLegalKept, IsPair, IsStored}
-use Rattle.geos_table.specs.VmFile.{Kept, Sure, Unsure}
-use Rattle.geos_table.proofs.HandleLists.{entry-each}
-use Rattle.geos_table.proofs.LegalDirectories.{loaded-legal}
+use Rattle.geos_terms.specs.Bytes.{AreBytes}
+use Rattle.geos_calls.specs.Directories.{KeptBlock, idle_block, with_each}
+use Rattle.geos_terms.specs.Names.{group_uid}
+use Rattle.geos_calls.specs.Directories as model
+use Rattle.geos_calls.specs.Handles.{at_handle}
+use Rattle.geos_calls.specs.Legal.{ArePairs, IsLegalKept, IsPair, IsStored}
+use Rattle.geos_calls.specs.VmFile.{Kept, Sure, Unsure}
+use Rattle.geos_calls.proofs.HandleLists.{entry-each}
+use Rattle.geos_calls.proofs.LegalDirectories.{loaded-legal}
 use Rattle.block_handles.specs.Names.{IsHandle}
 use Rattle.block_handles.specs.Store.{Store, block_at}
 use Rattle.vm_file.specs.Device.{Medium}
@@ -26,7 +26,7 @@ use Rattle.vm_file.specs.Reading.{area_of, base_of, pair_at}
 use Rattle.vm_file.specs.Spelling.{empty_contents}
 use Rattle.vm_file.specs.State.{bytes_of_block, pair_of}
 use Rattle.vm_file.proofs.DirectoryLaws.{found_entry, legal_from}
-use Rattle.geos_model.proofs.HeapTests.{both}
+use Rattle.geos_terms.proofs.HeapTests.{both}
 use Rattle.vm_file.proofs.ReadLaws.{pair_ok}
 use Rattle.vm_blocks.specs.declared.entries.Held.{Held}
 use Rattle.vm_blocks.specs.View.{VmState, bytes_read, held_at, vm_slot}

@@ -2,16 +2,16 @@
 use Rattle.std.proofs.Common.{◌≡◌, ℕ, ◌<◌, List, [], Option, Some, None, Bool, true, false, refl, sym, ap, ◌∙◌, subst, inl, inr}
 use Rattle.std.specs.Prelude.{Result, Ok, Err, OnErr, is_none, option_map}
 use Rattle.std.proofs.lemmas.List.Elements.{All-nil}
-use Rattle.geos_model.specs.Names.{vm}
-use Rattle.geos_model.specs.declared.refusal.Refusal.TheVariants as refusal
-use Rattle.geos_table.specs.Blocks as model
-use Rattle.geos_table.specs.Directories.{VmBlock, is_held_in}
-use Rattle.geos_table.specs.Effects.{Choice, effect_of, outcome}
-use Rattle.geos_table.specs.Given.{given_memory}
-use Rattle.geos_table.specs.Legal.{AreBytes}
-use Rattle.geos_table.specs.Memory.{Memory, listed_at, size_of}
-use Rattle.geos_table.specs.Tight.{is_tight}
-use Rattle.geos_table.specs.VmCalls.{bring}
+use Rattle.geos_terms.specs.Names.{vm}
+use Rattle.geos_terms.specs.declared.refusal.Refusal.TheVariants as refusal
+use Rattle.geos_calls.specs.Blocks as model
+use Rattle.geos_calls.specs.Directories.{VmBlock, is_held_in}
+use Rattle.geos_calls.specs.Effects.{Choice, effect_of, outcome}
+use Rattle.geos_calls.specs.Given.{given_memory}
+use Rattle.geos_calls.specs.Legal.{AreBytes}
+use Rattle.geos_calls.specs.Memory.{Memory, listed_at, size_of}
+use Rattle.geos_calls.specs.Tight.{is_tight}
+use Rattle.geos_calls.specs.VmCalls.{bring}
 use Rattle.block_handles.specs.Names.{IsHandle}
 use Rattle.block_handles.specs.Store.{Block, Store, block_at, bytes_in, bytes_of, IsBlock, IsThere, locks_in, locks_of}
 use Rattle.vm_file.specs.Device.{Medium, Rose}

@@ -1,10 +1,10 @@
 -- Calls that may bring a block into memory, or lock one, put together.
 use Rattle.std.proofs.Common.{◌≡◌, ◌≢◌, ◌∙◌, ℕ, ◌+◌, None, Some, refl, sym, ap, subst, arith, inl, inr}
 use Rattle.std.specs.Prelude.{◌↔◌, IfSome, OnErr, OnOk, Result, Ok, Err}
-use Rattle.geos_model.specs.Names.{vm}
-use Rattle.geos_model.specs.declared.refusal.Refusal.TheVariants as refusal
-use Rattle.geos_table.specs.Legal.{AreBytes}
-use Rattle.geos_table.specs.VmCalls.{bring}
+use Rattle.geos_terms.specs.Names.{vm}
+use Rattle.geos_terms.specs.declared.refusal.Refusal.TheVariants as refusal
+use Rattle.geos_calls.specs.Legal.{AreBytes}
+use Rattle.geos_calls.specs.VmCalls.{bring}
 use Rattle.block_handles.specs.Change.{with_locks}
 use Rattle.block_handles.specs.Names.{IsHandle}
 use Rattle.block_handles.specs.Store.{Store, IsBlock, IsThere, block_at, bytes_of, locks_in, locks_of}

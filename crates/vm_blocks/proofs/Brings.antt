@@ -3,7 +3,7 @@ use Rattle.std.proofs.Common.{◌≡◌, ◌≢◌, ℕ, zero, suc, ◌<◌, Lis
 use Rattle.std.specs.Prelude.{◌⊎◌, ◌↔◌, Result, Err, OnOk}
 use Rattle.std.proofs.lemmas.Bool.{cases_eq, cases_lt}
 use Rattle.std.proofs.lemmas.List.{get_or-set_same, get_or-set_other, get_or_past, length-replicate}
-use Rattle.geos_model.specs.declared.name.Name.{Name}
+use Rattle.geos_terms.specs.declared.name.Name.{Name}
 use Rattle.lmem_raw.proofs.Parts.{with_whole}
 use Rattle.block_handles.specs.declared.error.HandleError.{HandleError}
 use Rattle.block_handles.specs.declared.error.HandleError.TheVariants.{BadHandle, Locked}
@@ -15,7 +15,7 @@ use Rattle.block_handles.proofs.Laws.{laid-without, laid-with_bytes, others-same
 use Rattle.vm_file.specs.Device.{Medium}
 use Rattle.vm_file.specs.State.{FileState, HasBlock, bytes_of_block, pair_of}
 use Rattle.vm_blocks.specs.declared.entries.Held.{Held}
-use Rattle.geos_model.specs.Names.{vm}
+use Rattle.geos_terms.specs.Names.{vm}
 use Rattle.vm_blocks.specs.View.{VmState, bytes_read, held_at, vm_slot}
 use Rattle.vm_blocks.specs.Tied.{IsTied, IsAbsent, TiedAt}
 use Rattle.vm_blocks.specs.Room.{DiscardsAndMakes, Goes, StaysOrGoes, is_idle}

@@ -1,15 +1,15 @@
 -- The model's memory stays tied where one block of the file changes.
 use Rattle.std.proofs.Common.{◌≡◌, ◌≢◌, ℕ, ◌<◌, Option, Some, None, Bool, refl, sym, ap, ◌∙◌, subst, arith, inl, inr}
 use Rattle.std.specs.Prelude.{IfSome, option_map}
-use Rattle.geos_model.specs.Names.{vm}
-use Rattle.geos_table.specs.Blocks.{Block as ModelBlock}
-use Rattle.geos_table.specs.Directories.{VmBlock, Directory, relisted, marked_block}
-use Rattle.geos_table.specs.Handles.{at_handle, with_entry_at}
-use Rattle.geos_table.specs.Legal.{IsLegalBlock, IsLegalListed, IsCurrent}
-use Rattle.geos_table.specs.Memory.{Memory, listed_at, with_cur, with_mark, with_block, block_of}
-use Rattle.geos_table.specs.Given.{given_memory}
-use Rattle.geos_table.proofs.LegalDirectories.{entry-legal}
-use Rattle.geos_table.proofs.NamedBlocks.{changed_in, relisted-changed}
+use Rattle.geos_terms.specs.Names.{vm}
+use Rattle.geos_calls.specs.Blocks.{Block as ModelBlock}
+use Rattle.geos_calls.specs.Directories.{VmBlock, Directory, relisted, marked_block}
+use Rattle.geos_calls.specs.Handles.{at_handle, with_entry_at}
+use Rattle.geos_calls.specs.Legal.{IsLegalBlock, IsLegalListed, IsCurrent}
+use Rattle.geos_calls.specs.Memory.{Memory, listed_at, with_cur, with_mark, with_block, block_of}
+use Rattle.geos_calls.specs.Given.{given_memory}
+use Rattle.geos_calls.proofs.LegalDirectories.{entry-legal}
+use Rattle.geos_calls.proofs.NamedBlocks.{changed_in, relisted-changed}
 use Rattle.block_handles.specs.Names.{IsHandle}
 use Rattle.block_handles.specs.Store.{Block, Store, block_at}
 use Rattle.vm_file.specs.Device.{Medium}

@@ -1,15 +1,15 @@
 -- A commit does its row.
 use Rattle.std.proofs.Common.{◌≡◌, None, Bool, true, false, refl, sym, ap, ◌∙◌, subst, inl, inr}
 use Rattle.std.specs.Prelude.{not, nat_lt, Result, Ok, Err, OnOk, OnErr}
-use Rattle.geos_model.specs.declared.refusal.Refusal.TheVariants as refusal
-use Rattle.geos_table.specs.Effects.{effect_of, outcome}
-use Rattle.geos_table.specs.Handles.{at_handle}
-use Rattle.geos_table.specs.Legal.{ArePairs}
-use Rattle.geos_table.specs.Memory.{Memory}
-use Rattle.geos_table.specs.VmCalls.{commit, committed, faulted, pair_to_keep}
-use Rattle.geos_table.specs.VmFile as model_file
-use Rattle.geos_table.proofs.LegalDirectories.{doubted-legal}
-use Rattle.geos_table.specs.VmFile.{Kept, Sure, Unsure, VmFile, doubted}
+use Rattle.geos_terms.specs.declared.refusal.Refusal.TheVariants as refusal
+use Rattle.geos_calls.specs.Effects.{effect_of, outcome}
+use Rattle.geos_calls.specs.Handles.{at_handle}
+use Rattle.geos_calls.specs.Legal.{ArePairs}
+use Rattle.geos_calls.specs.Memory.{Memory}
+use Rattle.geos_calls.specs.VmCalls.{commit, committed, faulted, pair_to_keep}
+use Rattle.geos_calls.specs.VmFile as model_file
+use Rattle.geos_calls.proofs.LegalDirectories.{doubted-legal}
+use Rattle.geos_calls.specs.VmFile.{Kept, Sure, Unsure, VmFile, doubted}
 use Rattle.block_handles.specs.Store.{Store, block_at}
 use Rattle.vm_file.specs.Device.{Medium}
 use Rattle.vm_file.specs.declared.commit.How.{How}

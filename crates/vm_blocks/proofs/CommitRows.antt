@@ -4,13 +4,13 @@ use Rattle.std.specs.Prelude.{◌==◌, find, option_map, unwrap_or, IfSome}
 use Rattle.std.specs.List.{flat_map, range_with_len}
 use Rattle.std.proofs.lemmas.Bool.{cases_eq}
 use Rattle.std.proofs.lemmas.Bool.Decides.{nat_tests}
-use Rattle.geos_table.specs.Directories.{VmBlock, kept_block}
-use Rattle.geos_table.specs.Handles.{at_handle}
-use Rattle.geos_table.specs.Legal.{IsLegalListed, IsPair}
-use Rattle.geos_table.specs.Memory.{Memory, listed_at}
-use Rattle.geos_table.specs.VmCalls.{pair_to_keep, written_directory}
-use Rattle.geos_table.proofs.HandleLists.{entry-each}
-use Rattle.geos_table.proofs.LegalDirectories.{written-legal}
+use Rattle.geos_calls.specs.Directories.{VmBlock, kept_block}
+use Rattle.geos_calls.specs.Handles.{at_handle}
+use Rattle.geos_calls.specs.Legal.{IsLegalListed, IsPair}
+use Rattle.geos_calls.specs.Memory.{Memory, listed_at}
+use Rattle.geos_calls.specs.VmCalls.{pair_to_keep, written_directory}
+use Rattle.geos_calls.proofs.HandleLists.{entry-each}
+use Rattle.geos_calls.proofs.LegalDirectories.{written-legal}
 use Rattle.std.proofs.lemmas.List.{length-map}
 use Rattle.block_handles.specs.Names.{IsHandle}
 use Rattle.block_handles.specs.Store.{Block, Store, block_at}

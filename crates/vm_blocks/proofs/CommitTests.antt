@@ -1,11 +1,11 @@
 -- The refusals of a commit are those of its row.
 use Rattle.std.proofs.Common.{◌≡◌, ℕ, ◌+◌, ◌<◌, [], Bool, true, false, refl, sym, ap, ◌∙◌, arith}
 use Rattle.std.specs.Prelude.{not, nat_lt}
-use Rattle.geos_table.specs.Effects.{Choice}
-use Rattle.geos_table.specs.Memory.{Memory}
-use Rattle.geos_table.specs.VmCalls.{pair_to_keep}
-use Rattle.geos_table.specs.VmFile as model_file
-use Rattle.geos_table.specs.VmFile.{Kept, Sure, Unsure, is_unsure, pair_length}
+use Rattle.geos_calls.specs.Effects.{Choice}
+use Rattle.geos_calls.specs.Memory.{Memory}
+use Rattle.geos_calls.specs.VmCalls.{pair_to_keep}
+use Rattle.geos_calls.specs.VmFile as model_file
+use Rattle.geos_calls.specs.VmFile.{Kept, Sure, Unsure, is_unsure, pair_length}
 use Rattle.block_handles.specs.Store.{Store}
 use Rattle.vm_file.specs.Device.{Medium}
 use Rattle.vm_file.specs.declared.commit.How.{How}

@@ -1,13 +1,13 @@
 -- A commit that succeeded does its row.
 use Rattle.std.proofs.Common.{◌≡◌, ℕ, ◌<◌, List, Option, Some, None, true, false, refl, sym, ap, ◌∙◌, subst, arith}
 use Rattle.std.specs.Prelude.{option_map}
-use Rattle.geos_table.specs.Directories.{VmBlock, KeptBlock, kept_block, idle_block, with_each}
-use Rattle.geos_table.specs.Handles.{at_handle}
-use Rattle.geos_table.specs.Memory.{Memory, listed_at}
-use Rattle.geos_table.specs.VmCalls.{pair_to_keep, written_directory}
-use Rattle.geos_table.specs.VmFile as model_file
-use Rattle.geos_table.proofs.HandleLists.{entry-each}
-use Rattle.geos_table.proofs.LegalDirectories.{loaded-legal}
+use Rattle.geos_calls.specs.Directories.{VmBlock, KeptBlock, kept_block, idle_block, with_each}
+use Rattle.geos_calls.specs.Handles.{at_handle}
+use Rattle.geos_calls.specs.Memory.{Memory, listed_at}
+use Rattle.geos_calls.specs.VmCalls.{pair_to_keep, written_directory}
+use Rattle.geos_calls.specs.VmFile as model_file
+use Rattle.geos_calls.proofs.HandleLists.{entry-each}
+use Rattle.geos_calls.proofs.LegalDirectories.{loaded-legal}
 use Rattle.std.proofs.lemmas.List.{length-map}
 use Rattle.block_handles.specs.Names.{IsHandle}
 use Rattle.block_handles.specs.Layout.{IsLaidOut}
@@ -27,7 +27,7 @@ use Rattle.vm_blocks.specs.Spelled.{heap_in, heap_read}
 use Rattle.vm_blocks.specs.Matches.{IsListedAs, IsStoredAs, IsPairOf, entry_at}
 use Rattle.vm_blocks.specs.FileOf.{IsCurrentOf, IsMemoryOf}
 use Rattle.vm_blocks.proofs.Matching.{pair-on}
-use Rattle.geos_table.specs.VmCalls.{committed}
+use Rattle.geos_calls.specs.VmCalls.{committed}
 use Rattle.vm_blocks.specs.ListedCalls.{keeper_of}
 use Rattle.vm_blocks.proofs.Files.{slots-same}
 use Rattle.vm_blocks.proofs.Slots.{slot-is}

@@ -5,8 +5,8 @@ use Rattle.std.specs.List.{find, flat_map, list_any, range_with_len}
 use Rattle.std.proofs.Math.Dec.{eqb, leb, ltb}
 use Rattle.std.proofs.lemmas.Bool.{cases_eq, cases_lt, eq-eqb, le-leb, lt-ltb, ne_eqb}
 use Rattle.std.proofs.lemmas.List.{get_or_past}
-use Rattle.geos_table.specs.Handles.{at_handle}
-use Rattle.geos_model.specs.Heap.{IsBlockSize, is_block_size}
+use Rattle.geos_calls.specs.Handles.{at_handle}
+use Rattle.geos_terms.specs.Heap.{IsBlockSize, is_block_size}
 use Rattle.block_handles.specs.Names.{IsHandle}
 use Rattle.block_handles.specs.Store.{Block, Store, block_at, bytes_in, IsBlock}
 use Rattle.vm_file.specs.Device.{Medium}
@@ -16,7 +16,7 @@ use Rattle.vm_file.specs.Committing.{block_from}
 use Rattle.vm_file.specs.Directories.{are_entries, has_block, has_group, is_directory, is_entry}
 use Rattle.vm_file.specs.State.{HasBlock, bytes_of_block}
 use Rattle.vm_file.proofs.DirectoryLaws.{bytes_found, legal_to}
-use Rattle.geos_model.proofs.HeapTests.{and-true}
+use Rattle.geos_terms.proofs.HeapTests.{and-true}
 use Rattle.vm_blocks.specs.declared.entries.Held.{Held}
 use Rattle.vm_blocks.specs.View.{VmState, held_at, vm_slot}
 use Rattle.vm_blocks.specs.Tied.{IsTied, TiedAt}

@@ -1,14 +1,14 @@
 -- One block that is discarded.
 use Rattle.std.proofs.Common.{◌≡◌, ◌≢◌, ℕ, ◌<◌, true, sym, ap, ◌∙◌, subst}
 use Rattle.std.specs.Prelude.{◌↔◌, Result, Err, OnOk}
-use Rattle.geos_model.specs.declared.name.Name.{Name}
+use Rattle.geos_terms.specs.declared.name.Name.{Name}
 use Rattle.block_handles.specs.declared.error.HandleError.{HandleError}
 use Rattle.block_handles.specs.declared.error.HandleError.TheVariants.{BadHandle, Locked}
 use Rattle.block_handles.specs.Change.{without}
 use Rattle.block_handles.specs.Layout.{IsLaidOut}
 use Rattle.block_handles.specs.Names.{IsHandle, slot_of}
 use Rattle.block_handles.specs.Store.{Store, IsBlock, IsThere, locks_in, locks_of, block_at}
-use Rattle.geos_model.specs.Names.{vm}
+use Rattle.geos_terms.specs.Names.{vm}
 use Rattle.vm_blocks.specs.View.{VmState, held_at, vm_slot}
 use Rattle.vm_blocks.specs.Room.{Thins, is_idle, there_count}
 use Rattle.vm_blocks.proofs.Slots.{idle, freed, count-gone}

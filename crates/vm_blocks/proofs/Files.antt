@@ -3,12 +3,12 @@ use Rattle.std.proofs.Common.{◌≡◌, ◌≢◌, ℕ, ◌<◌, length, map, t
 use Rattle.std.specs.Prelude.{IfSome, not}
 use Rattle.std.proofs.lemmas.Bool.{cases_eq}
 use Rattle.std.proofs.lemmas.List.{ext_get_or, get_or-take}
-use Rattle.geos_table.specs.Directories.{VmBlock, Directory}
-use Rattle.geos_table.specs.Handles.{at_handle, with_entry_at}
-use Rattle.geos_table.specs.Legal.{IsLegalListed, IsCurrent}
-use Rattle.geos_table.specs.VmFile.{VmFile, Kept, Sure, Unsure}
-use Rattle.geos_table.proofs.HandleLists.{length-with_entry_at}
-use Rattle.geos_table.proofs.Laws.{entry-other}
+use Rattle.geos_calls.specs.Directories.{VmBlock, Directory}
+use Rattle.geos_calls.specs.Handles.{at_handle, with_entry_at}
+use Rattle.geos_calls.specs.Legal.{IsLegalListed, IsCurrent}
+use Rattle.geos_calls.specs.VmFile.{VmFile, Kept, Sure, Unsure}
+use Rattle.geos_calls.proofs.HandleLists.{length-with_entry_at}
+use Rattle.geos_calls.proofs.Laws.{entry-other}
 use Rattle.block_handles.specs.Layout.{IsLaidOut}
 use Rattle.block_handles.specs.Names.{IsHandle}
 use Rattle.block_handles.specs.Store.{Block, Store, block_at}

@@ -1,8 +1,8 @@
 -- What `open` finds is what the model has as kept.
 use Rattle.std.proofs.Common.{◌≡◌, ◌∙◌, ℕ, List, Ok, refl, ap, subst, inl, inr}
 use Rattle.std.specs.Prelude.{◌⊎◌, MatchBool}
-use Rattle.geos_table.specs.VmFile.{Kept, Sure, Unsure}
-use Rattle.geos_table.specs.VmFile as model_file
+use Rattle.geos_calls.specs.VmFile.{Kept, Sure, Unsure}
+use Rattle.geos_calls.specs.VmFile as model_file
 use Rattle.vm_file.specs.Contents.{Pair, listed}
 use Rattle.vm_file.specs.Device.{Medium}
 use Rattle.vm_file.specs.Kept.{or_empty}

@@ -1,15 +1,15 @@
 -- A block that is freed does its row.
 use Rattle.std.proofs.Common.{◌≡◌, ℕ, zero, suc, inl, ◌<◌, [], Some, None, Bool, true, false, refl, sym, ap, ◌∙◌, subst, arith}
 use Rattle.std.specs.Prelude.{◌==◌, Ok, Err, nat_lt, if◌then◌else◌}
-use Rattle.geos_model.specs.Names.{vm}
-use Rattle.geos_model.specs.declared.refusal.Refusal.TheVariants as refusal
-use Rattle.geos_table.specs.Directories.{VmBlock}
-use Rattle.geos_table.specs.Legal.{IsLegalListed}
-use Rattle.geos_table.specs.Memory as memory
-use Rattle.geos_table.specs.Memory.{Memory}
-use Rattle.geos_table.specs.VmCalls.{without_listed}
-use Rattle.geos_table.proofs.LegalDirectories.{removed-legal}
-use Rattle.geos_table.proofs.Laws.{entry-other}
+use Rattle.geos_terms.specs.Names.{vm}
+use Rattle.geos_terms.specs.declared.refusal.Refusal.TheVariants as refusal
+use Rattle.geos_calls.specs.Directories.{VmBlock}
+use Rattle.geos_calls.specs.Legal.{IsLegalListed}
+use Rattle.geos_calls.specs.Memory as memory
+use Rattle.geos_calls.specs.Memory.{Memory}
+use Rattle.geos_calls.specs.VmCalls.{without_listed}
+use Rattle.geos_calls.proofs.LegalDirectories.{removed-legal}
+use Rattle.geos_calls.proofs.Laws.{entry-other}
 use Rattle.block_handles.specs.Layout.{IsLaidOut}
 use Rattle.block_handles.specs.Names.{IsHandle}
 use Rattle.block_handles.specs.Store.{Store, block_at, locks_of}

@@ -3,8 +3,8 @@ use Rattle.std.proofs.Common.{◌≡◌, ◌≢◌, ◌∙◌, ℕ, ◌+◌, ◌
 use Rattle.std.specs.Prelude.{◌↔◌, Result, Ok, Err, OnOk, OnErr}
 use Rattle.std.proofs.lemmas.Bool.{cases_eq, cases_lt}
 use Rattle.std.proofs.lemmas.List.{get_or-set_other, get_or_past}
-use Rattle.geos_model.specs.declared.name.Name.{Name}
-use Rattle.geos_model.specs.Names.{vm}
+use Rattle.geos_terms.specs.declared.name.Name.{Name}
+use Rattle.geos_terms.specs.Names.{vm}
 use Rattle.block_handles.specs.declared.error.HandleError.{HandleError}
 use Rattle.block_handles.specs.declared.error.HandleError.TheVariants.{BadHandle, Locked}
 use Rattle.block_handles.specs.Change.{without}

@@ -7,16 +7,16 @@ use Rattle.std.specs.Str.{bytes_eq}
 use Rattle.std.proofs.lemmas.Bool.{cases_eq}
 use Rattle.std.proofs.lemmas.List.{length-replicate}
 use Rattle.std.proofs.lemmas.Slice.Eq.{bytes_eq-Decides, slice_eq-Decides}
-use Rattle.geos_model.specs.Block.{chunks}
-use Rattle.geos_table.specs.Blocks as model
-use Rattle.geos_table.specs.Directories.{VmBlock, is_held}
-use Rattle.geos_table.specs.Given.{can_hold, given_chunks, given_entry, given_entries}
-use Rattle.geos_table.specs.Handles.{at_handle, with_entry_at}
-use Rattle.geos_table.specs.Legal.{IsLegalHeap}
-use Rattle.geos_table.specs.VmFile.{VmFile}
-use Rattle.geos_table.proofs.LegalDirectories.{none-listed}
-use Rattle.geos_table.proofs.LegalGiven.{listed-given, directory-given}
-use Rattle.geos_table.proofs.Laws.{entry-other}
+use Rattle.geos_terms.specs.Block.{chunks}
+use Rattle.geos_calls.specs.Blocks as model
+use Rattle.geos_calls.specs.Directories.{VmBlock, is_held}
+use Rattle.geos_calls.specs.Given.{can_hold, given_chunks, given_entry, given_entries}
+use Rattle.geos_calls.specs.Handles.{at_handle, with_entry_at}
+use Rattle.geos_calls.specs.Legal.{IsLegalHeap}
+use Rattle.geos_calls.specs.VmFile.{VmFile}
+use Rattle.geos_calls.proofs.LegalDirectories.{none-listed}
+use Rattle.geos_calls.proofs.LegalGiven.{listed-given, directory-given}
+use Rattle.geos_calls.proofs.Laws.{entry-other}
 use Rattle.block_handles.specs.Names.{IsHandle}
 use Rattle.block_handles.specs.Store.{Block, Store, block_at}
 use Rattle.vm_file.specs.Device.{Medium}

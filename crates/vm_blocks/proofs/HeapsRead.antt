@@ -3,16 +3,16 @@ use Rattle.std.proofs.Common.{◌≡◌, ℕ, suc, ◌%◌, ◌<◌, ◌≤◌, 
 use Rattle.std.specs.Prelude.{All, ◌==◌, nat_le, if◌then◌else◌}
 use Rattle.std.specs.List.{list_all}
 use Rattle.std.proofs.lemmas.Bool.Decides.{nat_tests}
-use Rattle.geos_model.specs.Block.{chunks}
-use Rattle.geos_model.specs.Chunks.{need}
-use Rattle.geos_model.specs.Heap.{IsBlockSize, IsHeap}
-use Rattle.geos_table.specs.Blocks.{Heap}
-use Rattle.geos_table.specs.Given.{is_byte, is_chunk, can_hold}
-use Rattle.geos_table.specs.Legal.{AreBytes, IsChunk, IsLegalHeap}
-use Rattle.geos_table.proofs.LegalBlocks.{new_heap-legal}
-use Rattle.geos_table.proofs.LegalGiven.{can_hold-legal}
-use Rattle.geos_table.proofs.LegalHeaps.{heap-legal}
-use Rattle.geos_model.proofs.HeapTests.{and-true}
+use Rattle.geos_terms.specs.Block.{chunks}
+use Rattle.geos_terms.specs.Chunks.{need}
+use Rattle.geos_terms.specs.Heap.{IsBlockSize, IsHeap}
+use Rattle.geos_calls.specs.Blocks.{Heap}
+use Rattle.geos_calls.specs.Given.{is_byte, is_chunk, can_hold}
+use Rattle.geos_calls.specs.Legal.{AreBytes, IsChunk, IsLegalHeap}
+use Rattle.geos_calls.proofs.LegalBlocks.{new_heap-legal}
+use Rattle.geos_calls.proofs.LegalGiven.{can_hold-legal}
+use Rattle.geos_calls.proofs.LegalHeaps.{heap-legal}
+use Rattle.geos_terms.proofs.HeapTests.{and-true}
 use Rattle.vm_blocks.specs.Spelled.{heap_in, heap_read, empty_heap}
 
 -- A test of a list holds where it holds of each item

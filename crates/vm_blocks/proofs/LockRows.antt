@@ -3,20 +3,20 @@ use Rattle.std.proofs.Common.{◌≡◌, ◌≢◌, ℕ, ◌+◌, ◌-◌, ◌<�
 use Rattle.std.specs.Prelude.{◌⊎◌, ◌==◌, Ok, Err, is_none, option_map}
 use Rattle.std.proofs.lemmas.Bool.{cases_lt}
 use Rattle.std.proofs.lemmas.Bool.Decides.{nat_tests}
-use Rattle.geos_model.specs.Names.{vm}
-use Rattle.geos_model.specs.Refusals.{first_refusal}
-use Rattle.geos_model.specs.declared.refusal.Refusal.{Refusal}
-use Rattle.geos_model.specs.declared.refusal.Refusal.TheVariants as refusal
-use Rattle.geos_table.specs.Blocks as model
-use Rattle.geos_table.specs.Blocks.{Block as ModelBlock, locked_block}
-use Rattle.geos_table.specs.Calls.{unlock}
-use Rattle.geos_table.specs.Directories.{VmBlock}
-use Rattle.geos_table.specs.Effects.{Choice, come_to, effect_of, unchanged, bringing}
-use Rattle.geos_table.specs.Given.{given_memory}
-use Rattle.geos_table.specs.Legal.{IsLegalBlock}
-use Rattle.geos_table.specs.Memory as memory
-use Rattle.geos_table.specs.Memory.{Memory, listed_at}
-use Rattle.geos_table.specs.VmCalls.{bring, vdirty}
+use Rattle.geos_terms.specs.Names.{vm}
+use Rattle.geos_terms.specs.Refusals.{first_refusal}
+use Rattle.geos_terms.specs.declared.refusal.Refusal.{Refusal}
+use Rattle.geos_terms.specs.declared.refusal.Refusal.TheVariants as refusal
+use Rattle.geos_calls.specs.Blocks as model
+use Rattle.geos_calls.specs.Blocks.{Block as ModelBlock, locked_block}
+use Rattle.geos_calls.specs.Calls.{unlock}
+use Rattle.geos_calls.specs.Directories.{VmBlock}
+use Rattle.geos_calls.specs.Effects.{Choice, come_to, effect_of, unchanged, bringing}
+use Rattle.geos_calls.specs.Given.{given_memory}
+use Rattle.geos_calls.specs.Legal.{IsLegalBlock}
+use Rattle.geos_calls.specs.Memory as memory
+use Rattle.geos_calls.specs.Memory.{Memory, listed_at}
+use Rattle.geos_calls.specs.VmCalls.{bring, vdirty}
 use Rattle.block_handles.specs.Change.{with_locks, with_lock_less}
 use Rattle.block_handles.specs.Names.{IsHandle}
 use Rattle.block_handles.specs.Store.{Block, Store, block_at, bytes_in, IsBlock, IsThere, locks_in, locks_of}
@@ -37,7 +37,7 @@ use Rattle.vm_blocks.specs.ListedCalls.{lock_listed}
 use Rattle.vm_blocks.proofs.BringRows.{chosen}
 use Rattle.vm_blocks.proofs.Changed.{listed-there, own-legal, memory-changed, memory-marked}
 use Rattle.vm_blocks.proofs.Tables.{handle-or, table-past, table-own}
-use Rattle.geos_table.proofs.Laws.{entry-other}
+use Rattle.geos_calls.proofs.Laws.{entry-other}
 
 -- A block that is in memory
 

@@ -2,12 +2,12 @@
 use Rattle.std.proofs.Common.{◌≡◌, ◌≢◌, ℕ, zero, suc, ◌<◌, [], Option, Some, None, true, false, not, ◌&&◌, refl, arith}
 use Rattle.std.specs.Prelude.{◌==◌, Ok, IsSomeAnd, is_none, option_map}
 use Rattle.std.proofs.lemmas.Bool.Decides.{nat_tests}
-use Rattle.geos_table.specs.Directories.{VmBlock, Directory, uid_in}
-use Rattle.geos_model.specs.Names.{group_uid}
-use Rattle.geos_table.specs.ItemCalls.{isetmap}
-use Rattle.geos_table.specs.Legal.{IsCurrent}
-use Rattle.geos_table.specs.Memory.{Memory, is_group, listed_at, with_cur}
-use Rattle.geos_table.specs.VmCalls.{vsetmap}
+use Rattle.geos_calls.specs.Directories.{VmBlock, Directory, uid_in}
+use Rattle.geos_terms.specs.Names.{group_uid}
+use Rattle.geos_calls.specs.ItemCalls.{isetmap}
+use Rattle.geos_calls.specs.Legal.{IsCurrent}
+use Rattle.geos_calls.specs.Memory.{Memory, is_group, listed_at, with_cur}
+use Rattle.geos_calls.specs.VmCalls.{vsetmap}
 use Rattle.block_handles.specs.Store.{Store}
 use Rattle.vm_file.specs.Device.{Medium}
 use Rattle.vm_blocks.specs.View.{VmState, held_at}

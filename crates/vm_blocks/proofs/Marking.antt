@@ -1,13 +1,13 @@
 -- A block that has changed in memory is marked behind it.
 use Rattle.std.proofs.Common.{◌≡◌, ◌≢◌, ◌∙◌, ℕ, Option, Some, None, true, refl, sym, ap, subst, inl, inr}
 use Rattle.std.specs.Prelude.{IfSome, option_map}
-use Rattle.geos_model.specs.Block.{handle_word}
-use Rattle.geos_model.specs.Heap.{IsHeap}
-use Rattle.geos_table.specs.Directories.{VmBlock, marked_block}
-use Rattle.geos_table.specs.Handles.{at_handle, with_entry_at}
-use Rattle.geos_table.specs.Legal.{IsLegalListed}
-use Rattle.geos_table.specs.Memory.{Memory, listed_at, with_mark}
-use Rattle.geos_table.proofs.LegalDirectories.{entry-legal}
+use Rattle.geos_terms.specs.Block.{handle_word}
+use Rattle.geos_terms.specs.Heap.{IsHeap}
+use Rattle.geos_calls.specs.Directories.{VmBlock, marked_block}
+use Rattle.geos_calls.specs.Handles.{at_handle, with_entry_at}
+use Rattle.geos_calls.specs.Legal.{IsLegalListed}
+use Rattle.geos_calls.specs.Memory.{Memory, listed_at, with_mark}
+use Rattle.geos_calls.proofs.LegalDirectories.{entry-legal}
 use Rattle.block_handles.specs.Names.{IsHandle}
 use Rattle.block_handles.specs.Store.{Block, Store, IsThere, block_at, bytes_in}
 use Rattle.vm_file.specs.Device.{Medium}

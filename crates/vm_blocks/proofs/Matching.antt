@@ -1,10 +1,10 @@
 -- Blocks of the model that match still do where less is known of the device.
 use Rattle.std.proofs.Common.{◌≡◌, ℕ, List, Option, Some, None, sym, ap, ◌∙◌}
-use Rattle.geos_table.specs.Blocks.{Heap}
-use Rattle.geos_table.specs.Directories.{VmBlock, KeptBlock}
-use Rattle.geos_table.specs.Directories as model
-use Rattle.geos_table.specs.Handles.{at_handle}
-use Rattle.geos_table.specs.VmFile as model_file
+use Rattle.geos_calls.specs.Blocks.{Heap}
+use Rattle.geos_calls.specs.Directories.{VmBlock, KeptBlock}
+use Rattle.geos_calls.specs.Directories as model
+use Rattle.geos_calls.specs.Handles.{at_handle}
+use Rattle.geos_calls.specs.VmFile as model_file
 use Rattle.block_handles.specs.Store as store
 use Rattle.vm_file.specs.declared.directory.Directory.{Directory}
 use Rattle.vm_file.specs.declared.directory.Entry.{Entry}

@@ -1,17 +1,17 @@
 -- The model's memory goes on where others change the region.
 use Rattle.std.proofs.Common.{◌≡◌, ◌≢◌, ℕ, ◌+◌, ◌-◌, Option, Some, None, true, false, refl, sym, ap, ◌∙◌, subst, arith}
 use Rattle.std.specs.Prelude.{IfSome, option_map}
-use Rattle.geos_model.specs.Names.{vm}
-use Rattle.geos_model.specs.declared.name.Owner.{Owner}
-use Rattle.geos_model.specs.declared.name.Owner.TheVariants.{Mem, Vm}
-use Rattle.geos_table.specs.Blocks.{Block as ModelBlock}
-use Rattle.geos_table.specs.Directories.{VmBlock, relisted}
-use Rattle.geos_table.specs.Handles.{at_handle, with_entry_at}
-use Rattle.geos_table.specs.Legal.{IsLegalListed}
-use Rattle.geos_table.specs.Memory.{Memory, listed_at, with_block}
-use Rattle.geos_table.specs.Tight.{is_tight}
-use Rattle.geos_table.specs.VmFile.{VmFile}
-use Rattle.geos_table.proofs.LegalDirectories.{entry-legal}
+use Rattle.geos_terms.specs.Names.{vm}
+use Rattle.geos_terms.specs.declared.name.Owner.{Owner}
+use Rattle.geos_terms.specs.declared.name.Owner.TheVariants.{Mem, Vm}
+use Rattle.geos_calls.specs.Blocks.{Block as ModelBlock}
+use Rattle.geos_calls.specs.Directories.{VmBlock, relisted}
+use Rattle.geos_calls.specs.Handles.{at_handle, with_entry_at}
+use Rattle.geos_calls.specs.Legal.{IsLegalListed}
+use Rattle.geos_calls.specs.Memory.{Memory, listed_at, with_block}
+use Rattle.geos_calls.specs.Tight.{is_tight}
+use Rattle.geos_calls.specs.VmFile.{VmFile}
+use Rattle.geos_calls.proofs.LegalDirectories.{entry-legal}
 use Rattle.block_handles.specs.Names.{IsHandle, slot_of}
 use Rattle.block_handles.specs.Store.{Block, Store, block_at}
 use Rattle.block_handles.specs.Stretch.{IsCrowded}

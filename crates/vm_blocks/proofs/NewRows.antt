@@ -3,19 +3,19 @@ use Rattle.std.proofs.Common.{◌≡◌, ℕ, zero, suc, ◌<◌, ◌≤◌, Lis
 use Rattle.std.specs.Prelude.{Result, Ok, Err, IfOk, OnErr, is_none, is_some, nat_lt}
 use Rattle.std.specs.List.{position_or_len}
 use Rattle.std.proofs.lemmas.List.Sums.{position_or_len_is}
-use Rattle.geos_model.specs.Block.{chunks}
-use Rattle.geos_model.specs.Names.{vm}
-use Rattle.geos_model.specs.declared.refusal.Refusal.TheVariants as refusal
-use Rattle.geos_table.specs.Directories.{VmBlock}
-use Rattle.geos_table.specs.Effects.{Choice}
-use Rattle.geos_table.specs.Handles.{at_handle, lowest_of}
-use Rattle.geos_table.specs.Legal.{IsLegalListed}
-use Rattle.geos_table.specs.Memory.{Memory, listed_at, with_listed}
-use Rattle.geos_table.specs.Tight.{is_tight}
-use Rattle.geos_table.specs.VmCalls.{makes_listed, new_listed}
-use Rattle.geos_table.proofs.LegalBlocks.{new_heap-legal}
-use Rattle.geos_table.proofs.LegalDirectories.{added-legal}
-use Rattle.geos_table.proofs.Laws.{entry-other}
+use Rattle.geos_terms.specs.Block.{chunks}
+use Rattle.geos_terms.specs.Names.{vm}
+use Rattle.geos_terms.specs.declared.refusal.Refusal.TheVariants as refusal
+use Rattle.geos_calls.specs.Directories.{VmBlock}
+use Rattle.geos_calls.specs.Effects.{Choice}
+use Rattle.geos_calls.specs.Handles.{at_handle, lowest_of}
+use Rattle.geos_calls.specs.Legal.{IsLegalListed}
+use Rattle.geos_calls.specs.Memory.{Memory, listed_at, with_listed}
+use Rattle.geos_calls.specs.Tight.{is_tight}
+use Rattle.geos_calls.specs.VmCalls.{makes_listed, new_listed}
+use Rattle.geos_calls.proofs.LegalBlocks.{new_heap-legal}
+use Rattle.geos_calls.proofs.LegalDirectories.{added-legal}
+use Rattle.geos_calls.proofs.Laws.{entry-other}
 use Rattle.block_handles.specs.Names.{IsHandle}
 use Rattle.block_handles.specs.Store.{Store, block_at}
 use Rattle.vm_file.specs.Device.{Medium}

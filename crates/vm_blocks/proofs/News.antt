@@ -3,7 +3,7 @@ use Rattle.std.proofs.Common.{◌≡◌, ◌≢◌, ◌∙◌, ℕ, ◌<◌, len
 use Rattle.std.specs.Prelude.{IsSomeAnd}
 use Rattle.std.proofs.lemmas.Bool.{cases_eq}
 use Rattle.std.proofs.lemmas.List.{length-replicate}
-use Rattle.geos_model.specs.Names.{vm, group_uid}
+use Rattle.geos_terms.specs.Names.{vm, group_uid}
 use Rattle.block_handles.specs.Change.{with_locks}
 use Rattle.block_handles.specs.Layout.{IsLaidOut}
 use Rattle.block_handles.specs.Names.{IsHandle}

@@ -5,7 +5,7 @@ use Rattle.block_handles.specs.declared.error.HandleError.{HandleError}
 use Rattle.block_handles.specs.declared.error.HandleError.TheVariants.{BadHandle, Locked}
 use Rattle.block_handles.specs.Change.{without}
 use Rattle.std.proofs.lemmas.Bool.Decides.{nat_tests}
-use Rattle.geos_model.specs.declared.name.Owner.TheVariants.{Vm}
+use Rattle.geos_terms.specs.declared.name.Owner.TheVariants.{Vm}
 use Rattle.block_handles.specs.Names.{IsHandle}
 use Rattle.block_handles.specs.Store.{Block, Store, IsBlock, IsThere, locks_of}
 use Rattle.block_handles.proofs.Laws.{slot_of-handle}

@@ -6,10 +6,10 @@ use Rattle.std.proofs.lemmas.Bool.{cases_eq}
 use Rattle.std.proofs.lemmas.Bool.Decides.{nat_tests}
 use Rattle.std.proofs.lemmas.List.{take_all}
 use Rattle.std.proofs.lemmas.List.FromFn.{length-map-range_with_len}
-use Rattle.geos_table.specs.Directories.{KeptBlock}
-use Rattle.geos_table.specs.Directories as model
-use Rattle.geos_table.specs.Handles.{at_handle}
-use Rattle.geos_table.specs.VmFile as model_file
+use Rattle.geos_calls.specs.Directories.{KeptBlock}
+use Rattle.geos_calls.specs.Directories as model
+use Rattle.geos_calls.specs.Handles.{at_handle}
+use Rattle.geos_calls.specs.VmFile as model_file
 use Rattle.block_handles.specs.Names.{IsHandle}
 use Rattle.block_handles.specs.Stretch.{total}
 use Rattle.vm_file.specs.declared.directory.Directory.{Directory}
@@ -18,7 +18,7 @@ use Rattle.vm_file.specs.Contents.{Block, Pair, listed}
 use Rattle.vm_file.specs.Directories.{is_directory, directory_length, entries_length, are_entries, is_entry}
 use Rattle.vm_file.specs.State.{bytes_of_block}
 use Rattle.vm_file.proofs.DirectoryLaws.{behind_from, legal_from, none_below, HasNone}
-use Rattle.geos_model.proofs.HeapTests.{both}
+use Rattle.geos_terms.proofs.HeapTests.{both}
 use Rattle.vm_blocks.specs.Matches.{IsStoredBlock, IsStoredAs, IsDirectoryOf, IsPairOf, entry_at, stored_block, stored_directory, stored, stored_pair}
 use Rattle.vm_blocks.proofs.HeapsRead.{read-size}
 use Rattle.vm_blocks.proofs.Tables.{table-made, table-same}

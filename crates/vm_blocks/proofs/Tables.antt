@@ -5,8 +5,8 @@ use Rattle.std.specs.List.{range_with_len}
 use Rattle.std.proofs.lemmas.Bool.{cases_lt}
 use Rattle.std.proofs.lemmas.List.{ext_get_or, get_or_past}
 use Rattle.std.proofs.lemmas.List.FromFn.{get_or-map-range_with_len}
-use Rattle.geos_table.specs.Handles.{at_handle, with_entry_at}
-use Rattle.geos_table.proofs.Laws.{entry-same}
+use Rattle.geos_calls.specs.Handles.{at_handle, with_entry_at}
+use Rattle.geos_calls.proofs.Laws.{entry-same}
 use Rattle.block_handles.specs.Names.{IsHandle}
 
 module _ {X : Type 0} (d : X) where

@@ -6,14 +6,14 @@ use Rattle.std.proofs.lemmas.Bool.{cases_eq, cases_lt}
 use Rattle.std.proofs.lemmas.Bool.Decides.{nat_tests}
 use Rattle.std.proofs.lemmas.List.{length-map, take_more, take_all, get_or-map, get_or-take, get_or_append_left, get_or-append-add}
 use Rattle.std.proofs.lemmas.List.Sums.{sum_by_push}
-use Rattle.geos_model.specs.Names.{mem, vm}
-use Rattle.geos_table.specs.Blocks as model
-use Rattle.geos_table.specs.Directories.{VmBlock, is_held}
-use Rattle.geos_table.specs.Handles.{at_handle, with_entry_at}
-use Rattle.geos_table.specs.Memory.{Memory}
-use Rattle.geos_table.specs.Tight.{is_locked, is_tight, others, staying}
-use Rattle.geos_table.proofs.HandleLists.{length-with_entry_at}
-use Rattle.geos_table.proofs.Laws.{entry-other}
+use Rattle.geos_terms.specs.Names.{mem, vm}
+use Rattle.geos_calls.specs.Blocks as model
+use Rattle.geos_calls.specs.Directories.{VmBlock, is_held}
+use Rattle.geos_calls.specs.Handles.{at_handle, with_entry_at}
+use Rattle.geos_calls.specs.Memory.{Memory}
+use Rattle.geos_calls.specs.Tight.{is_locked, is_tight, others, staying}
+use Rattle.geos_calls.proofs.HandleLists.{length-with_entry_at}
+use Rattle.geos_calls.proofs.Laws.{entry-other}
 use Rattle.block_handles.specs.Names.{IsHandle}
 use Rattle.block_handles.specs.Store.{Block, Store, block_at, bytes_in, locks_in, slot_count}
 use Rattle.block_handles.specs.Stretch.{total, other_size, locked_one, other_locked, other_sizes, IsCrowded}

@@ -5,14 +5,14 @@ use Rattle.std.specs.List.{position_or_len}
 use Rattle.std.proofs.lemmas.Bool.Decides.{nat_tests}
 use Rattle.std.proofs.lemmas.List.{get_or-drop}
 use Rattle.std.proofs.lemmas.List.Sums.{position_or_len_is}
-use Rattle.geos_model.specs.declared.refusal.Refusal.{Refusal}
-use Rattle.geos_table.specs.Directories.{VmBlock}
-use Rattle.geos_model.specs.Names.{group_uid}
-use Rattle.geos_table.specs.Directories as model
-use Rattle.geos_table.specs.Effects.{Call, effect_of, outcome}
-use Rattle.geos_table.specs.ItemCalls.{igetmap}
-use Rattle.geos_table.specs.Memory.{Memory, is_marked, listed_at}
-use Rattle.geos_table.specs.VmCalls.{found_above, has_uid, vfind, vgetmap, vuid}
+use Rattle.geos_terms.specs.declared.refusal.Refusal.{Refusal}
+use Rattle.geos_calls.specs.Directories.{VmBlock}
+use Rattle.geos_terms.specs.Names.{group_uid}
+use Rattle.geos_calls.specs.Directories as model
+use Rattle.geos_calls.specs.Effects.{Call, effect_of, outcome}
+use Rattle.geos_calls.specs.ItemCalls.{igetmap}
+use Rattle.geos_calls.specs.Memory.{Memory, is_marked, listed_at}
+use Rattle.geos_calls.specs.VmCalls.{found_above, has_uid, vfind, vgetmap, vuid}
 use Rattle.block_handles.specs.Store.{Block, Store, block_at}
 use Rattle.vm_file.specs.Device.{Medium}
 use Rattle.vm_file.specs.State.{FileState}

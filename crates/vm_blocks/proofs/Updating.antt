@@ -1,7 +1,7 @@
 -- What a commit leaves is tied.
 use Rattle.std.proofs.Common.{◌≡◌, ◌∙◌, ℕ, List, length, Option, Some, None, true, refl, sym, ap, subst}
 use Rattle.std.specs.Prelude.{option_map, unwrap_or}
-use Rattle.geos_model.specs.Heap.{IsBlockSize}
+use Rattle.geos_terms.specs.Heap.{IsBlockSize}
 use Rattle.block_handles.specs.Names.{IsHandle}
 use Rattle.block_handles.specs.Store.{Block, Store, block_at, bytes_in, IsBlock}
 use Rattle.std.specs.Prelude.{Result}

@@ -7,9 +7,9 @@ use Rattle.std.proofs.lemmas.Bool.{cases_eq, lt-ltb}
 use Rattle.std.proofs.lemmas.List.{at_drop_all, at_drop_more, get_or-set_other, get_or-set_same}
 use Rattle.vm_file.specs.declared.directory.Entry.{Entry}
 use Rattle.vm_file.specs.Directories.{are_entries, is_entry}
-use Rattle.geos_model.specs.Heap.{is_block_size}
+use Rattle.geos_terms.specs.Heap.{is_block_size}
 use Rattle.vm_file.proofs.DirectoryLaws.{behind_from, find_behind, find_here, none_below}
-use Rattle.geos_model.proofs.HeapTests.{and-true, both}
+use Rattle.geos_terms.proofs.HeapTests.{and-true, both}
 use Rattle.vm_blocks.specs.declared.entries.Held.{Held}
 use Rattle.vm_blocks.specs.Listed.{as_held}
 use Rattle.vm_blocks.proofs.Stored.{not-found}

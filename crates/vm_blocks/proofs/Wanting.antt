@@ -9,9 +9,9 @@ use Rattle.block_handles.specs.Names.{IsHandle, slot_of}
 use Rattle.block_handles.specs.Store.{Store, IsBlock, IsThere, block_at}
 use Rattle.block_handles.specs.Stretch.{HasNoRoom}
 use Rattle.block_handles.proofs.Laws.{with_locks-other}
-use Rattle.geos_model.specs.Heap.{most_block_bytes}
-use Rattle.geos_model.specs.Names.{vm}
-use Rattle.geos_model.specs.declared.name.Name.{Name}
+use Rattle.geos_terms.specs.Heap.{most_block_bytes}
+use Rattle.geos_terms.specs.Names.{vm}
+use Rattle.geos_terms.specs.declared.name.Name.{Name}
 use Rattle.vm_blocks.specs.Room.{DiscardsForRoom, DiscardsOne, DiscardsAndMakes, LacksRoom, NoneIdle, RemainOrNoRoom, Thins, own_handle}
 use Rattle.vm_blocks.specs.Blocks.{AllListed, IsLowestUnlisted}
 use Rattle.vm_blocks.specs.View.{VmState, held_at, vm_slot}

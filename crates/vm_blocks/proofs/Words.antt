@@ -4,7 +4,7 @@ use Rattle.std.specs.Prelude.{All}
 use Rattle.std.specs.List.{flat_map}
 use Rattle.std.proofs.lemmas.List.{drop_at, take_at}
 use Rattle.std.proofs.lemmas.List.Elements.{All-cons, All-drop, All-nil, All-take}
-use Rattle.geos_model.specs.Bytes.{AreBytes, word_bytes}
+use Rattle.geos_terms.specs.Bytes.{AreBytes, word_bytes}
 use Rattle.vm_file.specs.declared.directory.Entry.{Entry}
 use Rattle.vm_file.specs.Contents.{Block, Contents, Pair, block_spelling, contents_spelling, entry_of, listed, pair_length, pair_spelling}
 use Rattle.vm_file.specs.Reading.{pair_at}

@@ -1,8 +1,8 @@
 -- How calls change what is listed.
 use Rattle.std.specs.Prelude.{◌≡◌, ℕ, ◌<◌, ◌==◌, Bool, true, false, if◌then◌else◌, [], ◌∷◌, length, Option, Some, None, is_some, IsSomeAnd}
-use Rattle.geos_model.specs.Block.{chunks, handle_word}
-use Rattle.geos_model.specs.Names.{vm}
-use Rattle.geos_model.specs.Heap.{IsHeap}
+use Rattle.geos_terms.specs.Block.{chunks, handle_word}
+use Rattle.geos_terms.specs.Names.{vm}
+use Rattle.geos_terms.specs.Heap.{IsHeap}
 use Rattle.block_handles.specs.Names.{IsHandle}
 use Rattle.block_handles.specs.Store.{Block, Store, block_at}
 use Rattle.vm_blocks.specs.declared.entries.Held.{Held}

@@ -1,7 +1,7 @@
 -- How a block comes into memory, and is locked there.
 use Rattle.std.specs.Prelude.{◌≡◌, ◌≢◌, ℕ, ◌+◌, ◌<◌, ◌⊎◌, List, length, None, MatchResult, Result}
-use Rattle.geos_model.specs.Block.{handle_word}
-use Rattle.geos_model.specs.Heap.{IsHeap}
+use Rattle.geos_terms.specs.Block.{handle_word}
+use Rattle.geos_terms.specs.Heap.{IsHeap}
 use Rattle.block_handles.specs.Change.{with_bytes, with_lock_more}
 use Rattle.block_handles.specs.Layout.{IsLaidOut}
 use Rattle.block_handles.specs.Store.{Store, IsThere, block_at, bytes_of, locks_of, place_of, size_of}

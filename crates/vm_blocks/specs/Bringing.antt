@@ -1,6 +1,6 @@
 -- What a call that may bring a block into memory does.
 use Rattle.std.specs.Prelude.{◌≡◌, ℕ, None, IfSome, OnErr, Result, Err}
-use Rattle.geos_model.specs.Names.{vm}
+use Rattle.geos_terms.specs.Names.{vm}
 use Rattle.block_handles.specs.Store.{Store, IsThere}
 use Rattle.vm_file.specs.Device.{Medium, Rose}
 use Rattle.vm_file.specs.Outcomes.{ReadsOnly}

@@ -1,8 +1,8 @@
 -- When a call does what its row says.
 use Rattle.std.specs.Prelude.{◌≡◌, true, false, [], Result}
-use Rattle.geos_model.specs.declared.refusal.Refusal.{Refusal}
-use Rattle.geos_table.specs.Effects.{Call, Choice, effect_of, outcome}
-use Rattle.geos_table.specs.Memory.{Memory}
+use Rattle.geos_terms.specs.declared.refusal.Refusal.{Refusal}
+use Rattle.geos_calls.specs.Effects.{Call, Choice, effect_of, outcome}
+use Rattle.geos_calls.specs.Memory.{Memory}
 use Rattle.block_handles.specs.Store.{Store}
 use Rattle.vm_file.specs.Device.{Medium, Rose}
 use Rattle.vm_blocks.specs.View.{VmState}

@@ -2,12 +2,12 @@
 -- function of the state: of what lies on the device alone, a device that is not honest tells
 -- nothing. So it is a witness, which goes on from call to call.
 use Rattle.std.specs.Prelude.{◌≡◌, ℕ, true, false, List, length, map, take, None}
-use Rattle.geos_table.specs.Directories.{VmBlock}
-use Rattle.geos_table.specs.Directories as model
-use Rattle.geos_table.specs.Handles.{at_handle}
-use Rattle.geos_table.specs.Legal.{IsFile}
-use Rattle.geos_table.specs.Memory.{Memory}
-use Rattle.geos_table.specs.VmFile.{Kept, Sure, Unsure, VmFile}
+use Rattle.geos_calls.specs.Directories.{VmBlock}
+use Rattle.geos_calls.specs.Directories as model
+use Rattle.geos_calls.specs.Handles.{at_handle}
+use Rattle.geos_calls.specs.Legal.{IsFile}
+use Rattle.geos_calls.specs.Memory.{Memory}
+use Rattle.geos_calls.specs.VmFile.{Kept, Sure, Unsure, VmFile}
 use Rattle.block_handles.specs.Names.{IsHandle}
 use Rattle.block_handles.specs.Store.{Store, block_at}
 use Rattle.vm_file.specs.Device.{Medium}

@@ -1,7 +1,7 @@
 -- What `open` finds in an image, as the model has it.
 use Rattle.std.specs.Prelude.{◌≡◌, ◌⊎◌, ℕ, List, Ok}
-use Rattle.geos_table.specs.VmFile.{Kept, Sure, Unsure}
-use Rattle.geos_table.specs.VmFile as model_file
+use Rattle.geos_calls.specs.VmFile.{Kept, Sure, Unsure}
+use Rattle.geos_calls.specs.VmFile as model_file
 use Rattle.vm_file.specs.Contents.{Pair}
 use Rattle.vm_file.specs.Reading.{found}
 use Rattle.vm_blocks.specs.Matches.{stored_pair}

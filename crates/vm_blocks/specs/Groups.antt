@@ -1,6 +1,6 @@
 -- Which of what is listed are groups.
 use Rattle.std.specs.Prelude.{◌≡◌, ◌==◌, ℕ, ◌<◌, Bool, false, List, length, Option, None, Some, slice_index_or}
-use Rattle.geos_model.specs.Names.{group_uid}
+use Rattle.geos_terms.specs.Names.{group_uid}
 use Rattle.vm_blocks.specs.declared.entries.Held.{Held}
 
 -- it is a group that is listed

@@ -1,8 +1,8 @@
 -- The rows of calls on listed blocks, groups among them; and which pair a commit keeps.
 use Rattle.std.specs.Prelude.{ℕ, []}
-pub use Rattle.geos_table.specs.VmCalls.{lock_listed, free_listed}
-use Rattle.geos_table.specs.Effects.{Call}
-use Rattle.geos_table.specs.VmCalls.{Keeper, keep_current, keep_reverted, keep_saved, makes_listed}
+pub use Rattle.geos_calls.specs.VmCalls.{lock_listed, free_listed}
+use Rattle.geos_calls.specs.Effects.{Call}
+use Rattle.geos_calls.specs.VmCalls.{Keeper, keep_current, keep_reverted, keep_saved, makes_listed}
 use Rattle.vm_file.specs.declared.commit.How.{How}
 use Rattle.vm_file.specs.declared.commit.How.TheVariants.{Update, Save, Revert}
 

@@ -2,11 +2,11 @@
 -- honest: what it gives for a block tells of the model's block only then.
 use Rattle.std.specs.Prelude.{◌≡◌, ℕ, ◌==◌, false, List, length, map, find, Option, Some, None, option_map}
 use Rattle.std.specs.List.{range_with_len}
-use Rattle.geos_table.specs.Blocks.{Heap}
-use Rattle.geos_table.specs.Directories.{VmBlock, KeptBlock}
-use Rattle.geos_table.specs.Directories as model
-use Rattle.geos_table.specs.Handles.{at_handle}
-use Rattle.geos_table.specs.VmFile as model_file
+use Rattle.geos_calls.specs.Blocks.{Heap}
+use Rattle.geos_calls.specs.Directories.{VmBlock, KeptBlock}
+use Rattle.geos_calls.specs.Directories as model
+use Rattle.geos_calls.specs.Handles.{at_handle}
+use Rattle.geos_calls.specs.VmFile as model_file
 use Rattle.block_handles.specs.Names.{IsHandle}
 use Rattle.block_handles.specs.Store as store
 use Rattle.vm_file.specs.declared.directory.Directory.{Directory}

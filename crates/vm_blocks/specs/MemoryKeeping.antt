@@ -1,11 +1,11 @@
 -- Changes of the region by others, over which the model's memory goes on.
 use Rattle.std.specs.Prelude.{◌≡◌, ℕ, ◌≤◌, true, map, take, Some}
-use Rattle.geos_model.specs.Names.{vm}
-use Rattle.geos_model.specs.declared.name.Name.{Name}
-use Rattle.geos_table.specs.Legal.{AreBytes}
-use Rattle.geos_table.specs.Memory.{Memory, with_block}
-use Rattle.geos_table.specs.Tight.{is_tight}
-use Rattle.geos_table.specs.VmFile.{VmFile}
+use Rattle.geos_terms.specs.Names.{vm}
+use Rattle.geos_terms.specs.declared.name.Name.{Name}
+use Rattle.geos_calls.specs.Legal.{AreBytes}
+use Rattle.geos_calls.specs.Memory.{Memory, with_block}
+use Rattle.geos_calls.specs.Tight.{is_tight}
+use Rattle.geos_calls.specs.VmFile.{VmFile}
 use Rattle.block_handles.specs.Names.{IsHandle, slot_of}
 use Rattle.block_handles.specs.Store.{Store}
 use Rattle.block_handles.specs.Stretch.{IsCrowded}

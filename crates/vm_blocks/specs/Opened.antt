@@ -1,8 +1,8 @@
 -- What the model has of a file that was opened, none of whose blocks is in memory.
 use Rattle.std.specs.Prelude.{ℕ, ◌<◌, List, All, map, take, if◌then◌else◌}
-use Rattle.geos_table.specs.Directories.{idle_block, with_each}
-use Rattle.geos_table.specs.Memory.{Memory}
-use Rattle.geos_table.specs.VmFile.{Kept, Pair, Sure, Unsure, VmFile}
+use Rattle.geos_calls.specs.Directories.{idle_block, with_each}
+use Rattle.geos_calls.specs.Memory.{Memory}
+use Rattle.geos_calls.specs.VmFile.{Kept, Pair, Sure, Unsure, VmFile}
 use Rattle.block_handles.specs.Store.{Store}
 use Rattle.vm_file.specs.declared.directory.Directory.{Directory}
 use Rattle.vm_file.specs.Kept.{other_pair}

@@ -1,7 +1,7 @@
 -- Refusals of calls on VM blocks, as the kernel's.
 use Rattle.std.specs.Prelude.{ℕ, Option, Some, None, Result, Ok, Err}
-use Rattle.geos_model.specs.declared.refusal.Refusal.{Refusal}
-use Rattle.geos_model.specs.declared.refusal.Refusal.TheVariants as refusal
+use Rattle.geos_terms.specs.declared.refusal.Refusal.{Refusal}
+use Rattle.geos_terms.specs.declared.refusal.Refusal.TheVariants as refusal
 use Rattle.vm_blocks.specs.declared.error.BringError.{BringError}
 use Rattle.vm_blocks.specs.declared.error.BringError.TheVariants as bring
 use Rattle.vm_blocks.specs.declared.error.LockError.{LockError}

@@ -1,8 +1,8 @@
 -- What the bytes of blocks spell.
 use Rattle.std.specs.Prelude.{ℕ, if◌then◌else◌, List, [], ◌∷◌, length, Option, Some, None}
-use Rattle.geos_model.specs.Block as block
-use Rattle.geos_table.specs.Blocks as model
-use Rattle.geos_table.specs.Given.{can_hold}
+use Rattle.geos_terms.specs.Block as block
+use Rattle.geos_calls.specs.Blocks as model
+use Rattle.geos_calls.specs.Given.{can_hold}
 use Rattle.block_handles.specs.Store as store
 
 -- the heap that bytes spell

@@ -1,12 +1,12 @@
 -- How the blocks in memory are tied to the file.
 use Rattle.std.specs.Prelude.{◌≡◌, ◌≢◌, ℕ, false, List, length, Option, Some, None, IsSomeAnd}
-use Rattle.geos_model.specs.Block.{handle_word}
-use Rattle.geos_model.specs.Heap.{IsBlockSize, IsHeap}
+use Rattle.geos_terms.specs.Block.{handle_word}
+use Rattle.geos_terms.specs.Heap.{IsBlockSize, IsHeap}
 use Rattle.block_handles.specs.Layout.{IsLaidOut}
 use Rattle.block_handles.specs.Names.{IsHandle}
 use Rattle.block_handles.specs.Store.{Block, Store, block_at}
 use Rattle.vm_file.specs.Device.{Medium}
-use Rattle.geos_model.specs.Names.{group_uid}
+use Rattle.geos_terms.specs.Names.{group_uid}
 use Rattle.vm_file.specs.State.{FileState, HasBlock}
 use Rattle.vm_blocks.specs.declared.entries.Held.{Held}
 use Rattle.vm_blocks.specs.View.{VmState, bytes_read, held_at, vm_slot}

@@ -1,7 +1,7 @@
 -- What contracts see of VM blocks: a file, and the blocks of its current directory by handles.
 use Rattle.std.specs.Prelude.{ℕ, List, Option, None}
-use Rattle.geos_model.specs.Names.{vm}
-use Rattle.geos_table.specs.Handles.{at_handle, with_entry_at}
+use Rattle.geos_terms.specs.Names.{vm}
+use Rattle.geos_calls.specs.Handles.{at_handle, with_entry_at}
 use Rattle.block_handles.specs.Names.{slot_of}
 use Rattle.vm_file.specs.State.{FileState, bytes_of_block, pair_of}
 use Rattle.vm_blocks.specs.declared.entries.Held.{Held}

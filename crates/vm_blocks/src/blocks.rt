@@ -3,9 +3,9 @@ ghost use Rattle.std.specs.Prelude.{ℕ, List, ◌≡◌, ◌≢◌, IsTrue, ◌
 ghost use Rattle.block_handles.specs.Layout.{IsLaidOut};
 ghost use Rattle.block_handles.specs.Names.{IsHandle};
 ghost use Rattle.block_handles.specs.Store.{Store};
-ghost use Rattle.geos_table.specs.Memory.{Memory, is_marked};
-ghost use Rattle.geos_table.specs.VmCalls.{vuid};
-ghost use Rattle.geos_model.specs.Names.{group_uid};
+ghost use Rattle.geos_calls.specs.Memory.{Memory, is_marked};
+ghost use Rattle.geos_calls.specs.VmCalls.{vuid};
+ghost use Rattle.geos_terms.specs.Names.{group_uid};
 ghost use Rattle.vm_file.specs.State.{Finds};
 ghost use Rattle.vm_blocks.specs.Blocks.{uid_of, is_marked_in};
 ghost use Rattle.vm_blocks.specs.DoesRow.{DoesRow};
@@ -18,7 +18,7 @@ ghost use Rattle.vm_blocks.specs.Tied.{IsTied, NoneResident};
 ghost use Rattle.vm_blocks.specs.View.{held_at, with_held};
 
 use crate::entries::{Held, Table, are_words, list};
-use geos_model::Name;
+use geos_terms::Name;
 use std::alloc::{AllocError, Global};
 use std::marker::Model;
 use vm_file::{Device, VmFile};

@@ -2,8 +2,8 @@
 ghost use Rattle.std.specs.Prelude.{◌≡◌, ◌↔◌, Some, None, Ok, Err, OnOk, OnErr};
 ghost use Rattle.block_handles.specs.Names.{IsHandle};
 ghost use Rattle.block_handles.specs.Store.{IsThere, bytes_of, locks_of, size_of};
-ghost use Rattle.geos_table.specs.Legal.{AreBytes};
-ghost use Rattle.geos_table.specs.VmCalls.{bring};
+ghost use Rattle.geos_calls.specs.Legal.{AreBytes};
+ghost use Rattle.geos_calls.specs.VmCalls.{bring};
 ghost use Rattle.vm_file.specs.State.{HasBlock};
 ghost use Rattle.vm_blocks.specs.Bring.{Brought, Drops, Fills};
 ghost use Rattle.vm_blocks.specs.Bringing.{BringsBlock, ReadsDevice};
@@ -16,7 +16,7 @@ use crate::blocks::VmBlocks;
 use crate::entries::Held;
 use crate::error::{BringError, NoRoom};
 use block_handles::Blocks;
-use geos_model::Name;
+use geos_terms::Name;
 use vm_file::{Device, Disk, VmFile};
 
 /// Reads a block of the file straight into the region, and frees it again where the device

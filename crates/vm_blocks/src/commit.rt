@@ -1,6 +1,6 @@
 //! Commits of the blocks of a file.
 ghost use Rattle.std.specs.Prelude.{◌≡◌, ℕ, List, length, true};
-ghost use Rattle.geos_table.specs.VmCalls.{commit, vrevert, vsave, vupdate};
+ghost use Rattle.geos_calls.specs.VmCalls.{commit, vrevert, vsave, vupdate};
 ghost use Rattle.vm_file.specs.Committing.{CommitsFile, MayCommit};
 ghost use Rattle.vm_file.specs.Directories.{is_directory};
 ghost use Rattle.vm_blocks.specs.Commit.{CommitsBlocks, Lists};
@@ -17,7 +17,7 @@ use crate::entries::{Held, list};
 use crate::resident::Resident;
 use arrayvec::ArrayVec;
 use block_handles::Blocks;
-use geos_model::Name;
+use geos_terms::Name;
 use vm_file::{CommitError, Device, Directory, Entry, How, VmFile};
 
 /// The length of a listed block: as it is in memory, else as it is listed.

@@ -1,13 +1,13 @@
 //! What is listed of the blocks of a file.
 ghost use Rattle.std.specs.Prelude.{◌≡◌, ◌<◌, ℕ, true, length, slice_index_or, slice_set, IfOk, None};
-ghost use Rattle.geos_table.specs.Handles.{at_handle};
+ghost use Rattle.geos_calls.specs.Handles.{at_handle};
 ghost use Rattle.block_handles.specs.Names.{IsHandle};
 ghost use Rattle.vm_file.specs.Directories.{is_directory};
 ghost use Rattle.vm_blocks.specs.Groups.{is_group};
 ghost use Rattle.vm_blocks.specs.Listed.{held_in};
 ghost use Rattle.vm_blocks.specs.Opened.{AreWords};
 
-use geos_model::Name;
+use geos_terms::Name;
 use std::alloc::{AllocError, Global};
 use std::marker::Model;
 use vm_file::{Directory, GROUP_UID};

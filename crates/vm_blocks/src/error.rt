@@ -2,7 +2,7 @@
 ghost use Rattle.std.specs.Prelude.{◌≡◌};
 ghost use Rattle.vm_blocks.specs.Refused.{lock_error_of, why_not_brought, why_not_freed, why_not_locked, why_not_made};
 
-use geos_model::Refusal;
+use geos_terms::Refusal;
 use thiserror::Error;
 
 /// No stretch of the region has room, though every other block of the file that is neither

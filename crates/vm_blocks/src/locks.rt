@@ -2,8 +2,8 @@
 ghost use Rattle.std.specs.Prelude.{true, ◌≡◌, ◌<◌, ◌↔◌, None, Ok, Err, OnOk, option_map};
 ghost use Rattle.block_handles.specs.Change.{with_lock_less};
 ghost use Rattle.block_handles.specs.Store.{IsThere, locks_of};
-ghost use Rattle.geos_table.specs.VmCalls.{vdirty, vunlock};
-ghost use Rattle.geos_table.specs.Memory.{Memory, with_mark};
+ghost use Rattle.geos_calls.specs.VmCalls.{vdirty, vunlock};
+ghost use Rattle.geos_calls.specs.Memory.{Memory, with_mark};
 ghost use Rattle.vm_blocks.specs.Blocks.{marked};
 ghost use Rattle.vm_blocks.specs.Bring.{LockedMore, LocksThere};
 ghost use Rattle.vm_blocks.specs.Bringing.{BringsBlock};
@@ -19,7 +19,7 @@ use crate::blocks::VmBlocks;
 use crate::entries::Held;
 use crate::error::LockError;
 use block_handles::{Blocks, HandleError};
-use geos_model::Name;
+use geos_terms::Name;
 use vm_file::Device;
 
 impl<D: Device + Drop> VmBlocks<D> {

@@ -1,6 +1,6 @@
 //! New blocks of the file, and blocks that go.
 ghost use Rattle.std.specs.Prelude.{◌≡◌, ◌<◌, ◌↔◌, ℕ, None, Err, IfOk, OnOk, OnErr};
-ghost use Rattle.geos_model.specs.Names.{vm};
+ghost use Rattle.geos_terms.specs.Names.{vm};
 ghost use Rattle.block_handles.specs.Names.{IsHandle};
 ghost use Rattle.block_handles.specs.Store.{IsThere, locks_of, size_of};
 ghost use Rattle.vm_blocks.specs.Blocks.{Adds, AllListed, BecomesHeap, IsLowestUnlisted, IsNew, LacksRoomForNew, without_held};
@@ -16,7 +16,7 @@ use crate::blocks::VmBlocks;
 use crate::entries::Held;
 use crate::error::{FreeError, NewError, NoRoom};
 use block_handles::Blocks;
-use geos_model::Name;
+use geos_terms::Name;
 use vm_file::Device;
 
 /// Makes a heap without a chunk of a new block.

@@ -1,16 +1,16 @@
 //! What is mapped, and blocks that are found by their user IDs.
 ghost use Rattle.std.specs.Prelude.{◌≡◌, ◌≢◌, ◌↔◌, ℕ, Ok, IfSome, IfNone, IsSomeAnd, IsTrue};
 ghost use Rattle.block_handles.specs.Store.{Store};
-ghost use Rattle.geos_table.specs.ItemCalls.{igetmap, isetmap};
-ghost use Rattle.geos_table.specs.VmCalls.{vfind, vgetmap, vsetmap};
-ghost use Rattle.geos_model.specs.Names.{group_uid};
+ghost use Rattle.geos_calls.specs.ItemCalls.{igetmap, isetmap};
+ghost use Rattle.geos_calls.specs.VmCalls.{vfind, vgetmap, vsetmap};
+ghost use Rattle.geos_terms.specs.Names.{group_uid};
 ghost use Rattle.vm_blocks.specs.Blocks.{AllListed, HasUid, IsLowestUnlisted, IsNextWith, NoneWith};
 ghost use Rattle.vm_blocks.specs.DoesRow.{DoesRow};
 ghost use Rattle.vm_blocks.specs.Tied.{IsTied};
 ghost use Rattle.vm_blocks.specs.View.{held_at};
 
 use crate::blocks::VmBlocks;
-use geos_model::Name;
+use geos_terms::Name;
 use vm_file::Device;
 
 impl<D: Device + Drop> VmBlocks<D> {

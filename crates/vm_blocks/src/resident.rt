@@ -1,6 +1,6 @@
 //! The blocks in memory, as a commit takes them.
 use block_handles::Blocks;
-use geos_model::Name;
+use geos_terms::Name;
 use vm_file::Source;
 
 /// The blocks of the file that are in memory.

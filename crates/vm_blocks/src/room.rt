@@ -1,6 +1,6 @@
 //! Room for a block: others, which can be read from the file again, are discarded for it.
 ghost use Rattle.std.specs.Prelude.{◌≡◌, ◌≢◌, ◌+◌, ◌%◌, ◌<◌, ◌≤◌, IsTrue, IfSome, IfNone, OnOk, OnErr, true, false};
-ghost use Rattle.geos_model.specs.Heap.{IsBlockSize, most_block_bytes};
+ghost use Rattle.geos_terms.specs.Heap.{IsBlockSize, most_block_bytes};
 ghost use Rattle.block_handles.specs.Names.{IsHandle, slot_of};
 ghost use Rattle.block_handles.specs.Store.{IsThere, size_of};
 ghost use Rattle.vm_blocks.specs.Room.{DiscardsForRoom, DiscardsOne, DiscardsAndGrows, LacksRoom, DiscardsAndMakes, NoneIdle, Thins, is_idle, own_handle, there_count};
@@ -9,7 +9,7 @@ ghost use Rattle.vm_blocks.specs.Tied.{IsTied};
 use crate::blocks::VmBlocks;
 use crate::error::NoRoom;
 use block_handles::Blocks;
-use geos_model::{Name, Owner};
+use geos_terms::{Name, Owner};
 use vm_file::Device;
 
 /// The handle that a named block has in the file; 0 for a block of global memory.

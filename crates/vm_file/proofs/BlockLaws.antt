@@ -6,16 +6,16 @@ use Rattle.std.proofs.Math.Dec.{eqb}
 use Rattle.std.proofs.lemmas.Bool.{eqb-true}
 use Rattle.std.proofs.lemmas.List.{drop-drop}
 use Rattle.lmem_raw.specs.Bytes.{part}
-use Rattle.geos_model.specs.Block.{handle_word}
-use Rattle.geos_model.specs.Heap.{IsHeap}
+use Rattle.geos_terms.specs.Block.{handle_word}
+use Rattle.geos_terms.specs.Heap.{IsHeap}
 use Rattle.vm_file.specs.Device.{Medium}
 use Rattle.vm_file.specs.declared.directory.Entry.{Entry}
-use Rattle.geos_model.specs.HeapTest.{is_heap}
+use Rattle.geos_terms.specs.HeapTest.{is_heap}
 use Rattle.vm_file.specs.Contents.{Block, is_filled, listed, blocks_in}
 use Rattle.vm_file.specs.Directories.{is_directory, directory_length, entries_length}
 use Rattle.vm_file.specs.Reading.{base_of, area_of}
 use Rattle.vm_file.specs.State.{FileState, IsSound, pair_of, HasBlock, bytes_of_block, place_in}
-use Rattle.geos_model.proofs.HeapTests.{both, heap-sound}
+use Rattle.geos_terms.proofs.HeapTests.{both, heap-sound}
 use Rattle.vm_file.proofs.Lengths.{drop-stretch, take-stretch}
 use Rattle.vm_file.proofs.ReadLaws.{pair_ok}
 

@@ -5,14 +5,14 @@ use Rattle.std.specs.Borrow.{Bor}
 use Rattle.std.specs.List.{flat_map, list_all}
 use Rattle.std.proofs.lemmas.Bool.{eqb-true}
 use Rattle.std.proofs.lemmas.List.{append-nil}
-use Rattle.geos_model.specs.Bytes.{word_bytes}
-use Rattle.geos_model.specs.Block.{handle_word}
-use Rattle.geos_model.specs.Heap.{IsHeap}
+use Rattle.geos_terms.specs.Bytes.{word_bytes}
+use Rattle.geos_terms.specs.Block.{handle_word}
+use Rattle.geos_terms.specs.Heap.{IsHeap}
 use Rattle.vm_file.specs.declared.directory.Entry.{Entry}
 use Rattle.vm_file.specs.Committing.{Shows}
 use Rattle.vm_file.specs.Contents.{Block, Contents, block_spelling, contents_spelling, is_filled}
 use Rattle.vm_file.specs.Directories.{entries_length}
-use Rattle.geos_model.proofs.HeapTests.{both, heap-sound}
+use Rattle.geos_terms.proofs.HeapTests.{both, heap-sound}
 use Rattle.vm_file.proofs.Lengths.{entries_length-more}
 
 -- what a source shows is what is resident

@@ -5,7 +5,7 @@ use Rattle.std.specs.List.{find}
 use Rattle.std.proofs.Math.Dec.{eqb, leb, ltb}
 use Rattle.std.proofs.lemmas.Bool.{eqb-true, eq-eqb, ne_eqb}
 use borrow.Author.Tests.{ltb-true}
-use Rattle.geos_model.specs.Heap.{IsBlockSize, is_block_size}
+use Rattle.geos_terms.specs.Heap.{IsBlockSize, is_block_size}
 use Rattle.vm_file.specs.declared.directory.Directory.{Directory}
 use Rattle.vm_file.specs.declared.directory.Entry.{Entry}
 use Rattle.vm_file.specs.declared.error.CommitError.{CommitError}
@@ -14,7 +14,7 @@ use Rattle.vm_file.specs.Committing.{IsAfter, block_from}
 use Rattle.vm_file.specs.Contents.{Block}
 use Rattle.vm_file.specs.Directories.{AreMaps, are_entries, is_directory, is_entry, may_be_map_block, may_be_map_group, may_be_map_item}
 use Rattle.vm_file.specs.State.{FileState, HasBlock, bytes_of_block}
-use Rattle.geos_model.proofs.HeapTests.{and-true, both}
+use Rattle.geos_terms.proofs.HeapTests.{and-true, both}
 use Rattle.vm_file.proofs.ReadLaws.{leb-le}
 
 pub block_size : (size : ℕ) → is_block_size size ≡ true → IsBlockSize size

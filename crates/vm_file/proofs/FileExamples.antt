@@ -1,8 +1,8 @@
 -- The definitions computed on files that are written out.
 use Rattle.std.proofs.Common.{◌≡◌, ℕ, ◌+◌, ◌*◌, ◌++◌, List, [], ◌∷◌, true, false, length, take, set, replicate, Ok, Err, refl}
-use Rattle.geos_model.specs.Bytes.{word}
-use Rattle.geos_model.specs.Chunks.{cost}
-use Rattle.geos_model.specs.HeapTest.{is_heap}
+use Rattle.geos_terms.specs.Bytes.{word}
+use Rattle.geos_terms.specs.Chunks.{cost}
+use Rattle.geos_terms.specs.HeapTest.{is_heap}
 use Rattle.vm_file.specs.Contents.{Pair, pair_spelling, pair_length}
 use Rattle.vm_file.specs.Reading.{head_at, bytes_at, block_at, maps_at, contents_at, pair_at, header_at, file_at}
 use Rattle.vm_file.specs.Spelling.{new_file, empty_contents, empty_pair}

@@ -5,7 +5,7 @@ use Rattle.std.proofs.lemmas.List.{drop-drop, drop-take, take-take, take_all, dr
 use Rattle.lmem_raw.specs.Bytes.{part}
 use Rattle.vm_file.specs.declared.directory.Entry.{Entry}
 use Rattle.vm_file.specs.Directories.{is_entry, are_entries, entries_length}
-use Rattle.geos_model.proofs.HeapTests.{both, and-true}
+use Rattle.geos_terms.proofs.HeapTests.{both, and-true}
 
 pub entries_length-append : (es fs : List Entry) → entries_length (es ++ fs) ≡ entries_length es + entries_length fs
 entries_length-append [] fs = omega arith

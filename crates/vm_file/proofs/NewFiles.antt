@@ -3,13 +3,13 @@ use Rattle.std.proofs.Common.{◌≡◌, ℕ, zero, suc, ◌+◌, ◌-◌, ◌*�
 use Rattle.std.proofs.Math.Dec.{eqb}
 use Rattle.lmem_raw.specs.Bytes.{part, with_part}
 use Rattle.lmem_raw.proofs.Parts.{with_part-split, length-with_part}
-use Rattle.geos_model.specs.Bytes.{word}
+use Rattle.geos_terms.specs.Bytes.{word}
 use Rattle.vm_file.specs.Contents.{listed, pair_spelling}
 use Rattle.vm_file.specs.Device.{Medium, Only, Touched}
 use Rattle.vm_file.specs.Reading.{header_at, pair_at, file_at, is_area, File}
 use Rattle.vm_file.specs.Spelling.{header_spelling, new_file, empty_contents, empty_pair}
 use Rattle.vm_file.specs.State.{FileState, IsSound}
-use Rattle.geos_model.proofs.HeapTests.{both}
+use Rattle.geos_terms.proofs.HeapTests.{both}
 use Rattle.vm_file.proofs.ReadLaws.{leb-le}
 use Rattle.vm_file.proofs.SpellLaws.{goes, wanted_is, pair_again}
 use Rattle.vm_file.proofs.StateLaws.{FileParts, file_from}

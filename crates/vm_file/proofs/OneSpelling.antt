@@ -3,14 +3,14 @@ use Rattle.std.proofs.Common.{◌≡◌, ◌∙◌, ℕ, zero, suc, ◌+◌, ◌
 use Rattle.std.specs.List.{flat_map}
 use Rattle.std.proofs.Math.Dec.{leb, ltb}
 use Rattle.std.proofs.lemmas.List.{drop-drop, take-append-drop}
-use Rattle.geos_model.specs.Bytes.{AreBytes, word, word_bytes}
+use Rattle.geos_terms.specs.Bytes.{AreBytes, word, word_bytes}
 use Rattle.vm_file.specs.declared.directory.Entry.{Entry}
 use Rattle.vm_file.specs.Contents.{Block, Contents, Pair, block_spelling, contents_length, contents_spelling, entry_of, pair_length, pair_spelling}
 use Rattle.vm_file.specs.Directories.{entries_length, may_be_map_block, may_be_map_group, may_be_map_item}
-use Rattle.geos_model.specs.Heap.{is_block_size}
+use Rattle.geos_terms.specs.Heap.{is_block_size}
 use Rattle.vm_file.specs.Laws.{PairsHaveOneSpelling, is_pair}
 use Rattle.vm_file.specs.Reading.{block_at, blocks_at, bytes_at, contents_at, count_at, head_at, maps_at, pair_at, wanted, word_at}
-use Rattle.geos_model.proofs.HeapTests.{and-true, both}
+use Rattle.geos_terms.proofs.HeapTests.{and-true, both}
 use Rattle.vm_file.proofs.ReadLaws.{after, blocks_ok, bytes_ok, ok_is, pair_ok, wanted_ok, word_ok}
 use Rattle.vm_file.proofs.SpellLaws.{pair_again}
 

@@ -11,7 +11,7 @@ use Rattle.vm_file.specs.Directories.{are_entries, entries_length, is_directory,
 use Rattle.vm_file.specs.Places.{ArePlaces}
 use Rattle.vm_file.specs.State.{HasBlock, place_in}
 use Rattle.vm_file.proofs.DirectoryLaws.{behind_from, found_entry, legal_from}
-use Rattle.geos_model.proofs.HeapTests.{both}
+use Rattle.geos_terms.proofs.HeapTests.{both}
 
 -- entries in ascending order have handles up to 1,024
 pub handle_at : (es : List Entry) (last k : ℕ) (d : Entry) → are_entries last es ≡ true → k < length es → (get_or es k d).h ≤ 1024

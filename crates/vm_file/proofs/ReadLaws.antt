@@ -5,15 +5,15 @@ use Rattle.std.proofs.Math.Dec.{leb, ltb, eqb}
 use Rattle.std.proofs.lemmas.Bool.Decides.{nat_tests}
 use borrow.Author.Tests.{ltb-true}
 use Rattle.lmem_raw.specs.Bytes.{part}
-use Rattle.geos_model.specs.Bytes.{word}
-use Rattle.geos_model.specs.Block.{handle_word}
+use Rattle.geos_terms.specs.Bytes.{word}
+use Rattle.geos_terms.specs.Block.{handle_word}
 use Rattle.vm_file.specs.declared.directory.Entry.{Entry}
-use Rattle.geos_model.specs.Heap.{is_block_size}
-use Rattle.geos_model.specs.HeapTest.{is_heap}
+use Rattle.geos_terms.specs.Heap.{is_block_size}
+use Rattle.geos_terms.specs.HeapTest.{is_heap}
 use Rattle.vm_file.specs.Directories.{AreMaps, is_entry, are_entries, entries_length, may_be_map_block, may_be_map_group, may_be_map_item}
 use Rattle.vm_file.specs.Contents.{Block, Contents, Pair, entry_of, listed, is_filled, is_contents, contents_length, pair_length, blocks_in, contents_in, pair_in}
 use Rattle.vm_file.specs.Reading.{◌>>=◌, wanted, word_at, head_at, bytes_at, block_at, blocks_at, count_at, maps_at, contents_at, pair_at}
-use Rattle.geos_model.proofs.HeapTests.{both, and-true}
+use Rattle.geos_terms.proofs.HeapTests.{both, and-true}
 
 abbrev done : {A : Type 0} → A → Result A ℕ
 done x = Ok x

@@ -6,14 +6,14 @@ use Rattle.std.proofs.Math.Dec.{leb, ltb, eqb}
 use Rattle.std.proofs.lemmas.Bool.{cases_lt, eq-eqb, eqb-true, le-leb}
 use Rattle.std.proofs.lemmas.Bool.Decides.{nat_tests}
 use Rattle.std.proofs.lemmas.List.{get_or-take}
-use Rattle.geos_model.specs.Bytes.{word}
-use Rattle.geos_model.specs.Block.{handle_word}
-use Rattle.geos_model.specs.Heap.{IsHeap}
+use Rattle.geos_terms.specs.Bytes.{word}
+use Rattle.geos_terms.specs.Block.{handle_word}
+use Rattle.geos_terms.specs.Heap.{IsHeap}
 use Rattle.vm_file.specs.declared.directory.Entry.{Entry}
-use Rattle.geos_model.specs.HeapTest.{is_heap}
+use Rattle.geos_terms.specs.HeapTest.{is_heap}
 use Rattle.vm_file.specs.Contents.{Block, entry_of}
 use Rattle.vm_file.specs.Reading.{◌>>=◌, word_at, head_at, bytes_at, block_at, blocks_at, count_at, maps_at}
-use Rattle.geos_model.proofs.HeapTests.{both, and-true, heap-sound, heap-complete, lt-ltb}
+use Rattle.geos_terms.proofs.HeapTests.{both, and-true, heap-sound, heap-complete, lt-ltb}
 use Rattle.vm_file.proofs.SpellLaws.{goes}
 
 -- the first byte that is not zero

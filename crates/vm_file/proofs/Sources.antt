@@ -6,8 +6,8 @@ use Rattle.std.proofs.Math.Dec.{eqb, ltb, leb}
 use Rattle.std.proofs.lemmas.Bool.{eq-eqb, ne_eqb}
 use borrow.Author.Tests.{ltb-true}
 use Rattle.lmem_raw.specs.Bytes.{part}
-use Rattle.geos_model.specs.Block.{handle_word}
-use Rattle.geos_model.specs.Heap.{IsHeap, is_block_size}
+use Rattle.geos_terms.specs.Block.{handle_word}
+use Rattle.geos_terms.specs.Heap.{IsHeap, is_block_size}
 use Rattle.vm_file.specs.Device.{Medium}
 use Rattle.vm_file.specs.declared.directory.Entry.{Entry}
 use Rattle.vm_file.specs.declared.directory.Directory.{Directory}
@@ -17,7 +17,7 @@ use Rattle.vm_file.specs.Directories.{is_directory, is_entry, are_entries, direc
 use Rattle.vm_file.specs.Reading.{base_of, area_of}
 use Rattle.vm_file.specs.State.{FileState, IsSound, HasBlock, pair_of, bytes_of_block, place_in}
 use Rattle.vm_file.proofs.BlockLaws.{block_there, current_there, current_heap, saved_there}
-use Rattle.geos_model.proofs.HeapTests.{both, and-true, heap-complete}
+use Rattle.geos_terms.proofs.HeapTests.{both, and-true, heap-complete}
 
 -- nothing is resident
 abbrev pub nothing : ℕ → Option (List ℕ)

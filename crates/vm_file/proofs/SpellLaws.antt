@@ -4,15 +4,15 @@ use Rattle.std.specs.List.{list_all, flat_map}
 use Rattle.std.proofs.Math.Dec.{leb, ltb, eqb}
 use Rattle.std.proofs.lemmas.List.{drop_at, take_at}
 use borrow.Author.Tests.{ltb-true}
-use Rattle.geos_model.specs.Bytes.{word, word_bytes}
-use Rattle.geos_model.specs.Block.{handle_word}
+use Rattle.geos_terms.specs.Bytes.{word, word_bytes}
+use Rattle.geos_terms.specs.Block.{handle_word}
 use Rattle.vm_file.specs.declared.directory.Entry.{Entry}
-use Rattle.geos_model.specs.Heap.{is_block_size}
-use Rattle.geos_model.specs.HeapTest.{is_heap}
+use Rattle.geos_terms.specs.Heap.{is_block_size}
+use Rattle.geos_terms.specs.HeapTest.{is_heap}
 use Rattle.vm_file.specs.Directories.{is_entry, are_entries, entries_length, may_be_map_block, may_be_map_group, may_be_map_item}
 use Rattle.vm_file.specs.Contents.{Block, Contents, Pair, entry_of, is_filled, is_contents, contents_length, block_spelling, contents_spelling, pair_spelling}
 use Rattle.vm_file.specs.Reading.{◌>>=◌, wanted, word_at, head_at, bytes_at, block_at, blocks_at, maps_at, contents_at, pair_at}
-use Rattle.geos_model.proofs.HeapTests.{both, and-true, le-leb, lt-ltb}
+use Rattle.geos_terms.proofs.HeapTests.{both, and-true, le-leb, lt-ltb}
 use Rattle.vm_file.proofs.ReadLaws.{leb-le}
 
 -- reading goes on

@@ -10,7 +10,7 @@ use Rattle.vm_file.specs.Outcomes.{ReadsOnly, ReadsToFailure}
 use Rattle.vm_file.specs.Opening.{IsOpened, listed_file}
 use Rattle.vm_file.specs.Reading.{◌>>=◌, header_at, selector_at, pair_at, file_at, File, is_second, base_of, area_of}
 use Rattle.vm_file.specs.State.{FileState, IsOther, IsSound, Leaves, ReadsFile, file_of}
-use Rattle.geos_model.proofs.HeapTests.{lt-ltb}
+use Rattle.geos_terms.proofs.HeapTests.{lt-ltb}
 use Rattle.vm_file.proofs.Moments.{reads_on}
 use Rattle.vm_file.proofs.ReadLaws.{after, cond_ok, ok_is, pair_ok}
 use Rattle.vm_file.proofs.SpellLaws.{goes}

@@ -3,8 +3,8 @@ use Rattle.std.specs.Prelude.{◌≡◌, ℕ, ◌+◌, Bool, true, ◌&&◌, ◌
 use Rattle.std.specs.List.{list_any}
 use Rattle.vm_file.specs.declared.directory.Entry.{Entry}
 use Rattle.vm_file.specs.declared.directory.Directory.{Directory}
-use Rattle.geos_model.specs.Heap.{is_block_size}
-use Rattle.geos_model.specs.Names.{group_uid}
+use Rattle.geos_terms.specs.Heap.{is_block_size}
+use Rattle.geos_terms.specs.Names.{group_uid}
 
 -- the greatest handle, and the greatest number of blocks
 abbrev pub most_blocks : ℕ

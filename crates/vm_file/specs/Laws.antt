@@ -1,6 +1,6 @@
 -- What holds of the definitions, whatever a device holds.
 use Rattle.std.specs.Prelude.{◌≡◌, ◌↔◌, ℕ, ◌&&◌, Bool, List, take, Ok, true}
-use Rattle.geos_model.specs.Bytes.{AreBytes}
+use Rattle.geos_terms.specs.Bytes.{AreBytes}
 use Rattle.vm_file.specs.Contents.{Pair, is_contents, pair_length, pair_spelling}
 use Rattle.vm_file.specs.Reading.{pair_at}
 

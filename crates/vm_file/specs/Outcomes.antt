@@ -1,8 +1,8 @@
 -- How calls that read a device end.
 use Rattle.std.specs.Prelude.{◌≡◌, ◌⊎◌, ℕ, List, length, Result, Ok, Err, OnErr, OnOk, IsOkAnd, MatchResult}
 use Rattle.arrayvec.specs.ArrayVec.{ArrayVec}
-use Rattle.geos_model.specs.Block.{handle_word}
-use Rattle.geos_model.specs.Heap.{IsHeap}
+use Rattle.geos_terms.specs.Block.{handle_word}
+use Rattle.geos_terms.specs.Heap.{IsHeap}
 use Rattle.vm_file.specs.declared.device.Disk.{Disk}
 use Rattle.vm_file.specs.declared.directory.Entry.{Entry}
 use Rattle.vm_file.specs.declared.error.OpenError.{OpenError}

@@ -2,11 +2,11 @@
 use Rattle.std.specs.Prelude.{ℕ, zero, suc, ◌+◌, ◌*◌, ◌%◌, Bool, ◌&&◌, not, nat_lt, nat_le, nat_eq, ◌==◌, if◌then◌else◌, List, [], ◌∷◌, length, take, drop, map, Result, Ok, Err, slice_index}
 use Rattle.std.specs.List.{position_or_len, starts_with}
 use Rattle.lmem_raw.specs.Bytes.{part}
-use Rattle.geos_model.specs.Bytes.{word}
-use Rattle.geos_model.specs.Block.{handle_word}
+use Rattle.geos_terms.specs.Bytes.{word}
+use Rattle.geos_terms.specs.Block.{handle_word}
 use Rattle.vm_file.specs.declared.directory.Entry.{Entry}
-use Rattle.geos_model.specs.Heap.{is_block_size}
-use Rattle.geos_model.specs.HeapTest.{is_heap}
+use Rattle.geos_terms.specs.Heap.{is_block_size}
+use Rattle.geos_terms.specs.HeapTest.{is_heap}
 use Rattle.vm_file.specs.Directories.{most_blocks, may_be_map_block, may_be_map_group, may_be_map_item, entries_length}
 use Rattle.vm_file.specs.Contents.{Block, Contents, Pair, entry_of, contents_length}
 

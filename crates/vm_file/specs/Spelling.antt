@@ -1,6 +1,6 @@
 -- What is written in front of the areas.
 use Rattle.std.specs.Prelude.{Bool, if◌then◌else◌, ℕ, ◌%◌, ◌/◌, List, [], ◌∷◌, ◌++◌, replicate}
-use Rattle.geos_model.specs.Bytes.{word_bytes}
+use Rattle.geos_terms.specs.Bytes.{word_bytes}
 use Rattle.vm_file.specs.Contents.{Contents, Pair}
 use Rattle.vm_file.specs.Reading.{magic}
 

@@ -1,6 +1,6 @@
 //! What a file stands on: bytes that last.
 ghost use Rattle.std.specs.Prelude.{◌≡◌, ◌+◌, ◌≤◌, ℕ, List, length, OnOk};
-ghost use Rattle.geos_model.specs.Bytes.{AreBytes};
+ghost use Rattle.geos_terms.specs.Bytes.{AreBytes};
 ghost use Rattle.lmem_raw.specs.Bytes.{part, with_part};
 ghost use Rattle.vm_file.specs.Device.{Counts, FailedOnce, Medium, Only, one_more};
 ghost use Rattle.vm_file.specs.Outcomes.{CausesDisk, ReadsOnly, WritesOnly};

@@ -4,7 +4,7 @@ ghost use Rattle.vm_file.specs.Directories.{are_entries, directory_length, entri
 ghost use Rattle.vm_file.specs.State.{place_in};
 
 use crate::directory::{Directory, Entry, GROUP_UID, MOST_BLOCKS};
-use geos_model::is_block_size;
+use geos_terms::is_block_size;
 
 /// Whether a block that is no group has this handle.
 pub(crate) fn has_block(entries: &[Entry], h: u16) -> bool

@@ -5,13 +5,13 @@ ghost use Rattle.vm_file.specs.Reading.{area_size_at, count_at, head_at, header_
 
 use crate::directory::{Entry, MOST_BLOCKS};
 use crate::entries::{has_block, has_group};
-use geos_model::is_block_size;
+use geos_terms::is_block_size;
 
 /// The offset of the first byte of a field that is cut or breaks its rule.
 pub(crate) type Fault = u64;
 
 /// The word at `k` of the bytes that stand at an offset.
-#[tactic(auto, unfolding(geos_model::specs::Bytes::word))]
+#[tactic(auto, unfolding(geos_terms::specs::Bytes::word))]
 pub(crate) fn word_at(bytes: &[u8], at: u64, k: usize) -> Result<u16, Fault>
     requires { (at < 2 ^ 32) × (k < 2 ^ 10) }
     ensures { result ≡ word_at at bytes.now k }
@@ -77,7 +77,7 @@ pub(crate) fn maps_at(bytes: &[u8], entries: &[Entry], at: u64) -> Result<(u16, 
 }
 
 /// The area size.
-#[tactic(auto, unfolding(geos_model::specs::Bytes::word))]
+#[tactic(auto, unfolding(geos_terms::specs::Bytes::word))]
 fn area_size_at(bytes: &[u8]) -> Result<u32, Fault>
     ensures exact { result ≡ area_size_at bytes.now }
     ensures legal { IfOk result (λ n. (is_area n ≡ true) × (n ≤ 16777216)) }

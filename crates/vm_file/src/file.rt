@@ -43,7 +43,7 @@ impl<D: Device + Drop> Model for VmFile<D> {
 }
 
 impl<D: Device + Drop> VmFile<D> {
-    ghost use Rattle.geos_model.specs.Bytes.{AreBytes};
+    ghost use Rattle.geos_terms.specs.Bytes.{AreBytes};
     ghost use Rattle.lmem_raw.specs.Bytes.{with_part};
     ghost use Rattle.vm_file.specs.Committing.{AreResident, CommitsFile, FindsEither, IsContentsOf, IsKept, MayCommit, MayHaveWritten, NeedsNoRead, Spells};
     ghost use Rattle.vm_file.specs.Committing.{contents_from, current_after, image_after, kept_after, length_after, saved_after};

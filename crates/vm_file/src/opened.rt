@@ -13,7 +13,7 @@ use crate::entries::directory_length;
 use crate::error::OpenError;
 use crate::fields::header_at;
 use crate::reader::{fill, read_directory};
-use geos_model::MOST_BLOCK_BYTES;
+use geos_terms::MOST_BLOCK_BYTES;
 use std::alloc::Global;
 
 /// The file that a device holds: its area size, whether the second area is selected, and the

@@ -1,7 +1,7 @@
 //! A directory read from a device.
 ghost use Rattle.std.specs.Prelude.{◌≡◌, ◌+◌, ◌-◌, ◌<◌, ◌≤◌, ◌^◌, ℕ, true, min, length, map, take, IfOk, OnOk, OnErr, IsTrue, ◌↔◌};
-ghost use Rattle.geos_model.specs.Block.{handle_word};
-ghost use Rattle.geos_model.specs.Heap.{IsHeap, most_block_bytes};
+ghost use Rattle.geos_terms.specs.Block.{handle_word};
+ghost use Rattle.geos_terms.specs.Heap.{IsHeap, most_block_bytes};
 ghost use Rattle.lmem_raw.specs.Bytes.{part};
 ghost use Rattle.vm_file.specs.Contents.{entry_of, listed};
 ghost use Rattle.vm_file.specs.Directories.{AreMaps, are_entries, directory_length, entries_length, is_directory, is_entry};
@@ -40,7 +40,7 @@ pub(crate) fn fill<D: Device>(
 }
 
 /// The handle word of a block.
-#[tactic(auto, unfolding(geos_model::specs::Bytes::word))]
+#[tactic(auto, unfolding(geos_terms::specs::Bytes::word))]
 fn handle_of(block: &[u8]) -> u16
     requires { 2 ≤ length block.now }
     ensures { result ≡ handle_word block.now }

@@ -3,9 +3,9 @@
 ghost use Rattle.std.specs.Prelude.{◌≡◌, ◌+◌, ◌-◌, ◌<◌, ◌≤◌, ◌^◌, ◌++◌, ℕ, true, length, map, take, All, IsSome, OnOk, OnErr, IfOk};
 ghost use Rattle.std.specs.List.{Contains, list_all, flat_map};
 ghost use Rattle.std.specs.Vec.{vec_len, vec_capacity};
-ghost use Rattle.geos_model.specs.Block.{handle_word};
-ghost use Rattle.geos_model.specs.Bytes.{word_bytes};
-ghost use Rattle.geos_model.specs.Heap.{IsHeap};
+ghost use Rattle.geos_terms.specs.Block.{handle_word};
+ghost use Rattle.geos_terms.specs.Bytes.{word_bytes};
+ghost use Rattle.geos_terms.specs.Heap.{IsHeap};
 ghost use Rattle.lmem_raw.specs.Bytes.{part};
 ghost use Rattle.vm_file.specs.Committing.{AreResident, HasLength, placed_block, placed_contents};
 ghost use Rattle.vm_file.specs.Contents.{block_spelling, contents_spelling, is_filled};

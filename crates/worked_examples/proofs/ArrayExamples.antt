@@ -1,15 +1,15 @@
 -- Arrays and the calls on them, computed on examples.
 use Rattle.std.proofs.Common.{◌≡◌, ℕ, List, [], ◌∷◌, ◌++◌, replicate, Option, Some, None, refl}
 use Rattle.std.specs.Prelude.{Ok, Err}
-use Rattle.geos_model.specs.declared.refusal.Refusal.TheVariants.{BadChunk, BadArray, BadElement, Short, TooBig}
-use Rattle.geos_model.specs.Names.{mem}
-use Rattle.geos_model.specs.Bytes.{word}
-use Rattle.geos_model.specs.Chunks.{cost}
-use Rattle.geos_table.specs.Memory.{Memory, chunks_at}
-use Rattle.geos_table.specs.Effects.{Reference, InBlock}
-use Rattle.geos_model.specs.Arrays.{arr, spelled, empty}
-use Rattle.geos_table.specs.Calls.{load16, store}
-use Rattle.geos_table.specs.ArrayCalls.{canew, caadd, cains, cadel, cacount, caelt, cazero, caresize}
+use Rattle.geos_terms.specs.declared.refusal.Refusal.TheVariants.{BadChunk, BadArray, BadElement, Short, TooBig}
+use Rattle.geos_terms.specs.Names.{mem}
+use Rattle.geos_terms.specs.Bytes.{word}
+use Rattle.geos_terms.specs.Chunks.{cost}
+use Rattle.geos_calls.specs.Memory.{Memory, chunks_at}
+use Rattle.geos_calls.specs.Effects.{Reference, InBlock}
+use Rattle.geos_terms.specs.Arrays.{arr, spelled, empty}
+use Rattle.geos_calls.specs.Calls.{load16, store}
+use Rattle.geos_calls.specs.ArrayCalls.{canew, caadd, cains, cadel, cacount, caelt, cazero, caresize}
 use Rattle.worked_examples.proofs.States.{willing}
 use Rattle.worked_examples.proofs.CallExamples.{one, after, answer}
 

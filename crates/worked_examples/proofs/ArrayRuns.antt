@@ -1,8 +1,8 @@
 -- What the rules say of the worked examples on arrays, and what the model's runs of them come to.
 use Rattle.std.proofs.Common.{◌≡◌, false, refl, [], ◌∷◌, ◌++◌, replicate, Some, None}
-use Rattle.geos_model.specs.Bytes.{word}
-use Rattle.geos_model.specs.Chunks.{cost}
-use Rattle.geos_model.specs.Arrays.{arr, spelled}
+use Rattle.geos_terms.specs.Bytes.{word}
+use Rattle.geos_terms.specs.Chunks.{cost}
+use Rattle.geos_terms.specs.Arrays.{arr, spelled}
 use Rattle.geos_opcodes.specs.declared.opcode.Opcode.TheVariants.{Canew, Caadd, Cains, Cadel, Cacount, Caelt, Cazero, Caresize}
 use Rattle.geos_image.specs.declared.row.SlotState.TheVariants.{Mem, Vm}
 use Rattle.geos_verify.specs.declared.rule.Rule.TheVariants.{PassesEnd, ChangesUnmarked, WrongSlot, EdgeMisfit}

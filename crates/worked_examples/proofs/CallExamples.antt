@@ -1,17 +1,17 @@
 -- The table of calls, computed on examples.
 use Rattle.std.proofs.Common.{◌≡◌, ℕ, ◌+◌, ◌*◌, true, false, List, [], ◌∷◌, ◌++◌, replicate, Option, Some, None, refl}
 use Rattle.std.specs.Prelude.{Result, Ok, Err}
-use Rattle.geos_model.specs.declared.refusal.Refusal.{Refusal}
-use Rattle.geos_model.specs.declared.refusal.Refusal.TheVariants.{BadHandle, BadChunk, Short, NoRoom, NoHandle, TooBig, Locked, Range}
-use Rattle.geos_model.specs.Bytes.{word}
-use Rattle.geos_model.specs.Chunks.{cost}
-use Rattle.geos_model.specs.declared.name.Owner.TheVariants.{Vm}
-use Rattle.geos_model.specs.Names.{named, mem}
-use Rattle.geos_table.specs.VmFile.{empty_file}
-use Rattle.geos_table.specs.Memory.{Block, Memory, new_heap, block_of, with_block}
-use Rattle.geos_table.specs.Tight.{is_tight}
-use Rattle.geos_table.specs.Effects.{Reference, Effect, Staleness, Nothing, InBlock, OfLock, outcome}
-use Rattle.geos_table.specs.Calls.{mnew, mlock, unlock, mfree, lalloc, lfree, lrealloc, lins, ldel, lsize, deref, lcontract, load8, load16, store, copy}
+use Rattle.geos_terms.specs.declared.refusal.Refusal.{Refusal}
+use Rattle.geos_terms.specs.declared.refusal.Refusal.TheVariants.{BadHandle, BadChunk, Short, NoRoom, NoHandle, TooBig, Locked, Range}
+use Rattle.geos_terms.specs.Bytes.{word}
+use Rattle.geos_terms.specs.Chunks.{cost}
+use Rattle.geos_terms.specs.declared.name.Owner.TheVariants.{Vm}
+use Rattle.geos_terms.specs.Names.{named, mem}
+use Rattle.geos_calls.specs.VmFile.{empty_file}
+use Rattle.geos_calls.specs.Memory.{Block, Memory, new_heap, block_of, with_block}
+use Rattle.geos_calls.specs.Tight.{is_tight}
+use Rattle.geos_calls.specs.Effects.{Reference, Effect, Staleness, Nothing, InBlock, OfLock, outcome}
+use Rattle.geos_calls.specs.Calls.{mnew, mlock, unlock, mfree, lalloc, lfree, lrealloc, lins, ldel, lsize, deref, lcontract, load8, load16, store, copy}
 use Rattle.worked_examples.proofs.States.{willing, unwilling}
 
 -- a region with these blocks, that of handle 1 first, and no other

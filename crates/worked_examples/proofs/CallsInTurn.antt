@@ -1,13 +1,13 @@
 -- Memory to begin with, and calls one after another.
 use Rattle.std.proofs.Common.{ℕ, Bool, true, List, [], ◌∷◌, replicate, Option, Some, None}
 use Rattle.std.specs.Prelude.{Result}
-use Rattle.geos_model.specs.declared.refusal.Refusal.{Refusal}
-use Rattle.geos_model.specs.Names.{mem, vm}
-use Rattle.geos_table.specs.Directories.{VmBlock, Directory}
-use Rattle.geos_table.specs.VmFile.{Sure}
-use Rattle.geos_table.specs.Memory.{Memory}
-use Rattle.geos_table.specs.Effects.{Choice, Call, Reference, Staleness, outcome, effect_of}
-use Rattle.geos_table.specs.Calls.{mnew, unlock, lalloc}
+use Rattle.geos_terms.specs.declared.refusal.Refusal.{Refusal}
+use Rattle.geos_terms.specs.Names.{mem, vm}
+use Rattle.geos_calls.specs.Directories.{VmBlock, Directory}
+use Rattle.geos_calls.specs.VmFile.{Sure}
+use Rattle.geos_calls.specs.Memory.{Memory}
+use Rattle.geos_calls.specs.Effects.{Choice, Call, Reference, Staleness, outcome, effect_of}
+use Rattle.geos_calls.specs.Calls.{mnew, unlock, lalloc}
 use Rattle.worked_examples.proofs.States.{willing}
 
 -- room is refused wherever it may be

@@ -1,17 +1,17 @@
 -- Updates, saves and reverts of the VM file, computed on examples.
 use Rattle.std.proofs.Common.{◌≡◌, ℕ, true, false, [], ◌∷◌, ◌++◌, length, replicate, Option, Some, None, refl}
 use Rattle.std.specs.Prelude.{Ok, Err}
-use Rattle.geos_model.specs.declared.refusal.Refusal.TheVariants as refusal
-use Rattle.geos_model.specs.Names.{mem, vm}
-use Rattle.geos_model.specs.Bytes.{word}
-use Rattle.geos_model.specs.Chunks.{cost}
-use Rattle.geos_table.specs.Blocks.{Heap, Block}
-use Rattle.geos_table.specs.Directories.{VmBlock, KeptBlock, Directory, idle_block}
-use Rattle.geos_table.specs.VmFile.{Pair, Sure, Unsure, pair_length}
-use Rattle.geos_table.specs.Memory.{Memory, is_marked, size_of, chunks_at}
-use Rattle.geos_table.specs.Effects.{outcome, effect_of}
-use Rattle.geos_table.specs.Calls.{mnew, unlock, lalloc}
-use Rattle.geos_table.specs.VmCalls.{keep_current, keep_saved, pair_to_keep, vnew, vlock, vdirty, vunlock, vfree, vuid, vgetmap, vupdate, vsave, vrevert}
+use Rattle.geos_terms.specs.declared.refusal.Refusal.TheVariants as refusal
+use Rattle.geos_terms.specs.Names.{mem, vm}
+use Rattle.geos_terms.specs.Bytes.{word}
+use Rattle.geos_terms.specs.Chunks.{cost}
+use Rattle.geos_calls.specs.Blocks.{Heap, Block}
+use Rattle.geos_calls.specs.Directories.{VmBlock, KeptBlock, Directory, idle_block}
+use Rattle.geos_calls.specs.VmFile.{Pair, Sure, Unsure, pair_length}
+use Rattle.geos_calls.specs.Memory.{Memory, is_marked, size_of, chunks_at}
+use Rattle.geos_calls.specs.Effects.{outcome, effect_of}
+use Rattle.geos_calls.specs.Calls.{mnew, unlock, lalloc}
+use Rattle.geos_calls.specs.VmCalls.{keep_current, keep_saved, pair_to_keep, vnew, vlock, vdirty, vunlock, vfree, vuid, vgetmap, vupdate, vsave, vrevert}
 use Rattle.worked_examples.proofs.States.{unwilling}
 use Rattle.worked_examples.proofs.CallsInTurn.{crowded, failing, failing_late, listing, start, answer_under, left_under, says, next, filled}
 use Rattle.worked_examples.proofs.FileExamples.{put, got}

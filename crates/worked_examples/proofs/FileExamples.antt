@@ -1,16 +1,16 @@
 -- The calls on blocks of the VM file, computed on examples.
 use Rattle.std.proofs.Common.{◌≡◌, ℕ, true, false, replicate, refl}
 use Rattle.std.specs.Prelude.{Result, Ok, Err}
-use Rattle.geos_model.specs.declared.refusal.Refusal.{Refusal}
-use Rattle.geos_model.specs.declared.refusal.Refusal.TheVariants.{BadHandle, BadChunk, NoHandle, Locked, Disk, Reserved}
-use Rattle.geos_model.specs.Names.{mem, vm}
-use Rattle.geos_model.specs.Bytes.{word, word_bytes}
-use Rattle.geos_model.specs.Chunks.{cost}
-use Rattle.geos_table.specs.Memory.{Memory, is_marked, locks_of, with_locks, size_of, block_of}
-use Rattle.geos_table.specs.Effects.{Nothing, InBlock, OfLock, outcome, effect_of}
-use Rattle.geos_table.specs.Calls.{mnew, unlock, mfree, lalloc, deref, load16, store}
-use Rattle.geos_table.specs.VmCalls.{vnew, lock_listed, vlock, bring, vdirty, vunlock, free_listed, vfree, vfind, vuid, vgetmap, vsetmap, vupdate}
-use Rattle.geos_table.specs.ItemCalls.{gnew, gfree}
+use Rattle.geos_terms.specs.declared.refusal.Refusal.{Refusal}
+use Rattle.geos_terms.specs.declared.refusal.Refusal.TheVariants.{BadHandle, BadChunk, NoHandle, Locked, Disk, Reserved}
+use Rattle.geos_terms.specs.Names.{mem, vm}
+use Rattle.geos_terms.specs.Bytes.{word, word_bytes}
+use Rattle.geos_terms.specs.Chunks.{cost}
+use Rattle.geos_calls.specs.Memory.{Memory, is_marked, locks_of, with_locks, size_of, block_of}
+use Rattle.geos_calls.specs.Effects.{Nothing, InBlock, OfLock, outcome, effect_of}
+use Rattle.geos_calls.specs.Calls.{mnew, unlock, mfree, lalloc, deref, load16, store}
+use Rattle.geos_calls.specs.VmCalls.{vnew, lock_listed, vlock, bring, vdirty, vunlock, free_listed, vfree, vfind, vuid, vgetmap, vsetmap, vupdate}
+use Rattle.geos_calls.specs.ItemCalls.{gnew, gfree}
 use Rattle.worked_examples.proofs.States.{willing}
 use Rattle.worked_examples.proofs.CallsInTurn.{crowded, failing, start, answer_under, left_under, says, next, stales, listing, bytes_in_file, sized_in_file, filled}
 

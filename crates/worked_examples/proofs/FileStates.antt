@@ -1,10 +1,10 @@
 -- States of the model for the worked examples on the VM file: beside the three blocks a file that lists
 -- two blocks and a group, has a handle that is free, and was saved with one block.
 use Rattle.std.proofs.Common.{ℕ, Bool, true, false, List, [], ◌∷◌, Option, Some, None}
-use Rattle.geos_model.specs.Names.{vm}
-use Rattle.geos_table.specs.Directories.{VmBlock as Listed, KeptBlock, Directory}
-use Rattle.geos_table.specs.VmFile.{Pair, Sure, VmFile}
-use Rattle.geos_table.specs.Effects.{Choice}
+use Rattle.geos_terms.specs.Names.{vm}
+use Rattle.geos_calls.specs.Directories.{VmBlock as Listed, KeptBlock, Directory}
+use Rattle.geos_calls.specs.VmFile.{Pair, Sure, VmFile}
+use Rattle.geos_calls.specs.Effects.{Choice}
 use Rattle.geos_image.specs.declared.instr.Instr.{Instr}
 use Rattle.geos_opcodes.specs.declared.uses.Kind.{Kind}
 use Rattle.geos_semantics.specs.State.{State}

@@ -1,18 +1,18 @@
 -- What a device that is not honest gives, computed on examples.
 use Rattle.std.proofs.Common.{◌≡◌, ℕ, Bool, ◌+◌, ◌*◌, true, false, List, [], ◌∷◌, replicate, Option, Some, None, refl}
 use Rattle.std.specs.Prelude.{Ok, Err}
-use Rattle.geos_model.specs.declared.refusal.Refusal.TheVariants.{Short, Disk}
-use Rattle.geos_model.specs.Names.{vm}
-use Rattle.geos_model.specs.Bytes.{word}
-use Rattle.geos_model.specs.Chunks.{cost}
-use Rattle.geos_table.specs.Directories.{VmBlock, KeptBlock, Directory, kept_block}
-use Rattle.geos_table.specs.VmFile.{Sure}
-use Rattle.geos_table.specs.Memory.{Memory, with_locks}
-use Rattle.geos_table.specs.Given.{given_memory}
-use Rattle.geos_table.specs.Effects.{Choice, effect_of, outcome}
-use Rattle.geos_table.specs.Calls.{load16, named_bytes}
-use Rattle.geos_table.specs.VmCalls.{vlock, vunlock, vsave}
-use Rattle.geos_table.specs.ItemCalls.{ilock}
+use Rattle.geos_terms.specs.declared.refusal.Refusal.TheVariants.{Short, Disk}
+use Rattle.geos_terms.specs.Names.{vm}
+use Rattle.geos_terms.specs.Bytes.{word}
+use Rattle.geos_terms.specs.Chunks.{cost}
+use Rattle.geos_calls.specs.Directories.{VmBlock, KeptBlock, Directory, kept_block}
+use Rattle.geos_calls.specs.VmFile.{Sure}
+use Rattle.geos_calls.specs.Memory.{Memory, with_locks}
+use Rattle.geos_calls.specs.Given.{given_memory}
+use Rattle.geos_calls.specs.Effects.{Choice, effect_of, outcome}
+use Rattle.geos_calls.specs.Calls.{load16, named_bytes}
+use Rattle.geos_calls.specs.VmCalls.{vlock, vunlock, vsave}
+use Rattle.geos_calls.specs.ItemCalls.{ilock}
 use Rattle.worked_examples.proofs.States.{willing}
 use Rattle.worked_examples.proofs.CallsInTurn.{start, listing, answer_under, left_under, bytes_in_file}
 

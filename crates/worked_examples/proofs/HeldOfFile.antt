@@ -3,16 +3,16 @@ use Rattle.std.proofs.Common.{◌≡◌, refl, ℕ, zero, suc, ◌+◌, ◌<◌,
 use Rattle.std.specs.Prelude.{option_map}
 use Rattle.std.proofs.lemmas.Bool.{cases_lt}
 use Rattle.std.proofs.lemmas.List.{get_or-replicate, get_or_past, length-replicate}
-use Rattle.geos_model.specs.declared.name.Name.{Name}
-use Rattle.geos_model.specs.Names.{vm}
-use Rattle.geos_table.specs.Directories as directories
-use Rattle.geos_table.specs.VmFile.{empty_file}
-use Rattle.geos_table.specs.VmCalls.{new_listed}
-use Rattle.geos_table.specs.Memory.{Memory, at_handle, with_listed, locks_in, locks_of, with_locks}
-use Rattle.geos_table.specs.Effects.{Nothing}
-use Rattle.geos_table.specs.Legal.{IsLegalListed, IsMemory}
-use Rattle.geos_table.proofs.HandleLists.{entry-kept}
-use Rattle.geos_table.proofs.LegalBlocks.{new_heap-legal, empty-legal, added_listed-legal, with_locks-legal}
+use Rattle.geos_terms.specs.declared.name.Name.{Name}
+use Rattle.geos_terms.specs.Names.{vm}
+use Rattle.geos_calls.specs.Directories as directories
+use Rattle.geos_calls.specs.VmFile.{empty_file}
+use Rattle.geos_calls.specs.VmCalls.{new_listed}
+use Rattle.geos_calls.specs.Memory.{Memory, at_handle, with_listed, locks_in, locks_of, with_locks}
+use Rattle.geos_calls.specs.Effects.{Nothing}
+use Rattle.geos_calls.specs.Legal.{IsLegalListed, IsMemory}
+use Rattle.geos_calls.proofs.HandleLists.{entry-kept}
+use Rattle.geos_calls.proofs.LegalBlocks.{new_heap-legal, empty-legal, added_listed-legal, with_locks-legal}
 use Rattle.geos_opcodes.specs.declared.uses.Kind.TheVariants.{VmBlock, DbGroup}
 use Rattle.geos_semantics.specs.State.{Held, name_of, State, slot, kept_pointers}
 use Rattle.geos_semantics.specs.Faults.{lacks_mark}

@@ -1,15 +1,15 @@
 -- The calls on groups and items, computed on examples.
 use Rattle.std.proofs.Common.{◌≡◌, true, false, [], ◌∷◌, Some, None, refl}
 use Rattle.std.specs.Prelude.{Ok, Err}
-use Rattle.geos_model.specs.declared.refusal.Refusal.TheVariants.{BadHandle, BadChunk, Short, Locked, Disk, Range}
-use Rattle.geos_model.specs.Names.{vm}
-use Rattle.geos_model.specs.Bytes.{word}
-use Rattle.geos_model.specs.Chunks.{cost}
-use Rattle.geos_table.specs.Memory.{Memory, is_marked, locks_of, with_locks, chunks_at}
-use Rattle.geos_table.specs.Effects.{Nothing, InBlock, OfLock}
-use Rattle.geos_table.specs.Calls.{deref, load16}
-use Rattle.geos_table.specs.VmCalls.{vnew, vsave}
-use Rattle.geos_table.specs.ItemCalls.{gnew, gfree, inew, ifree, irealloc, iins, idel, ilock, idirty, iunlock, igetmap, isetmap}
+use Rattle.geos_terms.specs.declared.refusal.Refusal.TheVariants.{BadHandle, BadChunk, Short, Locked, Disk, Range}
+use Rattle.geos_terms.specs.Names.{vm}
+use Rattle.geos_terms.specs.Bytes.{word}
+use Rattle.geos_terms.specs.Chunks.{cost}
+use Rattle.geos_calls.specs.Memory.{Memory, is_marked, locks_of, with_locks, chunks_at}
+use Rattle.geos_calls.specs.Effects.{Nothing, InBlock, OfLock}
+use Rattle.geos_calls.specs.Calls.{deref, load16}
+use Rattle.geos_calls.specs.VmCalls.{vnew, vsave}
+use Rattle.geos_calls.specs.ItemCalls.{gnew, gfree, inew, ifree, irealloc, iins, idel, ilock, idirty, iunlock, igetmap, isetmap}
 use Rattle.worked_examples.proofs.CallsInTurn.{failing, start, answer_under, says, next, stales, bytes_in_file}
 
 -- a group with two items of four bytes

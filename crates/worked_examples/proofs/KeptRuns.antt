@@ -1,11 +1,11 @@
 -- What the file keeps along a script: two calls of a routine that makes a block and maps it, a save between them, and an update at the end.
 use Rattle.std.proofs.Common.{◌≡◌, refl, false, List, [], ◌∷◌, ◌++◌, replicate, Option, Some, None}
-use Rattle.geos_model.specs.Chunks.{cost}
-use Rattle.geos_table.specs.Directories.{Directory, KeptBlock, no_directory}
-use Rattle.geos_table.specs.Effects.{effect_of, outcome}
-use Rattle.geos_table.specs.Memory.{Memory}
-use Rattle.geos_table.specs.VmCalls.{Keeper, commit, keep_current, keep_saved}
-use Rattle.geos_table.specs.VmFile.{Kept, Sure, empty_file}
+use Rattle.geos_terms.specs.Chunks.{cost}
+use Rattle.geos_calls.specs.Directories.{Directory, KeptBlock, no_directory}
+use Rattle.geos_calls.specs.Effects.{effect_of, outcome}
+use Rattle.geos_calls.specs.Memory.{Memory}
+use Rattle.geos_calls.specs.VmCalls.{Keeper, commit, keep_current, keep_saved}
+use Rattle.geos_calls.specs.VmFile.{Kept, Sure, empty_file}
 use Rattle.geos_opcodes.specs.declared.opcode.Opcode.TheVariants.{Ret, Vnew, Vsetmap, Vunlock}
 use Rattle.geos_image.specs.Open.{open_row}
 use Rattle.geos_image.specs.Parts.{Parts}

@@ -1,10 +1,10 @@
 -- What each instruction on arrays does, on values that a wrong definition would show itself at.
 use Rattle.std.proofs.Common.{◌≡◌, refl, ℕ, List, [], ◌∷◌, Option, Some, None}
-use Rattle.geos_model.specs.Names.{mem}
-use Rattle.geos_model.specs.Bytes.{word}
-use Rattle.geos_model.specs.Chunks.{cost}
-use Rattle.geos_model.specs.Arrays.{arr, spelled}
-use Rattle.geos_table.specs.Memory.{Memory}
+use Rattle.geos_terms.specs.Names.{mem}
+use Rattle.geos_terms.specs.Bytes.{word}
+use Rattle.geos_terms.specs.Chunks.{cost}
+use Rattle.geos_terms.specs.Arrays.{arr, spelled}
+use Rattle.geos_calls.specs.Memory.{Memory}
 use Rattle.geos_opcodes.specs.declared.opcode.Opcode.{Opcode}
 use Rattle.geos_opcodes.specs.declared.opcode.Opcode.TheVariants.{Canew, Caadd, Cains, Cadel, Cacount, Caelt, Cazero, Caresize}
 use Rattle.geos_image.specs.declared.instr.Instr.{Instr}

@@ -1,9 +1,9 @@
 -- What the instructions that write the VM file do, on values that a wrong definition would show itself
 -- at.
 use Rattle.std.proofs.Common.{◌≡◌, refl, ℕ, false, [], ◌∷◌, Some, None}
-use Rattle.geos_model.specs.Chunks.{cost}
-use Rattle.geos_table.specs.Directories.{VmBlock as Listed, KeptBlock, Directory}
-use Rattle.geos_table.specs.VmFile.{Pair, Sure, Unsure}
+use Rattle.geos_terms.specs.Chunks.{cost}
+use Rattle.geos_calls.specs.Directories.{VmBlock as Listed, KeptBlock, Directory}
+use Rattle.geos_calls.specs.VmFile.{Pair, Sure, Unsure}
 use Rattle.geos_opcodes.specs.declared.opcode.Opcode.TheVariants.{Vupdate, Vsave, Vrevert}
 use Rattle.geos_semantics.specs.State.{State}
 use Rattle.worked_examples.proofs.Images.{instr}

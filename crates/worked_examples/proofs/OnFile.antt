@@ -1,8 +1,8 @@
 -- What a slot knows that holds a block or a group of the VM file, and what instructions do there.
 use Rattle.std.proofs.Common.{◌≡◌, refl, ℕ, Bool, true, false, List, [], ◌∷◌, Option, Some, None}
-use Rattle.geos_model.specs.Chunks.{cost}
-use Rattle.geos_model.specs.Bytes.{word}
-use Rattle.geos_table.specs.Memory.{Memory}
+use Rattle.geos_terms.specs.Chunks.{cost}
+use Rattle.geos_terms.specs.Bytes.{word}
+use Rattle.geos_calls.specs.Memory.{Memory}
 use Rattle.geos_opcodes.specs.declared.opcode.Opcode.TheVariants.{Lalloc, Lsize, Ldb, Stb, Copy}
 use Rattle.geos_opcodes.specs.declared.uses.Kind.{Kind}
 use Rattle.geos_opcodes.specs.declared.uses.Kind.TheVariants.{VmBlock, DbGroup}

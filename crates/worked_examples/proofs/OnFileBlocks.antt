@@ -1,7 +1,7 @@
 -- What each instruction on blocks of the VM file does, on values that a wrong definition would show
 -- itself at.
 use Rattle.std.proofs.Common.{◌≡◌, refl, true, false, [], ◌∷◌, None}
-use Rattle.geos_model.specs.Chunks.{cost}
+use Rattle.geos_terms.specs.Chunks.{cost}
 use Rattle.geos_opcodes.specs.declared.opcode.Opcode.TheVariants.{Vnew, Vlock, Vdirty, Vunlock, Vfree, Vfind, Vuid, Vgetmap, Vsetmap}
 use Rattle.geos_opcodes.specs.declared.uses.Kind.TheVariants.{VmBlock}
 use Rattle.geos_semantics.specs.State.{State}

@@ -1,7 +1,7 @@
 -- What each instruction on groups and items does, on values that a wrong definition would show itself
 -- at.
 use Rattle.std.proofs.Common.{◌≡◌, refl, ℕ, true, false, List, [], ◌∷◌, Option, Some, None}
-use Rattle.geos_model.specs.Chunks.{cost}
+use Rattle.geos_terms.specs.Chunks.{cost}
 use Rattle.geos_opcodes.specs.declared.opcode.Opcode.TheVariants.{Gnew, Gfree, Inew, Ifree, Irealloc, Iins, Idel, Ilock, Idirty, Iunlock, Igetmap, Isetmap}
 use Rattle.geos_opcodes.specs.declared.uses.Kind.TheVariants.{DbGroup}
 use Rattle.geos_image.specs.declared.instr.Instr.{Instr}

@@ -1,8 +1,8 @@
 -- What each instruction through pointers does, on values that a wrong definition would show
 -- itself at.
 use Rattle.std.proofs.Common.{◌≡◌, refl, ℕ, List, [], ◌∷◌, Some, None}
-use Rattle.geos_model.specs.Chunks.{cost}
-use Rattle.geos_model.specs.Bytes.{word}
+use Rattle.geos_terms.specs.Chunks.{cost}
+use Rattle.geos_terms.specs.Bytes.{word}
 use Rattle.geos_opcodes.specs.declared.opcode.Opcode.TheVariants.{Ldb, Ldw, Stb, Stw, Ldxb, Ldxw, Stxb, Stxw, Ldcb, Ldcw, Stcb, Stcw, Movp, Copy, Plen}
 use Rattle.geos_semantics.specs.State.{State}
 use Rattle.geos_semantics.specs.Model.{step}

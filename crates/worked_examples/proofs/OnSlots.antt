@@ -1,8 +1,8 @@
 -- What each instruction on blocks and their chunks does, on values that a wrong definition
 -- would show itself at.
 use Rattle.std.proofs.Common.{◌≡◌, refl, ℕ, List, [], ◌∷◌, Option, Some, None}
-use Rattle.geos_model.specs.Chunks.{cost}
-use Rattle.geos_table.specs.Memory.{Memory, new_heap}
+use Rattle.geos_terms.specs.Chunks.{cost}
+use Rattle.geos_calls.specs.Memory.{Memory, new_heap}
 use Rattle.geos_opcodes.specs.declared.opcode.Opcode.TheVariants.{Mnew, Mlock, Munlock, Mfree, Sne, Lalloc, Lfree, Lrealloc, Lins, Ldel, Lsize, Deref, Lcontract}
 use Rattle.geos_image.specs.declared.instr.Instr.{Instr}
 use Rattle.geos_opcodes.specs.declared.opcode.Opcode.{Opcode}

@@ -1,10 +1,10 @@
 -- What the model's runs of the worked examples come to.
 use Rattle.std.proofs.Common.{◌≡◌, refl, ℕ, List, [], ◌∷◌, replicate, Option, Some, None}
-use Rattle.geos_model.specs.Bytes.{word}
-use Rattle.geos_model.specs.Chunks.{cost}
-use Rattle.geos_table.specs.VmFile.{empty_file}
-use Rattle.geos_table.specs.Memory.{Block}
-use Rattle.geos_table.specs.Effects.{Choice}
+use Rattle.geos_terms.specs.Bytes.{word}
+use Rattle.geos_terms.specs.Chunks.{cost}
+use Rattle.geos_calls.specs.VmFile.{empty_file}
+use Rattle.geos_calls.specs.Memory.{Block}
+use Rattle.geos_calls.specs.Effects.{Choice}
 use Rattle.geos_opcodes.specs.declared.opcode.Opcode.TheVariants.{Plen}
 use Rattle.geos_image.specs.Parts.{Parts}
 use Rattle.geos_semantics.specs.Model.{Ending, Faulted, Running, Returned, run}

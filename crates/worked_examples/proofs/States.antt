@@ -1,12 +1,12 @@
 -- States of the model for the worked examples: a memory of three blocks, two slots that hold
 -- the first and one that holds the second; and beside them a VM file that lists a block.
 use Rattle.std.proofs.Common.{ℕ, Bool, true, false, List, [], ◌∷◌, Option, Some, None}
-use Rattle.geos_model.specs.Names.{named, mem}
-use Rattle.geos_model.specs.declared.name.Owner.TheVariants.{Vm}
-use Rattle.geos_table.specs.Directories.{VmBlock as Listed, no_directory}
-use Rattle.geos_table.specs.VmFile.{empty_file}
-use Rattle.geos_table.specs.Memory.{Block, Memory}
-use Rattle.geos_table.specs.Effects.{Choice}
+use Rattle.geos_terms.specs.Names.{named, mem}
+use Rattle.geos_terms.specs.declared.name.Owner.TheVariants.{Vm}
+use Rattle.geos_calls.specs.Directories.{VmBlock as Listed, no_directory}
+use Rattle.geos_calls.specs.VmFile.{empty_file}
+use Rattle.geos_calls.specs.Memory.{Block, Memory}
+use Rattle.geos_calls.specs.Effects.{Choice}
 use Rattle.geos_image.specs.declared.instr.Instr.{Instr}
 use Rattle.geos_image.specs.Open.{open_row}
 use Rattle.geos_image.specs.Parts.{Parts}

@@ -2,14 +2,14 @@
 -- on examples.
 use Rattle.std.proofs.Common.{◌≡◌, ℕ, true, false, [], ◌∷◌, ◌++◌, replicate, None, refl}
 use Rattle.std.specs.Prelude.{Ok, Err}
-use Rattle.geos_model.specs.declared.refusal.Refusal.TheVariants.{BadChunk, NoRoom, NoHandle, Locked, Reserved, Disk}
-use Rattle.geos_model.specs.Names.{mem, vm}
-use Rattle.geos_model.specs.Chunks.{cost}
-use Rattle.geos_table.specs.Memory.{Memory, with_locks}
-use Rattle.geos_table.specs.Tight.{is_tight}
-use Rattle.geos_table.specs.Calls.{mnew, lalloc}
-use Rattle.geos_table.specs.VmCalls.{vnew, vlock}
-use Rattle.geos_table.specs.ItemCalls.{gnew, inew, ilock}
+use Rattle.geos_terms.specs.declared.refusal.Refusal.TheVariants.{BadChunk, NoRoom, NoHandle, Locked, Reserved, Disk}
+use Rattle.geos_terms.specs.Names.{mem, vm}
+use Rattle.geos_terms.specs.Chunks.{cost}
+use Rattle.geos_calls.specs.Memory.{Memory, with_locks}
+use Rattle.geos_calls.specs.Tight.{is_tight}
+use Rattle.geos_calls.specs.Calls.{mnew, lalloc}
+use Rattle.geos_calls.specs.VmCalls.{vnew, vlock}
+use Rattle.geos_calls.specs.ItemCalls.{gnew, inew, ilock}
 use Rattle.worked_examples.proofs.States.{unwilling}
 use Rattle.worked_examples.proofs.CallsInTurn.{crowded, start, answer_under, listing, sized_in_file}
 use Rattle.worked_examples.proofs.CallExamples.{sized}

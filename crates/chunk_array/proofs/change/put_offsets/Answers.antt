@@ -1,6 +1,6 @@
 use Rattle.std.proofs.Common.{ℕ, List, ap, sym, ◌∙◌, subst}
-use Rattle.geos_model.specs.Chunks.{with_bytes}
-use Rattle.geos_model.specs.Block.{chunks}
+use Rattle.geos_terms.specs.Chunks.{with_bytes}
+use Rattle.geos_terms.specs.Block.{chunks}
 use Rattle.chunk_array.specs.Refits.{HasRefit}
 use Rattle.chunk_array.proofs.Rewritten.{range-bytes, rewritten}
 use Rattle.chunk_array.proofs.change.put_offsets.Goals as goal

@@ -1,5 +1,5 @@
 use Rattle.std.proofs.Common.{ℕ, ◌-◌, ◌<◌, length, get_or, refl, ap, ◌∙◌, arith}
-use Rattle.geos_model.specs.Bytes.{with_word}
+use Rattle.geos_terms.specs.Bytes.{with_word}
 use Rattle.chunk_array.proofs.Parted.{parts, closable, spells-varying, spells-fixed}
 use Rattle.chunk_array.proofs.change.spell_removed.Goals as goal
 use Rattle.chunk_array.proofs.change.spell_removed.Goals.{then-shape-eq0, else-shape-eq0}

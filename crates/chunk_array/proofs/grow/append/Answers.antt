@@ -1,10 +1,10 @@
 use Rattle.std.proofs.Common.{[], ap, sym, ◌∙◌, subst}
 use Rattle.lmem_raw.specs.Bytes.{part}
-use Rattle.geos_model.specs.Block.{chunks}
-use Rattle.geos_model.specs.Arrays.{with_element}
-use Rattle.geos_model.specs.ArrayEdits.{array_of, no_array, with_array}
+use Rattle.geos_terms.specs.Block.{chunks}
+use Rattle.geos_terms.specs.Arrays.{with_element}
+use Rattle.geos_terms.specs.ArrayEdits.{array_of, no_array, with_array}
 use Rattle.chunk_array.specs.ArrayErrors.{IsArrayError}
-use Rattle.geos_model.proofs.ArrayTests.{count-of, array-passes}
+use Rattle.geos_terms.proofs.ArrayTests.{count-of, array-passes}
 use Rattle.chunk_array.proofs.ReadBack.{appends}
 use Rattle.chunk_array.proofs.grow.append.Goals as goal
 

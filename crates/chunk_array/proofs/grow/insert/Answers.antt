@@ -1,10 +1,10 @@
 use Rattle.std.proofs.Common.{[], ◌∷◌, arith, subst}
 use Rattle.std.specs.Prelude.{nat_lt}
 use Rattle.lmem_raw.specs.Bytes.{part}
-use Rattle.geos_model.specs.Block.{chunks}
-use Rattle.geos_model.specs.declared.refusal.Refusal.TheVariants.{BadElement}
-use Rattle.geos_model.specs.ArrayEdits.{count_of, no_array}
-use Rattle.geos_model.proofs.ArrayTests.{insert-passes}
+use Rattle.geos_terms.specs.Block.{chunks}
+use Rattle.geos_terms.specs.declared.refusal.Refusal.TheVariants.{BadElement}
+use Rattle.geos_terms.specs.ArrayEdits.{count_of, no_array}
+use Rattle.geos_terms.proofs.ArrayTests.{insert-passes}
 use Rattle.chunk_array.specs.ArrayErrors.{IsArrayError}
 use Rattle.chunk_array.proofs.ReadBack.{inserts}
 use Rattle.chunk_array.proofs.Refusing.{first-stays}

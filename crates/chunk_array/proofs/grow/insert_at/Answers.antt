@@ -1,10 +1,10 @@
 use Rattle.std.proofs.Common.{ℕ, length, ap, sym, ◌∙◌, subst, arith}
 use Rattle.lmem_raw.specs.Bytes.{part}
-use Rattle.geos_model.specs.Block.{chunks}
-use Rattle.geos_model.specs.Chunks.{need, with_inserted, with_zeros, bytes_of}
-use Rattle.geos_model.specs.Arrays.{spelled, with_element}
-use Rattle.geos_model.specs.ArrayEdits.{array_of, with_array}
-use Rattle.geos_model.proofs.ChunkItems.{written-twice}
+use Rattle.geos_terms.specs.Block.{chunks}
+use Rattle.geos_terms.specs.Chunks.{need, with_inserted, with_zeros, bytes_of}
+use Rattle.geos_terms.specs.Arrays.{spelled, with_element}
+use Rattle.geos_terms.specs.ArrayEdits.{array_of, with_array}
+use Rattle.geos_terms.proofs.ChunkItems.{written-twice}
 use Rattle.lmem_heap.specs.Refusals.{IsRoomError, IsInsertError}
 use Rattle.chunk_array.specs.Insertions.{room_of}
 use Rattle.chunk_array.proofs.Growing.{grown, grown-need, grown-big, roomy}

@@ -1,4 +1,4 @@
-use Rattle.geos_model.proofs.ArrayRound.{array-spelled}
+use Rattle.geos_terms.proofs.ArrayRound.{array-spelled}
 use Rattle.chunk_array.proofs.Sized.{read-sized}
 use Rattle.chunk_array.proofs.ReadBack.{read-there, spelled-once}
 use Rattle.chunk_array.proofs.law.arrays_are_read_back.Goals as goal

@@ -1,10 +1,10 @@
 use Rattle.std.proofs.Common.{◌≡◌, ◌+◌, ◌<◌, length, ap, sym, ◌∙◌, arith}
 use Rattle.lmem_raw.specs.Bytes.{part}
-use Rattle.geos_model.specs.Block.{chunks}
-use Rattle.geos_model.specs.Arrays.{element, element_at}
-use Rattle.geos_model.proofs.ArrayTests.{array-of}
-use Rattle.geos_model.proofs.ArrayPlaces.{element-ends, part-element}
-use Rattle.geos_model.proofs.Entered.{part-part}
+use Rattle.geos_terms.specs.Block.{chunks}
+use Rattle.geos_terms.specs.Arrays.{element, element_at}
+use Rattle.geos_terms.proofs.ArrayTests.{array-of}
+use Rattle.geos_terms.proofs.ArrayPlaces.{element-ends, part-element}
+use Rattle.geos_terms.proofs.Entered.{part-part}
 use Rattle.chunk_array.proofs.Shaped.{holds}
 use Rattle.chunk_array.proofs.look.element.Goals as goal
 

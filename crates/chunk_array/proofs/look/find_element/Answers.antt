@@ -1,6 +1,6 @@
 use Rattle.std.proofs.Common.{[], ◌∷◌, subst}
-use Rattle.geos_model.specs.ArrayEdits.{is_past, no_array}
-use Rattle.geos_model.specs.Block.{chunks}
+use Rattle.geos_terms.specs.ArrayEdits.{is_past, no_array}
+use Rattle.geos_terms.specs.Block.{chunks}
 use Rattle.chunk_array.specs.ArrayErrors.{IsArrayError}
 use Rattle.chunk_array.proofs.Refusing.{first-stays}
 use Rattle.chunk_array.proofs.look.find_element.Goals as goal

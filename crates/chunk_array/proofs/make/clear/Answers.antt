@@ -1,11 +1,11 @@
 use Rattle.std.proofs.Common.{◌≡◌, ℕ, ◌+◌, ◌-◌, ◌≤◌, List, [], Some, length, take, drop, ap, sym, ◌∙◌, arith, length-append, length-take, length-drop}
 use Rattle.lmem_raw.specs.Bytes.{part}
-use Rattle.geos_model.specs.Block.{chunks}
-use Rattle.geos_model.specs.Chunks.{chunk_of, bytes_of, without_part}
-use Rattle.geos_model.specs.Arrays.{Array, empty, spelled}
-use Rattle.geos_model.specs.ArrayEdits.{with_array}
-use Rattle.geos_model.proofs.ChunkItems.{known-bytes, chunk-written, written-twice}
-use Rattle.geos_model.proofs.ArrayTests.{array-of, array-passes}
+use Rattle.geos_terms.specs.Block.{chunks}
+use Rattle.geos_terms.specs.Chunks.{chunk_of, bytes_of, without_part}
+use Rattle.geos_terms.specs.Arrays.{Array, empty, spelled}
+use Rattle.geos_terms.specs.ArrayEdits.{with_array}
+use Rattle.geos_terms.proofs.ChunkItems.{known-bytes, chunk-written, written-twice}
+use Rattle.geos_terms.proofs.ArrayTests.{array-of, array-passes}
 use Rattle.chunk_array.proofs.Shaped.{holds}
 use Rattle.chunk_array.proofs.ReadBack.{clears}
 use Rattle.chunk_array.proofs.Refusing.{can-delete}

@@ -1,10 +1,10 @@
 use Rattle.std.proofs.Common.{◌≡◌, ℕ, Some, length, replicate, ap, sym, ◌∙◌, subst, arith}
 use Rattle.std.proofs.lemmas.List.{length-replicate}
-use Rattle.geos_model.specs.Block.{chunks}
-use Rattle.geos_model.specs.Chunks.{chunk_of, with_new}
-use Rattle.geos_model.specs.Arrays.{empty, spelled}
-use Rattle.geos_model.proofs.ChunkItems.{chunk-new, need-new}
-use Rattle.geos_model.specs.ArrayEdits.{with_array}
+use Rattle.geos_terms.specs.Block.{chunks}
+use Rattle.geos_terms.specs.Chunks.{chunk_of, with_new}
+use Rattle.geos_terms.specs.Arrays.{empty, spelled}
+use Rattle.geos_terms.proofs.ChunkItems.{chunk-new, need-new}
+use Rattle.geos_terms.specs.ArrayEdits.{with_array}
 use Rattle.lmem_heap.specs.Refusals.{IsRoomError}
 use Rattle.chunk_array.proofs.Headers.{length-empty}
 use Rattle.chunk_array.proofs.ReadBack.{creates}

@@ -1,6 +1,6 @@
 use Rattle.std.proofs.Common.{ap, ◌∙◌}
-use Rattle.geos_model.specs.Chunks.{with_bytes}
-use Rattle.geos_model.specs.Block.{chunks}
+use Rattle.geos_terms.specs.Chunks.{with_bytes}
+use Rattle.geos_terms.specs.Block.{chunks}
 use Rattle.chunk_array.proofs.Rewritten.{rewritten}
 use Rattle.chunk_array.proofs.make.put_empty.Goals as goal
 

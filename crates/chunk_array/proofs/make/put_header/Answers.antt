@@ -1,5 +1,5 @@
 use Rattle.std.proofs.Common.{◌≡◌, ◌<◌, List, ap, ◌∙◌, subst, arith, get_or, ℕ}
-use Rattle.geos_model.specs.Bytes.{with_word}
+use Rattle.geos_terms.specs.Bytes.{with_word}
 use Rattle.chunk_array.proofs.Headers.{with_header, header-spells}
 use Rattle.chunk_array.proofs.make.put_header.Goals as goal
 

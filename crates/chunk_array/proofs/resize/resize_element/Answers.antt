@@ -1,11 +1,11 @@
 use Rattle.std.proofs.Common.{ℕ, [], ◌∷◌, length, ap, sym, ◌∙◌, subst, arith}
 use Rattle.lmem_raw.specs.Bytes.{part}
-use Rattle.geos_model.specs.Block.{chunks}
-use Rattle.geos_model.specs.Chunks.{bytes_of, with_resized_part}
-use Rattle.geos_model.specs.Arrays.{spelled}
-use Rattle.geos_model.specs.ArrayEdits.{is_fixed, is_past, no_array, with_array}
-use Rattle.geos_model.proofs.ArrayTests.{fixed-refused}
-use Rattle.geos_model.proofs.ChunkItems.{written-twice}
+use Rattle.geos_terms.specs.Block.{chunks}
+use Rattle.geos_terms.specs.Chunks.{bytes_of, with_resized_part}
+use Rattle.geos_terms.specs.Arrays.{spelled}
+use Rattle.geos_terms.specs.ArrayEdits.{is_fixed, is_past, no_array, with_array}
+use Rattle.geos_terms.proofs.ArrayTests.{fixed-refused}
+use Rattle.geos_terms.proofs.ChunkItems.{written-twice}
 use Rattle.lmem_heap.specs.Refusals.{IsRoomError}
 use Rattle.chunk_array.specs.ArrayErrors.{IsArrayError}
 use Rattle.chunk_array.specs.Refits.{with_refit}

@@ -1,9 +1,9 @@
 use Rattle.std.proofs.Common.{◌≡◌, ℕ, ◌+◌, ◌-◌, ◌≤◌, List, Option, length, ap, ◌∙◌, subst, arith}
-use Rattle.geos_model.specs.Block.{chunks}
-use Rattle.geos_model.specs.Chunks.{bytes_of, need, with_bytes, with_inserted, with_resized_part}
-use Rattle.geos_model.proofs.JoinedEdits.{resized-grows, resized-shrinks, length-resized_part}
-use Rattle.geos_model.proofs.Needs.{need-with_bytes}
-use Rattle.geos_model.proofs.Lowest.{block-used}
+use Rattle.geos_terms.specs.Block.{chunks}
+use Rattle.geos_terms.specs.Chunks.{bytes_of, need, with_bytes, with_inserted, with_resized_part}
+use Rattle.geos_terms.proofs.JoinedEdits.{resized-grows, resized-shrinks, length-resized_part}
+use Rattle.geos_terms.proofs.Needs.{need-with_bytes}
+use Rattle.geos_terms.proofs.Lowest.{block-used}
 use Rattle.lmem_heap.specs.declared.error.InsertError.{InsertError}
 use Rattle.lmem_heap.specs.Refusals.{IsRoomError, IsInsertError}
 use Rattle.chunk_array.proofs.resize.resize_part.Goals as goal

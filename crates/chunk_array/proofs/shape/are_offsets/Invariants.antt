@@ -1,5 +1,5 @@
 use Rattle.std.proofs.Common.{◌≡◌, ◌+◌, ◌-◌, ◌*◌, length}
-use Rattle.geos_model.specs.Arrays.{are_offsets, never_fall, words_from}
+use Rattle.geos_terms.specs.Arrays.{are_offsets, never_fall, words_from}
 use Rattle.chunk_array.proofs.shape.are_offsets.Given as goal
 
 abbrev pub invariant-loop-i : goal.invariant-loop-i

@@ -1,11 +1,11 @@
 use Rattle.std.proofs.Common.{◌≡◌, ◌+◌, ◌-◌, Some, ap, sym, ◌∙◌, arith}
 use Rattle.lmem_raw.specs.Bytes.{part}
-use Rattle.geos_model.specs.Block.{chunks}
-use Rattle.geos_model.specs.Chunks.{chunk_of, with_bytes, without_part}
-use Rattle.geos_model.specs.Arrays.{spelled, without_element}
-use Rattle.geos_model.specs.ArrayEdits.{with_array}
-use Rattle.geos_model.proofs.ChunkItems.{known-bytes, chunk-written, written-twice}
-use Rattle.geos_model.proofs.ArrayTests.{array-of, element-passes}
+use Rattle.geos_terms.specs.Block.{chunks}
+use Rattle.geos_terms.specs.Chunks.{chunk_of, with_bytes, without_part}
+use Rattle.geos_terms.specs.Arrays.{spelled, without_element}
+use Rattle.geos_terms.specs.ArrayEdits.{with_array}
+use Rattle.geos_terms.proofs.ChunkItems.{known-bytes, chunk-written, written-twice}
+use Rattle.geos_terms.proofs.ArrayTests.{array-of, element-passes}
 use Rattle.chunk_array.proofs.Parting.{parted}
 use Rattle.chunk_array.proofs.Parted.{parts}
 use Rattle.chunk_array.proofs.ReadBack.{removes}

@@ -1,13 +1,13 @@
 use Rattle.std.proofs.Common.{true, sym, subst}
 use Rattle.std.specs.Prelude.{Err, Ok}
-use Rattle.geos_model.specs.declared.name.Name.{Name}
-use Rattle.geos_model.specs.Names.{vm}
-use Rattle.geos_table.specs.ChunkCalls.{make_edit, make_row}
-use Rattle.heap_calls.specs.Edits.{DiscardsAndEdits}
-use Rattle.heap_calls.specs.Heaps.{HoldsHeap}
-use Rattle.heap_calls.specs.Others.{KeepsOthers}
-use Rattle.heap_calls.proofs.Rows.{comes-alone}
-use Rattle.heap_calls.proofs.Values.{values-of}
+use Rattle.geos_terms.specs.declared.name.Name.{Name}
+use Rattle.geos_terms.specs.Names.{vm}
+use Rattle.geos_calls.specs.ChunkCalls.{make_edit, make_row}
+use Rattle.chunk_calls.specs.Edits.{DiscardsAndEdits}
+use Rattle.chunk_calls.specs.Heaps.{HoldsHeap}
+use Rattle.chunk_calls.specs.Others.{KeepsOthers}
+use Rattle.chunk_calls.proofs.Rows.{comes-alone}
+use Rattle.chunk_calls.proofs.Values.{values-of}
 use Rattle.vm_blocks.specs.View.{vm_slot}
 use Rattle.db_items.proofs.Asking.{make-inside}
 use Rattle.db_items.proofs.Changing.{holds-heap, item-changed, item-not_brought, item-refused, item-unmarked}

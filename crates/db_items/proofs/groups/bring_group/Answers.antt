@@ -1,7 +1,7 @@
 use Rattle.std.proofs.Common.{◌≡◌, ap, false, true, refl, sym, subst}
 use Rattle.std.specs.Prelude.{Err, Ok, Result}
-use Rattle.geos_model.specs.declared.refusal.Refusal.{Refusal}
-use Rattle.geos_model.specs.declared.refusal.Refusal.TheVariants as refusal
+use Rattle.geos_terms.specs.declared.refusal.Refusal.{Refusal}
+use Rattle.geos_terms.specs.declared.refusal.Refusal.TheVariants as refusal
 use Rattle.vm_blocks.specs.declared.error.BringError.{BringError}
 use Rattle.vm_blocks.specs.declared.error.BringError.TheVariants as error
 use Rattle.vm_blocks.specs.Refused.{why_not_brought}

@@ -1,8 +1,8 @@
 use Rattle.std.proofs.Common.{◌≡◌, ◌<◌, true, false, ap, refl, sym, subst}
 use Rattle.std.specs.Prelude.{◌↔◌, Err, Ok, Result}
-use Rattle.geos_model.specs.declared.refusal.Refusal.{Refusal}
-use Rattle.geos_table.specs.ItemCalls.{gfree}
-use Rattle.geos_model.specs.declared.refusal.Refusal.TheVariants as refusal
+use Rattle.geos_terms.specs.declared.refusal.Refusal.{Refusal}
+use Rattle.geos_calls.specs.ItemCalls.{gfree}
+use Rattle.geos_terms.specs.declared.refusal.Refusal.TheVariants as refusal
 use Rattle.block_handles.specs.Store.{locks_of}
 use Rattle.vm_blocks.specs.declared.error.FreeError.{FreeError}
 use Rattle.vm_blocks.specs.declared.error.FreeError.TheVariants as error

@@ -1,8 +1,8 @@
 use Rattle.std.proofs.Common.{◌≡◌, ◌⊎◌, ℕ, ap, inl, inr, refl, sym, subst}
 use Rattle.std.specs.Prelude.{◌↔◌, Err, IfErr, Ok, Result}
-use Rattle.geos_model.specs.declared.refusal.Refusal.{Refusal}
-use Rattle.geos_model.specs.declared.refusal.Refusal.TheVariants as refusal
-use Rattle.geos_table.specs.ItemCalls.{gnew}
+use Rattle.geos_terms.specs.declared.refusal.Refusal.{Refusal}
+use Rattle.geos_terms.specs.declared.refusal.Refusal.TheVariants as refusal
+use Rattle.geos_calls.specs.ItemCalls.{gnew}
 use Rattle.vm_blocks.specs.declared.error.NewError.{NewError}
 use Rattle.vm_blocks.specs.declared.error.NewError.TheVariants as error
 use Rattle.vm_blocks.specs.Refused.{why_not_made}

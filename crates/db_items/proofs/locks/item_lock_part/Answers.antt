@@ -1,13 +1,13 @@
 use Rattle.std.proofs.Common.{Bool, false, ◌≡◌, ◌≢◌, ◌∙◌, ◌+◌, ◌≤◌, length, ap, sym, subst}
 use Rattle.std.specs.Prelude.{Err, IsTrue, Ok}
-use Rattle.geos_model.specs.Edits.{refer}
-use Rattle.geos_model.specs.Heap.{IsHeap}
+use Rattle.geos_terms.specs.Edits.{refer}
+use Rattle.geos_terms.specs.Heap.{IsHeap}
 use Rattle.block_handles.specs.Change.{with_locks}
 use Rattle.block_handles.specs.Names.{slot_of}
 use Rattle.block_handles.specs.Store.{IsThere, bytes_of, locks_of}
 use Rattle.vm_blocks.specs.View.{vm_slot}
 use Rattle.vm_blocks.proofs.Counts.{locked-more}
-use Rattle.heap_calls.specs.Edits.{Finds}
+use Rattle.chunk_calls.specs.Edits.{Finds}
 use Rattle.db_items.proofs.Changing.{holds-heap}
 use Rattle.db_items.proofs.Locking.{lock-found, lock-full, lock-not_brought, lock-refused}
 use Rattle.db_items.proofs.locks.item_lock_part.Goals as goal

@@ -1,7 +1,7 @@
 use Rattle.std.proofs.Common.{rules, ◌≡◌, [], ◌∷◌, subst}
 use Rattle.std.specs.Prelude.{codes, decimal}
 use Rattle.std.specs.Io.KnownBytes.{Appends}
-use Rattle.geos_model.specs.Refusals.{refusal_number}
+use Rattle.geos_terms.specs.Refusals.{refusal_number}
 use Rattle.geos_input.specs.Counted.{AppendsPart}
 use Rattle.geos_cli.proofs.Parts.{IfErr-any, IfErr-map, part-between, part-first, part-last}
 use Rattle.geos_cli.proofs.output.print_refusal.Goals as goal

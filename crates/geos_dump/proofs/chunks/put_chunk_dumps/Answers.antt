@@ -1,4 +1,4 @@
-use Rattle.geos_model.specs.Block.{chunks}
+use Rattle.geos_terms.specs.Block.{chunks}
 use Rattle.geos_dump.specs.DumpText.{chunk_dump}
 use Rattle.geos_dump.proofs.ChunkWalks.{told-all, told-next}
 use Rattle.geos_dump.proofs.chunks.put_chunk_dumps.Goals as goal

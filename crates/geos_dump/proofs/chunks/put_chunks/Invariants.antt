@@ -1,5 +1,5 @@
 use Rattle.std.proofs.Common.{◌-◌}
-use Rattle.geos_model.specs.Block.{chunks}
+use Rattle.geos_terms.specs.Block.{chunks}
 use Rattle.geos_dump.specs.DumpText.{chunk_text}
 use Rattle.geos_dump.proofs.ChunkWalks.{HasTold}
 use Rattle.geos_dump.proofs.chunks.put_chunks.Given as goal

@@ -1,5 +1,5 @@
 use Rattle.std.proofs.Common.{refl, get_or}
-use Rattle.geos_table.specs.Calls.{mfree}
+use Rattle.geos_calls.specs.Calls.{mfree}
 use Rattle.geos_semantics.specs.Model.{nowhere}
 use Rattle.geos_machine.proofs.Works.{call-done, call-refused}
 use Rattle.geos_machine.proofs.blocks.mfree.Goals as goal

@@ -1,5 +1,5 @@
 use Rattle.std.proofs.Common.{refl, get_or}
-use Rattle.geos_table.specs.Calls.{mlock}
+use Rattle.geos_calls.specs.Calls.{mlock}
 use Rattle.geos_opcodes.specs.declared.uses.Kind.TheVariants.{MemBlock}
 use Rattle.geos_semantics.specs.Model.{holding}
 use Rattle.geos_machine.proofs.Works.{call-refused, on-past, slot-locked-into}

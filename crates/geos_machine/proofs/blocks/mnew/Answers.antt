@@ -1,5 +1,5 @@
 use Rattle.std.proofs.Common.{refl}
-use Rattle.geos_table.specs.Calls.{mnew}
+use Rattle.geos_calls.specs.Calls.{mnew}
 use Rattle.geos_opcodes.specs.declared.uses.Kind.TheVariants.{MemBlock}
 use Rattle.geos_semantics.specs.State.{with_word}
 use Rattle.geos_semantics.specs.Model.{holding}

@@ -1,6 +1,6 @@
 use Rattle.std.proofs.Common.{refl}
-use Rattle.geos_model.specs.Names.{mem}
-use Rattle.geos_table.specs.Calls.{unlock}
+use Rattle.geos_terms.specs.Names.{mem}
+use Rattle.geos_calls.specs.Calls.{unlock}
 use Rattle.geos_opcodes.specs.declared.uses.Kind.TheVariants.{MemBlock}
 use Rattle.geos_machine.proofs.Works.{on-past, slot-unlocked, slot-locked}
 use Rattle.geos_machine.proofs.Safe.{unlocks-held}

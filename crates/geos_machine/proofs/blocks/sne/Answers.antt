@@ -1,5 +1,5 @@
 use Rattle.std.proofs.Common.{refl, ◌∙◌}
-use Rattle.geos_model.specs.Names.{mem}
+use Rattle.geos_terms.specs.Names.{mem}
 use Rattle.geos_machine.proofs.Through.{compared}
 use Rattle.geos_machine.proofs.Safe.{compared-held}
 use Rattle.geos_machine.proofs.blocks.sne.Goals as goal

@@ -1,7 +1,7 @@
 use Rattle.std.proofs.Common.{refl, sym, subst}
-use Rattle.geos_model.specs.Names.{mem}
-use Rattle.geos_table.specs.ChunkCalls.{change_row}
-use Rattle.geos_table.proofs.Laws.{change-shape}
+use Rattle.geos_terms.specs.Names.{mem}
+use Rattle.geos_calls.specs.ChunkCalls.{change_row}
+use Rattle.geos_calls.proofs.Laws.{change-shape}
 use Rattle.geos_semantics.specs.Model.{nowhere}
 use Rattle.geos_machine.specs.Machine.{IsPlain}
 use Rattle.geos_machine.proofs.Works.{slot-done, slot-refused, slot-locked, slot-may-change}

@@ -1,6 +1,6 @@
 use Rattle.std.proofs.Common.{refl, get_or}
-use Rattle.geos_model.specs.Names.{mem}
-use Rattle.geos_table.specs.Calls.{deref}
+use Rattle.geos_terms.specs.Names.{mem}
+use Rattle.geos_calls.specs.Calls.{deref}
 use Rattle.geos_opcodes.specs.Facts.{uses_of}
 use Rattle.geos_machine.proofs.Works.{slot-locked, on-past}
 use Rattle.geos_machine.proofs.Through.{pointer-set, pointer-refused}

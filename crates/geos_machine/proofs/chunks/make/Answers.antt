@@ -1,6 +1,6 @@
 use Rattle.std.proofs.Common.{refl}
-use Rattle.geos_model.specs.Names.{mem}
-use Rattle.geos_table.specs.ChunkCalls.{make_row}
+use Rattle.geos_terms.specs.Names.{mem}
+use Rattle.geos_calls.specs.ChunkCalls.{make_row}
 use Rattle.geos_semantics.specs.State.{with_word}
 use Rattle.geos_machine.proofs.Works.{slot-done, slot-refused, slot-locked, slot-may-change}
 use Rattle.geos_machine.proofs.Safe.{make-held, make-marked, make-word}

@@ -1,6 +1,6 @@
 use Rattle.std.proofs.Common.{refl, get_or}
-use Rattle.geos_table.specs.VmCalls as table
-use Rattle.geos_table.specs.ItemCalls as items
+use Rattle.geos_calls.specs.VmCalls as table
+use Rattle.geos_calls.specs.ItemCalls as items
 use Rattle.geos_machine.proofs.OfFile.{ready-unlocked}
 use Rattle.geos_kernel.proofs.Stops.{stops-still}
 use Rattle.geos_machine.proofs.files.carry_out.Goals as goal

@@ -1,8 +1,8 @@
-use Rattle.geos_model.specs.Names.{vm}
+use Rattle.geos_terms.specs.Names.{vm}
 use Rattle.std.proofs.Common.{get_or}
-use Rattle.geos_table.specs.ChunkCalls.{change_row}
-use Rattle.geos_table.specs.ItemCalls.{on_group}
-use Rattle.geos_table.specs.Memory.{is_group}
+use Rattle.geos_calls.specs.ChunkCalls.{change_row}
+use Rattle.geos_calls.specs.ItemCalls.{on_group}
+use Rattle.geos_calls.specs.Memory.{is_group}
 use Rattle.geos_machine.proofs.OfFile.{group-plain}
 use Rattle.geos_machine.proofs.files.change_item.Goals as goal
 

@@ -1,5 +1,5 @@
 use Rattle.std.proofs.Common.{refl}
-use Rattle.geos_table.specs.ItemCalls as items
+use Rattle.geos_calls.specs.ItemCalls as items
 use Rattle.geos_semantics.specs.State.{with_word}
 use Rattle.geos_machine.proofs.Works.{call-done}
 use Rattle.geos_machine.proofs.files.igetmap.Goals as goal

@@ -1,5 +1,5 @@
 use Rattle.std.proofs.Common.{refl, get_or}
-use Rattle.geos_table.specs.ItemCalls.{ilock}
+use Rattle.geos_calls.specs.ItemCalls.{ilock}
 use Rattle.geos_opcodes.specs.declared.uses.Kind.TheVariants.{DbGroup}
 use Rattle.geos_semantics.specs.Model.{holding, leading}
 use Rattle.geos_machine.proofs.OfFile.{span-locked-into, span-refused}

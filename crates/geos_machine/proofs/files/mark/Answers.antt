@@ -1,6 +1,6 @@
 use Rattle.std.proofs.Common.{refl}
-use Rattle.geos_model.specs.Names.{mem}
-use Rattle.geos_table.specs.VmCalls as table
+use Rattle.geos_terms.specs.Names.{mem}
+use Rattle.geos_calls.specs.VmCalls as table
 use Rattle.geos_semantics.specs.Model.{nowhere}
 use Rattle.geos_machine.proofs.OfFile.{does-mark, marked-name, marked-of-file}
 use Rattle.geos_machine.proofs.Works.{slot-done, slot-locked}

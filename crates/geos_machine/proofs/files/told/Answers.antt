@@ -1,10 +1,10 @@
 use Rattle.std.proofs.Common.{refl, get_or}
-use Rattle.geos_model.specs.Names.{vm}
-use Rattle.geos_table.specs.declared.call.Make.TheVariants as make
-use Rattle.geos_table.specs.ChunkCalls.{make_row}
-use Rattle.geos_table.specs.Memory.{is_group}
-use Rattle.geos_table.specs.VmCalls as table
-use Rattle.geos_table.specs.ItemCalls as items
+use Rattle.geos_terms.specs.Names.{vm}
+use Rattle.geos_calls.specs.declared.call.Make.TheVariants as make
+use Rattle.geos_calls.specs.ChunkCalls.{make_row}
+use Rattle.geos_calls.specs.Memory.{is_group}
+use Rattle.geos_calls.specs.VmCalls as table
+use Rattle.geos_calls.specs.ItemCalls as items
 use Rattle.geos_machine.proofs.OfFile.{group-plain}
 use Rattle.geos_kernel.proofs.Stops.{stops-still}
 use Rattle.geos_machine.proofs.files.told.Goals as goal

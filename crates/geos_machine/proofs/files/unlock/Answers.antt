@@ -1,6 +1,6 @@
 use Rattle.std.proofs.Common.{refl}
-use Rattle.geos_model.specs.Names.{mem}
-use Rattle.geos_table.specs.Calls as table
+use Rattle.geos_terms.specs.Names.{mem}
+use Rattle.geos_calls.specs.Calls as table
 use Rattle.geos_machine.proofs.OfFile.{does-unlock}
 use Rattle.geos_machine.proofs.Works.{slot-unlocked, slot-locked}
 use Rattle.geos_machine.proofs.Safe.{unlock-held}

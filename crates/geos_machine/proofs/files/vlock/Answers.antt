@@ -1,5 +1,5 @@
 use Rattle.std.proofs.Common.{refl, get_or}
-use Rattle.geos_table.specs.VmCalls.{vlock}
+use Rattle.geos_calls.specs.VmCalls.{vlock}
 use Rattle.geos_opcodes.specs.declared.uses.Kind.TheVariants.{VmBlock}
 use Rattle.geos_semantics.specs.Model.{holding}
 use Rattle.geos_machine.proofs.Works.{call-refused, slot-locked-into}

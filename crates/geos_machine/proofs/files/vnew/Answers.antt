@@ -1,5 +1,5 @@
 use Rattle.std.proofs.Common.{refl, get_or}
-use Rattle.geos_table.specs.VmCalls.{vnew}
+use Rattle.geos_calls.specs.VmCalls.{vnew}
 use Rattle.geos_opcodes.specs.declared.uses.Kind.TheVariants.{VmBlock}
 use Rattle.geos_semantics.specs.State.{with_word}
 use Rattle.geos_semantics.specs.Model.{holding}

@@ -1,5 +1,5 @@
 use Rattle.std.proofs.Common.{length, ◌-◌, ◌/◌, ◌≡◌, ◌%◌, ◌≤◌, ◌↔◌}
-use Rattle.geos_model.specs.Block.{table_end}
+use Rattle.geos_terms.specs.Block.{table_end}
 use Rattle.lmem_block.specs.Check.{CanGoOn, IsTiled, marks_from}
 use Rattle.lmem_block.proofs.grammar.is_tiled.Given as goal
 

@@ -1,8 +1,8 @@
 use Rattle.std.proofs.Common.{◌≡◌, ℕ, ◌+◌, ◌*◌, ◌/◌, ◌%◌, ◌<◌, ◌≤◌, List, None, inl, inr, sym, ◌∙◌, arith}
-use Rattle.geos_model.proofs.Entries.{chunk-low, chunk-odd, chunk-past, chunk-entry, chunk-none}
-use Rattle.geos_model.specs.Block.{chunks, entries}
-use Rattle.geos_model.specs.Chunks.{chunk_of}
-use Rattle.geos_model.specs.Heap.{IsHeap}
+use Rattle.geos_terms.proofs.Entries.{chunk-low, chunk-odd, chunk-past, chunk-entry, chunk-none}
+use Rattle.geos_terms.specs.Block.{chunks, entries}
+use Rattle.geos_terms.specs.Chunks.{chunk_of}
+use Rattle.geos_terms.specs.Heap.{IsHeap}
 use Rattle.std.proofs.lemmas.Bool.{cases_lt}
 use Rattle.lmem_block.proofs.look.find.Goals as goal
 use Rattle.lmem_block.proofs.look.find.Goals.{then-at-ne0-via-then-at-ne0, then-at-ne0-via-else-at-ne0+then-i-entries, then-at-ne0-via-else-at-ne0+else-i-entries+then-entry-eq0}

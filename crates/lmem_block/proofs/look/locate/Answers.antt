@@ -1,7 +1,7 @@
 use Rattle.std.proofs.Common.{ap, ◌∙◌}
 use Rattle.std.specs.Option.{option_map}
-use Rattle.geos_model.specs.Block.{bytes_at}
-use Rattle.geos_model.proofs.Entries.{chunk-entry}
+use Rattle.geos_terms.specs.Block.{bytes_at}
+use Rattle.geos_terms.proofs.Entries.{chunk-entry}
 use Rattle.lmem_block.proofs.look.locate.Goals as goal
 
 pub returns-clause-bytes : goal.returns-clause-bytes

@@ -1,5 +1,5 @@
 use Rattle.std.proofs.Common.{◌≡◌, ◌-◌, ◌/◌, ◌%◌, ◌≤◌, ◌∙◌, arith}
-use Rattle.geos_model.proofs.Nexts.{no-chunk, some-chunk}
+use Rattle.geos_terms.proofs.Nexts.{no-chunk, some-chunk}
 use Rattle.lmem_block.proofs.look.next.Goals as goal
 use Rattle.lmem_block.proofs.look.next.Goals.{then-chunk-lt-TABLE, else-chunk-lt-TABLE}
 

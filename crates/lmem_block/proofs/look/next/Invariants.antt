@@ -1,5 +1,5 @@
 use Rattle.std.proofs.Common.{◌≡◌, ℕ, ◌<◌, ◌≤◌}
-use Rattle.geos_model.specs.Block.{entry}
+use Rattle.geos_terms.specs.Block.{entry}
 use Rattle.lmem_block.proofs.look.next.Given as goal
 
 abbrev pub invariant-loop-i : goal.invariant-loop-i

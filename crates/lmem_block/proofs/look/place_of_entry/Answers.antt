@@ -1,7 +1,7 @@
 use Rattle.std.proofs.Common.{◌-◌, ◌∙◌, ap, arith, rules}
-use Rattle.geos_model.specs.Bytes.{word}
-use Rattle.geos_model.proofs.Entries.{told-within}
-use Rattle.geos_model.proofs.Places.{entry-length}
+use Rattle.geos_terms.specs.Bytes.{word}
+use Rattle.geos_terms.proofs.Entries.{told-within}
+use Rattle.geos_terms.proofs.Places.{entry-length}
 use Rattle.lmem_block.proofs.look.place_of_entry.Goals as goal
 
 pub overflow_sub-at : goal.overflow_sub-at

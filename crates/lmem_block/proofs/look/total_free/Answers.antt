@@ -1,5 +1,5 @@
 use Rattle.std.proofs.Common.{arith}
-use Rattle.geos_model.proofs.Sums.{all-bytes, count-chunks}
+use Rattle.geos_terms.proofs.Sums.{all-bytes, count-chunks}
 use Rattle.lmem_block.proofs.look.total_free.Goals as goal
 
 pub returns : goal.returns

@@ -1,6 +1,6 @@
 use Rattle.std.proofs.Common.{◌≡◌, ◌+◌, ◌-◌, length, take, drop, replicate, ap, ◌∙◌, arith, length-take, length-drop}
 use Rattle.std.proofs.lemmas.List.{length-replicate}
-use Rattle.geos_model.proofs.Parts.{put_over}
+use Rattle.geos_terms.proofs.Parts.{put_over}
 use Rattle.lmem_raw.specs.Bytes.{with_part}
 use Rattle.lmem_block.proofs.words.clear.Goals as goal
 

@@ -1,7 +1,7 @@
 use Rattle.std.proofs.Common.{◌≡◌, ℕ, List, ◌+◌, ◌-◌, ◌<◌, ◌/◌, ◌%◌, [], ◌∷◌, length, take, drop, ap, ◌∙◌, arith, length-take}
 use Rattle.std.proofs.lemmas.List.{drop_all}
-use Rattle.geos_model.proofs.Parts.{put_over}
-use Rattle.geos_model.specs.Bytes.{word_bytes, with_word}
+use Rattle.geos_terms.proofs.Parts.{put_over}
+use Rattle.geos_terms.specs.Bytes.{word_bytes, with_word}
 use Rattle.lmem_raw.specs.Bytes.{with_part}
 use Rattle.lmem_block.proofs.words.put16.Goals as goal
 

@@ -1,7 +1,7 @@
 use Rattle.std.proofs.Common.{◌≡◌, ℕ, ◌+◌, ◌*◌, ◌≤◌, ◌<◌, List, length, get_or, ap, sym, ◌∙◌, subst, arith}
 use Rattle.std.proofs.lemmas.List.{drop_all}
-use Rattle.geos_model.proofs.Words.{words-written}
-use Rattle.geos_model.specs.Bytes.{with_words, AreWords}
+use Rattle.geos_terms.proofs.Words.{words-written}
+use Rattle.geos_terms.specs.Bytes.{with_words, AreWords}
 use Rattle.lmem_block.proofs.words.put_words.Goals as goal
 
 pub returns-clause-words : goal.returns-clause-words

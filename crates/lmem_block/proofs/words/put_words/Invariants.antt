@@ -1,5 +1,5 @@
 use Rattle.std.proofs.Common.{◌≡◌, ◌+◌, ◌*◌, drop}
-use Rattle.geos_model.specs.Bytes.{with_words}
+use Rattle.geos_terms.specs.Bytes.{with_words}
 use Rattle.lmem_block.proofs.words.put_words.Given as goal
 
 abbrev pub invariant-loop-i : goal.invariant-loop-i

@@ -1,7 +1,7 @@
 use Rattle.std.proofs.Common.{ap, arith}
-use Rattle.geos_model.specs.Chunks.{used_bytes}
-use Rattle.geos_model.specs.Block.{chunks}
-use Rattle.geos_model.proofs.Lowest.{block-used, used-with_new}
+use Rattle.geos_terms.specs.Chunks.{used_bytes}
+use Rattle.geos_terms.specs.Block.{chunks}
+use Rattle.geos_terms.proofs.Lowest.{block-used, used-with_new}
 use Rattle.lmem_heap.proofs.allocate.alloc.Goals as goal
 
 pub make_entry-requires-clause-room : goal.make_entry-requires-clause-room

@@ -1,7 +1,7 @@
 use Rattle.std.proofs.Common.{◌≡◌, None, set, ap, ◌∙◌, arith}
-use Rattle.geos_model.specs.Chunks.{entry_of}
-use Rattle.geos_model.specs.Block.{chunks}
-use Rattle.geos_model.proofs.Nexts.{some-chunk}
+use Rattle.geos_terms.specs.Chunks.{entry_of}
+use Rattle.geos_terms.specs.Block.{chunks}
+use Rattle.geos_terms.proofs.Nexts.{some-chunk}
 use Rattle.lmem_heap.proofs.allocate.free.Goals as goal
 
 pub returns-clause-ok : goal.returns-clause-ok

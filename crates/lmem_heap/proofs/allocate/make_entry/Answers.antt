@@ -1,8 +1,8 @@
 use Rattle.std.proofs.Common.{◌≡◌, length, ap, sym, ◌∙◌, arith}
-use Rattle.geos_model.specs.Chunks.{lowest_entry}
-use Rattle.geos_model.specs.Block.{chunks, entry}
-use Rattle.geos_model.proofs.Sums.{count-chunks}
-use Rattle.geos_model.proofs.Lowest.{block-used, used-full, entry-full, entry-room, lowest-within, lowest-free}
+use Rattle.geos_terms.specs.Chunks.{lowest_entry}
+use Rattle.geos_terms.specs.Block.{chunks, entry}
+use Rattle.geos_terms.proofs.Sums.{count-chunks}
+use Rattle.geos_terms.proofs.Lowest.{block-used, used-full, entry-full, entry-room, lowest-within, lowest-free}
 use Rattle.lmem_heap.proofs.allocate.make_entry.Goals as goal
 
 pub add_entries-requires-clause-room : goal.add_entries-requires-clause-room

@@ -1,7 +1,7 @@
 use Rattle.std.proofs.Common.{◌<◌, ap, sym, ◌∙◌, arith}
-use Rattle.geos_model.specs.Chunks.{cost}
-use Rattle.geos_model.proofs.Costs.{cost_is}
-use Rattle.geos_model.proofs.Sums.{cost-zero}
+use Rattle.geos_terms.specs.Chunks.{cost}
+use Rattle.geos_terms.proofs.Costs.{cost_is}
+use Rattle.geos_terms.proofs.Sums.{cost-zero}
 use Rattle.lmem_heap.proofs.chunks.cost.Goals as goal
 
 pub returns-then-n-eq0 : goal.returns-then-n-eq0

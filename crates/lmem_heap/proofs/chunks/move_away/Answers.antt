@@ -1,8 +1,8 @@
 use Rattle.std.proofs.Common.{◌<◌, Some, set, ap, sym, ◌∙◌, arith}
-use Rattle.geos_model.specs.Chunks.{entry_bytes, resized}
-use Rattle.geos_model.specs.Block.{chunks, entries, entry}
-use Rattle.geos_model.specs.Heap.{IsOffset}
-use Rattle.geos_model.proofs.Costs.{cost-four, cost-fours}
+use Rattle.geos_terms.specs.Chunks.{entry_bytes, resized}
+use Rattle.geos_terms.specs.Block.{chunks, entries, entry}
+use Rattle.geos_terms.specs.Heap.{IsOffset}
+use Rattle.geos_terms.proofs.Costs.{cost-four, cost-fours}
 use Rattle.lmem_heap.proofs.Refits.{placed}
 use Rattle.lmem_heap.proofs.chunks.move_away.Goals as goal
 

@@ -1,6 +1,6 @@
 use Rattle.std.proofs.Common.{◌≡◌, ◌∙◌, Some, length, replicate, set, ap, arith}
-use Rattle.geos_model.specs.Block.{chunks, handle_word}
-use Rattle.geos_model.proofs.Costs.{cost-four}
+use Rattle.geos_terms.specs.Block.{chunks, handle_word}
+use Rattle.geos_terms.proofs.Costs.{cost-four}
 use Rattle.lmem_heap.proofs.PackedHeaps.{first-fits, free-same, packed-heap, packed-room}
 use Rattle.lmem_heap.proofs.chunks.new_chunk.Goals.{After-pack}
 use Rattle.lmem_heap.proofs.chunks.new_chunk.Goals as goal

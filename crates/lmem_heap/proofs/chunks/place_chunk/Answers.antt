@@ -1,7 +1,7 @@
 use Rattle.std.proofs.Common.{◌≡◌, ℕ, replicate, set, Some, ap, refl, sym, ◌∙◌, subst, arith}
-use Rattle.geos_model.specs.Block.{chunks}
-use Rattle.geos_model.proofs.Costs.{cost-four, cost-fours}
-use Rattle.geos_model.proofs.Resizes.{resized-nothing}
+use Rattle.geos_terms.specs.Block.{chunks}
+use Rattle.geos_terms.proofs.Costs.{cost-four, cost-fours}
+use Rattle.geos_terms.proofs.Resizes.{resized-nothing}
 use Rattle.lmem_heap.specs.Holes.{FirstIsSmaller, IsOpen}
 use Rattle.lmem_heap.proofs.FreeLists.{open-heap, open-place}
 use Rattle.lmem_heap.proofs.Unplaced.{nothing-comes}

@@ -1,12 +1,12 @@
 use Rattle.std.proofs.Common.{◌≡◌, ℕ, ◌+◌, ◌%◌, ◌≤◌, Some, None, length, set, get_or, refl, ap, sym, ◌∙◌, subst, arith}
 use Rattle.lmem_raw.specs.Bytes.{part}
-use Rattle.geos_model.specs.Bytes.{word}
-use Rattle.geos_model.specs.Chunks.{entry_bytes, resized}
-use Rattle.geos_model.specs.Block.{chunks, entries, entry}
-use Rattle.geos_model.proofs.Costs.{cost-fours}
-use Rattle.geos_model.proofs.Sums.{count-chunks}
-use Rattle.geos_model.proofs.Words.{part-shifted}
-use Rattle.geos_model.proofs.Lowest.{set-twice}
+use Rattle.geos_terms.specs.Bytes.{word}
+use Rattle.geos_terms.specs.Chunks.{entry_bytes, resized}
+use Rattle.geos_terms.specs.Block.{chunks, entries, entry}
+use Rattle.geos_terms.proofs.Costs.{cost-fours}
+use Rattle.geos_terms.proofs.Sums.{count-chunks}
+use Rattle.geos_terms.proofs.Words.{part-shifted}
+use Rattle.geos_terms.proofs.Lowest.{set-twice}
 use Rattle.lmem_heap.specs.Holes.{IsOpen}
 use Rattle.lmem_heap.proofs.Edits.{chunk-bytes}
 use Rattle.lmem_heap.proofs.Extending.{heap-extent}

@@ -1,11 +1,11 @@
 use Rattle.std.proofs.Common.{◌≡◌, ℕ, ◌<◌, List, [], Option, Some, None, length, unwrap_or, set, get_or, replicate, refl, ap, sym, ◌∙◌, arith}
-use Rattle.geos_model.specs.Chunks.{cost_of, resized}
-use Rattle.geos_model.specs.Block.{chunks, entries, entry, handle_word}
-use Rattle.geos_model.specs.Heap.{IsOffset}
+use Rattle.geos_terms.specs.Chunks.{cost_of, resized}
+use Rattle.geos_terms.specs.Block.{chunks, entries, entry, handle_word}
+use Rattle.geos_terms.specs.Heap.{IsOffset}
 use Rattle.lmem_heap.specs.Holes.{GivesBack}
-use Rattle.geos_model.proofs.Entries.{chunks-at, chunk-nothing}
-use Rattle.geos_model.proofs.Resizes.{resized-none, resized-nothing}
-use Rattle.geos_model.proofs.Lowest.{total-set, set-twice}
+use Rattle.geos_terms.proofs.Entries.{chunks-at, chunk-nothing}
+use Rattle.geos_terms.proofs.Resizes.{resized-none, resized-nothing}
+use Rattle.geos_terms.proofs.Lowest.{total-set, set-twice}
 use Rattle.lmem_heap.proofs.PackedHeaps.{packed-room}
 use Rattle.lmem_heap.proofs.Edits.{chunk-cost}
 use Rattle.lmem_heap.proofs.Refits.{freed, offset-same}

@@ -1,11 +1,11 @@
 use Rattle.std.proofs.Common.{◌≡◌, ◌+◌, ◌-◌, ◌∙◌, sym, [], Some, unwrap_or, set, replicate, ap, subst, ℕ, arith}
-use Rattle.geos_model.proofs.Headers.{head-word}
-use Rattle.geos_model.specs.Block.{chunks}
+use Rattle.geos_terms.proofs.Headers.{head-word}
+use Rattle.geos_terms.specs.Block.{chunks}
 use Rattle.lmem_heap.proofs.Edits.{resized-packed, resized-chunks, chunk-bytes}
 use Rattle.lmem_heap.proofs.Extending.{heap-extent}
 use Rattle.lmem_raw.specs.Bytes.{with_part}
-use Rattle.geos_model.specs.Chunks.{resized}
-use Rattle.geos_model.proofs.Costs.{cost-fours}
+use Rattle.geos_terms.specs.Chunks.{resized}
+use Rattle.geos_terms.proofs.Costs.{cost-fours}
 use Rattle.lmem_heap.specs.Moves.{MovesRun}
 use Rattle.lmem_heap.specs.Packed.{SetsTail}
 use Rattle.lmem_heap.proofs.PackedHeaps.{bounds, packed-heap}

@@ -1,6 +1,6 @@
 use Rattle.std.proofs.Common.{◌≡◌, ℕ, ◌+◌, replicate, subst, arith}
 use Rattle.lmem_raw.specs.Bytes.{with_part}
-use Rattle.geos_model.proofs.Costs.{cost-least}
+use Rattle.geos_terms.proofs.Costs.{cost-least}
 use Rattle.lmem_heap.proofs.Extending.{heap-extent}
 use Rattle.lmem_heap.proofs.Relengthening.{relengthened}
 use Rattle.lmem_heap.proofs.chunks.resize_within.Goals as goal

@@ -1,6 +1,6 @@
 use Rattle.std.proofs.Common.{◌≡◌, ◌-◌, length}
-use Rattle.geos_model.specs.Block.{chunks, first_free, handle_word}
-use Rattle.geos_model.specs.Heap.{IsHeap}
+use Rattle.geos_terms.specs.Block.{chunks, first_free, handle_word}
+use Rattle.geos_terms.specs.Heap.{IsHeap}
 use Rattle.lmem_heap.proofs.compact.contract.Given as goal
 
 abbrev pub invariant-loop-block : goal.invariant-loop-block

@@ -1,5 +1,5 @@
 use Rattle.std.proofs.Common.{◌∙◌, arith}
-use Rattle.geos_model.proofs.FreePieces.{first-room}
+use Rattle.geos_terms.proofs.FreePieces.{first-room}
 use Rattle.lmem_heap.proofs.Unwritten.{but-head}
 use Rattle.lmem_heap.proofs.compact.is_compact.Goals as goal
 

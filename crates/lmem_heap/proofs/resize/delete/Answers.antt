@@ -1,13 +1,13 @@
 use Rattle.std.proofs.Common.{◌≡◌, ◌+◌, ◌-◌, Some, None, length, set, get_or, ap, sym, ◌∙◌, arith, get_or-set_same}
 use Rattle.lmem_raw.specs.Bytes.{part, with_part}
 use Rattle.lmem_raw.proofs.Parts.{length-with_part}
-use Rattle.geos_model.specs.Chunks.{cost, cost_of, entry_bytes, resized, without_part}
-use Rattle.geos_model.specs.Block.{chunks}
-use Rattle.geos_model.proofs.Costs.{cost-mono}
-use Rattle.geos_model.proofs.Sums.{count-chunks}
-use Rattle.geos_model.proofs.Lowest.{item-bytes, item-set, in-use-set, set-bytes, set-twice}
-use Rattle.geos_model.proofs.Nexts.{some-chunk}
-use Rattle.geos_model.proofs.Resizes.{closed-without}
+use Rattle.geos_terms.specs.Chunks.{cost, cost_of, entry_bytes, resized, without_part}
+use Rattle.geos_terms.specs.Block.{chunks}
+use Rattle.geos_terms.proofs.Costs.{cost-mono}
+use Rattle.geos_terms.proofs.Sums.{count-chunks}
+use Rattle.geos_terms.proofs.Lowest.{item-bytes, item-set, in-use-set, set-bytes, set-twice}
+use Rattle.geos_terms.proofs.Nexts.{some-chunk}
+use Rattle.geos_terms.proofs.Resizes.{closed-without}
 use Rattle.lmem_heap.proofs.resize.delete.Goals as goal
 
 pub returns-then-at-count-clause-refused : goal.returns-then-at-count-clause-refused

@@ -1,12 +1,12 @@
 use Rattle.std.proofs.Common.{◌≡◌, ◌+◌, ◌*◌, ◌-◌, ◌<◌, ◌≤◌, ℕ, List, Some, length, set, replicate, ap, sym, ◌∙◌, subst, arith}
 use Rattle.std.proofs.lemmas.Result.{err_from_is_err_and}
 use Rattle.lmem_raw.specs.Bytes.{part, with_part}
-use Rattle.geos_model.specs.Chunks.{entry_bytes, need, resized, sixteens, with_inserted, with_zeros}
-use Rattle.geos_model.specs.Block.{chunks, entries}
-use Rattle.geos_model.proofs.Sums.{count-chunks}
-use Rattle.geos_model.proofs.Lowest.{item-bytes, item-set, in-use-set, set-bytes, set-twice, used-length}
-use Rattle.geos_model.proofs.Nexts.{some-chunk}
-use Rattle.geos_model.proofs.Resizes.{length-resized, length-with_zeros, opened-zeros}
+use Rattle.geos_terms.specs.Chunks.{entry_bytes, need, resized, sixteens, with_inserted, with_zeros}
+use Rattle.geos_terms.specs.Block.{chunks, entries}
+use Rattle.geos_terms.proofs.Sums.{count-chunks}
+use Rattle.geos_terms.proofs.Lowest.{item-bytes, item-set, in-use-set, set-bytes, set-twice, used-length}
+use Rattle.geos_terms.proofs.Nexts.{some-chunk}
+use Rattle.geos_terms.proofs.Resizes.{length-resized, length-with_zeros, opened-zeros}
 use Rattle.lmem_heap.specs.Refusals.{IsRoomError}
 use Rattle.lmem_heap.proofs.resize.insert.Goals as goal
 

@@ -1,8 +1,8 @@
 use Rattle.std.proofs.Common.{ℕ, length, ap, ◌∙◌, subst}
 use Rattle.std.proofs.lemmas.Result.{err_from_is_err_and}
-use Rattle.geos_model.specs.Chunks.{need, resized}
-use Rattle.geos_model.proofs.Lowest.{item-set}
-use Rattle.geos_model.proofs.Nexts.{some-chunk}
+use Rattle.geos_terms.specs.Chunks.{need, resized}
+use Rattle.geos_terms.proofs.Lowest.{item-set}
+use Rattle.geos_terms.proofs.Nexts.{some-chunk}
 use Rattle.lmem_heap.specs.Refusals.{IsRoomError}
 use Rattle.lmem_heap.proofs.resize.realloc.Goals as goal
 

@@ -1,11 +1,11 @@
 use Rattle.std.proofs.Common.{ℕ, ◌≤◌, None, Some, length, replicate, ap, subst, arith}
 use Rattle.std.proofs.lemmas.List.{length-replicate}
-use Rattle.geos_model.specs.Chunks.{cost, entry_bytes, resized, sixteens}
-use Rattle.geos_model.specs.Block.{chunks}
-use Rattle.geos_model.proofs.Costs.{cost-over}
-use Rattle.geos_model.proofs.Resizes.{length-resized}
-use Rattle.geos_model.proofs.Sums.{count-chunks}
-use Rattle.geos_model.proofs.Lowest.{block-used, used-set}
+use Rattle.geos_terms.specs.Chunks.{cost, entry_bytes, resized, sixteens}
+use Rattle.geos_terms.specs.Block.{chunks}
+use Rattle.geos_terms.proofs.Costs.{cost-over}
+use Rattle.geos_terms.proofs.Resizes.{length-resized}
+use Rattle.geos_terms.proofs.Sums.{count-chunks}
+use Rattle.geos_terms.proofs.Lowest.{block-used, used-set}
 use Rattle.lmem_heap.proofs.resize.resize.Goals as goal
 
 pub overflow_cast-n : goal.overflow_cast-n

@@ -1,5 +1,5 @@
 use Rattle.std.proofs.Common.{arith}
-use Rattle.geos_model.proofs.Lowest.{block-used}
+use Rattle.geos_terms.proofs.Lowest.{block-used}
 use Rattle.lmem_heap.proofs.room.used_bytes.Goals as goal
 
 pub overflow_sub-result : goal.overflow_sub-result

@@ -1,10 +1,10 @@
 use Rattle.std.proofs.Common.{None, Some, ap, arith}
-use Rattle.geos_model.specs.Chunks.{cost}
-use Rattle.geos_model.specs.Block.{chunks}
-use Rattle.geos_model.proofs.Costs.{cost-most}
-use Rattle.geos_model.proofs.Sums.{count-chunks}
-use Rattle.geos_model.proofs.Lowest.{block-used, used-set}
-use Rattle.geos_model.proofs.Places.{placed-cost}
+use Rattle.geos_terms.specs.Chunks.{cost}
+use Rattle.geos_terms.specs.Block.{chunks}
+use Rattle.geos_terms.proofs.Costs.{cost-most}
+use Rattle.geos_terms.proofs.Sums.{count-chunks}
+use Rattle.geos_terms.proofs.Lowest.{block-used, used-set}
+use Rattle.geos_terms.proofs.Places.{placed-cost}
 use Rattle.lmem_heap.proofs.room.used_with.Goals as goal
 
 pub overflow_sub-result : goal.overflow_sub-result

@@ -1,9 +1,9 @@
 use Rattle.std.proofs.Common.{◌≡◌, ◌≢◌, length, sym, ◌∙◌, arith}
-use Rattle.geos_model.specs.Chunks.{lowest_entry}
-use Rattle.geos_model.specs.Block.{chunks}
-use Rattle.geos_model.proofs.Costs.{cost-most}
-use Rattle.geos_model.proofs.Sums.{count-chunks}
-use Rattle.geos_model.proofs.Lowest.{block-used, used-full, used-room}
+use Rattle.geos_terms.specs.Chunks.{lowest_entry}
+use Rattle.geos_terms.specs.Block.{chunks}
+use Rattle.geos_terms.proofs.Costs.{cost-most}
+use Rattle.geos_terms.proofs.Sums.{count-chunks}
+use Rattle.geos_terms.proofs.Lowest.{block-used, used-full, used-room}
 use Rattle.lmem_heap.proofs.room.used_with_new.Goals as goal
 
 pub overflow_add-used : goal.overflow_add-used

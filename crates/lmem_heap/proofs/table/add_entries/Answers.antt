@@ -1,7 +1,7 @@
 use Rattle.std.proofs.Common.{[], ◌∷◌, ◌++◌, None, ap, sym, ◌∙◌, arith}
-use Rattle.geos_model.specs.Block.{entry}
-use Rattle.geos_model.proofs.Headers.{head-word}
-use Rattle.geos_model.proofs.Lowest.{entries-same}
+use Rattle.geos_terms.specs.Block.{entry}
+use Rattle.geos_terms.proofs.Headers.{head-word}
+use Rattle.geos_terms.proofs.Lowest.{entries-same}
 use Rattle.lmem_heap.proofs.Additions.{grown-packed, grown-chunks}
 use Rattle.lmem_heap.proofs.PackedHeaps.{packed-heap, packed-room}
 use Rattle.lmem_heap.proofs.table.add_entries.Goals as goal

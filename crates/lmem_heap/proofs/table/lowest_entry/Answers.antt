@@ -1,5 +1,5 @@
 use Rattle.std.proofs.Common.{sym, ◌∙◌, arith}
-use Rattle.geos_model.proofs.Lowest.{lowest-is}
+use Rattle.geos_terms.proofs.Lowest.{lowest-is}
 use Rattle.lmem_heap.proofs.table.lowest_entry.Goals as goal
 
 pub returns-then-entry-eq0-clause-value : goal.returns-then-entry-eq0-clause-value

@@ -2,8 +2,8 @@ use Rattle.std.proofs.Common.{◌≡◌, length, ap, refl, sym, subst, ◌∙◌
 use Rattle.block_handles.specs.Change.{with_bytes}
 use Rattle.block_handles.specs.Names.{slot_of}
 use Rattle.block_handles.specs.Store.{Store, bytes_of, place_of, size_of}
-use Rattle.geos_table.specs.Legal.{AreBytes}
-use Rattle.geos_table.proofs.LegalBytes.{bytes-part}
+use Rattle.geos_calls.specs.Legal.{AreBytes}
+use Rattle.geos_calls.proofs.LegalBytes.{bytes-part}
 use Rattle.block_handles.proofs.Laws.{bytes-same}
 use Rattle.vm_blocks.specs.View.{vm_slot}
 use Rattle.vm_blocks.proofs.Brings.{read-failed}

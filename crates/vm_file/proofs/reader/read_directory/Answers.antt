@@ -6,7 +6,7 @@ use Rattle.vm_file.specs.Contents.{entry_of}
 use Rattle.vm_file.specs.Directories.{AreMaps, entries_length}
 use Rattle.vm_file.specs.Outcomes.{Tells}
 use Rattle.vm_file.specs.Reading.{count_at, blocks_at, maps_at}
-use Rattle.geos_model.proofs.HeapTests.{and-true}
+use Rattle.geos_terms.proofs.HeapTests.{and-true}
 use Rattle.vm_file.proofs.Lengths.{stretch, drop-stretch}
 use Rattle.vm_file.proofs.EntrySteps.{contents_stop_any, contents_stop_blocks, contents_stop_maps_any, contents_read, ok_only}
 use Rattle.vm_file.proofs.Moments.{caused_on, reads_then}

@@ -3,8 +3,8 @@ use Rattle.std.specs.Vec.{vec_items}
 use Rattle.std.proofs.lemmas.Result.{on_ok_weaker}
 use Rattle.std.specs.Prelude.{unwrap_or}
 use Rattle.lmem_raw.specs.Bytes.{part}
-use Rattle.geos_model.specs.Block.{handle_word}
-use Rattle.geos_model.specs.Heap.{IsHeap}
+use Rattle.geos_terms.specs.Block.{handle_word}
+use Rattle.geos_terms.specs.Heap.{IsHeap}
 use Rattle.vm_file.specs.State.{place_in}
 use Rattle.vm_file.proofs.Blocks.{shown_some, shown_none, some_length, block_appended, filled_stored}
 use Rattle.vm_file.proofs.Moments.{reads_none, reads_well}

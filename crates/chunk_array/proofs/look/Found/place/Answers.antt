@@ -1,5 +1,5 @@
 use Rattle.std.proofs.Common.{arith}
-use Rattle.geos_model.proofs.ArrayPlaces.{element-ends}
+use Rattle.geos_terms.proofs.ArrayPlaces.{element-ends}
 use Rattle.chunk_array.proofs.look.Found.place.Goals as goal
 
 pub overflow_sub-result : goal.overflow_sub-result

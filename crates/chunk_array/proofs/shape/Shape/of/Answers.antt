@@ -1,9 +1,9 @@
 use Rattle.std.proofs.Common.{◌≡◌, ◌+◌, ◌*◌, Some, length, ap, sym, ◌∙◌, arith}
 use Rattle.std.specs.Prelude.{nat_le, ◌==◌, ◌&&◌}
 use Rattle.std.proofs.lemmas.Bool.{and_left, and_right, lt-leb, ne_eqb}
-use Rattle.geos_model.specs.Bytes.{word}
-use Rattle.geos_model.specs.Arrays.{are_offsets, words_from, arr}
-use Rattle.geos_model.proofs.ArrayReads.{reads, array_in, headed, not-headed, varying-array, varying-none, equal-array, equal-none}
+use Rattle.geos_terms.specs.Bytes.{word}
+use Rattle.geos_terms.specs.Arrays.{are_offsets, words_from, arr}
+use Rattle.geos_terms.proofs.ArrayReads.{reads, array_in, headed, not-headed, varying-array, varying-none, equal-array, equal-none}
 use Rattle.chunk_array.proofs.shape.Shape.of.Goals as goal
 use Rattle.chunk_array.proofs.shape.Shape.of.Goals.{then-bytes-lt-HEADER-via-then-bytes-lt-HEADER, then-bytes-lt-HEADER-via-else-bytes-lt-HEADER+then-get16-ne0, then-bytes-lt-HEADER-via-else-bytes-lt-HEADER+else-get16-ne0+then-get16-ne8, then-element_size-eq0, else-element_size-eq0}
 

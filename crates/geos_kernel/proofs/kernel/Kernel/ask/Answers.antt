@@ -1,8 +1,8 @@
 use Rattle.std.proofs.Common.{subst, sym}
-use Rattle.geos_model.specs.Block.{chunks}
-use Rattle.geos_model.specs.Heap.{IsHeap}
-use Rattle.geos_table.specs.ChunkCalls.{ask_edit, ask_row}
-use Rattle.heap_calls.specs.Edits.{Tells}
+use Rattle.geos_terms.specs.Block.{chunks}
+use Rattle.geos_terms.specs.Heap.{IsHeap}
+use Rattle.geos_calls.specs.ChunkCalls.{ask_edit, ask_row}
+use Rattle.chunk_calls.specs.Edits.{Tells}
 use Rattle.geos_kernel.specs.Kernel.{Calls}
 use Rattle.geos_kernel.proofs.Chunks.{seen-heap}
 use Rattle.geos_kernel.proofs.Looks.{told}

@@ -1,9 +1,9 @@
 use Rattle.std.proofs.Common.{subst, sym}
-use Rattle.geos_table.specs.ChunkCalls.{change_edit, change_row}
-use Rattle.geos_table.specs.Given.{given_memory}
-use Rattle.geos_table.proofs.Laws.{change-shape}
-use Rattle.heap_calls.specs.Edits.{Carries}
-use Rattle.heap_calls.proofs.Asking.{change-asks}
+use Rattle.geos_calls.specs.ChunkCalls.{change_edit, change_row}
+use Rattle.geos_calls.specs.Given.{given_memory}
+use Rattle.geos_calls.proofs.Laws.{change-shape}
+use Rattle.chunk_calls.specs.Edits.{Carries}
+use Rattle.chunk_calls.proofs.Asking.{change-asks}
 use Rattle.geos_kernel.specs.View.{MayChange, chunks_at, core_of}
 use Rattle.geos_kernel.specs.Kernel.{HasNoRoomFor, StaysIfRefused, Remain}
 use Rattle.geos_kernel.proofs.Chunks.{seen-heap, others-calls, others-kernel, carries-no_room}

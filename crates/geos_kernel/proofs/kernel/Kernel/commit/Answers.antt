@@ -1,5 +1,5 @@
 use Rattle.std.proofs.Common.{subst, sym}
-use Rattle.geos_table.specs.VmCalls as table
+use Rattle.geos_calls.specs.VmCalls as table
 use Rattle.vm_blocks.specs.Listed.{NoneLocked}
 use Rattle.vm_blocks.specs.ListedCalls.{keeper_of}
 use Rattle.vm_blocks.specs.Refused.{of_commit}

@@ -1,12 +1,12 @@
 use Rattle.std.proofs.Common.{◌<◌, Ok, subst, arith}
 use Rattle.block_handles.specs.Offsets.{CopiesCovered}
-use Rattle.geos_table.specs.Effects.{Reference}
-use Rattle.geos_table.specs.Calls as table
-use Rattle.geos_table.proofs.Laws.{willing}
+use Rattle.geos_calls.specs.Effects.{Reference}
+use Rattle.geos_calls.specs.Calls as table
+use Rattle.geos_calls.proofs.Laws.{willing}
 use Rattle.geos_kernel.specs.Kernel.{Calls, Remain}
 use Rattle.geos_kernel.specs.Spans.{Stands}
 use Rattle.geos_kernel.specs.View.{core_of}
-use Rattle.heap_calls.proofs.Values.{values-of}
+use Rattle.chunk_calls.proofs.Values.{values-of}
 use Rattle.geos_kernel.proofs.AccessReads.{span-region}
 use Rattle.geos_kernel.proofs.AccessCopies.{nothing-copied, span-copied, span-copies}
 use Rattle.geos_kernel.proofs.Remaining.{written-remain}

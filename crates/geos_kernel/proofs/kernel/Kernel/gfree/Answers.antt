@@ -1,4 +1,4 @@
-use Rattle.geos_table.specs.ItemCalls.{gfree}
+use Rattle.geos_calls.specs.ItemCalls.{gfree}
 use Rattle.geos_kernel.proofs.Seen.{calls-seen}
 use Rattle.geos_kernel.proofs.VmCalls.{freed-file, freed-spares, group-free, quiet-calls, spared-kernel}
 use Rattle.geos_kernel.specs.Kernel.{Remain}

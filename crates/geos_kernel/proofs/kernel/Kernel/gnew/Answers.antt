@@ -1,7 +1,7 @@
 use Rattle.std.proofs.Common.{subst}
-use Rattle.geos_model.specs.declared.refusal.Refusal.TheVariants as refusal
-use Rattle.geos_table.specs.ItemCalls.{gnew}
-use Rattle.geos_model.specs.Names.{group_uid}
+use Rattle.geos_terms.specs.declared.refusal.Refusal.TheVariants as refusal
+use Rattle.geos_calls.specs.ItemCalls.{gnew}
+use Rattle.geos_terms.specs.Names.{group_uid}
 use Rattle.geos_kernel.specs.Kernel.{NewListedHasNoRoom}
 use Rattle.geos_kernel.specs.View.{core_of}
 use Rattle.geos_kernel.proofs.Lacking.{new-lacks}

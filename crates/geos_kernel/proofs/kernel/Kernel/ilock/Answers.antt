@@ -1,5 +1,5 @@
 use Rattle.std.proofs.Common.{ap, ◌∙◌}
-use Rattle.geos_table.specs.ItemCalls.{ilock}
+use Rattle.geos_calls.specs.ItemCalls.{ilock}
 use Rattle.block_handles.specs.Names.{slot_of}
 use Rattle.block_handles.specs.Store.{place_of}
 use Rattle.db_items.specs.Items.{refers_to}

@@ -1,5 +1,5 @@
 use Rattle.std.proofs.Common.{refl, subst}
-use Rattle.geos_table.specs.ItemCalls.{isetmap}
+use Rattle.geos_calls.specs.ItemCalls.{isetmap}
 use Rattle.geos_kernel.proofs.ItemCalls.{mapped-file}
 use Rattle.geos_kernel.proofs.Listed.{same-spares}
 use Rattle.geos_kernel.proofs.Seen.{calls-seen}

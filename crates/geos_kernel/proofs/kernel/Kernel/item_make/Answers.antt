@@ -1,7 +1,7 @@
 use Rattle.std.proofs.Common.{refl}
-use Rattle.geos_model.specs.Names.{vm}
-use Rattle.geos_table.specs.ChunkCalls.{make_edit, make_row}
-use Rattle.geos_table.specs.ItemCalls.{on_group}
+use Rattle.geos_terms.specs.Names.{vm}
+use Rattle.geos_calls.specs.ChunkCalls.{make_edit, make_row}
+use Rattle.geos_calls.specs.ItemCalls.{on_group}
 use Rattle.geos_kernel.proofs.ItemLocks.{item-called}
 use Rattle.geos_kernel.proofs.Listed.{keeps-mem}
 use Rattle.geos_kernel.proofs.Stops.{leaves-kept}

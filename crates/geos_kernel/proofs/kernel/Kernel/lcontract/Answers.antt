@@ -1,6 +1,6 @@
 use Rattle.std.proofs.Common.{subst, sym}
 use Rattle.block_handles.specs.Names.{slot_of}
-use Rattle.heap_calls.proofs.Values.{values-of}
+use Rattle.chunk_calls.proofs.Values.{values-of}
 use Rattle.geos_kernel.specs.View.{MayChange}
 use Rattle.geos_kernel.specs.Kernel.{Remain}
 use Rattle.geos_kernel.proofs.Chunks.{contracted, seen-heap}

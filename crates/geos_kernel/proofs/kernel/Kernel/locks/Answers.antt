@@ -1,10 +1,10 @@
 use Rattle.std.proofs.Common.{◌≡◌, subst, sym, ◌∙◌, ap}
-use Rattle.geos_table.specs.VmFile.{VmFile}
+use Rattle.geos_calls.specs.VmFile.{VmFile}
 use Rattle.block_handles.specs.Names.{slot_of}
 use Rattle.block_handles.specs.Store as store
-use Rattle.geos_table.specs.Memory.{locks_of}
+use Rattle.geos_calls.specs.Memory.{locks_of}
 use Rattle.geos_kernel.specs.View.{IsFileOf, core_of, memory_of}
-use Rattle.heap_calls.proofs.Named.{locks-known}
+use Rattle.chunk_calls.proofs.Named.{locks-known}
 use Rattle.geos_kernel.proofs.Seen.{memory-known}
 use Rattle.geos_kernel.proofs.kernel.Kernel.locks.Goals as goal
 

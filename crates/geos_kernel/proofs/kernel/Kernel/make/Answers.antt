@@ -1,6 +1,6 @@
 use Rattle.std.proofs.Common.{subst, sym, refl}
-use Rattle.geos_table.specs.ChunkCalls.{make_edit, make_row}
-use Rattle.heap_calls.proofs.Asking.{make-asks}
+use Rattle.geos_calls.specs.ChunkCalls.{make_edit, make_row}
+use Rattle.chunk_calls.proofs.Asking.{make-asks}
 use Rattle.geos_kernel.specs.View.{MayChange, chunks_at, core_of}
 use Rattle.geos_kernel.specs.Kernel.{HasNoRoomFor, StaysIfRefused}
 use Rattle.geos_kernel.proofs.Chunks.{seen-heap, others-calls, others-kernel, comes-no_room}

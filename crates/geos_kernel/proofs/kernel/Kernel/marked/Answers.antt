@@ -1,6 +1,6 @@
 use Rattle.std.proofs.Common.{◌≡◌, subst, sym, ◌∙◌, ap}
-use Rattle.geos_table.specs.Memory.{is_marked}
-use Rattle.geos_table.specs.VmFile.{VmFile}
+use Rattle.geos_calls.specs.Memory.{is_marked}
+use Rattle.geos_calls.specs.VmFile.{VmFile}
 use Rattle.vm_blocks.specs.Blocks.{is_marked_in}
 use Rattle.vm_blocks.specs.View.{held_at}
 use Rattle.geos_kernel.specs.View.{IsFileOf, core_of, memory_of}

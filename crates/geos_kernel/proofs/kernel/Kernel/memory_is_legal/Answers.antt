@@ -1,13 +1,13 @@
 use Rattle.std.proofs.Common.{◌≡◌, ℕ, subst}
 use Rattle.std.specs.Prelude.{◌↔◌}
-use Rattle.geos_model.specs.Names.{vm}
-use Rattle.geos_model.specs.declared.name.Name.{Name}
+use Rattle.geos_terms.specs.Names.{vm}
+use Rattle.geos_terms.specs.declared.name.Name.{Name}
 use Rattle.block_handles.specs.Names.{slot_of}
 use Rattle.block_handles.specs.Store.{IsThere, bytes_of}
 use Rattle.vm_file.specs.Outcomes.{IsHeapUnder}
-use Rattle.geos_table.specs.Memory.{locks_of}
-use Rattle.geos_table.specs.Legal.{IsMemory}
-use Rattle.geos_table.specs.VmFile.{VmFile}
+use Rattle.geos_calls.specs.Memory.{locks_of}
+use Rattle.geos_calls.specs.Legal.{IsMemory}
+use Rattle.geos_calls.specs.VmFile.{VmFile}
 use Rattle.vm_blocks.specs.Listed.{NoneLocked}
 use Rattle.geos_kernel.specs.Files.{LeavesKept}
 use Rattle.geos_kernel.specs.View.{IsFileOf, core_of, memory_of}

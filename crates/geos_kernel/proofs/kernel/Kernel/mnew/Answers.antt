@@ -1,6 +1,6 @@
 use Rattle.std.proofs.Common.{Ok, Err, subst}
-use Rattle.geos_model.specs.declared.refusal.Refusal.TheVariants.{NoHandle, NoRoom}
-use Rattle.geos_table.specs.Calls as table
+use Rattle.geos_terms.specs.declared.refusal.Refusal.TheVariants.{NoHandle, NoRoom}
+use Rattle.geos_calls.specs.Calls as table
 use Rattle.vm_blocks.specs.Room as room
 use Rattle.geos_kernel.specs.Kernel.{Calls, MakesRoomFor}
 use Rattle.geos_kernel.specs.View.{core_of}

@@ -1,9 +1,9 @@
 use Rattle.std.proofs.Common.{◌+◌, subst, sym}
 use Rattle.std.specs.Prelude.{Ok, Err}
-use Rattle.geos_model.specs.Heap.{IsHeap}
-use Rattle.geos_table.specs.Calls.{in_block}
-use Rattle.geos_table.specs.ChunkCalls.{refer_edit, refer_row}
-use Rattle.heap_calls.specs.Edits.{Finds}
+use Rattle.geos_terms.specs.Heap.{IsHeap}
+use Rattle.geos_calls.specs.Calls.{in_block}
+use Rattle.geos_calls.specs.ChunkCalls.{refer_edit, refer_row}
+use Rattle.chunk_calls.specs.Edits.{Finds}
 use Rattle.geos_kernel.specs.Kernel.{GivesSpan}
 use Rattle.geos_kernel.specs.declared.span.Span.{Span}
 use Rattle.geos_kernel.specs.Spans.{IsWritable}

@@ -1,6 +1,6 @@
 use Rattle.std.proofs.Common.{◌+◌, ap, subst, arith}
-use Rattle.geos_model.specs.Bytes.{word_bytes}
-use Rattle.geos_table.proofs.Laws.{willing}
+use Rattle.geos_terms.specs.Bytes.{word_bytes}
+use Rattle.geos_calls.proofs.Laws.{willing}
 use Rattle.geos_kernel.specs.Kernel.{Remain}
 use Rattle.geos_kernel.proofs.AccessReads.{span-region}
 use Rattle.geos_kernel.proofs.AccessWrites.{word-bytes, span-stores, span-written}

@@ -1,5 +1,5 @@
 use Rattle.std.proofs.Common.{◌+◌, [], ◌∷◌, ap, subst, arith}
-use Rattle.geos_table.proofs.Laws.{willing}
+use Rattle.geos_calls.proofs.Laws.{willing}
 use Rattle.geos_kernel.specs.Kernel.{Remain}
 use Rattle.geos_kernel.proofs.AccessReads.{span-region}
 use Rattle.geos_kernel.proofs.AccessWrites.{byte-bytes, span-stores, span-written}

@@ -1,5 +1,5 @@
 use Rattle.std.proofs.Common.{Ok, ap, refl, subst}
-use Rattle.geos_table.specs.VmCalls.{vdirty}
+use Rattle.geos_calls.specs.VmCalls.{vdirty}
 use Rattle.vm_blocks.specs.View.{VmState}
 use Rattle.geos_kernel.proofs.Listed.{same-spares}
 use Rattle.geos_kernel.proofs.Seen.{calls-seen}

@@ -1,4 +1,4 @@
-use Rattle.geos_table.specs.VmCalls.{vfind}
+use Rattle.geos_calls.specs.VmCalls.{vfind}
 use Rattle.geos_kernel.proofs.ListedRows.{vfind-reserved-row}
 use Rattle.geos_kernel.proofs.VmCalls.{told-calls}
 use Rattle.geos_kernel.proofs.kernel.Kernel.vfind.Goals as goal

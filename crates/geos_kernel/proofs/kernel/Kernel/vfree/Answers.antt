@@ -1,5 +1,5 @@
 use Rattle.std.proofs.Common.{◌≡◌, false, true, ◌<◌, refl, subst}
-use Rattle.geos_table.specs.VmCalls.{free_listed}
+use Rattle.geos_calls.specs.VmCalls.{free_listed}
 use Rattle.block_handles.specs.Store.{locks_of}
 use Rattle.vm_blocks.specs.declared.error.FreeError.TheVariants.{Locked}
 use Rattle.vm_blocks.specs.Refused.{of_free}

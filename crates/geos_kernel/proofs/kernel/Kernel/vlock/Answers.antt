@@ -1,6 +1,6 @@
 use Rattle.std.proofs.Common.{◌≡◌, false, true, refl, subst}
 use Rattle.std.specs.Prelude.{OnOk}
-use Rattle.geos_table.specs.VmCalls.{lock_listed}
+use Rattle.geos_calls.specs.VmCalls.{lock_listed}
 use Rattle.block_handles.specs.Change.{with_lock_more}
 use Rattle.block_handles.specs.Store.{IsThere}
 use Rattle.vm_blocks.specs.View.{vm_slot}

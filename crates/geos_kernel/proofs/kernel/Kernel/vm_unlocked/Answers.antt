@@ -1,8 +1,8 @@
 use Rattle.std.proofs.Common.{◌≡◌, ℕ, subst}
 use Rattle.std.specs.Prelude.{◌↔◌, IsTrue}
-use Rattle.geos_model.specs.Names.{vm}
-use Rattle.geos_table.specs.Memory.{locks_of}
-use Rattle.geos_table.specs.VmFile.{VmFile}
+use Rattle.geos_terms.specs.Names.{vm}
+use Rattle.geos_calls.specs.Memory.{locks_of}
+use Rattle.geos_calls.specs.VmFile.{VmFile}
 use Rattle.vm_blocks.specs.Listed.{NoneLocked}
 use Rattle.geos_kernel.specs.View.{IsFileOf, core_of, memory_of}
 use Rattle.geos_kernel.proofs.Seen.{memory-known}

@@ -1,5 +1,5 @@
 use Rattle.std.proofs.Common.{Ok, ap, refl, sym, subst}
-use Rattle.geos_table.specs.VmCalls.{vsetmap}
+use Rattle.geos_calls.specs.VmCalls.{vsetmap}
 use Rattle.vm_blocks.specs.View.{VmState, held_at}
 use Rattle.geos_kernel.proofs.Listed.{same-spares}
 use Rattle.geos_kernel.proofs.ListedRows.{not-some, vsetmap-group-row, vsetmap-unlisted-row}

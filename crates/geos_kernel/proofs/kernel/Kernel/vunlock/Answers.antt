@@ -1,5 +1,5 @@
 use Rattle.std.proofs.Common.{Ok, subst}
-use Rattle.geos_table.specs.Calls.{unlock}
+use Rattle.geos_calls.specs.Calls.{unlock}
 use Rattle.geos_kernel.specs.Kernel.{Calls}
 use Rattle.geos_kernel.proofs.VmCalls.{vm-named}
 use Rattle.geos_kernel.proofs.kernel.Kernel.vunlock.Goals as goal

@@ -1,6 +1,6 @@
 use Rattle.std.proofs.Common.{arith}
-use Rattle.geos_model.specs.Block.{table_end}
-use Rattle.geos_model.proofs.Pieces.{tiles-le}
+use Rattle.geos_terms.specs.Block.{table_end}
+use Rattle.geos_terms.proofs.Pieces.{tiles-le}
 use Rattle.lmem_heap.proofs.Closing.{closes, closing_words-is}
 use Rattle.lmem_heap.proofs.compact.Gap.close.Goals as goal
 

@@ -1,5 +1,5 @@
 use Rattle.std.proofs.Common.{ℕ, ◌+◌, length, sym, subst, arith}
-use Rattle.geos_model.specs.Bytes.{word}
+use Rattle.geos_terms.specs.Bytes.{word}
 use Rattle.lmem_heap.specs.Gaps.{HasGap}
 use Rattle.lmem_heap.proofs.Opening.{gap_of}
 use Rattle.lmem_heap.proofs.Unwritten.{but-first, but-inner, but-last}

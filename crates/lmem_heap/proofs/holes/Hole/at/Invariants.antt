@@ -1,5 +1,5 @@
 use Rattle.std.proofs.Common.{◌≡◌, ◌-◌, length}
-use Rattle.geos_model.specs.Bytes.{word}
+use Rattle.geos_terms.specs.Bytes.{word}
 use Rattle.lmem_heap.specs.Holes.{IsOpen}
 use Rattle.lmem_heap.proofs.holes.Hole.at.Given as goal
 

@@ -1,7 +1,7 @@
 use Rattle.std.proofs.Common.{◌≡◌, ℕ, ◌+◌, replicate, refl, ap, sym, subst, arith}
 use Rattle.lmem_raw.specs.Bytes.{with_part}
 use Rattle.lmem_heap.specs.Holes.{IsBeside}
-use Rattle.geos_model.proofs.Costs.{cost-least}
+use Rattle.geos_terms.proofs.Costs.{cost-least}
 use Rattle.lmem_heap.proofs.FreeLists.{open-place}
 use Rattle.lmem_heap.proofs.Taking.{hole-filled}
 use Rattle.lmem_heap.proofs.holes.Hole.fill.Goals as goal

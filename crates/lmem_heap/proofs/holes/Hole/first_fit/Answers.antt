@@ -1,5 +1,5 @@
 use Rattle.std.proofs.Common.{ℕ, ◌+◌, ◌≤◌, length, ap, refl, sym, ◌∙◌, subst, inl, inr, arith}
-use Rattle.geos_model.specs.Bytes.{word}
+use Rattle.geos_terms.specs.Bytes.{word}
 use Rattle.lmem_heap.specs.Holes.{IsOpen, FitsBehind}
 use Rattle.lmem_heap.proofs.FreeLists.{heap-open, heap-next, open-fits}
 use Rattle.lmem_heap.proofs.holes.Hole.first_fit.Goals as goal

@@ -1,6 +1,6 @@
 use Rattle.std.proofs.Common.{◌≡◌, ◌-◌, ◌<◌, ◌⊎◌, length}
-use Rattle.geos_model.specs.Bytes.{word}
-use Rattle.geos_model.specs.Block.{first_free}
+use Rattle.geos_terms.specs.Bytes.{word}
+use Rattle.geos_terms.specs.Block.{first_free}
 use Rattle.lmem_heap.specs.Holes.{IsOpen}
 use Rattle.lmem_heap.proofs.holes.Hole.first_fit.Given as goal
 

@@ -1,7 +1,7 @@
 use Rattle.std.proofs.Common.{ℕ, ◌-◌, length, refl, sym, subst, arith, rules}
-use Rattle.geos_model.specs.Block.{entry, table_end}
-use Rattle.geos_model.proofs.Costs.{cost-fours}
-use Rattle.geos_model.proofs.Words.{part-shifted}
+use Rattle.geos_terms.specs.Block.{entry, table_end}
+use Rattle.geos_terms.proofs.Costs.{cost-fours}
+use Rattle.geos_terms.proofs.Words.{part-shifted}
 use Rattle.lmem_heap.specs.Holes.{IsOpen}
 use Rattle.lmem_heap.specs.Packed.{chunk_length}
 use Rattle.lmem_heap.proofs.Extending.{heap-extent}

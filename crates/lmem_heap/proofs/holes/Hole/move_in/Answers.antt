@@ -1,8 +1,8 @@
 use Rattle.std.proofs.Common.{ℕ, ◌-◌, sym, subst, arith, rules}
 use Rattle.lmem_raw.specs.Bytes.{part}
-use Rattle.geos_model.specs.Chunks.{resized}
-use Rattle.geos_model.specs.Block.{entry}
-use Rattle.geos_model.proofs.Costs.{cost-fours}
+use Rattle.geos_terms.specs.Chunks.{resized}
+use Rattle.geos_terms.specs.Block.{entry}
+use Rattle.geos_terms.proofs.Costs.{cost-fours}
 use Rattle.lmem_heap.specs.Holes.{IsOpen}
 use Rattle.lmem_heap.specs.Packed.{chunk_length}
 use Rattle.lmem_heap.proofs.Moving.{Redirects}

@@ -1,7 +1,7 @@
 use Rattle.std.proofs.Common.{◌≡◌, ℕ, None, Some, false, refl, subst, sym, ◌∙◌}
 use Rattle.std.specs.Prelude.{Err, IsTrue, Ok}
-use Rattle.geos_model.specs.Names.{vm}
-use Rattle.geos_model.specs.declared.name.Name.{Name}
+use Rattle.geos_terms.specs.Names.{vm}
+use Rattle.geos_terms.specs.declared.name.Name.{Name}
 use Rattle.block_handles.specs.Names.{slot_of}
 use Rattle.block_handles.specs.Store.{Store, IsThere}
 use Rattle.vm_blocks.specs.declared.error.BringError.TheVariants as error

@@ -1,6 +1,6 @@
 use Rattle.std.proofs.Common.{◌≡◌, true, ap, refl, sym, subst}
 use Rattle.std.specs.Prelude.{Ok, Err}
-use Rattle.geos_table.specs.VmCalls.{commit}
+use Rattle.geos_calls.specs.VmCalls.{commit}
 use Rattle.vm_file.specs.Committing.{MayCommit}
 use Rattle.vm_file.specs.Directories.{is_directory}
 use Rattle.vm_file.specs.State.{FileState}

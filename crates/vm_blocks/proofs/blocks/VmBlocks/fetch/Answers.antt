@@ -1,8 +1,8 @@
 use Rattle.std.proofs.Common.{◌≡◌, ℕ, ap, sym, subst}
 use Rattle.std.specs.Prelude.{Err, OnOk}
-use Rattle.geos_model.specs.Heap.{IsBlockSize}
-use Rattle.geos_model.specs.Names.{vm}
-use Rattle.geos_model.specs.declared.name.Name.{Name}
+use Rattle.geos_terms.specs.Heap.{IsBlockSize}
+use Rattle.geos_terms.specs.Names.{vm}
+use Rattle.geos_terms.specs.declared.name.Name.{Name}
 use Rattle.block_handles.specs.Names.{IsHandle, slot_of}
 use Rattle.block_handles.specs.Store.{IsBlock, IsThere, bytes_of, locks_in}
 use Rattle.vm_file.specs.State.{HasBlock}

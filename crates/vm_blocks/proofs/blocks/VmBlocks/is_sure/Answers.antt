@@ -1,6 +1,6 @@
 use Rattle.std.proofs.Common.{ℕ, List, subst}
 use Rattle.block_handles.specs.Store.{Store}
-use Rattle.geos_table.specs.Memory.{Memory}
+use Rattle.geos_calls.specs.Memory.{Memory}
 use Rattle.vm_file.specs.State.{Finds}
 use Rattle.vm_blocks.specs.FileOf.{IsMemoryOf}
 use Rattle.vm_blocks.specs.Found.{OpensAsKept}

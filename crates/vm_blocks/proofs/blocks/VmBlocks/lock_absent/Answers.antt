@@ -6,8 +6,8 @@ use Rattle.block_handles.specs.Names.{slot_of}
 use Rattle.block_handles.specs.Store.{Block, IsBlock, IsThere, Store, locks_in, locks_of}
 use Rattle.block_handles.specs.declared.error.HandleError.{HandleError}
 use Rattle.block_handles.specs.declared.error.HandleError.TheVariants.{BadHandle, Locked}
-use Rattle.geos_model.specs.Names.{vm}
-use Rattle.geos_model.specs.declared.name.Name.{Name}
+use Rattle.geos_terms.specs.Names.{vm}
+use Rattle.geos_terms.specs.declared.name.Name.{Name}
 use Rattle.vm_blocks.specs.Bring.{Brought}
 use Rattle.vm_blocks.specs.View.{held_at, vm_slot}
 use Rattle.vm_blocks.proofs.Bringing.{Locks, brought-locks, not-brought-locks}

@@ -1,5 +1,5 @@
 use Rattle.std.proofs.Common.{subst}
-use Rattle.geos_model.specs.declared.name.Name.{Name}
+use Rattle.geos_terms.specs.declared.name.Name.{Name}
 use Rattle.block_handles.specs.Names.{slot_of}
 use Rattle.vm_blocks.specs.Room.{DiscardsForRoom, own_handle}
 use Rattle.vm_blocks.proofs.Brings.{fills-others, made-room}

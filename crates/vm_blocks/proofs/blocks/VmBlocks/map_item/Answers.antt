@@ -1,5 +1,5 @@
 use Rattle.std.proofs.Common.{Ok, sym, subst}
-use Rattle.geos_table.specs.ItemCalls.{igetmap}
+use Rattle.geos_calls.specs.ItemCalls.{igetmap}
 use Rattle.vm_blocks.specs.DoesRow.{DoesRow}
 use Rattle.vm_blocks.specs.View.{VmState}
 use Rattle.vm_blocks.proofs.Told.{map-item-row}

@@ -1,5 +1,5 @@
 use Rattle.std.proofs.Common.{◌<◌, Ok, sym, subst, arith}
-use Rattle.geos_table.specs.ItemCalls.{isetmap}
+use Rattle.geos_calls.specs.ItemCalls.{isetmap}
 use Rattle.vm_blocks.specs.DoesRow.{DoesRow}
 use Rattle.vm_blocks.specs.View.{VmState}
 use Rattle.vm_blocks.proofs.MapRows.{put-map-item-row}

@@ -1,6 +1,6 @@
 use Rattle.std.specs.Prelude.{Option, option_map}
 use Rattle.std.proofs.Common.{◌∙◌, sym, subst}
-use Rattle.geos_table.specs.VmCalls.{vuid}
+use Rattle.geos_calls.specs.VmCalls.{vuid}
 use Rattle.vm_blocks.specs.declared.entries.Held.{Held}
 use Rattle.vm_blocks.specs.Blocks.{uid_of}
 use Rattle.vm_blocks.specs.DoesRow.{DoesRow}

@@ -1,6 +1,6 @@
 use Rattle.std.proofs.Common.{◌≡◌, ◌∙◌, Some, ap, sym, subst, true}
 use Rattle.std.specs.Prelude.{option_map}
-use Rattle.geos_table.specs.Memory.{with_mark}
+use Rattle.geos_calls.specs.Memory.{with_mark}
 use Rattle.vm_blocks.specs.Blocks.{marked}
 use Rattle.vm_blocks.specs.FileOf.{IsMemoryOf}
 use Rattle.vm_blocks.specs.Tied.{IsTied}

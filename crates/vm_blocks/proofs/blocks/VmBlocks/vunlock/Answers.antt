@@ -4,7 +4,7 @@ use Rattle.block_handles.specs.Names.{slot_of}
 use Rattle.block_handles.specs.Store.{locks_of}
 use Rattle.block_handles.proofs.Laws.{handle_of_there}
 use Rattle.block_handles.proofs.Layouts.{there_of_locks}
-use Rattle.geos_model.specs.Names.{vm}
+use Rattle.geos_terms.specs.Names.{vm}
 use Rattle.vm_blocks.specs.View.{vm_slot}
 use Rattle.vm_blocks.proofs.Counts.{locked-tied}
 use Rattle.vm_blocks.proofs.LockRows.{unlock-row}

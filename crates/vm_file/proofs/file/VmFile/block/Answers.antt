@@ -1,8 +1,8 @@
 use Rattle.std.proofs.Common.{◌≡◌, ◌∙◌, ℕ, List, length, ap, sym, subst, arith}
 use Rattle.std.specs.Prelude.{OnOk, OnErr}
 use Rattle.std.proofs.lemmas.Result.{on_ok_weaker}
-use Rattle.geos_model.specs.Block.{handle_word}
-use Rattle.geos_model.specs.Heap.{IsHeap}
+use Rattle.geos_terms.specs.Block.{handle_word}
+use Rattle.geos_terms.specs.Heap.{IsHeap}
 use Rattle.vm_file.specs.Device.{Rose}
 use Rattle.vm_file.specs.State.{FileState, HasBlock, block_at, bytes_of_block, pair_of}
 use Rattle.vm_file.proofs.BlockLaws.{current_there, current_heap}

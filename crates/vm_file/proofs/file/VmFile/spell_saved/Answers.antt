@@ -8,7 +8,7 @@ use Rattle.vm_file.specs.Device.{Rose}
 use Rattle.vm_file.specs.Directories.{directory_length, is_directory}
 use Rattle.vm_file.specs.Reading.{area_of, base_of}
 use Rattle.vm_file.specs.State.{FileState, pair_of}
-use Rattle.geos_model.proofs.HeapTests.{both}
+use Rattle.geos_terms.proofs.HeapTests.{both}
 use Rattle.vm_file.proofs.Listing.{pair_listed}
 use Rattle.vm_file.proofs.ReadLaws.{pair_ok}
 use Rattle.vm_file.proofs.Sources.{saved_contents}

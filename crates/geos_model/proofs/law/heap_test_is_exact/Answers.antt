@@ -1,5 +1,0 @@
-use Rattle.geos_model.proofs.HeapTests.{heap-sound, heap-complete}
-use Rattle.geos_model.proofs.law.heap_test_is_exact.Goals as goal
-
-pub returns : goal.returns
-returns c = λ bytes. (heap-sound bytes, heap-complete bytes)

@@ -1,5 +1,0 @@
-use Rattle.geos_table.proofs.Keeps.{rows_keep_memory}
-use Rattle.geos_table.proofs.law.rows_keep_memory.Goals as goal
-
-pub returns : goal.returns
-returns c = rows_keep_memory

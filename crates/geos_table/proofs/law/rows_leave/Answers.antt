@@ -1,5 +1,0 @@
-use Rattle.geos_table.proofs.Leaves.{rows_leave}
-use Rattle.geos_table.proofs.law.rows_leave.Goals as goal
-
-pub returns : goal.returns
-returns c = rows_leave
