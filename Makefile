@@ -1,0 +1,32 @@
+# `make` builds geos, and prints its path. `make install` puts it, its man page and completions for bash, zsh and fish below PREFIX, all
+# of that below DESTDIR where one is given. `make uninstall` removes these files; folders stay.
+PREFIX = /usr/local
+DESTDIR =
+# The program that is installed; where none is given, `./build geos` says which.
+GEOS =
+
+root = $(DESTDIR)$(PREFIX)
+bin = $(root)/bin
+man = $(root)/share/man/man1
+bash = $(root)/share/bash-completion/completions
+zsh = $(root)/share/zsh/site-functions
+fish = $(root)/share/fish/vendor_completions.d
+
+.PHONY: all install uninstall
+
+all:
+	@./build geos
+
+install:
+	@program='$(GEOS)'; [ -n "$$program" ] || program=$$(./build geos) || exit; \
+	made=$$(mktemp -d) || exit; trap 'rm -rf "$$made"' EXIT; \
+	install/make.sh "$$program" "$$made" && \
+	install -d '$(bin)' '$(man)' '$(bash)' '$(zsh)' '$(fish)' && \
+	install -m 644 "$$made/geos.1" '$(man)/geos.1' && \
+	install -m 644 "$$made/bash" '$(bash)/geos' && \
+	install -m 644 "$$made/zsh" '$(zsh)/_geos' && \
+	install -m 644 "$$made/fish" '$(fish)/geos.fish' && \
+	install -m 755 "$$program" '$(bin)/geos'
+
+uninstall:
+	rm -f '$(bin)/geos' '$(man)/geos.1' '$(bash)/geos' '$(zsh)/_geos' '$(fish)/geos.fish'
