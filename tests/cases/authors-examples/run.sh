@@ -1,11 +1,12 @@
-# Each text of docs/AUTHORS.md: whether it may run, and what the call in the line of the same number in `calls` puts out.
+# Each text of docs/AUTHORS.md that begins with a routine: whether it may run, and what the call in the same line of `calls` puts out.
 export LC_ALL=C
 folder=$(mktemp -d)
 trap 'rm -rf "$folder"' EXIT
 awk -v folder="$folder" '
-    /^    routine / && !inside { inside = 1; number++; file = sprintf("%s/%02d", folder, number) }
+    /^    routine / && !inside && last !~ /^    / { inside = 1; number++; file = sprintf("%s/%02d", folder, number) }
     /^[^ ]/ { inside = 0 }
-    inside { print >file }' "$top/docs/AUTHORS.md"
+    inside { print >file }
+    { last = $0 }' "$top/docs/AUTHORS.md"
 number=0
 for text in "$folder"/*; do
     number=$((number + 1))
