@@ -144,7 +144,7 @@ pub record CommitsFile {D : Type 0} (medium : Medium D)
   pub stays : medium.honest old.device → medium.honest new.device
   pub was : medium.honest new.device → medium.honest old.device
   pub ok : OnOk result (medium.failed new.device ≡ medium.failed old.device)
-  -- the first call that fails is the last one: nothing is written or read behind it
+  -- one call of the device failed at most
   pub once : FailedOnce (medium.failed old.device) (medium.failed new.device)
   pub cause : medium.honest old.device → result ≡ Err Disk → Rose (medium.failed old.device) (medium.failed new.device)
   -- on any device: a call of it failed, or the last one gave bytes that are no block of those that are kept

@@ -35,7 +35,7 @@ impl FileDevice {
 
     /// Makes a file of so many zero bytes, which lasts, as the folder's entry with its name
     /// does. `Disk` where the system refuses, as it does where the path exists already: that
-    /// file is not touched, and no other is left behind.
+    /// file is not touched. A file that it made is removed then, if the system lets it.
     pub fn create<R: Files<File = File>>(
         rt: &R,
         _alloc: Global,

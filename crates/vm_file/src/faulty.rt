@@ -106,7 +106,8 @@ impl<D: Device + Drop> Device for FaultDevice<D> {
     /// writes the first half of them, rounded down.
     fn write_at(&mut self, at: u64, bytes: &[u8]) -> Result<(), Disk>
         ensures within { OnOk result (at + length bytes.now ≤ length (D.medium.image (inner_of self.old))) }
-        ensures written { D.medium.honest (inner_of self.old) → OnOk result (D.medium.image (inner_of self.new) ≡ with_part (D.medium.image (inner_of self.old)) at bytes.now) }
+        ensures written { D.medium.honest (inner_of self.old)
+            → OnOk result (D.medium.image (inner_of self.new) ≡ with_part (D.medium.image (inner_of self.old)) at bytes.now) }
         ensures writes { WritesOnly (over D.medium) at (length bytes.now) self.old self.new }
         ensures cause { CountsOver D.medium.failed self.old self.new result }
         ensures counted { CountsCall self.old self.new }
