@@ -18,7 +18,7 @@ use Rattle.block_handles.specs.Stretch.{HasNoRoom}
 use Rattle.block_handles.proofs.Laws.{handle_of_there}
 use Rattle.vm_file.specs.Device.{Medium}
 use Rattle.vm_file.specs.Outcomes.{ReadsOnly}
-use Rattle.vm_file.specs.State.{FileState, pair_of}
+use Rattle.vm_file.specs.State.{FileState, Steadily, pair_of}
 use Rattle.vm_blocks.specs.declared.entries.Held.{Held}
 use Rattle.vm_blocks.specs.Blocks.{marked}
 use Rattle.vm_blocks.specs.Bring.{NotBrought}
@@ -105,6 +105,7 @@ module _ {D : Type 0} (medium : Medium D) (v : VmState D) where
     reads = subst (λ (f : FileState D). ReadsOnly medium v.file.device f.device) (sym same) r.reads;
     cause = λ good fails. absurd (never fails);
     counted = λ q. ap (λ (f : FileState D). medium.failed f.device) same ∙ r.counted passed;
+    steadily = subst (λ (f : FileState D). Steadily medium v.file f) (sym same) r.steadily;
   }
 
   module _ (g : ℕ) (w : VmState D) (s t : Store) where

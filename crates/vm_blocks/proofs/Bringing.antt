@@ -39,11 +39,11 @@ use Rattle.vm_blocks.proofs.Wanting.{always-listed, discards-remain, listed-more
 module _ {D : Type 0} (medium : Medium D) where
   -- it was asked nothing
   pub reads-nothing : (fails : Type 0) (f : FileState D) → (fails → ⊥) → ReadsDevice medium fails f f
-  reads-nothing fails f never = record { pair = refl; reads = reads_none medium f.device; cause = λ good failed. absurd (never failed); counted = λ passed. refl }
+  reads-nothing fails f never = record { pair = refl; reads = reads_none medium f.device; cause = λ good failed. absurd (never failed); counted = λ passed. refl; steadily = λ steady room. (room, refl) }
 
   -- it failed in the same cases
   pub reads-as : {P Q : Type 0} (f g : FileState D) → (Q → P) → (P → Q) → ReadsDevice medium P f g → ReadsDevice medium Q f g
-  reads-as f g back forth r = record { pair = r.pair; reads = r.reads; cause = λ good fails. r.cause good (back fails); counted = λ never. r.counted (λ p. never (forth p)) }
+  reads-as f g back forth r = record { pair = r.pair; reads = r.reads; cause = λ good fails. r.cause good (back fails); counted = λ never. r.counted (λ p. never (forth p)); steadily = r.steadily }
 
 -- Nothing was done
 

@@ -4,19 +4,20 @@ use Rattle.geos_terms.specs.Names.{vm}
 use Rattle.block_handles.specs.Store.{Store, IsThere}
 use Rattle.vm_file.specs.Device.{Medium, Rose}
 use Rattle.vm_file.specs.Outcomes.{ReadsOnly}
-use Rattle.vm_file.specs.State.{FileState, pair_of}
+use Rattle.vm_file.specs.State.{FileState, Steadily, pair_of}
 use Rattle.vm_blocks.specs.Bring.{Keeps, NotBrought}
 use Rattle.vm_blocks.specs.Room.{LacksRoom, RemainOrNoRoom}
 use Rattle.vm_blocks.specs.Tied.{IsTied}
 use Rattle.vm_blocks.specs.View.{VmState, held_at, vm_slot, with_device}
 
--- a call reads the device at most: it writes nothing, the pair that the file keeps is the same, and
--- it fails, on an honest device, only where the count of failures rose, which it does nowhere else
+-- a call reads the device at most, within its length: it writes nothing, the pair that the file keeps is
+-- the same, and it fails, on an honest device, only where the count of failures rose, which it does nowhere else
 pub record ReadsDevice {D : Type 0} (medium : Medium D) (fails : Type 0) (f g : FileState D) : Type 0 where
   pub pair : pair_of medium.image g ≡ pair_of medium.image f
   pub reads : ReadsOnly medium f.device g.device
   pub cause : medium.honest f.device → fails → Rose (medium.failed f.device) (medium.failed g.device)
   pub counted : (fails → ⊥) → medium.failed g.device ≡ medium.failed f.device
+  pub steadily : Steadily medium f g
 
 -- a call brought a block into memory, or refused it: for want of room by the one error, and by the
 -- other where the device failed. A block that is there, or is not listed, asks the device nothing;

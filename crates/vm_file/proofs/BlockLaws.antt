@@ -1,5 +1,5 @@
 -- Where the bytes of a block stand.
-use Rattle.std.proofs.Common.{◌≡◌, ℕ, ◌+◌, ◌-◌, ◌≤◌, Bool, true, false, ◌&&◌, cond, List, [], ◌∷◌, take, drop, Some, refl, ap, sym, ◌∙◌, subst, arith}
+use Rattle.std.proofs.Common.{◌≡◌, ℕ, ◌+◌, ◌-◌, ◌≤◌, Bool, true, false, ◌&&◌, cond, List, [], ◌∷◌, length, take, drop, Some, refl, ap, sym, ◌∙◌, subst, arith}
 use Rattle.std.specs.Prelude.{IsSomeAnd}
 use Rattle.std.specs.List.{find, list_all}
 use Rattle.std.proofs.Math.Dec.{eqb}
@@ -78,6 +78,13 @@ module _ {D : Type 0} (medium : Medium D) (f : FileState D) (sound : IsSound med
       let fits = sound.fits in
       let place : base_of f.area f.second + (n + 2) + place_in f.saved.entries.items h ≡ at = omega (arith, is) in
       sym (b.0 ∙ ap (λ l. part l (place_in f.saved.entries.items h) len) two ∙ area_part (medium.image f.device) (base_of f.area f.second) f.area (n + 2) (place_in f.saved.entries.items h) len (omega (arith, b.1, fits)) ∙ ap (λ k. part (medium.image f.device) k len) place)
+
+  -- both lie within the device
+  pub current_lies : (h len at : ℕ) → HasBlock f.current h len → at ≡ base_of f.area f.second + 2 + place_in f.current.entries.items h → at + len ≤ length (medium.image f.device)
+  current_lies h len at has is = (let b = block_there f.current.entries.items [] h len has in let within = sound.within in omega (arith, b.1, within, is))
+
+  pub saved_lies : (h len at : ℕ) → HasBlock f.saved h len → at ≡ base_of f.area f.second + directory_length f.current + 2 + place_in f.saved.entries.items h → at + len ≤ length (medium.image f.device)
+  saved_lies h len at has is = (let b = block_there f.saved.entries.items [] h len has in let within = sound.within in omega (arith, b.1, within, is))
 
   -- the blocks of a pair that the device holds are heaps under their handles
   pub current_heap : (h len : ℕ) → medium.honest f.device → HasBlock f.current h len → IsHeap (bytes_of_block (pair_of medium.image f).cur.blocks h) × (handle_word (bytes_of_block (pair_of medium.image f).cur.blocks h) ≡ h)

@@ -10,9 +10,10 @@ use Rattle.vm_file.specs.Contents.{Pair, pair_in, pair_spelling}
 use Rattle.vm_file.specs.Device.{FailedOnce, Medium, Passes, Rose}
 use Rattle.vm_file.specs.Kept.{Kept}
 use Rattle.vm_file.specs.Outcomes.{FindsNoBlock, ReadsOnly}
-use Rattle.vm_file.specs.State.{FileState, Finds, IsOther, ReadsFile, pair_of}
+use Rattle.vm_file.specs.State.{FileState, Finds, IsOther, ReadsFile, Steadily, pair_of}
 use Rattle.vm_file.proofs.Kept.{cut_is, finds_same, found_before, kept_alike, kept_sure, kept_torn, same_saved, written_alike, written_nothing, written_on}
 use Rattle.vm_file.proofs.Moments.{weaker, goes_on}
+use Rattle.vm_file.proofs.StateLaws.{steadily_read, steadily_then}
 
 -- where nothing happened, the file is as it was, and keeps what it kept
 after_nothing : {D : Type 0} (e : CommitError) (f : FileState D) → IsAfter e f f
@@ -50,6 +51,7 @@ module _ {D : Type 0} (medium : Medium D) (how : How) (resident : ℕ → Option
     cause = λ h is. absurd (other (err e is));
     no_block = λ is. absurd (other (err e is));
     no_read = λ h is. absurd (other (err e is));
+    steadily = λ steady room. (room, refl);
   }
     where
       err : (e : CommitError) → (let r : Result (Unit {0}) CommitError = Err e in r ≡ Err Disk) → e ≡ Disk
@@ -100,6 +102,7 @@ module _ {D : Type 0} (medium : Medium D) (how : How) (resident : ℕ → Option
           cause = λ h is. cause h;
           no_block = λ is. no_block;
           no_read = λ needs is. absurd (no_read needs);
+          steadily = steadily_read medium outcome old mid r;
         }
 
         -- the two writes: of the area that is not selected, and of the selector
@@ -108,7 +111,7 @@ module _ {D : Type 0} (medium : Medium D) (how : How) (resident : ℕ → Option
             (either : medium.honest mid.device → Passes medium.may_have_left mid.device new.device (FindsEither medium.image mid new))
             (stop : medium.honest mid.device → (c : List ℕ) → medium.may_leave new.device c → Finds medium.image new c)
             (stays : medium.honest mid.device → medium.honest new.device) (was : medium.honest new.device → medium.honest mid.device)
-            (once : FailedOnce (medium.failed mid.device) (medium.failed new.device)) where
+            (once : FailedOnce (medium.failed mid.device) (medium.failed new.device)) (steadily : Steadily medium mid new) where
           cut : medium.honest old.device → pair_in (current_after how cur mid.saved) (saved_after how cur mid.saved) bytes ≡ after
           cut h = cut_is how cur old.saved mid.saved after bytes (same_saved medium.image old mid r.same) (spelled h)
 
@@ -118,6 +121,9 @@ module _ {D : Type 0} (medium : Medium D) (how : How) (resident : ℕ → Option
 
           counted : FailedOnce (medium.failed old.device) (medium.failed new.device)
           counted = subst (λ n. FailedOnce n (medium.failed new.device)) count once
+
+          steadily_on : Steadily medium old new
+          steadily_on = steadily_then medium old mid new (steadily_read medium outcome old mid r) steadily
 
           pub selected : new ≡ (let f : FileState D = record { device = new.device; area = mid.area; second = not mid.second; sure = true; current = current_after how cur mid.saved; saved = saved_after how cur mid.saved } in f)
               → (medium.honest mid.device → pair_of medium.image new ≡ pair_in (current_after how cur mid.saved) (saved_after how cur mid.saved) bytes)
@@ -141,6 +147,7 @@ module _ {D : Type 0} (medium : Medium D) (how : How) (resident : ℕ → Option
             cause = λ h is. absurd cc;
             no_block = λ is. absurd cc;
             no_read = λ needs is. absurd cc;
+            steadily = steadily_on;
           }
 
           pub not_selected : new ≡ (let f : FileState D = record mid { device = new.device; sure = new.sure } in f) → (medium.honest mid.device → pair_of medium.image new ≡ pair_of medium.image mid)
@@ -166,6 +173,7 @@ module _ {D : Type 0} (medium : Medium D) (how : How) (resident : ℕ → Option
             cause = λ h is. risen;
             no_block = λ is. inl risen;
             no_read = λ needs is. risen;
+            steadily = steadily_on;
           }
             where
               holds : medium.honest old.device → new.sure ≡ false → IsOther medium.image new after

@@ -1,5 +1,5 @@
 -- What the two writes of a commit leave, in turn.
-use Rattle.std.proofs.Common.{◌≡◌, ◌⊎◌, ℕ, zero, suc, ◌+◌, ◌-◌, ◌<◌, ◌≤◌, Bool, true, false, not, List, [], ◌∷◌, ◌++◌, length, take, drop, get_or, Result, Ok, refl, ap, sym, ◌∙◌, subst, inl, inr, ⊎_elim, arith, length-take, append-nil}
+use Rattle.std.proofs.Common.{◌≡◌, ◌⊎◌, ℕ, zero, suc, ◌+◌, ◌-◌, ◌*◌, ◌<◌, ◌≤◌, Bool, true, false, not, List, [], ◌∷◌, ◌++◌, length, take, drop, get_or, Result, Ok, refl, ap, sym, ◌∙◌, subst, inl, inr, ⊎_elim, arith, length-take, append-nil}
 use Rattle.std.specs.Prelude.{MatchBool}
 use Rattle.std.proofs.lemmas.List.{drop_at}
 use Rattle.lmem_raw.specs.Bytes.{part, with_part}
@@ -9,11 +9,11 @@ use Rattle.vm_file.specs.declared.commit.How.{How}
 use Rattle.vm_file.specs.declared.commit.How.TheVariants.{Update, Save, Revert}
 use Rattle.vm_file.specs.Committing.{FindsEither, IsContentsOf, Spells, current_after, saved_after}
 use Rattle.vm_file.specs.Contents.{Contents, Pair, contents_spelling, listed, pair_in}
-use Rattle.vm_file.specs.Device.{AfterWrite, Medium, Only, Passes, Touched}
+use Rattle.vm_file.specs.Device.{AfterWrite, IsSteady, Medium, NoneFails, Only, Passes, Touched}
 use Rattle.vm_file.specs.Directories.{is_directory, directory_length}
 use Rattle.vm_file.specs.Outcomes.{WritesOnly}
 use Rattle.vm_file.specs.Reading.{header_at, pair_at, found, is_second, base_of, area_of}
-use Rattle.vm_file.specs.State.{FileState, Finds, Holds, IsSound, IsOther, Leaves, pair_of}
+use Rattle.vm_file.specs.State.{FileState, Finds, HasRoom, Holds, IsSound, IsOther, Leaves, pair_of}
 use Rattle.vm_file.proofs.Moments.{weaker, goes_on}
 use Rattle.vm_file.proofs.NewFiles.{take-append-ge}
 use Rattle.vm_file.proofs.ReadLaws.{pair_ok}
@@ -303,3 +303,18 @@ module _ {D : Type 0} (medium : Medium D) (f : FileState D) (sound : IsSound med
               (λ c found_one. ⊎_elim (λ is. inl (was_found c is)) (λ is. inr (sure_finds medium.image selected c sure (is ∙ ap (λ p. let r : Result Pair ℕ = Ok p in r) (sym (selected_pair h))))) found_one) (select_passes h));
           finds = (λ h c l. finds medium selected (selected_holds h) c l);
         }
+
+-- an area begins at most so far behind
+base_most : (area : ℕ) (b : Bool) → base_of area b ≤ 1024 + area
+base_most area true = omega arith
+base_most area false = omega arith
+
+-- of a steady device that has room for the file neither write fails: of the area that is not selected, and of the selector
+module _ {D : Type 0} (medium : Medium D) (f : FileState D) (base n : ℕ) (is : base ≡ base_of f.area (not f.second)) (fits : n ≤ f.area) (mid : D)
+    (long : length (medium.image mid) ≡ length (medium.image f.device)) (passed : base + n ≤ length (medium.image f.device) → NoneFails medium f.device mid) where
+  pub area_steadily : IsSteady medium → HasRoom medium.image f → (1024 + 2 * f.area ≤ length (medium.image mid)) × (medium.failed mid ≡ medium.failed f.device)
+  area_steadily steady room = (let most = base_most f.area (not f.second) in (omega (arith, room, long), passed (omega (arith, most, is, fits, room)) steady))
+
+  pub both_steadily : (new : D) → length (medium.image new) ≡ length (medium.image mid) → (512 + 1 ≤ length (medium.image mid) → NoneFails medium mid new)
+      → IsSteady medium → HasRoom medium.image f → (1024 + 2 * f.area ≤ length (medium.image new)) × (medium.failed new ≡ medium.failed f.device)
+  both_steadily new same then steady room = (let one = area_steadily steady room in (omega (arith, one.0, same), then (omega (arith, one.0)) steady ∙ one.1))

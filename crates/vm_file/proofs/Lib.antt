@@ -1,6 +1,7 @@
 pub mod Touches
 pub mod Moments
 pub mod FaultLaws
+mod SteadyDevices
 pub mod FileExamples
 pub mod ReadLaws
 pub mod SpellLaws

@@ -33,7 +33,7 @@ reads_then medium a b c r s = record {
 
 -- the same up to the first call that fails
 pub reads_well : {D T E : Type 0} (medium : Medium D) (a b : D) (x : T) → ReadsOnly medium a b → medium.failed b ≡ medium.failed a → ReadsToFailure {E = E} medium a b (Ok x)
-reads_well medium a b x only ok = record { only = only; ok = ok; once = inl ok }
+reads_well medium a b x only ok = record { only = only; ok = ok; once = inl ok; steady = λ s. ok }
 
 pub reads_on : {D T E : Type 0} (medium : Medium D) (a b c : D) (result : Result T E) → ReadsOnly medium a b → medium.failed b ≡ medium.failed a →
     ReadsToFailure medium b c result → ReadsToFailure medium a c result
@@ -41,6 +41,7 @@ reads_on medium a b c result only ok then = record {
   only = reads_then medium a b c only then.only;
   ok = on_ok_weaker result (λ e. e ∙ ok) then.ok;
   once = subst (λ (k : ℕ). FailedOnce k (medium.failed c)) ok then.once;
+  steady = λ s. then.steady s ∙ ok;
 }
 
 -- a count that is one more has risen

@@ -1,5 +1,5 @@
 -- The blocks of a directory, as a source and the file have them.
-use Rattle.std.proofs.Common.{◌≡◌, ℕ, zero, suc, ◌+◌, ◌<◌, Bool, true, ◌&&◌, cond, List, [], ◌∷◌, length, drop, map, get_or, Option, Some, None, refl, ap, sym, ◌∙◌, subst, arith, length-take, length-drop}
+use Rattle.std.proofs.Common.{◌≡◌, ℕ, zero, suc, ◌+◌, ◌<◌, ◌≤◌, Bool, true, ◌&&◌, cond, List, [], ◌∷◌, length, drop, map, get_or, Option, Some, None, refl, ap, sym, ◌∙◌, subst, arith, length-take, length-drop}
 use Rattle.std.specs.Prelude.{All, IsSomeAnd, MatchOption, unwrap_or}
 use Rattle.std.specs.List.{find, list_all}
 use Rattle.std.proofs.Math.Dec.{eqb, ltb, leb}
@@ -16,7 +16,7 @@ use Rattle.vm_file.specs.Contents.{Block, Contents, entry_of, listed, is_filled,
 use Rattle.vm_file.specs.Directories.{is_directory, is_entry, are_entries, directory_length, may_be_map_block, may_be_map_group, may_be_map_item}
 use Rattle.vm_file.specs.Reading.{base_of, area_of}
 use Rattle.vm_file.specs.State.{FileState, IsSound, HasBlock, pair_of, bytes_of_block, place_in}
-use Rattle.vm_file.proofs.BlockLaws.{block_there, current_there, current_heap, saved_there}
+use Rattle.vm_file.proofs.BlockLaws.{block_there, current_there, current_heap, current_lies, saved_lies, saved_there}
 use Rattle.geos_terms.proofs.HeapTests.{both, and-true, heap-complete}
 
 -- nothing is resident
@@ -89,6 +89,16 @@ module _ {D : Type 0} (medium : Medium D) (f : FileState D) (sound : IsSound med
             ap (λ x. let b : Block = record { h = e.h; uid = e.uid; bytes = x } in b)
             (current_there medium f sound e.h e.len (at + place_in f.current.entries.items e.h) has (ap (λ k. k + place_in f.current.entries.items e.h) is))
 
+    -- it lies within the device
+    pub current_within : (at : ℕ) → at ≡ base_of f.area f.second + 2 →
+        All (λ e. MatchOption (resident e.h) (at + place_in f.current.entries.items e.h + e.len ≤ length (medium.image f.device)) (λ bytes. Unit {0})) cur.entries.items
+    current_within at is = λ k d l. (let e = get_or cur.entries.items k d in by e (resident e.h) (may.there k d l))
+      where
+        by : (e : Entry) (o : Option (List ℕ)) → MatchOption o (HasBlock f.current e.h e.len) (λ bytes. IsHeap bytes × (handle_word bytes ≡ e.h) × (length bytes ≡ e.len)) →
+            MatchOption o (at + place_in f.current.entries.items e.h + e.len ≤ length (medium.image f.device)) (λ bytes. Unit {0})
+        by e (Some bytes) h = tt
+        by e None has = current_lies medium f sound e.h e.len (at + place_in f.current.entries.items e.h) has (ap (λ k. k + place_in f.current.entries.items e.h) is)
+
     -- each block is a heap of its entry's length
     each : medium.honest f.device → (e : Entry) (o : Option (List ℕ)) → MatchOption o (HasBlock f.current e.h e.len) (λ bytes. IsHeap bytes × (handle_word bytes ≡ e.h) × (length bytes ≡ e.len)) →
         (let b : Block = record { h = e.h; uid = e.uid; bytes = unwrap_or o (bytes_of_block (pair_of medium.image f).cur.blocks e.h) } in
@@ -113,13 +123,26 @@ module _ {D : Type 0} (medium : Medium D) (f : FileState D) (sound : IsSound med
     pub from_legal : medium.honest f.device → is_contents (contents_from resident (pair_of medium.image f).cur.blocks cur) ≡ true
     from_legal good = and-true _ _ (ap is_directory (from_listed good) ∙ may.legal) (from_filled good)
 
+  -- the entries of the saved directory are legal
+  saved_entries : are_entries 0 f.saved.entries.items ≡ true
+  saved_entries =
+      let es = f.saved.entries.items in
+      let d1 = both (are_entries 0 es && may_be_map_block es f.saved.map_block && may_be_map_group es f.saved.map_item.0) (may_be_map_item f.saved.map_item.0 f.saved.map_item.1) sound.saved in
+      let d2 = both (are_entries 0 es && may_be_map_block es f.saved.map_block) (may_be_map_group es f.saved.map_item.0) d1.0 in
+      (both (are_entries 0 es) (may_be_map_block es f.saved.map_block) d2.0).0
+
+  -- its blocks lie within the device
+  pub saved_within : (at : ℕ) → at ≡ base_of f.area f.second + directory_length f.current + 2 →
+      All (λ e. at + place_in f.saved.entries.items e.h + e.len ≤ length (medium.image f.device)) f.saved.entries.items
+  saved_within at is = λ k d l.
+      let es = f.saved.entries.items in let e = get_or es k d in
+      saved_lies medium f sound e.h e.len (at + place_in es e.h) (own_there f.saved saved_entries k d l) (ap (λ n. n + place_in es e.h) is)
+
   -- the saved directory is read from where it stands
   pub saved_contents : (at : ℕ) → at ≡ base_of f.area f.second + directory_length f.current + 2 → contents_read nothing (medium.image f.device) at f.saved.entries.items f.saved ≡ (pair_of medium.image f).saved
   saved_contents at is =
       let es = f.saved.entries.items in let xs = drop 2 (drop (directory_length f.current) (area_of (medium.image f.device) f.area f.second)) in
-      let d1 = both (are_entries 0 es && may_be_map_block es f.saved.map_block && may_be_map_group es f.saved.map_item.0) (may_be_map_item f.saved.map_item.0 f.saved.map_item.1) sound.saved in
-      let d2 = both (are_entries 0 es && may_be_map_block es f.saved.map_block) (may_be_map_group es f.saved.map_item.0) d1.0 in
-      let legal = (both (are_entries 0 es) (may_be_map_block es f.saved.map_block) d2.0).0 in
+      let legal = saved_entries in
       let there = own_there f.saved legal in
       ap (λ bs. let c : Contents = record { blocks = bs; map_block = f.saved.map_block; map_item = f.saved.map_item } in c)
       (all_map _ _ es (λ k d l.

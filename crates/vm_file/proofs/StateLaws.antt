@@ -9,7 +9,7 @@ use Rattle.vm_file.specs.Device.{Medium, Only, Touched}
 use Rattle.vm_file.specs.Outcomes.{ReadsOnly, ReadsToFailure}
 use Rattle.vm_file.specs.Opening.{IsOpened, listed_file}
 use Rattle.vm_file.specs.Reading.{◌>>=◌, header_at, selector_at, pair_at, file_at, File, is_second, base_of, area_of}
-use Rattle.vm_file.specs.State.{FileState, IsOther, IsSound, Leaves, ReadsFile, file_of}
+use Rattle.vm_file.specs.State.{FileState, IsOther, IsSound, Leaves, ReadsFile, Steadily, file_of}
 use Rattle.geos_terms.proofs.HeapTests.{lt-ltb}
 use Rattle.vm_file.proofs.Moments.{reads_on}
 use Rattle.vm_file.proofs.ReadLaws.{after, cond_ok, ok_is, pair_ok}
@@ -138,3 +138,14 @@ module _ {D : Type 0} (medium : Medium D) where
       pair = two.pair ∙ one.pair;
       read = reads_on medium a.device b.device c.device result one.read.only one.read.ok two.read;
     }
+
+    -- where it read within the device's length, and so failed at none
+    pub steadily_read : (a b : FileState D) → ReadsFile medium a b result → Steadily medium a b
+    steadily_read a b r steady room = (
+      (let area = ap (λ (g : FileState D). g.area) r.same in let long = ap length r.read.only.same in omega (arith, room, area, long)),
+      r.read.steady steady,
+    )
+
+  -- no call failed over two of its states, nor over the next two
+  pub steadily_then : (a b c : FileState D) → Steadily medium a b → Steadily medium b c → Steadily medium a c
+  steadily_then a b c one two steady room = (let first = one steady room in let then = two steady first.0 in (then.0, then.1 ∙ first.1))

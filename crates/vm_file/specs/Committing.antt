@@ -1,5 +1,5 @@
 -- What a commit keeps, and what a stop during it leaves.
-use Rattle.std.specs.Prelude.{◌≡◌, ◌⊎◌, ℕ, ◌+◌, ◌<◌, ◌↔◌, Bool, true, false, not, List, [], ◌∷◌, length, map, Option, Some, None, Result, Err, unwrap_or, All, MatchBool, MatchOption, MatchResult, IfErr, IfSome, IsSome, OnOk}
+use Rattle.std.specs.Prelude.{◌≡◌, ◌⊎◌, ℕ, ◌+◌, ◌<◌, ◌≤◌, ◌↔◌, Bool, true, false, not, List, [], ◌∷◌, length, map, Option, Some, None, Result, Err, unwrap_or, All, MatchBool, MatchOption, MatchResult, IfErr, IfSome, IsSome, OnOk}
 use Rattle.std.specs.Borrow.{Bor}
 use Rattle.std.specs.List.{Contains}
 use Rattle.lmem_raw.specs.Bytes.{part, with_part}
@@ -19,7 +19,7 @@ use Rattle.vm_file.specs.Reading.{base_of}
 use Rattle.vm_file.specs.Spelling.{selector_of}
 use Rattle.vm_file.specs.declared.error.CommitError.{CommitError}
 use Rattle.vm_file.specs.declared.error.CommitError.TheVariants.{Unsure, TooBig, Memory, Disk}
-use Rattle.vm_file.specs.State.{FileState, Finds, HasBlock, IsOther, bytes_of_block, pair_of, place_in}
+use Rattle.vm_file.specs.State.{FileState, Finds, HasBlock, IsOther, Steadily, bytes_of_block, pair_of, place_in}
 
 -- a source shows the bytes that are resident under a handle, or that none are there
 abbrev pub Shows : Option (Bor (List ℕ)) → Option (List ℕ) → Type 0
@@ -150,10 +150,18 @@ pub record CommitsFile {D : Type 0} (medium : Medium D)
   -- on any device: a call of it failed, or the last one gave bytes that are no block of those that are kept
   pub no_block : result ≡ Err Disk → Rose (medium.failed old.device) (medium.failed new.device) ⊎ FindsNoBlock medium (IsKept how cur old.saved) old.device new.device
   pub no_read : NeedsNoRead resident how cur old.saved → result ≡ Err Disk → Rose (medium.failed old.device) (medium.failed new.device)
+  -- where no call within the device's length fails, and it has room for the file, none failed
+  pub steadily : Steadily medium old new
 
 -- the same block: where it is not resident, the bytes that stand in an image where these entries, which begin at an offset, have it
 abbrev pub block_read : (ℕ → Option (List ℕ)) → List ℕ → ℕ → List Entry → Entry → Block
 block_read resident image at kept e = record { h = e.h; uid = e.uid; bytes = unwrap_or (resident e.h) (part image (at + place_in kept e.h) e.len) }
+
+-- the bytes of a block that is not resident, where these entries, which begin at an offset, have it, lie within an image
+abbrev pub IsWithin : (ℕ → Option (List ℕ)) → List ℕ → Placed → Entry → Type 0
+IsWithin resident image kept e = MatchOption (resident e.h)
+    (kept.from + place_in kept.directory.now.entries.items e.h + e.len ≤ length image)
+    (λ bytes. Unit {0})
 
 -- a directory with the bytes of these blocks
 abbrev pub contents_read : (ℕ → Option (List ℕ)) → List ℕ → ℕ → List Entry → Directory → Contents

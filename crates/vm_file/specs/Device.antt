@@ -1,5 +1,5 @@
 -- What the calls of a device may leave.
-use Rattle.std.specs.Prelude.{◌≡◌, ◌⊎◌, ℕ, ◌+◌, ◌-◌, ◌^◌, ◌<◌, min, List, length, take, drop, Result, OnOk, OnErr}
+use Rattle.std.specs.Prelude.{◌≡◌, ◌⊎◌, ℕ, ◌+◌, ◌-◌, ◌^◌, ◌<◌, ◌≤◌, min, List, length, take, drop, Result, OnOk, OnErr}
 use Rattle.vm_file.specs.declared.device.Disk.{Disk}
 
 -- what reads of a device give at a state of it, and what a stop leaves of it: an image, a list of bytes
@@ -59,3 +59,15 @@ Rose before now = (before < now) ⊎ (now ≡ 2 ^ 64 - 1)
 -- two counts of failures together, up to the greatest number
 abbrev pub all_failures : ℕ → ℕ → ℕ
 all_failures inner own = min (inner + own) (2 ^ 64 - 1)
+
+-- a device of which no call fails that lies within its length
+pub record IsSteady {D : Type 0} (medium : Medium D) : Type 0 where
+  pub reads : (old new : D) (at : ℕ) (bytes : List ℕ) (result : Result (Unit {0}) Disk) →
+      medium.reads old at bytes result new → at + length bytes ≤ length (medium.image old) → OnErr result ⊥
+  pub writes : (old new : D) (at : ℕ) (bytes : List ℕ) (result : Result (Unit {0}) Disk) →
+      medium.writes old at bytes result new → at + length bytes ≤ length (medium.image old) → OnErr result ⊥
+  pub syncs : (old new : D) (result : Result (Unit {0}) Disk) → medium.syncs old result new → OnErr result ⊥
+
+-- such a device did not fail from the one state to the other: its count of failures is the same
+abbrev pub NoneFails : {D : Type 0} → Medium D → D → D → Type 0
+NoneFails medium old new = IsSteady medium → medium.failed new ≡ medium.failed old

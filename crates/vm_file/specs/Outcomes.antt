@@ -7,7 +7,7 @@ use Rattle.vm_file.specs.declared.device.Disk.{Disk}
 use Rattle.vm_file.specs.declared.directory.Entry.{Entry}
 use Rattle.vm_file.specs.declared.error.OpenError.{OpenError}
 use Rattle.vm_file.specs.declared.error.OpenError.TheVariants as open_error
-use Rattle.vm_file.specs.Device.{AfterWrite, FailedOnce, Medium, Only, Passes, Rose, Touched}
+use Rattle.vm_file.specs.Device.{AfterWrite, FailedOnce, Medium, NoneFails, Only, Passes, Rose, Touched}
 
 -- a device on which nothing was written: reads give the same, and a stop leaves nothing else
 pub record ReadsOnly {D : Type 0} (medium : Medium D) (old new : D) : Type 0 where
@@ -17,11 +17,12 @@ pub record ReadsOnly {D : Type 0} (medium : Medium D) (old new : D) : Type 0 whe
   pub stop : medium.honest old → (c : List ℕ) → medium.may_leave new c → medium.may_leave old c
   pub time : medium.honest old → Passes medium.may_have_left old new (medium.may_leave old)
 
--- a call that reads a device up to the first call of it that fails
+-- a call that reads a device within its length, up to the first call of it that fails
 pub record ReadsToFailure {D T E : Type 0} (medium : Medium D) (old new : D) (result : Result T E) : Type 0 where
   pub only : ReadsOnly medium old new
   pub ok : OnOk result (medium.failed new ≡ medium.failed old)
   pub once : FailedOnce (medium.failed old) (medium.failed new)
+  pub steady : NoneFails medium old new
 
 -- why a file was not opened: the fault of what was read; want of memory and of the device tell nothing
 abbrev pub IsRefused : {Y : Type 0} → OpenError → Result Y ℕ → Type 0

@@ -1,9 +1,9 @@
 -- What contracts see of a file that is open.
-use Rattle.std.specs.Prelude.{◌≡◌, ◌⊎◌, ℕ, ◌+◌, ◌≤◌, ◌<◌, Bool, true, not, ◌==◌, List, [], ◌∷◌, length, take, find, Result, Ok, slice_index, if◌then◌else◌, MatchBool, IsSomeAnd}
+use Rattle.std.specs.Prelude.{◌≡◌, ◌⊎◌, ℕ, ◌+◌, ◌*◌, ◌≤◌, ◌<◌, Bool, true, not, ◌==◌, List, [], ◌∷◌, length, take, find, Result, Ok, slice_index, if◌then◌else◌, MatchBool, IsSomeAnd}
 use Rattle.vm_file.specs.declared.directory.Entry.{Entry}
 use Rattle.vm_file.specs.declared.directory.Directory.{Directory}
 use Rattle.vm_file.specs.Contents.{Block, Pair, listed, pair_in}
-use Rattle.vm_file.specs.Device.{Medium, Touched}
+use Rattle.vm_file.specs.Device.{IsSteady, Medium, Touched}
 use Rattle.vm_file.specs.Directories.{is_directory, directory_length}
 use Rattle.vm_file.specs.Outcomes.{ReadsToFailure}
 use Rattle.vm_file.specs.Reading.{File, header_at, pair_at, is_area, is_second, base_of, area_of, found}
@@ -68,6 +68,14 @@ pub record ReadsFile {D T E : Type 0} (medium : Medium D) (old new : FileState D
   pub same : new ≡ record old { device = new.device }
   pub pair : pair_of medium.image new ≡ pair_of medium.image old
   pub read : ReadsToFailure medium old.device new.device result
+
+-- the device has room for the header, the selector and both areas
+abbrev pub HasRoom : {D : Type 0} → (D → List ℕ) → FileState D → Type 0
+HasRoom image f = 1024 + 2 * f.area ≤ length (image f.device)
+
+-- from the one state of a file to the other no call failed of a device that fails at none within its length, where it has room for the file, and it has room still
+abbrev pub Steadily : {D : Type 0} → Medium D → FileState D → FileState D → Type 0
+Steadily medium old new = IsSteady medium → HasRoom medium.image old → HasRoom medium.image new × (medium.failed new.device ≡ medium.failed old.device)
 
 -- a directory lists a block with this handle, of so many bytes
 abbrev pub HasBlock : Directory → ℕ → ℕ → Type 0

@@ -2,7 +2,7 @@
 ghost use Rattle.std.specs.Prelude.{◌≡◌, ◌+◌, ◌≤◌, ℕ, List, length, OnOk};
 ghost use Rattle.geos_terms.specs.Bytes.{AreBytes};
 ghost use Rattle.lmem_raw.specs.Bytes.{part, with_part};
-ghost use Rattle.vm_file.specs.Device.{Counts, FailedOnce, Medium, Only, one_more};
+ghost use Rattle.vm_file.specs.Device.{Counts, FailedOnce, Medium, NoneFails, Only, one_more};
 ghost use Rattle.vm_file.specs.Outcomes.{CausesDisk, ReadsOnly, WritesOnly};
 
 use thiserror::Error;
@@ -85,6 +85,7 @@ pub(crate) fn write_durably<D: Device>(device: &mut D, at: u64, bytes: &[u8]) ->
     ensures writes { WritesOnly D.medium at (length bytes.now) device.old device.new }
     ensures cause { CausesDisk (D.medium.failed device.old) (D.medium.failed device.new) result }
     ensures once { FailedOnce (D.medium.failed device.old) (D.medium.failed device.new) }
+    ensures steady { at + length bytes.now ≤ length (D.medium.image device.old) → NoneFails D.medium device.old device.new }
 {
     match device.write_at(at, bytes) {
         Ok(()) => device.sync(),

@@ -52,7 +52,7 @@ impl<D: Device + Drop> VmFile<D> {
     ghost use Rattle.vm_file.specs.Kept.{SureOf, kept_of};
     ghost use Rattle.vm_file.specs.Spelling.{empty_contents, empty_pair, new_file};
     ghost use Rattle.vm_file.specs.Reading.{is_area};
-    ghost use Rattle.vm_file.specs.State.{FileState, Finds, HasBlock, IsOther, ListsPair, ReadsFile, block_at, bytes_of_block, file_of, pair_of, saved_block_at};
+    ghost use Rattle.vm_file.specs.State.{FileState, Finds, HasBlock, IsOther, ListsPair, ReadsFile, Steadily, block_at, bytes_of_block, file_of, pair_of, saved_block_at};
 
     /// Makes a file on a device: writes the header, the selector and two empty directories,
     /// and ends with a `sync`. `area` is a legal area size, and the device has room for the file
@@ -188,6 +188,7 @@ impl<D: Device + Drop> VmFile<D> {
         ensures pair { pair_of D.medium.image self.new ≡ pair_of D.medium.image self.old }
         ensures ok { OnOk result (D.medium.failed self.new.device ≡ D.medium.failed self.old.device) }
         ensures cause { D.medium.honest self.old.device → OnErr result (Rose (D.medium.failed self.old.device) (D.medium.failed self.new.device)) }
+        ensures steadily { Steadily D.medium self.old self.new }
         // Nothing is written: a stop meanwhile, and one afterwards, leaves a file in which
         // `open` finds what it would have found.
         ensures reads { ReadsOnly D.medium self.old.device self.new.device }
@@ -211,6 +212,7 @@ impl<D: Device + Drop> VmFile<D> {
         ensures pair { pair_of D.medium.image self.new ≡ pair_of D.medium.image self.old }
         ensures ok { OnOk result (D.medium.failed self.new.device ≡ D.medium.failed self.old.device) }
         ensures cause { D.medium.honest self.old.device → OnErr result (Rose (D.medium.failed self.old.device) (D.medium.failed self.new.device)) }
+        ensures steadily { Steadily D.medium self.old self.new }
         // Nothing is written: a stop meanwhile, and one afterwards, leaves a file in which
         // `open` finds what it would have found.
         ensures reads { ReadsOnly D.medium self.old.device self.new.device }
@@ -399,6 +401,7 @@ impl<D: Device + Drop> VmFile<D> {
         ensures was_honest { D.medium.honest self.new.device → D.medium.honest self.old.device }
         ensures cause { CausesDisk (D.medium.failed self.old.device) (D.medium.failed self.new.device) result }
         ensures once { FailedOnce (D.medium.failed self.old.device) (D.medium.failed self.new.device) }
+        ensures steadily { Steadily D.medium self.old self.new }
     {
         let base = base_of(self.area, !self.second);
         match write_durably(&mut self.device, base, bytes) {

@@ -2,7 +2,7 @@
 ghost use Rattle.std.proofs.Common.{inl, inr};
 ghost use Rattle.std.specs.Prelude.{◌≡◌, ◌+◌, ◌≤◌, ◌<◌, ◌↔◌, length, replicate, IfOk, IsTrue, OnErr, OnOk, refl};
 ghost use Rattle.lmem_raw.specs.Bytes.{part, with_part};
-ghost use Rattle.vm_file.specs.Device.{Counts, Only};
+ghost use Rattle.vm_file.specs.Device.{Counts, IsSteady, Only};
 ghost use Rattle.vm_file.specs.Outcomes.{ReadsOnly, WritesOnly};
 
 use crate::device::{Device, Disk, count_failure};
@@ -17,12 +17,15 @@ pub struct MemoryDevice {
 }
 
 impl MemoryDevice {
-    ghost use Rattle.vm_file.specs.Memory.{bytes_of, failures_of};
+    ghost use Rattle.vm_file.specs.Memory.{bytes_of, failures_of, medium};
 
     /// A device of so many zero bytes. `AllocError` where the allocator has no memory.
+    #[tactic(auto, using(crate::proofs::SteadyDevices::memory_steady))]
     pub fn new(alloc: Global, len: u64) -> Result<MemoryDevice, AllocError>
         ensures bytes { IfOk result (λ device. bytes_of device ≡ replicate len 0) }
         ensures failures { IfOk result (λ device. failures_of device ≡ 0) }
+        // No call of such a device fails that lies within its length.
+        ensures steady { IsSteady medium }
     {
         Ok(MemoryDevice {
             bytes: Vec::from_elem(alloc, 0u8, len as usize)?,

@@ -63,6 +63,7 @@ pub(crate) fn read_block<D: Device>(
     h: u16,
     into: &mut [u8],
 ) -> Result<(), Disk>
+    requires { at + length into.old ≤ length (D.medium.image device.old) }
     ensures heap { OnOk result (IsHeapUnder h into.new) }
     ensures no_block { CausesNoBlock D.medium h at device.old device.new into.new result }
     ensures bytes { D.medium.honest device.old → OnOk result (into.new ≡ part (D.medium.image device.old) at (length into.old)) }

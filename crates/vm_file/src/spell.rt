@@ -7,7 +7,7 @@ ghost use Rattle.geos_terms.specs.Block.{handle_word};
 ghost use Rattle.geos_terms.specs.Bytes.{word_bytes};
 ghost use Rattle.geos_terms.specs.Heap.{IsHeap};
 ghost use Rattle.lmem_raw.specs.Bytes.{part};
-ghost use Rattle.vm_file.specs.Committing.{AreResident, HasLength, placed_block, placed_contents};
+ghost use Rattle.vm_file.specs.Committing.{AreResident, HasLength, IsWithin, placed_block, placed_contents};
 ghost use Rattle.vm_file.specs.Contents.{block_spelling, contents_spelling, is_filled};
 ghost use Rattle.vm_file.specs.Device.{Rose};
 ghost use Rattle.vm_file.specs.Directories.{directory_length, entries_length};
@@ -51,7 +51,8 @@ fn read_from<D: Device>(
     into: &mut [u8],
     at: usize,
 ) -> Result<(), Disk>
-    requires { at ≤ length into.old }
+    requires at { at ≤ length into.old }
+    requires within { from + (length into.old - at) ≤ length (D.medium.image device.old) }
     ensures long { length into.new ≡ length into.old }
     ensures bytes { D.medium.honest device.old → OnOk result (into.new ≡ take at into.old ++ part (D.medium.image device.old) from (length into.old - at)) }
     ensures read { ReadsToFailure D.medium device.old device.new result }
@@ -72,7 +73,8 @@ fn append_block<D: Device>(
     n: u16,
     into: &mut Vec<u8>,
 ) -> Result<(), Disk>
-    requires { vec_len into.old + n ≤ vec_capacity into.old }
+    requires room { vec_len into.old + n ≤ vec_capacity into.old }
+    requires within { from + n ≤ length (D.medium.image device.old) }
     ensures items { D.medium.honest device.old → OnOk result (into.new.items ≡ into.old.items ++ part (D.medium.image device.old) from n) }
     ensures len { vec_len into.new ≡ vec_len into.old + n }
     ensures room { vec_capacity into.old ≤ vec_capacity into.new }
@@ -108,6 +110,7 @@ fn spell_block<D: Device, S: Source>(
     requires range { kept.now.from < 2 ^ 32 }
     requires room { vec_len into.old + (6 + e.len) ≤ vec_capacity into.old }
     requires length { HasLength (S.resident_bytes source.now) e }
+    requires within { IsWithin (S.resident_bytes source.now) (D.medium.image device.old) kept.now e }
     ensures items { D.medium.honest device.old → OnOk result (into.new.items
         ≡ into.old.items ++ block_spelling (placed_block (S.resident_bytes source.now) (D.medium.image device.old) kept.now e)) }
     ensures len { vec_len into.new ≡ vec_len into.old + (6 + e.len) }
@@ -144,6 +147,7 @@ fn spell_blocks<D: Device, S: Source>(
     requires few { length entries.now ≤ MOST_BLOCKS }
     requires room { vec_len into.old + entries_length entries.now ≤ vec_capacity into.old }
     requires length { All (HasLength (S.resident_bytes source.now)) entries.now }
+    requires within { All (IsWithin (S.resident_bytes source.now) (D.medium.image device.old) kept.now) entries.now }
     ensures items { D.medium.honest device.old → OnOk result (into.new.items ≡ into.old.items
         ++ flat_map block_spelling (map (placed_block (S.resident_bytes source.now) (D.medium.image device.old) kept.now) entries.now)) }
     ensures len { OnOk result (vec_len into.new ≡ vec_len into.old + entries_length entries.now) }
@@ -175,6 +179,7 @@ pub(crate) fn spell_directory<D: Device, S: Source>(
     requires range { kept.now.from < 2 ^ 32 }
     requires room { vec_len into.old + directory_length directory.now ≤ vec_capacity into.old }
     requires length { All (HasLength (S.resident_bytes source.now)) directory.now.entries.items }
+    requires within { All (IsWithin (S.resident_bytes source.now) (D.medium.image device.old) kept.now) directory.now.entries.items }
     ensures items { D.medium.honest device.old → OnOk result (into.new.items ≡ into.old.items
         ++ contents_spelling (placed_contents (S.resident_bytes source.now) (D.medium.image device.old) kept.now directory.now)) }
     ensures len { OnOk result (vec_len into.new ≡ vec_len into.old + directory_length directory.now) }

@@ -30,7 +30,7 @@ returns-in-Ok-clause-values g c =
     subst AreBytes (sym (r.region.blocks slot)) (bytes-part c.region.result.now (place_of new slot) (size_of new slot) r.bytes)
 
 pub returns-in-Ok-clause-device : goal.returns-in-Ok-clause-device
-returns-in-Ok-clause-device g c = let e = c.in-Ok.ensures in record { pair = e.pair; reads = e.reads; cause = λ good is. absurd cc; counted = λ never. e.ok }
+returns-in-Ok-clause-device g c = let e = c.in-Ok.ensures in record { pair = e.pair; reads = e.reads; cause = λ good is. absurd cc; counted = λ never. e.ok; steadily = e.steadily }
 
 pub returns-in-Err-clause-device : goal.returns-in-Err-clause-device
-returns-in-Err-clause-device g c = let e = c.in-Err.ensures in record { pair = e.pair; reads = e.reads; cause = λ good is. e.cause good; counted = λ never. absurd (never refl) }
+returns-in-Err-clause-device g c = let e = c.in-Err.ensures in record { pair = e.pair; reads = e.reads; cause = λ good is. e.cause good; counted = λ never. absurd (never refl); steadily = e.steadily }

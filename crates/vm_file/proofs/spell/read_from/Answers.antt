@@ -7,7 +7,7 @@ use Rattle.vm_file.proofs.spell.read_from.Goals as goal
 pub returns-clause-bytes : goal.returns-clause-bytes
 returns-clause-bytes g c = λ h.
     let at = c.args.at in let bs = c.args.into.now in
-    on_ok_weaker c.read_block.result (λ e. read_from at (length bs - at) c.args.from bs c.read_block.new.into (g.D.Device.medium.image c.args.device.now) refl c.requires c.read_block.auto.into e) (c.read_block.ensures.bytes h)
+    on_ok_weaker c.read_block.result (λ e. read_from at (length bs - at) c.args.from bs c.read_block.new.into (g.D.Device.medium.image c.args.device.now) refl c.requires.at c.read_block.auto.into e) (c.read_block.ensures.bytes h)
 
 pub returns-clause-no_block : goal.returns-clause-no_block
 returns-clause-no_block g c =

@@ -1,7 +1,7 @@
-use Rattle.std.proofs.Common.{◌≡◌, ℕ, ◌+◌, ◌∙◌, length, refl, ap, sym, subst, arith, length-append, rules}
+use Rattle.std.proofs.Common.{◌≡◌, ℕ, ◌+◌, ◌≤◌, ◌∙◌, List, Option, length, refl, ap, sym, subst, arith, length-append, rules}
 use Rattle.std.specs.Vec.{vec_items}
 use Rattle.std.proofs.lemmas.Result.{on_ok_weaker}
-use Rattle.std.specs.Prelude.{unwrap_or}
+use Rattle.std.specs.Prelude.{MatchOption, unwrap_or}
 use Rattle.lmem_raw.specs.Bytes.{part}
 use Rattle.geos_terms.specs.Block.{handle_word}
 use Rattle.geos_terms.specs.Heap.{IsHeap}
@@ -42,3 +42,11 @@ returns-in-None-clause-items g c = λ h.
     let long : length ws ≡ e.len = omega (arith, ap length is, length-append mid ws, c.append_block.ensures.len, c.put_words.new.into.ok.0, c.append_block.new.into.ok.0) in
     block_appended e _ ws _ mid _ (ap (λ o. unwrap_or o stored) none ∙ ap (λ k. part image k e.len) (sym place)) long c.put_words.ensures.items is)
     (c.append_block.ensures.items h)
+
+pub append_block-requires-clause-within : goal.append_block-requires-clause-within
+append_block-requires-clause-within g c =
+    let e = c.args.e in let image = g.D.Device.medium.image c.args.device.now in
+    let none = shown_none (g.S.Source.resident_bytes c.args.source.now e.h) c.in-None.ensures in
+    let place : c.args.kept.now.from + c.from.result ≡ c.args.kept.now.from + place_in c.args.kept.now.directory.now.entries.items e.h = ap (λ k. c.args.kept.now.from + k) (c.from.ensures ∙ c.place_in.ensures.exact ∙ ap (λ es. place_in es e.h) c.deref.ensures.0) in
+    let W : Option (List ℕ) → Type 0 = λ o. MatchOption o (c.args.kept.now.from + place_in c.args.kept.now.directory.now.entries.items e.h + e.len ≤ length image) (λ bytes. Unit {0}) in
+    subst (λ k. k + e.len ≤ length image) (sym place) (subst W none c.requires.within)

@@ -3,7 +3,7 @@ use Rattle.std.specs.List.{flat_map}
 use Rattle.std.proofs.lemmas.List.{take_all}
 use Rattle.std.specs.Vec.{vec_items}
 use Rattle.vm_file.specs.declared.directory.Entry.{Entry}
-use Rattle.vm_file.specs.Committing.{block_read}
+use Rattle.vm_file.specs.Committing.{IsWithin, block_read}
 use Rattle.vm_file.specs.Contents.{block_spelling, is_filled}
 use Rattle.vm_file.specs.Device.{Rose}
 use Rattle.vm_file.proofs.Blocks.{entry_fits, blocks_appended, filled_at}
@@ -69,3 +69,8 @@ returns-in-Err-clause-no_block g c =
     let i = c.loop-e.invariant in let es = c.args.entries.now in let d = g.D.Device in let e = get_or es c.loop-e.e-index blank in
     why_of d.medium (Contains es) c.args.device.now c.spell_block.new.device e (Contains-get_or es c.loop-e.e-index blank c.loop-e-test.true)
     (why_on d.medium (IsOfBlock e.h e.len) (IsOfBlock e.h e.len) c.args.device.now c.loop-e.device c.spell_block.new.device (λ x is. is) i.reads i.count c.in-Err.ensures.no_block)
+
+pub spell_block-requires-clause-within : goal.spell_block-requires-clause-within
+spell_block-requires-clause-within g c =
+    let i = c.loop-e.invariant in let e = get_or c.args.entries.now c.loop-e.e-index blank in
+    subst (λ x. IsWithin (g.S.Source.resident_bytes c.args.source.now) x c.args.kept.now e) (sym i.reads.same) (c.requires.within c.loop-e.e-index blank c.loop-e-test.true)

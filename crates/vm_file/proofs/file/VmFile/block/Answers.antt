@@ -5,10 +5,10 @@ use Rattle.geos_terms.specs.Block.{handle_word}
 use Rattle.geos_terms.specs.Heap.{IsHeap}
 use Rattle.vm_file.specs.Device.{Rose}
 use Rattle.vm_file.specs.State.{FileState, HasBlock, block_at, bytes_of_block, pair_of}
-use Rattle.vm_file.proofs.BlockLaws.{current_there, current_heap}
+use Rattle.vm_file.proofs.BlockLaws.{current_there, current_heap, current_lies}
 use Rattle.vm_file.proofs.Kept.{finds_during, finds_after, finds_at_stop}
 use Rattle.vm_file.proofs.PlaceLaws.{has_handle}
-use Rattle.vm_file.proofs.StateLaws.{read_sound}
+use Rattle.vm_file.proofs.StateLaws.{read_file, read_sound, steadily_read}
 use Rattle.vm_file.specs.Outcomes.{CausesNoBlock}
 use Rattle.vm_file.proofs.Given.{why_at}
 use Rattle.vm_file.proofs.file.VmFile.block.Goals as goal
@@ -58,3 +58,14 @@ returns-clause-no_block g c =
     let G : FileState g.row.D.Denot → Type 0 = λ f. CausesNoBlock d.medium c.args.h (block_at f c.args.h) f.device c.read_block.new.device c.read_block.new.into c.read_block.result in
     subst G c.self.view_is
     (why_at d.medium c.args.h _ (block_at f c.args.h) _ _ _ c.read_block.result (omega (arith, c.base_of-base.ensures.exact, c.from.ensures, c.place.ensures)) c.read_block.ensures.no_block)
+
+pub read_block-requires : goal.read_block-requires
+read_block-requires g c =
+    let d = g.D.Device in let n = length c.args.into.now in
+    let H : FileState g.row.D.Denot → Type 0 = λ f. HasBlock f.current c.args.h n in
+    current_lies d.medium _ c.self.invariant c.args.h n _ (subst H (sym c.self.view_is) c.requires) (omega (arith, c.base_of-base.ensures.exact, c.from.ensures, c.place.ensures))
+
+pub returns-clause-steadily : goal.returns-clause-steadily
+returns-clause-steadily g c =
+    let d = g.D.Device in let r = c.read_block.result in
+    steadily_read d.medium r c.args.self.now _ (read_file d.medium r _ c.args.self.now c.read_block.new.device c.self.view_is c.read_block.ensures.read)

@@ -54,7 +54,7 @@ returns-in-Ok-select g c =
     let S : List ℕ → Type 0 = λ l. Spells (current_after how cur old.saved) (saved_after how cur old.saved) (kept_after d.medium.image resident how cur old) l in
     selected d.medium how resident cur old (finds_before d.medium _ _ c.self.view_is c.self.invariant) (subst T c.self.view_is c.if-not-self.false)
     (subst Fits c.self.view_is (subst (λ n. n ≤ c.self.inside.area) c.length_after-length.ensures.exact c.if-self-length.false)) c.spell.new.self _ r.read
-    c.select.new.self c.deref.result.now r.read.read.ok (λ h. subst S (sym c.deref.ensures.value) (r.spelled h)) s.either s.stop s.honest s.was_honest s.once s.done s.pair s.bytes s.cause
+    c.select.new.self c.deref.result.now r.read.read.ok (λ h. subst S (sym c.deref.ensures.value) (r.spelled h)) s.either s.stop s.honest s.was_honest s.once s.steadily s.done s.pair s.bytes s.cause
 
 pub returns : goal.returns
 returns g c =
@@ -65,4 +65,4 @@ returns g c =
     let S : List ℕ → Type 0 = λ l. Spells (current_after how cur old.saved) (saved_after how cur old.saved) (kept_after d.medium.image resident how cur old) l in
     not_selected d.medium how resident cur old (finds_before d.medium _ _ c.self.view_is c.self.invariant) (subst T c.self.view_is c.if-not-self.false)
     (subst Fits c.self.view_is (subst (λ n. n ≤ c.self.inside.area) c.length_after-length.ensures.exact c.if-self-length.false)) c.spell.new.self _ r.read
-    c.select.new.self c.deref.result.now r.read.read.ok (λ h. subst S (sym c.deref.ensures.value) (r.spelled h)) s.either s.stop s.honest s.was_honest s.once s.kept s.pair s.torn s.other s.cause
+    c.select.new.self c.deref.result.now r.read.read.ok (λ h. subst S (sym c.deref.ensures.value) (r.spelled h)) s.either s.stop s.honest s.was_honest s.once s.steadily s.kept s.pair s.torn s.other s.cause

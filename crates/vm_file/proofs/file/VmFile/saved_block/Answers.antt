@@ -6,9 +6,9 @@ use Rattle.geos_terms.specs.Heap.{IsHeap}
 use Rattle.vm_file.specs.Device.{Rose}
 use Rattle.vm_file.specs.Directories.{directory_length}
 use Rattle.vm_file.specs.State.{FileState, HasBlock, saved_block_at, bytes_of_block, pair_of, place_in}
-use Rattle.vm_file.proofs.BlockLaws.{saved_there, saved_heap}
+use Rattle.vm_file.proofs.BlockLaws.{saved_there, saved_heap, saved_lies}
 use Rattle.vm_file.proofs.Kept.{finds_during, finds_after, finds_at_stop}
-use Rattle.vm_file.proofs.StateLaws.{read_sound}
+use Rattle.vm_file.proofs.StateLaws.{read_file, read_sound, steadily_read}
 use Rattle.vm_file.specs.Outcomes.{CausesNoBlock}
 use Rattle.vm_file.proofs.Given.{why_at}
 use Rattle.vm_file.proofs.file.VmFile.saved_block.Goals as goal
@@ -52,3 +52,15 @@ returns-clause-no_block g c =
     let G : FileState g.row.D.Denot → Type 0 = λ f. CausesNoBlock d.medium c.args.h (saved_block_at f c.args.h) f.device c.read_block.new.device c.read_block.new.into c.read_block.result in
     subst G c.self.view_is
     (why_at d.medium c.args.h _ (saved_block_at f c.args.h) _ _ _ c.read_block.result (omega (arith, c.base_of-base.ensures.exact, c.from.ensures, c.place_in.ensures.exact, ap (λ es. place_in es c.args.h) c.deref.ensures.0, c.from-first.ensures, c.directory_length.ensures.exact, ap directory_length c.directory.ensures)) c.read_block.ensures.no_block)
+
+pub read_block-requires : goal.read_block-requires
+read_block-requires g c =
+    let d = g.D.Device in let n = length c.args.into.now in
+    let H : FileState g.row.D.Denot → Type 0 = λ f. HasBlock f.saved c.args.h n in
+    saved_lies d.medium _ c.self.invariant c.args.h n _ (subst H (sym c.self.view_is) c.requires)
+    (omega (arith, c.base_of-base.ensures.exact, c.from.ensures, c.place_in.ensures.exact, ap (λ es. place_in es c.args.h) c.deref.ensures.0, c.from-first.ensures, c.directory_length.ensures.exact, ap directory_length c.directory.ensures))
+
+pub returns-clause-steadily : goal.returns-clause-steadily
+returns-clause-steadily g c =
+    let d = g.D.Device in let r = c.read_block.result in
+    steadily_read d.medium r c.args.self.now _ (read_file d.medium r _ c.args.self.now c.read_block.new.device c.self.view_is c.read_block.ensures.read)

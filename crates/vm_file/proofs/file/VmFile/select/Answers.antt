@@ -6,8 +6,8 @@ use Rattle.vm_file.specs.Contents.{pair_in}
 use Rattle.vm_file.specs.Device.{FailedOnce, Passes, Rose}
 use Rattle.vm_file.specs.Outcomes.{WritesOnly}
 use Rattle.vm_file.specs.Spelling.{selector_of}
-use Rattle.vm_file.specs.State.{FileState, Finds, IsOther, IsSound, pair_of}
-use Rattle.vm_file.proofs.CommitLaws.{TornFile, UnsureFile, SelectedFile, torn_file, unsure_file, selected_file, current_legal, saved_legal}
+use Rattle.vm_file.specs.State.{FileState, Finds, IsOther, IsSound, Steadily, pair_of}
+use Rattle.vm_file.proofs.CommitLaws.{area_steadily, both_steadily, TornFile, UnsureFile, SelectedFile, torn_file, unsure_file, selected_file, current_legal, saved_legal}
 use Rattle.vm_file.proofs.Kept.{written_area, written_both}
 use Rattle.vm_file.proofs.file.VmFile.select.Given.{Over}
 use Rattle.vm_file.proofs.file.VmFile.select.Goals as goal
@@ -228,3 +228,36 @@ returns-in-Ok-write_durably-clause-done g c =
     let made : FileState g.row.D.Denot = record { device = w; area = i.area; second = not i.second; sure = i.sure; current = c.keep.new.current; saved = c.keep.new.saved } in
     let G : FileState g.row.D.Denot → Type 0 = λ f. made ≡ record { device = w; area = f.area; second = not f.second; sure = true; current = current_after c.args.how c.args.cur.now f.saved; saved = saved_after c.args.how c.args.cur.now f.saved } in
     subst G c.self.view_is (λ k. record { device = w; area = i.area; second = not i.second; sure = sure k; current = c.keep.ensures.current k; saved = c.keep.ensures.saved k })
+
+pub returns-in-Err-clause-steadily : goal.returns-in-Err-clause-steadily
+returns-in-Err-clause-steadily g c =
+    let d = g.D.Device in let i = c.self.inside in
+    let f : FileState g.row.D.Denot = record { device = i.device; area = i.area; second = i.second; sure = i.sure; current = i.current; saved = i.saved } in
+    let now : FileState g.row.D.Denot = record { device = c.write_durably.new.device; area = i.area; second = i.second; sure = i.sure; current = i.current; saved = i.saved } in
+    let A : FileState g.row.D.Denot → Type 0 = λ x. length c.args.bytes.now ≤ x.area in
+    let G : FileState g.row.D.Denot → Type 0 = λ x. Steadily d.medium x now in
+    subst G c.self.view_is
+    (area_steadily d.medium f c.base_of-base.result (length c.args.bytes.now) c.base_of-base.ensures.exact (subst A (sym c.self.view_is) c.requires.fits.1) c.write_durably.new.device
+    c.in-Err.ensures.writes.long c.in-Err.ensures.steady)
+
+pub returns-in-Err-write_durably-clause-steadily : goal.returns-in-Err-write_durably-clause-steadily
+returns-in-Err-write_durably-clause-steadily g c =
+    let d = g.D.Device in let i = c.self.inside in
+    let f : FileState g.row.D.Denot = record { device = i.device; area = i.area; second = i.second; sure = i.sure; current = i.current; saved = i.saved } in
+    let now : FileState g.row.D.Denot = record { device = c.write_durably-2.new.device; area = i.area; second = i.second; sure = false; current = i.current; saved = i.saved } in
+    let A : FileState g.row.D.Denot → Type 0 = λ x. length c.args.bytes.now ≤ x.area in
+    let G : FileState g.row.D.Denot → Type 0 = λ x. Steadily d.medium x now in
+    subst G c.self.view_is
+    (both_steadily d.medium f c.base_of-base.result (length c.args.bytes.now) c.base_of-base.ensures.exact (subst A (sym c.self.view_is) c.requires.fits.1) c.write_durably.new.device
+    c.in-Ok.ensures.writes.long c.in-Ok.ensures.steady c.write_durably-2.new.device c.in-Err-write_durably.ensures.writes.long c.in-Err-write_durably.ensures.steady)
+
+pub returns-in-Ok-write_durably-clause-steadily : goal.returns-in-Ok-write_durably-clause-steadily
+returns-in-Ok-write_durably-clause-steadily g c =
+    let d = g.D.Device in let i = c.self.inside in
+    let f : FileState g.row.D.Denot = record { device = i.device; area = i.area; second = i.second; sure = i.sure; current = i.current; saved = i.saved } in
+    let now : FileState g.row.D.Denot = record { device = c.write_durably-2.new.device; area = i.area; second = not i.second; sure = i.sure; current = c.keep.new.current; saved = c.keep.new.saved } in
+    let A : FileState g.row.D.Denot → Type 0 = λ x. length c.args.bytes.now ≤ x.area in
+    let G : FileState g.row.D.Denot → Type 0 = λ x. Steadily d.medium x now in
+    subst G c.self.view_is
+    (both_steadily d.medium f c.base_of-base.result (length c.args.bytes.now) c.base_of-base.ensures.exact (subst A (sym c.self.view_is) c.requires.fits.1) c.write_durably.new.device
+    c.in-Ok.ensures.writes.long c.in-Ok.ensures.steady c.write_durably-2.new.device c.in-Ok-write_durably.ensures.writes.long c.in-Ok-write_durably.ensures.steady)

@@ -1,13 +1,13 @@
-use Rattle.std.proofs.Common.{◌≡◌, ◌∙◌, ◌+◌, ◌++◌, true, ap, sym, subst}
-use Rattle.std.specs.Prelude.{OnOk, OnErr}
+use Rattle.std.proofs.Common.{◌≡◌, ◌∙◌, ◌+◌, ◌≤◌, ◌++◌, length, true, ap, sym, subst}
+use Rattle.std.specs.Prelude.{All, MatchOption, OnOk, OnErr}
 use Rattle.std.specs.List.{list_all}
 use Rattle.std.specs.Vec.{vec_items}
 use Rattle.vm_file.specs.declared.directory.Directory.{Directory}
 use Rattle.vm_file.specs.Committing.{IsContentsOf, MayCommit, contents_from, contents_read}
 use Rattle.vm_file.specs.Contents.{Contents, contents_spelling, is_filled}
 use Rattle.vm_file.specs.Device.{Rose}
-use Rattle.vm_file.specs.State.{FileState, pair_of}
-use Rattle.vm_file.proofs.Sources.{current_contents, from_filled, from_legal, from_listed}
+use Rattle.vm_file.specs.State.{FileState, pair_of, place_in}
+use Rattle.vm_file.proofs.Sources.{current_contents, current_within, from_filled, from_legal, from_listed}
 use Rattle.vm_file.proofs.StateLaws.{read_file, read_sound}
 use Rattle.std.specs.List.{Contains}
 use Rattle.vm_file.specs.Outcomes.{CausesNoBlocks}
@@ -58,3 +58,12 @@ returns-clause-no_block g c =
     let d = g.D.Device in
     let G : FileState g.row.D.Denot → Type 0 = λ f. CausesNoBlocks d.medium (Contains c.args.cur.now.entries.items) f.device c.spell_directory.new.device c.spell_directory.result in
     subst G c.self.view_is c.spell_directory.ensures.no_block
+
+pub spell_directory-requires-clause-within : goal.spell_directory-requires-clause-within
+spell_directory-requires-clause-within g c =
+    let d = g.D.Device in let resident = g.S.Source.resident_bytes c.args.source.now in let cur = c.args.cur.now in
+    let M : FileState g.row.D.Denot → Type 0 = λ f. MayCommit resident f.current cur in
+    let at = c.base_of-from.result + 2 in
+    let W : Directory → Type 0 = λ kept. All (λ e. MatchOption (resident e.h) (at + place_in kept.entries.items e.h + e.len ≤ length (d.medium.image c.self.inside.device)) (λ bytes. Unit {0})) cur.entries.items in
+    subst W (sym c.directory.ensures)
+    (current_within d.medium _ c.self.invariant resident cur (subst M (sym c.self.view_is) c.requires.may) at (ap (λ k. k + 2) c.base_of-from.ensures.exact))

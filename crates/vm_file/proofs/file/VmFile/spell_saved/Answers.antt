@@ -11,7 +11,7 @@ use Rattle.vm_file.specs.State.{FileState, pair_of}
 use Rattle.geos_terms.proofs.HeapTests.{both}
 use Rattle.vm_file.proofs.Listing.{pair_listed}
 use Rattle.vm_file.proofs.ReadLaws.{pair_ok}
-use Rattle.vm_file.proofs.Sources.{saved_contents}
+use Rattle.vm_file.proofs.Sources.{saved_contents, saved_within}
 use Rattle.vm_file.proofs.StateLaws.{read_file, read_sound}
 use Rattle.std.specs.List.{Contains}
 use Rattle.vm_file.specs.Outcomes.{CausesNoBlocks}
@@ -60,3 +60,8 @@ returns-clause-no_block g c =
     let d = g.D.Device in
     let G : FileState g.row.D.Denot → Type 0 = λ f. CausesNoBlocks d.medium (Contains f.saved.entries.items) f.device c.spell_directory.new.device c.spell_directory.result in
     subst G c.self.view_is c.spell_directory.ensures.no_block
+
+pub spell_directory-requires-clause-within : goal.spell_directory-requires-clause-within
+spell_directory-requires-clause-within g c =
+    let d = g.D.Device in
+    saved_within d.medium _ c.self.invariant (c.base_of.result + c.from-first.result + 2) (omega (arith, c.base_of.ensures.exact, c.from-first.ensures, c.directory_length.ensures.exact, ap directory_length c.directory.ensures))
