@@ -22,7 +22,7 @@ use Rattle.geos_kernel.specs.Kernel.{IsKernel, ItemHasNoRoom, LeadsToSpan}
 use Rattle.geos_kernel.specs.Spans.{IsStanding, IsWritable}
 use Rattle.geos_kernel.specs.View.{IsMarked, KernelOn, kernel_of, memory_of}
 use Rattle.geos_kernel.proofs.ItemCalls.{ilock-calls, ilock-stands, item-calls}
-use Rattle.geos_kernel.proofs.Stops.{stops-reading}
+use Rattle.geos_kernel.proofs.Stops.{between-reading}
 use Rattle.geos_kernel.proofs.There.{in-memory, no_group-same}
 
 -- what the kernel promises of it
@@ -52,7 +52,7 @@ module _ {D : Type 0} (medium : Medium D) (v w : VmState D) (s t : Store) (k : K
     file = same;
     cause = λ good failed. device.cause good (one failed);
     counted = λ never. device.counted (λ failed. never (other failed));
-    stops = stops-reading medium old new device.reads known;
+    between = between-reading medium old new device.reads known device.steadily;
   }
 
   listed-file : {A : Type 0} (r : Result A Refusal) → w.file ≡ (with_device (listed_after r v g) w.file.device).file → w.file ≡ (with_device v w.file.device).file

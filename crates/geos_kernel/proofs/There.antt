@@ -19,7 +19,7 @@ use Rattle.db_items.specs.Groups.{IsGroup, RefusesNoGroup}
 use Rattle.geos_kernel.specs.Files.{AsksNothing, InMemory, LeavesKept, ReadsFile}
 use Rattle.geos_kernel.specs.Kernel.{HasNoRoomIn, ListedHasNoRoom}
 use Rattle.geos_kernel.specs.View.{KernelOn, core_of, file_over, kernel_of, seen}
-use Rattle.geos_kernel.proofs.Stops.{stops-reading}
+use Rattle.geos_kernel.proofs.Stops.{between-reading}
 
 on-there : {A : Type 0} (r : Result A Refusal) (P Q : Type 0) → OnErr r (P → Q) → P → OnErr r Q
 on-there (Ok answer) P Q stays there = tt
@@ -79,7 +79,7 @@ module _ {D : Type 0} (medium : Medium D) (v w : VmState D) (s t : Store) (k : K
       file = ap (λ (x : VmState D). x.file) same;
       cause = λ good failed. device.cause good (disk-so r failed);
       counted = λ never. device.counted (λ failed. never (ap of_lock failed));
-      stops = stops-reading medium (kernel_of medium v s) (kernel_of medium w t) device.reads known;
+      between = between-reading medium (kernel_of medium v s) (kernel_of medium w t) device.reads known device.steadily;
     })
 
     -- where it has no room

@@ -1,5 +1,5 @@
 -- What the kernel's calls make of the VM file on its device.
-use Rattle.std.specs.Prelude.{◌≡◌, ◌⊎◌, ℕ, List, Option, OnErr, OnOk, Result, Err}
+use Rattle.std.specs.Prelude.{◌≡◌, ◌↔◌, ◌⊎◌, ℕ, List, Option, OnErr, OnOk, Result, Err}
 use Rattle.geos_terms.specs.Edits.{Edit}
 use Rattle.geos_terms.specs.declared.refusal.Refusal.{Refusal}
 use Rattle.geos_terms.specs.declared.refusal.Refusal.TheVariants.{Disk, NoRoom}
@@ -11,7 +11,7 @@ use Rattle.vm_file.specs.declared.error.CommitError.{CommitError}
 use Rattle.vm_file.specs.Committing.{CommitsFile}
 use Rattle.vm_file.specs.Device.{Medium, Passes, Rose}
 use Rattle.vm_file.specs.Outcomes.{ReadsOnly}
-use Rattle.vm_file.specs.State.{FileState}
+use Rattle.vm_file.specs.State.{FileState, Steadily}
 use Rattle.vm_blocks.specs.Found.{OpensAsKept}
 use Rattle.vm_blocks.specs.Listed.{StoreAfter, directory_of, resident_of}
 use Rattle.vm_blocks.specs.Refused.{of_commit}
@@ -33,6 +33,13 @@ abbrev pub Stops : {D : Type 0} → Medium D → KernelOn D → KernelOn D → T
 Stops medium old new = medium.honest old.device → (f g : VmFile) → IsFileOf (medium.honest old.device) old.core f → IsFileOf (medium.honest old.device) new.core g
     → Passes medium.may_have_left old.device new.device (λ c. OpensAsKept f.kept c ⊎ OpensAsKept g.kept c)
 
+-- what holds of the device from the one kernel to the other: it is as honest as before; a stop leaves what the model has as kept; and no
+-- call failed of one that fails at none within its length and has room for the file
+pub record Between {D : Type 0} (medium : Medium D) (old new : KernelOn D) : Type 0 where
+  pub honest : medium.honest new.device ↔ medium.honest old.device
+  pub stops : Stops medium old new
+  pub steadily : Steadily medium (vm_file_of old) (vm_file_of new)
+
 -- a call that asks the device nothing, and leaves what the file keeps
 pub record AsksNothing {D : Type 0} (old new : KernelOn D) : Type 0 where
   pub device : new.device ≡ old.device
@@ -45,7 +52,7 @@ pub record ReadsFile {D : Type 0} (medium : Medium D) (fails : Type 0) (old new 
   pub file : vm_file_of new ≡ file_over new.device old.core.vm.file
   pub cause : medium.honest old.device → fails → Rose (medium.failed old.device) (medium.failed new.device)
   pub counted : (fails → ⊥) → medium.failed new.device ≡ medium.failed old.device
-  pub stops : Stops medium old new
+  pub between : Between medium old new
 
 -- a call on a block of the file, where that is in memory: it asks the device nothing, and a refusal for
 -- another reason than room leaves all blocks as they were. A block that the device refuses is not there
@@ -70,5 +77,5 @@ pub record Commits {D : Type 0} (medium : Medium D) (how : How) (old new : Kerne
   pub same : result ≡ of_commit answer
   pub file : CommitsFile medium how (resident_of old.core.blocks) (directory_of old.core.vm old.core.blocks) (vm_file_of old) (vm_file_of new) answer
   pub store : OnOk answer (StoreAfter how old.core.blocks new.core.blocks)
-  pub stops : Stops medium old new
+  pub between : Between medium old new
   pub refused : OnErr answer ((new.core.vm ≡ record old.core.vm { file = new.core.vm.file }) × (new.core.blocks ≡ old.core.blocks))

@@ -3,7 +3,10 @@
 ghost use Rattle.std.specs.Prelude.{◌≡◌, ◌≤◌, IfOk, None, replicate};
 ghost use Rattle.block_handles.specs.Layout.{IsEmpty};
 ghost use Rattle.geos_calls.specs.VmFile.{VmFile, empty_file};
-ghost use Rattle.vm_file.specs.Memory.{IsHonest};
+ghost use Rattle.vm_file.specs.Device.{IsSteady};
+ghost use Rattle.vm_file.specs.Memory.{IsHonest, bytes_of, medium};
+ghost use Rattle.vm_file.specs.State.{HasRoom};
+ghost use Rattle.geos_kernel.specs.Files.{vm_file_of};
 ghost use Rattle.geos_kernel.specs.View.{failed_in, IsFileOf, memory_of};
 
 use crate::kernel::Kernel;
@@ -23,6 +26,10 @@ pub fn kernel_in_memory(alloc: Global, region: u32) -> Result<Kernel<MemoryDevic
     ensures memory { IfOk result (λ kernel. (f : VmFile) → memory_of kernel.core f ≡ record { blocks = replicate 1024 None; file = f; region = region }) }
     ensures honest { IfOk result (λ kernel. IsHonest kernel.device) }
     ensures failures { IfOk result (λ kernel. failed_in kernel.core ≡ 0) }
+    // Its device has room for the file, and fails at no call within its length: so it fails at none
+    // that the kernel makes (`Between`).
+    ensures room { IfOk result (λ kernel. HasRoom bytes_of (vm_file_of kernel)) }
+    ensures steady { IfOk result (λ _. IsSteady medium) }
 {
     let device = MemoryDevice::new(alloc, device_length(AREA))?;
     // The device has room for the file, and fails at nothing else: so no fault comes here.

@@ -1,10 +1,10 @@
 //! Instructions on blocks of the VM file, on groups and their items, and on the file.
 
-ghost use Rattle.std.specs.Prelude.{◌≡◌, ◌↔◌, true};
+ghost use Rattle.std.specs.Prelude.{◌≡◌, true};
 ghost use Rattle.geos_image.specs.Fields.{FieldsFit};
 ghost use Rattle.geos_semantics.specs.State.{with_word};
 ghost use Rattle.geos_semantics.specs.Model.{nowhere};
-ghost use Rattle.geos_kernel.specs.Files.{Stops};
+ghost use Rattle.geos_kernel.specs.Files.{Between};
 ghost use Rattle.geos_kernel.specs.Kernel.{LeavesVm};
 ghost use Rattle.geos_machine.specs.Machine.{AnswersTo, changes_file, changes_item, IsInstr, marks_block, Ready, tells_of_file, unlocks_block, Works};
 
@@ -27,8 +27,7 @@ pub(crate) fn vnew<D: Device + Drop>(
     requires instr { IsInstr Opcode.Vnew i.now a }
     requires ready { Ready (D.medium.honest kernel.old.device) i.now kernel.old.core m.old }
     ensures works { Works (D.medium.honest kernel.old.device) i.now kernel.old.core m.old kernel.new.core m.new result }
-    ensures honest { D.medium.honest kernel.new.device ↔ D.medium.honest kernel.old.device }
-    ensures stops { Stops D.medium kernel.old kernel.new }
+    ensures between { Between D.medium kernel.old kernel.new }
 {
     match kernel.vnew(m.words[i.c as usize]) {
         Ok(h) => {
@@ -51,8 +50,7 @@ pub(crate) fn vlock<D: Device + Drop>(
     requires instr { IsInstr Opcode.Vlock i.now a }
     requires ready { Ready (D.medium.honest kernel.old.device) i.now kernel.old.core m.old }
     ensures works { Works (D.medium.honest kernel.old.device) i.now kernel.old.core m.old kernel.new.core m.new result }
-    ensures honest { D.medium.honest kernel.new.device ↔ D.medium.honest kernel.old.device }
-    ensures stops { Stops D.medium kernel.old kernel.new }
+    ensures between { Between D.medium kernel.old kernel.new }
 {
     let h = m.words[i.b as usize];
     match kernel.vlock(h) {
@@ -75,8 +73,7 @@ pub(crate) fn ilock<D: Device + Drop>(
     requires instr { IsInstr Opcode.Ilock i.now a }
     requires ready { Ready (D.medium.honest kernel.old.device) i.now kernel.old.core m.old }
     ensures works { Works (D.medium.honest kernel.old.device) i.now kernel.old.core m.old kernel.new.core m.new result }
-    ensures honest { D.medium.honest kernel.new.device ↔ D.medium.honest kernel.old.device }
-    ensures stops { Stops D.medium kernel.old kernel.new }
+    ensures between { Between D.medium kernel.old kernel.new }
 {
     let g = m.words[i.c as usize];
     match kernel.ilock(g, m.words[i.d as usize], i.imm) {
@@ -121,8 +118,7 @@ pub(crate) fn mark<D: Device + Drop>(
     requires marks { marks_block i.now.opcode ≡ true }
     requires ready { Ready (D.medium.honest kernel.old.device) i.now kernel.old.core m.now }
     ensures works { Works (D.medium.honest kernel.old.device) i.now kernel.old.core m.now kernel.new.core m.now result }
-    ensures honest { D.medium.honest kernel.new.device ↔ D.medium.honest kernel.old.device }
-    ensures stops { Stops D.medium kernel.old kernel.new }
+    ensures between { Between D.medium kernel.old kernel.new }
 {
     kernel.vdirty(m.slots[a]);
     Goes::Along
@@ -140,8 +136,7 @@ fn carry_out<D: Device + Drop>(
     requires changes { changes_file i.now.opcode ≡ true }
     requires ready { Ready (D.medium.honest kernel.old.device) i.now kernel.old.core m.now }
     ensures answers { AnswersTo (D.medium.honest kernel.old.device) i.now kernel.old.core m.now kernel.new.core nowhere result }
-    ensures honest { D.medium.honest kernel.new.device ↔ D.medium.honest kernel.old.device }
-    ensures stops { Stops D.medium kernel.old kernel.new }
+    ensures between { Between D.medium kernel.old kernel.new }
 {
     // that no block of the file is locked where the model has none locked
     kernel.memory_is_legal();
@@ -168,8 +163,7 @@ fn change_item<D: Device + Drop>(
     requires fields { FieldsFit i.now.opcode i.now }
     requires changes { changes_item i.now.opcode ≡ true }
     ensures answers { AnswersTo (D.medium.honest kernel.old.device) i.now kernel.old.core m.now kernel.new.core nowhere result }
-    ensures honest { D.medium.honest kernel.new.device ↔ D.medium.honest kernel.old.device }
-    ensures stops { Stops D.medium kernel.old kernel.new }
+    ensures between { Between D.medium kernel.old kernel.new }
 {
     let change = change_at(m, i);
     kernel.item_change(m.words[a], change)
@@ -188,8 +182,7 @@ pub(crate) fn settle<D: Device + Drop>(
     requires changes { changes_file i.now.opcode ≡ true }
     requires ready { Ready (D.medium.honest kernel.old.device) i.now kernel.old.core m.old }
     ensures works { Works (D.medium.honest kernel.old.device) i.now kernel.old.core m.old kernel.new.core m.new result }
-    ensures honest { D.medium.honest kernel.new.device ↔ D.medium.honest kernel.old.device }
-    ensures stops { Stops D.medium kernel.old kernel.new }
+    ensures between { Between D.medium kernel.old kernel.new }
 {
     match carry_out(m, kernel, i, a) {
         Ok(()) => Goes::Along,
@@ -202,8 +195,7 @@ fn told<D: Device + Drop>(m: &Machine, kernel: &mut Kernel<D>, i: &Instr) -> Res
     requires fields { FieldsFit i.now.opcode i.now }
     requires tells { tells_of_file i.now.opcode ≡ true }
     ensures answers { AnswersTo (D.medium.honest kernel.old.device) i.now kernel.old.core m.now kernel.new.core (with_word i.now.a) result }
-    ensures honest { D.medium.honest kernel.new.device ↔ D.medium.honest kernel.old.device }
-    ensures stops { Stops D.medium kernel.old kernel.new }
+    ensures between { Between D.medium kernel.old kernel.new }
 {
     match i.opcode {
         Opcode::Vfind => kernel.vfind(m.words[i.b as usize], m.words[i.c as usize]),
@@ -232,8 +224,7 @@ pub(crate) fn tell<D: Device + Drop>(
     requires fields { FieldsFit i.now.opcode i.now }
     requires tells { tells_of_file i.now.opcode ≡ true }
     ensures works { Works (D.medium.honest kernel.old.device) i.now kernel.old.core m.old kernel.new.core m.new result }
-    ensures honest { D.medium.honest kernel.new.device ↔ D.medium.honest kernel.old.device }
-    ensures stops { Stops D.medium kernel.old kernel.new }
+    ensures between { Between D.medium kernel.old kernel.new }
 {
     match told(m, kernel, i) {
         Ok(n) => {

@@ -1,6 +1,7 @@
-use Rattle.std.proofs.Common.{subst, ap, ◌∙◌}
+use Rattle.std.proofs.Common.{length, subst, ap, ◌∙◌, arith}
+use Rattle.std.proofs.lemmas.List.{length-replicate}
 use Rattle.vm_file.specs.Contents.{listed}
-use Rattle.vm_file.specs.Memory.{IsHonest, failures_of}
+use Rattle.vm_file.specs.Memory.{IsHonest, bytes_of, failures_of}
 use Rattle.vm_file.specs.Spelling.{empty_contents}
 use Rattle.vm_file.specs.State.{FileState}
 use Rattle.vm_file.specs.declared.directory.Directory.{Directory}
@@ -23,3 +24,11 @@ pub returns-in-Ok-new-clause-failures : goal.returns-in-Ok-new-clause-failures
 returns-in-Ok-new-clause-failures c =
     let device = ap (λ (f : FileState MemoryDevice). f.device) c.in-Ok-new.ensures.file in
     c.memory_is_legal.ensures.sees ∙ ap failures_of device ∙ c.in-Ok.ensures.cause ∙ c.in_ok-device.ensures.failures
+
+pub returns-in-Ok-new-clause-room : goal.returns-in-Ok-new-clause-room
+returns-in-Ok-new-clause-room c =
+    let file = c.in-Ok-new.ensures.file in
+    let area = ap (λ (f : FileState MemoryDevice). f.area) (file ∙ c.in-Ok.ensures.file) in
+    let device = ap (λ (f : FileState MemoryDevice). length (bytes_of f.device)) file in
+    let new = ap length c.in_ok-device.ensures.bytes ∙ length-replicate c.device_length.result 0 in
+    omega (arith, area, device, c.in-Ok.ensures.writes.long, new, c.device_length.ensures)

@@ -2,7 +2,7 @@ use Rattle.std.proofs.Common.{refl, get_or}
 use Rattle.geos_calls.specs.VmCalls as table
 use Rattle.geos_calls.specs.ItemCalls as items
 use Rattle.geos_machine.proofs.OfFile.{ready-unlocked}
-use Rattle.geos_kernel.proofs.Stops.{stops-still}
+use Rattle.geos_kernel.proofs.Stops.{between-asking}
 use Rattle.geos_machine.proofs.files.carry_out.Goals as goal
 
 pub vupdate-requires : goal.vupdate-requires
@@ -44,23 +44,23 @@ returns-in-Vsave-clause-answers g c = record { row = table.vsave; plain = λ cho
 pub returns-in-Vrevert-clause-answers : goal.returns-in-Vrevert-clause-answers
 returns-in-Vrevert-clause-answers g c = record { row = table.vrevert; plain = λ choice memory. tt; does = λ image choice kernel beside pc. rw c.in-Vrevert.is refl; answers = c.vrevert.ensures.calls }
 
-pub returns-in-Vfree-clause-stops : goal.returns-in-Vfree-clause-stops
-returns-in-Vfree-clause-stops g c = stops-still g.D.Device.medium c.args.kernel.now c.vfree.new.self c.vfree.ensures.device.device
+pub returns-in-Vfree-clause-between : goal.returns-in-Vfree-clause-between
+returns-in-Vfree-clause-between g c = between-asking g.D.Device.medium c.args.kernel.now c.vfree.new.self c.vfree.ensures.device
 
-pub returns-in-Vsetmap-clause-stops : goal.returns-in-Vsetmap-clause-stops
-returns-in-Vsetmap-clause-stops g c = stops-still g.D.Device.medium c.args.kernel.now c.vsetmap.new.self c.vsetmap.ensures.device.device
+pub returns-in-Vsetmap-clause-between : goal.returns-in-Vsetmap-clause-between
+returns-in-Vsetmap-clause-between g c = between-asking g.D.Device.medium c.args.kernel.now c.vsetmap.new.self c.vsetmap.ensures.device
 
-pub returns-in-Gfree-clause-stops : goal.returns-in-Gfree-clause-stops
-returns-in-Gfree-clause-stops g c = stops-still g.D.Device.medium c.args.kernel.now c.gfree.new.self c.gfree.ensures.device.device
+pub returns-in-Gfree-clause-between : goal.returns-in-Gfree-clause-between
+returns-in-Gfree-clause-between g c = between-asking g.D.Device.medium c.args.kernel.now c.gfree.new.self c.gfree.ensures.device
 
-pub returns-in-Isetmap-clause-stops : goal.returns-in-Isetmap-clause-stops
-returns-in-Isetmap-clause-stops g c = stops-still g.D.Device.medium c.args.kernel.now c.isetmap.new.self c.isetmap.ensures.device.device
+pub returns-in-Isetmap-clause-between : goal.returns-in-Isetmap-clause-between
+returns-in-Isetmap-clause-between g c = between-asking g.D.Device.medium c.args.kernel.now c.isetmap.new.self c.isetmap.ensures.device
 
-pub returns-in-Vupdate-clause-stops : goal.returns-in-Vupdate-clause-stops
-returns-in-Vupdate-clause-stops g c = c.vupdate.ensures.commits.stops
+pub returns-in-Vupdate-clause-between : goal.returns-in-Vupdate-clause-between
+returns-in-Vupdate-clause-between g c = c.vupdate.ensures.commits.between
 
-pub returns-in-Vsave-clause-stops : goal.returns-in-Vsave-clause-stops
-returns-in-Vsave-clause-stops g c = c.vsave.ensures.commits.stops
+pub returns-in-Vsave-clause-between : goal.returns-in-Vsave-clause-between
+returns-in-Vsave-clause-between g c = c.vsave.ensures.commits.between
 
-pub returns-in-Vrevert-clause-stops : goal.returns-in-Vrevert-clause-stops
-returns-in-Vrevert-clause-stops g c = c.vrevert.ensures.commits.stops
+pub returns-in-Vrevert-clause-between : goal.returns-in-Vrevert-clause-between
+returns-in-Vrevert-clause-between g c = c.vrevert.ensures.commits.between

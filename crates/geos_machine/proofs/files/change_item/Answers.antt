@@ -17,5 +17,5 @@ returns-clause-answers g c =
       answers = rw c.requires.a at c.item_change.ensures.calls;
     }
 
-pub returns-clause-stops : goal.returns-clause-stops
-returns-clause-stops g c = c.item_change.ensures.device.stops
+pub returns-clause-between : goal.returns-clause-between
+returns-clause-between g c = c.item_change.ensures.device.between

@@ -19,8 +19,8 @@ returns-in-Err-clause-works g c =
     rw c.refuse.ensures.goes (span-refused honest i c.args.kernel.now.core c.ilock.new.self.core c.args.m.now _ (ilock (get_or c.args.m.now.words i.c 0) (get_or c.args.m.now.words i.d 0) i.imm) (λ ref t. leading i.b i.a ref (holding DbGroup i.a (get_or c.args.m.now.words i.c 0) t)) (λ choice memory. refl)
     (λ image choice beside pc. rw c.requires.instr.is refl) c.in-Err.refusal c.refuse.ensures.registers c.in-Err.ensures.gives)
 
-pub returns-in-Ok-clause-stops : goal.returns-in-Ok-clause-stops
-returns-in-Ok-clause-stops g c = c.ilock.ensures.device.stops
+pub returns-in-Ok-clause-between : goal.returns-in-Ok-clause-between
+returns-in-Ok-clause-between g c = c.ilock.ensures.device.between
 
-pub returns-in-Err-clause-stops : goal.returns-in-Err-clause-stops
-returns-in-Err-clause-stops g c = c.ilock.ensures.device.stops
+pub returns-in-Err-clause-between : goal.returns-in-Err-clause-between
+returns-in-Err-clause-between g c = c.ilock.ensures.device.between

@@ -5,7 +5,7 @@ use Rattle.geos_semantics.specs.Model.{nowhere}
 use Rattle.geos_machine.proofs.OfFile.{does-mark, marked-name, marked-of-file}
 use Rattle.geos_machine.proofs.Works.{slot-done, slot-locked}
 use Rattle.geos_machine.proofs.Safe.{slots-right}
-use Rattle.geos_kernel.proofs.Stops.{stops-still}
+use Rattle.geos_kernel.proofs.Stops.{between-asking}
 use Rattle.geos_machine.proofs.files.mark.Goals as goal
 
 pub vdirty-requires-clause-kind : goal.vdirty-requires-clause-kind
@@ -28,5 +28,5 @@ returns-clause-works g c =
     (λ beside pc safe. (marked-of-file i.opcode c.requires.marks i _ (slots-right i _ safe)).0) (λ image choice beside pc. does-mark i.opcode c.requires.marks image choice i _) tt
     (rw c.requires.a at c.vdirty.ensures.calls) (λ beside pc. refl) refl refl
 
-pub returns-clause-stops : goal.returns-clause-stops
-returns-clause-stops g c = stops-still g.D.Device.medium c.args.kernel.now c.vdirty.new.self c.vdirty.ensures.device.device
+pub returns-clause-between : goal.returns-clause-between
+returns-clause-between g c = between-asking g.D.Device.medium c.args.kernel.now c.vdirty.new.self c.vdirty.ensures.device

@@ -6,7 +6,7 @@ use Rattle.geos_calls.specs.Memory.{is_group}
 use Rattle.geos_calls.specs.VmCalls as table
 use Rattle.geos_calls.specs.ItemCalls as items
 use Rattle.geos_machine.proofs.OfFile.{group-plain}
-use Rattle.geos_kernel.proofs.Stops.{stops-still}
+use Rattle.geos_kernel.proofs.Stops.{between-asking, between-same}
 use Rattle.geos_machine.proofs.files.told.Goals as goal
 
 pub returns-in-Vfind-clause-answers : goal.returns-in-Vfind-clause-answers
@@ -29,17 +29,17 @@ returns-in-Inew-clause-answers g c = record {
   answers = c.item_make.ensures.calls;
 }
 
-pub returns-in-Vfind-clause-stops : goal.returns-in-Vfind-clause-stops
-returns-in-Vfind-clause-stops g c = stops-still g.D.Device.medium c.args.kernel.now c.args.kernel.now refl
+pub returns-in-Vfind-clause-between : goal.returns-in-Vfind-clause-between
+returns-in-Vfind-clause-between g c = between-same g.D.Device.medium c.args.kernel.now
 
-pub returns-in-Vuid-clause-stops : goal.returns-in-Vuid-clause-stops
-returns-in-Vuid-clause-stops g c = stops-still g.D.Device.medium c.args.kernel.now c.args.kernel.now refl
+pub returns-in-Vuid-clause-between : goal.returns-in-Vuid-clause-between
+returns-in-Vuid-clause-between g c = between-same g.D.Device.medium c.args.kernel.now
 
-pub returns-in-Vgetmap-clause-stops : goal.returns-in-Vgetmap-clause-stops
-returns-in-Vgetmap-clause-stops g c = stops-still g.D.Device.medium c.args.kernel.now c.args.kernel.now refl
+pub returns-in-Vgetmap-clause-between : goal.returns-in-Vgetmap-clause-between
+returns-in-Vgetmap-clause-between g c = between-same g.D.Device.medium c.args.kernel.now
 
-pub returns-in-Gnew-clause-stops : goal.returns-in-Gnew-clause-stops
-returns-in-Gnew-clause-stops g c = stops-still g.D.Device.medium c.args.kernel.now c.gnew.new.self c.gnew.ensures.device.device
+pub returns-in-Gnew-clause-between : goal.returns-in-Gnew-clause-between
+returns-in-Gnew-clause-between g c = between-asking g.D.Device.medium c.args.kernel.now c.gnew.new.self c.gnew.ensures.device
 
-pub returns-in-Inew-clause-stops : goal.returns-in-Inew-clause-stops
-returns-in-Inew-clause-stops g c = c.item_make.ensures.device.stops
+pub returns-in-Inew-clause-between : goal.returns-in-Inew-clause-between
+returns-in-Inew-clause-between g c = c.item_make.ensures.device.between

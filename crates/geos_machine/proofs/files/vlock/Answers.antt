@@ -19,8 +19,8 @@ returns-in-Err-clause-works g c =
     rw c.refuse.ensures.goes (call-refused honest i c.args.kernel.now.core c.vlock.new.self.core c.args.m.now _ (vlock (get_or c.args.m.now.words i.b 0)) (λ done t. holding VmBlock i.a (get_or c.args.m.now.words i.b 0) t) (λ choice memory. tt) (λ image choice beside pc. rw c.requires.instr.is refl)
     c.in-Err.refusal c.in-Err.ensures.calls c.refuse.ensures.registers)
 
-pub returns-in-Ok-clause-stops : goal.returns-in-Ok-clause-stops
-returns-in-Ok-clause-stops g c = c.vlock.ensures.device.stops
+pub returns-in-Ok-clause-between : goal.returns-in-Ok-clause-between
+returns-in-Ok-clause-between g c = c.vlock.ensures.device.between
 
-pub returns-in-Err-clause-stops : goal.returns-in-Err-clause-stops
-returns-in-Err-clause-stops g c = c.vlock.ensures.device.stops
+pub returns-in-Err-clause-between : goal.returns-in-Err-clause-between
+returns-in-Err-clause-between g c = c.vlock.ensures.device.between

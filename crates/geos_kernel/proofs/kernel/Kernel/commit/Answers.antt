@@ -7,7 +7,7 @@ use Rattle.geos_kernel.specs.Files.{Commits}
 use Rattle.geos_kernel.specs.View.{kernel_of}
 use Rattle.geos_kernel.proofs.Listed.{calls-beside}
 use Rattle.geos_kernel.proofs.Seen.{calls-seen}
-use Rattle.geos_kernel.proofs.Stops.{finds-kept, stops-keeping}
+use Rattle.geos_kernel.proofs.Stops.{between-keeping, finds-kept}
 use Rattle.geos_kernel.proofs.VmCalls.{committed-lasts, committed-refused, committed-spares, spared-kernel}
 use Rattle.geos_kernel.proofs.kernel.Kernel.commit.Goals as goal
 
@@ -39,6 +39,6 @@ returns-clause-commits g c =
       same = c.of_commit.ensures;
       file = file;
       store = c.commit-done.ensures.commits.store;
-      stops = stops-keeping d.medium (kernel_of d.medium v s) (kernel_of d.medium w t) file.either file.stays file.was (finds-kept d.medium v s c.is_sure.ensures.found) (finds-kept d.medium w t c.is_sure-2.ensures.found);
+      between = between-keeping d.medium (kernel_of d.medium v s) (kernel_of d.medium w t) file.either file.stays file.was (finds-kept d.medium v s c.is_sure.ensures.found) (finds-kept d.medium w t c.is_sure-2.ensures.found) file.steadily;
       refused = committed-refused v w d.medium s t r c.commit-done.ensures.commits.refused;
     })
