@@ -14,7 +14,7 @@ use Rattle.vm_file.specs.Device.{Medium}
 use Rattle.vm_file.proofs.Moments.{goes_on, weaker}
 use Rattle.vm_blocks.specs.ListedCalls.{keeper_of}
 use Rattle.geos_kernel.specs.View.{KernelState, failed_in, memory_of, IsFileOf}
-use Rattle.geos_kernel.specs.Kernel.{Calls, IsChosen}
+use Rattle.geos_kernel.specs.Kernel.{Calls, IsChosen, NeverFell}
 use Rattle.geos_image.specs.Parts.{Parts}
 use Rattle.geos_machine.specs.declared.outcome.Outcome.{Outcome}
 use Rattle.geos_machine.specs.Runs.{begin, kept_along, OpensAsOneOf, RanWith, Throughout, Within}
@@ -54,9 +54,9 @@ StopsBetween honest within kernel later =
     (f g : VmFile) → IsFileOf honest kernel f → IsFileOf honest later g → honest → within (OpensAsOneOf (f.kept ∷ g.kept ∷ []))
 
 -- what came from outside between two kernels is allowed while the count of failures goes from the one to the other
-allowed-between : (honest : Type 0) (kernel later : KernelState) (choice : Choice) → IsChosen honest kernel later choice
+allowed-between : (honest : Type 0) (kernel later : KernelState) → NeverFell honest kernel later → (choice : Choice) → IsChosen honest kernel later choice
     → IsAllowed honest (failed_in kernel) (failed_in later) choice
-allowed-between honest kernel later choice chosen = record { given = chosen.given; device = chosen.device }
+allowed-between honest kernel later lasts choice chosen = record { given = chosen.given; device = chosen.device; lasts = lasts }
 
 module _ (honest : Type 0) (within : Within) (image : Parts) (kernel later : KernelState) where
   -- a call was run
@@ -67,7 +67,7 @@ module _ (honest : Type 0) (within : Within) (image : Parts) (kernel later : Ker
   call-leads call outcome text is ran f tied =
       let r = ran f tied in
       let wide =
-      ran-wider (IsChosen honest kernel later) (IsAllowed honest (failed_in kernel) (failed_in later)) (allowed-between honest kernel later)
+      ran-wider (IsChosen honest kernel later) (IsAllowed honest (failed_in kernel) (failed_in later)) (allowed-between honest kernel later r.lasts)
       image call.routine call.words (memory_of kernel f) (memory_of later r.file) outcome r.ran in
       record {
         file = r.file;
@@ -89,7 +89,7 @@ module _ (honest : Type 0) (within : Within) (image : Parts) (kernel later : Ker
         tied = c.tied;
         lasts = c.lasts;
         keeps = f.kept ∷ c.file.kept ∷ [];
-        does = (c.choice, allowed-between honest kernel later c.choice c.chosen, result, c.comes, is, refl);
+        does = (c.choice, allowed-between honest kernel later c.lasts c.choice c.chosen, result, c.comes, is, refl);
         stops = stops f c.file tied c.tied;
       }
 
@@ -119,7 +119,7 @@ module _ (honest : Type 0) (within : Within) (image : Parts) (kernel later : Ker
 -- the same where other words say that the device is honest
 module _ (other good : Type 0) (alike : other ↔ good) (within : Within) (image : Parts) (c : Command) (kernel later : KernelState) where
   wider : (before now : ℕ) (choice : Choice) → IsAllowed other before now choice → IsAllowed good before now choice
-  wider before now choice allowed = record { given = λ g. allowed.given (alike.1 g); device = λ g t. allowed.device (alike.1 g) t }
+  wider before now choice allowed = record { given = λ g. allowed.given (alike.1 g); device = λ g t. allowed.device (alike.1 g) t; lasts = λ g. allowed.lasts (alike.1 g) }
 
   leads-alike : (text : List ℕ) → Leads other within kernel later (λ before after keeps. Does (IsAllowed other) image c before after text keeps)
       → Leads good within kernel later (λ before after keeps. Does (IsAllowed good) image c before after text keeps)
@@ -130,7 +130,7 @@ module _ (other good : Type 0) (alike : other ↔ good) (within : Within) (image
         tied = file-on other good alike.1 later l.file l.tied;
         lasts = λ g. l.lasts (alike.1 g);
         keeps = l.keeps;
-        does = does-wider (IsAllowed other) (IsAllowed good) wider image c (stage_of kernel f) (stage_of later l.file) text l.keeps l.does;
+        does = does-wider (IsAllowed other) (IsAllowed good) image c (stage_of kernel f) (stage_of later l.file) text l.keeps (wider (failed_in kernel) (failed_in later)) l.does;
         stops = λ g. l.stops (alike.1 g);
       }
 

@@ -1,5 +1,5 @@
 -- What commands print, one after another.
-use Rattle.std.proofs.Common.{ℕ, inl, inr, List, [], ◌∷◌, ◌++◌, refl, sym, ap, ◌∙◌, subst, append_assoc, append-nil}
+use Rattle.std.proofs.Common.{◌≡◌, ℕ, inl, inr, List, [], ◌∷◌, ◌++◌, refl, sym, ap, ◌∙◌, subst, append_assoc, append-nil}
 use Rattle.geos_calls.specs.Memory.{Memory}
 use Rattle.geos_calls.specs.VmFile.{Kept}
 use Rattle.geos_calls.specs.Effects.{Choice}
@@ -7,6 +7,7 @@ use Rattle.geos_image.specs.Parts.{Parts}
 use Rattle.geos_machine.specs.declared.outcome.Outcome.{Outcome}
 use Rattle.geos_machine.specs.Runs.{Ran}
 use Rattle.geos_machine.proofs.Going.{each-wider}
+use Rattle.geos_machine.proofs.KeptSteps.{some-choice}
 use Rattle.geos_cli.specs.declared.script.Command.{Command}
 use Rattle.geos_cli.specs.declared.script.Command.TheVariants as command
 use Rattle.geos_cli.specs.Script.{Allows, Does, Prints, PrintsAhead, PrintsPart, PrintsUpTo, Stage}
@@ -48,29 +49,58 @@ ran-wider P Q wider image r words before after outcome ran = record {
   memory = ran.memory;
 }
 
-module _ (P Q : Allows) (wider : (before now : ℕ) (choice : Choice) → P before now choice → Q before now choice) (image : Parts) where
-  pub does-wider : (c : Command) (before after : Stage) (text : List ℕ) (keeps : List Kept) → Does P image c before after text keeps
+pub does-wider : (P Q : Allows) (image : Parts) (c : Command) (before after : Stage) (text : List ℕ) (keeps : List Kept)
+    → ((choice : Choice) → P before.failed after.failed choice → Q before.failed after.failed choice)
+    → Does P image c before after text keeps → Does Q image c before after text keeps
+unfolding ran-wider
+does-wider P Q image (command.Call call) before after text keeps wider (outcome, ran, e, k) = (
+  outcome,
+  ran-wider (P before.failed after.failed) (Q before.failed after.failed) wider image call.routine call.words before.memory after.memory outcome ran,
+  e,
+  k,
+)
+does-wider P Q image (command.Commit how) before after text keeps wider (choice, chosen, result, comes, e, k) = (choice, wider choice chosen, result, comes, e, k)
+
+-- Where what is allowed says that a count which is 0 behind a command was 0 before it, commands behind which it is 0 are carried out under
+-- what is allowed while it stays 0
+
+module _ (P Q : Allows) (back : (before now : ℕ) (choice : Choice) → P before now choice → now ≡ 0 → before ≡ 0)
+    (wider : (before now : ℕ) → before ≡ 0 → now ≡ 0 → (choice : Choice) → P before now choice → Q before now choice) (image : Parts) where
+  does-back : (c : Command) (before after : Stage) (text : List ℕ) (keeps : List Kept) → Does P image c before after text keeps → after.failed ≡ 0 → before.failed ≡ 0
+  does-back (command.Call call) before after text keeps (outcome, ran, e, k) none =
+      let first = some-choice (P before.failed after.failed) image call.routine call.words before.memory after.memory outcome ran in
+      back before.failed after.failed first.0 first.1 none
+  does-back (command.Commit how) before after text keeps (choice, chosen, result, comes, e, k) none = back before.failed after.failed choice chosen none
+
+  prints-back : (commands : List Command) (before after : Stage) (text : List ℕ) (keeps : List Kept) → Prints P image commands before after text keeps
+      → after.failed ≡ 0 → before.failed ≡ 0
+  prints-back [] before after text keeps (none, same, no_kept) zero = sym (ap (λ (s : Stage). s.failed) same) ∙ zero
+  prints-back (c ∷ commands) before after text keeps (between, own, others, kept, more, does, rest, e, k) zero =
+      does-back c before between own kept does (prints-back commands between after others more rest zero)
+
+  does-still : (c : Command) (before after : Stage) (text : List ℕ) (keeps : List Kept) → after.failed ≡ 0 → Does P image c before after text keeps
       → Does Q image c before after text keeps
-  unfolding ran-wider
-  does-wider (command.Call call) before after text keeps (outcome, ran, e, k) = (
-    outcome,
-    ran-wider (P before.failed after.failed) (Q before.failed after.failed)
-        (wider before.failed after.failed) image call.routine call.words before.memory after.memory outcome ran,
+  does-still c before after text keeps zero does =
+      does-wider P Q image c before after text keeps (wider before.failed after.failed (does-back c before after text keeps does zero) zero) does
+
+  pub prints-still : (commands : List Command) (before after : Stage) (text : List ℕ) (keeps : List Kept) → after.failed ≡ 0
+      → Prints P image commands before after text keeps → Prints Q image commands before after text keeps
+  prints-still [] before after text keeps zero h = h
+  prints-still (c ∷ commands) before after text keeps zero (between, own, others, kept, more, does, rest, e, k) = (
+    between,
+    own,
+    others,
+    kept,
+    more,
+    does-still c before between own kept (prints-back commands between after others more rest zero) does,
+    prints-still commands between after others more zero rest,
     e,
     k,
   )
-  does-wider (command.Commit how) before after text keeps (choice, chosen, result, comes, e, k) =
-      (choice, wider before.failed after.failed choice chosen, result, comes, e, k)
 
-  pub prints-wider : (commands : List Command) (before after : Stage) (text : List ℕ) (keeps : List Kept)
-      → Prints P image commands before after text keeps → Prints Q image commands before after text keeps
-  prints-wider [] before after text keeps h = h
-  prints-wider (c ∷ commands) before after text keeps (between, own, others, kept, more, does, rest, e, k) =
-      (between, own, others, kept, more, does-wider c before between own kept does, prints-wider commands between after others more rest, e, k)
-
-  part-wider : (commands : List Command) (before after : Stage) (text : List ℕ) (keeps : List Kept)
+  part-still : (commands : List Command) (before after : Stage) (text : List ℕ) (keeps : List Kept) → after.failed ≡ 0
       → PrintsPart P image commands before after text keeps → PrintsPart Q image commands before after text keeps
-  part-wider commands before after text keeps h = record {
+  part-still commands before after text keeps zero h = record {
     done = h.done;
     last = h.last;
     others = h.others;
@@ -79,23 +109,23 @@ module _ (P Q : Allows) (wider : (before now : ℕ) (choice : Choice) → P befo
     earlier = h.earlier;
     kept_earlier = h.kept_earlier;
     kept_last = h.kept_last;
-    printed_earlier = prints-wider h.done before h.between h.earlier h.kept_earlier h.printed_earlier;
+    printed_earlier = prints-still h.done before h.between h.earlier h.kept_earlier (does-back h.last h.between after (h.part ++ h.rest) h.kept_last h.does zero) h.printed_earlier;
     part = h.part;
     rest = h.rest;
-    does = does-wider h.last h.between after (h.part ++ h.rest) h.kept_last h.does;
+    does = does-still h.last h.between after (h.part ++ h.rest) h.kept_last zero h.does;
     not_all = h.not_all;
     written = h.written;
     kept = h.kept;
   }
 
-  pub up_to-wider : (commands : List Command) (before after : Stage) (text : List ℕ) (keeps : List Kept)
+  pub up_to-still : (commands : List Command) (before after : Stage) (text : List ℕ) (keeps : List Kept) → after.failed ≡ 0
       → PrintsUpTo P image commands before after text keeps → PrintsUpTo Q image commands before after text keeps
-  up_to-wider commands before after text keeps (inl h) = inl (part-wider commands before after text keeps h)
-  up_to-wider commands before after text keeps (inr h) = inr (record {
+  up_to-still commands before after text keeps zero (inl h) = inl (part-still commands before after text keeps zero h)
+  up_to-still commands before after text keeps zero (inr h) = inr (record {
     done = h.done;
     next = h.next;
     others = h.others;
     in_order = h.in_order;
     commits = h.commits;
-    printed_all = prints-wider h.done before after text keeps h.printed_all;
+    printed_all = prints-still h.done before after text keeps zero h.printed_all;
   })

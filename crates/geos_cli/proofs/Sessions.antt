@@ -1,5 +1,5 @@
 -- A script that ran or was stopped, as the script of a session.
-use Rattle.std.proofs.Common.{◌≡◌, ◌≤◌, ◌∙◌, ℕ, List, length, Option, None, arith, ap, subst, sym, inl, inr}
+use Rattle.std.proofs.Common.{◌≡◌, ◌≤◌, ◌∙◌, ℕ, Bool, false, true, List, length, Option, None, arith, ap, refl, subst, sym, inl, inr, ⊎_elim}
 use Rattle.std.specs.Prelude.{Result, Ok, Err, IfOk, IfErr, IsErrAnd}
 use Rattle.std.specs.Str.Lines.{lines}
 use Rattle.std.specs.Io.KnownBytes.{Keeps}
@@ -8,13 +8,16 @@ use Rattle.geos_calls.specs.Memory as model
 use Rattle.geos_calls.specs.VmFile.{Kept, VmFile, empty_file}
 use Rattle.geos_machine.specs.Runs.{Within}
 use Rattle.geos_calls.specs.Effects.{Choice}
-use Rattle.geos_kernel.specs.View.{KernelState, failed_in, memory_of, IsFileOf}
+use Rattle.vm_file.specs.Device.{IsSteady, Medium}
+use Rattle.vm_file.specs.State.{HasRoom, Steadily}
+use Rattle.geos_kernel.specs.Files.{vm_file_of}
+use Rattle.geos_kernel.specs.View.{KernelOn, KernelState, SeesDevice, failed_in, memory_of, IsFileOf}
 use Rattle.geos_image.specs.Parts.{Parts}
 use Rattle.geos_input.specs.Hex.{hex_fault, image_bytes, script_lines, IsBadHex}
 use Rattle.geos_cli.specs.Script.{commands_of, EndsBy, IsAllowed, Loads, RanScript, Runs, RunsScript, ScriptEndsBy, Stage, StoppedScript, Stops, stage_of}
 use Rattle.geos_text.specs.Words.{most_bytes}
 use Rattle.geos_input.specs.Reading.{Reads}
-use Rattle.geos_cli.proofs.Prints.{prints-wider, up_to-wider}
+use Rattle.geos_cli.proofs.Prints.{prints-still, up_to-still}
 use Rattle.geos_input.specs.declared.fault.ScriptFault.{ScriptFault}
 use Rattle.geos_input.specs.declared.fault.ScriptFault.TheVariants.{TooLong, BadHex, BadImage, Rejected, BadScript, Read, Write, Memory}
 use Rattle.geos_cli.specs.Session.{IsInMemory, begun, no_blocks, RanBytes, StoppedBytes, EndsBytes, RanSession, StoppedSession, EndsSession}
@@ -45,25 +48,39 @@ hex-ends bytes short (BadScript line) h = absurd h
 hex-ends bytes short Read h = absurd h
 hex-ends bytes short Write h = absurd h
 
--- what is allowed where the device is honest is allowed in a session
+-- what is allowed where the device is honest, and has not failed, is allowed in a session
 module _ (honest : Type 0) (good : honest) where
-  in-memory : (before now : ℕ) (choice : Choice) → IsAllowed honest before now choice → IsInMemory before now choice
-  in-memory before now choice allowed = record { given = λ u. allowed.given good; device = λ u t. allowed.device good t }
+  never-failed : (before now : ℕ) (choice : Choice) → IsAllowed honest before now choice → now ≡ 0 → before ≡ 0
+  never-failed before now choice allowed zero =
+      ⊎_elim (λ same. sym same ∙ zero) (λ risen. ⊎_elim (λ less. omega (arith, less, zero)) (λ most. omega (arith, most, zero)) risen) (allowed.lasts good)
 
-  runs-honest : (bytes : List ℕ) (ls : List (List ℕ)) (before after : Stage) (text : List ℕ) (keeps : List Kept)
+  in-memory : (before now : ℕ) → before ≡ 0 → now ≡ 0 → (choice : Choice) → IsAllowed honest before now choice → IsInMemory before now choice
+  in-memory before now first last choice allowed = record { device = refuses choice.device refl; given = allowed.given good }
+    where
+      refuses : (b : Bool) → choice.device ≡ b → choice.device ≡ false
+      refuses false is = is
+      refuses true is = (let risen : ⊥ = ⊎_elim (λ less. omega (arith, less, last)) (λ most. omega (arith, most, last)) (allowed.device good is) in absurd risen)
+
+  runs-honest : (bytes : List ℕ) (ls : List (List ℕ)) (before after : Stage) (text : List ℕ) (keeps : List Kept) → after.failed ≡ 0
       → Runs (IsAllowed honest) bytes ls before after text keeps → Runs IsInMemory bytes ls before after text keeps
-  runs-honest bytes ls before after text keeps (image, loads, prints) =
-      (image, loads, prints-wider (IsAllowed honest) IsInMemory in-memory image (commands_of image ls) before after text keeps prints)
+  runs-honest bytes ls before after text keeps zero (image, loads, prints) =
+      (image, loads, prints-still (IsAllowed honest) IsInMemory never-failed in-memory image (commands_of image ls) before after text keeps zero prints)
 
-  stops-honest : (bytes : List ℕ) (ls : List (List ℕ)) (before after : Stage) (text : List ℕ) (keeps : List Kept)
+  stops-honest : (bytes : List ℕ) (ls : List (List ℕ)) (before after : Stage) (text : List ℕ) (keeps : List Kept) → after.failed ≡ 0
       → Stops (IsAllowed honest) bytes ls before after text keeps → Stops IsInMemory bytes ls before after text keeps
-  stops-honest bytes ls before after text keeps (image, loads, part) =
-      (image, loads, up_to-wider (IsAllowed honest) IsInMemory in-memory image (commands_of image ls) before after text keeps part)
+  stops-honest bytes ls before after text keeps zero (image, loads, part) =
+      (image, loads, up_to-still (IsAllowed honest) IsInMemory never-failed in-memory image (commands_of image ls) before after text keeps zero part)
+
+-- a device that fails at no call within its length, and has room for the file, has not failed behind a script
+pub never-fails : {D : Type 0} (medium : Medium D) (old new : KernelOn D) → IsSteady medium → HasRoom medium.image (vm_file_of old) → Steadily medium (vm_file_of old) (vm_file_of new)
+    → SeesDevice medium old × SeesDevice medium new → failed_in old.core ≡ 0 → failed_in new.core ≡ 0
+never-fails medium old new steady room steadily sees none = sees.1 ∙ (steadily steady room).1 ∙ sym sees.0 ∙ none
 
 -- bytes have an image and a script, which runs on a kernel without a block
 module _ (honest : Type 0) (bytes items image script : List ℕ) (kernel later : KernelState) (good : honest) (short : length bytes ≤ most_bytes) (digits : hex_fault (lines bytes) ≡ None)
     (items_is : items ≡ image_bytes (lines bytes)) (script_is : lines script ≡ script_lines (lines bytes)) (lent : image ≡ items) (tied : IsFileOf honest kernel (empty_file 65536))
-    (empty : (f : VmFile) → memory_of kernel f ≡ record no_blocks { file = f }) (none : failed_in kernel ≡ 0) where
+    (empty : (f : VmFile) → memory_of kernel f ≡ record no_blocks { file = f }) (none : failed_in kernel ≡ 0)
+    (still : failed_in later ≡ 0) where
   -- where the first command begins
   abbrev first : Stage
   first = stage_of kernel (empty_file 65536)
@@ -81,22 +98,22 @@ module _ (honest : Type 0) (bytes items image script : List ℕ) (kernel later :
       subst (λ s. P (image_bytes (lines bytes)) (script_lines (lines bytes)) s) first-begun with_script
 
   -- the script ran
-  runs : (text : List ℕ) (after : Stage) (keeps : List Kept) → RunsScript (IsAllowed honest) image script first after text keeps
+  runs : (text : List ℕ) (after : Stage) (keeps : List Kept) → after.failed ≡ 0 → RunsScript (IsAllowed honest) image script first after text keeps
       → (after : Stage) × (keeps : List Kept) × Runs IsInMemory (image_bytes (lines bytes)) (script_lines (lines bytes)) begun after text keeps
-  runs text after keeps h =
-      (after, keeps, in-session (λ i ls s. Runs IsInMemory i ls s after text keeps) (runs-honest honest good image (lines script) first after text keeps h.1))
+  runs text after keeps zero h =
+      (after, keeps, in-session (λ i ls s. Runs IsInMemory i ls s after text keeps) (runs-honest honest good image (lines script) first after text keeps zero h.1))
 
   -- and the flush kept what the writer got
   pub session-ran : {within : Within} (a b c : Option (List ℕ)) → RanScript honest within image script kernel later a b → Keeps b c → RanBytes bytes a c
   session-ran {within} a b c (text, leads, appends) kept =
       let l = leads (empty_file 65536) tied in
-      (text, (short, digits, runs text (stage_of later l.file) l.does.0 l.does.1), Appends-kept a b c text appends kept)
+      (text, (short, digits, runs text (stage_of later l.file) l.does.0 still l.does.1), Appends-kept a b c text appends kept)
 
   -- or the flush failed
   pub session-unflushed : {within : Within} (a b c : Option (List ℕ)) → RanScript honest within image script kernel later a b → Keeps b c → StoppedBytes bytes a c
   session-unflushed {within} a b c (text, leads, appends) kept =
       let l = leads (empty_file 65536) tied in
-      (text, (short, digits, inr (runs text (stage_of later l.file) l.does.0 l.does.1)), Appends-kept a b c text appends kept)
+      (text, (short, digits, inr (runs text (stage_of later l.file) l.does.0 still l.does.1)), Appends-kept a b c text appends kept)
 
   -- where it ran, the writer may have failed
   pub session-due : {within : Within} (a b : Option (List ℕ)) → RanScript honest within image script kernel later a b → EndsBytes bytes Write
@@ -122,7 +139,7 @@ module _ (honest : Type 0) (bytes items image script : List ℕ) (kernel later :
       let after = stage_of later l.file in
       let keeps = l.does.0 in
       let stops = in-session (λ i ls s. Stops IsInMemory i ls s after text keeps)
-      (stops-honest honest good image (lines script) first after text keeps l.does.1.1) in
+      (stops-honest honest good image (lines script) first after text keeps still l.does.1.1) in
       (text, (short, digits, inl (after, keeps, stops)), appends)
 
 -- a fault that is the writer's

@@ -116,10 +116,12 @@ stage_of kernel f = record { memory = memory_of kernel f; failed = failed_in ker
 abbrev pub Allows : Type 1
 Allows = ℕ → ℕ → Choice → Type 0
 
--- those of an honest device: it gives nothing, and refuses only where it failed at this command
+-- those of an honest device: it gives nothing, refuses only where it failed at this command, and has not failed
+-- less often behind it
 pub record IsAllowed (honest : Type 0) (before now : ℕ) (choice : Choice) : Type 0 where
   pub given : honest → choice.given ≡ []
   pub device : honest → choice.device ≡ true → HasRisen before now
+  pub lasts : honest → (now ≡ before) ⊎ HasRisen before now
 
 -- a command takes one memory to another under allowed choices, and prints this: a call, by a model's
 -- run, what that puts out; a commit, by its row in the table of calls, its refusal. And that is what

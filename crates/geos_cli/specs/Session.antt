@@ -1,20 +1,22 @@
 -- What a session is, and when it ends early.
-use Rattle.std.specs.Prelude.{◌≡◌, ◌<◌, ◌≤◌, ◌⊎◌, ℕ, List, length, replicate, Option, Some, None}
+use Rattle.std.specs.Prelude.{◌≡◌, ◌<◌, ◌≤◌, ◌⊎◌, ℕ, false, List, [], length, replicate, Option, Some, None}
 use Rattle.std.specs.Str.Lines.{lines}
 use Rattle.std.specs.Io.KnownBytes.{Appends, Consumes}
 use Rattle.geos_calls.specs.VmFile.{Kept, empty_file}
 use Rattle.geos_calls.specs.Memory as model
+use Rattle.geos_calls.specs.Effects.{Choice}
 use Rattle.geos_input.specs.declared.fault.ScriptFault.{ScriptFault}
 use Rattle.geos_input.specs.declared.fault.ScriptFault.TheVariants.{TooLong, BadHex, Read, Memory}
 use Rattle.geos_input.specs.Hex.{hex_fault, image_bytes, script_lines}
 use Rattle.geos_text.specs.Words.{most_bytes}
 use Rattle.geos_input.specs.Reading.{Reads}
-use Rattle.geos_cli.specs.Script.{Allows, IsAllowed, Runs, Stage, Stops, EndsBy}
+use Rattle.geos_cli.specs.Script.{Runs, Stage, Stops, EndsBy}
 
--- what may come from outside in a session: room and memory may be refused, and the device where its
--- count of failures rises; nothing is given, since a device in memory is honest
-abbrev pub IsInMemory : Allows
-IsInMemory = IsAllowed (Unit {0})
+-- what may come from outside in a session: room and memory may be refused; the device, which is in
+-- memory, refuses nothing and gives nothing
+pub record IsInMemory (before now : ℕ) (choice : Choice) : Type 0 where
+  pub device : choice.device ≡ false
+  pub given : choice.given ≡ []
 
 -- the memory in which a session begins: no block, in a region of 65,536 bytes, and an empty VM
 -- file with an area of as many

@@ -5,11 +5,13 @@ ghost use Rattle.std.specs.Str.Lines.{lines};
 ghost use Rattle.std.specs.Io.KnownBytes.{Keeps};
 ghost use Rattle.geos_input.specs.declared.fault.ScriptFault.TheVariants.{Write};
 ghost use Rattle.vm_file.specs.Device.{Rose};
+ghost use Rattle.vm_file.specs.State.{Steadily};
 ghost use Rattle.geos_input.specs.Fault.{KeptUnless};
 ghost use Rattle.geos_cli.specs.Commits.{commits, first_commit, may_commit, IsGiven};
 ghost use Rattle.geos_cli.specs.Script.{IsAdmitted, routine_named, registers_of, call_named, how_named, command_of};
 ghost use Rattle.geos_cli.specs.Script.{commands_of, first_bad, IsBadLine, IsBadImage};
 ghost use Rattle.geos_cli.specs.Script.{RanCommand, StoppedCommand, RanCommands, StoppedCommands, RanScript, StoppedScript, ScriptEndsBy};
+ghost use Rattle.geos_kernel.specs.Files.{vm_file_of};
 ghost use Rattle.geos_kernel.specs.Kernel.{Calls};
 ghost use Rattle.geos_kernel.specs.View.{IsFileOf, SeesDevice};
 ghost use Rattle.geos_machine.specs.Runs.{OpensAsOneOf, Throughout};
@@ -212,6 +214,7 @@ fn keep<D: Device + Drop>(kernel: &mut Kernel<D>, how: How) -> Result<(), Refusa
     ensures honest { D.medium.honest kernel.new.device ↔ D.medium.honest kernel.old.device }
     ensures unlocked { NoneLocked kernel.new.core.blocks }
     ensures sees { SeesDevice D.medium kernel.old × SeesDevice D.medium kernel.new }
+    ensures steadily { Steadily D.medium (vm_file_of kernel.old) (vm_file_of kernel.new) }
     ensures stops { (f g : VmFile) → IsFileOf (D.medium.honest kernel.old.device) kernel.old.core f → IsFileOf (D.medium.honest kernel.old.device) kernel.new.core g
         → D.medium.honest kernel.old.device → Throughout D.medium kernel.old.device kernel.new.device (OpensAsOneOf (f.kept ∷ g.kept ∷ [])) }
 {
@@ -242,6 +245,7 @@ fn carry_out<W: Write, D: Device + Drop>(
     ensures honest { D.medium.honest kernel.new.device ↔ D.medium.honest kernel.old.device }
     ensures unlocked { NoneLocked kernel.new.core.blocks }
     ensures sees { SeesDevice D.medium kernel.old × SeesDevice D.medium kernel.new }
+    ensures steadily { Steadily D.medium (vm_file_of kernel.old) (vm_file_of kernel.new) }
     ensures kept { IfOk result (λ _. out.new.failures ≡ out.old.failures) }
     ensures failed { IfErr result (λ fault. (fault ≡ Write) × Rose out.old.failures out.new.failures) }
 {
@@ -276,6 +280,7 @@ fn carry_out_all<W: Write, D: Device + Drop>(
     ensures honest { D.medium.honest kernel.new.device ↔ D.medium.honest kernel.old.device }
     ensures unlocked { NoneLocked kernel.new.core.blocks }
     ensures sees { SeesDevice D.medium kernel.old × SeesDevice D.medium kernel.new }
+    ensures steadily { Steadily D.medium (vm_file_of kernel.old) (vm_file_of kernel.new) }
     ensures kept { IfOk result (λ _. out.new.failures ≡ out.old.failures) }
     ensures failed { IfErr result (λ fault. (fault ≡ Write) × Rose out.old.failures out.new.failures) }
 {
@@ -340,6 +345,8 @@ pub fn run_script<W: Write, D: Device + Drop>(
     ensures honest { D.medium.honest kernel.new.device ↔ D.medium.honest kernel.old.device }
     ensures unlocked { NoneLocked kernel.new.core.blocks }
     ensures sees { SeesDevice D.medium kernel.old × SeesDevice D.medium kernel.new }
+    // Where no call within the device's length fails, and it has room for the file, none failed.
+    ensures steadily { Steadily D.medium (vm_file_of kernel.old) (vm_file_of kernel.new) }
 
     // Nothing runs before a fault other than `Write`.
     ensures kernel_kept { IfErr result (λ fault. fault ≢ Write → kernel.new ≡ kernel.old) }

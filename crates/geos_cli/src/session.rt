@@ -41,7 +41,7 @@ fn run_bytes<W: Write>(alloc: Global, bytes: &[u8], out: &mut Counted<W>) -> Res
 
 /// Reads a session to its end, runs it, and flushes the writer: an image in hexadecimal
 /// digits, a line `end`, and a script as of `run_script`. It begins with no memory block, in a
-/// region of 65,536 bytes, and on a new VM file in memory.
+/// region of 65,536 bytes, and on a new VM file in memory: so no command is refused 11.
 ///
 /// Of the faults, the first that is due is answered: `TooLong` where there are more than
 /// 1,048,576 bytes; `BadHex`; then those of `run_script`. `Read` comes where the reader

@@ -1,4 +1,6 @@
 use Rattle.std.proofs.Common.{◌∙◌, inl, refl, arith}
+use Rattle.vm_file.proofs.StateLaws.{steadily_then}
+use Rattle.geos_kernel.specs.Files.{vm_file_of}
 use Rattle.geos_machine.specs.Runs.{Throughout}
 use Rattle.geos_machine.proofs.Stops.{stops-first}
 use Rattle.geos_cli.proofs.CommandsRun.{throughout-then, ran-none, ran-more, ran-all, ran-alike, ran-kept, stopped-at, stopped-ahead, stopped-alike}
@@ -16,6 +18,7 @@ loop-command-init g c = (
   ((λ h. h), (λ h. h)),
   c.requires.unlocked,
   c.memory_is_legal.ensures.sees,
+  λ steady room. (room, refl),
 )
 
 pub returns-clause-ok : goal.returns-clause-ok
@@ -36,6 +39,7 @@ loop-command-preserved g c =
       ((λ h. alike.0 (next.0 h)), (λ h. next.1 (alike.1 h))),
       c.carry_out.ensures.unlocked,
       c.carry_out.ensures.sees.1,
+      steadily_then g.D.Device.medium (vm_file_of c.args.kernel.now) (vm_file_of c.loop-command.kernel) (vm_file_of c.carry_out.new.kernel) c.loop-command.invariant.5 c.carry_out.ensures.steadily,
     )
 
 pub returns-in_err-carry_out-clause-stopped : goal.returns-in_err-carry_out-clause-stopped
@@ -59,3 +63,7 @@ returns-clause-sees g c = (c.memory_is_legal.ensures.sees, c.loop-command.invari
 
 pub returns-in_err-carry_out-clause-sees : goal.returns-in_err-carry_out-clause-sees
 returns-in_err-carry_out-clause-sees g c = (c.memory_is_legal.ensures.sees, c.carry_out.ensures.sees.1)
+
+pub returns-in_err-carry_out-clause-steadily : goal.returns-in_err-carry_out-clause-steadily
+returns-in_err-carry_out-clause-steadily g c =
+    steadily_then g.D.Device.medium (vm_file_of c.args.kernel.now) (vm_file_of c.loop-command.kernel) (vm_file_of c.carry_out.new.kernel) c.loop-command.invariant.5 c.carry_out.ensures.steadily

@@ -1,6 +1,8 @@
 use Rattle.std.proofs.Common.{◌≡◌, take}
 use Rattle.std.specs.Prelude.{◌↔◌}
 use Rattle.vm_blocks.specs.Listed.{NoneLocked}
+use Rattle.vm_file.specs.State.{Steadily}
+use Rattle.geos_kernel.specs.Files.{vm_file_of}
 use Rattle.geos_kernel.specs.View.{SeesDevice}
 use Rattle.geos_machine.specs.Runs.{Throughout}
 use Rattle.geos_cli.specs.Script.{RanCommands}
@@ -14,3 +16,4 @@ invariant-loop-command g l =
     × (g.D.Device.medium.honest l.kernel.device ↔ g.D.Device.medium.honest l.fn.kernel.device)
     × NoneLocked l.kernel.core.blocks
     × SeesDevice g.D.Device.medium l.kernel
+    × Steadily g.D.Device.medium (vm_file_of l.fn.kernel) (vm_file_of l.kernel)

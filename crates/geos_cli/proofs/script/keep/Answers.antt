@@ -24,6 +24,6 @@ returns-clause-stops g c f after tied tied_after h =
     let new = c.commit-done.new.self in
     let first = stops-first d.medium k f tied (g.met.D.Device.at_once k.device) c.memory_is_legal.ensures.kept h
     (λ x. OpensAsOneOf (f.kept ∷ after.kept ∷ []) x) (λ x opens. inl opens) in
-    stops-on d.medium k k new ((λ a. a), (λ a. a)) c.commit-done.ensures.commits.stops h f after tied tied_after
+    stops-on d.medium k k new ((λ a. a), (λ a. a)) c.commit-done.ensures.commits.between.stops h f after tied tied_after
     (OpensAsOneOf (f.kept ∷ after.kept ∷ [])) (OpensAsOneOf (f.kept ∷ after.kept ∷ [])) (λ x o. o)
     (λ x either. ⊎_elim (λ was. inl was) (λ now. inr (inl now)) either) first
