@@ -73,9 +73,10 @@ pub record ReadsFile {D T E : Type 0} (medium : Medium D) (old new : FileState D
 abbrev pub HasRoom : {D : Type 0} → (D → List ℕ) → FileState D → Type 0
 HasRoom image f = 1024 + 2 * f.area ≤ length (image f.device)
 
--- from the one state of a file to the other no call failed of a device that fails at none within its length, where it has room for the file, and it has room still
+-- a device that fails at no call within its length, and has room for the file, did not fail from the one state to the other, and has room still
 abbrev pub Steadily : {D : Type 0} → Medium D → FileState D → FileState D → Type 0
-Steadily medium old new = IsSteady medium → HasRoom medium.image old → HasRoom medium.image new × (medium.failed new.device ≡ medium.failed old.device)
+Steadily medium old new =
+    IsSteady medium → HasRoom medium.image old → HasRoom medium.image new × (medium.failed new.device ≡ medium.failed old.device)
 
 -- a directory lists a block with this handle, of so many bytes
 abbrev pub HasBlock : Directory → ℕ → ℕ → Type 0
