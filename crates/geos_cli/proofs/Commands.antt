@@ -9,11 +9,12 @@ use Rattle.geos_cli.specs.declared.script.Call.{Call}
 use Rattle.geos_cli.specs.declared.script.Command.{Command}
 use Rattle.geos_cli.specs.declared.script.Command.TheVariants as command
 use Rattle.geos_text.specs.Words.{is_empty}
-use Rattle.geos_cli.specs.Script.{IsAdmitted, routine_named, registers_of, call_named, how_named, command_of, commands_of, is_bad, said}
+use Rattle.geos_cli.specs.declared.script.Numbered.{Numbered}
+use Rattle.geos_cli.specs.Script.{IsAdmitted, routine_named, registers_of, call_named, how_named, command_of, commands_from, commands_of, is_bad, on_line, said}
 
 -- a line that says nothing
 pub commands-blank : (image : Parts) (n : ℕ) (line : List ℕ) (lines : List (List ℕ)) → said line ≡ []
-    → (position_from (is_bad image) n (line ∷ lines) ≡ position_from (is_bad image) (n + 1) lines) × (commands_of image (line ∷ lines) ≡ commands_of image lines)
+    → (position_from (is_bad image) n (line ∷ lines) ≡ position_from (is_bad image) (n + 1) lines) × (commands_from image n (line ∷ lines) ≡ commands_from image (n + 1) lines)
 commands-blank image n line lines e = (rw e refl, rw e refl)
 
 and-false : (b : Bool) → (b && false) ≡ false
@@ -22,7 +23,7 @@ and-false false = refl
 
 -- a line that says a command
 pub commands-more : (image : Parts) (n : ℕ) (line : List ℕ) (lines : List (List ℕ)) (c : Command) → command_of image (said line) ≡ Some c
-    → (position_from (is_bad image) n (line ∷ lines) ≡ position_from (is_bad image) (n + 1) lines) × (commands_of image (line ∷ lines) ≡ c ∷ commands_of image lines)
+    → (position_from (is_bad image) n (line ∷ lines) ≡ position_from (is_bad image) (n + 1) lines) × (commands_from image n (line ∷ lines) ≡ on_line n c ∷ commands_from image (n + 1) lines)
 commands-more image n line lines c e =
     let good : is_bad image line ≡ false = rw e (and-false (not (is_empty (said line)))) in
     (rw good refl, rw e refl)
@@ -67,10 +68,12 @@ cons_option-all : {T : Type 0} (P : T → Type 0) (o : Option T) (xs : List T) �
 cons_option-all P None xs h rest = rest
 cons_option-all P (Some x) xs h rest = (h, rest)
 
-each-admitted : (image : Parts) (lines : List (List ℕ)) → AllByRecursion (IsAdmitted image) (commands_of image lines)
-each-admitted image [] = tt
-each-admitted image (line ∷ lines) = cons_option-all (IsAdmitted image) (command_of image (said line)) (commands_of image lines) (command_of-admitted image (said line)) (each-admitted image lines)
+each-admitted : (image : Parts) (n : ℕ) (lines : List (List ℕ)) → AllByRecursion (λ c. IsAdmitted image c.command) (commands_from image n lines)
+each-admitted image n [] = tt
+each-admitted image n (line ∷ lines) = cons_option-all (λ (c : Numbered). IsAdmitted image c.command) (option_map (on_line n) (command_of image (said line))) (commands_from image (n + 1) lines)
+    (mapped (λ (c : Numbered). IsAdmitted image c.command) (on_line n) (command_of image (said line)) (command_of-admitted image (said line)))
+    (each-admitted image (n + 1) lines)
 
 -- so is each command of a script
-pub commands-admitted : (image : Parts) (lines : List (List ℕ)) → All (IsAdmitted image) (commands_of image lines)
-commands-admitted image lines = All-from_recursion (IsAdmitted image) (commands_of image lines) (each-admitted image lines)
+pub commands-admitted : (image : Parts) (lines : List (List ℕ)) → All (λ c. IsAdmitted image c.command) (commands_of image lines)
+commands-admitted image lines = All-from_recursion (λ (c : Numbered). IsAdmitted image c.command) (commands_of image lines) (each-admitted image 1 lines)

@@ -1,6 +1,6 @@
 -- Commands that were carried out one after another, or stopped, from kernel to kernel.
 use Rattle.std.proofs.Common.{◌≡◌, true, ◌<◌, ◌≤◌, ◌+◌, ℕ, suc, List, [], ◌∷◌, ◌++◌, length, take, drop, get_or, refl, sym, ap, ◌∙◌, subst, take-append-drop, drop-cons, inl, inr, ⊎_elim}
-use Rattle.std.specs.Prelude.{◌↔◌, Option, Result, Ok, Err, IfOk, IfErr}
+use Rattle.std.specs.Prelude.{◌↔◌, Option, Some, None, Result, Ok, Err, IfOk, IfErr}
 use Rattle.std.specs.Str.Lines.{lines}
 use Rattle.std.specs.Io.KnownBytes.{Appends, Keeps}
 use Rattle.std.proofs.KnownBytes.{Appends-kept, Appends-nil, Appends-trans}
@@ -23,9 +23,12 @@ use Rattle.geos_kernel.proofs.Seen.{file-on}
 use Rattle.geos_cli.specs.declared.script.Call.{Call}
 use Rattle.geos_cli.specs.declared.script.Command.{Command}
 use Rattle.geos_cli.specs.declared.script.Command.TheVariants as command
+use Rattle.geos_cli.specs.declared.script.Mode.{Mode}
+use Rattle.geos_cli.specs.declared.script.Numbered.{Numbered}
+use Rattle.geos_cli.specs.declared.script.RefusedCommit.{RefusedCommit}
 use Rattle.geos_input.specs.Counted.{AppendsPart}
 use Rattle.geos_cli.specs.Commits.{may_commit}
-use Rattle.geos_cli.specs.Script.{printed, committed, commands_of, Does, Prints, PrintsAhead, PrintsPart, PrintsUpTo, From, IsAllowed, Leads, Loads, RanCommand, RanCommands, RanScript, RunsScript, StoppedCommand, StoppedCommands, StoppedScript, StopsScript, stage_of}
+use Rattle.geos_cli.specs.Script.{printed, committed, commands_of, Does, GoesOn, Prints, PrintsAhead, PrintsPart, PrintsRefused, PrintsTo, PrintsUpTo, From, IsAllowed, Leads, Loads, RanCommand, RanCommands, RanScript, RunsScript, StoppedCommand, StoppedCommands, StoppedScript, StopsScript, stage_of}
 use Rattle.geos_text.specs.Words.{most_bytes}
 use Rattle.geos_cli.proofs.Prints.{does-wider, prints-more, ran-wider}
 
@@ -62,7 +65,7 @@ module _ (honest : Type 0) (within : Within) (image : Parts) (kernel later : Ker
   -- a call was run
   call-leads : (call : Call) (outcome : Outcome) (text : List ℕ) → text ≡ printed outcome.output.items
       → RunsCall honest within image call outcome kernel later
-      → Leads honest within kernel later (λ before after keeps. Does (IsAllowed honest) image (command.Call call) before after text keeps)
+      → Leads honest within kernel later (λ before after keeps. Does (IsAllowed honest) image (command.Call call) (Ok tt) before after text keeps)
   unfolding ran-wider
   call-leads call outcome text is ran f tied =
       let r = ran f tied in
@@ -74,14 +77,14 @@ module _ (honest : Type 0) (within : Within) (image : Parts) (kernel later : Ker
         tied = r.tied;
         lasts = r.lasts;
         keeps = kept_along image r.ran.choices (begin image call.routine call.words (memory_of kernel f));
-        does = (outcome, wide, is, refl);
+        does = (outcome, wide, refl, is, refl);
         stops = r.stops;
       }
 
   -- a commit was done or refused
   commit-leads : StopsBetween honest within kernel later → (how : How) (result : Result (Unit {0}) Refusal) (text : List ℕ) → text ≡ committed result
       → Calls honest (commit (keeper_of how)) result kernel later
-      → Leads honest within kernel later (λ before after keeps. Does (IsAllowed honest) image (command.Commit how) before after text keeps)
+      → Leads honest within kernel later (λ before after keeps. Does (IsAllowed honest) image (command.Commit how) result before after text keeps)
   commit-leads stops how result text is calls f tied =
       let c = calls.answers f tied in
       record {
@@ -89,92 +92,95 @@ module _ (honest : Type 0) (within : Within) (image : Parts) (kernel later : Ker
         tied = c.tied;
         lasts = c.lasts;
         keeps = f.kept ∷ c.file.kept ∷ [];
-        does = (c.choice, allowed-between honest kernel later c.lasts c.choice c.chosen, result, c.comes, is, refl);
+        does = (c.choice, allowed-between honest kernel later c.lasts c.choice c.chosen, c.comes, is, refl);
         stops = stops f c.file tied c.tied;
       }
 
   module _ (a b : Option (List ℕ)) where
     -- a call was run, and printed
     pub call-ran : (call : Call) (outcome : Outcome) → RunsCall honest within image call outcome kernel later → Appends a b (printed outcome.output.items)
-        → RanCommand honest within image (command.Call call) kernel later a b
+        → RanCommand honest within image (command.Call call) (Ok tt) kernel later a b
     call-ran call outcome ran shown = (printed outcome.output.items, call-leads call outcome (printed outcome.output.items) refl ran, shown)
 
     -- the writer failed while it was printed
     pub call-stopped : (call : Call) (outcome : Outcome) → RunsCall honest within image call outcome kernel later → AppendsPart a b (printed outcome.output.items)
         → StoppedCommand honest within image (command.Call call) kernel later a b
-    call-stopped call outcome ran (part, rest, e, some, q) = (part, rest, some, call-leads call outcome (part ++ rest) (sym e) ran, q)
+    call-stopped call outcome ran (part, rest, e, some, q) = (part, rest, Ok tt, some, call-leads call outcome (part ++ rest) (sym e) ran, q)
 
     -- a commit was done or refused, and that was printed
     pub commit-ran : StopsBetween honest within kernel later → (how : How) (result : Result (Unit {0}) Refusal)
         → Calls honest (commit (keeper_of how)) result kernel later → Appends a b (committed result)
-        → RanCommand honest within image (command.Commit how) kernel later a b
+        → RanCommand honest within image (command.Commit how) result kernel later a b
     commit-ran stops how result calls shown = (committed result, commit-leads stops how result (committed result) refl calls, shown)
 
     -- the writer failed then
     pub commit-stopped : StopsBetween honest within kernel later → (how : How) (result : Result (Unit {0}) Refusal)
         → Calls honest (commit (keeper_of how)) result kernel later → AppendsPart a b (committed result)
         → StoppedCommand honest within image (command.Commit how) kernel later a b
-    commit-stopped stops how result calls (part, rest, e, some, q) = (part, rest, some, commit-leads stops how result (part ++ rest) (sym e) calls, q)
+    commit-stopped stops how result calls (part, rest, e, some, q) = (part, rest, result, some, commit-leads stops how result (part ++ rest) (sym e) calls, q)
 
 -- the same where other words say that the device is honest
 module _ (other good : Type 0) (alike : other ↔ good) (within : Within) (image : Parts) (c : Command) (kernel later : KernelState) where
   wider : (before now : ℕ) (choice : Choice) → IsAllowed other before now choice → IsAllowed good before now choice
   wider before now choice allowed = record { given = λ g. allowed.given (alike.1 g); device = λ g t. allowed.device (alike.1 g) t; lasts = λ g. allowed.lasts (alike.1 g) }
 
-  leads-alike : (text : List ℕ) → Leads other within kernel later (λ before after keeps. Does (IsAllowed other) image c before after text keeps)
-      → Leads good within kernel later (λ before after keeps. Does (IsAllowed good) image c before after text keeps)
-  leads-alike text leads f tied =
+  leads-alike : (result : Result (Unit {0}) Refusal) (text : List ℕ)
+      → Leads other within kernel later (λ before after keeps. Does (IsAllowed other) image c result before after text keeps)
+      → Leads good within kernel later (λ before after keeps. Does (IsAllowed good) image c result before after text keeps)
+  leads-alike result text leads f tied =
       let l = leads f (file-on good other alike.0 kernel f tied) in
       record {
         file = l.file;
         tied = file-on other good alike.1 later l.file l.tied;
         lasts = λ g. l.lasts (alike.1 g);
         keeps = l.keeps;
-        does = does-wider (IsAllowed other) (IsAllowed good) image c (stage_of kernel f) (stage_of later l.file) text l.keeps (wider (failed_in kernel) (failed_in later)) l.does;
+        does = does-wider (IsAllowed other) (IsAllowed good) image c result (stage_of kernel f) (stage_of later l.file) text l.keeps (wider (failed_in kernel) (failed_in later)) l.does;
         stops = λ g. l.stops (alike.1 g);
       }
 
-  pub ran-alike : (a b : Option (List ℕ)) → RanCommand other within image c kernel later a b → RanCommand good within image c kernel later a b
-  ran-alike a b (text, leads, appends) = (text, leads-alike text leads, appends)
+  pub ran-alike : (result : Result (Unit {0}) Refusal) (a b : Option (List ℕ))
+      → RanCommand other within image c result kernel later a b → RanCommand good within image c result kernel later a b
+  ran-alike result a b (text, leads, appends) = (text, leads-alike result text leads, appends)
 
   pub stopped-alike : (a b : Option (List ℕ)) → StoppedCommand other within image c kernel later a b → StoppedCommand good within image c kernel later a b
-  stopped-alike a b (part, rest, some, leads, appends) = (part, rest, some, leads-alike (part ++ rest) leads, appends)
+  stopped-alike a b (part, rest, result, some, leads, appends) = (part, rest, result, some, leads-alike result (part ++ rest) leads, appends)
 
 -- All of them
 
 -- before the first command
-pub ran-none : (honest : Type 0) (within : Within) (image : Parts) (kernel : KernelState) (a : Option (List ℕ))
-    → ((f : VmFile) → IsFileOf honest kernel f → honest → within (OpensAsOneOf (f.kept ∷ []))) → RanCommands honest within image [] kernel kernel a a
-ran-none honest within image kernel a started = ([], leads, Appends-nil a)
+pub ran-none : (mode : Mode) (honest : Type 0) (within : Within) (image : Parts) (kernel : KernelState) (a : Option (List ℕ))
+    → ((f : VmFile) → IsFileOf honest kernel f → honest → within (OpensAsOneOf (f.kept ∷ []))) → RanCommands mode honest within image [] None kernel kernel a a
+ran-none mode honest within image kernel a started = ([], leads, Appends-nil a)
   where
-    leads : Leads honest within kernel kernel (λ before after keeps. From (Prints (IsAllowed honest) image [] before after []) before keeps)
+    leads : Leads honest within kernel kernel (λ before after keeps. From (Prints mode (IsAllowed honest) image [] before after []) before keeps)
     leads f tied = record { file = f; tied = tied; lasts = λ g. inl refl; keeps = f.kept ∷ []; does = ([], (refl, refl, refl), refl); stops = started f tied }
 
 -- behind the last one
-pub ran-all : (honest : Type 0) (within : Within) (image : Parts) (commands : List Command) (k : ℕ) (kernel later : KernelState)
-    (a b : Option (List ℕ)) → length commands ≤ k → RanCommands honest within image (take k commands) kernel later a b
-    → RanCommands honest within image commands kernel later a b
-ran-all honest within image commands k kernel later a b past ran = subst (λ cs. RanCommands honest within image cs kernel later a b) (take_all k commands past) ran
+pub ran-all : (mode : Mode) (honest : Type 0) (within : Within) (image : Parts) (commands : List Numbered) (k : ℕ) (kernel later : KernelState)
+    (a b : Option (List ℕ)) → length commands ≤ k → RanCommands mode honest within image (take k commands) None kernel later a b
+    → RanCommands mode honest within image commands None kernel later a b
+ran-all mode honest within image commands k kernel later a b past ran =
+    subst (λ cs. RanCommands mode honest within image cs None kernel later a b) (take_all k commands past) ran
 
 -- and a flush keeps what the writer got
-pub ran-kept : (honest : Type 0) (within : Within) (image : Parts) (commands : List Command) (kernel later : KernelState)
-    (a b c : Option (List ℕ)) → RanCommands honest within image commands kernel later a b → Keeps b c → RanCommands honest within image commands kernel later a c
-ran-kept honest within image commands kernel later a b c (text, leads, appends) kept = (text, leads, Appends-kept a b c text appends kept)
+pub ran-kept : (mode : Mode) (honest : Type 0) (within : Within) (image : Parts) (commands : List Numbered) (kernel later : KernelState) (a b c : Option (List ℕ))
+    → RanCommands mode honest within image commands None kernel later a b → Keeps b c → RanCommands mode honest within image commands None kernel later a c
+ran-kept mode honest within image commands kernel later a b c (text, leads, appends) kept = (text, leads, Appends-kept a b c text appends kept)
 
 -- commands stand before the one at k, and behind it
-split-at : (commands : List Command) (k : ℕ) (default : Command) → k < length commands → commands ≡ take k commands ++ (get_or commands k default ∷ drop (suc k) commands)
+split-at : (commands : List Numbered) (k : ℕ) (default : Numbered) → k < length commands → commands ≡ take k commands ++ (get_or commands k default ∷ drop (suc k) commands)
 split-at commands k default in_range = sym (take-append-drop k commands) ∙ ap (λ cs. take k commands ++ cs) (drop-cons commands k default in_range)
 
 -- the flush before a command that may commit failed
-pub stopped-ahead : (honest : Type 0) (within : Within) (image : Parts) (commands : List Command) (k : ℕ) (default : Command) (kernel later : KernelState)
-    (a b : Option (List ℕ)) → k < length commands → RanCommands honest within image (take k commands) kernel later a b → may_commit image (get_or commands k default) ≡ true
-    → StoppedCommands honest within image commands kernel later a b
-stopped-ahead honest within image commands k default kernel later a b in_range (text, prints, appends) may = (text, leads, appends)
+pub stopped-ahead : (mode : Mode) (honest : Type 0) (within : Within) (image : Parts) (commands : List Numbered) (k : ℕ) (default : Numbered) (kernel later : KernelState)
+    (a b : Option (List ℕ)) → k < length commands → RanCommands mode honest within image (take k commands) None kernel later a b
+    → may_commit image (get_or commands k default).command ≡ true → StoppedCommands mode honest within image commands kernel later a b
+stopped-ahead mode honest within image commands k default kernel later a b in_range (text, prints, appends) may = (text, leads, appends)
   where
-    leads : Leads honest within kernel later (λ before after keeps. From (PrintsUpTo (IsAllowed honest) image commands before after text) before keeps)
+    leads : Leads honest within kernel later (λ before after keeps. From (PrintsUpTo mode (IsAllowed honest) image commands before after text) before keeps)
     leads f tied =
         let earlier = prints f tied in
-        let ahead : PrintsAhead (IsAllowed honest) image commands (stage_of kernel f) (stage_of later earlier.file) text earlier.does.0 = record {
+        let ahead : PrintsAhead mode (IsAllowed honest) image commands (stage_of kernel f) (stage_of later earlier.file) text earlier.does.0 = record {
           done = take k commands;
           next = get_or commands k default;
           others = drop (suc k) commands;
@@ -194,8 +200,8 @@ one-right : (xs ys : List Kept) (c : List ℕ) → OpensAsOneOf ys c → OpensAs
 one-right [] ys c h = h
 one-right (x ∷ xs) ys c h = inr (one-right xs ys c h)
 
-module _ (honest : Type 0) (within next whole : Within) (join : Joins honest within next whole) (image : Parts) (commands : List Command) (k : ℕ)
-    (default : Command) (kernel mid later : KernelState) (a b c : Option (List ℕ)) (in_range : k < length commands) where
+module _ (mode : Mode) (honest : Type 0) (within next whole : Within) (join : Joins honest within next whole) (image : Parts) (commands : List Numbered) (k : ℕ)
+    (default : Numbered) (kernel mid later : KernelState) (a b c : Option (List ℕ)) (in_range : k < length commands) where
   -- what a stop leaves over both stretches
   joined : (first : Kept) (earlier all own : List Kept) → all ≡ first ∷ earlier → within (OpensAsOneOf all) → next (OpensAsOneOf own) → honest
       → whole (OpensAsOneOf (first ∷ (earlier ++ own)))
@@ -203,23 +209,24 @@ module _ (honest : Type 0) (within next whole : Within) (join : Joins honest wit
       join h (OpensAsOneOf all) (OpensAsOneOf own) (OpensAsOneOf (first ∷ (earlier ++ own)))
       (λ x o. one-left (first ∷ earlier) own x (subst (λ ks. OpensAsOneOf ks x) same o)) (λ x o. one-right (first ∷ earlier) own x o) before after
 
-  abbrev here : Command
+  abbrev here : Numbered
   here = get_or commands k default
 
-  -- one more command was carried out, and printed
-  pub ran-more : RanCommands honest within image (take k commands) kernel mid a b → RanCommand honest next image here mid later b c
-      → RanCommands honest whole image (take (k + 1) commands) kernel later a c
-  ran-more (text, prints, appends) (shown, does, behind) = (text ++ shown, leads, Appends-trans a b c text shown appends behind)
+  -- one more command was carried out, and printed, and the script goes on
+  pub ran-more : (result : Result (Unit {0}) Refusal) → GoesOn mode result
+      → RanCommands mode honest within image (take k commands) None kernel mid a b → RanCommand honest next image here.command result mid later b c
+      → RanCommands mode honest whole image (take (k + 1) commands) None kernel later a c
+  ran-more result goes (text, prints, appends) (shown, does, behind) = (text ++ shown, leads, Appends-trans a b c text shown appends behind)
     where
       leads : Leads honest whole kernel later (λ before after keeps. From
-          (Prints (IsAllowed honest) image (take (k + 1) commands) before after (text ++ shown)) before keeps)
+          (Prints mode (IsAllowed honest) image (take (k + 1) commands) before after (text ++ shown)) before keeps)
       leads f tied =
           let earlier = prints f tied in
           let r = does earlier.file earlier.tied in
           let kept = earlier.does.0 in
           let all =
-          prints-more (IsAllowed honest) image (take k commands) (stage_of kernel f) (stage_of mid earlier.file) (stage_of later r.file)
-          text kept here shown r.keeps earlier.does.1 r.does in
+          prints-more mode (IsAllowed honest) image (take k commands) (stage_of kernel f) (stage_of mid earlier.file) (stage_of later r.file)
+          text kept here result shown r.keeps earlier.does.1 r.does goes in
           record {
             file = r.file;
             tied = r.tied;
@@ -229,17 +236,54 @@ module _ (honest : Type 0) (within next whole : Within) (join : Joins honest wit
             stops = λ h. joined f.kept kept earlier.keeps r.keeps earlier.does.2 (earlier.stops h) (r.stops h) h;
           }
 
-  -- the writer failed while it was printed
-  pub stopped-at : RanCommands honest within image (take k commands) kernel mid a b → StoppedCommand honest next image here mid later b c
-      → StoppedCommands honest whole image commands kernel later a c
-  stopped-at (text, prints, appends) (part, rest, some, does, behind) = (text ++ part, leads, Appends-trans a b c text part appends behind)
+  -- it was refused, and that was printed, and the script does not go on
+  pub ran-refused : (refused : RefusedCommit) → refused.line ≡ here.line → (result : Result (Unit {0}) Refusal) → result ≡ Err refused.refusal
+      → RanCommands mode honest within image (take k commands) None kernel mid a b → RanCommand honest next image here.command result mid later b c
+      → RanCommands mode honest whole image commands (Some refused) kernel later a c
+  ran-refused refused at result is (text, prints, appends) (shown, does, behind) = (text ++ shown, leads, Appends-trans a b c text shown appends behind)
     where
-      leads : Leads honest whole kernel later (λ before after keeps. From (PrintsUpTo (IsAllowed honest) image commands before after (text ++ part)) before keeps)
+      leads : Leads honest whole kernel later (λ before after keeps. From
+          (PrintsRefused mode (IsAllowed honest) image commands refused before after (text ++ shown)) before keeps)
       leads f tied =
           let earlier = prints f tied in
           let r = does earlier.file earlier.tied in
           let kept = earlier.does.0 in
-          let stops : PrintsPart (IsAllowed honest) image commands (stage_of kernel f) (stage_of later r.file) (text ++ part) (kept ++ r.keeps) = record {
+          let ends : PrintsRefused mode (IsAllowed honest) image commands refused (stage_of kernel f) (stage_of later r.file) (text ++ shown) (kept ++ r.keeps) = record {
+            done = take k commands;
+            last = here;
+            others = drop (suc k) commands;
+            in_order = split-at commands k default in_range;
+            line = at;
+            between = stage_of mid earlier.file;
+            earlier = text;
+            own = shown;
+            kept_earlier = kept;
+            kept_last = r.keeps;
+            printed_earlier = earlier.does.1;
+            does = subst (λ o. Does (IsAllowed honest) image here.command o (stage_of mid earlier.file) (stage_of later r.file) shown r.keeps) is r.does;
+            written = refl;
+            kept = refl;
+          } in
+          record {
+            file = r.file;
+            tied = r.tied;
+            lasts = lasts-on honest kernel mid later earlier.lasts r.lasts;
+            keeps = f.kept ∷ (kept ++ r.keeps);
+            does = (kept ++ r.keeps, ends, refl);
+            stops = λ h. joined f.kept kept earlier.keeps r.keeps earlier.does.2 (earlier.stops h) (r.stops h) h;
+          }
+
+  -- the writer failed while it was printed
+  pub stopped-at : RanCommands mode honest within image (take k commands) None kernel mid a b → StoppedCommand honest next image here.command mid later b c
+      → StoppedCommands mode honest whole image commands kernel later a c
+  stopped-at (text, prints, appends) (part, rest, result, some, does, behind) = (text ++ part, leads, Appends-trans a b c text part appends behind)
+    where
+      leads : Leads honest whole kernel later (λ before after keeps. From (PrintsUpTo mode (IsAllowed honest) image commands before after (text ++ part)) before keeps)
+      leads f tied =
+          let earlier = prints f tied in
+          let r = does earlier.file earlier.tied in
+          let kept = earlier.does.0 in
+          let stops : PrintsPart mode (IsAllowed honest) image commands (stage_of kernel f) (stage_of later r.file) (text ++ part) (kept ++ r.keeps) = record {
             done = take k commands;
             last = here;
             others = drop (suc k) commands;
@@ -251,6 +295,7 @@ module _ (honest : Type 0) (within next whole : Within) (join : Joins honest wit
             printed_earlier = earlier.does.1;
             part = part;
             rest = rest;
+            result = result;
             does = r.does;
             not_all = some;
             written = refl;
@@ -266,8 +311,8 @@ module _ (honest : Type 0) (within next whole : Within) (join : Joins honest wit
           }
 
 -- what holds where all went well, or at a fault, carried over
-pub if_ok-map : {A E P Q : Type 0} (r : Result A E) → (P → Q) → IfOk r (λ _. P) → IfOk r (λ _. Q)
-if_ok-map (Ok x) m p = m p
+pub if_ok-map : {A E : Type 0} {P Q : A → Type 0} (r : Result A E) → ((x : A) → P x → Q x) → IfOk r P → IfOk r Q
+if_ok-map (Ok x) m p = m x p
 if_ok-map (Err e) m p = tt
 
 pub if_err-map : {A E P Q : Type 0} (r : Result A E) (fault : E) → (P → Q) → IfErr r (λ _. P) → IfErr r (λ e. e ≡ fault → Q)
@@ -275,22 +320,23 @@ if_err-map (Ok x) fault m p = tt
 if_err-map (Err e) fault m p = λ is. m p
 
 -- the commands of a script on an image that was loaded
-module _ (honest : Type 0) (within : Within) (bytes script : List ℕ) (image : Parts) (kernel later : KernelState) (a b : Option (List ℕ))
-    (short : length script ≤ most_bytes) (loads : Loads bytes (lines script) image) (items : List Command) (all : items ≡ commands_of image (lines script)) where
-  pub script-ran : RanCommands honest within image items kernel later a b → RanScript honest within bytes script kernel later a b
-  script-ran (text, leads, appends) = (text, of_script, appends)
+module _ (mode : Mode) (honest : Type 0) (within : Within) (bytes script : List ℕ) (image : Parts) (kernel later : KernelState) (a b : Option (List ℕ))
+    (short : length script ≤ most_bytes) (loads : Loads bytes (lines script) image) (items : List Numbered) (all : items ≡ commands_of image (lines script)) where
+  pub script-ran : (refused : Option RefusedCommit) → RanCommands mode honest within image items refused kernel later a b
+      → RanScript mode honest within bytes script refused kernel later a b
+  script-ran refused (text, leads, appends) = (text, of_script, appends)
     where
-      of_script : Leads honest within kernel later (λ before after keeps. From (RunsScript (IsAllowed honest) bytes script before after text) before keeps)
+      of_script : Leads honest within kernel later (λ before after keeps. From (RunsScript mode (IsAllowed honest) bytes script refused before after text) before keeps)
       of_script f tied =
           let l = subst (λ cs. Leads honest within kernel later
-          (λ before after keeps. From (Prints (IsAllowed honest) image cs before after text) before keeps)) all leads f tied in
+          (λ before after keeps. From (PrintsTo mode (IsAllowed honest) image cs refused before after text) before keeps)) all leads f tied in
           record { file = l.file; tied = l.tied; lasts = l.lasts; keeps = l.keeps; does = (l.does.0, (short, (image, loads, l.does.1)), l.does.2); stops = l.stops }
 
-  pub script-stopped : StoppedCommands honest within image items kernel later a b → StoppedScript honest within bytes script kernel later a b
+  pub script-stopped : StoppedCommands mode honest within image items kernel later a b → StoppedScript mode honest within bytes script kernel later a b
   script-stopped (text, leads, appends) = (text, of_script, appends)
     where
-      of_script : Leads honest within kernel later (λ before after keeps. From (StopsScript (IsAllowed honest) bytes script before after text) before keeps)
+      of_script : Leads honest within kernel later (λ before after keeps. From (StopsScript mode (IsAllowed honest) bytes script before after text) before keeps)
       of_script f tied =
           let l = subst (λ cs. Leads honest within kernel later
-          (λ before after keeps. From (PrintsUpTo (IsAllowed honest) image cs before after text) before keeps)) all leads f tied in
+          (λ before after keeps. From (PrintsUpTo mode (IsAllowed honest) image cs before after text) before keeps)) all leads f tied in
           record { file = l.file; tied = l.tied; lasts = l.lasts; keeps = l.keeps; does = (l.does.0, (short, (image, loads, l.does.1)), l.does.2); stops = l.stops }

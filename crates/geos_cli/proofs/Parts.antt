@@ -44,10 +44,6 @@ pub IfErr-map : {A E P Q : Type 0} (result : Result A E) → (P → Q) → IfErr
 IfErr-map (Ok x) m p = tt
 IfErr-map (Err e) m p = m p
 
-pub IfOk-map : {A E P Q : Type 0} (result : Result A E) → (P → Q) → IfOk result (λ _. P) → IfOk result (λ _. Q)
-IfOk-map (Ok x) m p = m p
-IfOk-map (Err e) m p = tt
-
 -- a part of the first bytes is a part of all
 pub part-first : (a b : Option (List ℕ)) (bytes behind : List ℕ) → AppendsPart a b bytes → AppendsPart a b (bytes ++ behind)
 part-first a b bytes behind q = part-between a a b [] bytes behind (Appends-nil a) q

@@ -1,5 +1,7 @@
 -- What commands print, one after another.
 use Rattle.std.proofs.Common.{◌≡◌, ℕ, inl, inr, List, [], ◌∷◌, ◌++◌, refl, sym, ap, ◌∙◌, subst, append_assoc, append-nil}
+use Rattle.std.specs.Prelude.{Result}
+use Rattle.geos_terms.specs.declared.refusal.Refusal.{Refusal}
 use Rattle.geos_calls.specs.Memory.{Memory}
 use Rattle.geos_calls.specs.VmFile.{Kept}
 use Rattle.geos_calls.specs.Effects.{Choice}
@@ -10,24 +12,28 @@ use Rattle.geos_machine.proofs.Going.{each-wider}
 use Rattle.geos_machine.proofs.KeptSteps.{some-choice}
 use Rattle.geos_cli.specs.declared.script.Command.{Command}
 use Rattle.geos_cli.specs.declared.script.Command.TheVariants as command
-use Rattle.geos_cli.specs.Script.{Allows, Does, Prints, PrintsAhead, PrintsPart, PrintsUpTo, Stage}
+use Rattle.geos_cli.specs.declared.script.Mode.{Mode}
+use Rattle.geos_cli.specs.declared.script.Numbered.{Numbered}
+use Rattle.geos_cli.specs.Script.{Allows, Does, GoesOn, Prints, PrintsPart, PrintsUpTo, Stage}
 
--- one more command prints behind the others, where they left it
-pub prints-more : (allows : Allows) (image : Parts) (commands : List Command) (before between after : Stage) (text : List ℕ) (keeps : List Kept)
-    (last : Command) (shown : List ℕ) (own : List Kept)
-    → Prints allows image commands before between text keeps → Does allows image last between after shown own
-    → Prints allows image (commands ++ last ∷ []) before after (text ++ shown) (keeps ++ own)
-prints-more allows image [] before between after text keeps last shown own (none, same, no_kept) does =
-    let from : Does allows image last before after shown own = subst (λ stage. Does allows image last stage after shown own) same does in
-    (after, shown, [], own, [], from, (refl, refl, refl), ap (λ t. t ++ shown) none ∙ sym (append-nil shown), ap (λ ks. ks ++ own) no_kept ∙ sym (append-nil own))
-prints-more allows image (first ∷ commands) before between after text keeps last shown own (next, mine, others, kept, more_kept, first_does, rest, e, k) does =
-    let more = prints-more allows image commands next between after others more_kept last shown own rest does in (
+-- one more command prints behind the others, where they left it, and the script goes on
+pub prints-more : (mode : Mode) (allows : Allows) (image : Parts) (commands : List Numbered) (before between after : Stage) (text : List ℕ) (keeps : List Kept)
+    (last : Numbered) (result : Result (Unit {0}) Refusal) (shown : List ℕ) (own : List Kept)
+    → Prints mode allows image commands before between text keeps → Does allows image last.command result between after shown own → GoesOn mode result
+    → Prints mode allows image (commands ++ last ∷ []) before after (text ++ shown) (keeps ++ own)
+prints-more mode allows image [] before between after text keeps last result shown own (none, same, no_kept) does goes =
+    let from : Does allows image last.command result before after shown own = subst (λ stage. Does allows image last.command result stage after shown own) same does in
+    (after, shown, [], own, [], result, from, goes, (refl, refl, refl), ap (λ t. t ++ shown) none ∙ sym (append-nil shown), ap (λ ks. ks ++ own) no_kept ∙ sym (append-nil own))
+prints-more mode allows image (first ∷ commands) before between after text keeps last result shown own (next, mine, others, kept, more_kept, came, first_does, went, rest, e, k) does goes =
+    let more = prints-more mode allows image commands next between after others more_kept last result shown own rest does goes in (
       next,
       mine,
       others ++ shown,
       kept,
       more_kept ++ own,
+      came,
       first_does,
+      went,
       more,
       ap (λ t. t ++ shown) e
           ∙ append_assoc mine others shown,
@@ -49,57 +55,60 @@ ran-wider P Q wider image r words before after outcome ran = record {
   memory = ran.memory;
 }
 
-pub does-wider : (P Q : Allows) (image : Parts) (c : Command) (before after : Stage) (text : List ℕ) (keeps : List Kept)
+pub does-wider : (P Q : Allows) (image : Parts) (c : Command) (result : Result (Unit {0}) Refusal) (before after : Stage) (text : List ℕ) (keeps : List Kept)
     → ((choice : Choice) → P before.failed after.failed choice → Q before.failed after.failed choice)
-    → Does P image c before after text keeps → Does Q image c before after text keeps
+    → Does P image c result before after text keeps → Does Q image c result before after text keeps
 unfolding ran-wider
-does-wider P Q image (command.Call call) before after text keeps wider (outcome, ran, e, k) = (
+does-wider P Q image (command.Call call) result before after text keeps wider (outcome, ran, done, e, k) = (
   outcome,
   ran-wider (P before.failed after.failed) (Q before.failed after.failed) wider image call.routine call.words before.memory after.memory outcome ran,
+  done,
   e,
   k,
 )
-does-wider P Q image (command.Commit how) before after text keeps wider (choice, chosen, result, comes, e, k) = (choice, wider choice chosen, result, comes, e, k)
+does-wider P Q image (command.Commit how) result before after text keeps wider (choice, chosen, comes, e, k) = (choice, wider choice chosen, comes, e, k)
 
 -- Where what is allowed says that a count which is 0 behind a command was 0 before it, commands behind which it is 0 are carried out under
 -- what is allowed while it stays 0
 
 module _ (P Q : Allows) (back : (before now : ℕ) (choice : Choice) → P before now choice → now ≡ 0 → before ≡ 0)
-    (wider : (before now : ℕ) → before ≡ 0 → now ≡ 0 → (choice : Choice) → P before now choice → Q before now choice) (image : Parts) where
-  does-back : (c : Command) (before after : Stage) (text : List ℕ) (keeps : List Kept) → Does P image c before after text keeps → after.failed ≡ 0 → before.failed ≡ 0
-  does-back (command.Call call) before after text keeps (outcome, ran, e, k) none =
+    (wider : (before now : ℕ) → before ≡ 0 → now ≡ 0 → (choice : Choice) → P before now choice → Q before now choice) (mode : Mode) (image : Parts) where
+  does-back : (c : Command) (result : Result (Unit {0}) Refusal) (before after : Stage) (text : List ℕ) (keeps : List Kept) → Does P image c result before after text keeps → after.failed ≡ 0 → before.failed ≡ 0
+  does-back (command.Call call) result before after text keeps (outcome, ran, done, e, k) none =
       let first = some-choice (P before.failed after.failed) image call.routine call.words before.memory after.memory outcome ran in
       back before.failed after.failed first.0 first.1 none
-  does-back (command.Commit how) before after text keeps (choice, chosen, result, comes, e, k) none = back before.failed after.failed choice chosen none
+  does-back (command.Commit how) result before after text keeps (choice, chosen, comes, e, k) none = back before.failed after.failed choice chosen none
 
-  prints-back : (commands : List Command) (before after : Stage) (text : List ℕ) (keeps : List Kept) → Prints P image commands before after text keeps
+  prints-back : (commands : List Numbered) (before after : Stage) (text : List ℕ) (keeps : List Kept) → Prints mode P image commands before after text keeps
       → after.failed ≡ 0 → before.failed ≡ 0
   prints-back [] before after text keeps (none, same, no_kept) zero = sym (ap (λ (s : Stage). s.failed) same) ∙ zero
-  prints-back (c ∷ commands) before after text keeps (between, own, others, kept, more, does, rest, e, k) zero =
-      does-back c before between own kept does (prints-back commands between after others more rest zero)
+  prints-back (c ∷ commands) before after text keeps (between, own, others, kept, more, result, does, goes, rest, e, k) zero =
+      does-back c.command result before between own kept does (prints-back commands between after others more rest zero)
 
-  does-still : (c : Command) (before after : Stage) (text : List ℕ) (keeps : List Kept) → after.failed ≡ 0 → Does P image c before after text keeps
-      → Does Q image c before after text keeps
-  does-still c before after text keeps zero does =
-      does-wider P Q image c before after text keeps (wider before.failed after.failed (does-back c before after text keeps does zero) zero) does
+  does-still : (c : Command) (result : Result (Unit {0}) Refusal) (before after : Stage) (text : List ℕ) (keeps : List Kept) → after.failed ≡ 0
+      → Does P image c result before after text keeps → Does Q image c result before after text keeps
+  does-still c result before after text keeps zero does =
+      does-wider P Q image c result before after text keeps (wider before.failed after.failed (does-back c result before after text keeps does zero) zero) does
 
-  pub prints-still : (commands : List Command) (before after : Stage) (text : List ℕ) (keeps : List Kept) → after.failed ≡ 0
-      → Prints P image commands before after text keeps → Prints Q image commands before after text keeps
+  pub prints-still : (commands : List Numbered) (before after : Stage) (text : List ℕ) (keeps : List Kept) → after.failed ≡ 0
+      → Prints mode P image commands before after text keeps → Prints mode Q image commands before after text keeps
   prints-still [] before after text keeps zero h = h
-  prints-still (c ∷ commands) before after text keeps zero (between, own, others, kept, more, does, rest, e, k) = (
+  prints-still (c ∷ commands) before after text keeps zero (between, own, others, kept, more, result, does, goes, rest, e, k) = (
     between,
     own,
     others,
     kept,
     more,
-    does-still c before between own kept (prints-back commands between after others more rest zero) does,
+    result,
+    does-still c.command result before between own kept (prints-back commands between after others more rest zero) does,
+    goes,
     prints-still commands between after others more zero rest,
     e,
     k,
   )
 
-  part-still : (commands : List Command) (before after : Stage) (text : List ℕ) (keeps : List Kept) → after.failed ≡ 0
-      → PrintsPart P image commands before after text keeps → PrintsPart Q image commands before after text keeps
+  part-still : (commands : List Numbered) (before after : Stage) (text : List ℕ) (keeps : List Kept) → after.failed ≡ 0
+      → PrintsPart mode P image commands before after text keeps → PrintsPart mode Q image commands before after text keeps
   part-still commands before after text keeps zero h = record {
     done = h.done;
     last = h.last;
@@ -109,17 +118,18 @@ module _ (P Q : Allows) (back : (before now : ℕ) (choice : Choice) → P befor
     earlier = h.earlier;
     kept_earlier = h.kept_earlier;
     kept_last = h.kept_last;
-    printed_earlier = prints-still h.done before h.between h.earlier h.kept_earlier (does-back h.last h.between after (h.part ++ h.rest) h.kept_last h.does zero) h.printed_earlier;
+    printed_earlier = prints-still h.done before h.between h.earlier h.kept_earlier (does-back h.last.command h.result h.between after (h.part ++ h.rest) h.kept_last h.does zero) h.printed_earlier;
     part = h.part;
     rest = h.rest;
-    does = does-still h.last h.between after (h.part ++ h.rest) h.kept_last zero h.does;
+    result = h.result;
+    does = does-still h.last.command h.result h.between after (h.part ++ h.rest) h.kept_last zero h.does;
     not_all = h.not_all;
     written = h.written;
     kept = h.kept;
   }
 
-  pub up_to-still : (commands : List Command) (before after : Stage) (text : List ℕ) (keeps : List Kept) → after.failed ≡ 0
-      → PrintsUpTo P image commands before after text keeps → PrintsUpTo Q image commands before after text keeps
+  pub up_to-still : (commands : List Numbered) (before after : Stage) (text : List ℕ) (keeps : List Kept) → after.failed ≡ 0
+      → PrintsUpTo mode P image commands before after text keeps → PrintsUpTo mode Q image commands before after text keeps
   up_to-still commands before after text keeps zero (inl h) = inl (part-still commands before after text keeps zero h)
   up_to-still commands before after text keeps zero (inr h) = inr (record {
     done = h.done;

@@ -14,6 +14,7 @@ use Rattle.geos_kernel.specs.Files.{vm_file_of}
 use Rattle.geos_kernel.specs.View.{KernelOn, KernelState, SeesDevice, failed_in, memory_of, IsFileOf}
 use Rattle.geos_image.specs.Parts.{Parts}
 use Rattle.geos_input.specs.Hex.{hex_fault, image_bytes, script_lines, IsBadHex}
+use Rattle.geos_cli.specs.declared.script.Mode.TheVariants.{Lenient}
 use Rattle.geos_cli.specs.Script.{commands_of, EndsBy, IsAllowed, Loads, RanScript, Runs, RunsScript, ScriptEndsBy, Stage, StoppedScript, Stops, stage_of}
 use Rattle.geos_text.specs.Words.{most_bytes}
 use Rattle.geos_input.specs.Reading.{Reads}
@@ -62,14 +63,14 @@ module _ (honest : Type 0) (good : honest) where
       refuses true is = (let risen : ⊥ = ⊎_elim (λ less. omega (arith, less, last)) (λ most. omega (arith, most, last)) (allowed.device good is) in absurd risen)
 
   runs-honest : (bytes : List ℕ) (ls : List (List ℕ)) (before after : Stage) (text : List ℕ) (keeps : List Kept) → after.failed ≡ 0
-      → Runs (IsAllowed honest) bytes ls before after text keeps → Runs IsInMemory bytes ls before after text keeps
+      → Runs Lenient (IsAllowed honest) bytes ls None before after text keeps → Runs Lenient IsInMemory bytes ls None before after text keeps
   runs-honest bytes ls before after text keeps zero (image, loads, prints) =
-      (image, loads, prints-still (IsAllowed honest) IsInMemory never-failed in-memory image (commands_of image ls) before after text keeps zero prints)
+      (image, loads, prints-still (IsAllowed honest) IsInMemory never-failed in-memory Lenient image (commands_of image ls) before after text keeps zero prints)
 
   stops-honest : (bytes : List ℕ) (ls : List (List ℕ)) (before after : Stage) (text : List ℕ) (keeps : List Kept) → after.failed ≡ 0
-      → Stops (IsAllowed honest) bytes ls before after text keeps → Stops IsInMemory bytes ls before after text keeps
+      → Stops Lenient (IsAllowed honest) bytes ls before after text keeps → Stops Lenient IsInMemory bytes ls before after text keeps
   stops-honest bytes ls before after text keeps zero (image, loads, part) =
-      (image, loads, up_to-still (IsAllowed honest) IsInMemory never-failed in-memory image (commands_of image ls) before after text keeps zero part)
+      (image, loads, up_to-still (IsAllowed honest) IsInMemory never-failed in-memory Lenient image (commands_of image ls) before after text keeps zero part)
 
 -- a device that fails at no call within its length, and has room for the file, has not failed behind a script
 pub never-fails : {D : Type 0} (medium : Medium D) (old new : KernelOn D) → IsSteady medium → HasRoom medium.image (vm_file_of old) → Steadily medium (vm_file_of old) (vm_file_of new)
@@ -98,25 +99,25 @@ module _ (honest : Type 0) (bytes items image script : List ℕ) (kernel later :
       subst (λ s. P (image_bytes (lines bytes)) (script_lines (lines bytes)) s) first-begun with_script
 
   -- the script ran
-  runs : (text : List ℕ) (after : Stage) (keeps : List Kept) → after.failed ≡ 0 → RunsScript (IsAllowed honest) image script first after text keeps
-      → (after : Stage) × (keeps : List Kept) × Runs IsInMemory (image_bytes (lines bytes)) (script_lines (lines bytes)) begun after text keeps
+  runs : (text : List ℕ) (after : Stage) (keeps : List Kept) → after.failed ≡ 0 → RunsScript Lenient (IsAllowed honest) image script None first after text keeps
+      → (after : Stage) × (keeps : List Kept) × Runs Lenient IsInMemory (image_bytes (lines bytes)) (script_lines (lines bytes)) None begun after text keeps
   runs text after keeps zero h =
-      (after, keeps, in-session (λ i ls s. Runs IsInMemory i ls s after text keeps) (runs-honest honest good image (lines script) first after text keeps zero h.1))
+      (after, keeps, in-session (λ i ls s. Runs Lenient IsInMemory i ls None s after text keeps) (runs-honest honest good image (lines script) first after text keeps zero h.1))
 
   -- and the flush kept what the writer got
-  pub session-ran : {within : Within} (a b c : Option (List ℕ)) → RanScript honest within image script kernel later a b → Keeps b c → RanBytes bytes a c
+  pub session-ran : {within : Within} (a b c : Option (List ℕ)) → RanScript Lenient honest within image script None kernel later a b → Keeps b c → RanBytes bytes a c
   session-ran {within} a b c (text, leads, appends) kept =
       let l = leads (empty_file 65536) tied in
       (text, (short, digits, runs text (stage_of later l.file) l.does.0 still l.does.1), Appends-kept a b c text appends kept)
 
   -- or the flush failed
-  pub session-unflushed : {within : Within} (a b c : Option (List ℕ)) → RanScript honest within image script kernel later a b → Keeps b c → StoppedBytes bytes a c
+  pub session-unflushed : {within : Within} (a b c : Option (List ℕ)) → RanScript Lenient honest within image script None kernel later a b → Keeps b c → StoppedBytes bytes a c
   session-unflushed {within} a b c (text, leads, appends) kept =
       let l = leads (empty_file 65536) tied in
       (text, (short, digits, inr (runs text (stage_of later l.file) l.does.0 still l.does.1)), Appends-kept a b c text appends kept)
 
   -- where it ran, the writer may have failed
-  pub session-due : {within : Within} (a b : Option (List ℕ)) → RanScript honest within image script kernel later a b → EndsBytes bytes Write
+  pub session-due : {within : Within} (a b : Option (List ℕ)) → RanScript Lenient honest within image script None kernel later a b → EndsBytes bytes Write
   session-due {within} a b (text, leads, appends) =
       let h = (leads (empty_file 65536) tied).does.1 in
       (short, digits, in-session (λ i ls s. (parts : Parts) × Loads i ls parts) (h.1.0, h.1.1))
@@ -133,12 +134,12 @@ module _ (honest : Type 0) (bytes items image script : List ℕ) (kernel later :
   session-ends shorter Memory h = tt
 
   -- the script was stopped
-  pub session-stopped : {within : Within} (a b : Option (List ℕ)) → StoppedScript honest within image script kernel later a b → StoppedBytes bytes a b
+  pub session-stopped : {within : Within} (a b : Option (List ℕ)) → StoppedScript Lenient honest within image script kernel later a b → StoppedBytes bytes a b
   session-stopped {within} a b (text, leads, appends) =
       let l = leads (empty_file 65536) tied in
       let after = stage_of later l.file in
       let keeps = l.does.0 in
-      let stops = in-session (λ i ls s. Stops IsInMemory i ls s after text keeps)
+      let stops = in-session (λ i ls s. Stops Lenient IsInMemory i ls s after text keeps)
       (stops-honest honest good image (lines script) first after text keeps still l.does.1.1) in
       (text, (short, digits, inl (after, keeps, stops)), appends)
 

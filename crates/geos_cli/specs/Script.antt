@@ -1,8 +1,8 @@
 -- What the lines of a script say, when a script ends early, and what it prints.
-use Rattle.std.specs.Prelude.{◌≡◌, ◌<◌, ◌≤◌, ◌⊎◌, ℕ, ◌-◌, Bool, true, ◌&&◌, not, nat_le, if◌then◌else◌, decimal, codes, bytes_eq}
-use Rattle.std.specs.Prelude.{List, [], ◌∷◌, ◌++◌, length, replicate, take, position, filter_map, flat_map}
+use Rattle.std.specs.Prelude.{◌≡◌, ◌<◌, ◌≤◌, ◌⊎◌, ℕ, ◌+◌, ◌-◌, Bool, true, ◌&&◌, not, nat_le, if◌then◌else◌, decimal, codes, bytes_eq}
+use Rattle.std.specs.Prelude.{List, [], ◌∷◌, ◌++◌, length, replicate, take, position, flat_map}
 use Rattle.std.specs.Prelude.{Option, Some, None, option_map, option_and_then, is_none, unwrap_or, Result, Ok, Err}
-use Rattle.std.specs.List.{position_from}
+use Rattle.std.specs.List.{cons_option, position_from}
 use Rattle.std.specs.Str.Lines.{lines}
 use Rattle.std.specs.Io.KnownBytes.{Appends}
 use Rattle.geos_calls.specs.Memory as model
@@ -27,6 +27,10 @@ use Rattle.geos_text.specs.Words.{most_bytes}
 use Rattle.geos_cli.specs.declared.script.Call.{Call}
 use Rattle.geos_cli.specs.declared.script.Command.{Command}
 use Rattle.geos_cli.specs.declared.script.Command.TheVariants as command
+use Rattle.geos_cli.specs.declared.script.Mode.{Mode}
+use Rattle.geos_cli.specs.declared.script.Mode.TheVariants.{Lenient, Strict}
+use Rattle.geos_cli.specs.declared.script.Numbered.{Numbered}
+use Rattle.geos_cli.specs.declared.script.RefusedCommit.{RefusedCommit}
 use Rattle.geos_cli.specs.Commits.{may_commit}
 use Rattle.geos_input.specs.declared.fault.ScriptFault.{ScriptFault}
 use Rattle.geos_input.specs.declared.fault.ScriptFault.TheVariants.{TooLong, BadHex, BadImage, Rejected, BadScript, Read, Write, Memory}
@@ -90,9 +94,18 @@ is_bad image line = not (is_empty (said line)) && is_none (command_of image (sai
 abbrev pub first_bad : Parts → List (List ℕ) → Option ℕ
 first_bad image lines = position_from (is_bad image) 1 lines
 
--- the commands of a script
-abbrev pub commands_of : Parts → List (List ℕ) → List Command
-commands_of image lines = filter_map (λ line. command_of image (said line)) lines
+-- a command on the line of this number
+abbrev pub on_line : ℕ → Command → Numbered
+on_line n c = record { line = n; command = c }
+
+-- the commands of lines, each with the number of its line, which are counted from n on
+abbrev pub commands_from : Parts → ℕ → List (List ℕ) → List Numbered
+commands_from image n [] = []
+commands_from image n (line ∷ lines) = cons_option (option_map (on_line n) (command_of image (said line))) (commands_from image (n + 1) lines)
+
+-- the commands of a script, each with the number of its line, from 1
+abbrev pub commands_of : Parts → List (List ℕ) → List Numbered
+commands_of image lines = commands_from image 1 lines
 
 -- each word in decimal, on a line
 abbrev pub printed : List ℕ → List ℕ
@@ -123,72 +136,104 @@ pub record IsAllowed (honest : Type 0) (before now : ℕ) (choice : Choice) : Ty
   pub device : honest → choice.device ≡ true → HasRisen before now
   pub lasts : honest → (now ≡ before) ⊎ HasRisen before now
 
--- a command takes one memory to another under allowed choices, and prints this: a call, by a model's
--- run, what that puts out; a commit, by its row in the table of calls, its refusal. And that is what
--- the file keeps meanwhile, one state after another
-abbrev pub Does : Allows → Parts → Command → Stage → Stage → List ℕ → List Kept → Type 0
-Does allows image (command.Call call) before after text keeps =
+-- a command takes one memory to another under allowed choices, comes to this result, and prints this: a
+-- call, by a model's run, what that puts out, and it is never refused; a commit, by its row in the table
+-- of calls, its refusal. And that is what the file keeps meanwhile, one state after another
+abbrev pub Does : Allows → Parts → Command → Result (Unit {0}) Refusal → Stage → Stage → List ℕ → List Kept → Type 0
+Does allows image (command.Call call) result before after text keeps =
     (outcome : Outcome)
     × (ran : Ran (allows before.failed after.failed) image call.routine call.words before.memory after.memory outcome)
+    × (result ≡ Ok tt)
     × (text ≡ printed outcome.output.items)
     × (keeps ≡ kept_along image ran.choices (begin image call.routine call.words before.memory))
-Does allows image (command.Commit how) before after text keeps =
+Does allows image (command.Commit how) result before after text keeps =
     (choice : Choice)
     × allows before.failed after.failed choice
-    × (result : Result (Unit {0}) Refusal)
     × (outcome (effect_of (commit (keeper_of how)) choice before.memory) ≡ (result, after.memory))
     × (text ≡ committed result)
     × (keeps ≡ before.memory.file.kept ∷ after.memory.file.kept ∷ [])
 
+-- a script goes on behind a command that came to this result: a strict one only where no commit was refused
+abbrev pub GoesOn : Mode → Result (Unit {0}) Refusal → Type 0
+GoesOn Lenient result = Unit {0}
+GoesOn Strict result = result ≡ Ok tt
+
 -- what the commands print and what the file keeps meanwhile, from the one stage to the other: what each
--- does, one after another, each where the one before left it
-abbrev pub Prints : Allows → Parts → List Command → Stage → Stage → List ℕ → List Kept → Type 0
-Prints allows image [] before after text keeps = (text ≡ []) × (after ≡ before) × (keeps ≡ [])
-Prints allows image (command ∷ commands) before after text keeps =
+-- does, one after another, each where the one before left it, and behind each the script goes on
+abbrev pub Prints : Mode → Allows → Parts → List Numbered → Stage → Stage → List ℕ → List Kept → Type 0
+Prints mode allows image [] before after text keeps = (text ≡ []) × (after ≡ before) × (keeps ≡ [])
+Prints mode allows image (here ∷ commands) before after text keeps =
     (between : Stage)
     × (shown : List ℕ)
     × (others : List ℕ)
     × (own : List Kept)
     × (rest : List Kept)
-    × Does allows image command before between shown own
-    × Prints allows image commands between after others rest
+    × (result : Result (Unit {0}) Refusal)
+    × Does allows image here.command result before between shown own
+    × GoesOn mode result
+    × Prints mode allows image commands between after others rest
     × (text ≡ shown ++ others)
     × (keeps ≡ own ++ rest)
+
+-- what the commands have printed where one is a commit that was refused, at this line and with this
+-- refusal, and is the last: those before it are done, and behind each the script went on; it prints its
+-- refusal; the others were not begun
+pub record PrintsRefused (mode : Mode) (allows : Allows) (image : Parts) (commands : List Numbered) (refused : RefusedCommit) (before after : Stage) (text : List ℕ) (keeps : List Kept) : Type 0 where
+  pub done : List Numbered
+  pub last : Numbered
+  pub others : List Numbered
+  pub in_order : commands ≡ done ++ last ∷ others
+  pub line : refused.line ≡ last.line
+  pub between : Stage
+  pub earlier : List ℕ
+  pub own : List ℕ
+  pub kept_earlier : List Kept
+  pub kept_last : List Kept
+  pub printed_earlier : Prints mode allows image done before between earlier kept_earlier
+  pub does : Does allows image last.command (Err refused.refusal) between after own kept_last
+  pub written : text ≡ earlier ++ own
+  pub kept : keeps ≡ kept_earlier ++ kept_last
+
+-- what the commands of a script have printed when it ends: behind all of them, or behind a refused commit
+abbrev pub PrintsTo : Mode → Allows → Parts → List Numbered → Option RefusedCommit → Stage → Stage → List ℕ → List Kept → Type 0
+PrintsTo mode allows image commands None before after text keeps = Prints mode allows image commands before after text keeps
+PrintsTo mode allows image commands (Some refused) before after text keeps = PrintsRefused mode allows image commands refused before after text keeps
 
 -- what the commands have printed when a write fails: some are done, with all that they print; the
 -- next one was carried out, where they left it, and to the stage after; a beginning of what it prints
 -- is written, not all; the others were not begun
-pub record PrintsPart (allows : Allows) (image : Parts) (commands : List Command) (before after : Stage) (text : List ℕ) (keeps : List Kept) : Type 0 where
-  pub done : List Command
-  pub last : Command
-  pub others : List Command
+pub record PrintsPart (mode : Mode) (allows : Allows) (image : Parts) (commands : List Numbered) (before after : Stage) (text : List ℕ) (keeps : List Kept) : Type 0 where
+  pub done : List Numbered
+  pub last : Numbered
+  pub others : List Numbered
   pub in_order : commands ≡ done ++ last ∷ others
   pub between : Stage
   pub earlier : List ℕ
   pub kept_earlier : List Kept
   pub kept_last : List Kept
-  pub printed_earlier : Prints allows image done before between earlier kept_earlier
+  pub printed_earlier : Prints mode allows image done before between earlier kept_earlier
   pub part : List ℕ
   pub rest : List ℕ
-  pub does : Does allows image last between after (part ++ rest) kept_last
+  pub result : Result (Unit {0}) Refusal
+  pub does : Does allows image last.command result between after (part ++ rest) kept_last
   pub not_all : 0 < length rest
   pub written : text ≡ earlier ++ part
   pub kept : keeps ≡ kept_earlier ++ kept_last
 
 -- what the commands have printed when a flush fails: some are done, with all that they print; the next
 -- one, which may commit, was not begun, nor the others
-pub record PrintsAhead (allows : Allows) (image : Parts) (commands : List Command) (before after : Stage) (text : List ℕ) (keeps : List Kept) : Type 0 where
-  pub done : List Command
-  pub next : Command
-  pub others : List Command
+pub record PrintsAhead (mode : Mode) (allows : Allows) (image : Parts) (commands : List Numbered) (before after : Stage) (text : List ℕ) (keeps : List Kept) : Type 0 where
+  pub done : List Numbered
+  pub next : Numbered
+  pub others : List Numbered
   pub in_order : commands ≡ done ++ next ∷ others
-  pub commits : may_commit image next ≡ true
-  pub printed_all : Prints allows image done before after text keeps
+  pub commits : may_commit image next.command ≡ true
+  pub printed_all : Prints mode allows image done before after text keeps
 
 -- what the commands have printed when the writer fails, at a write or at a flush
-abbrev pub PrintsUpTo : Allows → Parts → List Command → Stage → Stage → List ℕ → List Kept → Type 0
-PrintsUpTo allows image commands before after text keeps =
-    PrintsPart allows image commands before after text keeps ⊎ PrintsAhead allows image commands before after text keeps
+abbrev pub PrintsUpTo : Mode → Allows → Parts → List Numbered → Stage → Stage → List ℕ → List Kept → Type 0
+PrintsUpTo mode allows image commands before after text keeps =
+    PrintsPart mode allows image commands before after text keeps ⊎ PrintsAhead mode allows image commands before after text keeps
 
 -- from a kernel with this VM file this leads to another kernel, with a VM file that the model may know
 -- then; and a stop meanwhile leaves a file in which `open` finds what is kept in one of the states
@@ -208,30 +253,33 @@ Leads honest within kernel later this = (f : VmFile) → IsFileOf honest kernel 
 abbrev pub From : (List Kept → Type 0) → Stage → List Kept → Type 0
 From this before keeps = (rest : List Kept) × this rest × (keeps ≡ before.memory.file.kept ∷ rest)
 
--- a command was carried out, from kernel to kernel, and a writer got its text
-abbrev pub RanCommand : Type 0 → Within → Parts → Command → KernelState → KernelState → Option (List ℕ) → Option (List ℕ) → Type 0
-RanCommand honest within image command kernel later old new =
-    (text : List ℕ) × Leads honest within kernel later (λ before after keeps. Does (IsAllowed honest) image command before after text keeps) × Appends old new text
+-- a command was carried out, from kernel to kernel, came to this result, and a writer got its text
+abbrev pub RanCommand : Type 0 → Within → Parts → Command → Result (Unit {0}) Refusal → KernelState → KernelState → Option (List ℕ) → Option (List ℕ) → Type 0
+RanCommand honest within image command result kernel later old new =
+    (text : List ℕ)
+    × Leads honest within kernel later (λ before after keeps. Does (IsAllowed honest) image command result before after text keeps)
+    × Appends old new text
 
 -- a command was carried out, and a writer failed that got a beginning of its text, not all
 abbrev pub StoppedCommand : Type 0 → Within → Parts → Command → KernelState → KernelState → Option (List ℕ) → Option (List ℕ) → Type 0
 StoppedCommand honest within image command kernel later old new =
-    (part : List ℕ) × (rest : List ℕ) × (0 < length rest)
-    × Leads honest within kernel later (λ before after keeps. Does (IsAllowed honest) image command before after (part ++ rest) keeps)
+    (part : List ℕ) × (rest : List ℕ) × (result : Result (Unit {0}) Refusal) × (0 < length rest)
+    × Leads honest within kernel later (λ before after keeps. Does (IsAllowed honest) image command result before after (part ++ rest) keeps)
     × Appends old new part
 
--- the commands were carried out, from kernel to kernel, and a writer got their text
-abbrev pub RanCommands : Type 0 → Within → Parts → List Command → KernelState → KernelState → Option (List ℕ) → Option (List ℕ) → Type 0
-RanCommands honest within image commands kernel later old new =
+-- the commands were carried out, from kernel to kernel, all or up to this refused commit, and a writer
+-- got their text
+abbrev pub RanCommands : Mode → Type 0 → Within → Parts → List Numbered → Option RefusedCommit → KernelState → KernelState → Option (List ℕ) → Option (List ℕ) → Type 0
+RanCommands mode honest within image commands refused kernel later old new =
     (text : List ℕ)
-    × Leads honest within kernel later (λ before after keeps. From (Prints (IsAllowed honest) image commands before after text) before keeps)
+    × Leads honest within kernel later (λ before after keeps. From (PrintsTo mode (IsAllowed honest) image commands refused before after text) before keeps)
     × Appends old new text
 
 -- the commands were stopped by a writer that failed, which got the text up to there
-abbrev pub StoppedCommands : Type 0 → Within → Parts → List Command → KernelState → KernelState → Option (List ℕ) → Option (List ℕ) → Type 0
-StoppedCommands honest within image commands kernel later old new =
+abbrev pub StoppedCommands : Mode → Type 0 → Within → Parts → List Numbered → KernelState → KernelState → Option (List ℕ) → Option (List ℕ) → Type 0
+StoppedCommands mode honest within image commands kernel later old new =
     (text : List ℕ)
-    × Leads honest within kernel later (λ before after keeps. From (PrintsUpTo (IsAllowed honest) image commands before after text) before keeps)
+    × Leads honest within kernel later (λ before after keeps. From (PrintsUpTo mode (IsAllowed honest) image commands before after text) before keeps)
     × Appends old new text
 
 -- bytes spell an image that the verifier accepts, and no line of the script is bad
@@ -253,17 +301,17 @@ IsBadLine image lines (BadScript line) = first_bad image lines ≡ Some line
 IsBadLine image lines Memory = Unit {0}
 IsBadLine image lines _ = ⊥
 
--- a script of these lines runs on the image that the bytes spell, from stage to stage, and prints
--- the text
-abbrev pub Runs : Allows → List ℕ → List (List ℕ) → Stage → Stage → List ℕ → List Kept → Type 0
-Runs allows bytes lines before after text keeps =
-    (image : Parts) × Loads bytes lines image × Prints allows image (commands_of image lines) before after text keeps
+-- a script of these lines runs on the image that the bytes spell, from stage to stage, to its end or
+-- to this refused commit, and prints the text
+abbrev pub Runs : Mode → Allows → List ℕ → List (List ℕ) → Option RefusedCommit → Stage → Stage → List ℕ → List Kept → Type 0
+Runs mode allows bytes lines refused before after text keeps =
+    (image : Parts) × Loads bytes lines image × PrintsTo mode allows image (commands_of image lines) refused before after text keeps
 
 -- a script of these lines runs on the image that the bytes spell, and has come to the stage after
 -- and printed the text when the writer fails
-abbrev pub Stops : Allows → List ℕ → List (List ℕ) → Stage → Stage → List ℕ → List Kept → Type 0
-Stops allows bytes lines before after text keeps =
-    (image : Parts) × Loads bytes lines image × PrintsUpTo allows image (commands_of image lines) before after text keeps
+abbrev pub Stops : Mode → Allows → List ℕ → List (List ℕ) → Stage → Stage → List ℕ → List Kept → Type 0
+Stops mode allows bytes lines before after text keeps =
+    (image : Parts) × Loads bytes lines image × PrintsUpTo mode allows image (commands_of image lines) before after text keeps
 
 -- when such a script ends with a fault: each of them in the order in which they are looked for
 abbrev pub EndsBy : List ℕ → List (List ℕ) → ScriptFault → Type 0
@@ -276,27 +324,29 @@ EndsBy bytes lines TooLong = ⊥
 EndsBy bytes lines (BadHex line) = ⊥
 EndsBy bytes lines Read = ⊥
 
--- the script runs on the image that the bytes spell, from stage to stage, and prints the text
-abbrev pub RunsScript : Allows → List ℕ → List ℕ → Stage → Stage → List ℕ → List Kept → Type 0
-RunsScript allows bytes script before after text keeps = (length script ≤ most_bytes) × Runs allows bytes (lines script) before after text keeps
+-- the script runs on the image that the bytes spell, from stage to stage, to its end or to this refused
+-- commit, and prints the text
+abbrev pub RunsScript : Mode → Allows → List ℕ → List ℕ → Option RefusedCommit → Stage → Stage → List ℕ → List Kept → Type 0
+RunsScript mode allows bytes script refused before after text keeps =
+    (length script ≤ most_bytes) × Runs mode allows bytes (lines script) refused before after text keeps
 
 -- the script runs on the image that the bytes spell, and has come to the stage after and printed the
 -- text when the writer fails
-abbrev pub StopsScript : Allows → List ℕ → List ℕ → Stage → Stage → List ℕ → List Kept → Type 0
-StopsScript allows bytes script before after text keeps = (length script ≤ most_bytes) × Stops allows bytes (lines script) before after text keeps
+abbrev pub StopsScript : Mode → Allows → List ℕ → List ℕ → Stage → Stage → List ℕ → List Kept → Type 0
+StopsScript mode allows bytes script before after text keeps = (length script ≤ most_bytes) × Stops mode allows bytes (lines script) before after text keeps
 
--- the script ran, from kernel to kernel, and a writer got its text
-abbrev pub RanScript : Type 0 → Within → List ℕ → List ℕ → KernelState → KernelState → Option (List ℕ) → Option (List ℕ) → Type 0
-RanScript honest within bytes script kernel later old new =
+-- the script ran, from kernel to kernel, to its end or to this refused commit, and a writer got its text
+abbrev pub RanScript : Mode → Type 0 → Within → List ℕ → List ℕ → Option RefusedCommit → KernelState → KernelState → Option (List ℕ) → Option (List ℕ) → Type 0
+RanScript mode honest within bytes script refused kernel later old new =
     (text : List ℕ)
-    × Leads honest within kernel later (λ before after keeps. From (RunsScript (IsAllowed honest) bytes script before after text) before keeps)
+    × Leads honest within kernel later (λ before after keeps. From (RunsScript mode (IsAllowed honest) bytes script refused before after text) before keeps)
     × Appends old new text
 
 -- the script was stopped by a writer that failed, which got the text up to there
-abbrev pub StoppedScript : Type 0 → Within → List ℕ → List ℕ → KernelState → KernelState → Option (List ℕ) → Option (List ℕ) → Type 0
-StoppedScript honest within bytes script kernel later old new =
+abbrev pub StoppedScript : Mode → Type 0 → Within → List ℕ → List ℕ → KernelState → KernelState → Option (List ℕ) → Option (List ℕ) → Type 0
+StoppedScript mode honest within bytes script kernel later old new =
     (text : List ℕ)
-    × Leads honest within kernel later (λ before after keeps. From (StopsScript (IsAllowed honest) bytes script before after text) before keeps)
+    × Leads honest within kernel later (λ before after keeps. From (StopsScript mode (IsAllowed honest) bytes script before after text) before keeps)
     × Appends old new text
 
 -- when a script ends with a fault: first of all, where it is too long

@@ -5,13 +5,13 @@
 //! |---|---|
 //! | session | `run_session`: reads a session to its end, and runs it |
 //! | output | prints what commands put out, and flushes the writer |
-//! | script | `run_script`: carries out the commands of a script, and prints what calls put out |
+//! | script | `run_script`, `run_script_strictly`: carry out the commands of a script, and print what calls put out |
 #![tactic(auto)]
 
 mod output;
 mod script;
 mod session;
 
-pub use crate::script::run_script;
+pub use crate::script::{RefusedCommit, run_script, run_script_strictly};
 pub use crate::session::run_session;
 pub use geos_input::{Counted, MOST_BYTES, ScriptFault};

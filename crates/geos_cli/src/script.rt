@@ -1,6 +1,6 @@
 //! Scripts: lines of commands, read whole before the first one runs.
 
-ghost use Rattle.std.specs.Prelude.{[], ◌∷◌, ◌≡◌, ◌≢◌, ◌↔◌, true, false, All, None, Ok, IfOk, IfErr};
+ghost use Rattle.std.specs.Prelude.{[], ◌∷◌, ◌≡◌, ◌≢◌, ◌↔◌, true, false, All, None, Ok, Err, IfOk, IfErr, MatchOption};
 ghost use Rattle.std.specs.Str.Lines.{lines};
 ghost use Rattle.std.specs.Io.KnownBytes.{Keeps};
 ghost use Rattle.geos_input.specs.declared.fault.ScriptFault.TheVariants.{Write};
@@ -8,7 +8,8 @@ ghost use Rattle.vm_file.specs.Device.{Rose};
 ghost use Rattle.vm_file.specs.State.{Steadily};
 ghost use Rattle.geos_input.specs.Fault.{KeptUnless};
 ghost use Rattle.geos_cli.specs.Commits.{commits, first_commit, may_commit, IsGiven};
-ghost use Rattle.geos_cli.specs.Script.{IsAdmitted, routine_named, registers_of, call_named, how_named, command_of};
+ghost use Rattle.geos_cli.specs.declared.script.Mode.TheVariants.{Lenient, Strict};
+ghost use Rattle.geos_cli.specs.Script.{GoesOn, IsAdmitted, routine_named, registers_of, call_named, how_named, command_of};
 ghost use Rattle.geos_cli.specs.Script.{commands_of, first_bad, IsBadLine, IsBadImage};
 ghost use Rattle.geos_cli.specs.Script.{RanCommand, StoppedCommand, RanCommands, StoppedCommands, RanScript, StoppedScript, ScriptEndsBy};
 ghost use Rattle.geos_kernel.specs.Files.{vm_file_of};
@@ -49,6 +50,31 @@ pub enum Command {
     Call(Call),
     /// The VM file keeps one of its pairs of directories.
     Commit(How),
+}
+
+/// A command, and the number of its line, counted from 1.
+#[derive(Clone, Copy)]
+pub struct Numbered {
+    pub line: usize,
+    pub command: Command,
+}
+
+/// What a script does behind a commit that was refused.
+#[derive(Clone, Copy)]
+pub enum Mode {
+    /// It goes on.
+    Lenient,
+    /// It ends.
+    Strict,
+}
+
+/// A commit of a script that was refused.
+#[derive(Clone, Copy)]
+pub struct RefusedCommit {
+    /// The number of its line, counted from 1.
+    pub line: usize,
+    /// Why it was refused.
+    pub refusal: Refusal,
 }
 
 /// The routine of that name.
@@ -127,8 +153,12 @@ fn command_of(checked: &Checked, line: &[u8]) -> Option<Command>
     }
 }
 
-/// The commands of a script, or the number of its first bad line.
-fn commands_of(alloc: Global, checked: &Checked, script: &[u8]) -> Result<Vec<Command>, ScriptFault>
+/// The commands of a script with the numbers of their lines, or the number of its first bad line.
+fn commands_of(
+    alloc: Global,
+    checked: &Checked,
+    script: &[u8],
+) -> Result<Vec<Numbered>, ScriptFault>
     ensures commands { IfOk result (λ commands. (first_bad checked.now (lines script.now) ≡ None) × (commands.items ≡ commands_of checked.now (lines script.now))) }
     ensures bad { IfErr result (IsBadLine checked.now (lines script.now)) }
 {
@@ -142,7 +172,10 @@ fn commands_of(alloc: Global, checked: &Checked, script: &[u8]) -> Result<Vec<Co
         let line = without_comment(line);
         if first_word(line).is_some() {
             match command_of(checked, line) {
-                Some(command) => commands.push(command)?,
+                Some(command) => commands.push(Numbered {
+                    line: line_number,
+                    command,
+                })?,
                 None => return Err(ScriptFault::BadScript(line_number)),
             }
         }
@@ -224,20 +257,20 @@ fn keep<D: Device + Drop>(kernel: &mut Kernel<D>, how: How) -> Result<(), Refusa
     done
 }
 
-/// Carries out a command, and prints what a call puts out, or the number of a refusal. Where the
-/// command may commit, what was printed before has been given out.
+/// Carries out a command, prints what a call puts out, or the number of a refusal, and gives what a
+/// commit came to. Where the command may commit, what was printed before has been given out.
 fn carry_out<W: Write, D: Device + Drop>(
     machine: &mut Machine,
     checked: &Checked,
     command: &Command,
     kernel: &mut Kernel<D>,
     out: &mut Counted<W>,
-) -> Result<(), ScriptFault>
+) -> Result<Result<(), Refusal>, ScriptFault>
     requires admitted { IsAdmitted checked.now command.now }
     requires unlocked { NoneLocked kernel.old.core.blocks }
     requires given { may_commit checked.now command.now ≡ true → IsGiven out.old.asked out.old.flushed }
-    ensures ok { IfOk result (λ _. RanCommand (D.medium.honest kernel.old.device)
-        (Throughout D.medium kernel.old.device kernel.new.device) checked.now command.now kernel.old.core kernel.new.core
+    ensures ok { IfOk result (λ done. RanCommand (D.medium.honest kernel.old.device)
+        (Throughout D.medium kernel.old.device kernel.new.device) checked.now command.now done kernel.old.core kernel.new.core
         (W.contents out.old.stream) (W.contents out.new.stream)) }
     ensures stopped { IfErr result (λ _. StoppedCommand (D.medium.honest kernel.old.device)
         (Throughout D.medium kernel.old.device kernel.new.device) checked.now command.now kernel.old.core kernel.new.core
@@ -252,29 +285,46 @@ fn carry_out<W: Write, D: Device + Drop>(
     match command {
         Command::Call(call) => {
             let outcome = machine.run(checked, call.routine, &call.words, kernel);
-            print(outcome.output.as_slice(), out)
+            print(outcome.output.as_slice(), out)?;
+            Ok(Ok(()))
         }
         Command::Commit(how) => match keep(kernel, *how) {
-            Ok(()) => Ok(()),
-            Err(refusal) => print_refusal(refusal, out),
+            Ok(()) => Ok(Ok(())),
+            Err(refusal) => {
+                print_refusal(refusal, out)?;
+                Ok(Err(refusal))
+            }
         },
     }
 }
 
-/// Carries out the commands one after another. Each finds the kernel as the one before left it,
-/// and what those before printed is flushed where it may commit.
+/// The refused commit behind which the script does not go on, if the command of the line is one.
+fn ended_by(mode: Mode, line: usize, done: Result<(), Refusal>) -> Option<RefusedCommit>
+    ensures { MatchOption result (GoesOn mode done) (λ refused. (mode ≡ Strict) × (refused.line ≡ line) × (done ≡ Err refused.refusal)) }
+{
+    match (mode, done) {
+        (Mode::Strict, Err(refusal)) => Some(RefusedCommit { line, refusal }),
+        _ => None,
+    }
+}
+
+/// Carries out the commands one after another, all of them or up to the refused commit behind which
+/// the script does not go on. Each finds the kernel as the one before left it, and what those before
+/// printed is flushed where it may commit.
 fn carry_out_all<W: Write, D: Device + Drop>(
+    mode: Mode,
     checked: &Checked,
-    commands: &[Command],
+    commands: &[Numbered],
     kernel: &mut Kernel<D>,
     out: &mut Counted<W>,
-) -> Result<(), ScriptFault>
-    requires admitted { All (IsAdmitted checked.now) commands.now }
+) -> Result<Option<RefusedCommit>, ScriptFault>
+    requires admitted { All (λ c. IsAdmitted checked.now c.command) commands.now }
     requires unlocked { NoneLocked kernel.old.core.blocks }
-    ensures ok { IfOk result (λ _. RanCommands (D.medium.honest kernel.old.device)
-        (Throughout D.medium kernel.old.device kernel.new.device) checked.now commands.now kernel.old.core kernel.new.core
+    ensures ok { IfOk result (λ refused. RanCommands mode (D.medium.honest kernel.old.device)
+        (Throughout D.medium kernel.old.device kernel.new.device) checked.now commands.now refused kernel.old.core kernel.new.core
         (W.contents out.old.stream) (W.contents out.new.stream)) }
-    ensures stopped { IfErr result (λ _. StoppedCommands (D.medium.honest kernel.old.device)
+    ensures lenient { mode ≡ Lenient → IfOk result (λ refused. refused ≡ None) }
+    ensures stopped { IfErr result (λ _. StoppedCommands mode (D.medium.honest kernel.old.device)
         (Throughout D.medium kernel.old.device kernel.new.device) checked.now commands.now kernel.old.core kernel.new.core
         (W.contents out.old.stream) (W.contents out.new.stream)) }
     ensures honest { D.medium.honest kernel.new.device ↔ D.medium.honest kernel.old.device }
@@ -288,11 +338,14 @@ fn carry_out_all<W: Write, D: Device + Drop>(
     // what a stop before the first command leaves
     kernel.memory_is_legal();
     let first = first_commit(checked.image().points());
-    for command in commands {
-        give_before(checked, first, command, out)?;
-        carry_out(&mut machine, checked, command, kernel, out)?;
+    for numbered in commands {
+        give_before(checked, first, &numbered.command, out)?;
+        let done = carry_out(&mut machine, checked, &numbered.command, kernel, out)?;
+        if let Some(refused) = ended_by(mode, numbered.line, done) {
+            return Ok(Some(refused));
+        }
     }
-    Ok(())
+    Ok(None)
 }
 
 /// The image that the bytes spell, checked.
@@ -305,6 +358,44 @@ fn load(alloc: Global, image: &[u8]) -> Result<Checked, ScriptFault>
         Ok(checked) => Ok(checked),
         Err((_image, reject)) => Err(ScriptFault::from(reject)),
     }
+}
+
+/// Checks an image and runs a script, to its end or to the refused commit behind which it does not go on.
+fn run_in_mode<W: Write, D: Device + Drop>(
+    alloc: Global,
+    mode: Mode,
+    image: &[u8],
+    script: &[u8],
+    kernel: &mut Kernel<D>,
+    out: &mut Counted<W>,
+) -> Result<Option<RefusedCommit>, ScriptFault>
+    requires unlocked { NoneLocked kernel.old.core.blocks }
+    ensures ran { IfOk result (λ refused. RanScript mode (D.medium.honest kernel.old.device)
+        (Throughout D.medium kernel.old.device kernel.new.device) image.now script.now refused kernel.old.core kernel.new.core
+        (W.contents out.old.stream) (W.contents out.new.stream)) }
+    ensures lenient { mode ≡ Lenient → IfOk result (λ refused. refused ≡ None) }
+    ensures due { IfErr result (ScriptEndsBy image.now script.now) }
+    ensures stopped { IfErr result (λ fault. fault ≡ Write →
+        StoppedScript mode (D.medium.honest kernel.old.device) (Throughout D.medium kernel.old.device kernel.new.device)
+        image.now script.now kernel.old.core kernel.new.core
+        (W.contents out.old.stream) (W.contents out.new.stream)) }
+    ensures honest { D.medium.honest kernel.new.device ↔ D.medium.honest kernel.old.device }
+    ensures unlocked { NoneLocked kernel.new.core.blocks }
+    ensures sees { SeesDevice D.medium kernel.old × SeesDevice D.medium kernel.new }
+    ensures steadily { Steadily D.medium (vm_file_of kernel.old) (vm_file_of kernel.new) }
+    ensures kernel_kept { IfErr result (λ fault. fault ≢ Write → kernel.new ≡ kernel.old) }
+    ensures nothing_written { IfErr result (λ fault. fault ≢ Write → Keeps (W.contents out.old.stream) (W.contents out.new.stream)) }
+    ensures not_asked { IfErr result (λ fault. fault ≢ Write → out.new.asked ≡ out.old.asked) }
+    ensures writer_failed { IfErr result (λ fault. fault ≡ Write → Rose out.old.failures out.new.failures) }
+    ensures writer_kept { KeptUnless Write result out.old.failures out.new.failures }
+{
+    kernel.memory_is_legal();
+    if script.len() > MOST_BYTES {
+        return Err(ScriptFault::TooLong);
+    }
+    let checked = load(alloc, image)?;
+    let commands = commands_of(alloc, &checked, script)?;
+    carry_out_all(mode, &checked, &commands, kernel, out)
 }
 
 /// Checks an image and runs a script: calls, which print the words that they put out, and commits
@@ -331,12 +422,12 @@ pub fn run_script<W: Write, D: Device + Drop>(
     requires unlocked { NoneLocked kernel.old.core.blocks }
     // What it printed; and stopped at any moment, opening the file finds what the model's run of the
     // script has as kept in one of its states.
-    ensures ran { IfOk result (λ _. RanScript (D.medium.honest kernel.old.device)
-        (Throughout D.medium kernel.old.device kernel.new.device) image.now script.now kernel.old.core kernel.new.core
+    ensures ran { IfOk result (λ _. RanScript Lenient (D.medium.honest kernel.old.device)
+        (Throughout D.medium kernel.old.device kernel.new.device) image.now script.now None kernel.old.core kernel.new.core
         (W.contents out.old.stream) (W.contents out.new.stream)) }
     ensures due { IfErr result (ScriptEndsBy image.now script.now) }
     ensures stopped { IfErr result (λ fault. fault ≡ Write →
-        StoppedScript (D.medium.honest kernel.old.device) (Throughout D.medium kernel.old.device kernel.new.device)
+        StoppedScript Lenient (D.medium.honest kernel.old.device) (Throughout D.medium kernel.old.device kernel.new.device)
         image.now script.now kernel.old.core kernel.new.core
         (W.contents out.old.stream) (W.contents out.new.stream)) }
 
@@ -358,11 +449,46 @@ pub fn run_script<W: Write, D: Device + Drop>(
     ensures writer_failed { IfErr result (λ fault. fault ≡ Write → Rose out.old.failures out.new.failures) }
     ensures writer_kept { KeptUnless Write result out.old.failures out.new.failures }
 {
-    kernel.memory_is_legal();
-    if script.len() > MOST_BYTES {
-        return Err(ScriptFault::TooLong);
+    match run_in_mode(alloc, Mode::Lenient, image, script, kernel, out) {
+        Ok(_) => Ok(()),
+        Err(fault) => Err(fault),
     }
-    let checked = load(alloc, image)?;
-    let commands = commands_of(alloc, &checked, script)?;
-    carry_out_all(&checked, &commands, kernel, out)
+}
+
+/// Runs a script as `run_script`, but ends behind the first commit that is refused: it is answered, once
+/// its `refused` and number are printed, and no command behind it is begun. Where none is refused, `None`
+/// is answered, and all is as of `run_script`. What a routine's own commits come to is the routine's to
+/// handle: no call is refused. The faults are those of `run_script`.
+pub fn run_script_strictly<W: Write, D: Device + Drop>(
+    alloc: Global,
+    image: &[u8],
+    script: &[u8],
+    kernel: &mut Kernel<D>,
+    out: &mut Counted<W>,
+) -> Result<Option<RefusedCommit>, ScriptFault>
+    requires unlocked { NoneLocked kernel.old.core.blocks }
+    // The commits are done, all or up to the one that is answered, and nothing behind that was begun.
+    // What it printed; and stopped at any moment, opening the file finds what the model's run of the
+    // script has as kept in one of its states.
+    ensures ran { IfOk result (λ refused. RanScript Strict (D.medium.honest kernel.old.device)
+        (Throughout D.medium kernel.old.device kernel.new.device) image.now script.now refused kernel.old.core kernel.new.core
+        (W.contents out.old.stream) (W.contents out.new.stream)) }
+    ensures due { IfErr result (ScriptEndsBy image.now script.now) }
+    ensures stopped { IfErr result (λ fault. fault ≡ Write →
+        StoppedScript Strict (D.medium.honest kernel.old.device) (Throughout D.medium kernel.old.device kernel.new.device)
+        image.now script.now kernel.old.core kernel.new.core
+        (W.contents out.old.stream) (W.contents out.new.stream)) }
+
+    // The rest is as of `run_script`.
+    ensures honest { D.medium.honest kernel.new.device ↔ D.medium.honest kernel.old.device }
+    ensures unlocked { NoneLocked kernel.new.core.blocks }
+    ensures sees { SeesDevice D.medium kernel.old × SeesDevice D.medium kernel.new }
+    ensures steadily { Steadily D.medium (vm_file_of kernel.old) (vm_file_of kernel.new) }
+    ensures kernel_kept { IfErr result (λ fault. fault ≢ Write → kernel.new ≡ kernel.old) }
+    ensures nothing_written { IfErr result (λ fault. fault ≢ Write → Keeps (W.contents out.old.stream) (W.contents out.new.stream)) }
+    ensures not_asked { IfErr result (λ fault. fault ≢ Write → out.new.asked ≡ out.old.asked) }
+    ensures writer_failed { IfErr result (λ fault. fault ≡ Write → Rose out.old.failures out.new.failures) }
+    ensures writer_kept { KeptUnless Write result out.old.failures out.new.failures }
+{
+    run_in_mode(alloc, Mode::Strict, image, script, kernel, out)
 }

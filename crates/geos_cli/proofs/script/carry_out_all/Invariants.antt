@@ -1,4 +1,4 @@
-use Rattle.std.proofs.Common.{◌≡◌, take}
+use Rattle.std.proofs.Common.{◌≡◌, None, take}
 use Rattle.std.specs.Prelude.{◌↔◌}
 use Rattle.vm_blocks.specs.Listed.{NoneLocked}
 use Rattle.vm_file.specs.State.{Steadily}
@@ -8,9 +8,9 @@ use Rattle.geos_machine.specs.Runs.{Throughout}
 use Rattle.geos_cli.specs.Script.{RanCommands}
 use Rattle.geos_cli.proofs.script.carry_out_all.Given as goal
 
-abbrev pub invariant-loop-command : goal.invariant-loop-command
-invariant-loop-command g l =
-    RanCommands (g.D.Device.medium.honest l.fn.kernel.device) (Throughout g.D.Device.medium l.fn.kernel.device l.kernel.device) l.fn.checked (take l.command-index l.fn.commands) l.fn.kernel.core l.kernel.core
+abbrev pub invariant-loop-numbered : goal.invariant-loop-numbered
+invariant-loop-numbered g l =
+    RanCommands l.fn.mode (g.D.Device.medium.honest l.fn.kernel.device) (Throughout g.D.Device.medium l.fn.kernel.device l.kernel.device) l.fn.checked (take l.numbered-index l.fn.commands) None l.fn.kernel.core l.kernel.core
     (g.W.Write.contents l.fn.out.stream) (g.W.Write.contents l.out.stream)
     × (l.out.failures ≡ l.fn.out.failures)
     × (g.D.Device.medium.honest l.kernel.device ↔ g.D.Device.medium.honest l.fn.kernel.device)
