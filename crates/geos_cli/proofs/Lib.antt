@@ -6,5 +6,7 @@ pub mod Prints
 pub mod CommandsRun
 pub mod Commits
 pub mod Registers
+pub mod RunsKeep
 pub mod Searches
 pub mod Sessions
+pub mod StepsKeep

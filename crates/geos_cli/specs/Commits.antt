@@ -1,10 +1,17 @@
 -- Which commands may commit.
-use Rattle.std.specs.Prelude.{◌≡◌, ◌⊎◌, ℕ, ◌+◌, Bool, true, false, List, Option, take, position}
+use Rattle.std.specs.Prelude.{◌≡◌, ◌⊎◌, ℕ, ◌+◌, Bool, true, false, All, List, Option, take, position}
 use Rattle.std.specs.List.{list_any}
 use Rattle.geos_opcodes.specs.declared.opcode.Opcode.{Opcode}
 use Rattle.geos_opcodes.specs.declared.opcode.Opcode.TheVariants.{Vupdate, Vsave, Vrevert}
 use Rattle.geos_image.specs.declared.point.Point.{Point}
 use Rattle.geos_image.specs.Parts.{Parts, start_of}
+use Rattle.geos_calls.specs.Memory.{Memory}
+use Rattle.geos_calls.specs.Effects.{Choice}
+use Rattle.geos_verify.specs.Rules.{IsChecked}
+use Rattle.geos_semantics.specs.State.{State}
+use Rattle.geos_semantics.specs.Model.{Returned, run}
+use Rattle.geos_machine.specs.Runs.{begin, kept_along}
+use Rattle.geos_cli.specs.declared.script.Call.{Call}
 use Rattle.geos_cli.specs.declared.script.Command.{Command}
 use Rattle.geos_cli.specs.declared.script.Command.TheVariants as command
 
@@ -32,3 +39,15 @@ may_commit image (command.Call call) = list_any commits_at (take (start_of image
 -- nothing was ever asked of a writer, or the last call of it was a flush that did not fail
 abbrev pub IsGiven : ℕ → Bool → Type 0
 IsGiven asked flushed = (asked ≡ 0) ⊎ (flushed ≡ true)
+
+-- a call's run in this memory, under these choices, leaves what the device holds as it was, in each state that it
+-- passes and in the last one
+pub record KeepsKept (image : Parts) (call : Call) (memory : Memory) (choices : List Choice) : Type 0 where
+  pub along : All (λ kept. kept ≡ memory.file.kept) (kept_along image choices (begin image call.routine call.words memory))
+  pub behind : (steps : ℕ) (last : State) → run image 0 choices 0 (begin image call.routine call.words memory) ≡ Returned steps last
+      → last.memory.file.kept ≡ memory.file.kept
+
+-- so it is of each call of an accepted image that may not commit, whatever comes from outside
+abbrev pub OtherCallsKeep : Type 0
+OtherCallsKeep = (image : Parts) → IsChecked image → (call : Call) → may_commit image (command.Call call) ≡ false
+    → (memory : Memory) (choices : List Choice) → KeepsKept image call memory choices

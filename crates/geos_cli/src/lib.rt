@@ -4,14 +4,17 @@
 //! | Module | Has |
 //! |---|---|
 //! | session | `run_session`: reads a session to its end, and runs it |
+//! | law | `other_calls_keep`: calls that may not commit leave what the device holds as it was |
 //! | output | prints what commands put out, and flushes the writer |
 //! | script | `run_script`, `run_script_strictly`: carry out the commands of a script, and print what calls put out |
 #![tactic(auto)]
 
+mod law;
 mod output;
 mod script;
 mod session;
 
+pub use crate::law::other_calls_keep;
 pub use crate::script::{RefusedCommit, run_script, run_script_strictly};
 pub use crate::session::run_session;
 pub use geos_input::{Counted, MOST_BYTES, ScriptFault};
