@@ -25,7 +25,8 @@ pub(crate) fn carry_out<'a>(rt: &HostRuntime, request: Request<'a>) -> Result<()
             file,
             script,
             region,
-        } => run(rt, image, file, script, region),
+            strict,
+        } => run(rt, image, file, script, region, strict),
         Request::Dump {
             file,
             chunks: false,

@@ -23,7 +23,7 @@ IsWidth n = (60 ≤ n) × (n ≤ 1000)
 -- each number of a request is within its limits
 abbrev pub KeepsLimits : Request → Type 0
 KeepsLimits (New file area) = IsArea area
-KeepsLimits (Run image file script region) = IsRegion region
+KeepsLimits (Run image file script region strict) = IsRegion region
 KeepsLimits (Map file width) = IsWidth width
 KeepsLimits Session = Unit {0}
 KeepsLimits (Assemble text image) = Unit {0}

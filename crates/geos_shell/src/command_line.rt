@@ -65,6 +65,11 @@ const CHUNKS: ArgText = ArgText::Flag(
     "Prints the bytes of each chunk too, as `xxd` does",
 );
 
+const STRICT: ArgText = ArgText::Flag(
+    "strict",
+    "Ends with status 1 at the first line of SCRIPT that prints `refused K`",
+);
+
 const AREA_SIZE: ArgText = ArgText::Number(NumberText {
     number: AREA,
     about: "How many bytes each of its two areas has, a multiple of 512, 512 to 16777216",
@@ -117,7 +122,7 @@ static COMMANDS: [CommandText; 8] = [
     CommandText {
         name: "run",
         about: "Runs a script on a VM file",
-        args: &[IMAGE, FILE, SCRIPT, REGION_SIZE],
+        args: &[IMAGE, FILE, SCRIPT, REGION_SIZE, STRICT],
         more: More::Runs,
     },
     CommandText {

@@ -12,7 +12,7 @@ geos < SESSION
        geos check IMAGE
        geos explain IMAGE
        geos new FILE [--area N]
-       geos run IMAGE FILE SCRIPT [--region N]
+       geos run IMAGE FILE SCRIPT [--region N] [--strict]
        geos dump FILE [--chunks]
        geos map FILE [--width N]
        geos help [COMMAND]";
@@ -31,7 +31,7 @@ impl Usage {
         match self {
             Usage::Asm => "geos asm IN OUT",
             Usage::New => "geos new FILE [--area N]",
-            Usage::Run => "geos run IMAGE FILE SCRIPT [--region N]",
+            Usage::Run => "geos run IMAGE FILE SCRIPT [--region N] [--strict]",
             Usage::Map => "geos map FILE [--width N]",
         }
     }
@@ -132,6 +132,9 @@ SCRIPT has a command a line, as a session behind its image:
 These three print nothing, or `refused N`: 6 where the blocks are too long, 11 where the disk fails,
 12 where an earlier failure left it open what the file has. What was changed behind the last of them
 is lost: end a script with `update`, or have a routine do VUPDATE.
+A script goes on behind a refusal, and its status is 0. With --strict nothing runs behind the first of
+them, the status is 1, and the last line is `line N: refused K` on standard error, N being the line of
+SCRIPT, counted from 1. A routine that commits sees its refusals itself: they end no script.
 
 A stop at any moment, as of the machine, leaves the file as one of these commands left it or would
 have: whole, or not at all. Others that run on the file meanwhile wait, and so does `dump`; nobody

@@ -34,12 +34,14 @@ pub enum Request<'a> {
         file: &'a str,
         area: u32,
     },
-    /// To run a script on a VM file, with so many bytes for blocks in memory.
+    /// To run a script on a VM file, with so many bytes for blocks in memory; to its end, or, strictly, to
+    /// its first refused commit.
     Run {
         image: &'a str,
         file: &'a str,
         script: &'a str,
         region: u32,
+        strict: bool,
     },
     /// To print a VM file, with the bytes of its chunks or without.
     Dump {
@@ -94,6 +96,7 @@ fn run_of<'a>(words: &ArgMatches<'a>) -> Result<Request<'a>, Misuse>
             file: word(words, "FILE"),
             script,
             region,
+            strict: words.get_flag("strict"),
         }),
         Err(misuse) => Err(misuse),
     }
