@@ -1,6 +1,6 @@
 """Times `geos asm` on texts that are made to hurt: 4,096 instructions or one MiB of text each. Beside each time stands its ratio to that
 of a text of 4,095 additions, assembled in the same run. It fails where a ratio is past its bound, which is many times what was measured:
-where no other is given, one that stands for some two seconds.
+where no other is given, one that stands for some one second.
 
     python3 hurtful.py PROGRAM
 """
@@ -15,7 +15,7 @@ from pathlib import Path
 HEAD = ["routine a public budget 4294967295"]
 MOST_TEXT = 1_048_576
 RUNS = 5
-MOST_RATIO = 400
+MOST_RATIO = 200
 
 
 def heads(n):
@@ -56,6 +56,48 @@ def wave(n, checks, last):
     return [*HEAD, f"JMP b{n - 1}", *falls, "x: LDI w3 0", *["CHK w0 60000 e"] * checks, *last, "e: RET"]
 
 
+def ladder(n):
+    """So many LOOPs to one head, each behind one step more."""
+    steps = [line for i in range(n) for line in (f"x{i}: BEQ w0 w1 y{i}", "LOOP k0 h", f"y{i}: ADD w0 w0 w1")]
+    return [*HEAD, "SETK k0 2", "h: LDI w0 1", *steps, "RET"]
+
+
+def one_back(n):
+    """So many LOOPs, each of which goes one place back; what is dear lies behind the first place."""
+    sets = [f"SETK k{k} 2" for k in range(4)]
+    places = [line for i in range(1, n) for line in (f"v{i}: BEQ w0 w1 v{i + 1}", f"LOOP k1 v{i - 1}")]
+    return [*HEAD, *sets, "JMP v1", "x: SETK k0 60000", "y: LOOP k0 y", "RET", "v0: JMP x", *places, f"v{n}: RET"]
+
+
+def prices(n):
+    """So many LOOPs, one behind the other, each with a SETK of its own number, and so many that go one place back, all in one loop."""
+    sets = [line for i in range(n) for line in (f"f{i}: SETK k0 {60000 - i}", f"JMP s{i}")]
+    places = [line for i in range(1, n) for line in (f"v{i}: BEQ w0 w1 v{i + 1}", f"LOOP k1 v{i - 1}")]
+    begin = ["SETK k1 65535", "BEQ w0 w1 g", *(f"BEQ w0 w1 f{i}" for i in range(n)), "g: JMP v1"]
+    end = [f"v{n}: LOOP k1 v{n - 1}", "RET", *(f"s{i}: LOOP k0 t" for i in range(n)), "z: RET", f"t: JMP v{n}"]
+    return ["routine f budget 60000", "RET", *HEAD, *begin, *sets, "v0: CALL f", "JMP s0", *places, *end]
+
+
+def zigzag(n, most):
+    """A way that goes from low places to high ones and back n times, and so many LOOPs to its beginning."""
+    low = [f"l{i}: " + (f"BEQ w0 w1 h{i}" if i < n - 1 else f"JMP h{i}") for i in range(n)]
+    high = [f"h{i}: JMP " + (f"l{i + 1}" if i < n - 1 else "z") for i in range(n)]
+    return [*HEAD, "SETK k0 1", "top: LDI w0 0", *low, *high, "z: LDI w0 0", *["LOOP k0 top"] * most, "RET"]
+
+
+def shuffled(n, seed):
+    """So many places in any order, each with a LOOP back to one before it."""
+    fall = random.Random(seed)
+    order = list(range(n))
+    fall.shuffle(order)
+    places = [
+        line
+        for i in order
+        for line in (f"b{i}: BEQ w0 w1 b{min(n, i + fall.choice([1, 2, 3, 50]))}", f"LOOP k{fall.randrange(4)} b{fall.randint(0, i)}", f"JMP b{i + 1}")
+    ]
+    return [*HEAD, *(f"SETK k{k} 3" for k in range(4)), "JMP b0", *places, f"b{n}: RET"]
+
+
 def texts():
     """Each text with what it is, and its bound where that is not the usual one."""
     n = 2040
@@ -72,6 +114,11 @@ def texts():
     yield "680 blocks back, each of which raises a bound that flows through 2,030 CHKs", wave(680, 2030, []), 100
     yield "the same, and a way back that nothing pays", wave(680, 2030, ["c: BEQ w0 w1 c"]), 20
     yield "4,000 LOOPs, branches and counters that are set, as they fall", tangle(4000, 50, 39)
+    yield "1,360 LOOPs to one head, each behind one step more", ladder(1360)
+    yield "2,040 LOOPs that go one place back", one_back(2040)
+    yield "670 LOOPs with a SETK of their own number, and a way back", prices(670)
+    yield "a way of 1,020 steps to and fro, and 2,040 LOOPs to its beginning", zigzag(1020, 2040)
+    yield "1,360 LOOPs in any order", shuffled(1360, 39)
     yield "1 MiB of labels", [*HEAD, *(f"L{i}:" for i in range(115_000)), "RET"]
     yield "1 MiB of one digit", [*HEAD, "LDI w0 " + "0" * 1_048_000 + "1", "RET"]
     yield "1 MiB of items of an entry row", [*HEAD, "in " + "w0<=9 " * 170_000, "RET"]

@@ -40,6 +40,47 @@ impl Arc {
     pub(crate) fn steps(&self) -> u64 {
         1 + u64::from(self.called)
     }
+
+    /// Whether it asks for what is behind it of a counter's coefficient.
+    pub(crate) fn keeps(&self, counter: u8) -> bool {
+        match self.counting {
+            Counting::Sets(set, _) => set != counter,
+            Counting::Forgets(counters) => !is_among(&counters, counter),
+            _ => true,
+        }
+    }
+
+    /// Whether nothing is known of a counter behind it.
+    pub(crate) fn forgets(&self, counter: u8) -> bool {
+        match self.counting {
+            Counting::Forgets(counters) => is_among(&counters, counter),
+            _ => false,
+        }
+    }
+
+    /// The counter that it takes a unit from.
+    pub(crate) fn takes(&self) -> Option<u8> {
+        match self.counting {
+            Counting::Takes(counter) => Some(counter),
+            _ => None,
+        }
+    }
+
+    /// The counter that it sets to a number above 0, and that number at most.
+    pub(crate) fn sets(&self) -> Option<(u8, u16)> {
+        match self.counting {
+            Counting::Sets(counter, most) if 0 < most => Some((counter, most)),
+            _ => None,
+        }
+    }
+}
+
+/// Whether a counter is one of these.
+fn is_among(counters: &[bool; 4], counter: u8) -> bool {
+    match counters.get(usize::from(counter)) {
+        Some(is) => *is,
+        None => false,
+    }
 }
 
 /// The bound of a word; a row has no other word.

@@ -10,16 +10,14 @@ ghost use Rattle.geos_infer.specs.Theorem.{NamesRoutine};
 
 use crate::asked::potential_at;
 use crate::body::{Body, body_of};
-use crate::costly::note_costly;
 use crate::cycles::has_unpaid_cycle;
 use crate::edges::{is_loop, leads_back};
 use crate::error::InferError;
 use crate::paid::are_paid;
+use crate::search::Search;
 use crate::spent::{calls_are_spent, find_touched};
 use crate::table::{Known, Potentials, Table, two_tables};
-use crate::units::{pay_all, pay_free};
 use crate::unpaid::WaysIn;
-use crate::ways::{Ways, note_arcs};
 use geos_image::{Image, Potential};
 use geos_verify::Touched;
 use std::alloc::{AllocError, Global};
@@ -56,36 +54,20 @@ struct Tables {
     touched: Touched,
     into: Table<WaysIn>,
     listed: Table<u16>,
-    ways: Ways,
+    search: Search,
 }
 
 impl Tables {
     fn new(alloc: Global, image: &Image) -> Result<Tables, AllocError> {
-        let ways = Ways::new(alloc)?;
         let (into, listed) = two_tables(alloc, WaysIn::with_left(0), 0)?;
+        let search = Search::new(alloc)?;
         Ok(Tables {
             touched: find_touched(image),
             into,
             listed,
-            ways,
+            search,
         })
     }
-}
-
-/// The potentials of a routine are the steps of the longest ways, and what units pay for; `false` where a number is past
-/// what a potential can say.
-fn put_ways(body: &Body, ways: &Ways, potentials: &mut Potentials) -> bool {
-    for pc in body.start..body.end {
-        let Ok(constant) = u32::try_from(ways.way(pc).steps) else {
-            return false;
-        };
-        let potential = Potential {
-            constant,
-            coefficients: ways.place(pc).pay,
-        };
-        potentials.set(pc, potential);
-    }
-    true
 }
 
 /// Counts the steps of a routine with loops; `false` where no number of them is found to be enough, or a
@@ -99,14 +81,12 @@ fn count_loops(
     if has_unpaid_cycle(body, &mut tables.into, &mut tables.listed) {
         return false;
     }
-    let Tables { touched, ways, .. } = tables;
-    note_arcs(body, known, touched, ways);
-    note_costly(body, ways);
-    pay_all(body, ways)
-        && pay_free(body, ways)
-        && put_ways(body, ways, potentials)
+    tables
+        .search
+        .find(body, known, &tables.touched, potentials)
+        .is_ok()
         && are_paid(body, known, potentials)
-        && calls_are_spent(body, touched, potentials)
+        && calls_are_spent(body, &tables.touched, potentials)
 }
 
 /// Counts the steps of a routine; `false` where no number of them is found to be enough.

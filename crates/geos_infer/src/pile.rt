@@ -2,21 +2,15 @@
 
 ghost use Rattle.std.specs.Prelude.{◌<◌, IfSome};
 
+use crate::place::Place;
 use crate::table::{Table, two_tables};
 use geos_image::MOST_INSTRS;
 use std::alloc::{AllocError, Global};
 
-/// A place that waits.
-#[derive(Clone, Copy)]
-struct Waits {
-    pc: u16,
-    ghost inside: { pc < 4096 },
-}
-
 /// Places that wait, the last one on top.
 #[derive(Drop)]
 pub(crate) struct Pile {
-    places: Table<Waits>,
+    places: Table<Place>,
     /// Whether each place is among them.
     has: Table<bool>,
     /// How many there are.
@@ -26,7 +20,7 @@ pub(crate) struct Pile {
 impl Pile {
     /// No place waits.
     pub(crate) fn new(alloc: Global) -> Result<Pile, AllocError> {
-        let (places, has) = two_tables(alloc, Waits { pc: 0 }, false)?;
+        let (places, has) = two_tables(alloc, Place { pc: 0 }, false)?;
         Ok(Pile {
             places,
             has,
@@ -42,7 +36,7 @@ impl Pile {
             return;
         }
         self.has.set(pc, true);
-        self.places.set(self.count, Waits { pc });
+        self.places.set(self.count, Place { pc });
         self.count += 1;
     }
 
@@ -54,7 +48,7 @@ impl Pile {
             return None;
         }
         self.count -= 1;
-        let Waits { pc } = self.places.at(self.count);
+        let Place { pc } = self.places.at(self.count);
         self.has.set(pc, false);
         Some(pc)
     }

@@ -1,304 +1,523 @@
-//! What a unit of each counter pays for: as much as ways round lack that go through its LOOPs.
+//! What a unit of each counter pays for, nest by nest: as much as ways round lack that go through its LOOPs.
 
-ghost use Rattle.std.specs.Prelude.{◌<◌};
+ghost use Rattle.std.specs.Prelude.{◌<◌, ◌≤◌};
 
 use crate::arcs::{Arc, Counting};
-use crate::body::Body;
-use crate::carry::{carry, carry_on};
-use crate::longest::find_longest;
-use crate::spans::{Span, span_of, takes};
-use crate::ways::{Ways, cost};
-use geos_image::{MOST_INSTRS, Opcode};
+use crate::graph::Graph;
+use crate::jumps::Jump;
+use crate::lengths::{Lengths, Link, Share};
+use crate::nests::{Nest, Splitting};
+use crate::pieces::Piece;
+use crate::pile::Pile;
+use crate::spread::{Spread, go_back, go_back_from, number_of, only, raise};
+use crate::table::{Table, two_tables};
+use geos_image::MOST_INSTRS;
+use std::alloc::{AllocError, Global};
 
-/// So many times as many places as a routine has may be gone over where the loops are searched one by one.
-const SEARCHES: u32 = 32;
+/// How often the nests are gone over.
+const ROUNDS: u16 = 64;
 
-/// What a way round costs, what the units of counters pay of that, how many it takes of each counter, and which it sets.
+/// How often the unit of a nest is raised to just what a way round lacks, before it is doubled each time.
+const RAISES: u32 = 32;
+
+/// So many sweeps over a nest are each followed by a look for ways that come round, then every so many: such a way grows with each sweep, and is
+/// found at last.
+const EACH: u32 = 4;
+
+/// How many edges are looked at in all: some 2 s. Of the texts that were made to hurt none took a third of that.
+const LOOKS: u32 = 1 << 27;
+
+/// Why no units are found.
+#[derive(Clone, Copy)]
+pub(crate) enum Lack {
+    /// No LOOP may pay in a component.
+    Stuck(Piece),
+    /// The counter of a nest is set in it on a way round to more than its LOOPs take from it.
+    SetWithin(Piece),
+    /// A number is past what a potential can say.
+    Passes,
+    /// Nests were paid for again and again.
+    InTurn,
+    /// Too many edges were looked at.
+    Looks,
+}
+
+/// A way round that lacks something.
 #[derive(Clone, Copy)]
 struct Round {
     costs: u64,
     paid: u64,
-    takes: [u32; 4],
-    sets: [bool; 4],
+    /// How many units the nest's LOOPs take whose unit is the nest's, and how many are set for these.
+    takes: u64,
+    sets: u64,
+    /// The least unit at its LOOPs; none where it has none.
+    least: Option<u32>,
+    /// Whether the counter is set on it for them.
+    is_set: bool,
 }
 
-impl Round {
-    const NOTHING: Round = Round {
-        costs: 0,
-        paid: 0,
-        takes: [0; 4],
-        sets: [false; 4],
-    };
+/// The units of counters, and the longest ways where these pay.
+#[derive(Drop)]
+pub(crate) struct Units {
+    /// What a unit of each counter pays for, at each place.
+    pub(crate) pay: Spread,
+    pub(crate) lengths: Lengths,
+    /// 1 of a nest's counter where it is kept up to a LOOP that pays in the nest.
+    before: Spread,
+    waits: Pile,
+    looks: u32,
 }
 
-/// The way round with one more edge.
-fn with_arc(round: &Round, ways: &Ways, pc: u16, arc: &Arc) -> Round
-    requires { pc < 4096 }
-{
-    let (costs, paid) = cost(arc, &ways.place(pc).pay, &ways.place(arc.to).pay);
-    let mut next = *round;
-    next.costs = next.costs.saturating_add(costs);
-    next.paid = next.paid.saturating_add(paid);
-    match arc.counting {
-        Counting::Sets(counter, most) if counter < 4 => {
-            next.sets[usize::from(counter)] |= 0 < most;
-        }
-        Counting::Takes(counter) if counter < 4 => {
-            let taken = next.takes[usize::from(counter)];
-            next.takes[usize::from(counter)] = taken.saturating_add(1);
-        }
-        _ => {}
-    }
-    next
-}
-
-/// The way round from a pc.
-fn round_at(ways: &Ways, from: u16) -> Round
-    requires { from < 4096 }
-{
-    let mut round = Round::NOTHING;
-    let mut at = from;
-    for _ in 0..MOST_INSTRS {
-        let Some(arc) = ways.next(at) else {
-            return round;
-        };
-        round = with_arc(&round, ways, at, &arc);
-        at = arc.to;
-        if at == from {
-            return round;
-        }
-    }
-    round
-}
-
-/// The counter that is to pay for a way round: the first that it takes from and does not set, else the first that it takes
-/// from.
-fn paying(round: &Round) -> Option<u8> {
-    let mut first = None;
-    for counter in 0..4u8 {
-        if round.takes[usize::from(counter)] != 0 {
-            if !round.sets[usize::from(counter)] {
-                return Some(counter);
-            }
-            if first.is_none() {
-                first = Some(counter);
-            }
-        }
-    }
-    first
-}
-
-/// What each unit of the counter has to pay for beside what it does, so that the way round is paid for.
-fn lacking(round: &Round, counter: u8) -> u64 {
-    let lacks = round.costs.saturating_sub(round.paid);
-    match round.takes.get(usize::from(counter)) {
-        Some(takes) if *takes != 0 => lacks.div_ceil(u64::from(*takes)),
-        _ => lacks,
-    }
-}
-
-/// By how much units of a counter are raised.
+/// A nest that is paid for.
 #[derive(Clone, Copy)]
-struct Raise {
-    counter: u8,
-    by: u64,
-    /// The number of LOOPs, where units that are raised more often are doubled.
-    loops: Option<u16>,
+struct Paying {
+    nest: Nest,
+    id: u16,
+    unit: u32,
 }
 
-/// The unit of a counter at a LOOP, so much more; twice as much at least, where it was raised too often.
-fn raised_unit(unit: u32, raised: u16, raise: &Raise) -> Option<u32> {
-    let more = u64::from(unit).saturating_add(raise.by);
-    let next = match raise.loops {
-        Some(loops) if loops < raised => more.max(u64::from(unit).saturating_mul(2)),
-        _ => more,
-    };
-    u32::try_from(next).ok()
-}
-
-/// Raises the unit of the counter at a pc, if the edge takes from it; `false` where it is past what a potential can say.
-fn raise_at(ways: &mut Ways, pc: u16, arc: &Arc, raise: &Raise) -> bool
-    requires { pc < 4096 }
-{
-    let Counting::Takes(counter) = arc.counting else {
-        return true;
-    };
-    if counter != raise.counter || 4 <= counter {
-        return true;
+/// The unit of a nest, where the way round that lacks something is paid for.
+fn next_unit(unit: u32, round: &Round, raises: u32) -> Option<u64> {
+    let least = round.least?;
+    if round.takes == 0 && round.sets == 0 {
+        return Some(u64::from(least));
     }
-    let mut place = *ways.place(pc);
-    let Some(unit) = raised_unit(place.pay[usize::from(counter)], place.raised, raise) else {
-        return false;
-    };
-    place.pay[usize::from(counter)] = unit;
-    if raise.loops.is_some() {
-        place.raised = place.raised.saturating_add(1);
-    }
-    ways.set_place(pc, place);
-    ways.grown.put(pc);
-    true
-}
-
-/// Raises the units of a counter at the LOOPs of the way round from a pc.
-fn raise_round(ways: &mut Ways, from: u16, raise: &Raise) -> bool
-    requires { from < 4096 }
-{
-    let mut at = from;
-    for _ in 0..MOST_INSTRS {
-        let Some(arc) = ways.next(at) else {
-            return false;
-        };
-        if !raise_at(ways, at, &arc, raise) {
-            return false;
-        }
-        at = arc.to;
-        if at == from {
-            return true;
-        }
-    }
-    false
-}
-
-/// Raises what a unit pays for, so that the way round from a pc is paid for; `false` where no counter can pay for it.
-fn pay(span: &Span, ways: &mut Ways, at: u16, loops: Option<u16>) -> bool {
-    if 4096 <= at {
-        return false;
-    }
-    let round = round_at(ways, at);
-    let Some(counter) = paying(&round) else {
-        return false;
-    };
-    let raise = Raise {
-        counter,
-        by: lacking(&round, counter),
-        loops,
-    };
-    if !raise_round(ways, at, &raise) {
-        return false;
-    }
-    carry_on(span, ways);
-    true
-}
-
-/// Pays for one way round after another among some places, until the longest way from each of them ends, or what is left of the
-/// room for searches is too little; how much is left then. None is where a way can't be paid for: that is left to `pay_all`.
-fn pay_among(span: &Span, ways: &mut Ways, room: u32) -> u32 {
-    if 1 < span.back {
-        carry(span, ways);
-    }
-    let mut left = room;
-    for _ in 0..room {
-        if left < span.length() {
-            return 0;
-        }
-        left = left.saturating_sub(span.length());
-        match find_longest(span, ways) {
-            Some(at) => {
-                if !pay(span, ways, at, None) {
-                    return 0;
-                }
-            }
-            None => return left,
-        }
-    }
-    left
-}
-
-/// The place where an edge leads back to from a pc, if a way round may go along it and lack something: there is a LOOP between them.
-fn back_from(ways: &Ways, pc: u16) -> Option<u16>
-    requires { pc < 4096 }
-{
-    let here = ways.place(pc);
-    let arc = here.arc(true)?;
-    if here.free || pc < arc.to || (!takes(&arc) && ways.place(arc.to).loops == here.loops) {
+    let takes = round.takes.saturating_sub(round.sets);
+    if takes == 0 {
         return None;
     }
-    Some(arc.to)
+    let lacks = round.costs.saturating_sub(round.paid);
+    let next = u64::from(unit).saturating_add(lacks.div_ceil(takes));
+    if RAISES < raises {
+        Some(next.saturating_mul(2))
+    } else {
+        Some(next)
+    }
 }
 
-/// Pays for the ways round among the places of each loop, from where an edge leads back to up to where it begins: so loops one after
-/// another take no more than the length of each. Ways round through other places are left, and those of loops that are too long for
-/// the room that is left.
-fn pay_inside(body: &Body, ways: &mut Ways) {
-    let mut room = SEARCHES * u32::from(body.end - body.start);
-    for pc in body.start..body.end {
-        if let Some(to) = back_from(ways, pc) {
-            if u32::from(pc.saturating_sub(to)) < room {
-                let span = span_of(ways, to, pc + 1);
-                room = pay_among(&span, ways, room);
+impl Units {
+    pub(crate) fn new(alloc: Global) -> Result<Units, AllocError> {
+        let (pay, before) = two_tables(alloc, [0; 4], [0; 4])?;
+        let lengths = Lengths::new(alloc)?;
+        let waits = Pile::new(alloc)?;
+        Ok(Units {
+            pay,
+            lengths,
+            before,
+            waits,
+            looks: 0,
+        })
+    }
+
+    /// Whether so many more edges may be looked at.
+    pub(crate) fn look(&mut self, edges: u32) -> bool {
+        self.looks = self.looks.saturating_add(edges);
+        self.looks <= LOOKS
+    }
+
+    /// The unit of a counter at a place.
+    pub(crate) fn unit(&self, pc: u16, counter: u8) -> u32
+        requires { pc < 4096 }
+    {
+        number_of(self.pay.get(pc), counter)
+    }
+
+    /// The units at a place are at least these.
+    pub(crate) fn raise(&mut self, pc: u16, units: &[u32; 4])
+        requires { pc < 4096 }
+    {
+        raise(&mut self.pay, &mut self.waits, pc, units);
+    }
+
+    /// Units that have grown at the places that wait are there where they are asked for.
+    pub(crate) fn carry_all(&mut self, graph: &Graph) {
+        go_back(graph, &mut self.pay, &mut self.waits);
+    }
+
+    /// An edge with what it costs.
+    pub(crate) fn link(&self, pc: u16, arc: &Arc) -> Link
+        requires { pc < 4096 }
+    {
+        let mut link = Link {
+            to: arc.to,
+            costs: arc.steps(),
+            paid: 0,
+            share: Share::Nothing,
+        };
+        match arc.counting {
+            Counting::Sets(counter, most) => {
+                let price = u64::from(self.unit(arc.to, counter)).saturating_mul(u64::from(most));
+                link.costs = link.costs.saturating_add(price);
+            }
+            Counting::Takes(counter) => link.paid = u64::from(self.unit(pc, counter)),
+            _ => {}
+        }
+        link
+    }
+
+    /// The same in a nest that is paid for.
+    fn link_paying(&self, paying: &Paying, pc: u16, arc: &Arc, pays: bool) -> Link
+        requires { pc < 4096 }
+    {
+        let mut link = self.link(pc, arc);
+        if pays {
+            link.paid = link.paid.max(u64::from(paying.unit));
+            link.share = Share::Pays;
+        }
+        if let Some((counter, most)) = arc.sets() {
+            let is_for_it = paying.nest.tight
+                && counter == paying.nest.counter
+                && number_of(self.before.get(arc.to), counter) != 0;
+            if is_for_it {
+                let unit = self.unit(arc.to, counter).max(paying.unit);
+                link.costs = arc
+                    .steps()
+                    .saturating_add(u64::from(unit).saturating_mul(u64::from(most)));
+                link.share = Share::Costs(most);
             }
         }
+        link
     }
-}
 
-/// How many LOOPs a routine has.
-fn count_loops(body: &Body) -> u16 {
-    let mut loops: u16 = 0;
-    for pc in body.start..body.end {
-        if let Opcode::Loop = body.image.instr(pc).opcode {
-            loops = loops.saturating_add(1);
+    /// The edge of a place that is looked at in a nest that is paid for.
+    fn link_in(
+        &self,
+        graph: &Graph,
+        splitting: &Splitting,
+        paying: &Paying,
+        pc: u16,
+        branch: bool,
+    ) -> Option<Link>
+        requires { pc < 4096 }
+    {
+        let arc = graph.arc(pc, branch)?;
+        if !splitting.order.has(&paying.nest.piece, arc.to) {
+            return None;
+        }
+        let mut pays = false;
+        if branch {
+            match splitting.jumps.at(pc) {
+                Jump::Free => return None,
+                Jump::Pays(nest) if nest < paying.id => return None,
+                Jump::Pays(nest) => pays = nest == paying.id,
+                Jump::Plain => {}
+            }
+        }
+        Some(self.link_paying(paying, pc, &arc, pays))
+    }
+
+    /// Notes what each edge costs in a nest that is paid for, and forgets which edges made ways long.
+    fn weigh(&mut self, graph: &Graph, splitting: &Splitting, paying: &Paying) {
+        let piece = &paying.nest.piece;
+        for x in piece.begin..piece.end {
+            let pc = splitting.order.place(x);
+            let along = self.link_in(graph, splitting, paying, pc, false);
+            let branching = self.link_in(graph, splitting, paying, pc, true);
+            self.lengths.set_links(pc, [along, branching]);
+        }
+        self.lengths.forget(&splitting.order, piece);
+    }
+
+    /// Whether the LOOP at a place pays in a nest.
+    fn pays_in(&self, splitting: &Splitting, id: u16, pc: u16) -> bool
+        requires { pc < 4096 }
+    {
+        match splitting.jumps.at(pc) {
+            Jump::Pays(nest) => nest == id,
+            _ => false,
         }
     }
-    loops
-}
 
-/// Pays for one way round after another, until the longest way from each place ends; `false` where a way can't be paid for.
-pub(crate) fn pay_all(body: &Body, ways: &mut Ways) -> bool {
-    let loops = count_loops(body);
-    pay_inside(body, ways);
-    let all = span_of(ways, body.start, body.end);
-    carry(&all, ways);
-    let times = u64::from(loops);
-    // Each time a LOOP is raised. One is raised as often as there are LOOPs, and from then on its unit is doubled, so that it
-    // is past what a potential can say after 32 times more.
-    for _ in 0..times.saturating_mul(times + 34).saturating_add(1) {
-        match find_longest(&all, ways) {
-            Some(at) => {
-                if !pay(&all, ways, at, Some(loops)) {
-                    return false;
+    /// The least unit at the LOOPs that pay in a nest.
+    fn least_unit(&self, splitting: &Splitting, id: u16, nest: &Nest) -> u32 {
+        let mut least = u32::MAX;
+        for x in nest.piece.begin..nest.piece.end {
+            let pc = splitting.order.place(x);
+            if self.pays_in(splitting, id, pc) {
+                least = least.min(self.unit(pc, nest.counter));
+            }
+        }
+        least
+    }
+
+    /// A way round with one more edge.
+    fn with_link(&self, paying: &Paying, round: &Round, pc: u16, link: &Link) -> Round
+        requires { pc < 4096 }
+    {
+        let mut next = *round;
+        next.costs = next.costs.saturating_add(link.costs);
+        next.paid = next.paid.saturating_add(link.paid);
+        match link.share {
+            Share::Pays => {
+                let unit = self.unit(pc, paying.nest.counter);
+                next.least = match next.least {
+                    Some(least) => Some(least.min(unit)),
+                    None => Some(unit),
+                };
+                if unit <= paying.unit {
+                    next.takes = next.takes.saturating_add(1);
                 }
             }
-            None => return true,
+            Share::Costs(most) => {
+                if self.unit(link.to, paying.nest.counter) <= paying.unit {
+                    next.sets = next.sets.saturating_add(u64::from(most));
+                }
+                next.is_set = true;
+            }
+            Share::Nothing => {}
         }
+        next
     }
-    false
-}
 
-/// Sets what a unit has to pay for at the LOOP at a pc, whose counter costs nothing; `false` where that is past what a potential can
-/// say.
-fn pay_free_at(body: &Body, ways: &mut Ways, pc: u16) -> bool
-    requires { pc < body.now.end }
-{
-    let counter = body.image.instr(pc).a;
-    let mut here = *ways.place(pc);
-    let Some(arc) = here.arc(true) else {
-        return true;
-    };
-    if 4 <= counter {
-        return true;
-    }
-    let asked = ways.way(arc.to).steps.saturating_add(arc.steps());
-    let Ok(unit) = u32::try_from(asked.saturating_sub(ways.way(pc).steps)) else {
-        return false;
-    };
-    here.pay[usize::from(counter)] = unit.max(here.pay[usize::from(counter)]);
-    ways.set_place(pc, here);
-    true
-}
-
-/// The same for each LOOP of a routine whose counter costs nothing.
-pub(crate) fn pay_free(body: &Body, ways: &mut Ways) -> bool {
-    let mut some = false;
-    for pc in body.start..body.end {
-        if ways.place(pc).free {
-            some = true;
-            if !pay_free_at(body, ways, pc) {
-                return false;
+    /// The way round from a place.
+    fn round_at(&self, paying: &Paying, from: u16) -> Round
+        requires { from < 4096 }
+    {
+        let mut round = Round {
+            costs: 0,
+            paid: 0,
+            takes: 0,
+            sets: 0,
+            least: None,
+            is_set: false,
+        };
+        let mut at = from;
+        for _ in 0..MOST_INSTRS {
+            let Some(link) = self.lengths.next(at) else {
+                return round;
+            };
+            round = self.with_link(paying, &round, at, &link);
+            at = link.to;
+            if at == from {
+                return round;
             }
         }
+        round
     }
-    if some {
-        carry(&span_of(ways, body.start, body.end), ways);
+
+    /// The unit of a nest, where a way round from a place is paid for, too.
+    fn raised(&self, paying: &Paying, at: u16, raises: u32) -> Result<u32, Lack>
+        requires { at < 4096 }
+    {
+        let round = self.round_at(paying, at);
+        let Some(unit) = next_unit(paying.unit, &round, raises) else {
+            return Err(if round.is_set {
+                Lack::SetWithin(paying.nest.piece)
+            } else {
+                Lack::InTurn
+            });
+        };
+        match u32::try_from(unit) {
+            Ok(unit) => Ok(unit),
+            Err(_) => Err(Lack::Passes),
+        }
     }
-    true
+
+    /// Notes from where the counter of a nest is kept up to its LOOPs.
+    fn note_before(&mut self, graph: &Graph, splitting: &Splitting, paying: &Paying) {
+        self.before.fill_from(0, [0; 4]);
+        let piece = &paying.nest.piece;
+        for x in piece.begin..piece.end {
+            let pc = splitting.order.place(x);
+            if self.pays_in(splitting, paying.id, pc) {
+                let here = only(paying.nest.counter, 1);
+                raise(&mut self.before, &mut self.waits, pc, &here);
+            }
+        }
+        go_back(graph, &mut self.before, &mut self.waits);
+    }
+
+    /// Nests around a place where a counter is set are to be paid for, where that has grown dearer while a nest was paid for; those around
+    /// one that is left to the next round are left to that, too.
+    fn note_due(&self, splitting: &mut Splitting, paying: &Paying, round: u16, pc: u16)
+        requires { pc < 4096 }
+    {
+        let mut left = false;
+        let mut inner = true;
+        let mut around = splitting.nests.inner(pc);
+        for _ in 0..MOST_INSTRS {
+            let Some(id) = around else {
+                return;
+            };
+            if MOST_INSTRS <= id {
+                return;
+            }
+            let mut nest = splitting.nests.at(id);
+            if left {
+                nest.put_off = round;
+            }
+            if !(inner && nest.tight && id == paying.id) {
+                nest.due = true;
+            }
+            splitting.nests.set(id, nest);
+            left |= paying.id < id;
+            inner = false;
+            around = nest.around;
+        }
+    }
+
+    /// Nests are to be paid for in which a counter is set for the units at a place, which have grown; `false` where what that costs is past
+    /// what a potential can say.
+    fn note_dearer(
+        &mut self,
+        graph: &Graph,
+        splitting: &mut Splitting,
+        paying: &Paying,
+        round: u16,
+        to: u16,
+    ) -> bool
+        requires { to < 4096 }
+    {
+        let mut lead = graph.first_into(to);
+        for _ in 0..2 * u32::from(MOST_INSTRS) {
+            let Some(edge) = lead else {
+                return true;
+            };
+            if let Some(arc) = graph.arc(edge.from, edge.branch) {
+                if let Some((counter, most)) = arc.sets() {
+                    if counter == paying.nest.counter {
+                        let price = u64::from(self.unit(to, counter)).saturating_mul(u64::from(
+                            most,
+                        ));
+                        if u64::from(u32::MAX) < price {
+                            return false;
+                        }
+                        self.note_due(splitting, paying, round, edge.from);
+                    }
+                }
+            }
+            lead = graph.next_into(edge);
+        }
+        true
+    }
+
+    /// Units that have grown at the places that wait are there where they are asked for.
+    fn carry(
+        &mut self,
+        graph: &Graph,
+        splitting: &mut Splitting,
+        paying: &Paying,
+        round: u16,
+    ) -> Result<(), Lack> {
+        let mut fits = true;
+        for _ in 0..u32::MAX {
+            let Some(pc) = self.waits.take() else {
+                return if fits { Ok(()) } else { Err(Lack::Passes) };
+            };
+            fits = fits && self.note_dearer(graph, splitting, paying, round, pc);
+            go_back_from(graph, &mut self.pay, &mut self.waits, pc);
+        }
+        Err(Lack::Looks)
+    }
+
+    /// The unit of a nest is at its LOOPs, and where it is asked for.
+    fn set_unit(
+        &mut self,
+        graph: &Graph,
+        splitting: &mut Splitting,
+        paying: &Paying,
+        round: u16,
+    ) -> Result<(), Lack> {
+        let piece = &paying.nest.piece;
+        for x in piece.begin..piece.end {
+            let pc = splitting.order.place(x);
+            if self.pays_in(splitting, paying.id, pc) {
+                let unit = only(paying.nest.counter, paying.unit);
+                raise(&mut self.pay, &mut self.waits, pc, &unit);
+            }
+        }
+        self.carry(graph, splitting, paying, round)
+    }
+
+    /// The least unit of a nest with which no way round in it lacks something.
+    fn find_unit(
+        &mut self,
+        graph: &Graph,
+        splitting: &Splitting,
+        paying: &mut Paying,
+    ) -> Result<(), Lack> {
+        let piece = paying.nest.piece;
+        let mut raises = 0;
+        self.weigh(graph, splitting, paying);
+        for sweep in 0..LOOKS {
+            if !self.look(2 * piece.length()) {
+                return Err(Lack::Looks);
+            }
+            if !self.lengths.sweep(&splitting.order, &piece) {
+                return Ok(());
+            }
+            if EACH < sweep && sweep % EACH != 0 {
+                continue;
+            }
+            if let Some(at) = self.lengths.find_round(&splitting.order, &piece) {
+                paying.unit = self.raised(paying, at, raises)?;
+                raises += 1;
+                self.weigh(graph, splitting, paying);
+            }
+        }
+        Err(Lack::Looks)
+    }
+
+    /// Pays for a nest.
+    fn pay(
+        &mut self,
+        graph: &Graph,
+        splitting: &mut Splitting,
+        id: u16,
+        round: u16,
+    ) -> Result<(), Lack>
+        requires { id < 4096 }
+    {
+        let mut nest = splitting.nests.at(id);
+        nest.due = false;
+        nest.paid = nest.paid.saturating_add(1);
+        splitting.nests.set(id, nest);
+        let unit = self.least_unit(splitting, id, &nest);
+        let mut paying = Paying { nest, id, unit };
+        if nest.tight {
+            self.note_before(graph, splitting, &paying);
+        }
+        self.find_unit(graph, splitting, &mut paying)?;
+        self.set_unit(graph, splitting, &paying, round)
+    }
+
+    /// Pays for the nests that are to be paid for, inner ones first; whether there were any.
+    fn pay_round(
+        &mut self,
+        graph: &Graph,
+        splitting: &mut Splitting,
+        round: u16,
+    ) -> Result<bool, Lack> {
+        let mut some = false;
+        for id in (0..splitting.nests.count().min(MOST_INSTRS)).rev() {
+            let nest = splitting.nests.at(id);
+            if nest.due {
+                some = true;
+                if nest.put_off != round {
+                    self.pay(graph, splitting, id, round)?;
+                }
+            }
+        }
+        Ok(some)
+    }
+
+    /// Pays for all nests of a routine.
+    pub(crate) fn pay_all(
+        &mut self,
+        start: u16,
+        graph: &Graph,
+        splitting: &mut Splitting,
+    ) -> Result<(), Lack>
+        requires { start < 4096 }
+    {
+        self.looks = 0;
+        self.pay.fill_from(start, [0; 4]);
+        self.lengths.clear(start);
+        for round in 1..ROUNDS + 1 {
+            if !self.pay_round(graph, splitting, round)? {
+                return Ok(());
+            }
+        }
+        Err(Lack::InTurn)
+    }
 }

@@ -1,0 +1,158 @@
+//! Where the unit of a counter may not be wanted, and what it costs.
+
+ghost use Rattle.std.specs.Prelude.{◌<◌};
+
+use crate::arcs::{Arc, Counting};
+use crate::body::Body;
+use crate::graph::Graph;
+use crate::pieces::{Order, Piece};
+use crate::pile::Pile;
+use crate::spread::{Spread, go_on, number_of, only, raise};
+use crate::table::{Table, two_tables};
+use std::alloc::{AllocError, Global};
+
+/// What is known of counters at each place.
+#[derive(Drop)]
+pub(crate) struct Classes {
+    /// 1 where control comes with the counter as a call left it that touches it.
+    touched: Spread,
+    /// 1 where it comes with the counter as it was where the routine begins.
+    unset: Spread,
+    /// The greatest number that the counter is set to from where it comes with it; 0 where there is none.
+    prices: Spread,
+    /// 1 where it comes with the counter as it was set among the places that were looked at last.
+    set_within: Spread,
+    waits: Pile,
+}
+
+/// 1 of each of these counters.
+fn ones(counters: &[bool; 4]) -> [u32; 4] {
+    let [c0, c1, c2, c3] = *counters;
+    [u32::from(c0), u32::from(c1), u32::from(c2), u32::from(c3)]
+}
+
+/// 1 of each counter of which an edge forgets what is known.
+fn forgets(arc: &Arc) -> [u32; 4] {
+    match arc.counting {
+        Counting::Forgets(counters) => ones(&counters),
+        _ => [0; 4],
+    }
+}
+
+/// What an edge sets its counter to.
+fn sets(arc: &Arc) -> [u32; 4] {
+    match arc.sets() {
+        Some((counter, most)) => only(counter, u32::from(most)),
+        None => [0; 4],
+    }
+}
+
+/// 1 of the counter that an edge sets.
+fn sets_some(arc: &Arc) -> [u32; 4] {
+    match arc.sets() {
+        Some((counter, _)) => only(counter, 1),
+        None => [0; 4],
+    }
+}
+
+impl Classes {
+    pub(crate) fn new(alloc: Global) -> Result<Classes, AllocError> {
+        let (touched, unset) = two_tables(alloc, [0; 4], [0; 4])?;
+        let (prices, set_within) = two_tables(alloc, [0; 4], [0; 4])?;
+        let waits = Pile::new(alloc)?;
+        Ok(Classes {
+            touched,
+            unset,
+            prices,
+            set_within,
+            waits,
+        })
+    }
+
+    /// Notes where a routine's edges make counters what they are.
+    fn begin(&mut self, body: &Body, graph: &Graph) {
+        raise(&mut self.unset, &mut self.waits, body.start, &[1; 4]);
+        go_on(graph, &mut self.unset, &mut self.waits);
+        for pc in body.start..body.end {
+            if let Some(arc) = graph.arc(pc, false) {
+                raise(&mut self.touched, &mut self.waits, arc.to, &forgets(&arc));
+            }
+        }
+        go_on(graph, &mut self.touched, &mut self.waits);
+        for pc in body.start..body.end {
+            if let Some(arc) = graph.arc(pc, false) {
+                raise(&mut self.prices, &mut self.waits, arc.to, &sets(&arc));
+            }
+        }
+        go_on(graph, &mut self.prices, &mut self.waits);
+    }
+
+    /// Notes what is known of counters in a routine.
+    pub(crate) fn note(&mut self, body: &Body, graph: &Graph) {
+        self.touched.fill_from(body.start, [0; 4]);
+        self.unset.fill_from(body.start, [0; 4]);
+        self.prices.fill_from(body.start, [0; 4]);
+        self.begin(body, graph);
+    }
+
+    /// Notes where control comes with counters as they are set in a piece.
+    pub(crate) fn note_set_within(
+        &mut self,
+        start: u16,
+        graph: &Graph,
+        order: &Order,
+        piece: &Piece,
+    )
+        requires { start < 4096 }
+    {
+        self.set_within.fill_from(start, [0; 4]);
+        for x in piece.begin..piece.end {
+            if let Some(arc) = graph.arc(order.place(x), false) {
+                if order.has(piece, arc.to) {
+                    raise(
+                        &mut self.set_within,
+                        &mut self.waits,
+                        arc.to,
+                        &sets_some(&arc),
+                    );
+                }
+            }
+        }
+        go_on(graph, &mut self.set_within, &mut self.waits);
+    }
+
+    /// Whether a call that touches a counter leaves it so for a place.
+    pub(crate) fn is_touched(&self, pc: u16, counter: u8) -> bool
+        requires { pc < 4096 }
+    {
+        number_of(self.touched.get(pc), counter) != 0
+    }
+
+    /// Whether a counter may be at a place what it was where the routine begins.
+    pub(crate) fn is_unset(&self, pc: u16, counter: u8) -> bool
+        requires { pc < 4096 }
+    {
+        number_of(self.unset.get(pc), counter) != 0
+    }
+
+    /// What a unit of a counter costs at a place where the counter is set for it.
+    pub(crate) fn price(&self, pc: u16, counter: u8) -> u32
+        requires { pc < 4096 }
+    {
+        number_of(self.prices.get(pc), counter)
+    }
+
+    /// Whether a counter may be at a place what it was set to in the piece that was looked at last.
+    pub(crate) fn is_set_within(&self, pc: u16, counter: u8) -> bool
+        requires { pc < 4096 }
+    {
+        number_of(self.set_within.get(pc), counter) != 0
+    }
+
+    /// Whether a counter is 0 at a place.
+    pub(crate) fn is_spent(&self, pc: u16, counter: u8) -> bool
+        requires { pc < 4096 }
+    {
+        !self.is_touched(pc, counter) && !self.is_unset(pc, counter) && self.price(pc, counter) == 0
+    }
+}

@@ -1,0 +1,119 @@
+//! Constants: the longest ways from each place, where units of counters pay for so much.
+
+ghost use Rattle.std.specs.Prelude.{◌<◌, ◌≤◌};
+
+use crate::asked::return_steps;
+use crate::body::Body;
+use crate::graph::Graph;
+use crate::jumps::Jump;
+use crate::lengths::Link;
+use crate::nests::Splitting;
+use crate::pieces::Piece;
+use crate::spread::{go_back, only, raise};
+use crate::table::Potentials;
+use crate::units::{Lack, Units};
+use geos_image::Potential;
+
+/// The edge of a place that is looked at: all but those of LOOPs that are left out.
+fn link_at(
+    graph: &Graph,
+    splitting: &Splitting,
+    units: &Units,
+    pc: u16,
+    branch: bool,
+) -> Option<Link>
+    requires { pc < 4096 }
+{
+    if branch {
+        if let Jump::Free = splitting.jumps.at(pc) {
+            return None;
+        }
+    }
+    let arc = graph.arc(pc, branch)?;
+    Some(units.link(pc, &arc))
+}
+
+/// Finds the longest way from each place.
+pub(crate) fn find_constants(
+    body: &Body,
+    graph: &Graph,
+    splitting: &Splitting,
+    units: &mut Units,
+) -> Result<(), Lack> {
+    for pc in body.start..body.end {
+        let along = link_at(graph, splitting, units, pc, false);
+        let branching = link_at(graph, splitting, units, pc, true);
+        units.lengths.set_links(pc, [along, branching]);
+        let steps = return_steps(body.image.instr(pc));
+        units.lengths.set_steps(pc, steps);
+    }
+    let all = Piece {
+        begin: body.start,
+        end: body.end,
+    };
+    // A way that passes no place twice is found by as many sweeps as it has edges, and in the last one nothing is longer.
+    for _ in 0..all.length().saturating_add(2) {
+        if !units.look(2 * all.length()) {
+            return Err(Lack::Looks);
+        }
+        if !units.lengths.sweep(&splitting.order, &all) {
+            return Ok(());
+        }
+    }
+    Err(Lack::Looks)
+}
+
+/// Sets what a unit has to pay for at the LOOP at a pc, whose counter is 0.
+fn free_loop(graph: &Graph, units: &mut Units, pc: u16) -> Result<(), Lack>
+    requires { pc < 4096 }
+{
+    let Some(arc) = graph.arc(pc, true) else {
+        return Ok(());
+    };
+    let Some(counter) = arc.takes() else {
+        return Ok(());
+    };
+    let asked = units.lengths.steps(arc.to).saturating_add(arc.steps());
+    match u32::try_from(asked.saturating_sub(units.lengths.steps(pc))) {
+        Ok(unit) => {
+            units.raise(pc, &only(counter, unit));
+            Ok(())
+        }
+        Err(_) => Err(Lack::Passes),
+    }
+}
+
+/// The same for each LOOP of a routine whose counter is 0.
+pub(crate) fn free_loops(
+    body: &Body,
+    graph: &Graph,
+    splitting: &Splitting,
+    units: &mut Units,
+) -> Result<(), Lack> {
+    for pc in body.start..body.end {
+        if let Jump::Free = splitting.jumps.at(pc) {
+            free_loop(graph, units, pc)?;
+        }
+    }
+    units.carry_all(graph);
+    Ok(())
+}
+
+/// The potentials of a routine are what was found.
+pub(crate) fn put_potentials(
+    body: &Body,
+    units: &Units,
+    potentials: &mut Potentials,
+) -> Result<(), Lack> {
+    for pc in body.start..body.end {
+        let Ok(constant) = u32::try_from(units.lengths.steps(pc)) else {
+            return Err(Lack::Passes);
+        };
+        let potential = Potential {
+            constant,
+            coefficients: units.pay.at(pc),
+        };
+        potentials.set(pc, potential);
+    }
+    Ok(())
+}

@@ -1,0 +1,59 @@
+//! The edges of a routine with what they cost, from each place and into it.
+
+ghost use Rattle.std.specs.Prelude.{◌<◌};
+
+use crate::arcs::{Arc, arc_of};
+use crate::body::Body;
+use crate::leads::{Lead, Leads};
+use crate::table::{Known, Table};
+use geos_verify::Touched;
+use std::alloc::{AllocError, Global};
+
+/// The edges of a routine that stay in it.
+#[derive(Drop)]
+pub(crate) struct Graph {
+    /// The edge to the next instruction, and the one to the target.
+    arcs: Table<[Option<Arc>; 2]>,
+    leads: Leads,
+}
+
+impl Graph {
+    /// There are no edges.
+    pub(crate) fn new(alloc: Global) -> Result<Graph, AllocError> {
+        let leads = Leads::new(alloc)?;
+        let arcs = Table::new(alloc, [None, None])?;
+        Ok(Graph { arcs, leads })
+    }
+
+    /// Notes the edges of a routine, in the place of those of another.
+    pub(crate) fn note(&mut self, body: &Body, known: &Known, touched: &Touched) {
+        self.leads.clear_from(body.start);
+        for pc in body.start..body.end {
+            let along = arc_of(body, known, touched, pc, false);
+            let branching = arc_of(body, known, touched, pc, true);
+            let arcs = [along, branching];
+            self.leads.add(pc, &arcs);
+            self.arcs.set(pc, arcs);
+        }
+    }
+
+    /// The edge of the instruction at a pc, to its target where `branch` says so.
+    pub(crate) fn arc(&self, pc: u16, branch: bool) -> Option<Arc>
+        requires { pc < 4096 }
+    {
+        let [along, branching] = self.arcs.get(pc);
+        if branch { *branching } else { *along }
+    }
+
+    /// The first edge into a place.
+    pub(crate) fn first_into(&self, to: u16) -> Option<Lead>
+        requires { to < 4096 }
+    {
+        self.leads.first(to)
+    }
+
+    /// The next edge into where an edge leads.
+    pub(crate) fn next_into(&self, lead: Lead) -> Option<Lead> {
+        self.leads.next(lead)
+    }
+}

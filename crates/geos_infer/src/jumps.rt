@@ -1,0 +1,43 @@
+//! LOOPs' ways to their targets: which are left out, and which pay.
+
+ghost use Rattle.std.specs.Prelude.{◌<◌, IfSome};
+
+use crate::graph::Graph;
+use crate::pieces::{Order, Piece};
+use crate::table::Table;
+
+/// What is found of the way from a place to its target.
+#[derive(Clone, Copy)]
+pub(crate) enum Jump {
+    /// It is like any edge; so far, where it is a LOOP's.
+    Plain,
+    /// A LOOP's whose counter is 0: it is left out.
+    Free,
+    /// A LOOP's, which pays in a nest and all that are around it.
+    Pays(u16),
+}
+
+/// What is found of the way from each place to its target.
+pub(crate) type Jumps = Table<Jump>;
+
+/// Where an edge leads that stays in a piece, and is no LOOP's way to its target that is left out or pays.
+pub(crate) fn lead_within(
+    graph: &Graph,
+    jumps: &Jumps,
+    order: &Order,
+    piece: &Piece,
+    pc: u16,
+    branch: bool,
+) -> Option<u16>
+    requires { pc < 4096 }
+    ensures { IfSome result (λ to. to < 4096) }
+{
+    if branch {
+        match jumps.at(pc) {
+            Jump::Plain => {}
+            _ => return None,
+        }
+    }
+    let to = graph.arc(pc, branch)?.to;
+    if order.has(piece, to) { Some(to) } else { None }
+}

@@ -1,0 +1,78 @@
+//! The places of a routine in the order in which they are gone over, and pieces of that order.
+
+ghost use Rattle.std.specs.Prelude.{◌<◌, ◌≤◌};
+
+use crate::body::Body;
+use crate::place::Place;
+use crate::table::{Table, two_tables};
+use std::alloc::{AllocError, Global};
+
+/// The places from one on up to another, in an order of places.
+#[derive(Clone, Copy)]
+pub(crate) struct Piece {
+    pub(crate) begin: u16,
+    pub(crate) end: u16,
+    ghost room: { end ≤ 4096 },
+}
+
+impl Piece {
+    /// How many places there are.
+    pub(crate) fn length(&self) -> u32
+        ensures { result ≤ 4096 }
+    {
+        u32::from(self.end.saturating_sub(self.begin))
+    }
+}
+
+/// The places of a routine in some order.
+#[derive(Drop)]
+pub(crate) struct Order {
+    places: Table<Place>,
+    /// Where each place stands.
+    at: Table<u16>,
+}
+
+impl Order {
+    /// There are no places.
+    pub(crate) fn new(alloc: Global) -> Result<Order, AllocError> {
+        let (places, at) = two_tables(alloc, Place { pc: 0 }, 0)?;
+        Ok(Order { places, at })
+    }
+
+    /// The places of a routine stand in the order of their pcs; the piece that they are.
+    pub(crate) fn begin(&mut self, body: &Body) -> Piece {
+        for pc in body.start..body.end {
+            self.put(pc, pc);
+        }
+        Piece {
+            begin: body.start,
+            end: body.end,
+        }
+    }
+
+    /// A place stands here.
+    pub(crate) fn put(&mut self, x: u16, pc: u16)
+        requires here { x < 4096 }
+        requires place { pc < 4096 }
+    {
+        self.places.set(x, Place { pc });
+        self.at.set(pc, x);
+    }
+
+    /// The place that stands here.
+    pub(crate) fn place(&self, x: u16) -> u16
+        requires { x < 4096 }
+        ensures { result < 4096 }
+    {
+        let Place { pc } = self.places.at(x);
+        pc
+    }
+
+    /// Whether a piece has a place.
+    pub(crate) fn has(&self, piece: &Piece, pc: u16) -> bool
+        requires { pc < 4096 }
+    {
+        let x = self.at.at(pc);
+        piece.begin <= x && x < piece.end
+    }
+}
