@@ -10,8 +10,10 @@ use Rattle.geos_infer.specs.declared.apart.Apart.{Apart}
 use Rattle.geos_infer.specs.declared.apart.Coming.{Coming}
 use Rattle.geos_infer.specs.declared.cause.BackWay.{BackWay}
 use Rattle.geos_infer.specs.declared.cause.Within.{Within}
+use Rattle.geos_infer.specs.declared.cause.LoopPair.{LoopPair}
+use Rattle.geos_infer.specs.declared.cause.ByWord.{ByWord}
 use Rattle.geos_infer.specs.declared.cause.Cause.{Cause}
-use Rattle.geos_infer.specs.declared.cause.Cause.TheVariants.{SlotsDiffer, NoLoop, SetWithin, TouchedWithin, StepsPass, NoSteps, Unknown}
+use Rattle.geos_infer.specs.declared.cause.Cause.TheVariants.{SlotsDiffer, NoLoop, SetWithin, TouchedWithin, TouchedBefore, InTurn, StepsPass, WordUnbounded, GivenUp, NoSteps, Unknown}
 use Rattle.geos_explain.specs.Numbers.{pc_text}
 
 -- what a slot holds
@@ -83,6 +85,26 @@ call_text lines within = concat (codes "the call at" ∷ pc_text lines within.at
 unfoldable pub touched_text : List ℕ → Within → List ℕ
 touched_text lines within = call_text lines within ++ own_loop_text lines within.back
 
+-- a call touches a counter that is not set behind it
+unfoldable pub touched_before_text : List ℕ → Within → List ℕ
+touched_before_text lines within = call_text lines within ++ codes ", which nothing sets before its loop:" ++ back_text lines within.back
+
+-- a counter is set in the loop of a way that leads back
+unfoldable pub set_in_text : List ℕ → ℕ → ℕ → BackWay → List ℕ
+set_in_text lines counter at back = concat (codes "k" ∷ decimal counter ∷ codes " at" ∷ pc_text lines at ∷ codes " in the loop where" ∷ back_text lines back ∷ [])
+
+-- two loops set the counters of each other
+unfoldable pub in_turn_text : List ℕ → LoopPair → List ℕ
+in_turn_text lines both = codes "two loops set the counters of each other: " ++ set_in_text lines both.other_counter both.at both.back ++ codes ", and " ++ set_in_text lines both.counter both.other_at both.other
+
+-- the steps pass the limit where a word is so large as it may be
+unfoldable pub by_word_text : List ℕ → ByWord → List ℕ
+by_word_text lines by_word = concat (codes "the steps may pass 4,294,967,295, since k" ∷ decimal by_word.counter ∷ codes " is set to w" ∷ decimal by_word.word ∷ codes " at" ∷ pc_text lines by_word.at ∷ codes ": CHK it" ∷ [])
+
+-- the search was given up
+abbrev pub given_up_text : List ℕ → BackWay → List ℕ
+given_up_text lines back = codes "the search for steps takes too long and was given up; the first loop:" ++ back_text lines back
+
 -- nothing pays for a way back
 abbrev pub no_loop_text : List ℕ → BackWay → List ℕ
 no_loop_text lines back = codes "nothing pays for the way back:" ++ back_text lines back
@@ -105,7 +127,11 @@ cause_words lines (SlotsDiffer apart) = apart_text lines apart
 cause_words lines (NoLoop back) = no_loop_text lines back
 cause_words lines (SetWithin within) = within_text lines within
 cause_words lines (TouchedWithin within) = touched_text lines within
+cause_words lines (TouchedBefore within) = touched_before_text lines within
+cause_words lines (InTurn both) = in_turn_text lines both
 cause_words lines StepsPass = steps_pass_text
+cause_words lines (WordUnbounded by_word) = by_word_text lines by_word
+cause_words lines (GivenUp back) = given_up_text lines back
 cause_words lines (NoSteps back) = no_steps_text lines back
 cause_words lines Unknown = unknown_text
 

@@ -1,11 +1,11 @@
 //! Why no rows or no numbers of steps are found, in an author's words.
 
 ghost use Rattle.std.specs.Prelude.{◌≡◌, ◌++◌, OnOk, IfOk};
-ghost use Rattle.geos_causes.specs.Causes.{differing_item, differing_items, is_from, edge_text, coming_from, coming_text, touched_text, apart_text, back_text, within_text, cause_words, cause_text};
+ghost use Rattle.geos_causes.specs.Causes.{differing_item, differing_items, is_from, edge_text, coming_from, coming_text, touched_text, touched_before_text, set_in_text, in_turn_text, by_word_text, apart_text, back_text, within_text, cause_words, cause_text};
 
 use geos_explain::pc_part;
 use geos_image::SlotState;
-use geos_infer::{Apart, BackWay, Cause, Coming, Edge, Within};
+use geos_infer::{Apart, BackWay, ByWord, Cause, Coming, Edge, LoopPair, Within};
 use geos_listing::state_word;
 use geos_text::{Part, put_parts};
 use geos_verify::{is_empty, slot_fits};
@@ -174,6 +174,80 @@ fn put_touched(out: &mut Vec<u8>, lines: &[usize], within: &Within) -> Result<()
     put_back(out, ", within its own loop:", lines, &within.back)
 }
 
+/// A call touches a counter that is not set behind it.
+#[tactic(auto, unfolding(crate::specs::Causes::call_text, crate::specs::Causes::touched_before_text))]
+fn put_touched_before(out: &mut Vec<u8>, lines: &[usize], within: &Within) -> Result<(), AllocError>
+    ensures { OnOk result (out.new.items ≡ out.old.items ++ touched_before_text lines.now within.now) }
+{
+    put_parts(
+        out,
+        &[
+            Part::Text("the call at"),
+            pc_part(lines, within.at),
+            Part::Numbered(" touches k", within.counter as u64),
+        ],
+    )?;
+    put_back(
+        out,
+        ", which nothing sets before its loop:",
+        lines,
+        &within.back,
+    )
+}
+
+/// A counter is set in the loop of a way that leads back.
+#[tactic(auto, unfolding(crate::specs::Causes::set_in_text))]
+fn put_set_in(
+    out: &mut Vec<u8>,
+    lines: &[usize],
+    counter: u8,
+    at: u16,
+    back: &BackWay,
+) -> Result<(), AllocError>
+    ensures { OnOk result (out.new.items ≡ out.old.items ++ set_in_text lines.now counter at back.now) }
+{
+    put_parts(
+        out,
+        &[
+            Part::Numbered("k", counter as u64),
+            Part::Text(" at"),
+            pc_part(lines, at),
+        ],
+    )?;
+    put_back(out, " in the loop where", lines, back)
+}
+
+/// Two loops set the counters of each other.
+#[tactic(auto, unfolding(crate::specs::Causes::in_turn_text))]
+fn put_in_turn(out: &mut Vec<u8>, lines: &[usize], both: &LoopPair) -> Result<(), AllocError>
+    ensures { OnOk result (out.new.items ≡ out.old.items ++ in_turn_text lines.now both.now) }
+{
+    out.extend_from_slice(b"two loops set the counters of each other: ")?;
+    put_set_in(out, lines, both.other_counter, both.at, &both.back)?;
+    out.extend_from_slice(b", and ")?;
+    put_set_in(out, lines, both.counter, both.other_at, &both.other)
+}
+
+/// The steps pass the limit where a word is so large as it may be.
+#[tactic(auto, unfolding(crate::specs::Causes::by_word_text))]
+fn put_by_word(out: &mut Vec<u8>, lines: &[usize], by_word: &ByWord) -> Result<(), AllocError>
+    ensures { OnOk result (out.new.items ≡ out.old.items ++ by_word_text lines.now by_word.now) }
+{
+    put_parts(
+        out,
+        &[
+            Part::Numbered(
+                "the steps may pass 4,294,967,295, since k",
+                by_word.counter as u64,
+            ),
+            Part::Numbered(" is set to w", by_word.word as u64),
+            Part::Text(" at"),
+            pc_part(lines, by_word.at),
+            Part::Text(": CHK it"),
+        ],
+    )
+}
+
 /// Why no rows or no numbers of steps are found.
 fn put_cause(out: &mut Vec<u8>, lines: &[usize], cause: &Cause) -> Result<(), AllocError>
     ensures { OnOk result (out.new.items ≡ out.old.items ++ cause_words lines.now cause.now) }
@@ -183,6 +257,15 @@ fn put_cause(out: &mut Vec<u8>, lines: &[usize], cause: &Cause) -> Result<(), Al
         Cause::NoLoop(back) => put_back(out, "nothing pays for the way back:", lines, back),
         Cause::SetWithin(within) => put_within(out, lines, within),
         Cause::TouchedWithin(within) => put_touched(out, lines, within),
+        Cause::TouchedBefore(within) => put_touched_before(out, lines, within),
+        Cause::InTurn(both) => put_in_turn(out, lines, both),
+        Cause::WordUnbounded(by_word) => put_by_word(out, lines, by_word),
+        Cause::GivenUp(back) => put_back(
+            out,
+            "the search for steps takes too long and was given up; the first loop:",
+            lines,
+            back,
+        ),
         Cause::StepsPass => out.extend_from_slice(b"the steps pass 4,294,967,295"),
         Cause::NoSteps(back) => put_back(out, "no steps were found for the loop:", lines, back),
         Cause::Unknown => out.extend_from_slice(b"no steps were found"),

@@ -1,5 +1,5 @@
 -- Causes for which no rows or no numbers of steps are found for a routine, and what each says.
-use Rattle.std.specs.Prelude.{◌≡◌, ◌≤◌, ℕ, Bool, ◌&&◌, List, [], ◌∷◌, true, false, ◌==◌, Some, slice_get}
+use Rattle.std.specs.Prelude.{◌≡◌, ◌≤◌, ℕ, Bool, ◌&&◌, List, [], ◌∷◌, ◌+◌, true, false, ◌==◌, None, Some, slice_get}
 use Rattle.geos_opcodes.specs.declared.opcode.Opcode.{Opcode}
 use Rattle.geos_opcodes.specs.declared.opcode.Opcode.TheVariants.{Setk, Setkw, Loop}
 use Rattle.geos_image.specs.declared.instr.Instr.{Instr}
@@ -8,11 +8,14 @@ use Rattle.geos_image.specs.Parts.{Parts}
 use Rattle.geos_verify.specs.Touched.{calls, noted, touches}
 use Rattle.geos_infer.specs.Code.{IsPcOf}
 use Rattle.geos_infer.specs.Why.{LeadsTo, AreApart}
+use Rattle.geos_infer.specs.Trails.{IsTrail}
 use Rattle.geos_infer.specs.Taken as taken
 use Rattle.geos_infer.specs.declared.cause.BackWay.{BackWay}
 use Rattle.geos_infer.specs.declared.cause.Within.{Within}
+use Rattle.geos_infer.specs.declared.cause.LoopPair.{LoopPair}
+use Rattle.geos_infer.specs.declared.cause.ByWord.{ByWord}
 use Rattle.geos_infer.specs.declared.cause.Cause.{Cause}
-use Rattle.geos_infer.specs.declared.cause.Cause.TheVariants.{SlotsDiffer, NoLoop, SetWithin, TouchedWithin, StepsPass, NoSteps, Unknown}
+use Rattle.geos_infer.specs.declared.cause.Cause.TheVariants.{SlotsDiffer, NoLoop, SetWithin, TouchedWithin, TouchedBefore, InTurn, StepsPass, WordUnbounded, GivenUp, NoSteps, Unknown}
 
 -- an instruction of routine r leads back within it by its target
 pub record LeadsBack (image : Parts) (r : ℕ) (back : BackWay) : Type 0 where
@@ -69,24 +72,65 @@ NotesTouched image table = (k r : ℕ) → noted table k r ≡ true → touches 
 abbrev pub calls_touching : Parts → ℕ → Instr → Bool
 calls_touching image k i = calls i.opcode && touches image k i.imm
 
--- a LOOP of routine r on this counter leads back
-pub record LoopsBack (image : Parts) (r : ℕ) (back : BackWay) (counter : ℕ) : Type 0 where
-  pub leads : LeadsBack image r back
+-- a LOOP of routine r on this counter leads to its target in the routine
+pub record LoopsTo (image : Parts) (r : ℕ) (back : BackWay) (counter : ℕ) : Type 0 where
+  pub leads : LeadsTo image back.from true back.to
+  pub from : IsPcOf image r back.from
+  pub to : IsPcOf image r back.to
   pub loops : PassesAt image back.from (λ i. loops_on counter i i.opcode)
 
--- a LOOP of routine r leads back, and between its target and itself an instruction sets its counter
-pub record SetsWithin (image : Parts) (r : ℕ) (within : Within) : Type 0 where
-  pub loops : LoopsBack image r within.back within.counter
-  pub sets : PassesAt image within.at (λ i. sets_counter within.counter i i.opcode)
-  pub above : within.back.to ≤ within.at
-  pub below : within.at ≤ within.back.from
+-- control can come from one pc of routine r to another
+abbrev pub ComesRound : Parts → ℕ → ℕ → ℕ → Type 0
+ComesRound image r from to = (branches : List Bool) × IsTrail image r None from branches to
 
--- a LOOP of routine r leads back, and between its target and itself a routine is called that touches its counter
-pub record TouchesWithin (image : Parts) (r : ℕ) (within : Within) : Type 0 where
-  pub loops : LoopsBack image r within.back within.counter
+-- behind a pc control can come to another, and nothing sets the counter on that way
+abbrev pub IsKept : Parts → ℕ → ℕ → ℕ → ℕ → Type 0
+IsKept image r counter at to = (branches : List Bool) × IsTrail image r (Some counter) (at + 1) branches to
+
+-- from a LOOP's target control comes to where its counter is set, and from there with the counter to the LOOP
+pub record SetsWithin (image : Parts) (r : ℕ) (within : Within) : Type 0 where
+  pub loops : LoopsTo image r within.back within.counter
+  pub here : IsPcOf image r within.at
+  pub sets : PassesAt image within.at (λ i. sets_counter within.counter i i.opcode)
+  pub kept : IsKept image r within.counter within.at within.back.from
+  pub round : ComesRound image r within.back.to within.at
+
+-- a routine is called that touches the counter of a LOOP, and it is not set from there to the LOOP
+pub record TouchesBefore (image : Parts) (r : ℕ) (within : Within) : Type 0 where
+  pub loops : LoopsTo image r within.back within.counter
+  pub here : IsPcOf image r within.at
   pub touches : PassesAt image within.at (calls_touching image within.counter)
-  pub above : within.back.to ≤ within.at
-  pub below : within.at ≤ within.back.from
+  pub kept : IsKept image r within.counter within.at within.back.from
+
+-- the same, and control comes there from the LOOP's target
+pub record TouchesWithin (image : Parts) (r : ℕ) (within : Within) : Type 0 where
+  pub before : TouchesBefore image r within
+  pub round : ComesRound image r within.back.to within.at
+
+-- in the loop that a LOOP closes, the counter of another LOOP is set, and kept from there to that
+pub record SetsFor (image : Parts) (r : ℕ) (back other : BackWay) (counter at : ℕ) : Type 0 where
+  pub here : IsPcOf image r at
+  pub sets : PassesAt image at (λ i. sets_counter counter i i.opcode)
+  pub kept : IsKept image r counter at other.from
+  pub round : ComesRound image r back.to at
+  pub again : ComesRound image r at back.from
+
+-- two LOOPs close loops in each of which the counter of the other is set for it
+pub record WaitInTurn (image : Parts) (r : ℕ) (both : LoopPair) : Type 0 where
+  pub loops : LoopsTo image r both.back both.counter
+  pub other_loops : LoopsTo image r both.other both.other_counter
+  pub sets : SetsFor image r both.back both.other both.other_counter both.at
+  pub other_sets : SetsFor image r both.other both.back both.counter both.other_at
+
+-- the instruction sets this counter to a word
+abbrev pub sets_to_word : ℕ → ℕ → Instr → Opcode → Bool
+sets_to_word k w i Setkw = (i.a == k) && (i.b == w)
+sets_to_word k w i _ = false
+
+-- an instruction of routine r sets a counter to a word
+pub record SetsByWord (image : Parts) (r : ℕ) (by_word : ByWord) : Type 0 where
+  pub here : IsPcOf image r by_word.at
+  pub sets : PassesAt image by_word.at (λ i. sets_to_word by_word.counter by_word.word i i.opcode)
 
 -- the cause holds of the image's routine r
 abbrev pub Holds : Parts → ℕ → Cause → Type 0
@@ -94,6 +138,10 @@ Holds image r (SlotsDiffer apart) = AreApart image r apart
 Holds image r (NoLoop back) = GoesRound image r back.from back.to
 Holds image r (SetWithin within) = SetsWithin image r within
 Holds image r (TouchedWithin within) = TouchesWithin image r within
+Holds image r (TouchedBefore within) = TouchesBefore image r within
+Holds image r (InTurn both) = WaitInTurn image r both
 Holds image r StepsPass = taken.StepsPass image r
+Holds image r (WordUnbounded by_word) = SetsByWord image r by_word
+Holds image r (GivenUp back) = LeadsBack image r back
 Holds image r (NoSteps back) = LeadsBack image r back
 Holds image r Unknown = Unit {0}

@@ -11,4 +11,5 @@ pub mod Theorem
 pub mod Why
 pub mod Taken
 pub mod Turns
+pub mod Trails
 pub mod Causes

@@ -1,37 +1,69 @@
 //! Why no rows or no numbers of steps are found for a routine.
 
-ghost use Rattle.std.specs.Prelude.{◌≡◌, ◌<◌, ◌≤◌, ℕ, true, false, Some, length, slice_get, IfSome, IfOk};
-ghost use Rattle.geos_infer.specs.Causes.{LeadsBack, GoesRound, PassesAt, sets_counter, calls_touching, NotesTouched, LoopsBack, SetsWithin, TouchesWithin, Holds};
-ghost use Rattle.geos_image.specs.declared.point.Point.{Point};
+ghost use Rattle.std.specs.Prelude.{◌≡◌, ◌<◌, length, IfSome, IfOk};
+ghost use Rattle.geos_infer.specs.Causes.{LeadsBack, SetsByWord, NotesTouched, Holds};
 
 use crate::apart::{Apart, find_apart};
 use crate::body::{Body, body_of};
-use crate::edges::{edge_in, is_loop};
-use crate::spent::{find_touched, touches};
+use crate::edges::edge_in;
+use crate::in_turn::find_in_turn;
+use crate::order::Piece;
+use crate::rows::find_rows;
+use crate::search::Search;
+use crate::spent::find_touched;
+use crate::table::{Known, Table};
+use crate::trails::Trails;
 use crate::turns::steps_pass;
+use crate::units::Lack;
 use crate::unpaid::find_round;
-use geos_image::{Image, Instr, Opcode};
+use crate::within::{find_set_within, find_touched_before, find_touched_within};
+use geos_image::{Image, Opcode, Potential};
 use geos_verify::Touched;
 use std::alloc::{AllocError, Global};
 
-/// An edge that leads back.
+/// An edge to a target by which control goes round: one that leads back, or that of a LOOP.
 #[derive(Clone, Copy)]
 pub struct BackWay {
     /// The pc of the instruction that it comes from.
     pub from: u16,
-    /// The pc that it leads to, the same or one before.
+    /// The pc that it leads to.
     pub to: u16,
 }
 
 /// What is wrong at a place of a loop that a LOOP closes.
 #[derive(Clone, Copy)]
 pub struct Within {
-    /// LOOP's way back.
+    /// LOOP's way to its target.
     pub back: BackWay,
     /// The counter that it takes from.
     pub counter: u8,
     /// The pc of the place.
     pub at: u16,
+}
+
+/// Two loops that wait on each other.
+#[derive(Clone, Copy)]
+pub struct LoopPair {
+    /// The way of a LOOP to its target.
+    pub back: BackWay,
+    /// The counter that it takes from.
+    pub counter: u8,
+    /// The pc in its loop where the other's counter is set.
+    pub at: u16,
+    /// The way of the other LOOP to its target.
+    pub other: BackWay,
+    /// The counter that it takes from.
+    pub other_counter: u8,
+    /// The pc in its loop where the first one's counter is set.
+    pub other_at: u16,
+}
+
+/// Where a counter is set to a word.
+#[derive(Clone, Copy)]
+pub struct ByWord {
+    pub at: u16,
+    pub counter: u8,
+    pub word: u8,
 }
 
 /// Why no rows or no numbers of steps are found for a routine.
@@ -45,8 +77,16 @@ pub enum Cause {
     SetWithin(Within),
     /// A routine that is called within the loop of a counter touches it.
     TouchedWithin(Within),
+    /// A routine that is called before the loop of a counter touches it, and it is not set behind that.
+    TouchedBefore(Within),
+    /// Two loops set the counters of each other.
+    InTurn(LoopPair),
     /// On some way more steps are taken than a potential can say.
     StepsPass,
+    /// The numbers of steps pass what a potential can say, and a counter is set to a word of which too little is known.
+    WordUnbounded(ByWord),
+    /// The search for numbers of steps was given up, as it took too long.
+    GivenUp(BackWay),
     /// None of these was found; a way leads back.
     NoSteps(BackWay),
     /// None of these was found, nor a way back.
@@ -56,8 +96,7 @@ pub enum Cause {
 /// The edge of the instruction to its target, if that leads back.
 fn back_at(body: &Body, from: u16) -> Option<BackWay>
     requires { from < body.now.end }
-    ensures leads { IfSome result (LeadsBack body.now.image.now body.now.r) }
-    ensures here { IfSome result (λ back. back.from ≡ from) }
+    ensures { IfSome result (LeadsBack body.now.image.now body.now.r) }
 {
     let to = edge_in(body, from, true)?.to;
     if to <= from {
@@ -79,116 +118,177 @@ fn find_back(body: &Body) -> Option<BackWay>
     None
 }
 
-/// Whether the instruction sets the counter.
-fn sets_counter(counter: u8, i: &Instr) -> bool
-    ensures { result ≡ sets_counter counter i.now i.now.opcode }
+/// Why the LOOP at a pc of a component may not pay there.
+fn cause_at(
+    body: &Body,
+    touched: &Touched,
+    search: &Search,
+    piece: &Piece,
+    from: u16,
+    trails: &mut Trails,
+) -> Option<Cause>
+    requires here { from < body.now.end }
+    requires touched { NotesTouched body.now.image.now touched.now }
+    ensures { IfSome result (Holds body.now.image.now body.now.r) }
 {
-    match i.opcode {
-        Opcode::Setk | Opcode::Setkw => i.a == counter,
-        _ => false,
+    let graph = &search.graph;
+    let order = &search.splitting.order;
+    if let Some(within) = find_set_within(body, graph, order, piece, from, trails) {
+        return Some(Cause::SetWithin(within));
+    }
+    if let Some(within) = find_touched_within(body, touched, graph, order, piece, from, trails) {
+        return Some(Cause::TouchedWithin(within));
+    }
+    match find_touched_before(body, touched, graph, order, from, trails) {
+        Some(before) => Some(Cause::TouchedBefore(before)),
+        None => None,
     }
 }
 
-/// The first place from a pc on up to another where the counter is set.
-fn find_setting(body: &Body, counter: u8, from: u16, to: u16) -> Option<u16>
-    requires { to < body.now.end }
-    ensures sets { IfSome result (λ at. PassesAt body.now.image.now at (λ i. sets_counter counter i i.opcode)) }
-    ensures above { IfSome result (λ at. from ≤ at) }
-    ensures below { IfSome result (λ at. at ≤ to) }
+/// Why no LOOP may pay in a component.
+fn cause_of_stuck(
+    body: &Body,
+    touched: &Touched,
+    search: &Search,
+    piece: &Piece,
+    trails: &mut Trails,
+) -> Option<Cause>
+    requires { NotesTouched body.now.image.now touched.now }
+    ensures { IfSome result (Holds body.now.image.now body.now.r) }
 {
-    for pc in from..to + 1 {
-        if sets_counter(counter, body.image.instr(pc)) {
-            return Some(pc);
-        }
-    }
-    None
-}
-
-/// The way back of the LOOP at a pc, and its counter.
-fn loop_back(body: &Body, from: u16) -> Option<(BackWay, u8)>
-    requires { from < body.now.end }
-    ensures loops { IfSome result (λ both. LoopsBack body.now.image.now body.now.r both.0 both.1) }
-    ensures here { IfSome result (λ both. both.0.from ≡ from) }
-{
-    let i = body.image.instr(from);
-    if !is_loop(i.opcode) {
-        return None;
-    }
-    let back = back_at(body, from)?;
-    Some((back, i.a))
-}
-
-/// The first counter that is set within its loop.
-fn find_set_within(body: &Body) -> Option<Within>
-    ensures { IfSome result (SetsWithin body.now.image.now body.now.r) }
-{
-    for from in body.start..body.end {
-        if let Some((back, counter)) = loop_back(body, from) {
-            if let Some(at) = find_setting(body, counter, back.to, back.from) {
-                return Some(Within { back, counter, at });
+    for pc in body.start..body.end {
+        if search.splitting.order.has(piece, pc) {
+            if let Some(cause) = cause_at(body, touched, search, piece, pc, trails) {
+                return Some(cause);
             }
         }
     }
     None
 }
 
-/// Whether the instruction at a pc calls a routine that touches the counter.
-fn calls_touching(body: &Body, touched: &Touched, counter: u8, pc: u16) -> bool
-    requires here { pc < body.now.end }
-    requires touched { NotesTouched body.now.image.now touched.now }
-    ensures { result ≡ true → PassesAt body.now.image.now pc (calls_touching body.now.image.now counter) }
+/// What the unit of the counter costs that the instruction at a pc sets to a word; 0 where it sets none so.
+fn price_by_word(body: &Body, search: &Search, pc: u16) -> u64
+    requires { pc < body.now.end }
 {
     let i = body.image.instr(pc);
     match i.opcode {
-        Opcode::Call => touches(touched, i.imm, counter),
-        _ => false,
+        Opcode::Setkw => match search.graph.arc(pc, false) {
+            Some(arc) => search.units.link(pc, &arc).costs,
+            None => 0,
+        },
+        _ => 0,
     }
 }
 
-/// The first place from a pc on up to another where a routine is called that touches the counter.
-fn find_touching(body: &Body, touched: &Touched, counter: u8, from: u16, to: u16) -> Option<u16>
-    requires within { to < body.now.end }
-    requires touched { NotesTouched body.now.image.now touched.now }
-    ensures touches { IfSome result (λ at. PassesAt body.now.image.now at (calls_touching body.now.image.now counter)) }
-    ensures above { IfSome result (λ at. from ≤ at) }
-    ensures below { IfSome result (λ at. at ≤ to) }
+/// The instruction at a pc, if it sets a counter to a word.
+fn by_word_at(body: &Body, at: u16) -> Option<ByWord>
+    requires { at < body.now.end }
+    ensures { IfSome result (SetsByWord body.now.image.now body.now.r) }
 {
-    for pc in from..to + 1 {
-        if calls_touching(body, touched, counter, pc) {
-            return Some(pc);
+    let i = body.image.instr(at);
+    match i.opcode {
+        Opcode::Setkw if body.start <= at => Some(ByWord {
+            at,
+            counter: i.a,
+            word: i.b,
+        }),
+        _ => None,
+    }
+}
+
+/// The place where a counter is set to a word at the greatest price.
+fn find_by_word(body: &Body, search: &Search) -> Option<ByWord>
+    ensures { IfSome result (SetsByWord body.now.image.now body.now.r) }
+{
+    let mut dearest = None;
+    let mut most = 1;
+    for pc in body.start..body.end {
+        let price = price_by_word(body, search, pc);
+        if most < price {
+            most = price;
+            dearest = by_word_at(body, pc);
         }
     }
-    None
+    dearest
 }
 
-/// The first counter that a call within its loop touches.
-fn find_touched_within(body: &Body, touched: &Touched) -> Option<Within>
+/// Why no numbers of steps are found, from what was in the way.
+fn cause_of_lack(
+    body: &Body,
+    touched: &Touched,
+    search: &Search,
+    lack: Lack,
+    trails: &mut Trails,
+) -> Option<Cause>
     requires { NotesTouched body.now.image.now touched.now }
-    ensures { IfSome result (TouchesWithin body.now.image.now body.now.r) }
+    ensures { IfSome result (Holds body.now.image.now body.now.r) }
 {
-    for from in body.start..body.end {
-        if let Some((back, counter)) = loop_back(body, from) {
-            if let Some(at) = find_touching(body, touched, counter, back.to, back.from) {
-                return Some(Within { back, counter, at });
+    match lack {
+        Lack::Stuck(piece) | Lack::SetWithin(piece) => {
+            cause_of_stuck(body, touched, search, &piece, trails)
+        }
+        Lack::Passes => {
+            if let Some(pair) = find_in_turn(body, &search.graph, &search.splitting, trails) {
+                return Some(Cause::InTurn(pair));
+            }
+            match find_by_word(body, search) {
+                Some(by_word) => Some(Cause::WordUnbounded(by_word)),
+                None => None,
             }
         }
+        Lack::InTurn => match find_in_turn(body, &search.graph, &search.splitting, trails) {
+            Some(pair) => Some(Cause::InTurn(pair)),
+            None => None,
+        },
+        Lack::Looks => match find_back(body) {
+            Some(back) => Some(Cause::GivenUp(back)),
+            None => None,
+        },
     }
-    None
+}
+
+/// The potential of code of which nothing is found.
+const NOTHING: Potential = Potential {
+    constant: 0,
+    coefficients: [0; 4],
+};
+
+/// What was in the way of the search for potentials, in an author's terms.
+fn cause_of_search(
+    alloc: Global,
+    body: &Body,
+    touched: &Touched,
+    known: &Known,
+) -> Result<Option<Cause>, AllocError>
+    requires { NotesTouched body.now.image.now touched.now }
+    ensures { IfOk result (λ cause. IfSome cause (Holds body.now.image.now body.now.r)) }
+{
+    let mut search = Search::new(alloc)?;
+    let mut potentials = Table::new(alloc, NOTHING)?;
+    match search.find(body, known, touched, &mut potentials) {
+        Ok(()) => Ok(None),
+        Err(lack) => {
+            let mut trails = Trails::new(alloc)?;
+            Ok(cause_of_lack(body, touched, &search, lack, &mut trails))
+        }
+    }
 }
 
 /// Why no numbers of steps are found. That the steps pass the limit comes first: then none are enough, whatever else there is.
-fn cause_of_steps(alloc: Global, body: &Body, touched: &Touched) -> Result<Cause, AllocError>
+fn cause_of_steps(
+    alloc: Global,
+    body: &Body,
+    touched: &Touched,
+    known: &Known,
+) -> Result<Cause, AllocError>
     requires { NotesTouched body.now.image.now touched.now }
     ensures { IfOk result (Holds body.now.image.now body.now.r) }
 {
     if steps_pass(alloc, body, touched)? {
         return Ok(Cause::StepsPass);
     }
-    if let Some(within) = find_set_within(body) {
-        return Ok(Cause::SetWithin(within));
-    }
-    if let Some(within) = find_touched_within(body, touched) {
-        return Ok(Cause::TouchedWithin(within));
+    if let Some(cause) = cause_of_search(alloc, body, touched, known)? {
+        return Ok(cause);
     }
     match find_back(body) {
         Some(back) => Ok(Cause::NoSteps(back)),
@@ -210,5 +310,6 @@ pub fn find_cause(alloc: Global, image: &Image, r: u16) -> Result<Cause, AllocEr
     if let Some(back) = find_round(alloc, &body)? {
         return Ok(Cause::NoLoop(back));
     }
-    cause_of_steps(alloc, &body, &find_touched(image))
+    let (known, _) = find_rows(alloc, image)?;
+    cause_of_steps(alloc, &body, &find_touched(image), &known)
 }

@@ -1,6 +1,6 @@
 use Rattle.std.proofs.Common.{sym, ◌∙◌, arith}
 use Rattle.geos_infer.proofs.Asks.{calls-at}
-use Rattle.geos_infer.proofs.cause.calls_touching.Goals as goal
+use Rattle.geos_infer.proofs.within.calls_touching.Goals as goal
 
 pub returns-in-Call : goal.returns-in-Call
 returns-in-Call c = λ is.

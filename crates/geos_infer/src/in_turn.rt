@@ -1,0 +1,139 @@
+//! Loops that wait on each other: each sets the counter of the other, so that what a unit of either pays for grows with that of the
+//! other.
+
+ghost use Rattle.std.specs.Prelude.{◌≡◌, ◌<◌, IfSome};
+ghost use Rattle.geos_infer.specs.Causes.{WaitInTurn, SetsFor, LoopsTo};
+
+use crate::body::Body;
+use crate::cause::{BackWay, LoopPair};
+use crate::graph::Graph;
+use crate::jumps::Jump;
+use crate::nests::Splitting;
+use crate::order::Piece;
+use crate::trails::Trails;
+use crate::within::{comes_round, kept_from, loop_at, note_set, sets_at};
+use geos_image::MOST_INSTRS;
+
+/// How many pairs of LOOPs are looked at.
+const PAIRS: u16 = 256;
+
+/// The place of a piece, in the loop that a LOOP closes, where the counter of another is set and kept from there to it.
+fn set_for(
+    body: &Body,
+    graph: &Graph,
+    splitting: &Splitting,
+    piece: &Piece,
+    back: &BackWay,
+    other: &BackWay,
+    counter: u8,
+    trails: &mut Trails,
+) -> Option<u16>
+    requires from { back.now.from < 4096 }
+    requires to { back.now.to < 4096 }
+    requires other { other.now.from < 4096 }
+    ensures { IfSome result (SetsFor body.now.image.now body.now.r back.now other.now counter) }
+{
+    note_set(body, graph, &splitting.order, piece, counter, trails);
+    let at = kept_from(body, trails, counter, other.from)?;
+    if sets_at(body, counter, at)
+        && comes_round(body, graph, trails, back.to, at)
+        && comes_round(body, graph, trails, at, back.from)
+    {
+        Some(at)
+    } else {
+        None
+    }
+}
+
+/// The nest that the LOOP at a pc pays in.
+fn nest_of(splitting: &Splitting, pc: u16) -> Option<u16>
+    requires { pc < 4096 }
+    ensures { IfSome result (λ nest. nest < 4096) }
+{
+    match splitting.jumps.at(pc) {
+        Jump::Pays(nest) if nest < MOST_INSTRS => Some(nest),
+        _ => None,
+    }
+}
+
+/// Whether the loops of two LOOPs that pay wait on each other.
+fn find_pair(
+    body: &Body,
+    graph: &Graph,
+    splitting: &Splitting,
+    one: u16,
+    two: u16,
+    trails: &mut Trails,
+) -> Option<LoopPair>
+    requires first { one < body.now.end }
+    requires second { two < body.now.end }
+    ensures { IfSome result (WaitInTurn body.now.image.now body.now.r) }
+{
+    let piece = splitting.nests.at(nest_of(splitting, one)?).piece;
+    let other_piece = splitting.nests.at(nest_of(splitting, two)?).piece;
+    let (back, counter) = loop_at(body, one)?;
+    let (other, other_counter) = loop_at(body, two)?;
+    let at = set_for(
+        body,
+        graph,
+        splitting,
+        &piece,
+        &back,
+        &other,
+        other_counter,
+        trails,
+    )?;
+    let other_at = set_for(
+        body,
+        graph,
+        splitting,
+        &other_piece,
+        &other,
+        &back,
+        counter,
+        trails,
+    )?;
+    Some(LoopPair {
+        back,
+        counter,
+        at,
+        other,
+        other_counter,
+        other_at,
+    })
+}
+
+/// Whether the nest that the LOOP at a pc pays in was paid for again and again.
+fn was_paid_again(splitting: &Splitting, pc: u16) -> bool
+    requires { pc < 4096 }
+{
+    match nest_of(splitting, pc) {
+        Some(nest) => 2 < splitting.nests.at(nest).paid,
+        None => false,
+    }
+}
+
+/// Two loops that wait on each other, among those that were paid for again and again.
+pub(crate) fn find_in_turn(
+    body: &Body,
+    graph: &Graph,
+    splitting: &Splitting,
+    trails: &mut Trails,
+) -> Option<LoopPair>
+    ensures { IfSome result (WaitInTurn body.now.image.now body.now.r) }
+{
+    let mut pairs: u16 = 0;
+    for one in body.start..body.end {
+        if was_paid_again(splitting, one) {
+            for two in body.start..body.end {
+                if two != one && was_paid_again(splitting, two) && pairs < PAIRS {
+                    pairs += 1;
+                    if let Some(found) = find_pair(body, graph, splitting, one, two, trails) {
+                        return Some(found);
+                    }
+                }
+            }
+        }
+    }
+    None
+}

@@ -1,0 +1,174 @@
+//! Ways of control within a routine: noted by an edge into each place, and followed back.
+
+ghost use Rattle.std.specs.Prelude.{◌≡◌, ◌<◌, true, List, Bool, Option, ℕ, IfSome};
+ghost use Rattle.geos_infer.specs.Trails.{LeadsKeeping, IsTrail, keeps};
+
+use crate::body::Body;
+use crate::edges::edge_in;
+use crate::graph::Graph;
+use crate::pile::Pile;
+use crate::table::{Table, two_tables};
+use geos_image::{Instr, MOST_INSTRS, Opcode};
+use std::alloc::{AllocError, Global};
+
+/// An edge by which control comes to a place.
+#[derive(Clone, Copy)]
+pub(crate) struct Came {
+    pub(crate) from: u16,
+    pub(crate) branch: bool,
+    /// Whether ways begin behind it.
+    pub(crate) begins: bool,
+    ghost inside: { from < 4096 },
+}
+
+/// Which places control comes to from some, and by which edge at first.
+#[derive(Drop)]
+pub(crate) struct Trails {
+    seen: Table<bool>,
+    came: Table<Option<Came>>,
+    waits: Pile,
+}
+
+/// Whether an edge of the instruction leaves the counter as it is, if one is asked for, but for what a call does to it.
+fn keeps(counter: Option<u8>, i: &Instr, branch: bool) -> bool
+    ensures { result ≡ keeps counter i.now i.now.opcode branch }
+{
+    match counter {
+        None => true,
+        Some(counter) => match i.opcode {
+            Opcode::Setk | Opcode::Setkw => i.a != counter,
+            Opcode::Loop => branch || i.a != counter,
+            _ => true,
+        },
+    }
+}
+
+/// Where an edge leads, if the instruction has it, it stays in the routine, and it keeps the counter.
+fn lead_keeping(body: &Body, counter: Option<u8>, pc: u16, branch: bool) -> Option<u16>
+    requires { pc < body.now.end }
+    ensures { IfSome result (LeadsKeeping body.now.image.now body.now.r counter pc branch) }
+{
+    if !keeps(counter, body.image.instr(pc), branch) {
+        return None;
+    }
+    match edge_in(body, pc, branch) {
+        Some(edge) => Some(edge.to),
+        None => None,
+    }
+}
+
+/// Whether an edge that keeps the counter leads to a place.
+fn came_to(body: &Body, counter: Option<u8>, came: Came, to: u16) -> bool
+    ensures { result ≡ true → LeadsKeeping body.now.image.now body.now.r counter came.from came.branch to }
+{
+    if body.end <= came.from {
+        return false;
+    }
+    match lead_keeping(body, counter, came.from, came.branch) {
+        Some(there) => there == to,
+        None => false,
+    }
+}
+
+impl Trails {
+    pub(crate) fn new(alloc: Global) -> Result<Trails, AllocError> {
+        let (seen, came) = two_tables(alloc, false, None)?;
+        let waits = Pile::new(alloc)?;
+        Ok(Trails { seen, came, waits })
+    }
+
+    /// Control is known to come to no place of a routine.
+    pub(crate) fn clear(&mut self, body: &Body) {
+        self.seen.fill_from(body.start, false);
+        self.came.fill_from(body.start, None);
+    }
+
+    /// Control comes to a place, by this edge.
+    pub(crate) fn note(&mut self, to: u16, came: Option<Came>)
+        requires { to < 4096 }
+    {
+        if !self.seen.at(to) {
+            self.seen.set(to, true);
+            self.came.set(to, came);
+            self.waits.put(to);
+        }
+    }
+
+    /// It goes on along an edge.
+    fn go_along(&mut self, graph: &Graph, counter: Option<u8>, from: u16, branch: bool)
+        requires { from < 4096 }
+    {
+        if let Some(arc) = graph.arc(from, branch) {
+            let keeps = match counter {
+                Some(counter) => arc.keeps(counter),
+                None => true,
+            };
+            if keeps {
+                let came = Came {
+                    from,
+                    branch,
+                    begins: false,
+                };
+                self.note(arc.to, Some(came));
+            }
+        }
+    }
+
+    /// It goes on from the places that are noted along edges that keep the counter, if one is asked for.
+    pub(crate) fn go(&mut self, graph: &Graph, counter: Option<u8>) {
+        for _ in 0..MOST_INSTRS {
+            let Some(pc) = self.waits.take() else {
+                return;
+            };
+            self.go_along(graph, counter, pc, false);
+            self.go_along(graph, counter, pc, true);
+        }
+    }
+
+    /// Whether control comes to a place.
+    pub(crate) fn comes(&self, pc: u16) -> bool
+        requires { pc < 4096 }
+    {
+        self.seen.at(pc)
+    }
+
+    /// The place of the edge behind which the way to a place begins that was noted.
+    pub(crate) fn origin(&self, body: &Body, to: u16) -> Option<u16>
+        requires { to < 4096 }
+        ensures { IfSome result (λ pc. pc < body.now.end) }
+    {
+        let mut at = to;
+        for _ in body.start..body.end {
+            let came = self.came.at(at)?;
+            if body.end <= came.from {
+                return None;
+            }
+            if came.begins {
+                return Some(came.from);
+            }
+            at = came.from;
+        }
+        None
+    }
+
+    /// Whether the edges that are noted lead from one place to another, and each keeps the counter.
+    pub(crate) fn lead(&self, body: &Body, counter: Option<u8>, from: u16, to: u16) -> bool
+        requires { to < 4096 }
+        ensures { result ≡ true → (branches : List Bool) × IsTrail body.now.image.now body.now.r counter from branches to }
+    {
+        let mut at = to;
+        for _ in body.start..body.end {
+            if at == from {
+                return true;
+            }
+            let Some(edge) = self.came.at(at) else {
+                return false;
+            };
+            if !came_to(body, counter, edge, at) {
+                return false;
+            }
+            at = edge.from;
+        }
+        false
+    }
+}

@@ -1,0 +1,226 @@
+//! Counters that are set, or that a call touches, where their own loops go round.
+
+ghost use Rattle.std.specs.Prelude.{◌≡◌, ◌<◌, ◌+◌, true, List, Bool, None, Some, IfSome};
+ghost use Rattle.geos_infer.specs.Causes.{NotesTouched, LoopsTo, SetsWithin, TouchesWithin, TouchesBefore, PassesAt, sets_counter, calls_touching};
+ghost use Rattle.geos_infer.specs.Code.{IsPcOf};
+ghost use Rattle.geos_infer.specs.Trails.{IsTrail};
+
+use crate::body::Body;
+use crate::cause::{BackWay, Within};
+use crate::edges::{edge_in, is_loop};
+use crate::graph::Graph;
+use crate::order::{Order, Piece};
+use crate::spent::touches;
+use crate::trails::{Came, Trails};
+use geos_image::{Instr, Opcode};
+use geos_verify::Touched;
+
+/// The way of the LOOP at a pc to its target, and its counter.
+pub(crate) fn loop_at(body: &Body, from: u16) -> Option<(BackWay, u8)>
+    requires { from < body.now.end }
+    ensures loops { IfSome result (λ both. LoopsTo body.now.image.now body.now.r both.0 both.1) }
+    ensures here { IfSome result (λ both. both.0.from ≡ from) }
+    ensures inside { IfSome result (λ both. both.0.to < 4096) }
+{
+    let i = body.image.instr(from);
+    if !is_loop(i.opcode) {
+        return None;
+    }
+    if from < body.start {
+        return None;
+    }
+    let edge = edge_in(body, from, true)?;
+    Some((BackWay { from, to: edge.to }, i.a))
+}
+
+/// Whether the instruction sets the counter.
+pub(crate) fn sets_counter(counter: u8, i: &Instr) -> bool
+    ensures { result ≡ sets_counter counter i.now i.now.opcode }
+{
+    match i.opcode {
+        Opcode::Setk | Opcode::Setkw => i.a == counter,
+        _ => false,
+    }
+}
+
+/// Whether the instruction at a pc sets the counter.
+pub(crate) fn sets_at(body: &Body, counter: u8, pc: u16) -> bool
+    requires { pc < body.now.end }
+    ensures { result ≡ true → PassesAt body.now.image.now pc (λ i. sets_counter counter i i.opcode) }
+{
+    sets_counter(counter, body.image.instr(pc))
+}
+
+/// Whether the instruction at a pc calls a routine that touches the counter.
+fn calls_touching(body: &Body, touched: &Touched, counter: u8, pc: u16) -> bool
+    requires here { pc < body.now.end }
+    requires touched { NotesTouched body.now.image.now touched.now }
+    ensures { result ≡ true → PassesAt body.now.image.now pc (calls_touching body.now.image.now counter) }
+{
+    let i = body.image.instr(pc);
+    match i.opcode {
+        Opcode::Call => touches(touched, i.imm, counter),
+        _ => false,
+    }
+}
+
+/// Whether control can come from one place to another.
+pub(crate) fn comes_round(
+    body: &Body,
+    graph: &Graph,
+    trails: &mut Trails,
+    from: u16,
+    to: u16,
+) -> bool
+    requires first { from < 4096 }
+    requires second { to < 4096 }
+    ensures { result ≡ true → (branches : List Bool) × IsTrail body.now.image.now body.now.r None from branches to }
+{
+    trails.clear(body);
+    trails.note(from, None);
+    trails.go(graph, None);
+    trails.lead(body, None, from, to)
+}
+
+/// A place that the way to another comes from that is noted, on which the counter is kept behind that place.
+pub(crate) fn kept_from(body: &Body, trails: &Trails, counter: u8, to: u16) -> Option<u16>
+    requires { to < 4096 }
+    ensures inside { IfSome result (λ at. at < body.now.end) }
+    ensures within { IfSome result (λ at. IsPcOf body.now.image.now body.now.r at) }
+    ensures kept { IfSome result (λ at. (branches : List Bool) × IsTrail body.now.image.now body.now.r (Some counter) (at + 1) branches to) }
+{
+    let at = trails.origin(body, to)?;
+    if body.start <= at && trails.lead(body, Some(counter), at + 1, to) {
+        Some(at)
+    } else {
+        None
+    }
+}
+
+/// Notes where control comes with a counter as it is set in a piece.
+pub(crate) fn note_set(
+    body: &Body,
+    graph: &Graph,
+    order: &Order,
+    piece: &Piece,
+    counter: u8,
+    trails: &mut Trails,
+) {
+    trails.clear(body);
+    for x in piece.begin..piece.end {
+        let pc = order.place(x);
+        if let Some(arc) = graph.arc(pc, false) {
+            match arc.sets() {
+                Some((set, _)) if set == counter && order.has(piece, arc.to) => {
+                    let came = Came {
+                        from: pc,
+                        branch: false,
+                        begins: true,
+                    };
+                    trails.note(arc.to, Some(came));
+                }
+                _ => {}
+            }
+        }
+    }
+    trails.go(graph, Some(counter));
+}
+
+/// Notes where control comes with a counter as calls leave it that touch it: those in a piece, or all where there is none.
+fn note_touched(
+    body: &Body,
+    graph: &Graph,
+    order: &Order,
+    piece: Option<Piece>,
+    counter: u8,
+    trails: &mut Trails,
+) {
+    trails.clear(body);
+    for pc in body.start..body.end {
+        if let Some(arc) = graph.arc(pc, false) {
+            let inside = match piece {
+                Some(piece) => order.has(&piece, pc),
+                None => true,
+            };
+            if inside && arc.forgets(counter) {
+                let came = Came {
+                    from: pc,
+                    branch: false,
+                    begins: true,
+                };
+                trails.note(arc.to, Some(came));
+            }
+        }
+    }
+    trails.go(graph, Some(counter));
+}
+
+/// A place of a piece where the counter of a LOOP is set, and kept from there to the LOOP, and control comes from the LOOP's target.
+pub(crate) fn find_set_within(
+    body: &Body,
+    graph: &Graph,
+    order: &Order,
+    piece: &Piece,
+    from: u16,
+    trails: &mut Trails,
+) -> Option<Within>
+    requires { from < body.now.end }
+    ensures { IfSome result (SetsWithin body.now.image.now body.now.r) }
+{
+    let (back, counter) = loop_at(body, from)?;
+    note_set(body, graph, order, piece, counter, trails);
+    let at = kept_from(body, trails, counter, from)?;
+    if sets_at(body, counter, at) && comes_round(body, graph, trails, back.to, at) {
+        Some(Within { back, counter, at })
+    } else {
+        None
+    }
+}
+
+/// A call in a piece that touches the counter of a LOOP, and it is not set from there to the LOOP, and control comes from the LOOP's
+/// target.
+pub(crate) fn find_touched_within(
+    body: &Body,
+    touched: &Touched,
+    graph: &Graph,
+    order: &Order,
+    piece: &Piece,
+    from: u16,
+    trails: &mut Trails,
+) -> Option<Within>
+    requires here { from < body.now.end }
+    requires touched { NotesTouched body.now.image.now touched.now }
+    ensures { IfSome result (TouchesWithin body.now.image.now body.now.r) }
+{
+    let (back, counter) = loop_at(body, from)?;
+    note_touched(body, graph, order, Some(*piece), counter, trails);
+    let at = kept_from(body, trails, counter, from)?;
+    if calls_touching(body, touched, counter, at) && comes_round(body, graph, trails, back.to, at) {
+        Some(Within { back, counter, at })
+    } else {
+        None
+    }
+}
+
+/// A call that touches the counter of a LOOP, and it is not set from there to the LOOP.
+pub(crate) fn find_touched_before(
+    body: &Body,
+    touched: &Touched,
+    graph: &Graph,
+    order: &Order,
+    from: u16,
+    trails: &mut Trails,
+) -> Option<Within>
+    requires here { from < body.now.end }
+    requires touched { NotesTouched body.now.image.now touched.now }
+    ensures { IfSome result (TouchesBefore body.now.image.now body.now.r) }
+{
+    let (back, counter) = loop_at(body, from)?;
+    note_touched(body, graph, order, None, counter, trails);
+    let at = kept_from(body, trails, counter, from)?;
+    if calls_touching(body, touched, counter, at) {
+        Some(Within { back, counter, at })
+    } else {
+        None
+    }
+}
