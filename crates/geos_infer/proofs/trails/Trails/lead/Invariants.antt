@@ -4,4 +4,4 @@ use Rattle.geos_infer.proofs.trails.Trails.lead.Given as goal
 
 -- the edges that were looked at lead on from here
 abbrev pub invariant-loop : goal.invariant-loop
-invariant-loop l = (l.at < 4096) × ((branches : List Bool) × IsTrail l.body.image.now l.body.r l.counter l.at branches l.to)
+invariant-loop l = (l.at < 4096) × ((branches : List Bool) × IsTrail l.body.image.now l.body.r l.fn.counter l.at branches l.to)
