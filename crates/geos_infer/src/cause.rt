@@ -7,7 +7,7 @@ use crate::apart::{Apart, find_apart};
 use crate::body::{Body, body_of};
 use crate::edges::edge_in;
 use crate::in_turn::find_in_turn;
-use crate::order::Piece;
+use crate::pieces::Piece;
 use crate::rows::find_rows;
 use crate::search::Search;
 use crate::spent::find_touched;

@@ -9,7 +9,7 @@ use crate::cause::{BackWay, LoopPair};
 use crate::graph::Graph;
 use crate::jumps::Jump;
 use crate::nests::Splitting;
-use crate::order::Piece;
+use crate::pieces::Piece;
 use crate::trails::Trails;
 use crate::within::{comes_round, kept_from, loop_at, note_set, sets_at};
 use geos_image::MOST_INSTRS;

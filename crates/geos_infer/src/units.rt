@@ -451,7 +451,7 @@ impl Units {
             }
             if let Some(at) = self.lengths.find_round(&splitting.order, &piece) {
                 paying.unit = self.raised(paying, at, raises)?;
-                raises += 1;
+                raises = raises.saturating_add(1);
                 self.weigh(graph, splitting, paying);
             }
         }

@@ -9,7 +9,7 @@ use crate::body::Body;
 use crate::cause::{BackWay, Within};
 use crate::edges::{edge_in, is_loop};
 use crate::graph::Graph;
-use crate::order::{Order, Piece};
+use crate::pieces::{Order, Piece};
 use crate::spent::touches;
 use crate::trails::{Came, Trails};
 use geos_image::{Instr, Opcode};
