@@ -89,14 +89,27 @@ fn count_loops(
         && calls_are_spent(body, &tables.touched, potentials)
 }
 
-/// Counts the steps of a routine; `false` where no number of them is found to be enough.
-fn count_in(body: &Body, known: &Known, tables: &mut Tables, potentials: &mut Potentials) -> bool
-    ensures { CountsOn body.now.image.now body.now.r (numbers_of potentials.old) (numbers_of potentials.new) result }
+/// Counts the steps of a routine; `false` where no number of them is found to be enough. The tables are made for the first routine with
+/// loops: an image without them needs none.
+fn count_in(
+    alloc: Global,
+    body: &Body,
+    known: &Known,
+    made: &mut Option<Tables>,
+    potentials: &mut Potentials,
+) -> Result<bool, AllocError>
+    ensures { IfOk result (CountsOn body.now.image.now body.now.r (numbers_of potentials.old) (numbers_of potentials.new)) }
 {
     if !has_loops(body) {
-        return sweep(body, known, potentials).is_some();
+        return Ok(sweep(body, known, potentials).is_some());
     }
-    count_loops(body, known, tables, potentials)
+    let mut tables = match made.take() {
+        Some(tables) => tables,
+        None => Tables::new(alloc, body.image)?,
+    };
+    let counted = count_loops(body, known, &mut tables, potentials);
+    *made = Some(tables);
+    Ok(counted)
 }
 
 /// Counts the steps of so many routines, from the last to the first; the first one for which no
@@ -113,10 +126,11 @@ fn count_all(
     ensures within { IfOk result (λ left. IfSome left (λ r. r < routines)) }
     ensures none { IfOk result (λ left. IfSome left (NoStepsHoldIn image.now)) }
 {
-    let mut tables = Tables::new(alloc, image)?;
+    let mut tables = None;
     let mut left = None;
     for r in (0..routines).rev() {
-        if !count_in(&body_of(image, r), known, &mut tables, potentials) {
+        let counted = count_in(alloc, &body_of(image, r), known, &mut tables, potentials)?;
+        if !counted {
             left = Some(r);
         }
     }

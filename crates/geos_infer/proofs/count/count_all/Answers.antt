@@ -8,23 +8,23 @@ use Rattle.geos_infer.proofs.count.count_all.Goals as goal
 pub loop-r-init : goal.loop-r-init
 loop-r-init c = (λ want all q from lt. absurd (omega arith), tt, tt)
 
-pub loop-r-preserved-then-not-count_in : goal.loop-r-preserved-then-not-count_in
-loop-r-preserved-then-not-count_in c =
+pub loop-r-preserved-then-not-counted : goal.loop-r-preserved-then-not-counted
+loop-r-preserved-then-not-counted c =
     let image = c.args.image.now in
     let r = c.loop-r.r - 1 in
-    let on = counts-in image c.body_of.result.image.now c.body_of.result.r r (numbers_of c.loop-r.potentials) (numbers_of c.count_in.new.potentials) c.count_in.result c.body_of.ensures.image c.body_of.ensures.r c.count_in.ensures in (
-      λ want all q from lt. (let this = all r (omega (arith, c.loop-r-test.true)) in absurd (false≢true (sym c.if-not-count_in.true ∙ (on want this.0 this.1).0))),
+    let on = counts-in image c.body_of.result.image.now c.body_of.result.r r (numbers_of c.loop-r.potentials) (numbers_of c.count_in.new.potentials) c.in_ok-counted.counted c.body_of.ensures.image c.body_of.ensures.r c.in_ok-counted.ensures in (
+      λ want all q from lt. (let this = all r (omega (arith, c.loop-r-test.true)) in absurd (false≢true (sym c.if-not-counted.true ∙ (on want this.0 this.1).0))),
       omega (arith, c.loop-r-test.true),
-      λ want forward holds. false≢true (sym c.if-not-count_in.true ∙ (on want forward holds).0),
+      λ want forward holds. false≢true (sym c.if-not-counted.true ∙ (on want forward holds).0),
     )
 
 pub loop-r-preserved : goal.loop-r-preserved
 loop-r-preserved c =
     let image = c.args.image.now in
     let r = c.loop-r.r - 1 in
-    let on = counts-in image c.body_of.result.image.now c.body_of.result.r r (numbers_of c.loop-r.potentials) (numbers_of c.count_in.new.potentials) c.count_in.result c.body_of.ensures.image c.body_of.ensures.r c.count_in.ensures in (
+    let on = counts-in image c.body_of.result.image.now c.body_of.result.r r (numbers_of c.loop-r.potentials) (numbers_of c.count_in.new.potentials) c.in_ok-counted.counted c.body_of.ensures.image c.body_of.ensures.r c.in_ok-counted.ensures in (
       are_counted-more image r c.loop-r.r c.args.routines (numbers_of c.loop-r.potentials) (numbers_of c.count_in.new.potentials) (omega (arith, c.loop-r-test.true)) (omega (arith, c.loop-r-test.true)) c.loop-r.invariant.0
-          (subst (λ (b : Bool). CountsOn image r (numbers_of c.loop-r.potentials) (numbers_of c.count_in.new.potentials) b) c.if-not-count_in.false on),
+          (subst (λ (b : Bool). CountsOn image r (numbers_of c.loop-r.potentials) (numbers_of c.count_in.new.potentials) b) c.if-not-counted.false on),
       c.loop-r.invariant.1,
       c.loop-r.invariant.2,
     )
