@@ -78,11 +78,65 @@ def prices(n):
     return ["routine f budget 60000", "RET", *HEAD, *begin, *sets, "v0: CALL f", "JMP s0", *places, *end]
 
 
-def zigzag(n, most):
-    """A way that goes from low places to high ones and back n times, and so many LOOPs to its beginning."""
-    low = [f"l{i}: " + (f"BEQ w0 w1 h{i}" if i < n - 1 else f"JMP h{i}") for i in range(n)]
+def zigzag(n, most, back=False):
+    """A way that goes from low places to high ones and back n times, and so many LOOPs to its beginning; or all stand the last one first."""
+    low = [f"l{i}: " + (f"JMP h{i}" if back or i == n - 1 else f"BEQ w0 w1 h{i}") for i in range(n)]
     high = [f"h{i}: JMP " + (f"l{i + 1}" if i < n - 1 else "z") for i in range(n)]
+    if back:
+        low, high = ["JMP l0", *reversed(low)], [*reversed(high)]
     return [*HEAD, "SETK k0 1", "top: LDI w0 0", *low, *high, "z: LDI w0 0", *["LOOP k0 top"] * most, "RET"]
+
+
+def to_one_head(n, set_first, set_within, between=()):
+    """So many LOOPs to one head, with the counters in turn that are set in front of it or behind it."""
+    counters = [*set_first, *set_within]
+    sets = [f"SETK {k} 1" for k in set_first]
+    again = [f"SETK {k} 1" for k in set_within]
+    return [*HEAD, *sets, "h: LDI w0 1", *again, *between, *(f"LOOP {counters[i % len(counters)]} h" for i in range(n)), "RET"]
+
+
+def set_in_front(n, order):
+    """So many heads, each behind a SETK of a counter in turn, and LOOPs to them in that order."""
+    sets = [line for i in range(n) for line in (f"SETK k{i % 4} 1", f"h{i}: LDI w0 1")]
+    return [*HEAD, *sets, *(f"LOOP k{i % 4} h{i}" for i in order), "RET"]
+
+
+def set_for_the_next(n):
+    """So many loops that cross, each of which sets the counter of the next one."""
+    sets = [f"SETK k{k} 3" for k in range(4)]
+    return [*HEAD, *sets, *(f"h{i}: SETK k{i % 4} 2" for i in range(n)), *(f"LOOP k{(i + 1) % 4} h{i}" for i in range(n)), "RET"]
+
+
+def one_behind_another(n):
+    """So many loops of one counter, one behind the other."""
+    return [*HEAD, *(line for i in range(n) for line in ("SETK k0 1", f"h{i}: LDI w0 1", f"LOOP k0 h{i}")), "RET"]
+
+
+def ring(n, order, ways_out):
+    """So many LOOPs in this order, each to the next, the last one to the first; behind each a branch past the next one, or none."""
+    branches = [[f"BEQ w0 w1 b{min(i + 2, n)}"] if ways_out else [] for i in range(n)]
+    places = [line for i in order for line in (f"b{i}: LOOP k0 b{(i + 1) % n}", *branches[i], "JMP z")]
+    return [*HEAD, "SETK k0 7", "JMP b0", *places, f"b{n}: LDI w0 1", "z: RET"]
+
+
+def half_way(n):
+    """So many places, from each second of which a LOOP goes half the way back."""
+    lines = [f"LOOP k{i // 2 % 4} h{i // 2}" if i % 2 == 0 else f"BEQ w0 w1 h{min(i + 7, n - 1)}" for i in range(n)]
+    return [*HEAD, *(f"SETK k{k} 3" for k in range(4)), *(f"h{i}: {line}" for i, line in enumerate(lines)), "RET"]
+
+
+def set_behind(n):
+    """So many loops with one of their own in each, behind which the counter of the next one's is set; each goes back to the one before it."""
+    sets = [f"SETK k{k} 1" for k in range(4)]
+    loops = [(f"h{i}: LDI w0 1", f"i{i}: LOOP k{i % 3} i{i}", f"SETK k{(i + 1) % 3} 1", f"LOOP k3 h{max(0, i - 1)}") for i in range(n)]
+    return [*HEAD, *sets, *(line for lines in loops for line in lines), "RET"]
+
+
+def own_numbers(n):
+    """So many LOOPs, one behind the other, to one place, each with a SETK of its own number."""
+    sets = [line for i in range(n) for line in (f"f{i}: SETK k0 {60000 - i}", f"JMP s{i}")]
+    begin = [*(f"BEQ w0 w1 f{i}" for i in range(n)), "SETK k0 65535", "JMP s0"]
+    return [*HEAD, *begin, *sets, *(f"s{i}: LOOP k0 t" for i in range(n)), "RET", "t: JMP s0"]
 
 
 def shuffled(n, seed):
@@ -90,11 +144,10 @@ def shuffled(n, seed):
     fall = random.Random(seed)
     order = list(range(n))
     fall.shuffle(order)
-    places = [
-        line
-        for i in order
-        for line in (f"b{i}: BEQ w0 w1 b{min(n, i + fall.choice([1, 2, 3, 50]))}", f"LOOP k{fall.randrange(4)} b{fall.randint(0, i)}", f"JMP b{i + 1}")
-    ]
+    places = []
+    for i in order:
+        ahead, counter, back = min(n, i + fall.choice([1, 2, 3, 50])), fall.randrange(4), fall.randint(0, i)
+        places += [f"b{i}: BEQ w0 w1 b{ahead}", f"LOOP k{counter} b{back}", f"JMP b{i + 1}"]
     return [*HEAD, *(f"SETK k{k} 3" for k in range(4)), "JMP b0", *places, f"b{n}: RET"]
 
 
@@ -118,7 +171,21 @@ def texts():
     yield "2,040 LOOPs that go one place back", one_back(2040)
     yield "670 LOOPs with a SETK of their own number, and a way back", prices(670)
     yield "a way of 1,020 steps to and fro, and 2,040 LOOPs to its beginning", zigzag(1020, 2040)
+    yield "the same, the last place first", zigzag(1020, 2040, back=True)
     yield "1,360 LOOPs in any order", shuffled(1360, 39)
+    yield "4,090 LOOPs to one head behind which their counter is set", to_one_head(4090, [], ["k0"])
+    yield "4,088 LOOPs of four counters to one head", to_one_head(4085, ["k0", "k1", "k2", "k3"], [])
+    yield "the same, one of them set behind it", to_one_head(4085, ["k1", "k2", "k3"], ["k0"])
+    yield "2,040 LOOPs to one head, behind 2,040 ways ahead", to_one_head(2040, ["k0"], [], ["BEQ w0 w1 z"] * 2040 + ["z: LDI w0 0"])
+    yield "1,360 loops, each in the next, with a SETK in front of each", set_in_front(1360, reversed(range(1360)))
+    yield "1,360 LOOPs to heads far apart, with a SETK in front of each", set_in_front(1360, [7 * i % 1360 for i in range(1360)])
+    yield "2,040 loops that cross, each of which sets the counter of the next", set_for_the_next(2040)
+    yield "1,360 loops of one counter, one behind another", one_behind_another(1360)
+    yield "2,040 LOOPs in a ring, the last one first", ring(2040, list(reversed(range(2040))), False)
+    yield "1,360 LOOPs in a ring, in any order", ring(1360, random.Random(39).sample(range(1360), 1360), True)
+    yield "4,088 places, from each second of which a LOOP goes half the way back", half_way(4088)
+    yield "1,020 loops, behind each of which the counter of the next is set", set_behind(1020)
+    yield "1,020 LOOPs to one place, each with a SETK of its own number", own_numbers(1020)
     yield "1 MiB of labels", [*HEAD, *(f"L{i}:" for i in range(115_000)), "RET"]
     yield "1 MiB of one digit", [*HEAD, "LDI w0 " + "0" * 1_048_000 + "1", "RET"]
     yield "1 MiB of items of an entry row", [*HEAD, "in " + "w0<=9 " * 170_000, "RET"]
