@@ -99,7 +99,7 @@ in_turn_text lines both = codes "two loops set the counters of each other: " ++ 
 
 -- the steps pass the limit where a word is so large as it may be
 unfoldable pub by_word_text : List ℕ → ByWord → List ℕ
-by_word_text lines by_word = concat (codes "the steps may pass 4,294,967,295, since k" ∷ decimal by_word.counter ∷ codes " is set to w" ∷ decimal by_word.word ∷ codes " at" ∷ pc_text lines by_word.at ∷ codes ": CHK it" ∷ [])
+by_word_text lines by_word = concat (codes "the steps may pass 4,294,967,295, since w" ∷ decimal by_word.word ∷ codes " may be " ∷ decimal by_word.most ∷ codes " at" ∷ pc_text lines by_word.at ∷ codes ": CHK it" ∷ [])
 
 -- the search was given up
 abbrev pub given_up_text : List ℕ → BackWay → List ℕ

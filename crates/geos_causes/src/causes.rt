@@ -237,10 +237,10 @@ fn put_by_word(out: &mut Vec<u8>, lines: &[usize], by_word: &ByWord) -> Result<(
         out,
         &[
             Part::Numbered(
-                "the steps may pass 4,294,967,295, since k",
-                by_word.counter as u64,
+                "the steps may pass 4,294,967,295, since w",
+                by_word.word as u64,
             ),
-            Part::Numbered(" is set to w", by_word.word as u64),
+            Part::Numbered(" may be ", by_word.most as u64),
             Part::Text(" at"),
             pc_part(lines, by_word.at),
             Part::Text(": CHK it"),

@@ -11,7 +11,7 @@ use crate::pieces::Piece;
 use crate::rows::find_rows;
 use crate::search::Search;
 use crate::spent::find_touched;
-use crate::table::{Known, Table};
+use crate::table::{Known, Potentials, Table};
 use crate::trails::Trails;
 use crate::turns::steps_pass;
 use crate::units::Lack;
@@ -61,9 +61,12 @@ pub struct LoopPair {
 /// Where a counter is set to a word.
 #[derive(Clone, Copy)]
 pub struct ByWord {
+    /// The pc of the instruction.
     pub at: u16,
     pub counter: u8,
     pub word: u8,
+    /// How much the word is there at most, by what is known of it.
+    pub most: u16,
 }
 
 /// Why no rows or no numbers of steps are found for a routine.
@@ -181,16 +184,18 @@ fn price_by_word(body: &Body, search: &Search, pc: u16) -> u64
 }
 
 /// The instruction at a pc, if it sets a counter to a word.
-fn by_word_at(body: &Body, at: u16) -> Option<ByWord>
+fn by_word_at(body: &Body, search: &Search, at: u16) -> Option<ByWord>
     requires { at < body.now.end }
     ensures { IfSome result (SetsByWord body.now.image.now body.now.r) }
 {
+    let (_, most) = search.graph.arc(at, false)?.sets()?;
     let i = body.image.instr(at);
     match i.opcode {
         Opcode::Setkw if body.start <= at => Some(ByWord {
             at,
             counter: i.a,
             word: i.b,
+            most,
         }),
         _ => None,
     }
@@ -206,7 +211,7 @@ fn find_by_word(body: &Body, search: &Search) -> Option<ByWord>
         let price = price_by_word(body, search, pc);
         if most < price {
             most = price;
-            dearest = by_word_at(body, pc);
+            dearest = by_word_at(body, search, pc);
         }
     }
     dearest
@@ -253,6 +258,38 @@ const NOTHING: Potential = Potential {
     coefficients: [0; 4],
 };
 
+/// What the search for potentials takes where it is asked what was in its way.
+#[derive(Drop)]
+struct Tables {
+    search: Search,
+    potentials: Potentials,
+    trails: Trails,
+}
+
+impl Tables {
+    fn new(alloc: Global) -> Result<Tables, AllocError> {
+        let search = Search::new(alloc)?;
+        let potentials = Table::new(alloc, NOTHING)?;
+        let trails = Trails::new(alloc)?;
+        Ok(Tables {
+            search,
+            potentials,
+            trails,
+        })
+    }
+
+    /// What was in the way of the search, in an author's terms.
+    fn cause(&mut self, body: &Body, touched: &Touched, known: &Known) -> Option<Cause>
+        requires { NotesTouched body.now.image.now touched.now }
+        ensures { IfSome result (Holds body.now.image.now body.now.r) }
+    {
+        match self.search.find(body, known, touched, &mut self.potentials) {
+            Ok(()) => None,
+            Err(lack) => cause_of_lack(body, touched, &self.search, lack, &mut self.trails),
+        }
+    }
+}
+
 /// What was in the way of the search for potentials, in an author's terms.
 fn cause_of_search(
     alloc: Global,
@@ -263,15 +300,8 @@ fn cause_of_search(
     requires { NotesTouched body.now.image.now touched.now }
     ensures { IfOk result (λ cause. IfSome cause (Holds body.now.image.now body.now.r)) }
 {
-    let mut search = Search::new(alloc)?;
-    let mut potentials = Table::new(alloc, NOTHING)?;
-    match search.find(body, known, touched, &mut potentials) {
-        Ok(()) => Ok(None),
-        Err(lack) => {
-            let mut trails = Trails::new(alloc)?;
-            Ok(cause_of_lack(body, touched, &search, lack, &mut trails))
-        }
-    }
+    let mut tables = Tables::new(alloc)?;
+    Ok(tables.cause(body, touched, known))
 }
 
 /// Why no numbers of steps are found. That the steps pass the limit comes first: then none are enough, whatever else there is.

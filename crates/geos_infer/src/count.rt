@@ -112,8 +112,32 @@ fn count_in(
     Ok(counted)
 }
 
-/// Counts the steps of so many routines, from the last to the first; the first one for which no
+/// Counts the steps of so many routines, from the last to the first, with tables once there are any; the first routine for which no
 /// number is found, if there is one.
+fn count_each(
+    alloc: Global,
+    image: &Image,
+    routines: u16,
+    known: &Known,
+    tables: &mut Option<Tables>,
+    potentials: &mut Potentials,
+) -> Result<Option<u16>, AllocError>
+    requires { routines ≤ length image.now.routines }
+    ensures counted { IfOk result (λ _. AreCounted image.now 0 routines (numbers_of potentials.new)) }
+    ensures within { IfOk result (λ left. IfSome left (λ r. r < routines)) }
+    ensures none { IfOk result (λ left. IfSome left (NoStepsHoldIn image.now)) }
+{
+    let mut left = None;
+    for r in (0..routines).rev() {
+        let counted = count_in(alloc, &body_of(image, r), known, tables, potentials)?;
+        if !counted {
+            left = Some(r);
+        }
+    }
+    Ok(left)
+}
+
+/// The same, with tables of its own.
 fn count_all(
     alloc: Global,
     image: &Image,
@@ -127,14 +151,7 @@ fn count_all(
     ensures none { IfOk result (λ left. IfSome left (NoStepsHoldIn image.now)) }
 {
     let mut tables = None;
-    let mut left = None;
-    for r in (0..routines).rev() {
-        let counted = count_in(alloc, &body_of(image, r), known, &mut tables, potentials)?;
-        if !counted {
-            left = Some(r);
-        }
-    }
-    Ok(left)
+    count_each(alloc, image, routines, known, &mut tables, potentials)
 }
 
 /// Enough steps at each instruction, and coefficients, where so many routines have rows. `NoRows`

@@ -3,7 +3,7 @@ use Rattle.std.specs.Prelude.{IfSome}
 use Rattle.geos_infer.specs.Solutions.{NoStepsHoldIn}
 use Rattle.geos_infer.specs.Numbers.{numbers_of}
 use Rattle.geos_infer.specs.Count.{AreCounted}
-use Rattle.geos_infer.proofs.count.count_all.Given as goal
+use Rattle.geos_infer.proofs.count.count_each.Given as goal
 
 -- steps are counted in the routines from r on, and none hold in a routine that is left
 abbrev pub invariant-loop-r : goal.invariant-loop-r

@@ -3,7 +3,7 @@ use Rattle.std.proofs.lemmas.Bool.{false≢true}
 use Rattle.geos_infer.specs.Count.{CountsOn, AreCounted}
 use Rattle.geos_infer.specs.Numbers.{numbers_of}
 use Rattle.geos_infer.proofs.Counts.{counts-in, are_counted-more}
-use Rattle.geos_infer.proofs.count.count_all.Goals as goal
+use Rattle.geos_infer.proofs.count.count_each.Goals as goal
 
 pub loop-r-init : goal.loop-r-init
 loop-r-init c = (λ want all q from lt. absurd (omega arith), tt, tt)
