@@ -85,13 +85,25 @@ call_text lines within = concat (codes "the call at" ∷ pc_text lines within.at
 unfoldable pub touched_text : List ℕ → Within → List ℕ
 touched_text lines within = call_text lines within ++ own_loop_text lines within.back
 
+-- that nothing sets a counter before the loop of a way that leads back
+abbrev pub before_loop_text : List ℕ → BackWay → List ℕ
+before_loop_text lines back = codes ", which nothing sets before its loop:" ++ back_text lines back
+
 -- a call touches a counter that is not set behind it
 unfoldable pub touched_before_text : List ℕ → Within → List ℕ
-touched_before_text lines within = call_text lines within ++ codes ", which nothing sets before its loop:" ++ back_text lines within.back
+touched_before_text lines within = call_text lines within ++ before_loop_text lines within.back
+
+-- that this is in the loop of a way that leads back
+abbrev pub in_loop_text : List ℕ → BackWay → List ℕ
+in_loop_text lines back = codes " in the loop where" ++ back_text lines back
+
+-- a counter and where it is set
+unfoldable pub set_at_text : List ℕ → ℕ → ℕ → List ℕ
+set_at_text lines counter at = concat (codes "k" ∷ decimal counter ∷ codes " at" ∷ pc_text lines at ∷ [])
 
 -- a counter is set in the loop of a way that leads back
 unfoldable pub set_in_text : List ℕ → ℕ → ℕ → BackWay → List ℕ
-set_in_text lines counter at back = concat (codes "k" ∷ decimal counter ∷ codes " at" ∷ pc_text lines at ∷ codes " in the loop where" ∷ back_text lines back ∷ [])
+set_in_text lines counter at back = set_at_text lines counter at ++ in_loop_text lines back
 
 -- two loops set the counters of each other
 unfoldable pub in_turn_text : List ℕ → LoopPair → List ℕ

@@ -196,7 +196,7 @@ fn put_touched_before(out: &mut Vec<u8>, lines: &[usize], within: &Within) -> Re
 }
 
 /// A counter is set in the loop of a way that leads back.
-#[tactic(auto, unfolding(crate::specs::Causes::set_in_text))]
+#[tactic(auto, unfolding(crate::specs::Causes::set_at_text, crate::specs::Causes::set_in_text))]
 fn put_set_in(
     out: &mut Vec<u8>,
     lines: &[usize],
