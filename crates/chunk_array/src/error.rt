@@ -1,5 +1,4 @@
 //! Why calls refuse. After a refusal the block is as it was.
-ghost use Rattle.std.specs.Prelude.{◌≡◌};
 
 use lmem_heap::RoomError;
 use thiserror::Error;

@@ -1,8 +1,8 @@
 //! Calls that look at an array.
-ghost use Rattle.std.specs.Prelude.{◌≡◌, ℕ, ◌+◌, ◌<◌, ◌≤◌, length, IfErr, IfOk, MatchResult, OnOk};
+ghost use Rattle.std.specs.Prelude.{◌≡◌, ◌+◌, ◌<◌, ◌≤◌, length, IfErr, IfOk, MatchResult, OnOk};
 ghost use Rattle.lmem_raw.specs.Bytes.{part};
 ghost use Rattle.geos_terms.specs.Refusals.{first_refusal};
-ghost use Rattle.geos_terms.specs.Block.{chunks, IsPlaced};
+ghost use Rattle.geos_terms.specs.Block.{chunks};
 ghost use Rattle.geos_terms.specs.Heap.{IsHeap};
 ghost use Rattle.geos_terms.specs.ArrayEdits.{count_elements, no_array, no_element};
 ghost use Rattle.chunk_array.specs.Found.{HasIndex, IsFound};

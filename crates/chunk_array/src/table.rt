@@ -1,5 +1,5 @@
 //! The table of offsets of an array whose sizes vary.
-ghost use Rattle.std.specs.Prelude.{◌≡◌, ℕ, ◌+◌, ◌*◌, ◌<◌, ◌≤◌, length, IsTrue};
+ghost use Rattle.std.specs.Prelude.{ℕ, ◌+◌, ◌*◌, ◌<◌, ◌≤◌, length, IsTrue};
 ghost use Rattle.chunk_array.specs.Tables.{offset, ClosesTable, OpensTable, ShiftsOffsets};
 
 use crate::shape::HEADER;

@@ -1,7 +1,5 @@
 //! Bars, and texts in columns.
 
-ghost use Rattle.std.specs.Prelude.{◌≡◌};
-
 use std::alloc::AllocError;
 
 /// A bar of so many columns, of which the first ones are used, from a blank to the end of its line.

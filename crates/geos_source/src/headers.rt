@@ -1,6 +1,6 @@
 //! The line that begins a routine.
 
-ghost use Rattle.std.specs.Prelude.{◌≡◌, option_map};
+ghost use Rattle.std.specs.Prelude.{◌≡◌};
 ghost use Rattle.geos_text.specs.Words.{words};
 ghost use Rattle.geos_source.specs.Headers.{named, budgeted, published, header};
 

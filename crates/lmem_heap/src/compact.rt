@@ -1,7 +1,6 @@
 //! Heaps with their free bytes at the end.
-ghost use Rattle.std.specs.Prelude.{◌≡◌, ◌≢◌, ℕ, ◌+◌, ◌-◌, ◌<◌, ◌≤◌, List, length, IfSome, IsTrue, ◌↔◌};
-ghost use Rattle.geos_terms.specs.Bytes.{word};
-ghost use Rattle.geos_terms.specs.Block.{chunks, first_free, handle_word};
+ghost use Rattle.std.specs.Prelude.{◌≡◌, ℕ, ◌+◌, ◌-◌, ◌<◌, ◌≤◌, List, IfSome, IsTrue, ◌↔◌};
+ghost use Rattle.geos_terms.specs.Block.{chunks, handle_word};
 ghost use Rattle.geos_terms.specs.Heap.{IsHeader, IsHeap, IsCompact};
 ghost use Rattle.lmem_heap.specs.Slides.{IsButForEntries};
 ghost use Rattle.lmem_heap.specs.Gaps.{ClosesGaps, IsFirstGap};

@@ -1,9 +1,9 @@
 //! Holes: bytes that neither a chunk nor a free chunk has, while chunks come and go.
-ghost use Rattle.std.specs.Prelude.{◌≡◌, ◌≢◌, ℕ, ◌+◌, ◌-◌, ◌*◌, ◌%◌, ◌<◌, ◌≤◌, ◌⊎◌, length, slice_set, IfSome, MatchOption, IsTrue, None, Some, ◌↔◌};
+ghost use Rattle.std.specs.Prelude.{◌≡◌, ◌≢◌, ◌+◌, ◌-◌, ◌%◌, ◌<◌, ◌≤◌, length, slice_set, IfSome, MatchOption, IsTrue, None, Some, ◌↔◌};
 ghost use Rattle.lmem_raw.specs.Bytes.{part};
 ghost use Rattle.geos_terms.specs.Bytes.{word};
 ghost use Rattle.geos_terms.specs.Chunks.{cost, resized};
-ghost use Rattle.geos_terms.specs.Block.{chunks, entries, entry, handle_word, table_end, total_free};
+ghost use Rattle.geos_terms.specs.Block.{chunks, entries, entry, handle_word};
 ghost use Rattle.geos_terms.specs.Heap.{IsHeap, IsOffset};
 ghost use Rattle.lmem_heap.specs.Packed.{chunk_end, chunk_length};
 ghost use Rattle.lmem_heap.specs.Holes.{FirstIsSmaller, FitsBehind, GivesBack, IsBeside, IsOpen, MakesRoom, Widens};

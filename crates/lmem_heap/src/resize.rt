@@ -1,7 +1,6 @@
 //! Chunks that get another length.
-ghost use Rattle.std.specs.Prelude.{◌≡◌, ◌≢◌, ℕ, ◌+◌, ◌-◌, ◌<◌, ◌≤◌, length, replicate, slice_set, IfErr, IsSome, OnErr, OnOk};
-ghost use Rattle.lmem_raw.specs.Bytes.{part, with_part};
-ghost use Rattle.geos_terms.specs.Chunks.{bytes_of, chunk_of, entry_bytes, need, resized, with_deleted, with_inserted, with_resized};
+ghost use Rattle.std.specs.Prelude.{◌≡◌, ◌≢◌, ◌+◌, ◌-◌, ◌<◌, ◌≤◌, length, slice_set, IfErr, IsSome, OnErr, OnOk};
+ghost use Rattle.geos_terms.specs.Chunks.{bytes_of, chunk_of, entry_bytes, need, with_deleted, with_inserted, with_resized};
 ghost use Rattle.geos_terms.specs.Block.{chunks, entries, entry, handle_word};
 ghost use Rattle.geos_terms.specs.Heap.{IsHeap};
 ghost use Rattle.lmem_heap.specs.Changes.{closed, entry_resized, opened};

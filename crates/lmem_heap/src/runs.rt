@@ -1,5 +1,5 @@
 //! Chunks that move within a block.
-ghost use Rattle.std.specs.Prelude.{◌≡◌, ℕ, ◌+◌, ◌-◌, ◌≤◌, length};
+ghost use Rattle.std.specs.Prelude.{◌≡◌, ◌+◌, ◌-◌, ◌≤◌, length};
 ghost use Rattle.geos_terms.specs.Block.{entries, table_end};
 ghost use Rattle.geos_terms.specs.Heap.{most_block_bytes};
 ghost use Rattle.lmem_heap.specs.Moves.{entry_moved, MapsEntries, MovesRun};

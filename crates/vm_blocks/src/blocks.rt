@@ -1,5 +1,5 @@
 //! VM blocks: what a value is, and what it tells.
-ghost use Rattle.std.specs.Prelude.{ℕ, List, ◌≡◌, ◌≢◌, IsTrue, ◌↔◌, IfOk, IfErr, IfSome, IfNone, IsSomeAnd, OnOk, true, is_some, option_map, length};
+ghost use Rattle.std.specs.Prelude.{ℕ, List, ◌≡◌, IsTrue, ◌↔◌, IfOk, IfErr, IfSome, IsSomeAnd, is_some, option_map, length};
 ghost use Rattle.block_handles.specs.Layout.{IsLaidOut};
 ghost use Rattle.block_handles.specs.Names.{IsHandle};
 ghost use Rattle.block_handles.specs.Store.{Store};

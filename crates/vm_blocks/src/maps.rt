@@ -1,5 +1,5 @@
 //! What is mapped, and blocks that are found by their user IDs.
-ghost use Rattle.std.specs.Prelude.{◌≡◌, ◌≢◌, ◌↔◌, ℕ, Ok, IfSome, IfNone, IsSomeAnd, IsTrue};
+ghost use Rattle.std.specs.Prelude.{◌≡◌, ◌≢◌, ◌↔◌, Ok, IfSome, IfNone, IsSomeAnd, IsTrue};
 ghost use Rattle.block_handles.specs.Store.{Store};
 ghost use Rattle.geos_calls.specs.ItemCalls.{igetmap, isetmap};
 ghost use Rattle.geos_calls.specs.VmCalls.{vfind, vgetmap, vsetmap};

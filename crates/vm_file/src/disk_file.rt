@@ -1,6 +1,6 @@
 //! A device on a file of the system.
 ghost use Rattle.std.specs.Prelude.{◌≡◌, ◌+◌, ◌≤◌, true, false, length, IsTrue, IfOk, OnErr, OnOk};
-ghost use Rattle.vm_file.specs.Device.{Counts, Only};
+ghost use Rattle.vm_file.specs.Device.{Counts};
 ghost use Rattle.vm_file.specs.Outcomes.{ReadsOnly, WritesOnly};
 
 use crate::device::{Device, Disk, count_failure};

@@ -1,5 +1,5 @@
 //! Files that are open.
-ghost use Rattle.std.specs.Prelude.{◌≡◌, ◌+◌, ◌*◌, ◌≤◌, ◌<◌, ◌↔◌, ◌++◌, ℕ, List, [], Ok, Err, true, false, not, MatchResult, IfOk, IfErr, OnOk, OnErr, IsTrue, length};
+ghost use Rattle.std.specs.Prelude.{◌≡◌, ◌+◌, ◌*◌, ◌≤◌, ◌<◌, ◌↔◌, ◌++◌, ℕ, List, [], Ok, Err, true, false, not, MatchResult, IfOk, OnOk, OnErr, IsTrue, length};
 ghost use Rattle.std.specs.List.{Contains};
 ghost use Rattle.std.specs.Vec.{vec_len, vec_capacity};
 ghost use Rattle.vm_file.specs.Device.{FailedOnce, Only, Passes, Rose};
@@ -47,9 +47,8 @@ impl<D: Device + Drop> VmFile<D> {
     ghost use Rattle.lmem_raw.specs.Bytes.{with_part};
     ghost use Rattle.vm_file.specs.Committing.{AreResident, CommitsFile, FindsEither, IsContentsOf, IsKept, MayCommit, MayHaveWritten, NeedsNoRead, Spells};
     ghost use Rattle.vm_file.specs.Committing.{contents_from, current_after, image_after, kept_after, length_after, saved_after};
-    ghost use Rattle.vm_file.specs.Contents.{contents_spelling, listed, pair_in, pair_spelling};
+    ghost use Rattle.vm_file.specs.Contents.{contents_spelling, listed, pair_in};
     ghost use Rattle.vm_file.specs.Directories.{directory_length, is_directory};
-    ghost use Rattle.vm_file.specs.Kept.{SureOf, kept_of};
     ghost use Rattle.vm_file.specs.Spelling.{empty_contents, empty_pair, new_file};
     ghost use Rattle.vm_file.specs.Reading.{is_area};
     ghost use Rattle.vm_file.specs.State.{FileState, Finds, HasBlock, IsOther, ListsPair, ReadsFile, Steadily, block_at, bytes_of_block, file_of, pair_of, saved_block_at};

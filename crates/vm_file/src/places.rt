@@ -1,5 +1,5 @@
 //! Directories with the places of their blocks, so that no walk over entries leads to a block.
-ghost use Rattle.std.specs.Prelude.{◌≡◌, ◌≤◌, ℕ, true, length};
+ghost use Rattle.std.specs.Prelude.{◌≡◌, ◌≤◌, true, length};
 ghost use Rattle.vm_file.specs.Contents.{listed};
 ghost use Rattle.vm_file.specs.Directories.{are_entries, is_directory};
 ghost use Rattle.vm_file.specs.Places.{ArePlaces};

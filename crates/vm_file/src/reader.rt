@@ -1,5 +1,5 @@
 //! A directory read from a device.
-ghost use Rattle.std.specs.Prelude.{◌≡◌, ◌+◌, ◌-◌, ◌<◌, ◌≤◌, ◌^◌, ℕ, true, min, length, map, take, IfOk, OnOk, OnErr, IsTrue, ◌↔◌};
+ghost use Rattle.std.specs.Prelude.{◌≡◌, ◌+◌, ◌-◌, ◌<◌, ◌≤◌, ◌^◌, true, min, length, map, take, IfOk, OnOk, OnErr, IsTrue, ◌↔◌};
 ghost use Rattle.geos_terms.specs.Block.{handle_word};
 ghost use Rattle.geos_terms.specs.Heap.{IsHeap, most_block_bytes};
 ghost use Rattle.lmem_raw.specs.Bytes.{part};

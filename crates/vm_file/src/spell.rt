@@ -1,6 +1,6 @@
 //! The bytes of an area, built in memory before they are written: each function appends, within the
 //! room that the buffer has.
-ghost use Rattle.std.specs.Prelude.{◌≡◌, ◌+◌, ◌-◌, ◌<◌, ◌≤◌, ◌^◌, ◌++◌, ℕ, true, length, map, take, All, IsSome, OnOk, OnErr, IfOk};
+ghost use Rattle.std.specs.Prelude.{◌≡◌, ◌+◌, ◌-◌, ◌<◌, ◌≤◌, ◌^◌, ◌++◌, true, length, map, take, All, IsSome, OnOk, OnErr};
 ghost use Rattle.std.specs.List.{Contains, list_all, flat_map};
 ghost use Rattle.std.specs.Vec.{vec_len, vec_capacity};
 ghost use Rattle.geos_terms.specs.Block.{handle_word};
