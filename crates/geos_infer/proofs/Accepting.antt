@@ -25,9 +25,9 @@ use Rattle.geos_verify.proofs.Passed.{Passed, none-refuses}
 use Rattle.geos_infer.specs.Solutions.{call_steps}
 use Rattle.geos_infer.specs.Numbers.{zeros}
 use Rattle.geos_infer.specs.Points.{potential_of}
-use Rattle.geos_infer.proofs.Pairwise.{both}
+use Rattle.geos_verify.proofs.Pairwise.{both}
 use Rattle.geos_infer.proofs.Asks.{zero-at, set-zero, called}
-use Rattle.geos_infer.proofs.Passing.{neither, not-both, second-false, true-not, MayStand, may_stand-mono}
+use Rattle.geos_verify.proofs.Passing.{neither, not-both, second-false, true-not, MayStand, may_stand-mono}
 
 -- Tests
 

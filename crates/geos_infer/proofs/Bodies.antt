@@ -5,7 +5,7 @@ use Rattle.geos_image.specs.Parts.{Parts, start_of}
 use Rattle.geos_image.specs.Legal.{is_image}
 use Rattle.geos_image.proofs.Instrs.{image_parts}
 use Rattle.geos_image.proofs.Starts.{start_of-end}
-use Rattle.geos_semantics.proofs.Leads.{routine_parts}
+use Rattle.geos_verify.proofs.Leads.{routine_parts}
 use Rattle.geos_infer.specs.declared.body.Body.{Body}
 use Rattle.geos_infer.specs.Code.{IsPcOf}
 

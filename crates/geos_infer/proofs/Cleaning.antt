@@ -13,23 +13,8 @@ use Rattle.geos_verify.specs.Lists.{all2}
 use Rattle.geos_verify.specs.Rows.{slot_fits, pointer_fits, pair_fits, is_empty, leads_nowhere}
 use Rattle.geos_verify.specs.Rules.{names_empty_slot}
 use Rattle.geos_infer.specs.Joins.{without_empty, clean, IsLeastClean}
-use Rattle.geos_infer.proofs.Pairwise.{both, all2-refl}
-use Rattle.geos_infer.proofs.Fits.{fitting, fits-from, le-refl, slot-refl, pair-refl, pointer-none, pointer-refl}
-
-pub slot-empty : (x y : SlotState) → slot_fits x y ≡ true → is_empty x ≡ is_empty y
-slot-empty Empty Empty h = refl
-slot-empty Mem Mem h = refl
-slot-empty (Vm a) (Vm b) h = refl
-slot-empty (Db a) (Db b) h = refl
-slot-empty _ _ h = absurd (false≢true h)
-
--- slots that fit are empty together
-empty-at : (xs us : List SlotState) (k : ℕ) → all2 slot_fits xs us ≡ true → is_empty (get_or xs k Empty) ≡ is_empty (get_or us k Empty)
-empty-at [] [] k h = refl
-empty-at [] (u ∷ us) k h = absurd cc
-empty-at (x ∷ xs) [] k h = absurd cc
-empty-at (x ∷ xs) (u ∷ us) zero h = slot-empty x u ((and_parts (slot_fits x u) (all2 slot_fits xs us) h).0)
-empty-at (x ∷ xs) (u ∷ us) (suc k) h = empty-at xs us k ((and_parts (slot_fits x u) (all2 slot_fits xs us) h).1)
+use Rattle.geos_verify.proofs.Pairwise.{both, all2-refl}
+use Rattle.geos_verify.proofs.RowsFit.{empty-at, fitting, fits-from, le-refl, slot-refl, pair-refl, pointer-none, pointer-refl}
 
 module _ (slots : List SlotState) where
   weaker : (p : Option Pointer) (b : Bool) → leads_nowhere slots p ≡ b → pointer_fits p (without_empty slots p) ≡ true

@@ -16,7 +16,7 @@ use Rattle.geos_infer.specs.Solutions.{StepsHoldIn, call_steps, most_steps}
 use Rattle.geos_infer.specs.Edges.{leads_ahead}
 use Rattle.geos_infer.specs.Numbers.{Numbers, zeros}
 use Rattle.geos_infer.specs.Count.{edge_steps, return_steps, steps_at, Counting, ZerosFrom, HasSteps, Counted, CountedIn, StaysFrom, CountsOn, AreCounted}
-use Rattle.geos_infer.proofs.Pairwise.{both}
+use Rattle.geos_verify.proofs.Pairwise.{both}
 use Rattle.geos_infer.proofs.Ends.{code-at, code-length}
 
 some-is : (x y : Instr) → Some x ≡ Some y → x ≡ y

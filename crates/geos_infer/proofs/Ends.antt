@@ -17,7 +17,7 @@ use Rattle.geos_verify.specs.Touched.{calls}
 use Rattle.geos_verify.proofs.Along.{row_along-used}
 use Rattle.geos_verify.proofs.Places.{item_at, places-length, point-of}
 use Rattle.geos_infer.specs.Code.{instr_of, instrs_of, edge_row}
-use Rattle.geos_infer.proofs.After.{along-mono, branching-mono, is-call}
+use Rattle.geos_verify.proofs.RowsAfter.{along-mono, branching-mono, is-call}
 
 -- the row at the end of an edge
 pub after-edge : (image : Parts) (pc : ℕ) (branch : Bool) (point : Point) (row : Row) → slice_get image.points pc ≡ Some point → after image pc row branch ≡ edge_row image point.instr branch row

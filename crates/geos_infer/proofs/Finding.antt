@@ -28,8 +28,8 @@ use Rattle.geos_infer.specs.Numbers.{Numbers, zeros}
 use Rattle.geos_infer.specs.Count.{Counting, CountedIn, AreCounted}
 use Rattle.geos_infer.specs.Points.{potential_of, PointsOf, RoutinesOf}
 use Rattle.geos_infer.specs.Theorem.{HasAccepted, FindsWhatThereIs, NoneIsAccepted, NothingHoldsIn, NamesRoutine, with_points}
-use Rattle.geos_infer.proofs.Pairwise.{both}
-use Rattle.geos_infer.proofs.Fits.{fits-trans}
+use Rattle.geos_verify.proofs.Pairwise.{both}
+use Rattle.geos_verify.proofs.RowsFit.{fits-trans}
 use Rattle.geos_infer.proofs.Cleaning.{clean-least}
 use Rattle.geos_infer.proofs.Bodies.{lies}
 use Rattle.geos_infer.proofs.Flows.{all-reached}

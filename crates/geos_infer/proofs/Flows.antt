@@ -21,7 +21,7 @@ use Rattle.geos_infer.specs.declared.edges.Edge.{Edge as Edge_}
 use Rattle.geos_infer.specs.Flow.{known_at, KnownAt, edge_number, FitAhead, AllBelow, Flowing, AllKnown, IsJoin, HaveNoJoin, Joins, Arrives, has_joined, GoesAhead, Spreads, StaysBefore, FlowsAnew, HaveFlowed}
 use Rattle.geos_infer.specs.Why.{LeadsTo}
 use Rattle.geos_infer.proofs.Bodies.{lies}
-use Rattle.geos_infer.proofs.Fits.{fits-refl, fits-trans}
+use Rattle.geos_verify.proofs.RowsFit.{fits-refl, fits-trans}
 use Rattle.geos_infer.proofs.Cleaning.{clean-least}
 use Rattle.geos_infer.proofs.Ends.{edge-mono, after-edge, code-at}
 

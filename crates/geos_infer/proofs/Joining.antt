@@ -9,9 +9,9 @@ use Rattle.geos_image.specs.declared.row.SlotState.TheVariants.{Empty, Mem, Vm, 
 use Rattle.geos_image.specs.Legal.{is_shaped}
 use Rattle.geos_verify.specs.Rows.{mark_fits, slot_fits, pointer_fits, pair_fits, fits}
 use Rattle.geos_infer.specs.Joins.{slots_agree, slot_join, pointer_join, pair_join, agree, joined, IsLeastAbove, FitNothing}
-use Rattle.geos_infer.proofs.Pairwise.{both, as_long, as_long-from, all2-above, zip2-left, zip2-right, zip2-least}
+use Rattle.geos_verify.proofs.Pairwise.{both, as_long, as_long-from, all2-above, zip2-left, zip2-right, zip2-least}
 use Rattle.geos_infer.proofs.Cleaning.{shape-parts}
-use Rattle.geos_infer.proofs.Fits.{fitting, fits-from, slot-refl, pointer-none}
+use Rattle.geos_verify.proofs.RowsFit.{fitting, fits-from, slot-refl, pointer-none}
 
 -- Bounds
 

@@ -1,10 +1,6 @@
-pub mod Pairwise
 pub mod Eight
-pub mod Fits
 pub mod Joining
 pub mod Cleaning
-pub mod After
-pub mod Passing
 pub mod Ends
 pub mod Bodies
 pub mod Flows

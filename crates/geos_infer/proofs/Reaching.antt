@@ -30,8 +30,8 @@ use Rattle.geos_infer.proofs.Accepting.{at-place-true}
 use Rattle.geos_infer.proofs.Bodies.{lies}
 use Rattle.geos_infer.proofs.Cleaning.{clean-least}
 use Rattle.geos_infer.proofs.Ends.{place-code-at, same-edge}
-use Rattle.geos_infer.proofs.Fits.{fits-trans}
-use Rattle.geos_infer.proofs.Passing.{neither, not-both, second-false, true-not}
+use Rattle.geos_verify.proofs.RowsFit.{fits-trans}
+use Rattle.geos_verify.proofs.Passing.{neither, not-both, second-false, true-not}
 use Rattle.geos_infer.proofs.Wanted.{map-get, ends-at}
 
 some-row : (x y : Row) → Some x ≡ Some y → x ≡ y

@@ -24,7 +24,7 @@ use Rattle.geos_verify.specs.Places.{places}
 use Rattle.geos_verify.proofs.Places.{item_at, place_true, point-of as find-point}
 use Rattle.geos_semantics.specs.Lists.{dot}
 use Rattle.geos_semantics.specs.Theorem.{value}
-use Rattle.geos_semantics.proofs.Leads.{leads-along, leads-branching, may_return, point_at}
+use Rattle.geos_verify.proofs.Leads.{leads-along, leads-branching, may_return, point_at}
 use Rattle.geos_semantics.proofs.Paid.{pays-value, pays_setting-value, pays_taking-value, pays_calling-value, spent-at}
 use Rattle.geos_infer.specs.Code.{IsPcOf, SameCode, instr_of, instrs_of}
 use Rattle.geos_infer.specs.Numbers.{zeros}

@@ -11,7 +11,7 @@ use Rattle.geos_infer.specs.Flow.{known_at, edge_number, Seeded, FitAhead, AllBe
 use Rattle.geos_infer.specs.Reached.{Copies}
 use Rattle.geos_infer.specs.Solutions.{RowsHoldIn}
 use Rattle.geos_verify.specs.Rows.{fits}
-use Rattle.geos_infer.proofs.Fits.{fits-refl}
+use Rattle.geos_verify.proofs.RowsFit.{fits-refl}
 
 some-routine : (x y : Routine) → Some x ≡ Some y → x ≡ y
 some-routine x y e = cc

@@ -27,7 +27,7 @@ use Rattle.geos_verify.specs.Touched.{calls, touched_by}
 use Rattle.geos_verify.specs.Rules.{has_place, returns, names_empty_slot, tests, HasPoint, IsChecked}
 use Rattle.geos_verify.proofs.Passed.{passed}
 use Rattle.geos_verify.proofs.Places.{place_bounds, place_true, item_at, places-length, point-of}
-use Rattle.geos_semantics.proofs.Leads.{leads-along, leads-branching, may_return, may_begin, begins-within}
+use Rattle.geos_verify.proofs.Leads.{leads-along, leads-branching, may_return, may_begin, begins-within}
 use Rattle.geos_infer.specs.Code.{Edge, IsPcOf, ClosedIn, Entered, EnteredIn, SameCode, Forward, ForwardIn, instrs_of, instr_of, edge_row}
 use Rattle.geos_infer.specs.Solutions.{RowsHoldIn, StepsHoldIn, call_steps}
 use Rattle.geos_infer.proofs.Bodies.{lies}

@@ -20,7 +20,7 @@ use Rattle.geos_verify.specs.Potentials.{pays}
 use Rattle.geos_semantics.specs.State.{kind_at, name_at}
 use Rattle.geos_semantics.specs.Model.{changing, making, asking, referring}
 use Rattle.geos_semantics.proofs.ChunkAnswers.{make-most, ask-most, refer-led}
-use Rattle.geos_semantics.proofs.Leads.{Leads}
+use Rattle.geos_verify.proofs.Leads.{Leads}
 use Rattle.geos_semantics.proofs.Moments.{Moment, Well, StepsWell, unfaulted-here, along_edge, fine-goes}
 use Rattle.geos_semantics.proofs.KernelSteps.{moved_row, pointing_row, telling-well, pointing-well, fine-rechunked, rechunking-well, remaking-well}
 

@@ -31,7 +31,7 @@ use Rattle.geos_semantics.specs.Model.{calls, nowhere}
 use Rattle.geos_semantics.specs.Meets.{Meets, Sound, name_held, PointerIsSound, holds_once, holds}
 use Rattle.geos_semantics.proofs.Stays.{Stays, HeldStay, slots-sound, slots-left}
 use Rattle.geos_semantics.proofs.Kept.{Leaves, each-map, kept-nothing}
-use Rattle.geos_semantics.proofs.Leads.{Leads}
+use Rattle.geos_verify.proofs.Leads.{Leads}
 use Rattle.geos_semantics.proofs.Fine.{Fine, fine-nothing}
 use Rattle.geos_semantics.proofs.Moments.{Moment, Well, StepsWell, unfaulted-here, along_edge, branch_edge}
 use Rattle.geos_semantics.proofs.KernelSteps.{calls-well}

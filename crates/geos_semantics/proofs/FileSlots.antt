@@ -53,7 +53,7 @@ use Rattle.geos_semantics.proofs.Fine.{Fine, fine-word, fine-pointing}
 use Rattle.geos_semantics.proofs.FineLocks.{locks-into, fine-locked, fine-made}
 use Rattle.geos_semantics.proofs.Items.{block_of-mark, stays-marked, group-some}
 use Rattle.geos_semantics.proofs.NewListed.{new-small, new-free, with_new, new-others, new-apart, stays-new}
-use Rattle.geos_semantics.proofs.Leads.{Leads}
+use Rattle.geos_verify.proofs.Leads.{Leads}
 use Rattle.geos_semantics.proofs.Moments.{Moment, Well, StepsWell, unfaulted-here, fields-here, along_edge, branch_edge, fine-goes}
 use Rattle.geos_semantics.proofs.KernelSteps.{fine-unchanged, calls-well}
 use Rattle.geos_semantics.proofs.BlockSteps.{locking-well, unlocking-well}

@@ -27,7 +27,7 @@ use Rattle.geos_verify.proofs.Passed.{passed}
 use Rattle.geos_semantics.specs.State.{with_word}
 use Rattle.geos_semantics.specs.Model.{nowhere, changing_items, making_item}
 use Rattle.geos_semantics.proofs.ChunkAnswers.{make-most}
-use Rattle.geos_semantics.proofs.Leads.{Leads}
+use Rattle.geos_verify.proofs.Leads.{Leads}
 use Rattle.geos_semantics.proofs.Kept.{leaves-all}
 use Rattle.geos_semantics.proofs.Fine.{Fine, fine-word, fine-nothing}
 use Rattle.geos_semantics.proofs.Items.{with_items, leaves-items, fine-regrouped}

@@ -21,7 +21,7 @@ use Rattle.geos_verify.specs.Potentials.{pays}
 use Rattle.geos_semantics.specs.State.{SlotReference, State, with_word, slot, kind_at, name_at, kept_pointers, goto}
 use Rattle.geos_semantics.specs.Model.{Next, answered, call, calls, nowhere, leading}
 use Rattle.geos_semantics.specs.Meets.{IsInChunk}
-use Rattle.geos_semantics.proofs.Leads.{Leads}
+use Rattle.geos_verify.proofs.Leads.{Leads}
 use Rattle.geos_semantics.proofs.Kept.{leaves-all}
 use Rattle.geos_semantics.proofs.Bounds.{held-at, refusal_number-le}
 use Rattle.geos_semantics.proofs.Fine.{Fine, fine-word, fine-same, fine-nothing, fine-moved, leaves-chunks, leaves-written, fine-pointing}

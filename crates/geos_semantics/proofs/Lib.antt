@@ -1,7 +1,6 @@
 pub mod Lists
 pub mod Memories
 pub mod Rows
-pub mod Leads
 pub mod Chains
 pub mod Stays
 pub mod Kept

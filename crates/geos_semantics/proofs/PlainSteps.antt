@@ -22,7 +22,7 @@ use Rattle.geos_semantics.proofs.Chains.{kept-set}
 use Rattle.geos_semantics.proofs.Paid.{pays_setting-value, pays_taking-value}
 use Rattle.geos_semantics.proofs.NoFaults.{word-small}
 use Rattle.geos_semantics.proofs.Rows.{word-bound, sum-bound, meets-capped, product-bound, and-bound, shift-bound}
-use Rattle.geos_semantics.proofs.Leads.{Leads}
+use Rattle.geos_verify.proofs.Leads.{Leads}
 use Rattle.geos_semantics.proofs.Fine.{fine-word}
 use Rattle.geos_semantics.proofs.Bounds.{refusal_number-le}
 use Rattle.geos_semantics.proofs.Moments.{Moment, Well, StepsWell, fields-here, along_edge, branch_edge, now, came, fine-goes, fine-here}

@@ -19,7 +19,7 @@ use Rattle.geos_semantics.specs.State.{word, pointer, with_pointer, reference_at
 use Rattle.geos_semantics.specs.Model.{reads, writes, reads_within, writes_within, nowhere, load, low_bytes, within}
 use Rattle.geos_semantics.specs.Meets.{PointerMeets, PointerIsSound}
 use Rattle.geos_semantics.proofs.Lists.{each2-set}
-use Rattle.geos_semantics.proofs.Leads.{Leads}
+use Rattle.geos_verify.proofs.Leads.{Leads}
 use Rattle.geos_semantics.proofs.Locking.{each-set}
 use Rattle.geos_semantics.proofs.NoFaults.{pointer-sound, pointer-known}
 use Rattle.geos_semantics.proofs.Bounds.{byte-most, word-most, led-at, led-most}

@@ -1,17 +1,12 @@
 -- What is known at the places of an image, and along the edges between them.
 use Rattle.std.proofs.Common.{◌≡◌, ℕ, zero, suc, ◌+◌, ◌<◌, ◌≤◌, Bool, true, false, List, [], ◌∷◌, ◌++◌, length, take, get_or, Option, Some, None, slice_get, refl, sym, ap, subst, ◌∙◌, arith}
-use Rattle.std.specs.Prelude.{not, nat_le, IfSome}
-use Rattle.std.proofs.lemmas.Bool.{le-leb, eq-eqb}
+use Rattle.std.specs.Prelude.{not, IfSome}
 use Rattle.std.proofs.lemmas.List.{take_more}
 use Rattle.geos_image.specs.declared.instr.Instr.{Instr}
 use Rattle.geos_image.specs.declared.row.Row.{Row}
-use Rattle.geos_image.specs.declared.row.Pointer.{Pointer}
-use Rattle.geos_image.specs.declared.row.SlotState.{SlotState}
-use Rattle.geos_image.specs.declared.row.SlotState.TheVariants.{Empty, Mem, Vm, Db}
 use Rattle.geos_image.specs.declared.point.Point.{Point}
 use Rattle.geos_image.specs.Parts.{Parts}
-use Rattle.geos_verify.specs.Lists.{all2}
-use Rattle.geos_verify.specs.Rows.{mark_fits, slot_fits, pointer_fits, pair_fits, fits, row_along, after, at_point, HasEdge}
+use Rattle.geos_verify.specs.Rows.{fits, row_along, after, at_point, HasEdge}
 use Rattle.geos_image.specs.Keys.{falls_through, gives}
 use Rattle.geos_image.specs.Legal.{is_image}
 use Rattle.geos_image.proofs.Given.{gives-cut}
@@ -20,33 +15,8 @@ use Rattle.std.specs.Option.{is_some}
 use Rattle.geos_verify.specs.declared.place.Place.{Place}
 use Rattle.geos_verify.specs.Places.{or_row, place_of, places, at_place, RowAt}
 use Rattle.geos_verify.specs.Rules.{misfits_at}
+use Rattle.geos_verify.proofs.RowsFit.{fits-refl}
 use Rattle.geos_verify.proofs.Places.{item_at, if_some, found-within, places-length, place-at, place-next}
-
-all2-self : {X : Type 0} (test : X → X → Bool) → ((x : X) → test x x ≡ true) → (xs : List X) → all2 test xs xs ≡ true
-all2-self test same [] = refl
-all2-self test same (x ∷ xs) = rw (same x, all2-self test same xs) refl
-
-mark-self : (b : Bool) → mark_fits b b ≡ true
-mark-self true = refl
-mark-self false = refl
-
-slot-self : (s : SlotState) → slot_fits s s ≡ true
-slot-self Empty = refl
-slot-self Mem = refl
-slot-self (Vm marked) = mark-self marked
-slot-self (Db marked) = mark-self marked
-
-pointer-self : (p : Option Pointer) → pointer_fits p p ≡ true
-pointer-self None = refl
-pointer-self (Some p) = rw (eq-eqb p.slot p.slot refl, le-leb p.least p.least (omega arith)) refl
-
-pair-self : (b : Bool) → pair_fits b b ≡ true
-pair-self true = refl
-pair-self false = refl
-
--- each row fits itself
-pub fits-self : (row : Row) → fits row row ≡ true
-fits-self row = rw (all2-self nat_le (λ n. le-leb n n (omega arith)) row.bounds, all2-self slot_fits slot-self row.slots, all2-self pointer_fits pointer-self row.pointers, all2-self pair_fits pair-self row.pairs) refl
 
 some-is : {A : Type 0} (o : Option A) (x y : A) → o ≡ Some x → o ≡ Some y → x ≡ y
 some-is o x y e f = let both : Some x ≡ Some y = sym e ∙ f in cc
@@ -75,7 +45,7 @@ goes-on-fits image pc i row given here known lt next none =
     let row_is : found.0.row ≡ None = sym (if_some (λ point. given ≡ point.row) (slice_get image.points (pc + 1)) found.0 found.1 next) ∙ none in
     let at = next-row image pc i row found.0 here known (omega (arith, lt)) found.1 in
     let next_row = row_along image i i.opcode row in
-    sym (ap not (at_place-is image (pc + 1) (place_of found.0 next_row) (λ place. fits next_row place.row) at) ∙ ap (λ (o : Option Row). not (fits next_row (or_row o next_row))) row_is ∙ ap not (fits-self next_row))
+    sym (ap not (at_place-is image (pc + 1) (place_of found.0 next_row) (λ place. fits next_row place.row) at) ∙ ap (λ (o : Option Row). not (fits next_row (or_row o next_row))) row_is ∙ ap not (fits-refl next_row))
 
 -- where one is given, it has to fit that
 pub goes-on-given : (image : Parts) (pc : ℕ) (row given : Row) → IfSome (slice_get image.points pc) (λ point. Some given ≡ point.row) → pc < length image.points → misfits_at image pc row ≡ not (fits row given)
@@ -144,7 +114,7 @@ gives-within image pc h = go image.points pc h
     go (point ∷ points) zero h = omega arith
     go (point ∷ points) (suc pc) h = let ih = go points pc h in omega (arith, ih)
 
-place-is : (p : Place) (i : Instr) (row : Row) (potential : Potential) → i ≡ p.instr → p.row ≡ row → potential ≡ p.potential → record { instr = i; row = row; potential = potential } ≡ p
+pub place-is : (p : Place) (i : Instr) (row : Row) (potential : Potential) → i ≡ p.instr → p.row ≡ row → potential ≡ p.potential → record { instr = i; row = row; potential = potential } ≡ p
 place-is p i row potential e f g =
     let A : Instr → Place = λ i. record { instr = i; row = row; potential = potential } in
     let B : Row → Place = λ r. record { instr = p.instr; row = r; potential = potential } in

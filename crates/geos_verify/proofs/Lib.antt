@@ -6,3 +6,8 @@ pub mod Passed
 pub mod Places
 pub mod Within
 pub mod Known
+pub mod Pairwise
+pub mod RowsFit
+pub mod RowsAfter
+pub mod Passing
+pub mod Leads

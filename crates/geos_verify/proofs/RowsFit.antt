@@ -1,14 +1,14 @@
 -- Fitting is an order on rows.
-use Rattle.std.proofs.Common.{◌≡◌, ℕ, Bool, true, false, Option, Some, None, refl, ◌∙◌, arith}
+use Rattle.std.proofs.Common.{◌≡◌, ℕ, zero, suc, Bool, true, false, List, [], ◌∷◌, Option, Some, None, get_or, refl, ◌∙◌, arith}
 use Rattle.std.specs.Prelude.{◌&&◌, ◌==◌, nat_le}
-use Rattle.std.proofs.lemmas.Bool.{and_parts, leb-true, le-leb, eqb-true, eq-eqb}
+use Rattle.std.proofs.lemmas.Bool.{and_parts, leb-true, le-leb, eqb-true, eq-eqb, false≢true}
 use Rattle.geos_image.specs.declared.row.Row.{Row}
 use Rattle.geos_image.specs.declared.row.Pointer.{Pointer}
 use Rattle.geos_image.specs.declared.row.SlotState.{SlotState}
 use Rattle.geos_image.specs.declared.row.SlotState.TheVariants.{Empty, Mem, Vm, Db}
 use Rattle.geos_verify.specs.Lists.{all2}
-use Rattle.geos_verify.specs.Rows.{mark_fits, slot_fits, pointer_fits, pair_fits, fits}
-use Rattle.geos_infer.proofs.Pairwise.{both, all2-trans, all2-refl}
+use Rattle.geos_verify.specs.Rows.{mark_fits, slot_fits, pointer_fits, pair_fits, fits, is_empty}
+use Rattle.geos_verify.proofs.Pairwise.{both, all2-trans, all2-refl}
 
 -- the parts of the test
 pub record Fitting (r s : Row) : Type 0 where
@@ -66,6 +66,21 @@ slot-trans Mem Mem z h j = j
 slot-trans (Vm a) (Vm b) (Vm c) h j = mark-trans a b c h j
 slot-trans (Db a) (Db b) (Db c) h j = mark-trans a b c h j
 slot-trans _ _ _ h j = absurd cc
+
+-- slots that fit are empty together
+pub slot-empty : (x y : SlotState) → slot_fits x y ≡ true → is_empty x ≡ is_empty y
+slot-empty Empty Empty h = refl
+slot-empty Mem Mem h = refl
+slot-empty (Vm a) (Vm b) h = refl
+slot-empty (Db a) (Db b) h = refl
+slot-empty _ _ h = absurd (false≢true h)
+
+pub empty-at : (xs us : List SlotState) (k : ℕ) → all2 slot_fits xs us ≡ true → is_empty (get_or xs k Empty) ≡ is_empty (get_or us k Empty)
+empty-at [] [] k h = refl
+empty-at [] (u ∷ us) k h = absurd cc
+empty-at (x ∷ xs) [] k h = absurd cc
+empty-at (x ∷ xs) (u ∷ us) zero h = slot-empty x u ((and_parts (slot_fits x u) (all2 slot_fits xs us) h).0)
+empty-at (x ∷ xs) (u ∷ us) (suc k) h = empty-at xs us k ((and_parts (slot_fits x u) (all2 slot_fits xs us) h).1)
 
 -- Pointers
 

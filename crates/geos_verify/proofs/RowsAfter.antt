@@ -28,8 +28,8 @@ use Rattle.geos_verify.specs.Pairs.{slot_pairs, is_pair, has_slot, each_pair, wi
 use Rattle.geos_verify.specs.Rows.{bound, with_bound, or_any, computed, with_result, bounded, slot_state, kind_in, are_alike, holds_kind, held_state, marked_state, slots_after, pairs_after, pointer_at, may_be_same, stale_where, pointers_kept, with_pointer, used, refused, exit_row, row_along, row_branching, slot_fits, pointer_fits, pair_fits, fits}
 use Rattle.geos_verify.specs.Touched.{calls}
 use Rattle.geos_verify.proofs.Along.{row_along-used}
-use Rattle.geos_infer.proofs.Pairwise.{both, all2-set, all2-get}
-use Rattle.geos_infer.proofs.Fits.{fitting, fits-from, fits-refl, slot-refl, pointer-none, pointer-refl}
+use Rattle.geos_verify.proofs.Pairwise.{both, all2-set, all2-get}
+use Rattle.geos_verify.proofs.RowsFit.{fitting, fits-from, fits-refl, slot-refl, pointer-none, pointer-refl}
 
 -- Bounds
 

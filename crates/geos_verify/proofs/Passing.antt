@@ -22,9 +22,8 @@ use Rattle.geos_verify.specs.Rows.{slot_state, pointer_at, mark_fits, slot_fits,
 use Rattle.geos_verify.specs.Lists.{all2}
 use Rattle.geos_verify.specs.Touched.{calls}
 use Rattle.geos_verify.specs.Rules.{returns, uses_stale, stale_pointer, reach, least_at, reaches_past, passes_end, is_unmarked, pointed_state, writes_unmarked, moves_unmarked, changes_unmarked, locks_held, locks_into_held, misuses_slot, wrong_slot, is_of_file, commits_held, commits_with_held, at_routine, call_misfits, exit_misfits}
-use Rattle.geos_infer.proofs.Fits.{fitting, fits-trans}
-use Rattle.geos_infer.proofs.Cleaning.{slot-empty}
-use Rattle.geos_infer.proofs.After.{bound-mono, slot-mono, pointer-mono, same-alike, same-holds}
+use Rattle.geos_verify.proofs.RowsFit.{fitting, fits-trans, slot-empty}
+use Rattle.geos_verify.proofs.RowsAfter.{bound-mono, slot-mono, pointer-mono, same-alike, same-holds}
 
 -- Tests that are false
 
