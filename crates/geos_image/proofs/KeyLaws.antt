@@ -79,7 +79,7 @@ with_rows-stand (false ∷ flags) (point ∷ points) rows room e = with_rows-sta
 with_rows-stand (true ∷ flags) (point ∷ points) [] room e = absurd (omega (arith, e))
 with_rows-stand (true ∷ flags) (point ∷ points) (r ∷ rows) room e = with_rows-stand flags points rows (omega (arith, room)) (omega (arith, e))
 
-legal-one : (routines instrs : ℕ) (point : Point) (o : Option Row) (next points : List Point) → list_all (is_point routines instrs) (point ∷ points) ≡ true → is_given o ≡ true
+pub legal-one : (routines instrs : ℕ) (point : Point) (o : Option Row) (next points : List Point) → list_all (is_point routines instrs) (point ∷ points) ≡ true → is_given o ≡ true
     → (list_all (is_point routines instrs) points ≡ true → list_all (is_point routines instrs) next ≡ true) → list_all (is_point routines instrs) (record point { row = o } ∷ next) ≡ true
 legal-one routines instrs point o next points h given_here others =
     let parts = and_parts (is_point routines instrs point) (list_all (is_point routines instrs) points) h in
@@ -248,7 +248,7 @@ place-end flags points rows k le =
 
 -- ---- whole images
 
-length-instrs : (points : List Point) → length (instrs_of points) ≡ length points
+pub length-instrs : (points : List Point) → length (instrs_of points) ≡ length points
 length-instrs points = length-map points (λ (point : Point). point.instr)
 
 pub with_rows-length : (flags : List Bool) (points : List Point) (rows : List Row) → length (with_rows flags points rows) ≡ length points

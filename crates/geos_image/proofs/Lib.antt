@@ -11,6 +11,7 @@ pub mod RowLaws
 pub mod PointLaws
 pub mod KeyLaws
 pub mod Given
+pub mod Kept
 pub mod RoutineLaws
 pub mod ImageLaws
 pub mod Starts

@@ -74,6 +74,16 @@ with_rows (false ∷ flags) (point ∷ points) rows = record point { row = None 
 with_rows (true ∷ flags) (point ∷ points) [] = record point { row = None } ∷ with_rows flags points []
 with_rows (true ∷ flags) (point ∷ points) (row ∷ rows) = record point { row = Some row } ∷ with_rows flags points rows
 
+-- a row, if its place is flagged
+abbrev pub row_where : Bool → Option Row → Option Row
+row_where flag row = if flag then row else None
+
+-- the points with the rows that they have at the places that are flagged, and with none elsewhere
+abbrev pub kept_rows : List Bool → List Point → List Point
+kept_rows flags [] = []
+kept_rows [] (point ∷ points) = record point { row = None } ∷ kept_rows [] points
+kept_rows (flag ∷ flags) (point ∷ points) = record point { row = row_where flag point.row } ∷ kept_rows flags points
+
 -- the row for a place, if it is flagged and there is one
 abbrev pub row_for : Bool → List Row → ℕ → Option Row
 row_for true rows next = slice_get rows next
@@ -90,6 +100,10 @@ flag_count flags [] = 0
 flag_count [] (i ∷ instrs) = 0
 flag_count (false ∷ flags) (i ∷ instrs) = flag_count flags instrs
 flag_count (true ∷ flags) (i ∷ instrs) = flag_count flags instrs + 1
+
+-- the image in version 2: it gives the same rows, at its key places alone
+abbrev pub keyed_of : Parts → Parts
+keyed_of image = record { keyed = true; routines = image.routines; points = kept_rows (key_flags image.routines (instrs_of image.points)) image.points }
 
 -- the pc is a key place of the image
 abbrev pub is_key : Parts → ℕ → Bool

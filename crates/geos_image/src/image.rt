@@ -5,12 +5,12 @@ ghost use Rattle.std.specs.List.{list_all};
 ghost use Rattle.geos_image.specs.declared.point.Point.{Point};
 ghost use Rattle.geos_image.specs.Parts.{Parts, start_of};
 ghost use Rattle.geos_image.specs.Legal.{is_image, are_routines, is_point, rows_stand, row_flags, keyed_parts, is_keyed};
-ghost use Rattle.geos_image.specs.Keys.{gives, is_key, branches, falls_through};
+ghost use Rattle.geos_image.specs.Keys.{gives, is_key, branches, falls_through, keyed_of};
 ghost use Rattle.geos_image.specs.Spelling.{version};
 ghost use Rattle.geos_image.specs.Fields.{FieldsFit, TargetFits, CalleeFits};
 
 use crate::instr::Instr;
-use crate::keys::{Flags, flag_count, keys_of, place_rows};
+use crate::keys::{Flags, flag_count, keep_rows, keys_of, place_rows};
 use crate::legal::{MOST_INSTRS, MOST_ROUTINES, is_point, is_routine, total_count};
 use crate::point::Point;
 use crate::potential::Potential;
@@ -167,6 +167,21 @@ impl Image {
             })
         } else {
             None
+        }
+    }
+
+    /// The same image in version 2: of its rows it keeps those at key places. It takes no memory.
+    pub fn into_keyed(self) -> Image
+        ensures value { result ≡ keyed_of self }
+        ensures legal { is_image self ≡ true }
+    {
+        let flags = keys_of(&self.routines, &self.points);
+        let mut points = self.points;
+        keep_rows(&flags, &mut points);
+        Image {
+            keyed: true,
+            routines: self.routines,
+            points,
         }
     }
 

@@ -2,7 +2,7 @@
 
 ghost use Rattle.std.specs.Prelude.{◌≡◌, ◌<◌, ◌≤◌, length, slice_set, true};
 ghost use Rattle.geos_image.specs.Parts.{instrs_of, total_count};
-ghost use Rattle.geos_image.specs.Keys.{falls_through, branches, starts_from, keys_from, target_key, cut_key, flagged, key_flags, flag_count, with_rows, row_for, flag_bit};
+ghost use Rattle.geos_image.specs.Keys.{falls_through, branches, starts_from, keys_from, target_key, cut_key, flagged, key_flags, flag_count, with_rows, row_for, flag_bit, row_where, kept_rows};
 
 use crate::instr::Instr;
 use crate::legal::{MOST_INSTRS, MOST_ROUTINES};
@@ -119,6 +119,23 @@ pub(crate) fn place_rows(flags: &Flags, points: &mut Vec<Point>, rows: &[Row])
     for pc in 0..points.len() {
         points[pc].row = row_for(flags[pc], rows, next);
         next += flag_bit(flags[pc]);
+    }
+}
+
+/// A row, if its place is flagged.
+fn row_where(flag: bool, row: Option<Row>) -> Option<Row>
+    ensures { result ≡ row_where flag row }
+{
+    if flag { row } else { None }
+}
+
+/// Takes away the rows at places that are not flagged.
+pub(crate) fn keep_rows(flags: &Flags, points: &mut Vec<Point>)
+    requires { length points.old.items ≤ MOST_INSTRS }
+    ensures { points.new.items ≡ kept_rows flags.now points.old.items }
+{
+    for pc in 0..points.len() {
+        points[pc].row = row_where(flags[pc], points[pc].row);
     }
 }
 
