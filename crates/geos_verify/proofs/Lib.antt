@@ -11,3 +11,8 @@ pub mod RowsFit
 pub mod RowsAfter
 pub mod Passing
 pub mod Leads
+pub mod Clean
+pub mod Exits
+pub mod KeyedPlaces
+pub mod KeyedRows
+pub mod AcceptedToo

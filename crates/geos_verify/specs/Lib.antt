@@ -7,3 +7,4 @@ pub mod Touched
 pub mod Potentials
 pub mod RuleText
 pub mod Rules
+pub mod Kept

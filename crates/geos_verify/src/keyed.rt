@@ -1,0 +1,8 @@
+//! Images in version 2, with their rows at key places alone.
+
+ghost use Rattle.geos_verify.specs.Kept.{KeptIsAccepted};
+
+/// A law: an image that is accepted is accepted in version 2 too (`Image::into_keyed`).
+pub fn accepted_images_are_accepted_in_version_2()
+    ensures { KeptIsAccepted }
+{}
