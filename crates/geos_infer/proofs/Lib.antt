@@ -12,6 +12,7 @@ pub mod Wanted
 pub mod Accepting
 pub mod Finding
 pub mod Reaching
+pub mod Keyed
 pub mod Fitting
 pub mod Copies
 pub mod Came

@@ -1,5 +1,5 @@
 -- Rows that fit along all edges of a routine hold wherever control reaches in it.
-use Rattle.std.proofs.Common.{◌≡◌, ◌≢◌, ℕ, suc, ◌+◌, ◌<◌, ◌≤◌, Bool, true, false, not, List, [], ◌∷◌, length, map, Option, Some, None, slice_get, get_or, set, refl, sym, ap, ◌∙◌, subst, arith, add-one, inl, inr}
+use Rattle.std.proofs.Common.{◌≡◌, ◌≢◌, ℕ, suc, ◌+◌, ◌<◌, ◌≤◌, Bool, true, false, not, List, [], ◌∷◌, length, Option, Some, None, slice_get, get_or, set, refl, sym, ap, ◌∙◌, subst, arith, add-one, inl, inr}
 use Rattle.std.specs.Prelude.{◌&&◌, option_map}
 use Rattle.std.proofs.lemmas.Bool.{or_parts, not-false, cases_eq, cases_lt}
 use Rattle.std.proofs.lemmas.List.{get_or-set_same, get_or-set_other, length-set, length-map}
@@ -15,7 +15,7 @@ use Rattle.geos_image.proofs.Starts.{start_of-next, start_of-le}
 use Rattle.geos_image.specs.Keys.{falls_through, branches}
 use Rattle.geos_verify.specs.declared.place.Place.{Place}
 use Rattle.geos_verify.specs.Places.{places, at_place}
-use Rattle.geos_verify.specs.Rows.{at_point, row_along, row_branching, fits, has_edge}
+use Rattle.geos_verify.specs.Rows.{row_along, row_branching, fits, has_edge}
 use Rattle.geos_verify.specs.Rules.{has_place, names_empty_slot, leaves_routine, misfits_at, edge_misfits, HasPoint}
 use Rattle.geos_verify.proofs.Places.{item_at, place_bounds, places-length, given-place}
 use Rattle.geos_infer.specs.declared.body.Body.{Body}
@@ -229,7 +229,7 @@ module _ (image : Parts) (known : List (Option Row)) (numbers : Numbers) (points
         let is : clean from.0 ≡ row = sym (ap row_of from.1) ∙ row-at pc row e in
         let same : behind ≡ edge_row (with_points image points) i branch row = ap (edge_row image i branch) is ∙ sym (same-edge image (with_points image points) refl i branch row) in
         subst (λ (x : Row). fits x next ≡ true) same fit;
-    clean = λ pc row within e. subst (λ (x : Row). names_empty_slot x ≡ false) (row-at pc row e) (row-clean (known_at known pc));
+    clean = λ pc row within given e. subst (λ (x : Row). names_empty_slot x ≡ false) (row-at pc row e) (row-clean (known_at known pc));
   }
 
 -- What the verifier says of such rows
@@ -270,7 +270,7 @@ module _ (image : Parts) (r pc : ℕ) (routine : Routine) (point : Place) (holds
   -- the rules on rows pass
   pub rules-pass : RowRulesPass image r routine pc point
   rules-pass = record {
-    clean = holds.clean pc point.row (placed pc at.within) (row-there pc point at.read);
+    clean = λ given. holds.clean pc point.row (placed pc at.within) given (row-there pc point at.read);
     entry = λ start. holds.entry routine point.row at.there (ap (slice_get (rows_of image)) (sym start) ∙ row-there pc point at.read);
     edges = edges-pass;
   }

@@ -11,7 +11,6 @@ use Rattle.geos_image.specs.declared.instr.Instr.{Instr}
 use Rattle.geos_image.specs.declared.row.Row.{Row}
 use Rattle.geos_image.specs.declared.potential.Potential.{Potential}
 use Rattle.geos_image.specs.declared.routine.Routine.{Routine}
-use Rattle.geos_image.specs.declared.point.Point.{Point}
 use Rattle.geos_image.specs.Parts.{Parts, start_of, total_count}
 use Rattle.geos_image.specs.Legal.{is_image}
 use Rattle.geos_image.specs.Ranges.{ImageFits, PointFits}
@@ -28,7 +27,7 @@ use Rattle.geos_verify.specs.Rules.{has_place, returns, names_empty_slot, tests,
 use Rattle.geos_verify.proofs.Passed.{passed}
 use Rattle.geos_verify.proofs.Places.{place_bounds, place_true, item_at, places-length, point-of}
 use Rattle.geos_verify.proofs.Leads.{leads-along, leads-branching, may_return, may_begin, begins-within}
-use Rattle.geos_infer.specs.Code.{Edge, IsPcOf, ClosedIn, Entered, EnteredIn, SameCode, Forward, ForwardIn, instrs_of, instr_of, edge_row}
+use Rattle.geos_infer.specs.Code.{Edge, IsPcOf, ClosedIn, Entered, EnteredIn, SameCode, Forward, ForwardIn, instrs_of, edge_row}
 use Rattle.geos_infer.specs.Solutions.{RowsHoldIn, StepsHoldIn, call_steps}
 use Rattle.geos_infer.proofs.Bodies.{lies}
 use Rattle.geos_infer.proofs.Ends.{code-length, code-place, place-code-at, same-edge}

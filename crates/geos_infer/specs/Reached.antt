@@ -4,6 +4,8 @@ use Rattle.geos_image.specs.declared.instr.Instr.{Instr}
 use Rattle.geos_image.specs.declared.row.Row.{Row}
 use Rattle.geos_image.specs.declared.routine.Routine.{Routine}
 use Rattle.geos_image.specs.Parts.{Parts, start_of}
+use Rattle.geos_image.specs.Keys.{gives, keyed_of}
+use Rattle.geos_image.specs.Legal.{is_image}
 use Rattle.geos_verify.specs.declared.place.Place.{Place}
 use Rattle.geos_verify.specs.Places.{places}
 use Rattle.geos_verify.specs.Rows.{fits}
@@ -23,13 +25,13 @@ pub record IsReached (image : Parts) (r pc : ℕ) : Type 0 where
   pub lead : LeadWithin image r edges pc
 
 -- rows hold wherever control reaches in routine r: its entry row fits the first one; the row after an edge fits the one where
--- it leads, if that is in the routine; and no pointer leads into an empty slot
+-- it leads, if that is in the routine; and no pointer leads into an empty slot where the image gives a row
 pub record HoldWhereReached (image : Parts) (r : ℕ) (rows : List Row) : Type 0 where
   pub len : length rows ≡ length (instrs_of image)
   pub entry : (routine : Routine) (row : Row) → slice_get image.routines r ≡ Some routine → slice_get rows (start_of image.routines r) ≡ Some row → fits routine.entry row ≡ true
   pub edges : (pc to : ℕ) (branch : Bool) (i : Instr) (row next : Row) → IsReached image r pc → Edge (instrs_of image) pc branch to i → IsPcOf image r to → slice_get rows pc ≡ Some row
       → slice_get rows to ≡ Some next → fits (edge_row image i branch row) next ≡ true
-  pub clean : (pc : ℕ) (row : Row) → IsPcOf image r pc → slice_get rows pc ≡ Some row → names_empty_slot row ≡ false
+  pub clean : (pc : ℕ) (row : Row) → IsPcOf image r pc → gives image pc ≡ true → slice_get rows pc ≡ Some row → names_empty_slot row ≡ false
 
 -- the row that is known at a place
 abbrev pub row_in : Place → Row
@@ -43,12 +45,16 @@ rows_of image = map row_in (places image)
 abbrev pub AllHoldWhereReached : Parts → Type 0
 AllHoldWhereReached image = (r : ℕ) → r < length image.routines → HoldWhereReached image r (rows_of image)
 
+-- rows that hold in an image do in version 2 too
+abbrev pub KeptRowsHold : Type 0
+KeptRowsHold = (image : Parts) → is_image image ≡ true → AllHoldWhereReached image → AllHoldWhereReached (keyed_of image)
+
 -- What the verifier says of such rows
 
--- what the rules on rows ask of the place at a pc of routine r: no pointer leads into an empty slot; where the routine begins,
--- its entry row fits the row; and where no edge leaves the routine, the row after each edge fits the row there
+-- what the rules on rows ask of the place at a pc of routine r: no pointer leads into an empty slot, where a row is given; where the
+-- routine begins, its entry row fits the row; and where no edge leaves the routine, the row after each edge fits the row there
 pub record RowRulesPass (image : Parts) (r : ℕ) (routine : Routine) (pc : ℕ) (place : Place) : Type 0 where
-  pub clean : names_empty_slot place.row ≡ false
+  pub clean : gives image pc ≡ true → names_empty_slot place.row ≡ false
   pub entry : pc ≡ start_of image.routines r → fits routine.entry place.row ≡ true
   pub edges : leaves_routine routine (start_of image.routines r) pc place.instr ≡ false → edge_misfits image pc place.instr place.row ≡ false
 

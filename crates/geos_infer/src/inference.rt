@@ -1,11 +1,11 @@
 //! Rows and potentials for the code of an image.
 
-ghost use Rattle.std.specs.Prelude.{◌≡◌, ℕ, length, IfOk, IfErr};
+ghost use Rattle.std.specs.Prelude.{◌≡◌, ℕ, false, length, IfOk, IfErr};
 ghost use Rattle.geos_infer.specs.declared.error.InferError.TheVariants.{NoRows};
 ghost use Rattle.geos_infer.specs.Code.{SameCode};
 ghost use Rattle.geos_infer.specs.Numbers.{numbers_of};
 ghost use Rattle.geos_infer.specs.Points.{PointsOf, RoutinesOf};
-ghost use Rattle.geos_infer.specs.Reached.{AllHoldWhereReached, RowsThatHoldPass};
+ghost use Rattle.geos_infer.specs.Reached.{AllHoldWhereReached, KeptRowsHold, RowsThatHoldPass};
 ghost use Rattle.geos_infer.specs.Theorem.{FindsWhatThereIs, NoneIsAccepted, NothingHoldsIn, NamesRoutine};
 
 use crate::count::count;
@@ -49,7 +49,8 @@ fn routines_of(alloc: Global, image: &Image) -> Result<Vec<Routine>, AllocError>
 
 /// An image with the code of the skeleton (its routines, with entry and exit rows and budgets,
 /// and its instructions), and with rows and potentials that are found for it; those of the
-/// skeleton are not looked at.
+/// skeleton are not looked at. It is of version 1: a row stands at each instruction. `Image::into_keyed` leaves those
+/// out that the verifier computes.
 ///
 /// The rows hold wherever control reaches, in loops too, so that the verifier's rules on rows pass
 /// there (`rows_that_hold_pass`).
@@ -62,6 +63,7 @@ fn routines_of(alloc: Global, image: &Image) -> Result<Vec<Routine>, AllocError>
 /// but the first, no rows and numbers of steps hold in it, whatever the others are.
 pub fn infer(alloc: Global, skeleton: &Image) -> Result<Image, InferError>
     ensures code { IfOk result (λ image. SameCode skeleton.now image) }
+    ensures version { IfOk result (λ image. image.keyed ≡ false) }
     ensures rows { IfOk result AllHoldWhereReached }
     ensures found { IfOk result (λ image. FindsWhatThereIs skeleton.now image) }
     ensures none { IfErr result (λ error. (r : ℕ) → error ≡ NoRows r → NoneIsAccepted skeleton.now) }
@@ -83,8 +85,13 @@ pub fn infer(alloc: Global, skeleton: &Image) -> Result<Image, InferError>
 }
 
 /// A law: where the rows of an image hold, the verifier's rules on rows pass wherever control reaches. No
-/// pointer leads into an empty slot, a routine's entry row fits its first row, and the row after an edge
+/// pointer leads into an empty slot where the image gives a row, a routine's entry row fits its first row, and the row after an edge
 /// fits the row there, where no edge leaves the routine.
 pub fn rows_that_hold_pass()
     ensures { RowsThatHoldPass }
+{}
+
+/// A law: where the rows of an image hold, they do in version 2 too (`Image::into_keyed`).
+pub fn kept_rows_hold()
+    ensures { KeptRowsHold }
 {}

@@ -57,5 +57,5 @@ pub use cause::{BackWay, ByWord, Cause, LoopPair, Within, find_cause};
 pub use common::{clean, join};
 pub use edges::Edge;
 pub use error::InferError;
-pub use inference::{infer, rows_that_hold_pass};
+pub use inference::{infer, kept_rows_hold, rows_that_hold_pass};
 pub use turns::none_is_accepted_past;
