@@ -55,14 +55,18 @@ any-some : {T : Type 0} (o : Option T) → IfSome o (λ x. Unit {0})
 any-some None = tt
 any-some (Some x) = tt
 
+-- a call is one that the machine may be asked for
+pub call_named-admitted : (image : Parts) (name : List ℕ) (numbers : List (List ℕ)) → IfSome (call_named image name numbers) (λ c. admits image c.routine c.words ≡ true)
+call_named-admitted image name numbers =
+    and_then-some (λ c. admits image c.routine c.words ≡ true) _ (routine_named image name)
+    (λ r. and_then-some (λ c. admits image c.routine c.words ≡ true) _ (registers_of numbers) (λ ws. if_admitted-some image (record { routine = r; words = ws }) _ refl))
+
 -- a command is one that may be asked for
 command_of-admitted : (image : Parts) (ws : List (List ℕ)) → IfSome (command_of image ws) (IsAdmitted image)
 command_of-admitted image [] = tt
 command_of-admitted image (word ∷ []) = mapped (IsAdmitted image) command.Commit (how_named word) (any-some (how_named word))
 command_of-admitted image (word ∷ name ∷ numbers) = chosen (IsAdmitted image) (bytes_eq word (codes "call")) (option_map command.Call (call_named image name numbers))
-    (mapped (IsAdmitted image) command.Call (call_named image name numbers)
-    (and_then-some (λ c. admits image c.routine c.words ≡ true) _ (routine_named image name)
-    (λ r. and_then-some (λ c. admits image c.routine c.words ≡ true) _ (registers_of numbers) (λ ws. if_admitted-some image (record { routine = r; words = ws }) _ refl))))
+    (mapped (IsAdmitted image) command.Call (call_named image name numbers) (call_named-admitted image name numbers))
 
 cons_option-all : {T : Type 0} (P : T → Type 0) (o : Option T) (xs : List T) → IfSome o P → AllByRecursion P xs → AllByRecursion P (cons_option o xs)
 cons_option-all P None xs h rest = rest

@@ -1,3 +1,4 @@
+pub mod CallRuns
 pub mod Commands
 pub mod Examples
 pub mod MayCommit

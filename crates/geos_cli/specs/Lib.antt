@@ -1,3 +1,4 @@
+pub mod Calls
 pub mod Commits
 pub mod Script
 pub mod Session

@@ -7,13 +7,18 @@
 //! | law | `other_calls_keep`: calls that may not commit leave what the device holds as it was |
 //! | output | prints what commands put out, and flushes the writer |
 //! | script | `run_script`, `run_script_strictly`: carry out the commands of a script, and print what calls put out |
+//! | call | `run_call`: carries out one call, which words name |
 #![tactic(auto)]
 
+mod call;
+mod call_fault;
 mod law;
 mod output;
 mod script;
 mod session;
 
+pub use crate::call::run_call;
+pub use crate::call_fault::CallFault;
 pub use crate::law::other_calls_keep;
 pub use crate::script::{RefusedCommit, run_script, run_script_strictly};
 pub use crate::session::run_session;

@@ -78,7 +78,7 @@ pub struct RefusedCommit {
 }
 
 /// The routine of that name.
-fn routine_named(image: &Image, name: &[u8]) -> Option<u16>
+pub(crate) fn routine_named(image: &Image, name: &[u8]) -> Option<u16>
     ensures { result ≡ routine_named image.now name.now }
 {
     for r in 0..image.count() {
@@ -311,7 +311,7 @@ fn ended_by(mode: Mode, line: usize, done: Result<(), Refusal>) -> Option<Refuse
 /// Carries out the commands one after another, all of them or up to the refused commit behind which
 /// the script does not go on. Each finds the kernel as the one before left it, and what those before
 /// printed is flushed where it may commit.
-fn carry_out_all<W: Write, D: Device + Drop>(
+pub(crate) fn carry_out_all<W: Write, D: Device + Drop>(
     mode: Mode,
     checked: &Checked,
     commands: &[Numbered],
@@ -349,7 +349,7 @@ fn carry_out_all<W: Write, D: Device + Drop>(
 }
 
 /// The image that the bytes spell, checked.
-fn load(alloc: Global, image: &[u8]) -> Result<Checked, ScriptFault>
+pub(crate) fn load(alloc: Global, image: &[u8]) -> Result<Checked, ScriptFault>
     ensures image { IfOk result (λ checked. (image_at image.now ≡ Ok checked) × Accepted checked) }
     ensures bad { IfErr result (IsBadImage image.now) }
 {

@@ -1,0 +1,74 @@
+-- One call that was carried out, or stopped, as the call that words name.
+use Rattle.std.proofs.Common.{◌≡◌, ◌<◌, ◌+◌, ◌∙◌, ℕ, suc, Bool, true, false, List, [], ◌∷◌, length, drop, get_or, drop-cons, Option, Some, None, refl, ap, subst, arith}
+use Rattle.std.specs.Prelude.{is_some, nat_lt}
+use Rattle.std.specs.Borrow.{Bor}
+use Rattle.std.proofs.lemmas.List.{length-map}
+use Rattle.std.specs.Io.KnownBytes.{Appends}
+use Rattle.geos_calls.specs.VmFile.{VmFile}
+use Rattle.geos_kernel.specs.View.{KernelState, IsFileOf}
+use Rattle.geos_image.specs.Parts.{Parts}
+use Rattle.geos_machine.specs.Runs.{Within}
+use Rattle.geos_input.specs.declared.fault.ScriptFault.{ScriptFault}
+use Rattle.geos_input.specs.declared.fault.ScriptFault.TheVariants.{TooLong, BadHex, BadImage, Rejected, BadScript, Read, Write, Memory}
+use Rattle.geos_cli.specs.declared.call_fault.CallFault.TheVariants.{Script}
+use Rattle.geos_cli.specs.declared.script.Call.{Call}
+use Rattle.geos_cli.specs.declared.script.Command.TheVariants as command
+use Rattle.geos_cli.specs.declared.script.Mode.TheVariants.{Lenient}
+use Rattle.geos_cli.specs.declared.script.RefusedCommit.{RefusedCommit}
+use Rattle.geos_cli.specs.Script.{on_line, From, IsAllowed, IsBadImage, Leads, RanCommands, StoppedCommands}
+use Rattle.geos_cli.specs.Calls.{texts, Asks, CallEndsBy, RanCall, RunsCall, StoppedCall, StopsCall}
+
+-- the word at i stands in front of those behind it
+pub texts-at : (words : List (Bor (List ℕ))) (i : ℕ) (none : Bor (List ℕ)) → i < length words
+    → texts (drop i words) ≡ (get_or words i none).now ∷ texts (drop (i + 1) words)
+texts-at words i none lt =
+    let next : suc i ≡ i + 1 = omega arith in
+    ap texts (drop-cons words i none lt) ∙ ap (λ k. (get_or words i none).now ∷ texts (drop k words)) next
+
+pub length-texts : (words : List (Bor (List ℕ))) → length (texts words) ≡ length words
+length-texts words = length-map words (λ word. word.now)
+
+-- what holds below a number, and at it
+pub below-more : (P : ℕ → Type 0) (n : ℕ) → ((k : ℕ) → k < n → P k) → P n → (k : ℕ) → k < n + 1 → P k
+below-more P n below here k lt = go (nat_lt k n) refl
+  where
+    go : (b : Bool) → nat_lt k n ≡ b → P k
+    go true e = below k (grind (arith, e))
+    go false e = let same : n ≡ k = grind (arith, e, lt) in subst P same here
+
+pub is-none : {A : Type 0} (o : Option A) → is_some o ≡ false → o ≡ None
+is-none None e = refl
+is-none (Some x) e = absurd cc
+
+-- bytes that are no image end the call
+pub image-ends : (bytes name : List ℕ) (numbers : List (List ℕ)) (fault : ScriptFault) → IsBadImage bytes fault → CallEndsBy bytes name numbers (Script fault)
+image-ends bytes name numbers (BadImage at) h = h
+image-ends bytes name numbers (Rejected pc rule) h = h
+image-ends bytes name numbers Memory h = tt
+image-ends bytes name numbers TooLong h = absurd h
+image-ends bytes name numbers (BadHex line) h = absurd h
+image-ends bytes name numbers (BadScript line) h = absurd h
+image-ends bytes name numbers Read h = absurd h
+image-ends bytes name numbers Write h = absurd h
+
+module _ (honest : Type 0) (within : Within) (bytes name : List ℕ) (numbers : List (List ℕ)) (image : Parts) (call : Call) (kernel later : KernelState)
+    (a b : Option (List ℕ)) (asks : Asks bytes name numbers image call) where
+  pub call-ran : (refused : Option RefusedCommit) → refused ≡ None → RanCommands Lenient honest within image (on_line 1 (command.Call call) ∷ []) refused kernel later a b
+      → RanCall honest within bytes name numbers kernel later a b
+  call-ran refused none ran = all (subst (λ r. RanCommands Lenient honest within image (on_line 1 (command.Call call) ∷ []) r kernel later a b) none ran)
+    where
+      all : RanCommands Lenient honest within image (on_line 1 (command.Call call) ∷ []) None kernel later a b → RanCall honest within bytes name numbers kernel later a b
+      all (text, leads, appends) = (text, of_call, appends)
+        where
+          of_call : Leads honest within kernel later (λ before after keeps. From (RunsCall (IsAllowed honest) bytes name numbers before after text) before keeps)
+          of_call f tied =
+              let l = leads f tied in
+              record { file = l.file; tied = l.tied; lasts = l.lasts; keeps = l.keeps; does = (l.does.0, (image, call, asks, l.does.1), l.does.2); stops = l.stops }
+
+  pub call-stopped : StoppedCommands Lenient honest within image (on_line 1 (command.Call call) ∷ []) kernel later a b → StoppedCall honest within bytes name numbers kernel later a b
+  call-stopped (text, leads, appends) = (text, of_call, appends)
+    where
+      of_call : Leads honest within kernel later (λ before after keeps. From (StopsCall (IsAllowed honest) bytes name numbers before after text) before keeps)
+      of_call f tied =
+          let l = leads f tied in
+          record { file = l.file; tied = l.tied; lasts = l.lasts; keeps = l.keeps; does = (l.does.0, (image, call, asks, l.does.1), l.does.2); stops = l.stops }
