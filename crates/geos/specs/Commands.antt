@@ -1,5 +1,5 @@
 -- What the commands on the bytes of texts and images answer.
-use Rattle.std.specs.Prelude.{◌≡◌, ◌⊎◌, ℕ, Bool, ◌==◌, List, [], Ok, Option, codes}
+use Rattle.std.specs.Prelude.{◌≡◌, ◌⊎◌, ℕ, Bool, false, MatchBool, ◌==◌, List, [], Ok, Option, codes}
 use Rattle.std.specs.List.{starts_with}
 use Rattle.geos_image.specs.Parts.{Parts}
 use Rattle.geos_image.specs.Reading.{image_at}
@@ -10,7 +10,8 @@ use Rattle.geos_explain.specs.Texts.{text_explanation}
 use Rattle.geos_source.specs.InstrLines.{instr_lines}
 use Rattle.geos_causes.specs.Causes.{cause_text}
 use Rattle.geos_infer.specs.declared.cause.Cause.{Cause}
-use Rattle.geos_asm.specs.Assembling.{IsAssembled, IsTextOf, IsCauseOf}
+use Rattle.geos_asm.specs.Assembling.{IsAssembled, IsTextOf, IsCauseOf, IsWhyNoImage}
+use Rattle.geos_asm.specs.declared.error.AssembleError.{AssembleError}
 
 -- the bytes spell an image that is one of the text
 abbrev pub IsAssembledAs : List ℕ → List ℕ → Type 0
@@ -37,6 +38,14 @@ IsCauseTold text line told = (told ≡ []) ⊎ ((cause : Cause) × IsCauseOf tex
 -- the bytes begin as an image does
 abbrev pub begins_as_image : List ℕ → Bool
 begins_as_image bytes = starts_with (λ a b. a == b) bytes (codes "GRT1")
+
+-- what is read begins as an image does, and the bytes are the same; or it does not, and they spell an image of it as a text
+abbrev pub IsImageOf : List ℕ → List ℕ → Type 0
+IsImageOf read bytes = MatchBool (begins_as_image read) (bytes ≡ read) (IsAssembledAs read bytes)
+
+-- why there is no image: what is read is a text, and has none
+abbrev pub IsWhyNoneOf : List ℕ → AssembleError → Type 0
+IsWhyNoneOf read fault = (begins_as_image read ≡ false) × IsWhyNoImage read fault
 
 -- the bytes spell an image, and the refusal is its first, or there is none
 abbrev pub IsJudged : List ℕ → Option Reject → Type 0

@@ -3,7 +3,7 @@
 ghost use Rattle.std.specs.Prelude.{◌≡◌, IfOk, IfErr};
 ghost use Rattle.geos_asm.specs.Assembling.{IsWhyNoImage};
 ghost use Rattle.geos_image.specs.Reading.{image_at, Fails};
-ghost use Rattle.geos.specs.Commands.{IsAssembledAs, IsListed, IsJudged, IsExplained, IsExplainedText, IsCauseTold, begins_as_image};
+ghost use Rattle.geos.specs.Commands.{IsAssembledAs, IsImageOf, IsWhyNoneOf, IsListed, IsJudged, IsExplained, IsExplainedText, IsCauseTold, begins_as_image};
 
 use geos_asm::{AssembleError, assemble, list, why_no_rows};
 use geos_causes::explain_cause;
@@ -78,6 +78,19 @@ pub(crate) fn begins_as_image(bytes: &[u8]) -> bool
     ensures { result ≡ begins_as_image bytes.now }
 {
     bytes.starts_with(b"GRT1")
+}
+
+/// The bytes of the image that bytes are or that is made of them: themselves, where they begin as an image does, else those of the
+/// image of the text that they are. The faults are those of `geos_asm::assemble`.
+pub(crate) fn image_bytes(alloc: Global, bytes: Vec<u8>) -> Result<Vec<u8>, AssembleError>
+    ensures image { IfOk result (λ image. IsImageOf bytes.entry.items image.items) }
+    ensures fault { IfErr result (IsWhyNoneOf bytes.entry.items) }
+{
+    if begins_as_image(&bytes) {
+        Ok(bytes)
+    } else {
+        assemble_bytes(alloc, &bytes)
+    }
 }
 
 /// The lines of a text that assembles, with what is known at each instruction; and whether the verifier accepts its

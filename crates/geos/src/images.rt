@@ -2,7 +2,7 @@
 
 use crate::commands::{
     Explained, assemble_bytes, begins_as_image, cause_bytes, check_bytes, explain_bytes,
-    explain_text_bytes, list_bytes,
+    explain_text_bytes, image_bytes, list_bytes,
 };
 use crate::request_fault::RequestFault;
 use geos_asm::AssembleError;
@@ -11,6 +11,12 @@ use geos_shell::{print, print_lines, read, write};
 
 /// The most bytes that are read of a file: one more than a text may have, and more than any image has.
 pub(crate) const MOST_READ: u64 = MOST_BYTES as u64 + 1;
+
+/// The bytes of an image that a path names, or that is assembled of the text there.
+pub(crate) fn read_image<'a>(rt: &HostRuntime, path: &'a str) -> Result<Vec<u8>, RequestFault<'a>> {
+    let bytes = read(rt, path, MOST_READ)?;
+    Ok(image_bytes(rt.alloc(), bytes)?)
+}
 
 /// Makes the image of a text.
 pub(crate) fn assemble<'a>(

@@ -1,6 +1,7 @@
 //! The program `geos`: runs a session on its standard input, or a command on a text or an image in a file.
 #![tactic(auto)]
 
+mod calling;
 mod commands;
 mod files;
 mod images;

@@ -4,7 +4,7 @@ use geos_asm::AssembleError;
 use geos_cli::ScriptFault;
 use geos_dump::DumpError;
 use geos_image::ReadError;
-use geos_shell::StreamFault;
+use geos_shell::{Printable, StreamFault};
 use geos_verify::Reject;
 use thiserror::Error;
 use vm_file::{CreateError, OpenError};
@@ -21,6 +21,15 @@ pub(crate) enum RequestFault<'a> {
     /// The line of a script that runs strictly, counted from 1, is a commit that was refused.
     #[error("line {0}: refused {1}")]
     Refused(usize, u16),
+    /// No public routine has the name that a call gives.
+    #[error("bad call: no public routine {}", Printable(.0))]
+    NoRoutine(&'a str),
+    /// What a call gives as this word is no number that the word may be.
+    #[error("bad call: w{} can't be {}", .0, Printable(.1))]
+    BadNumber(usize, &'a str),
+    /// A call gives a ninth number.
+    #[error("bad call: more than eight numbers")]
+    TooManyNumbers,
     /// A text is not assembled.
     #[error(transparent)]
     Assemble(#[from] AssembleError),

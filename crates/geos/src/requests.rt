@@ -2,6 +2,7 @@
 
 ghost use Rattle.geos_shell.specs.Limits.{KeepsLimits};
 
+use crate::calling::call as run_call;
 use crate::files::{draw_file, make_file, print_file};
 use crate::images::{assemble, check, explain, list};
 use crate::request_fault::RequestFault;
@@ -15,6 +16,12 @@ pub(crate) fn carry_out<'a>(rt: &HostRuntime, request: Request<'a>) -> Result<()
 {
     match request {
         Request::Session => Ok(session(rt)?),
+        Request::Call {
+            image,
+            call,
+            file,
+            region,
+        } => run_call(rt, image, call, file, region),
         Request::Assemble { text, image } => assemble(rt, text, image),
         Request::List(path) => list(rt, path),
         Request::Check(path) => check(rt, path),

@@ -4,7 +4,7 @@ ghost use Rattle.vm_blocks.specs.Listed.{NoneLocked};
 ghost use Rattle.geos_shell.specs.Limits.{IsRegion};
 
 use crate::files::{Unlocked, open_unlocked, opened};
-use crate::images::MOST_READ;
+use crate::images::{MOST_READ, read_image};
 use crate::request_fault::RequestFault;
 use geos_cli::{Counted, RefusedCommit, ScriptFault, run_script, run_script_strictly, run_session};
 use geos_kernel::Kernel;
@@ -16,7 +16,7 @@ use vm_file::{FileDevice, VmFile};
 
 /// Standard output behind a buffer, with what is asked of it counted. `ScriptFault::Memory` where
 /// there is none for the buffer.
-fn output(
+pub(crate) fn output(
     rt: &HostRuntime,
 ) -> Result<Counted<BufWriter<Printer<'_, HostRuntime>, Global>>, ScriptFault> {
     match BufWriter::new(rt.alloc(), io::writer(rt)) {
@@ -88,7 +88,7 @@ fn run_in<'a>(
 
 /// Runs a script on a VM file, with so many bytes for blocks in memory; to its end, or, strictly, to its first
 /// refused commit, which is a fault then. The words are gone through
-/// from left to right: the image is read, the file opened, the script read; then it runs.
+/// from left to right: the image is read, or assembled of a text, the file opened, the script read; then it runs.
 ///
 /// The file's lock is waited for when the script has been read, so that the file is not kept from
 /// others while a script is to come: who writes it may want the file first. What the file holds is
@@ -103,7 +103,7 @@ pub(crate) fn run<'a>(
 ) -> Result<(), RequestFault<'a>>
     requires { IsRegion region }
 {
-    let image = read(rt, image, MOST_READ)?;
+    let image = read_image(rt, image)?;
     let Unlocked {
         device,
         file: lockable,

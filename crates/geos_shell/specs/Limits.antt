@@ -2,7 +2,7 @@
 use Rattle.std.specs.Prelude.{◌≡◌, ℕ, ◌≤◌, ◌%◌}
 use Rattle.geos_shell.specs.declared.numbers.Number.{Number}
 use Rattle.geos_shell.specs.declared.request.Request.{Request}
-use Rattle.geos_shell.specs.declared.request.Request.TheVariants.{Session, Assemble, List, Check, Explain, New, Run, Dump, Map}
+use Rattle.geos_shell.specs.declared.request.Request.TheVariants.{Session, Call, Assemble, List, Check, Explain, New, Run, Dump, Map}
 
 -- a number is within the limits of its kind
 abbrev pub IsWithin : Number → ℕ → Type 0
@@ -23,6 +23,7 @@ IsWidth n = (60 ≤ n) × (n ≤ 1000)
 -- each number of a request is within its limits
 abbrev pub KeepsLimits : Request → Type 0
 KeepsLimits (New file area) = IsArea area
+KeepsLimits (Call image call file region) = IsRegion region
 KeepsLimits (Run image file script region strict) = IsRegion region
 KeepsLimits (Map file width) = IsWidth width
 KeepsLimits Session = Unit {0}

@@ -15,6 +15,12 @@ enum ArgText {
     Number(NumberText),
     /// A flag that it may be given: its name, and what it does.
     Flag(&'static str, &'static str),
+    /// A word that it may be given: its name, and what it is.
+    MayBe(&'static str, &'static str),
+    /// Words that it may be given, any number of them: their name, and what they are.
+    Words(&'static str, &'static str),
+    /// A path behind a name that it may be given: that name, and what the path is.
+    Path(&'static str, &'static str),
 }
 
 /// A number that a command may be given: its name and limits, what it is, and what it is where it is not given.
@@ -33,6 +39,26 @@ struct CommandText {
     more: More,
 }
 
+const TEXT_OR_IMAGE: ArgText = ArgText::Word(
+    "IN",
+    "A file of assembly text, at most 1,048,576 bytes, or of an image's bytes; `-` is the standard input, where NAME is given",
+);
+
+const NAME: ArgText = ArgText::MayBe(
+    "NAME",
+    "The public routine that is run; with none, a script is read from the standard input",
+);
+
+const NUMBERS: ArgText = ArgText::Words(
+    "N",
+    "Its words w0 to w7: at most eight numbers, each from 0 to 65535 and within the bound of its word",
+);
+
+const ON_FILE: ArgText = ArgText::Path(
+    "file",
+    "The VM file that it works on, as `new` makes it; with none, one in memory",
+);
+
 const TEXT: ArgText = ArgText::Word(
     "IN",
     "A file of assembly text, at most 1,048,576 bytes; `-` is the standard input",
@@ -46,6 +72,11 @@ const NEW_IMAGE: ArgText = ArgText::Word(
 const IMAGE: ArgText = ArgText::Word(
     "IMAGE",
     "A file of an image's bytes; `-` is the standard input",
+);
+
+const IMAGE_OR_TEXT: ArgText = ArgText::Word(
+    "IMAGE",
+    "A file of an image's bytes, or of assembly text; `-` is the standard input",
 );
 
 const NEW_FILE: ArgText = ArgText::Word(
@@ -88,7 +119,13 @@ const LINE_WIDTH: ArgText = ArgText::Number(NumberText {
     default: "80",
 });
 
-static COMMANDS: [CommandText; 8] = [
+static COMMANDS: [CommandText; 9] = [
+    CommandText {
+        name: "call",
+        about: "Checks a text or an image, and runs one routine of it, or a script",
+        args: &[TEXT_OR_IMAGE, NAME, NUMBERS, ON_FILE, REGION_SIZE],
+        more: More::Called,
+    },
     CommandText {
         name: "asm",
         about: "Makes the image of a text",
@@ -110,7 +147,7 @@ static COMMANDS: [CommandText; 8] = [
     CommandText {
         name: "explain",
         about: "Prints an image or a text with what is known at each instruction, and why it may not run",
-        args: &[IMAGE],
+        args: &[IMAGE_OR_TEXT],
         more: More::Explained,
     },
     CommandText {
@@ -122,7 +159,7 @@ static COMMANDS: [CommandText; 8] = [
     CommandText {
         name: "run",
         about: "Runs a script on a VM file",
-        args: &[IMAGE, FILE, SCRIPT, REGION_SIZE, STRICT],
+        args: &[IMAGE_OR_TEXT, FILE, SCRIPT, REGION_SIZE, STRICT],
         more: More::Runs,
     },
     CommandText {
@@ -162,12 +199,37 @@ fn flag<'a>(alloc: Global, name: &'a str, about: &'a str) -> Arg<'a> {
         .action(ArgAction::SetTrue)
 }
 
+/// A word that a command may be given.
+fn may_be<'a>(alloc: Global, name: &'a str, about: &'a str) -> Arg<'a> {
+    Arg::new(alloc, name).help(about)
+}
+
+/// Words that a command may be given. One that begins with `-` and is a number is one of them: what it
+/// is not is said by who reads it.
+fn words_of<'a>(alloc: Global, name: &'a str, about: &'a str) -> Arg<'a> {
+    Arg::new(alloc, name)
+        .help(about)
+        .num_args(0..)
+        .allow_negative_numbers(true)
+}
+
+/// A path behind `--name` that a command may be given.
+fn path_of<'a>(alloc: Global, name: &'a str, about: &'a str) -> Arg<'a> {
+    Arg::new(alloc, name)
+        .long(name)
+        .value_name("FILE")
+        .help(about)
+}
+
 /// What stands behind the name of a command.
 fn arg_of<'a>(alloc: Global, text: &ArgText) -> Arg<'a> {
     match text {
         ArgText::Word(name, about) => wanted(alloc, *name, *about),
         ArgText::Number(number) => number_of(alloc, number),
         ArgText::Flag(name, about) => flag(alloc, *name, *about),
+        ArgText::MayBe(name, about) => may_be(alloc, *name, *about),
+        ArgText::Words(name, about) => words_of(alloc, *name, *about),
+        ArgText::Path(name, about) => path_of(alloc, *name, *about),
     }
 }
 

@@ -1,12 +1,11 @@
 //! What the program says of itself and of its commands.
 
 pub(crate) const ABOUT: &str =
-    "Runs a session: checks an image of routines, then calls them as a script says. \
-     Or makes an image of a text, says what there is to say of an image, runs a script on a VM file, \
-     or shows what such a file keeps.";
+    "Checks routines, of a text or of an image that is made of one, and runs them. \
+     Says what there is to say of them, runs scripts on VM files that last, and shows what such a file keeps.";
 
 pub(crate) const USAGES: &str = "\
-geos < SESSION
+geos call IN [NAME [N..]] [--file FILE] [--region N]
        geos asm IN OUT
        geos list IMAGE
        geos check IMAGE
@@ -15,11 +14,13 @@ geos < SESSION
        geos run IMAGE FILE SCRIPT [--region N] [--strict]
        geos dump FILE [--chunks]
        geos map FILE [--width N]
+       geos < SESSION
        geos help [COMMAND]";
 
 /// A command of which the usage is said alone. It names its text, as `More` does.
 #[derive(Clone, Copy)]
 pub(crate) enum Usage {
+    Call,
     Asm,
     New,
     Run,
@@ -29,6 +30,7 @@ pub(crate) enum Usage {
 impl Usage {
     pub(crate) fn text(self) -> &'static str {
         match self {
+            Usage::Call => "geos call IN [NAME [N..]] [--file FILE] [--region N]",
             Usage::Asm => "geos asm IN OUT",
             Usage::New => "geos new FILE [--area N]",
             Usage::Run => "geos run IMAGE FILE SCRIPT [--region N] [--strict]",
@@ -38,7 +40,26 @@ impl Usage {
 }
 
 pub(crate) const SESSION: &str = "\
-A session is read from standard input, at most 1,048,576 bytes of it. It is
+`geos call IN NAME 2 3` checks the routines of the text or the image in IN, and runs the public one of
+that name with 2 in w0 and 3 in w1. It prints each word that the routine puts out, in decimal on a line.
+A text to begin with:
+  routine add public budget 3
+          ADD w0 w0 w1
+          OUT w0 end
+  end:    RET
+
+Example:
+  geos call add.asm add 2 3         prints 5, where add.asm has that text
+  geos help call                    says more
+docs/AUTHORS.md says how to write a routine, docs/FORMATS.md has the form of texts, docs/INSTRUCTIONS.md
+the instructions, examples/README.md the routines of that folder in words.
+
+IN is a file of assembly text, for `call` also of an image; OUT and IMAGE are files of an image's bytes,
+and for `explain` and `run` IMAGE may be a text; SCRIPT is a file of commands as of a session. `-` is the
+standard input, or for OUT the standard output, and `./-` a file of that name. FILE is a VM file, and never
+a stream.
+
+Without words a session is read from standard input, at most 1,048,576 bytes of it. It is
   1. an image, a set of routines in hexadecimal digits;
   2. a line `end`;
   3. a script, with one command a line: `call NAME n..` runs the public routine of that name on
@@ -47,27 +68,31 @@ A session is read from standard input, at most 1,048,576 bytes of it. It is
 
 Nothing runs unless the whole image is accepted and no line of the script is bad. A call prints
 each word that its routine puts out, in decimal on a line; the others print nothing, or `refused N`.
-A session has a VM file of its own, in memory; `geos run` runs a script on one that lasts.
-
-Example:
-  ./geos < examples/add.session     prints 5
-examples/README.md has the routines of that folder in words.
-
-IN is a file of assembly text, OUT and IMAGE are files of an image's bytes, SCRIPT is a file of
-commands as of a session; `-` is the standard input, or for OUT the standard output, and `./-` a file of
-that name. FILE is a VM file, and never a stream. docs/AUTHORS.md says how to
-write a routine, docs/FORMATS.md has the form of texts, docs/INSTRUCTIONS.md the instructions. A
-text to begin with:
-  routine add public budget 5
-          LDI w0 2
-          LDI w1 3
-          ADD w0 w0 w1
-          OUT w0 end
-  end:    RET
+A session has a VM file of its own, in memory; `call` and `run` run on one that lasts.
 
 Status: 0 where all was done, also where lines `refused N` say that something was not; 1 after a fault,
 which one line on standard error names; 2 where the words on the command line are none of these.
 docs/FORMATS.md has the faults, and the digits of an image.";
+
+/// How one routine, or a script, is run.
+const CALLED: &str = "\
+What is in IN begins as an image does, or is read as a text. Nothing runs unless the text has no fault and
+the verifier accepts the image: `geos help asm` has the faults of a text, `geos help check` the rules, and
+`geos explain IN` says more.
+
+NAME is a public routine, which runs on at most eight numbers, its words w0 to w7; missing ones are 0. Each
+word that it puts out is printed in decimal on a line. `bad call: ..` says which word of the call is wrong.
+Without NAME a script is read from the standard input, as `geos help run` has it.
+
+With FILE the routines work on that VM file, as `geos new` makes it, and nothing else may meanwhile. What
+they change in it is lost unless VUPDATE or VSAVE in a routine keeps it, or a command of the script.
+Without FILE they have one in memory, whose areas have 65,536 bytes, and which is gone at the end.
+
+Example:
+  geos call add.asm add 2 3         prints 5, where add.asm is the text of `geos help`
+  printf 'call add 2 3\\ncall add 4 5\\n' | geos call add.asm
+  geos new counter.vm
+  geos call examples/counter.asm --file counter.vm < examples/counter.script";
 
 /// Why a text is not assembled.
 const FAULTS: &str = "\
@@ -124,6 +149,7 @@ the file can't be made.";
 
 /// How a script runs on a VM file.
 const RUNS: &str = "\
+IMAGE may be a text too: what does not begin as an image does is read as one, and assembled in memory.
 SCRIPT has a command a line, as a session behind its image:
   call NAME n..   runs the public routine on at most eight numbers, and prints what it puts out
   update          the file keeps its blocks as they are
@@ -142,7 +168,7 @@ waits while SCRIPT is still to come, so it may be `-` behind a pipe from a `dump
 
 Example:
   geos new notes.vm
-  geos run notes.image notes.vm notes.script
+  geos run notes.asm notes.vm notes.script
   geos dump notes.vm";
 
 /// How a VM file is printed.
@@ -164,6 +190,7 @@ bytes, those of the heap's header and table too; a group has `group` in the plac
 #[derive(Clone, Copy)]
 pub(crate) enum More {
     Nothing,
+    Called,
     Faults,
     Explained,
     Rules,
@@ -177,6 +204,7 @@ impl More {
     pub(crate) fn text(self) -> &'static str {
         match self {
             More::Nothing => "",
+            More::Called => CALLED,
             More::Faults => FAULTS,
             More::Explained => EXPLAINED,
             More::Rules => RULES,

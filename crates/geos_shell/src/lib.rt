@@ -23,5 +23,6 @@ pub use command_line::words;
 pub use descriptors::keep_stream_numbers;
 pub use locks::{FileLock, Lockable, Sharing};
 pub use new_file::NewFile;
-pub use request::{Request, requested};
+pub use printable::Printable;
+pub use request::{CallWords, Request, requested};
 pub use streams::{StreamFault, print, print_lines, read, write};

@@ -12,8 +12,12 @@ pub(crate) enum Misuse {
     WrongNumber(Number),
     /// Two words name the standard input.
     TwoOfOneStream,
+    /// A text or an image is to come on the standard input, and no routine is named, so that a script is to come there too.
+    NoName,
     /// The image of a text is to take the place of the text.
     ImageOntoText,
+    /// Nothing is wrong with the words, but an allocation was refused.
+    Memory,
 }
 
 /// Which numbers there are.
@@ -39,9 +43,13 @@ impl Misuse {
             Misuse::TwoOfOneStream => {
                 String::from_str(alloc, "only one of IMAGE and SCRIPT is the standard input")
             }
+            Misuse::NoName => {
+                String::from_str(alloc, "IN is the standard input, so NAME has to be given")
+            }
             Misuse::ImageOntoText => {
                 String::from_str(alloc, "IN and OUT are one file, and the text would be lost")
             }
+            Misuse::Memory => Err(AllocError),
         }
     }
 
@@ -50,6 +58,7 @@ impl Misuse {
         match self {
             Misuse::WrongNumber(number) => number.usage.text(),
             Misuse::TwoOfOneStream => Usage::Run.text(),
+            Misuse::NoName | Misuse::Memory => Usage::Call.text(),
             Misuse::ImageOntoText => Usage::Asm.text(),
         }
     }

@@ -38,6 +38,15 @@ pub(crate) const REGION: Number = Number {
     usage: Usage::Run,
 };
 
+/// The same for `call`.
+pub(crate) const CALL_REGION: Number = Number {
+    name: "region",
+    least: 65_536,
+    most: 16_777_216,
+    unit: 1,
+    usage: Usage::Call,
+};
+
 /// The columns of a drawing.
 pub(crate) const WIDTH: Number = Number {
     name: "width",

@@ -6,7 +6,7 @@ use std::fmt::{self, Display, Formatter};
 /// A text of the user's in a line of the program's: each of its control characters is written by its bytes, as `\x0a`, so that it
 /// ends no line, and does nothing to a terminal.
 #[derive(Clone, Copy)]
-pub(crate) struct Printable<'a>(pub(crate) &'a str);
+pub struct Printable<'a>(pub &'a str);
 
 /// Whether a text has control characters.
 pub(crate) fn has_control(text: &str) -> bool {

@@ -6,18 +6,33 @@ ghost use Rattle.geos_shell.specs.Limits.{KeepsLimits};
 use crate::answer::Answer;
 use crate::command_line::matches_of;
 use crate::misuse::Misuse;
-use crate::numbers::{AREA, REGION, WIDTH};
+use crate::numbers::{AREA, CALL_REGION, REGION, WIDTH};
 use crate::printable::{Printable, has_control};
 use crate::streams::is_stream;
 use clap::{ArgMatches, Error};
 use std::alloc::{AllocError, Global};
 
+/// A call of the routine with the name, on these numbers.
+#[derive(Drop)]
+pub struct CallWords<'a> {
+    pub name: &'a str,
+    pub numbers: Vec<&'a str>,
+}
+
 /// What the words on the command line ask for. A path of `-` is a standard stream, but that of a VM
 /// file.
-#[derive(Clone, Copy)]
+#[derive(Drop)]
 pub enum Request<'a> {
     /// To run the session on the standard input.
     Session,
+    /// To run one call of a text's or an image's routines, or with none the script on the standard input; on a VM file, or with none on
+    /// one in memory, with so many bytes for blocks in memory.
+    Call {
+        image: &'a str,
+        call: Option<CallWords<'a>>,
+        file: Option<&'a str>,
+        region: u32,
+    },
     /// To make the image of a text.
     Assemble {
         text: &'a str,
@@ -58,6 +73,43 @@ pub enum Request<'a> {
 /// A word that the command wants, so it is there.
 fn word<'a>(words: &ArgMatches<'a>, name: &str) -> &'a str {
     words.get_str(name).unwrap_or("")
+}
+
+/// The words that are given for a name, if there are any.
+fn words_of<'a>(alloc: Global, words: &ArgMatches<'a>, name: &str) -> Result<Vec<&'a str>, Misuse> {
+    match words.get_strs(name) {
+        Some(given) => Vec::from_slice(alloc, given).map_err(|_| Misuse::Memory),
+        None => Ok(Vec::new(alloc)),
+    }
+}
+
+/// The call that is asked for, if a routine is named.
+fn call_words<'a>(alloc: Global, words: &ArgMatches<'a>) -> Result<Option<CallWords<'a>>, Misuse> {
+    match words.get_str("NAME") {
+        Some(name) => Ok(Some(CallWords {
+            name,
+            numbers: words_of(alloc, words, "N")?,
+        })),
+        None => Ok(None),
+    }
+}
+
+/// What a `call` asks for. A wrong number is said first.
+fn call_of<'a>(alloc: Global, words: &ArgMatches<'a>) -> Result<Request<'a>, Misuse>
+    ensures { IfOk result KeepsLimits }
+{
+    let region = CALL_REGION.of(words)?;
+    let image = word(words, "IN");
+    let call = call_words(alloc, words)?;
+    if call.is_none() && is_stream(image) {
+        return Err(Misuse::NoName);
+    }
+    Ok(Request::Call {
+        image,
+        call,
+        file: words.get_str("file"),
+        region,
+    })
 }
 
 /// What an `asm` asks for. The image of a text does not take its place: the text would be lost.
@@ -140,13 +192,14 @@ fn unnumbered_of<'a>(name: &str, words: &ArgMatches<'a>) -> Request<'a>
 }
 
 /// What the words ask for.
-fn request_of<'a>(matches: &ArgMatches<'a>) -> Result<Request<'a>, Misuse>
+fn request_of<'a>(alloc: Global, matches: &ArgMatches<'a>) -> Result<Request<'a>, Misuse>
     ensures { IfOk result KeepsLimits }
 {
     let Some((name, words)) = matches.subcommand() else {
         return Ok(Request::Session);
     };
     match name {
+        "call" => call_of(alloc, words),
         "asm" => asm_of(words),
         "new" => new_of(words),
         "run" => run_of(words),
@@ -192,7 +245,7 @@ pub fn requested<'a>(alloc: Global, words: &'a [String]) -> Result<Request<'a>, 
     ensures { IfOk result KeepsLimits }
 {
     match matches_of(alloc, words) {
-        Ok(matches) => request_of(&matches).map_err(|misuse| misuse.answer(alloc)),
+        Ok(matches) => request_of(alloc, &matches).map_err(|misuse| misuse.answer(alloc)),
         Err(error) => Err(answer_to(alloc, words, &error)),
     }
 }

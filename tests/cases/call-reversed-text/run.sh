@@ -1,0 +1,2 @@
+# A text reversed.
+"$1" call "$(dirname "$0")/text.asm" <"$(dirname "$0")/script"

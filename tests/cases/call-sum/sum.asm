@@ -1,0 +1,5 @@
+; Prints the sum of two numbers.
+routine add public budget 3
+        ADD w0 w0 w1
+        OUT w0 end
+end:    RET
