@@ -187,6 +187,7 @@ fn number_of<'a>(alloc: Global, text: &NumberText) -> Arg<'a> {
     Arg::new(alloc, name)
         .long(name)
         .value_name("N")
+        .allow_hyphen_values(true)
         .help(text.about)
         .default_value(text.default)
 }

@@ -35,6 +35,20 @@ impl Display for Printable<'_> {
     }
 }
 
+/// A path of the user's in a line of the program's: written as `Printable` is, but for an empty one, which is `''`.
+#[derive(Clone, Copy)]
+pub(crate) struct Named<'a>(pub(crate) &'a str);
+
+impl Display for Named<'_> {
+    fn fmt<W: fmt::Write>(&self, f: &mut Formatter<W>) -> fmt::Result {
+        if self.0.is_empty() {
+            f.write_str("''")
+        } else {
+            Printable(self.0).fmt(f)
+        }
+    }
+}
+
 /// What a terminal is given for lines of text: control characters but the end of a line and a tab by their bytes, and where the text
 /// is not UTF-8 each byte past ASCII too.
 pub(crate) fn for_terminal(alloc: Global, text: &[u8]) -> Result<String, AllocError> {

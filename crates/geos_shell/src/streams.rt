@@ -1,6 +1,6 @@
 //! What is read of files and of the standard input, and written to them or to the standard output.
 
-use crate::printable::{Printable, for_terminal};
+use crate::printable::{Named, for_terminal};
 use crate::replace::replace;
 use std::alloc::Global;
 use std::io::{ErrorKind, IsTerminal, Read, Write};
@@ -18,9 +18,9 @@ pub(crate) fn is_stream(path: &str) -> bool {
 /// Why bytes were not read, or not written.
 #[derive(Debug, Drop, Error)]
 pub enum StreamFault<'a> {
-    #[error("cannot read {}", Printable(.0))]
+    #[error("cannot read {}", Named(.0))]
     Read(&'a str),
-    #[error("cannot write {}", Printable(.0))]
+    #[error("cannot write {}", Named(.0))]
     Write(&'a str),
     #[error("memory")]
     Memory,

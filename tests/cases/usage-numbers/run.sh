@@ -13,6 +13,11 @@ for number in +512 -512 -0 '' ' 512' '512 ' 5_12 0x200 512.0 0 511 513 16777728 
     echo "status $?, lines $(wc -l <said), $(head -n 1 said)"
 done
 cat said
+for number in -512 -0 - -x --x --chunks --; do
+    "$program" new file.vm --area "$number" 2>&1 | head -n 1
+done
+"$program" run image file.vm script --region -1 2>&1
+"$program" map --width -80 file.vm 2>&1
 "$program" run image file.vm script --region +65536 2>&1
 "$program" run image file.vm script --region 65535 2>&1 | head -n 1
 "$program" map file.vm --width 1001 2>&1
