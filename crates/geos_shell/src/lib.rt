@@ -7,11 +7,14 @@
 mod answer;
 mod command_line;
 mod descriptors;
+mod file_id;
 mod help;
+mod kept;
 mod locks;
 mod misuse;
 mod new_file;
 mod numbers;
+mod output;
 mod parts;
 mod printable;
 mod replace;

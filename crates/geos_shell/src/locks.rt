@@ -1,7 +1,9 @@
 //! Locks on VM files, so that no two programs work on one at a time.
 
+use crate::file_id::FileId;
+use crate::output::goes_into;
 use crate::printable::Printable;
-use crate::streams::StreamFault;
+use crate::streams::{STANDARD, StreamFault};
 use std::fs::{self, File, OpenOptions, TryLockError};
 use std::io::{self, ErrorKind, IsTerminal};
 use std::thread;
@@ -44,6 +46,11 @@ fn opened(rt: &HostRuntime, path: &str, sharing: Sharing) -> io::Result<File> {
     let mut how = OpenOptions::new();
     how.read(true).write(matches!(sharing, Sharing::Alone));
     how.open(rt, path)
+}
+
+/// Whether the standard output goes into the open file.
+fn is_output(rt: &HostRuntime, file: &File) -> bool {
+    matches!(file.metadata(), Ok(found) if goes_into(rt, FileId::of(&found)))
 }
 
 /// How long the lock is asked for before the user is told that it is waited for, in milliseconds.
@@ -104,13 +111,14 @@ fn fault<'a>(path: &'a str, error: &io::Error) -> StreamFault<'a> {
 impl<'a> Lockable<'a> {
     /// Opens the file with the path, without its lock: to work on it alone, or to read it as others may meanwhile. `StreamFault::Read`
     /// where there is no such file, or where it is a folder, a pipe, a device or a socket, or may not be read, or changed where it is
-    /// to work on it alone.
+    /// to work on it alone; `StreamFault::Write` of `-` where the standard output goes into it.
     pub fn open(
         rt: &HostRuntime,
         path: &'a str,
         sharing: Sharing,
     ) -> Result<Lockable<'a>, StreamFault<'a>> {
         match opened(rt, path, sharing) {
+            Ok(file) if is_output(rt, &file) => Err(StreamFault::Write(STANDARD)),
             Ok(file) => Ok(Lockable {
                 path,
                 sharing,

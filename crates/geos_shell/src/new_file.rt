@@ -19,31 +19,8 @@ pub struct NewFile<'a> {
 fn begun(rt: &HostRuntime, path: &str) -> io::Result<Part> {
     match fs::symlink_metadata(rt, path) {
         Ok(_) => Err(io::Error::from(ErrorKind::AlreadyExists)),
-        Err(error) if error.kind() == ErrorKind::NotFound => Part::beside(rt, path, ANY),
+        Err(error) if error.kind() == ErrorKind::NotFound => Part::beside(rt, path, ANY, None),
         Err(error) => Err(error),
-    }
-}
-
-/// Gives the file the path by a rename. An empty file takes the path first, since a rename would replace one that has come meanwhile.
-fn rename_to_free(rt: &HostRuntime, part: &str, path: &str) -> io::Result<()> {
-    let _free = File::create_new(rt, path)?;
-    let renamed = fs::rename(rt, part, path);
-    if renamed.is_err() {
-        let _ = fs::remove_file(rt, path);
-    }
-    renamed
-}
-
-/// Gives the file the path, if nothing has that: by a link, which replaces nothing, or on a file system without links by a rename.
-fn give_path(rt: &HostRuntime, part: &str, path: &str) -> io::Result<()> {
-    match fs::hard_link(rt, part, path) {
-        Ok(()) => {
-            // A second name that can't be removed is removed by the next run.
-            let _ = fs::remove_file(rt, part);
-            Ok(())
-        }
-        Err(error) if error.kind() == ErrorKind::AlreadyExists => Err(error),
-        Err(_) => rename_to_free(rt, part, path),
     }
 }
 
@@ -82,7 +59,7 @@ impl<'a> NewFile<'a> {
     /// refuses: then nothing is left.
     pub fn finish(self, rt: &HostRuntime) -> Result<(), StreamFault<'a>> {
         let NewFile { path, part } = self;
-        if let Err(error) = give_path(rt, part.name.as_str(), path) {
+        if let Err(error) = part.give_path(rt, path) {
             part.discard(rt);
             return Err(fault(path, &error));
         }

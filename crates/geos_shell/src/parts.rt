@@ -1,9 +1,10 @@
 //! Files that are made under a name of their own, until they are whole.
 
+use crate::file_id::FileId;
 use std::alloc::{AllocError, Global};
 use std::fs::{self, File, OpenOptions, TryLockError};
 use std::io::{self, ErrorKind};
-use std::os::unix::fs::{MetadataExt, OpenOptionsExt};
+use std::os::unix::fs::OpenOptionsExt;
 
 /// How many names of parts are looked through for what stopped runs have left. More than one is there where runs were stopped that
 /// worked in one folder at once.
@@ -34,7 +35,7 @@ fn part_name(alloc: Global, folder: &str, n: u32) -> Result<String, AllocError> 
 /// Whether a name, which may be that of a link, is one of the open file.
 fn is_named(rt: &HostRuntime, name: &str, file: &File) -> io::Result<bool> {
     let (open, named) = (file.metadata()?, fs::symlink_metadata(rt, name)?);
-    Ok(open.dev() == named.dev() && open.ino() == named.ino())
+    Ok(FileId::of(&open) == FileId::of(&named))
 }
 
 /// Whether the file, which was made under the name, is this run's: another one may have taken it for one that was left, before it was
@@ -56,9 +57,10 @@ fn made(rt: &HostRuntime, name: &str, mode: u32) -> io::Result<Option<File>> {
     }
 }
 
-/// Removes the file of the name, if a run that was stopped has left it.
-fn remove_left(rt: &HostRuntime, name: &str) -> io::Result<()> {
-    if !fs::symlink_metadata(rt, name)?.is_file() {
+/// Removes the file of the name, if a run that was stopped has left it, and it is not the one to be kept.
+fn remove_left(rt: &HostRuntime, name: &str, kept: Option<FileId>) -> io::Result<()> {
+    let found = fs::symlink_metadata(rt, name)?;
+    if !found.is_file() || kept == Some(FileId::of(&found)) {
         return Ok(());
     }
     let file = File::open(rt, name)?;
@@ -68,13 +70,28 @@ fn remove_left(rt: &HostRuntime, name: &str) -> io::Result<()> {
     Ok(())
 }
 
+/// Gives the file the path by a rename. An empty file takes the path first, since a rename would replace one that has come meanwhile.
+fn rename_to_free(rt: &HostRuntime, part: &str, path: &str) -> io::Result<()> {
+    let _free = File::create_new(rt, path)?;
+    let renamed = fs::rename(rt, part, path);
+    if renamed.is_err() {
+        let _ = fs::remove_file(rt, path);
+    }
+    renamed
+}
+
 impl Part {
     /// Makes an empty part in the folder of the path, with the permissions but those that the user's mask takes away. What stopped runs
-    /// have left there is removed first; what can't be removed is left.
-    pub(crate) fn beside(rt: &HostRuntime, path: &str, mode: u32) -> io::Result<Part> {
+    /// have left there is removed first, but for one file that is to be kept; what can't be removed is left.
+    pub(crate) fn beside(
+        rt: &HostRuntime,
+        path: &str,
+        mode: u32,
+        kept: Option<FileId>,
+    ) -> io::Result<Part> {
         let folder = folder_of(path);
         for n in 0..LOOKED_THROUGH {
-            let _ = remove_left(rt, &part_name(rt.alloc(), folder, n)?);
+            let _ = remove_left(rt, &part_name(rt.alloc(), folder, n)?, kept);
         }
         for n in 0..u32::MAX {
             let name = part_name(rt.alloc(), folder, n)?;
@@ -83,6 +100,21 @@ impl Part {
             }
         }
         Err(io::Error::from(ErrorKind::AlreadyExists))
+    }
+
+    /// Gives it the path, if nothing has that: by a link, which replaces nothing, or on a file system without links by a rename. After
+    /// an error it is still a part.
+    pub(crate) fn give_path(&self, rt: &HostRuntime, path: &str) -> io::Result<()> {
+        let part = self.name.as_str();
+        match fs::hard_link(rt, part, path) {
+            Ok(()) => {
+                // A second name that can't be removed is removed by the next run.
+                let _ = fs::remove_file(rt, part);
+                Ok(())
+            }
+            Err(error) if error.kind() == ErrorKind::AlreadyExists => Err(error),
+            Err(_) => rename_to_free(rt, part, path),
+        }
     }
 
     /// Removes it: it does not become a file.

@@ -1,9 +1,13 @@
 //! A file that is replaced whole, or left as it was.
 
+use crate::file_id::{FileId, regular_at};
+use crate::kept::is_kept;
+use crate::output::{faults_go_into, goes_into};
 use crate::parts::Part;
+use crate::streams::put;
 use std::fs::{self, File, Metadata, Permissions};
 use std::io::{self, ErrorKind, Write};
-use std::os::unix::fs::{FileExt, MetadataExt, PermissionsExt, fchown};
+use std::os::unix::fs::{MetadataExt, PermissionsExt, fchown};
 use std::path::{Path, PathBuf};
 
 /// The most links that are followed from one to the next.
@@ -39,9 +43,7 @@ struct Attributes {
     mode: u32,
     owner: u32,
     group: u32,
-    /// The device that it is on, and its number there: no other file has both.
-    device: u64,
-    number: u64,
+    id: FileId,
 }
 
 impl Attributes {
@@ -51,13 +53,8 @@ impl Attributes {
             mode: found.permissions().mode(),
             owner: found.uid(),
             group: found.gid(),
-            device: found.dev(),
-            number: found.ino(),
+            id: FileId::of(found),
         }
-    }
-
-    fn is_same_file(&self, other: &Attributes) -> bool {
-        self.is_file && self.device == other.device && self.number == other.number
     }
 }
 
@@ -71,58 +68,59 @@ fn found(rt: &HostRuntime, path: &str) -> io::Result<Option<Attributes>> {
     }
 }
 
-/// What a VM file begins with.
-const VM_FILE: [u8; 4] = *b"GVM1";
-
-/// Whether a file begins as a VM file does. An error where it can't be read: else what a user saved in it might be lost.
-fn begins_as_vm_file(rt: &HostRuntime, path: &str) -> io::Result<bool> {
-    let mut first = [0; 4];
-    match File::open(rt, path)?.read_exact_at(&mut first, 0) {
-        Ok(()) => Ok(first == VM_FILE),
-        Err(error) if error.kind() == ErrorKind::UnexpectedEof => Ok(false),
-        Err(error) => Err(error),
-    }
-}
-
-/// Whether the file that is there is not to be replaced: it is the one that the bytes are made of, by another name or another link, or a
-/// VM file.
-fn is_kept(rt: &HostRuntime, path: &str, there: &Attributes, source: &str) -> io::Result<bool> {
-    match found(rt, source) {
-        Ok(Some(source)) if there.is_same_file(&source) => Ok(true),
-        _ => begins_as_vm_file(rt, path),
-    }
-}
-
 /// The permissions of a new file, but for those that the user's mask takes away.
 const ANY: u32 = 0o666;
 
 /// The permissions without those that go with who a file belongs to: to run as its owner or its group, and the sticky bit.
 const WITHOUT_RIGHTS_OF_OWNER: u32 = 0o777;
 
+/// The permissions of all but the group.
+const WITHOUT_GROUP: u32 = 0o707;
+
 /// The permissions of the owner alone.
 const OWNER: u32 = 0o600;
 
-/// Gives a file the owner and the group of another, and says whether it has both then. Where only the group can be given, it gets that.
-fn is_given(file: &File, there: &Attributes) -> io::Result<bool> {
+/// What a file has of the one that it replaces.
+#[derive(Clone, Copy)]
+enum Taken {
+    /// Owner and group.
+    Both,
+    /// The group alone.
+    Group,
+    /// Neither, or the owner alone.
+    NoGroup,
+}
+
+/// Gives a file the owner and the group of another, or, where the system does not let it have both, the group; and says what it has.
+fn take_owner(file: &File, there: &Attributes) -> io::Result<Taken> {
     let own = Attributes::of(&file.metadata()?);
-    if own.owner == there.owner && own.group == there.group {
-        return Ok(true);
+    let has_group = own.group == there.group;
+    if has_group && own.owner == there.owner {
+        return Ok(Taken::Both);
     }
     if fchown(file, Some(there.owner), Some(there.group)).is_ok() {
-        return Ok(true);
+        return Ok(Taken::Both);
     }
-    let _ = fchown(file, None, Some(there.group));
-    Ok(false)
+    if has_group || fchown(file, None, Some(there.group)).is_ok() {
+        return Ok(Taken::Group);
+    }
+    Ok(Taken::NoGroup)
+}
+
+/// The permissions of a file with these in the place of one with that mode. Another group has no right that all others have not.
+fn mode_of(taken: Taken, mode: u32) -> u32 {
+    let bits = mode & WITHOUT_RIGHTS_OF_OWNER;
+    match taken {
+        Taken::Both => mode,
+        Taken::Group => bits,
+        Taken::NoGroup => bits & (WITHOUT_GROUP | bits << 3),
+    }
 }
 
 /// Gives a file the owner, the group and the permissions of the one that is there, as far as the system lets it.
 fn take_after(file: &File, there: &Attributes) -> io::Result<()> {
-    let mode = if is_given(file, there)? {
-        there.mode
-    } else {
-        there.mode & WITHOUT_RIGHTS_OF_OWNER
-    };
-    file.set_permissions(Permissions::from_mode(mode))
+    let taken = take_owner(file, there)?;
+    file.set_permissions(Permissions::from_mode(mode_of(taken, there.mode)))
 }
 
 /// Writes the bytes into a file, which then takes after the one that is there, since a write takes away bits of it; and waits until all
@@ -135,18 +133,21 @@ fn fill(mut file: &File, there: Option<Attributes>, bytes: &[u8]) -> io::Result<
     file.sync_all()
 }
 
-/// Puts the bytes beside the file with the path, and renames the whole one, which takes after the one that is there.
+/// Puts the bytes beside the file with the path, and renames the whole one, which takes after the one that is there. Where none is there, the
+/// whole one takes the path, if nothing has come that has it. What `source` names is not removed for a part that was left.
 fn put_whole(
     rt: &HostRuntime,
     path: Path<'_>,
     there: Option<Attributes>,
     bytes: &[u8],
+    source: &str,
 ) -> io::Result<()> {
     // Nobody gets a right to it that he has not to the one that is there.
     let mode = there.map_or(ANY, |there| there.mode & OWNER);
-    let part = Part::beside(rt, path.as_str(), mode)?;
+    let part = Part::beside(rt, path.as_str(), mode, regular_at(rt, source))?;
     let done = match fill(&part.file, there, bytes) {
-        Ok(()) => fs::rename(rt, part.name.as_str(), path),
+        Ok(()) if there.is_some() => fs::rename(rt, part.name.as_str(), path),
+        Ok(()) => part.give_path(rt, path.as_str()),
         failed => failed,
     };
     if done.is_err() {
@@ -160,26 +161,59 @@ fn write_into(rt: &HostRuntime, path: &str, bytes: &[u8]) -> io::Result<()> {
     fs::create(rt, path)?.write_all(bytes)
 }
 
-/// Puts the bytes in the place of the file that the path leads to, which is there, if so is said; or makes it.
-fn replace_file(rt: &HostRuntime, path: &str, is_there: bool, bytes: &[u8]) -> io::Result<()> {
+/// The error where a file is there that is not to be replaced.
+fn is_there() -> io::Error {
+    io::Error::from(ErrorKind::AlreadyExists)
+}
+
+/// Puts the bytes in the place of the file that the path leads to.
+fn replace_file(rt: &HostRuntime, path: &str, bytes: &[u8], source: &str) -> io::Result<()> {
     let named = behind_links(rt, path)?;
-    let there = found(rt, named.as_str())?;
-    if is_there && there.is_none() {
-        return write_into(rt, path, bytes);
+    match found(rt, named.as_str())? {
+        None => write_into(rt, path, bytes),
+        there => put_whole(rt, named.as_path(), there, bytes, source),
     }
-    put_whole(rt, named.as_path(), there, bytes)
+}
+
+/// Makes the file that the path leads to, where there was none. An error where one has come since.
+fn make_file(rt: &HostRuntime, path: &str, bytes: &[u8], source: &str) -> io::Result<()> {
+    let named = behind_links(rt, path)?;
+    match found(rt, named.as_str())? {
+        None => put_whole(rt, named.as_path(), None, bytes, source),
+        Some(_) => Err(is_there()),
+    }
+}
+
+/// Puts the bytes into a file that is there, or in its place.
+fn put_into_file(
+    rt: &HostRuntime,
+    path: &str,
+    file: FileId,
+    bytes: &[u8],
+    source: &str,
+) -> io::Result<()> {
+    if is_kept(rt, path, source)? {
+        return Err(is_there());
+    }
+    // A rename would take it from under the standard streams, and what has gone into them would be lost.
+    if goes_into(rt, file) {
+        return put(rt, bytes);
+    }
+    if faults_go_into(rt, file) {
+        return Err(is_there());
+    }
+    replace_file(rt, path, bytes, source)
 }
 
 /// Puts the bytes, which are made of what `source` names, in the place of the file's, or makes the file: they are written beside it, and
 /// the whole file is renamed. A link stays, and the file that it leads to is replaced; the permissions stay, and where the system lets it
-/// the owner. After an error the file is as it was; it is one where the file is the source itself, or a VM file. What is no file, as a
-/// device or a pipe, is written into, and so is a file that has no name any more.
+/// the owner. After an error the file is as it was; it is one where the file is the source itself, a VM file, or that of standard error.
+/// What is no file, as a device or a pipe, is written into, and so is the file that the standard output goes into, and one that has no
+/// name any more.
 pub(crate) fn replace(rt: &HostRuntime, path: &str, bytes: &[u8], source: &str) -> io::Result<()> {
     match found(rt, path)? {
-        Some(led_to) if !led_to.is_file => write_into(rt, path, bytes),
-        Some(led_to) if is_kept(rt, path, &led_to, source)? => {
-            Err(io::Error::from(ErrorKind::AlreadyExists))
-        }
-        led_to => replace_file(rt, path, led_to.is_some(), bytes),
+        None => make_file(rt, path, bytes, source),
+        Some(led_to) if led_to.is_file => put_into_file(rt, path, led_to.id, bytes, source),
+        Some(_) => write_into(rt, path, bytes),
     }
 }

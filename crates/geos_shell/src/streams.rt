@@ -1,5 +1,6 @@
 //! What is read of files and of the standard input, and written to them or to the standard output.
 
+use crate::output::{keep_from_image, keep_from_output};
 use crate::printable::{Named, for_terminal};
 use crate::replace::replace;
 use std::alloc::Global;
@@ -8,7 +9,7 @@ use std::{fs, io};
 use thiserror::Error;
 
 /// The path that names a standard stream.
-const STANDARD: &str = "-";
+pub(crate) const STANDARD: &str = "-";
 
 /// Whether the path names a standard stream.
 pub(crate) fn is_stream(path: &str) -> bool {
@@ -41,8 +42,10 @@ fn bytes_at(rt: &HostRuntime, path: &str, most: u64) -> io::Result<Vec<u8>> {
     }
 }
 
-/// The first bytes of the file with the path, at most so many; of the standard input where it is `-`.
+/// The first bytes of the file with the path, at most so many; of the standard input where it is `-`. `StreamFault::Write` of
+/// `-` where the standard output goes into that file.
 pub fn read<'a>(rt: &HostRuntime, path: &'a str, most: u64) -> Result<Vec<u8>, StreamFault<'a>> {
+    keep_from_output(rt, path)?;
     match bytes_at(rt, path, most) {
         Ok(bytes) => Ok(bytes),
         Err(error) if error.kind() == ErrorKind::OutOfMemory => Err(StreamFault::Memory),
@@ -50,7 +53,8 @@ pub fn read<'a>(rt: &HostRuntime, path: &'a str, most: u64) -> Result<Vec<u8>, S
     }
 }
 
-fn put(rt: &HostRuntime, bytes: &[u8]) -> io::Result<()> {
+/// Writes the bytes to the standard output.
+pub(crate) fn put(rt: &HostRuntime, bytes: &[u8]) -> io::Result<()> {
     let mut out = io::writer(rt);
     out.write_all(bytes)?;
     out.flush()
@@ -77,12 +81,13 @@ pub fn print_lines<'a>(rt: &HostRuntime, text: &[u8]) -> Result<(), StreamFault<
 }
 
 /// What the system calls the file that a path names, also that of the standard input.
-fn name_of(path: &str) -> &str {
+pub(crate) fn name_of(path: &str) -> &str {
     if is_stream(path) { "/dev/stdin" } else { path }
 }
 
 /// Puts the bytes, which are made of what `source` names, into the file with the path, in the place of what it has; prints them where
-/// the path is `-`. `StreamFault::Write` also where the file is the source itself, or a VM file; it is as it was then.
+/// the path is `-`. `StreamFault::Write` also where the file is the source itself, or a VM file, also as the standard
+/// output; it is as it was then.
 pub fn write<'a>(
     rt: &HostRuntime,
     path: &'a str,
@@ -90,6 +95,7 @@ pub fn write<'a>(
     source: &str,
 ) -> Result<(), StreamFault<'a>> {
     if is_stream(path) {
+        keep_from_image(rt, path, source)?;
         return print(rt, bytes);
     }
     match replace(rt, path, bytes, name_of(source)) {

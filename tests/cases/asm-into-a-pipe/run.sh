@@ -1,5 +1,5 @@
 # What is no regular file is written into, by whatever path it is reached: the standard output as a pipe, a pipe with a name, and a link to it.
-# A standard output that is a file is replaced whole, as any file, and one that has no name any more is written into.
+# A file that has no name any more is written into, too.
 folder=$(mktemp -d)
 trap 'rm -rf "$folder"' EXIT
 cd "$folder" || exit 1

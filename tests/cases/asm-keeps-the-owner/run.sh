@@ -1,5 +1,5 @@
 # A file that is replaced keeps its owner and its group where the system lets it, and else loses the bits that let it run as its owner or
-# group, and the sticky one. While it is made nobody gets more rights to it.
+# group, and the sticky one; in another group, also those of the group that others have not. While it is made nobody gets more rights to it.
 export LC_ALL=C
 folder=$(mktemp -d)
 trap 'rm -rf "$folder"' EXIT
@@ -36,3 +36,7 @@ as="setpriv --reuid 65534 --regid 65534"
 replaced 65534:65534 4755 $as --clear-groups
 replaced 1234:2345 7755 $as --clear-groups
 replaced 1234:2345 6775 $as --groups 2345
+for mode in 664 674 604 665; do replaced 1234:2345 $mode $as --clear-groups; done
+replaced 1234:2345 660 $as --groups 2345
+replaced 65534:2345 666 $as --clear-groups
+replaced 65534:2345 660 $as --clear-groups
