@@ -115,17 +115,17 @@ module _ (image : Parts) (checked : IsChecked image) (all : image.keyed ≡ fals
       let pass = passes image checked all r routine pc p has in
       let stand = may_stand-mono image r routine i R p.row K.fit (stands image checked all r routine pc p has) in
       let entry : entry_misfits routine start pc R ≡ false = not-both (pc == start) (not (fits routine.entry R) || (routine.public && not (is_plain routine.entry && is_plain routine.exit))) (λ here.
-        let at = eqb-true pc start here in
-        let given = start-given image checked.0 all r routine p has.there (ap (slice_get (places image)) (sym at) ∙ has.read) in
-        subst (λ (x : Row). (not (fits routine.entry x) || (routine.public && not (is_plain routine.entry && is_plain routine.exit))) ≡ false) (sym (K.same (subst (λ k. gives (keyed_of image) k ≡ true) (sym at) given))) (and-false (pc == start) _ pass.entry here)) in
+      let at = eqb-true pc start here in
+      let given = start-given image checked.0 all r routine p has.there (ap (slice_get (places image)) (sym at) ∙ has.read) in
+      subst (λ (x : Row). (not (fits routine.entry x) || (routine.public && not (is_plain routine.entry && is_plain routine.exit))) ≡ false) (sym (K.same (subst (λ k. gives (keyed_of image) k ≡ true) (sym at) given))) (and-false (pc == start) _ pass.entry here)) in
       let call : call_misfits (keyed_of image) r i R ≡ false = stand.call in
       let edges = edges-pass image checked all r routine pc p has C in
       let paid = or_parts _ (returns i.opcode && p.potential.constant == 0) pass.paid in
       let pays = or_parts (falls_through i.opcode && not (at_point image (pc + 1) (λ q. pays_along image i i.opcode p.row p.potential q.potential))) _ paid.0 in
       let along : (falls_through i.opcode && not (at_point (keyed_of image) (pc + 1) (λ q. pays_along (keyed_of image) i i.opcode R p.potential q.potential))) ≡ false =
-          not-both (falls_through i.opcode) _ (λ falls. true-not _ (paid-there image (pc + 1) (λ q. pays_along image i i.opcode p.row p.potential q) (λ q. pays_along (keyed_of image) i i.opcode R p.potential q) (λ q h. pays-same image i i.opcode R p.row p.potential q K.fit h) (not-false _ (and-false (falls_through i.opcode) _ pays.0 falls)))) in
+      not-both (falls_through i.opcode) _ (λ falls. true-not _ (paid-there image (pc + 1) (λ q. pays_along image i i.opcode p.row p.potential q) (λ q. pays_along (keyed_of image) i i.opcode R p.potential q) (λ q h. pays-same image i i.opcode R p.row p.potential q K.fit h) (not-false _ (and-false (falls_through i.opcode) _ pays.0 falls)))) in
       let branching : (branches i.opcode && not (at_point (keyed_of image) i.target (λ q. pays_branching i i.opcode p.potential q.potential))) ≡ false =
-          not-both (branches i.opcode) _ (λ branch. true-not _ (paid-there image i.target (λ q. pays_branching i i.opcode p.potential q) (λ q. pays_branching i i.opcode p.potential q) (λ q h. h) (not-false _ (and-false (branches i.opcode) _ pays.1 branch)))) in
+      not-both (branches i.opcode) _ (λ branch. true-not _ (paid-there image i.target (λ q. pays_branching i i.opcode p.potential q) (λ q. pays_branching i i.opcode p.potential q) (λ q h. h) (not-false _ (and-false (branches i.opcode) _ pays.1 branch)))) in
       let unpaid : edge_unpaid (keyed_of image) pc i R p.potential ≡ false = neither _ (returns i.opcode && p.potential.constant == 0) (neither _ _ along branching) paid.1 in
       rw (pass.stays, C.clean.clean, entry, stand.fresh, stand.within, stand.marked, stand.unheld, stand.held, stand.freed, call, stand.exit, edges, unpaid, pass.budget) refl
 
