@@ -1,9 +1,11 @@
 -- What is found for the skeleton of a text's code is found for the text.
-use Rattle.std.proofs.Common.{◌≡◌, ◌<◌, ◌∙◌, ℕ, List, Some, length, Ok, refl, ap, subst, slice_get}
+use Rattle.std.proofs.Common.{◌≡◌, ◌<◌, ◌∙◌, ℕ, true, List, Some, length, Ok, refl, ap, subst, slice_get}
 use Rattle.std.proofs.Math.ListN.{get_or}
 use Rattle.std.proofs.lemmas.List.{length-map}
 use Rattle.std.proofs.lemmas.Option.{slice_get_read}
 use Rattle.geos_image.specs.Parts.{Parts}
+use Rattle.geos_image.specs.Keys.{keyed_of}
+use Rattle.geos_image.specs.Legal.{is_image}
 use Rattle.geos_source.specs.declared.progress.TextRoutine.{TextRoutine}
 use Rattle.geos_source.specs.Texts.{Code, code_of}
 use Rattle.geos_source.specs.Skeletons.{routine_of, skeleton}
@@ -12,8 +14,19 @@ use Rattle.geos_infer.specs.Code.{SameCode}
 use Rattle.geos_infer.specs.Reached.{AllHoldWhereReached}
 use Rattle.geos_infer.specs.Theorem.{FindsWhatThereIs, NoneIsAccepted, NothingHoldsIn}
 use Rattle.geos_infer.specs.Causes.{Holds}
+use Rattle.geos_infer.proofs.Keyed.{keyed-code, found-keyed, all-hold-keyed}
 use Rattle.geos_infer.specs.declared.cause.Cause.{Cause}
 use Rattle.geos_asm.specs.Assembling.{IsAssembled, HasNoRows, IsCauseOf}
+
+-- an image of a text is one in version 2 too
+pub assembled_keyed : (text : List ℕ) (image : Parts) → is_image image ≡ true → IsAssembled text image → IsAssembled text (keyed_of image)
+assembled_keyed text image legal A = record {
+  code = A.code;
+  read = A.read;
+  has = record { routines = A.has.routines; instrs = keyed-code image ∙ A.has.instrs };
+  rows = all-hold-keyed image legal A.rows;
+  found = found-keyed (skeleton A.code) image A.found;
+}
 
 -- an image with the skeleton's code has the code of the text
 pub assembled : (text : List ℕ) (code : Code) (blank image : Parts) → code_of text ≡ Ok code → blank ≡ skeleton code → SameCode blank image → AllHoldWhereReached image → FindsWhatThereIs blank image → IsAssembled text image

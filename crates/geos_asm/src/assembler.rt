@@ -1,6 +1,6 @@
 //! The image of a text.
 
-ghost use Rattle.std.specs.Prelude.{IfOk, IfErr};
+ghost use Rattle.std.specs.Prelude.{◌≡◌, true, false, IfOk, IfErr};
 ghost use Rattle.geos_asm.specs.Assembling.{IsAssembled, IsWhyNoImage};
 
 use crate::error::AssembleError;
@@ -9,18 +9,12 @@ use geos_infer::{InferError, infer};
 use geos_source::{parse, skeleton};
 use std::alloc::Global;
 
-/// The image of an assembly text: its routines and instructions, with rows and potentials that
-/// are found for them.
-///
-/// `BadLine` exactly where the text has a fault, and names the first one. `NoRows` only for a
-/// text without fault; it names a routine in which no rows and numbers of steps hold, if that has
-/// no LOOP, no edge that leads back, and an edge of its own into each instruction but the first.
-/// Where there is no LOOP, no edge leads back, and each instruction but a routine's first has an
-/// edge into it, the verifier accepts the image if it accepts any with the text's code; it may
-/// refuse the image that is answered, and `geos_verify::check` says where. `Memory` may come at
-/// any text.
-pub fn assemble(alloc: Global, text: &[u8]) -> Result<Image, AssembleError>
+/// The image of version 1 of an assembly text: its routines and instructions, with potentials that are found for them, and
+/// with a row at each. Those that `assemble` leaves out are ones that the verifier computes. The errors are those of
+/// `assemble`.
+pub fn assemble_all_rows(alloc: Global, text: &[u8]) -> Result<Image, AssembleError>
     ensures image { IfOk result (IsAssembled text.now) }
+    ensures version { IfOk result (λ image. image.keyed ≡ false) }
     ensures fault { IfErr result (IsWhyNoImage text.now) }
 {
     let parsed = parse(alloc, text)?;
@@ -32,5 +26,26 @@ pub fn assemble(alloc: Global, text: &[u8]) -> Result<Image, AssembleError>
             Err(AssembleError::NoRows(routine.line))
         }
         Err(InferError::Memory) => Err(AssembleError::Memory),
+    }
+}
+
+/// The image of an assembly text, of version 2: its routines and instructions, with potentials that are found for them, and with
+/// rows at its key places.
+///
+/// `BadLine` exactly where the text has a fault, and names the first one. `NoRows` only for a
+/// text without fault; it names a routine in which no rows and numbers of steps hold, if that has
+/// no LOOP, no edge that leads back, and an edge of its own into each instruction but the first.
+/// Where there is no LOOP, no edge leads back, and each instruction but a routine's first has an
+/// edge into it, the verifier accepts the image if it accepts any with the text's code; it may
+/// refuse the image that is answered, and `geos_verify::check` says where. `Memory` may come at
+/// any text.
+pub fn assemble(alloc: Global, text: &[u8]) -> Result<Image, AssembleError>
+    ensures image { IfOk result (IsAssembled text.now) }
+    ensures version { IfOk result (λ image. image.keyed ≡ true) }
+    ensures fault { IfErr result (IsWhyNoImage text.now) }
+{
+    match assemble_all_rows(alloc, text) {
+        Ok(image) => Ok(image.into_keyed()),
+        Err(fault) => Err(fault),
     }
 }

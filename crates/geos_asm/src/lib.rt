@@ -8,7 +8,7 @@ mod cause;
 mod error;
 mod listing;
 
-pub use assembler::assemble;
+pub use assembler::{assemble, assemble_all_rows};
 pub use cause::why_no_rows;
 pub use error::AssembleError;
 pub use geos_source::{BadLine, Why};

@@ -1,10 +1,7 @@
-use Rattle.std.proofs.Common.{subst}
-use Rattle.geos_infer.specs.Theorem.{NamesRoutine}
-use Rattle.geos_asm.proofs.Assembled.{assembled, no_rows}
+use Rattle.std.proofs.Common.{subst, sym}
+use Rattle.geos_asm.specs.Assembling.{IsAssembled}
+use Rattle.geos_asm.proofs.Assembled.{assembled_keyed}
 use Rattle.geos_asm.proofs.assembler.assemble.Goals as goal
 
 pub returns-in-Ok-clause-image : goal.returns-in-Ok-clause-image
-returns-in-Ok-clause-image c = assembled c.args.text.now _ c.in_ok-blank.blank c.in-Ok.image c.in_ok-parsed.ensures.parsed c.in_ok-blank.ensures c.in-Ok.ensures.code c.in-Ok.ensures.rows c.in-Ok.ensures.found
-
-pub returns-in-Err-NoRows-clause-fault : goal.returns-in-Err-NoRows-clause-fault
-returns-in-Err-NoRows-clause-fault c = no_rows c.args.text.now _ c.in_ok-blank.blank c.in-Err-NoRows.r c.from.result _ c.in_ok-parsed.ensures.parsed c.in_ok-blank.ensures (subst (NamesRoutine c.in_ok-blank.blank) c.in-Err-NoRows.field-0-is c.in-Err-NoRows.ensures.within) c.from.ensures c.index-routine.ensures (c.in-Err-NoRows.ensures.none c.in-Err-NoRows.r c.in-Err-NoRows.field-0-is) (c.in-Err-NoRows.ensures.stuck c.in-Err-NoRows.r c.in-Err-NoRows.field-0-is)
+returns-in-Ok-clause-image c = subst (IsAssembled c.args.text.now) (sym c.into_keyed.ensures.value) (assembled_keyed c.args.text.now c.in-Ok.image c.into_keyed.ensures.legal c.in-Ok.ensures.image)
