@@ -1,5 +1,5 @@
 -- What the commands on the bytes of texts and images answer.
-use Rattle.std.specs.Prelude.{◌≡◌, ◌⊎◌, ℕ, Bool, false, MatchBool, ◌==◌, List, [], Ok, Option, codes}
+use Rattle.std.specs.Prelude.{◌≡◌, ◌⊎◌, ℕ, Bool, false, not, MatchBool, ◌==◌, List, [], Ok, Option, codes}
 use Rattle.std.specs.List.{starts_with}
 use Rattle.geos_image.specs.Parts.{Parts}
 use Rattle.geos_image.specs.Reading.{image_at}
@@ -13,9 +13,9 @@ use Rattle.geos_infer.specs.declared.cause.Cause.{Cause}
 use Rattle.geos_asm.specs.Assembling.{IsAssembled, IsTextOf, IsCauseOf, IsWhyNoImage}
 use Rattle.geos_asm.specs.declared.error.AssembleError.{AssembleError}
 
--- the bytes spell an image that is one of the text
-abbrev pub IsAssembledAs : List ℕ → List ℕ → Type 0
-IsAssembledAs text bytes = (image : Parts) × (image_at bytes ≡ Ok image) × IsAssembled text image
+-- the bytes spell an image that is one of the text, with all rows or with those at its key places
+abbrev pub IsAssembledAs : List ℕ → Bool → List ℕ → Type 0
+IsAssembledAs text all_rows bytes = (image : Parts) × (image_at bytes ≡ Ok image) × IsAssembled text image × (image.keyed ≡ not all_rows)
 
 -- the bytes spell an image, and the text is its listing, and has its code
 abbrev pub IsListed : List ℕ → List ℕ → Type 0
@@ -41,7 +41,7 @@ begins_as_image bytes = starts_with (λ a b. a == b) bytes (codes "GRT1")
 
 -- what is read begins as an image does, and the bytes are the same; or it does not, and they spell an image of it as a text
 abbrev pub IsImageOf : List ℕ → List ℕ → Type 0
-IsImageOf read bytes = MatchBool (begins_as_image read) (bytes ≡ read) (IsAssembledAs read bytes)
+IsImageOf read bytes = MatchBool (begins_as_image read) (bytes ≡ read) (IsAssembledAs read false bytes)
 
 -- why there is no image: what is read is a text, and has none
 abbrev pub IsWhyNoneOf : List ℕ → AssembleError → Type 0

@@ -1,24 +1,42 @@
 //! The commands.
 
-ghost use Rattle.std.specs.Prelude.{◌≡◌, IfOk, IfErr};
-ghost use Rattle.geos_asm.specs.Assembling.{IsWhyNoImage};
+ghost use Rattle.std.specs.Prelude.{◌≡◌, not, IfOk, IfErr};
+ghost use Rattle.geos_asm.specs.Assembling.{IsAssembled, IsWhyNoImage};
 ghost use Rattle.geos_image.specs.Reading.{image_at, Fails};
 ghost use Rattle.geos.specs.Commands.{IsAssembledAs, IsImageOf, IsWhyNoneOf, IsListed, IsJudged, IsExplained, IsExplainedText, IsCauseTold, begins_as_image};
 
-use geos_asm::{AssembleError, assemble, list, why_no_rows};
+use geos_asm::{AssembleError, assemble, assemble_all_rows, list, why_no_rows};
 use geos_causes::explain_cause;
 use geos_explain::{explain, explain_text};
-use geos_image::ReadError;
+use geos_image::{Image, ReadError};
 use geos_source::lines_of_instrs;
 use geos_verify::{Reject, check};
 use std::alloc::Global;
 
-/// The bytes of the image of an assembly text. Its faults are those of `geos_asm::assemble`.
-pub(crate) fn assemble_bytes(alloc: Global, text: &[u8]) -> Result<Vec<u8>, AssembleError>
-    ensures assembled { IfOk result (λ bytes. IsAssembledAs text.now bytes.items) }
+/// The image of an assembly text: with all rows, or with those at its key places.
+fn assembled(alloc: Global, text: &[u8], all_rows: bool) -> Result<Image, AssembleError>
+    ensures image { IfOk result (IsAssembled text.now) }
+    ensures version { IfOk result (λ image. image.keyed ≡ not all_rows) }
     ensures fault { IfErr result (IsWhyNoImage text.now) }
 {
-    let image = assemble(alloc, text)?;
+    if all_rows {
+        assemble_all_rows(alloc, text)
+    } else {
+        assemble(alloc, text)
+    }
+}
+
+/// The bytes of the image of an assembly text: with all rows, in version 1, or with those at its key places. Its faults are
+/// those of `geos_asm::assemble`.
+pub(crate) fn assemble_bytes(
+    alloc: Global,
+    text: &[u8],
+    all_rows: bool,
+) -> Result<Vec<u8>, AssembleError>
+    ensures assembled { IfOk result (λ bytes. IsAssembledAs text.now all_rows bytes.items) }
+    ensures fault { IfErr result (IsWhyNoImage text.now) }
+{
+    let image = assembled(alloc, text, all_rows)?;
     Ok(geos_image::write(alloc, &image)?)
 }
 
@@ -89,7 +107,7 @@ pub(crate) fn image_bytes(alloc: Global, bytes: Vec<u8>) -> Result<Vec<u8>, Asse
     if begins_as_image(&bytes) {
         Ok(bytes)
     } else {
-        assemble_bytes(alloc, &bytes)
+        assemble_bytes(alloc, &bytes, false)
     }
 }
 

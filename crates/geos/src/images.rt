@@ -18,14 +18,15 @@ pub(crate) fn read_image<'a>(rt: &HostRuntime, path: &'a str) -> Result<Vec<u8>,
     Ok(image_bytes(rt.alloc(), bytes)?)
 }
 
-/// Makes the image of a text.
+/// Makes the image of a text, with all rows or with those at its key places.
 pub(crate) fn assemble<'a>(
     rt: &HostRuntime,
     text: &'a str,
     image: &'a str,
+    all_rows: bool,
 ) -> Result<(), RequestFault<'a>> {
     let bytes = read(rt, text, MOST_READ)?;
-    let bytes = assemble_bytes(rt.alloc(), &bytes)?;
+    let bytes = assemble_bytes(rt.alloc(), &bytes, all_rows)?;
     Ok(write(rt, image, &bytes, text)?)
 }
 

@@ -22,7 +22,11 @@ pub(crate) fn carry_out<'a>(rt: &HostRuntime, request: Request<'a>) -> Result<()
             file,
             region,
         } => run_call(rt, image, call, file, region),
-        Request::Assemble { text, image } => assemble(rt, text, image),
+        Request::Assemble {
+            text,
+            image,
+            all_rows,
+        } => assemble(rt, text, image, all_rows),
         Request::List(path) => list(rt, path),
         Request::Check(path) => check(rt, path),
         Request::Explain(path) => explain(rt, path),

@@ -101,6 +101,11 @@ const STRICT: ArgText = ArgText::Flag(
     "Ends with status 1 at the first line of SCRIPT that prints `refused K`",
 );
 
+const ALL_ROWS: ArgText = ArgText::Flag(
+    "all-rows",
+    "Gives a row at each instruction, as images of version 1 do",
+);
+
 const AREA_SIZE: ArgText = ArgText::Number(NumberText {
     number: AREA,
     about: "How many bytes each of its two areas has, a multiple of 512, 512 to 16777216",
@@ -129,7 +134,7 @@ static COMMANDS: [CommandText; 9] = [
     CommandText {
         name: "asm",
         about: "Makes the image of a text",
-        args: &[TEXT, NEW_IMAGE],
+        args: &[TEXT, NEW_IMAGE, ALL_ROWS],
         more: More::Faults,
     },
     CommandText {

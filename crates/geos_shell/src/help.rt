@@ -6,7 +6,7 @@ pub(crate) const ABOUT: &str =
 
 pub(crate) const USAGES: &str = "\
 geos call IN [NAME [N..]] [--file FILE] [--region N]
-       geos asm IN OUT
+       geos asm IN OUT [--all-rows]
        geos list IMAGE
        geos check IMAGE
        geos explain IMAGE
@@ -31,7 +31,7 @@ impl Usage {
     pub(crate) fn text(self) -> &'static str {
         match self {
             Usage::Call => "geos call IN [NAME [N..]] [--file FILE] [--region N]",
-            Usage::Asm => "geos asm IN OUT",
+            Usage::Asm => "geos asm IN OUT [--all-rows]",
             Usage::New => "geos new FILE [--area N]",
             Usage::Run => "geos run IMAGE FILE SCRIPT [--region N] [--strict]",
             Usage::Map => "geos map FILE [--width N]",
@@ -96,8 +96,10 @@ Example:
 
 /// Why a text is not assembled.
 const FAULTS: &str = "\
-If there is a file OUT, it is replaced; after a fault it is as it was. The first fault of the text is
-`line N: why K`; of several on one line, the lowest number is named:
+If there is a file OUT, it is replaced; after a fault it is as it was. A row is what is known at an
+instruction. The image, of version 2, has rows where a routine begins, where a label is used and behind
+each JMP and RET: the verifier computes the others.
+The first fault of the text is `line N: why K`; of several on one line, the lowest number is named:
   1  the first word is no instruction, and none of `routine`, `in` and `out`
   2  operands are too few or too many, or one is of another form
   3  a number is past its range: 15 for SHR, 4,294,967,295 for a budget, else 65,535

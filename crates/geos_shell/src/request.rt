@@ -33,10 +33,11 @@ pub enum Request<'a> {
         file: Option<&'a str>,
         region: u32,
     },
-    /// To make the image of a text.
+    /// To make the image of a text, with all rows or with those at its key places.
     Assemble {
         text: &'a str,
         image: &'a str,
+        all_rows: bool,
     },
     /// To print the listing of an image.
     List(&'a str),
@@ -120,7 +121,11 @@ fn asm_of<'a>(words: &ArgMatches<'a>) -> Result<Request<'a>, Misuse>
     if text == image && !is_stream(text) {
         return Err(Misuse::ImageOntoText);
     }
-    Ok(Request::Assemble { text, image })
+    Ok(Request::Assemble {
+        text,
+        image,
+        all_rows: words.get_flag("all-rows"),
+    })
 }
 
 /// What a `new` asks for.

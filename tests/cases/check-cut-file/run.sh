@@ -2,7 +2,7 @@
 folder=$(mktemp -d)
 trap 'rm -rf "$folder"' EXIT
 "$1" asm "$(dirname "$0")/../../../examples/add.asm" "$folder/image"
-head -c 447 "$folder/image" >"$folder/cut"
+head -c 333 "$folder/image" >"$folder/cut"
 : >"$folder/empty"
 "$1" check "$folder/empty" 2>&1
 "$1" check "$folder/cut"
