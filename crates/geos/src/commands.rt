@@ -101,8 +101,8 @@ pub(crate) fn begins_as_image(bytes: &[u8]) -> bool
 /// The bytes of the image that bytes are or that is made of them: themselves, where they begin as an image does, else those of the
 /// image of the text that they are. The faults are those of `geos_asm::assemble`.
 pub(crate) fn image_bytes(alloc: Global, bytes: Vec<u8>) -> Result<Vec<u8>, AssembleError>
-    ensures image { IfOk result (λ image. IsImageOf bytes.entry.items image.items) }
-    ensures fault { IfErr result (IsWhyNoneOf bytes.entry.items) }
+    ensures image { IfOk result (λ image. IsImageOf bytes.items image.items) }
+    ensures fault { IfErr result (IsWhyNoneOf bytes.items) }
 {
     if begins_as_image(&bytes) {
         Ok(bytes)
