@@ -139,6 +139,12 @@ def own_numbers(n):
     return [*HEAD, *begin, *sets, *(f"s{i}: LOOP k0 t" for i in range(n)), "RET", "t: JMP s0"]
 
 
+def ways_to_one_loop(n):
+    """So many blocks that go back, one after another, each with a branch to one LOOP."""
+    back = [line for i in range(n) for line in (f"b{i}: BEQ w0 w1 c", f"JMP b{i - 1}" if 0 < i else "JMP c")]
+    return [*HEAD, "SETK k0 3", f"JMP b{n - 1}", *back, "c: ADD w0 w0 w0", "LOOP k0 c", "RET"]
+
+
 def shuffled(n, seed):
     """So many places in any order, each with a LOOP back to one before it."""
     fall = random.Random(seed)
@@ -186,6 +192,7 @@ def texts():
     yield "4,088 places, from each second of which a LOOP goes half the way back", half_way(4088)
     yield "1,020 loops, behind each of which the counter of the next is set", set_behind(1020)
     yield "1,020 LOOPs to one place, each with a SETK of its own number", own_numbers(1020)
+    yield "2,040 blocks back, each with a branch to one LOOP", ways_to_one_loop(2040)
     yield "1 MiB of labels", [*HEAD, *(f"L{i}:" for i in range(115_000)), "RET"]
     yield "1 MiB of one digit", [*HEAD, "LDI w0 " + "0" * 1_048_000 + "1", "RET"]
     yield "1 MiB of items of an entry row", [*HEAD, "in " + "w0<=9 " * 170_000, "RET"]
