@@ -1,6 +1,6 @@
 -- Commands that were carried out one after another, or stopped, from kernel to kernel.
 use Rattle.std.proofs.Common.{◌≡◌, true, ◌<◌, ◌≤◌, ◌+◌, ℕ, suc, List, [], ◌∷◌, ◌++◌, length, take, drop, get_or, refl, sym, ap, ◌∙◌, subst, take-append-drop, drop-cons, inl, inr, ⊎_elim}
-use Rattle.std.specs.Prelude.{◌↔◌, Option, Some, None, Result, Ok, Err, IfOk, IfErr}
+use Rattle.std.specs.Prelude.{◌↔◌, Bool, ◌||◌, Option, Some, None, Result, Ok, Err, IfOk, IfErr}
 use Rattle.std.specs.Str.Lines.{lines}
 use Rattle.std.specs.Io.KnownBytes.{Appends, Keeps}
 use Rattle.std.proofs.KnownBytes.{Appends-kept, Appends-nil, Appends-trans}
@@ -27,7 +27,7 @@ use Rattle.geos_cli.specs.declared.script.Mode.{Mode}
 use Rattle.geos_cli.specs.declared.script.Numbered.{Numbered}
 use Rattle.geos_cli.specs.declared.script.RefusedCommit.{RefusedCommit}
 use Rattle.geos_input.specs.Counted.{AppendsPart}
-use Rattle.geos_cli.specs.Commits.{may_commit}
+use Rattle.geos_cli.specs.Commits.{may_commit, last_may_commit, is_flush_due}
 use Rattle.geos_cli.specs.Script.{printed, committed, commands_of, Does, GoesOn, Prints, PrintsAhead, PrintsPart, PrintsRefused, PrintsTo, PrintsUpTo, From, IsAllowed, Leads, Loads, RanCommand, RanCommands, RanScript, RunsScript, StoppedCommand, StoppedCommands, StoppedScript, StopsScript, stage_of}
 use Rattle.geos_text.specs.Words.{most_bytes}
 use Rattle.geos_cli.proofs.Prints.{does-wider, prints-more, ran-wider}
@@ -171,12 +171,27 @@ ran-kept mode honest within image commands kernel later a b c (text, leads, appe
 split-at : (commands : List Numbered) (k : ℕ) (default : Numbered) → k < length commands → commands ≡ take k commands ++ (get_or commands k default ∷ drop (suc k) commands)
 split-at commands k default in_range = sym (take-append-drop k commands) ∙ ap (λ cs. take k commands ++ cs) (drop-cons commands k default in_range)
 
--- the flush before a command that may commit failed
+-- behind one more command, that one is the last
+last-added : (image : Parts) (done : List Numbered) (here : Numbered) → last_may_commit image (done ++ here ∷ []) ≡ may_commit image here.command
+last-added image [] here = refl
+last-added image (x ∷ []) here = refl
+last-added image (x ∷ y ∷ ys) here = last-added image (y ∷ ys) here
+
+pub last-done : (image : Parts) (commands : List Numbered) (k : ℕ) (default : Numbered) → k < length commands
+    → last_may_commit image (take (k + 1) commands) ≡ may_commit image (get_or commands k default).command
+last-done image commands k default in_range =
+    ap (last_may_commit image) (take_more commands k default in_range) ∙ last-added image (take k commands) (get_or commands k default)
+
+-- the flush before a command failed
 pub stopped-ahead : (mode : Mode) (honest : Type 0) (within : Within) (image : Parts) (commands : List Numbered) (k : ℕ) (default : Numbered) (kernel later : KernelState)
     (a b : Option (List ℕ)) → k < length commands → RanCommands mode honest within image (take k commands) None kernel later a b
-    → may_commit image (get_or commands k default).command ≡ true → StoppedCommands mode honest within image commands kernel later a b
-stopped-ahead mode honest within image commands k default kernel later a b in_range (text, prints, appends) may = (text, leads, appends)
+    → (behind ahead : Bool) → behind ≡ last_may_commit image (take k commands) → ahead ≡ may_commit image (get_or commands k default).command
+    → (behind || ahead) ≡ true → StoppedCommands mode honest within image commands kernel later a b
+stopped-ahead mode honest within image commands k default kernel later a b in_range (text, prints, appends) behind ahead last next due = (text, leads, appends)
   where
+    is_due : is_flush_due image (take k commands) (get_or commands k default).command ≡ true
+    is_due = ap (λ l. l || may_commit image (get_or commands k default).command) (sym last) ∙ ap (λ n. behind || n) (sym next) ∙ due
+
     leads : Leads honest within kernel later (λ before after keeps. From (PrintsUpTo mode (IsAllowed honest) image commands before after text) before keeps)
     leads f tied =
         let earlier = prints f tied in
@@ -185,7 +200,7 @@ stopped-ahead mode honest within image commands k default kernel later a b in_ra
           next = get_or commands k default;
           others = drop (suc k) commands;
           in_order = split-at commands k default in_range;
-          commits = may;
+          due = is_due;
           printed_all = earlier.does.1;
         } in
         record { file = earlier.file; tied = earlier.tied; lasts = earlier.lasts; keeps = earlier.keeps; does = (earlier.does.0, inr ahead, earlier.does.2); stops = earlier.stops }

@@ -136,6 +136,6 @@ module _ (P Q : Allows) (back : (before now : ℕ) (choice : Choice) → P befor
     next = h.next;
     others = h.others;
     in_order = h.in_order;
-    commits = h.commits;
+    due = h.due;
     printed_all = prints-still h.done before after text keeps zero h.printed_all;
   })

@@ -1,5 +1,5 @@
--- Which commands may commit.
-use Rattle.std.specs.Prelude.{◌≡◌, ◌⊎◌, ℕ, ◌+◌, Bool, true, false, All, List, Option, take, position}
+-- Which commands may commit, and when a flush is due before one.
+use Rattle.std.specs.Prelude.{◌≡◌, ◌⊎◌, ℕ, ◌+◌, Bool, true, false, ◌||◌, All, List, [], ◌∷◌, Option, take, position}
 use Rattle.std.specs.List.{list_any}
 use Rattle.geos_opcodes.specs.declared.opcode.Opcode.{Opcode}
 use Rattle.geos_opcodes.specs.declared.opcode.Opcode.TheVariants.{Vupdate, Vsave, Vrevert}
@@ -14,6 +14,7 @@ use Rattle.geos_machine.specs.Runs.{begin, kept_along}
 use Rattle.geos_cli.specs.declared.script.Call.{Call}
 use Rattle.geos_cli.specs.declared.script.Command.{Command}
 use Rattle.geos_cli.specs.declared.script.Command.TheVariants as command
+use Rattle.geos_cli.specs.declared.script.Numbered.{Numbered}
 
 -- the instruction commits
 abbrev pub commits : Opcode → Bool
@@ -35,6 +36,16 @@ first_commit points = position commits_at points
 abbrev pub may_commit : Parts → Command → Bool
 may_commit image (command.Commit how) = true
 may_commit image (command.Call call) = list_any commits_at (take (start_of image.routines (call.routine + 1)) image.points)
+
+-- the last of the commands may commit
+abbrev pub last_may_commit : Parts → List Numbered → Bool
+last_may_commit image [] = false
+last_may_commit image (here ∷ []) = may_commit image here.command
+last_may_commit image (here ∷ next ∷ others) = last_may_commit image (next ∷ others)
+
+-- a flush is due before a command, behind those done: the last of them may have committed, or this one may
+abbrev pub is_flush_due : Parts → List Numbered → Command → Bool
+is_flush_due image done next = last_may_commit image done || may_commit image next
 
 -- nothing was ever asked of a writer, or the last call of it was a flush that did not fail
 abbrev pub IsGiven : ℕ → Bool → Type 0

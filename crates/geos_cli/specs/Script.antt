@@ -31,7 +31,7 @@ use Rattle.geos_cli.specs.declared.script.Mode.{Mode}
 use Rattle.geos_cli.specs.declared.script.Mode.TheVariants.{Lenient, Strict}
 use Rattle.geos_cli.specs.declared.script.Numbered.{Numbered}
 use Rattle.geos_cli.specs.declared.script.RefusedCommit.{RefusedCommit}
-use Rattle.geos_cli.specs.Commits.{may_commit}
+use Rattle.geos_cli.specs.Commits.{is_flush_due}
 use Rattle.geos_input.specs.declared.fault.ScriptFault.{ScriptFault}
 use Rattle.geos_input.specs.declared.fault.ScriptFault.TheVariants.{TooLong, BadHex, BadImage, Rejected, BadScript, Read, Write, Memory}
 use Rattle.geos_text.specs.Words.{is_empty, words, without_comment}
@@ -221,13 +221,13 @@ pub record PrintsPart (mode : Mode) (allows : Allows) (image : Parts) (commands 
   pub kept : keeps ≡ kept_earlier ++ kept_last
 
 -- what the commands have printed when a flush fails: some are done, with all that they print; the next
--- one, which may commit, was not begun, nor the others
+-- one, before which a flush is due, was not begun, nor the others
 pub record PrintsAhead (mode : Mode) (allows : Allows) (image : Parts) (commands : List Numbered) (before after : Stage) (text : List ℕ) (keeps : List Kept) : Type 0 where
   pub done : List Numbered
   pub next : Numbered
   pub others : List Numbered
   pub in_order : commands ≡ done ++ next ∷ others
-  pub commits : may_commit image next.command ≡ true
+  pub due : is_flush_due image done next.command ≡ true
   pub printed_all : Prints mode allows image done before after text keeps
 
 -- what the commands have printed when the writer fails, at a write or at a flush

@@ -1,6 +1,6 @@
 //! What commands print, and when the writer is flushed.
 
-ghost use Rattle.std.specs.Prelude.{◌≡◌, true, IfOk, IfErr, Err};
+ghost use Rattle.std.specs.Prelude.{◌≡◌, ◌||◌, true, false, IfOk, IfErr, Err};
 ghost use Rattle.std.specs.Io.KnownBytes.{Appends, Keeps};
 ghost use Rattle.geos_input.specs.declared.fault.ScriptFault.TheVariants.{Write};
 ghost use Rattle.vm_file.specs.Device.{Rose};
@@ -80,4 +80,20 @@ pub(crate) fn give<W: Write>(out: &mut Counted<W>) -> Result<(), ScriptFault>
         return Ok(());
     }
     flush(out)
+}
+
+/// Gives what was printed before a command, where that may commit (`ahead`), or the one before it may have.
+pub(crate) fn give_before<W: Write>(
+    behind: bool,
+    ahead: bool,
+    out: &mut Counted<W>,
+) -> Result<(), ScriptFault>
+    ensures bytes { Keeps (W.contents out.old.stream) (W.contents out.new.stream) }
+    ensures given { IfOk result (λ _. (behind || ahead) ≡ true → IsGiven out.new.asked out.new.flushed) }
+    ensures idle { (behind || ahead) ≡ false → out.new ≡ out.old }
+    ensures due { IfErr result (λ _. (behind || ahead) ≡ true) }
+    ensures kept { IfOk result (λ _. out.new.failures ≡ out.old.failures) }
+    ensures failed { IfErr result (λ fault. (fault ≡ Write) × Rose out.old.failures out.new.failures) }
+{
+    if behind || ahead { give(out) } else { Ok(()) }
 }

@@ -24,7 +24,7 @@ ghost use Rattle.geos_image.specs.Reading.{image_at};
 ghost use Rattle.geos_verify.specs.Rules.{Accepted};
 ghost use Rattle.geos_text.specs.Words.{words};
 
-use crate::output::{give, print, print_refusal};
+use crate::output::{give_before, print, print_refusal};
 use geos_image::{Image, Opcode, Point};
 use geos_input::{Counted, MOST_BYTES, ScriptFault};
 use geos_kernel::Kernel;
@@ -217,29 +217,6 @@ fn may_commit(checked: &Checked, first: Option<usize>, command: &Command) -> boo
     }
 }
 
-/// Flushes the writer before a command that may commit.
-fn give_before<W: Write>(
-    checked: &Checked,
-    first: Option<usize>,
-    command: &Command,
-    out: &mut Counted<W>,
-) -> Result<(), ScriptFault>
-    requires admitted { IsAdmitted checked.now command.now }
-    requires first { first ≡ first_commit checked.now.points }
-    ensures bytes { Keeps (W.contents out.old.stream) (W.contents out.new.stream) }
-    ensures given { IfOk result (λ _. may_commit checked.now command.now ≡ true → IsGiven out.new.asked out.new.flushed) }
-    ensures idle { may_commit checked.now command.now ≡ false → out.new ≡ out.old }
-    ensures due { IfErr result (λ _. may_commit checked.now command.now ≡ true) }
-    ensures kept { IfOk result (λ _. out.new.failures ≡ out.old.failures) }
-    ensures failed { IfErr result (λ fault. (fault ≡ Write) × Rose out.old.failures out.new.failures) }
-{
-    if may_commit(checked, first, command) {
-        give(out)
-    } else {
-        Ok(())
-    }
-}
-
 /// The VM file keeps one of its pairs of directories; no block of it is locked then, as before.
 fn keep<D: Device + Drop>(kernel: &mut Kernel<D>, how: How) -> Result<(), Refusal>
     requires { NoneLocked kernel.old.core.blocks }
@@ -310,7 +287,7 @@ fn ended_by(mode: Mode, line: usize, done: Result<(), Refusal>) -> Option<Refuse
 
 /// Carries out the commands one after another, all of them or up to the refused commit behind which
 /// the script does not go on. Each finds the kernel as the one before left it, and what those before
-/// printed is flushed where it may commit.
+/// printed is flushed where it may commit, or the last one may have.
 pub(crate) fn carry_out_all<W: Write, D: Device + Drop>(
     mode: Mode,
     checked: &Checked,
@@ -338,8 +315,11 @@ pub(crate) fn carry_out_all<W: Write, D: Device + Drop>(
     // what a stop before the first command leaves
     kernel.memory_is_legal();
     let first = first_commit(checked.image().points());
+    let mut behind = false;
     for numbered in commands {
-        give_before(checked, first, &numbered.command, out)?;
+        let ahead = may_commit(checked, first, &numbered.command);
+        give_before(behind, ahead, out)?;
+        behind = ahead;
         let done = carry_out(&mut machine, checked, &numbered.command, kernel, out)?;
         if let Some(refused) = ended_by(mode, numbered.line, done) {
             return Ok(Some(refused));
@@ -402,14 +382,15 @@ fn run_in_mode<W: Write, D: Device + Drop>(
 /// (`update`, `save`, `revert`), which print nothing, or `refused` and a number. Each command finds
 /// the kernel's memory as the one before left it, and the kernel keeps what the last one left. The
 /// script is read whole first, and a bad one runs nothing. What commands have printed is flushed
-/// before each that may commit, also a call; behind the last one it is not flushed.
+/// before each that may commit, also a call, and behind it before the next one; behind the last one
+/// it is not flushed.
 ///
 /// Of the faults, the first that is due is answered: `TooLong` where the script has more than
 /// 1,048,576 bytes; `BadImage`; `Rejected`; `BadScript`. `Memory` may come before the first
 /// command. Up to then nothing is asked of the writer, and the kernel is as it was. `Write`
 /// comes where the writer failed. Either it got all that the commands before print and a beginning
-/// of what the last one prints; the kernel stands where that one ended. Or the flush before one that
-/// may commit failed: it got all that those before print, and the kernel stands where they ended. No
+/// of what the last one prints; the kernel stands where that one ended. Or a flush before a command
+/// failed: it got all that those before print, and the kernel stands where they ended. No
 /// other was begun. Where `Write` is not answered, no call of the writer failed.
 pub fn run_script<W: Write, D: Device + Drop>(
     alloc: Global,

@@ -1,9 +1,9 @@
-use Rattle.std.proofs.Common.{◌∙◌, inl, refl, arith}
+use Rattle.std.proofs.Common.{◌∙◌, sym, inl, refl, arith}
 use Rattle.vm_file.proofs.StateLaws.{steadily_then}
 use Rattle.geos_kernel.specs.Files.{vm_file_of}
 use Rattle.geos_machine.specs.Runs.{Throughout}
 use Rattle.geos_machine.proofs.Stops.{stops-first}
-use Rattle.geos_cli.proofs.CommandsRun.{throughout-then, ran-none, ran-more, ran-refused, ran-all, ran-alike, ran-kept, stopped-at, stopped-ahead, stopped-alike}
+use Rattle.geos_cli.proofs.CommandsRun.{throughout-then, ran-none, ran-more, ran-refused, ran-all, ran-alike, ran-kept, last-done, stopped-at, stopped-ahead, stopped-alike}
 use Rattle.geos_cli.proofs.Parts.{IfErr-any}
 use Rattle.geos_cli.proofs.script.carry_out_all.Goals as goal
 
@@ -18,7 +18,8 @@ loop-numbered-init g c = (
   ((λ h. h), (λ h. h)),
   c.requires.unlocked,
   c.memory_is_legal.ensures.sees,
-  λ steady room. (room, refl),
+  (λ steady room. (room, refl)),
+  refl,
 )
 
 pub returns-clause-ok : goal.returns-clause-ok
@@ -40,6 +41,7 @@ loop-numbered-preserved g c =
       c.carry_out.ensures.unlocked,
       c.carry_out.ensures.sees.1,
       steadily_then g.D.Device.medium (vm_file_of c.args.kernel.now) (vm_file_of c.loop-numbered.kernel) (vm_file_of c.carry_out.new.kernel) c.loop-numbered.invariant.5 c.carry_out.ensures.steadily,
+      c.may_commit-ahead.ensures ∙ sym (last-done c.args.checked.now c.args.commands.now c.loop-numbered.numbered-index _ c.loop-numbered-test.true),
     )
 
 pub returns-in_err-done-clause-stopped : goal.returns-in_err-done-clause-stopped
@@ -56,7 +58,8 @@ pub returns-in_err-give_before-clause-stopped : goal.returns-in_err-give_before-
 returns-in_err-give_before-clause-stopped g c =
     let honest = g.D.Device.medium.honest c.args.kernel.now.device in
     let before = ran-kept c.args.mode honest _ c.args.checked.now _ _ _ _ _ _ c.loop-numbered.invariant.0 c.give_before.ensures.bytes in
-    IfErr-any _ (stopped-ahead c.args.mode honest _ c.args.checked.now c.args.commands.now c.loop-numbered.numbered-index _ _ _ _ _ c.loop-numbered-test.true before c.in_err-give_before.ensures.due)
+    IfErr-any _ (stopped-ahead c.args.mode honest _ c.args.checked.now c.args.commands.now c.loop-numbered.numbered-index _ _ _ _ _ c.loop-numbered-test.true before
+    _ _ c.loop-numbered.invariant.6 c.may_commit-ahead.ensures c.in_err-give_before.ensures.due)
 
 pub returns-clause-sees : goal.returns-clause-sees
 returns-clause-sees g c = (c.memory_is_legal.ensures.sees, c.loop-numbered.invariant.4)

@@ -5,6 +5,7 @@ use Rattle.vm_file.specs.State.{Steadily}
 use Rattle.geos_kernel.specs.Files.{vm_file_of}
 use Rattle.geos_kernel.specs.View.{SeesDevice}
 use Rattle.geos_machine.specs.Runs.{Throughout}
+use Rattle.geos_cli.specs.Commits.{last_may_commit}
 use Rattle.geos_cli.specs.Script.{RanCommands}
 use Rattle.geos_cli.proofs.script.carry_out_all.Given as goal
 
@@ -17,3 +18,4 @@ invariant-loop-numbered g l =
     × NoneLocked l.kernel.core.blocks
     × SeesDevice g.D.Device.medium l.kernel
     × Steadily g.D.Device.medium (vm_file_of l.fn.kernel) (vm_file_of l.kernel)
+    × (l.behind ≡ last_may_commit l.fn.checked (take l.numbered-index l.fn.commands))
