@@ -245,7 +245,8 @@ def try_files(folder, kept):
         for words, verb in tries:
             command = (words, None, None)
             answer = run(folder, command, ("whole", "whole", "whole"))
-            if answer != (1, b"", f"cannot {verb} {path}\n".encode()):
+            shown = path or "''"
+            if answer != (1, b"", f"cannot {verb} {shown}\n".encode()):
                 say(command, ["no VM file"], f"{answer}")
             if sorted(os.listdir(folder)) != names:
                 say(command, ["no VM file"], "it made or removed a file")
