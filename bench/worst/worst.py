@@ -187,7 +187,8 @@ def look_at_images(program, folder):
     past = []
     for name, lines, *one_less in texts():
         text.write_text("\n".join(lines) + "\n")
-        subprocess.run([program, "asm", text, image], check=True)
+        # With all rows a target may be another one: which places have a row does not go by targets.
+        subprocess.run([program, "asm", *(["--all-rows"] if one_less else []), text, image], check=True)
         if one_less:
             image.write_bytes(one_back(image.read_bytes(), 1, *one_less))
         commands = {
