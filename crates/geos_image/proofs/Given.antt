@@ -191,14 +191,14 @@ item_at (x ∷ xs) zero lt = (x, refl)
 item_at (x ∷ xs) (suc k) lt = item_at xs k (omega arith)
 
 -- each routine has instructions
-pub routine_counts : (earlier routines : List Routine) (r : ℕ) (routine : Routine) → are_routines earlier routines ≡ true → slice_get routines r ≡ Some routine → 0 < routine.count
-routine_counts earlier [] r routine h e = absurd cc
-routine_counts earlier (x ∷ routines) zero routine h e =
+pub routine_counts : (borrows : Bool) (earlier routines : List Routine) (r : ℕ) (routine : Routine) → are_routines borrows earlier routines ≡ true → slice_get routines r ≡ Some routine → 0 < routine.count
+routine_counts borrows earlier [] r routine h e = absurd cc
+routine_counts borrows earlier (x ∷ routines) zero routine h e =
     let same : x ≡ routine = cc in
-    let here = (and_parts (is_routine earlier x) (are_routines (earlier ++ x ∷ []) routines) h).0 in
-    let a = and_parts (is_name x.name && not (is_named x.name earlier) && nat_lt 0 x.count && is_row x.entry) (is_row x.exit) here in
-    let b = and_parts (is_name x.name && not (is_named x.name earlier) && nat_lt 0 x.count) (is_row x.entry) a.0 in
+    let here = (and_parts (is_routine borrows earlier x) (are_routines borrows (earlier ++ x ∷ []) routines) h).0 in
+    let a = and_parts (is_name x.name && not (is_named x.name earlier) && nat_lt 0 x.count && is_row borrows x.entry) (is_row borrows x.exit) here in
+    let b = and_parts (is_name x.name && not (is_named x.name earlier) && nat_lt 0 x.count) (is_row borrows x.entry) a.0 in
     let c = and_parts (is_name x.name && not (is_named x.name earlier)) (nat_lt 0 x.count) b.0 in
     subst (λ (q : Routine). 0 < q.count) same (ltb-true 0 x.count c.1)
-routine_counts earlier (x ∷ routines) (suc r) routine h e =
-    routine_counts (earlier ++ x ∷ []) routines r routine ((and_parts (is_routine earlier x) (are_routines (earlier ++ x ∷ []) routines) h).1) e
+routine_counts borrows earlier (x ∷ routines) (suc r) routine h e =
+    routine_counts borrows (earlier ++ x ∷ []) routines r routine ((and_parts (is_routine borrows earlier x) (are_routines borrows (earlier ++ x ∷ []) routines) h).1) e

@@ -92,11 +92,11 @@ keyed_found bytes fits routines instrs at image h =
     let from = at + 20 * length instrs in
     let end = from + 38 * count in
     after (bare_points_at bytes instrs at) _ image h (λ points read-points h.
-    after (items_at (row_at bytes) 38 count from) _ image h (λ rows read-rows h.
+    after (items_at (row_at true bytes) 38 count from) _ image h (λ rows read-rows h.
     after (guard end (length bytes == end)) _ image h (λ ended tested h.
     let read : Parts = record { keyed = true; routines = routines; points = with_rows flags points rows } in
     let bare = bare_found bytes fits instrs at from points refl read-points in
-    let found = items_found bytes (row_at bytes) row 38 (row_found bytes fits) count from end rows refl read-rows in
+    let found = items_found bytes (row_at true bytes) row 38 (row_found true bytes fits) count from end rows refl read-rows in
     let as_many : flag_count flags (instrs_of points) ≡ length rows = ap (flag_count flags) bare.1 ∙ sym found.1 in
     let takes-potentials = subst (λ (t : List ℕ). Takes bytes at t from) (sym (with_rows-potentials flags points rows)) bare.0 in
     let takes-rows = subst (λ (t : List ℕ). Takes bytes from t end) (sym (with_rows-given flags points rows as_many)) found.0 in
@@ -125,13 +125,13 @@ pub image_found : (bytes : List ℕ) → IsBytes bytes → (image : Parts) → i
 unfolding image_at
 image_found bytes fits image h =
     after (header_at bytes) _ image h (λ head read-head h.
-    after (routines_at bytes head.1 8 []) _ image h (λ routines read-routines h.
+    after (routines_at head.0 bytes head.1 8 []) _ image h (λ routines read-routines h.
     let total = total_count routines in
     let code = 8 + 100 * head.1 in
     let entries = 8 + 100 * head.1 + 10 * total in
     after (items_at (instr_at head.1 total bytes) 10 total code) _ image h (λ instrs read-instrs h.
     let rest = rest_found head.0 bytes fits routines instrs entries image h in
-    let takes-routines = routines_found bytes fits head.1 8 code [] routines refl read-routines in
+    let takes-routines = routines_found head.0 bytes fits head.1 8 code [] routines refl read-routines in
     let takes-instrs = items_found bytes (instr_at head.1 total bytes) instr 10 (instr_found head.1 total bytes fits) total code entries instrs refl read-instrs in
     let all : routines ≡ takes-routines.0 = takes-routines.1 in
     let count_is : head.1 ≡ length image.routines = sym (ap length rest.routines_are ∙ ap length all ∙ takes-routines.2) in
@@ -156,12 +156,12 @@ header_again true bytes n rest some few l =
     (rw (le-leb 4 (length bytes) left.within, front, number.0, count.0, lt-ltb 0 n some, le-leb n 32 few) refl, count.1)
 
 -- the instructions of points are ones that an image may have
-instrs_legal : (routines instrs : ℕ) (points : List Point) → list_all (is_point routines instrs) points ≡ true → All (λ i. is_instr routines instrs i ≡ true) (instrs_of points)
-instrs_legal routines instrs [] h = All-nil (λ i. is_instr routines instrs i ≡ true)
-instrs_legal routines instrs (point ∷ points) h =
-    let parts = and_parts (is_point routines instrs point) (list_all (is_point routines instrs) points) h in
-    let here = and_parts (is_instr routines instrs point.instr) (is_given point.row) parts.0 in
-    All-cons (λ i. is_instr routines instrs i ≡ true) point.instr (instrs_of points) here.0 (instrs_legal routines instrs points parts.1)
+instrs_legal : (borrows : Bool) (routines instrs : ℕ) (points : List Point) → list_all (is_point borrows routines instrs) points ≡ true → All (λ i. is_instr routines instrs i ≡ true) (instrs_of points)
+instrs_legal borrows routines instrs [] h = All-nil (λ i. is_instr routines instrs i ≡ true)
+instrs_legal borrows routines instrs (point ∷ points) h =
+    let parts = and_parts (is_point borrows routines instrs point) (list_all (is_point borrows routines instrs) points) h in
+    let here = and_parts (is_instr routines instrs point.instr) (is_given borrows point.row) parts.0 in
+    All-cons (λ i. is_instr routines instrs i ≡ true) point.instr (instrs_of points) here.0 (instrs_legal borrows routines instrs points parts.1)
 
 -- bytes end where nothing is left of them
 ends : (bytes : List ℕ) (at : ℕ) → Left bytes at [] → length bytes ≡ at
@@ -171,18 +171,18 @@ ends bytes at l = omega (arith, l.within, length-drop at bytes, ap length l.part
 points_count : (points : List Point) → length (instrs_of points) ≡ length points
 points_count points = length-map points (λ (point : Point). point.instr)
 
-module _ (bytes : List ℕ) (routines : List Routine) (points : List Point) (r n at : ℕ) (legal : list_all (is_point r n) points ≡ true) (fits : All PointFits points) where
-  whole_again : rows_stand (replicate 4096 true) points ≡ true → Left bytes at (flat_map told points ++ []) → whole_at bytes routines (instrs_of points) at ≡ Ok (record { keyed = false; routines = routines; points = points })
+module _ (bytes : List ℕ) (routines : List Routine) (points : List Point) (r n at : ℕ) (fits : All PointFits points) where
+  whole_again : list_all (is_point false r n) points ≡ true → rows_stand (replicate 4096 true) points ≡ true → Left bytes at (flat_map told points ++ []) → whole_at bytes routines (instrs_of points) at ≡ Ok (record { keyed = false; routines = routines; points = points })
   unfolding whole_at
-  whole_again stand left =
+  whole_again legal stand left =
       let end = at + 58 * length (instrs_of points) in
       let place : end ≡ at + 58 * length points = ap (λ (k : ℕ). at + 58 * k) (points_count points) in
       let again = points_again 4096 r n bytes points at end [] place stand legal fits left in
       rw (again.0, eq-eqb (length bytes) end (ends bytes end again.1)) refl
 
-  keyed_again : rows_stand (key_flags routines (instrs_of points)) points ≡ true → Left bytes at (rest true points ++ []) → keyed_at bytes routines (instrs_of points) at ≡ Ok (record { keyed = true; routines = routines; points = points })
+  keyed_again : list_all (is_point true r n) points ≡ true → rows_stand (key_flags routines (instrs_of points)) points ≡ true → Left bytes at (rest true points ++ []) → keyed_at bytes routines (instrs_of points) at ≡ Ok (record { keyed = true; routines = routines; points = points })
   unfolding keyed_at
-  keyed_again stand left =
+  keyed_again legal stand left =
       let instrs = instrs_of points in
       let flags = key_flags routines instrs in
       let count = flag_count flags instrs in
@@ -193,14 +193,14 @@ module _ (bytes : List ℕ) (routines : List Routine) (points : List Point) (r n
       let bare = bare_again bytes points at from (flat_map given_told points ++ []) place fits apart in
       let rows-left = Left-as (ap (λ (t : List ℕ). t ++ []) (given-rows points)) bare.1 in
       let as_many : length (rows_in points) ≡ count = sym (stand-count flags points stand) in
-      let again = λ (at next : ℕ) (x : Row) (rest : List ℕ) (place : next ≡ at + 38) (fine : IsFine x) (l : Left bytes at (row x ++ rest)). row_again bytes at next x rest place fine.legal fine.fits l in
-      let rows = items_again bytes (row_at bytes) row 38 IsFine again (rows_in points) count from end [] as_many refl (rows-fine r n points legal fits) rows-left in
+      let again = λ (at next : ℕ) (x : Row) (rest : List ℕ) (place : next ≡ at + 38) (fine : IsFine x) (l : Left bytes at (row x ++ rest)). row_again true bytes at next x rest place fine.legal fine.fits l in
+      let rows = items_again bytes (row_at true bytes) row 38 IsFine again (rows_in points) count from end [] as_many refl (rows-fine r n points legal fits) rows-left in
       let back : with_rows flags (stripped points) (rows_in points) ≡ points = stand-back flags points stand in
       rw (bare.0, rows.0, eq-eqb (length bytes) end (ends bytes end rows.1)) (ap (λ (ps : List Point). Ok (record { keyed = true; routines = routines; points = ps })) back)
 
-  rest_again : (keyed : Bool) → rows_stand (row_flags keyed routines points) points ≡ true → Left bytes at (rest keyed points ++ []) → rest_at keyed bytes routines (instrs_of points) at ≡ Ok (record { keyed = keyed; routines = routines; points = points })
-  rest_again false stand left = whole_again stand left
-  rest_again true stand left = keyed_again stand left
+  rest_again : (keyed : Bool) → list_all (is_point keyed r n) points ≡ true → rows_stand (row_flags keyed routines points) points ≡ true → Left bytes at (rest keyed points ++ []) → rest_at keyed bytes routines (instrs_of points) at ≡ Ok (record { keyed = keyed; routines = routines; points = points })
+  rest_again false legal stand left = whole_again legal stand left
+  rest_again true legal stand left = keyed_again legal stand left
 
 -- an image's spelling is read as the image
 pub image_again : (bytes : List ℕ) (image : Parts) → is_image image ≡ true → ImageFits image → bytes ≡ spelling image → image_at bytes ≡ Ok image
@@ -215,16 +215,16 @@ image_again bytes image legal fits e =
     let points-text = rest image.keyed image.points in
     let few : count ≤ 2 ^ 16 = omega (arith, parts.few) in
     let short : total ≤ 2 ^ 16 = omega (arith, parts.short, parts.counts) in
-    let points-legal : list_all (is_point count total) image.points ≡ true = subst (λ (n : ℕ). list_all (is_point count n) image.points ≡ true) (sym parts.counts) parts.points in
+    let points-legal : list_all (is_point image.keyed count total) image.points ≡ true = subst (λ (n : ℕ). list_all (is_point image.keyed count n) image.points ≡ true) (sym parts.counts) parts.points in
     let same-instrs = ap (λ (t : List ℕ). header image.keyed count ++ (routines-text ++ (t ++ (points-text ++ [])))) (sym (instrs_text image.points)) in
     let texts = e ∙ sym (append-nil (spelling image)) ∙ four_texts (header image.keyed count) routines-text (flat_map (λ (point : Point). instr point.instr) image.points) points-text [] ∙ same-instrs in
     let left : Left bytes 0 (header image.keyed count ++ (routines-text ++ (flat_map instr (instrs_of image.points) ++ (points-text ++ [])))) = record { within = omega arith; parts = texts } in
     let head = header_again image.keyed bytes count _ parts.some parts.few left in
-    let routines = routines_again bytes image.routines count 8 code [] _ refl refl parts.routines (omega (arith, parts.short, parts.counts)) fits.routines head.1 in
+    let routines = routines_again image.keyed bytes image.routines count 8 code [] _ refl refl parts.routines (omega (arith, parts.short, parts.counts)) fits.routines head.1 in
     let legal-instr = λ (i : Instr). is_instr count total i ≡ true in
     let again = λ (at next : ℕ) (i : Instr) (rest : List ℕ) (place : next ≡ at + 10) (h : legal-instr i) (l : Left bytes at (instr i ++ rest)). instr_again count total bytes at next i rest few short place h l in
-    let instrs = items_again bytes (instr_at count total bytes) instr 10 legal-instr again (instrs_of image.points) total code entries _ (points_count image.points ∙ sym parts.counts) refl (instrs_legal count total image.points points-legal) routines.1 in
-    let rest = rest_again bytes image.routines image.points count total entries points-legal fits.points image.keyed parts.rows instrs.1 in
+    let instrs = items_again bytes (instr_at count total bytes) instr 10 legal-instr again (instrs_of image.points) total code entries _ (points_count image.points ∙ sym parts.counts) refl (instrs_legal image.keyed count total image.points points-legal) routines.1 in
+    let rest = rest_again bytes image.routines image.points count total entries fits.points image.keyed points-legal parts.rows instrs.1 in
     rw (head.0, routines.0, instrs.0, rest) refl
 
 -- what reading gives is spelled there

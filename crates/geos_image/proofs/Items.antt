@@ -1,5 +1,5 @@
 -- Things of one width, read one after another.
-use Rattle.std.proofs.Common.{◌≡◌, ℕ, suc, ◌+◌, ◌*◌, ◌-◌, ◌≤◌, ◌<◌, List, [], ◌∷◌, ◌++◌, length, get_or, drop, Some, None, Result, Ok, Err, refl, sym, ap, ◌∙◌, append_assoc, arith, add-one}
+use Rattle.std.proofs.Common.{Bool, ◌≡◌, ℕ, suc, ◌+◌, ◌*◌, ◌-◌, ◌≤◌, ◌<◌, List, [], ◌∷◌, ◌++◌, length, get_or, drop, Some, None, Result, Ok, Err, refl, sym, ap, ◌∙◌, append_assoc, arith, add-one}
 use Rattle.std.proofs.lemmas.List.{append-nil, drop_all}
 use Rattle.std.proofs.Math.Seq.{drop-cons}
 use Rattle.geos_image.specs.declared.instr.Instr.{Instr}
@@ -53,27 +53,27 @@ module _ {A : Type 0} (read : ℕ → Result A ℕ) (width start count : ℕ) (t
       let one : with_front front (items_at read width (count - i) at) ≡ Ok front = rw k (ap Ok (append-nil front)) in
       sym so_far ∙ one
 
-module _ (bytes : List ℕ) (count : ℕ) (total : Result (List Routine) ℕ) where
-  pub routines-more : (front : List Routine) (i at : ℕ) (r : Routine) → i < count → routine_at front bytes at ≡ Ok r → routines_at bytes (count - i) at front ≡ total
-      → routines_at bytes (count - (i + 1)) (at + 100) (front ++ r ∷ []) ≡ total
+module _ (borrows : Bool) (bytes : List ℕ) (count : ℕ) (total : Result (List Routine) ℕ) where
+  pub routines-more : (front : List Routine) (i at : ℕ) (r : Routine) → i < count → routine_at borrows front bytes at ≡ Ok r → routines_at borrows bytes (count - i) at front ≡ total
+      → routines_at borrows bytes (count - (i + 1)) (at + 100) (front ++ r ∷ []) ≡ total
   unfolding routines_at
   routines-more front i at r lt h so_far =
       let k : count - i ≡ suc (count - (i + 1)) = omega arith in
-      let one : routines_at bytes (count - i) at front ≡ routines_at bytes (count - (i + 1)) (at + 100) (front ++ r ∷ []) = rw (k, h) refl in
+      let one : routines_at borrows bytes (count - i) at front ≡ routines_at borrows bytes (count - (i + 1)) (at + 100) (front ++ r ∷ []) = rw (k, h) refl in
       sym one ∙ so_far
 
-  pub routines-fault : (front : List Routine) (i at fault : ℕ) → i < count → routine_at front bytes at ≡ Err fault → routines_at bytes (count - i) at front ≡ total → total ≡ Err fault
+  pub routines-fault : (front : List Routine) (i at fault : ℕ) → i < count → routine_at borrows front bytes at ≡ Err fault → routines_at borrows bytes (count - i) at front ≡ total → total ≡ Err fault
   unfolding routines_at
   routines-fault front i at fault lt h so_far =
       let k : count - i ≡ suc (count - (i + 1)) = omega arith in
-      let one : routines_at bytes (count - i) at front ≡ Err fault = rw (k, h) refl in
+      let one : routines_at borrows bytes (count - i) at front ≡ Err fault = rw (k, h) refl in
       sym so_far ∙ one
 
-  pub routines-end : (front : List Routine) (i at : ℕ) → count ≤ i → routines_at bytes (count - i) at front ≡ total → total ≡ Ok front
+  pub routines-end : (front : List Routine) (i at : ℕ) → count ≤ i → routines_at borrows bytes (count - i) at front ≡ total → total ≡ Ok front
   unfolding routines_at
   routines-end front i at le so_far =
       let k : count - i ≡ 0 = omega arith in
-      let one : routines_at bytes (count - i) at front ≡ Ok front = rw k refl in
+      let one : routines_at borrows bytes (count - i) at front ≡ Ok front = rw k refl in
       sym so_far ∙ one
 
 module _ (bytes : List ℕ) (code : List Instr) (total : Result (List Point) ℕ) where

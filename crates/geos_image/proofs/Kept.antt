@@ -1,6 +1,6 @@
 -- Rows that are kept where places are flagged.
 use Rattle.std.proofs.Common.{◌≡◌, ℕ, zero, suc, ◌+◌, ◌≤◌, ◌<◌, Bool, true, false, List, [], ◌∷◌, ◌++◌, length, take, drop, set, get_or, Option, Some, None, refl, sym, ap, subst, ◌∙◌, append_assoc, arith}
-use Rattle.std.specs.Prelude.{◌&&◌, ◌==◌, not, nat_le, nat_lt, replicate, slice_get, slice_index_or}
+use Rattle.std.specs.Prelude.{◌&&◌, ◌||◌, ◌==◌, not, nat_le, nat_lt, replicate, slice_get, slice_index_or}
 use Rattle.std.specs.List.{list_all}
 use Rattle.std.proofs.lemmas.Bool.{and_parts, lt-ltb, le-leb, eq-eqb, eqb-true}
 use Rattle.std.proofs.lemmas.List.{drop_more, drop_all, take_all, take_more_set, drop-set-lt, append-nil}
@@ -10,8 +10,8 @@ use Rattle.geos_image.specs.declared.routine.Routine.{Routine}
 use Rattle.geos_image.specs.declared.point.Point.{Point}
 use Rattle.geos_image.specs.Parts.{Parts, instrs_of, total_count}
 use Rattle.geos_image.specs.Keys.{key_flags, row_stands, row_where, kept_rows, keyed_of, gives}
-use Rattle.geos_image.specs.Legal.{is_name, is_named, is_pointer, is_shaped, is_row, is_given, is_instr, is_point, is_routine, are_routines, rows_stand, row_flags, is_image}
-use Rattle.geos_image.proofs.Instrs.{image_parts, list_all-get}
+use Rattle.geos_image.specs.Legal.{is_name, is_named, is_own, is_pointer, is_shaped, is_row, is_given, is_instr, is_point, is_routine, are_routines, rows_stand, row_flags, is_formed, is_image}
+use Rattle.geos_image.proofs.Instrs.{formed_parts, list_all-get}
 use Rattle.geos_image.proofs.Given.{key-given}
 use Rattle.geos_image.proofs.Pushes.{both}
 use Rattle.geos_image.proofs.KeyLaws.{key_flags-length, length-instrs, legal-one}
@@ -35,20 +35,20 @@ kept-point (flag ∷ flags) (x ∷ points) (suc pc) point e = kept-point flags p
 
 -- ---- legal images
 
-where-given : (flag : Bool) (o : Option Row) → is_given o ≡ true → is_given (row_where flag o) ≡ true
-where-given true o h = h
-where-given false o h = refl
+where-given : (borrows : Bool) (flag : Bool) (o : Option Row) → is_given borrows o ≡ true → is_given borrows (row_where flag o) ≡ true
+where-given borrows true o h = h
+where-given borrows false o h = refl
 
-given-there : (r n : ℕ) (point : Point) (points : List Point) → list_all (is_point r n) (point ∷ points) ≡ true → is_given point.row ≡ true
-given-there r n point points h =
-    let here = (and_parts (is_point r n point) (list_all (is_point r n) points) h).0 in
-    (and_parts (is_instr r n point.instr) (is_given point.row) here).1
+given-there : (borrows : Bool) (r n : ℕ) (point : Point) (points : List Point) → list_all (is_point borrows r n) (point ∷ points) ≡ true → is_given borrows point.row ≡ true
+given-there borrows r n point points h =
+    let here = (and_parts (is_point borrows r n point) (list_all (is_point borrows r n) points) h).0 in
+    (and_parts (is_instr r n point.instr) (is_given borrows point.row) here).1
 
-kept-legal : (r n : ℕ) (flags : List Bool) (points : List Point) → list_all (is_point r n) points ≡ true → list_all (is_point r n) (kept_rows flags points) ≡ true
-kept-legal r n flags [] h = refl
-kept-legal r n [] (point ∷ points) h = legal-one r n point None (kept_rows [] points) points h refl (kept-legal r n [] points)
-kept-legal r n (flag ∷ flags) (point ∷ points) h =
-    legal-one r n point (row_where flag point.row) (kept_rows flags points) points h (where-given flag point.row (given-there r n point points h)) (kept-legal r n flags points)
+kept-legal : (borrows : Bool) (r n : ℕ) (flags : List Bool) (points : List Point) → list_all (is_point borrows r n) points ≡ true → list_all (is_point borrows r n) (kept_rows flags points) ≡ true
+kept-legal borrows r n flags [] h = refl
+kept-legal borrows r n [] (point ∷ points) h = legal-one borrows r n point None (kept_rows [] points) points h refl (kept-legal borrows r n [] points)
+kept-legal borrows r n (flag ∷ flags) (point ∷ points) h =
+    legal-one borrows r n point (row_where flag point.row) (kept_rows flags points) points h (where-given borrows flag point.row (given-there borrows r n point points h)) (kept-legal borrows r n flags points)
 
 -- where all rows are given, those at flags are left
 kept-stands : (n : ℕ) (flags : List Bool) (points : List Point) → length points ≤ length flags → rows_stand (replicate n true) points ≡ true → rows_stand flags (kept_rows flags points) ≡ true
@@ -84,49 +84,49 @@ keyed-stands routines points false short h =
     kept-stands 4096 flags points (omega (arith, short, key_flags-length routines (instrs_of points))) h
 
 -- the image in version 2 is a legal one
-pub keyed-legal : (image : Parts) → is_image image ≡ true → is_image (keyed_of image) ≡ true
+pub keyed-legal : (image : Parts) → is_formed true image ≡ true → is_image (keyed_of image) ≡ true
 keyed-legal image h =
-    let parts = image_parts image h in
+    let parts = formed_parts true image h in
     let flags = key_flags image.routines (instrs_of image.points) in
     let kept = kept_rows flags image.points in
     let r = length image.routines in
     let len : length kept ≡ length image.points = kept-length flags image.points in
     let same : key_flags image.routines (instrs_of kept) ≡ flags = ap (key_flags image.routines) (kept-instrs flags image.points) in
     let stand : rows_stand (row_flags true image.routines kept) kept ≡ true = subst (λ (fs : List Bool). rows_stand fs kept ≡ true) (sym same) (keyed-stands image.routines image.points image.keyed parts.short parts.rows) in
-    let points : list_all (is_point r (length kept)) kept ≡ true = subst (λ (n : ℕ). list_all (is_point r n) kept ≡ true) (sym len) (kept-legal r (length image.points) flags image.points parts.points) in
+    let points : list_all (is_point true r (length kept)) kept ≡ true = subst (λ (n : ℕ). list_all (is_point true r n) kept ≡ true) (sym len) (kept-legal true r (length image.points) flags image.points parts.points) in
     let counts : total_count image.routines ≡ length kept = parts.counts ∙ sym len in
     rw (lt-ltb 0 r parts.some, le-leb r 32 parts.few, parts.routines, le-leb (length kept) 4096 (omega (arith, len, parts.short)), eq-eqb (total_count image.routines) (length kept) counts, points, stand) refl
 
 -- and itself where it is one of version 2
-pub keyed-same : (image : Parts) → is_image image ≡ true → image.keyed ≡ true → keyed_of image ≡ image
+pub keyed-same : (image : Parts) → is_formed true image ≡ true → image.keyed ≡ true → keyed_of image ≡ image
 keyed-same image h keyed =
     let flags = key_flags image.routines (instrs_of image.points) in
-    let stand : rows_stand flags image.points ≡ true = rw keyed at (image_parts image h).rows in
+    let stand : rows_stand flags image.points ≡ true = rw keyed at (formed_parts true image h).rows in
     ap (λ (ps : List Point). record { keyed = true; routines = image.routines; points = ps }) (kept-same flags image.points stand) ∙ ap (λ (b : Bool). record { keyed = b; routines = image.routines; points = image.points }) (sym keyed)
 
 -- ---- what the image gives in version 2
 
 -- a row speaks of four slots
-pub four-slots : (row : Row) → is_row row ≡ true → length row.slots ≡ 4
-four-slots row h =
-    let shaped = (and_parts (is_shaped row) (list_all is_pointer row.pointers) h).0 in
+pub four-slots : (borrows : Bool) (row : Row) → is_row borrows row ≡ true → length row.slots ≡ 4
+four-slots borrows row h =
+    let shaped = (and_parts (borrows || list_all is_own row.slots) (is_shaped row) ((and_parts ((borrows || list_all is_own row.slots) && is_shaped row) (list_all is_pointer row.pointers) h).0)).1 in
     let a = and_parts (length row.bounds == 8 && length row.slots == 4 && length row.pointers == 4) (length row.pairs == 6) shaped in
     let b = and_parts (length row.bounds == 8 && length row.slots == 4) (length row.pointers == 4) a.0 in
     eqb-true (length row.slots) 4 ((and_parts (length row.bounds == 8) (length row.slots == 4) b.0).1)
 
-exit-row : (earlier routines : List Routine) (r : ℕ) (routine : Routine) → are_routines earlier routines ≡ true → slice_get routines r ≡ Some routine → is_row routine.exit ≡ true
-exit-row earlier [] r routine h e = absurd cc
-exit-row earlier (x ∷ routines) zero routine h e =
+exit-row : (borrows : Bool) (earlier routines : List Routine) (r : ℕ) (routine : Routine) → are_routines borrows earlier routines ≡ true → slice_get routines r ≡ Some routine → is_row borrows routine.exit ≡ true
+exit-row borrows earlier [] r routine h e = absurd cc
+exit-row borrows earlier (x ∷ routines) zero routine h e =
     let same : x ≡ routine = cc in
-    let here = (and_parts (is_routine earlier x) (are_routines (earlier ++ x ∷ []) routines) h).0 in
-    let a = and_parts (is_name x.name && not (is_named x.name earlier) && nat_lt 0 x.count && is_row x.entry) (is_row x.exit) here in
-    subst (λ (q : Routine). is_row q.exit ≡ true) same a.1
-exit-row earlier (x ∷ routines) (suc r) routine h e =
-    exit-row (earlier ++ x ∷ []) routines r routine ((and_parts (is_routine earlier x) (are_routines (earlier ++ x ∷ []) routines) h).1) e
+    let here = (and_parts (is_routine borrows earlier x) (are_routines borrows (earlier ++ x ∷ []) routines) h).0 in
+    let a = and_parts (is_name x.name && not (is_named x.name earlier) && nat_lt 0 x.count && is_row borrows x.entry) (is_row borrows x.exit) here in
+    subst (λ (q : Routine). is_row borrows q.exit ≡ true) same a.1
+exit-row borrows earlier (x ∷ routines) (suc r) routine h e =
+    exit-row borrows (earlier ++ x ∷ []) routines r routine ((and_parts (is_routine borrows earlier x) (are_routines borrows (earlier ++ x ∷ []) routines) h).1) e
 
 -- so does a routine's exit row
-pub four-exit : (image : Parts) → is_image image ≡ true → (r : ℕ) (routine : Routine) → slice_get image.routines r ≡ Some routine → length routine.exit.slots ≡ 4
-four-exit image h r routine e = four-slots routine.exit (exit-row [] image.routines r routine (image_parts image h).routines e)
+pub four-exit : (image : Parts) → is_formed true image ≡ true → (r : ℕ) (routine : Routine) → slice_get image.routines r ≡ Some routine → length routine.exit.slots ≡ 4
+four-exit image h r routine e = four-slots true routine.exit (exit-row true [] image.routines r routine (formed_parts true image h).routines e)
 
 all-there : (n : ℕ) (points : List Point) (pc : ℕ) (point : Point) → rows_stand (replicate n true) points ≡ true → slice_get points pc ≡ Some point → (row : Row) × (point.row ≡ Some row)
 all-there n [] pc point h e = absurd cc
@@ -140,17 +140,17 @@ all-there (suc n) (x ∷ points) zero point h e =
     one None h = absurd cc
 all-there (suc n) (x ∷ points) (suc pc) point h e = all-there n points pc point ((and_parts (row_stands true x.row) (rows_stand (replicate n true) points) h).1) e
 
-module _ (image : Parts) (legal : is_image image ≡ true) where
+module _ (image : Parts) (legal : is_formed true image ≡ true) where
   -- in version 1 each point has a row
   pub row-there : image.keyed ≡ false → (pc : ℕ) (point : Point) → slice_get image.points pc ≡ Some point → (row : Row) × (point.row ≡ Some row) × (length row.slots ≡ 4)
   row-there all pc point e =
-      let parts = image_parts image legal in
+      let parts = formed_parts true image legal in
       let r = length image.routines in
       let n = length image.points in
       let given = all-there 4096 image.points pc point (rw all at parts.rows) e in
-      let here = list_all-get (is_point r n) image.points pc point parts.points e in
-      let fine : is_given point.row ≡ true = (and_parts (is_instr r n point.instr) (is_given point.row) here).1 in
-      (given.0, given.1, four-slots given.0 (ap is_given (sym given.1) ∙ fine))
+      let here = list_all-get (is_point true r n) image.points pc point parts.points e in
+      let fine : is_given true point.row ≡ true = (and_parts (is_instr r n point.instr) (is_given true point.row) here).1 in
+      (given.0, given.1, four-slots true given.0 (ap (is_given true) (sym given.1) ∙ fine))
 
   flag-of : (pc : ℕ) → pc < length image.points → gives (keyed_of image) pc ≡ slice_index_or (key_flags image.routines (instrs_of image.points)) pc false
   flag-of pc lt =

@@ -79,23 +79,23 @@ with_rows-stand (false ∷ flags) (point ∷ points) rows room e = with_rows-sta
 with_rows-stand (true ∷ flags) (point ∷ points) [] room e = absurd (omega (arith, e))
 with_rows-stand (true ∷ flags) (point ∷ points) (r ∷ rows) room e = with_rows-stand flags points rows (omega (arith, room)) (omega (arith, e))
 
-pub legal-one : (routines instrs : ℕ) (point : Point) (o : Option Row) (next points : List Point) → list_all (is_point routines instrs) (point ∷ points) ≡ true → is_given o ≡ true
-    → (list_all (is_point routines instrs) points ≡ true → list_all (is_point routines instrs) next ≡ true) → list_all (is_point routines instrs) (record point { row = o } ∷ next) ≡ true
-legal-one routines instrs point o next points h given_here others =
-    let parts = and_parts (is_point routines instrs point) (list_all (is_point routines instrs) points) h in
-    let here = and_parts (is_instr routines instrs point.instr) (is_given point.row) parts.0 in
-    both (is_point routines instrs (record point { row = o })) (list_all (is_point routines instrs) next) (both (is_instr routines instrs point.instr) (is_given o) here.0 given_here) (others parts.1)
+pub legal-one : (borrows : Bool) (routines instrs : ℕ) (point : Point) (o : Option Row) (next points : List Point) → list_all (is_point borrows routines instrs) (point ∷ points) ≡ true → is_given borrows o ≡ true
+    → (list_all (is_point borrows routines instrs) points ≡ true → list_all (is_point borrows routines instrs) next ≡ true) → list_all (is_point borrows routines instrs) (record point { row = o } ∷ next) ≡ true
+legal-one borrows routines instrs point o next points h given_here others =
+    let parts = and_parts (is_point borrows routines instrs point) (list_all (is_point borrows routines instrs) points) h in
+    let here = and_parts (is_instr routines instrs point.instr) (is_given borrows point.row) parts.0 in
+    both (is_point borrows routines instrs (record point { row = o })) (list_all (is_point borrows routines instrs) next) (both (is_instr routines instrs point.instr) (is_given borrows o) here.0 given_here) (others parts.1)
 
 -- they are legal where the rows are
-pub with_rows-legal : (routines instrs : ℕ) (flags : List Bool) (points : List Point) (rows : List Row) → list_all (is_point routines instrs) points ≡ true → list_all is_row rows ≡ true
-    → list_all (is_point routines instrs) (with_rows flags points rows) ≡ true
-with_rows-legal routines instrs flags [] rows h k = refl
-with_rows-legal routines instrs [] (point ∷ points) rows h k = legal-one routines instrs point None (with_rows [] points rows) points h refl (λ h. with_rows-legal routines instrs [] points rows h k)
-with_rows-legal routines instrs (false ∷ flags) (point ∷ points) rows h k = legal-one routines instrs point None (with_rows flags points rows) points h refl (λ h. with_rows-legal routines instrs flags points rows h k)
-with_rows-legal routines instrs (true ∷ flags) (point ∷ points) [] h k = legal-one routines instrs point None (with_rows flags points []) points h refl (λ h. with_rows-legal routines instrs flags points [] h k)
-with_rows-legal routines instrs (true ∷ flags) (point ∷ points) (r ∷ rows) h k =
-    let parts = and_parts (is_row r) (list_all is_row rows) k in
-    legal-one routines instrs point (Some r) (with_rows flags points rows) points h parts.0 (λ h. with_rows-legal routines instrs flags points rows h parts.1)
+pub with_rows-legal : (borrows : Bool) (routines instrs : ℕ) (flags : List Bool) (points : List Point) (rows : List Row) → list_all (is_point borrows routines instrs) points ≡ true → list_all (is_row borrows) rows ≡ true
+    → list_all (is_point borrows routines instrs) (with_rows flags points rows) ≡ true
+with_rows-legal borrows routines instrs flags [] rows h k = refl
+with_rows-legal borrows routines instrs [] (point ∷ points) rows h k = legal-one borrows routines instrs point None (with_rows [] points rows) points h refl (λ h. with_rows-legal borrows routines instrs [] points rows h k)
+with_rows-legal borrows routines instrs (false ∷ flags) (point ∷ points) rows h k = legal-one borrows routines instrs point None (with_rows flags points rows) points h refl (λ h. with_rows-legal borrows routines instrs flags points rows h k)
+with_rows-legal borrows routines instrs (true ∷ flags) (point ∷ points) [] h k = legal-one borrows routines instrs point None (with_rows flags points []) points h refl (λ h. with_rows-legal borrows routines instrs flags points [] h k)
+with_rows-legal borrows routines instrs (true ∷ flags) (point ∷ points) (r ∷ rows) h k =
+    let parts = and_parts (is_row borrows r) (list_all (is_row borrows) rows) k in
+    legal-one borrows routines instrs point (Some r) (with_rows flags points rows) points h parts.0 (λ h. with_rows-legal borrows routines instrs flags points rows h parts.1)
 
 -- ---- rows that stand at places
 
@@ -145,20 +145,20 @@ pub given-rows : (points : List Point) → flat_map given_told points ≡ flat_m
 given-rows [] = refl
 given-rows (point ∷ points) = flat_map-cons given_told point points ∙ ap (λ (t : List ℕ). given point.row ++ t) (given-rows points) ∙ given-one point.row (rows_in points)
 
--- a row that an image may have, and whose numbers are words
+-- a row that an image of version 2 may have, and whose numbers are words
 pub record IsFine (r : Row) : Type 0 where
-  pub legal : is_row r ≡ true
+  pub legal : is_row true r ≡ true
   pub fits : RowFits r
 
-fine-one : (o : Option Row) (rows : List Row) → is_given o ≡ true → GivenFits o → All IsFine rows → All IsFine (with_some o rows)
+fine-one : (o : Option Row) (rows : List Row) → is_given true o ≡ true → GivenFits o → All IsFine rows → All IsFine (with_some o rows)
 fine-one None rows h k all = all
 fine-one (Some r) rows h k all = All-cons IsFine r rows (record { legal = h; fits = k }) all
 
-pub rows-fine : (routines instrs : ℕ) (points : List Point) → list_all (is_point routines instrs) points ≡ true → All PointFits points → All IsFine (rows_in points)
+pub rows-fine : (routines instrs : ℕ) (points : List Point) → list_all (is_point true routines instrs) points ≡ true → All PointFits points → All IsFine (rows_in points)
 rows-fine routines instrs [] h k = All-nil IsFine
 rows-fine routines instrs (point ∷ points) h k =
-    let parts = and_parts (is_point routines instrs point) (list_all (is_point routines instrs) points) h in
-    let here = and_parts (is_instr routines instrs point.instr) (is_given point.row) parts.0 in
+    let parts = and_parts (is_point true routines instrs point) (list_all (is_point true routines instrs) points) h in
+    let here = and_parts (is_instr routines instrs point.instr) (is_given true point.row) parts.0 in
     fine-one point.row (rows_in points) here.1 (All-head PointFits point points k).row (rows-fine routines instrs points parts.1 (All-tail PointFits point points k))
 
 -- ---- flags that are set one after another
@@ -255,7 +255,7 @@ pub with_rows-length : (flags : List Bool) (points : List Point) (rows : List Ro
 with_rows-length flags points rows = sym (length-instrs (with_rows flags points rows)) ∙ ap length (with_rows-instrs flags points rows) ∙ length-instrs points
 
 -- code with points that are legal where it is
-pub code_legal : (keyed : Bool) (routines : List Routine) (instrs : List Instr) (points : List Point) → IsCode routines instrs → LegalWhere instrs points → length points ≡ length instrs → rows_stand (row_flags keyed routines points) points ≡ true
+pub code_legal : (keyed : Bool) (routines : List Routine) (instrs : List Instr) (points : List Point) → IsCode keyed routines instrs → LegalWhere keyed instrs points → length points ≡ length instrs → rows_stand (row_flags keyed routines points) points ≡ true
     → is_image (record { keyed = keyed; routines = routines; points = points }) ≡ true
 code_legal keyed routines instrs points code legal len stand =
     let r = length routines in
@@ -266,7 +266,7 @@ code_legal keyed routines instrs points code legal len stand =
     rw (lt-ltb 0 r code.some, le-leb r 32 code.few, code.in_order, le-leb n 4096 short, eq-eqb (total_count routines) n counts, legal r n fit, stand) refl
 
 -- and with rows that are put at its key places
-pub keyed_legal : (routines : List Routine) (instrs : List Instr) (points : List Point) (rows : List Row) → IsCode routines instrs → LegalWhere instrs points → instrs_of points ≡ instrs → list_all is_row rows ≡ true
+pub keyed_legal : (routines : List Routine) (instrs : List Instr) (points : List Point) (rows : List Row) → IsCode true routines instrs → LegalWhere true instrs points → instrs_of points ≡ instrs → list_all (is_row true) rows ≡ true
     → flag_count (key_flags routines instrs) instrs ≡ length rows → is_image (record { keyed = true; routines = routines; points = with_rows (key_flags routines instrs) points rows }) ≡ true
 keyed_legal routines instrs points rows code legal same rows_legal as_many =
     let flags = key_flags routines instrs in
@@ -275,7 +275,7 @@ keyed_legal routines instrs points rows code legal same rows_legal as_many =
     let room : length points ≤ length flags = omega (arith, len, code.short, key_flags-length routines instrs) in
     let stand : rows_stand flags made ≡ true = with_rows-stand flags points rows room (ap (flag_count flags) same ∙ as_many) in
     let flags_same : key_flags routines (instrs_of made) ≡ flags = ap (key_flags routines) (with_rows-instrs flags points rows ∙ same) in
-    code_legal true routines instrs made code (λ r n h. with_rows-legal r n flags points rows (legal r n h) rows_legal) (with_rows-length flags points rows ∙ len)
+    code_legal true routines instrs made code (λ r n h. with_rows-legal true r n flags points rows (legal r n h) rows_legal) (with_rows-length flags points rows ∙ len)
     (subst (λ (fs : List Bool). rows_stand fs made ≡ true) (sym flags_same) stand)
 
 -- what makes an image of version 2 is short

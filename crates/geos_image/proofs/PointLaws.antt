@@ -1,6 +1,6 @@
 -- What the verifier is told at an instruction: what is read is spelled there, and what is
 -- spelled there is read.
-use Rattle.std.proofs.Common.{◌≡◌, ℕ, zero, suc, ◌+◌, ◌*◌, ◌≤◌, true, List, [], ◌∷◌, ◌++◌, length, map, All, Option, Some, None, Ok, refl, sym, ap, subst, ◌∙◌, append_assoc, arith}
+use Rattle.std.proofs.Common.{◌≡◌, ℕ, zero, suc, ◌+◌, ◌*◌, ◌≤◌, true, false, List, [], ◌∷◌, ◌++◌, length, map, All, Option, Some, None, Ok, refl, sym, ap, subst, ◌∙◌, append_assoc, arith}
 use Rattle.std.specs.Prelude.{replicate}
 use Rattle.std.specs.List.{flat_map, list_all}
 use Rattle.std.proofs.lemmas.Bool.{and_parts}
@@ -49,18 +49,18 @@ entry x = row x.0 ++ potential x.1
 entry_found : (bytes : List ℕ) → IsBytes bytes → (at next : ℕ) (x : Row × Potential) → next ≡ at + 58 → entry_at bytes at ≡ Ok x → Takes bytes at (entry x) next
 unfolding entry_at
 entry_found bytes fits at next x e h =
-    after (row_at bytes at) _ x h (λ r read-row h.
+    after (row_at false bytes at) _ x h (λ r read-row h.
     after (potential_at bytes (at + 38)) _ x h (λ p read-potential h.
-    let takes-row = row_found bytes fits at (at + 38) r refl read-row in
+    let takes-row = row_found false bytes fits at (at + 38) r refl read-row in
     let takes-potential = potential_found bytes fits (at + 38) next p (e ∙ plus at 38 20) read-potential in
     subst (λ (y : Row × Potential). Takes bytes at (entry y) next) (ok_is (r, p) x h) (Takes-then takes-row takes-potential)))
 
-entry_again : (bytes : List ℕ) (at next : ℕ) (r : Row) (p : Potential) (rest : List ℕ) → next ≡ at + 58 → is_row r ≡ true → RowFits r → PotentialFits p → Left bytes at (row r ++ potential p ++ rest)
+entry_again : (bytes : List ℕ) (at next : ℕ) (r : Row) (p : Potential) (rest : List ℕ) → next ≡ at + 58 → is_row false r ≡ true → RowFits r → PotentialFits p → Left bytes at (row r ++ potential p ++ rest)
     → (entry_at bytes at ≡ Ok (r, p)) × Left bytes next rest
 unfolding entry_at
 entry_again bytes at next r p rest e legal row-fits potential-fits l =
     let left = Left-as (append_assoc (row r) (potential p) rest) l in
-    let first = row_again bytes at (at + 38) r _ refl legal row-fits left in
+    let first = row_again false bytes at (at + 38) r _ refl legal row-fits left in
     let second = potential_again bytes (at + 38) next p rest (e ∙ plus at 38 20) potential-fits first.1 in
     (rw (first.0, second.0) refl, second.1)
 
@@ -83,7 +83,7 @@ points_found bytes fits (i ∷ instrs) at next points e h =
     subst (λ (ps : List Point). Takes bytes at (flat_map told ps) next × (instrs_of ps ≡ i ∷ instrs)) (ok_is (point ∷ others) points h) (takes_more told point others p q.0, ap (λ (is : List Instr). i ∷ is) q.1)))
 
 -- a point that stands there with its row is read
-told_again : (bytes : List ℕ) (at next : ℕ) (o : Option Row) (p : Potential) (rest : List ℕ) → next ≡ at + 58 → row_stands true o ≡ true → is_given o ≡ true → GivenFits o → PotentialFits p → Left bytes at ((given o ++ potential p) ++ rest)
+told_again : (bytes : List ℕ) (at next : ℕ) (o : Option Row) (p : Potential) (rest : List ℕ) → next ≡ at + 58 → row_stands true o ≡ true → is_given false o ≡ true → GivenFits o → PotentialFits p → Left bytes at ((given o ++ potential p) ++ rest)
     → (r : Row) × (o ≡ Some r) × (entry_at bytes at ≡ Ok (r, p)) × Left bytes next rest
 told_again bytes at next None p rest e stands legal row-fits potential-fits l = absurd cc
 told_again bytes at next (Some r) p rest e stands legal row-fits potential-fits l =
@@ -92,15 +92,15 @@ told_again bytes at next (Some r) p rest e stands legal row-fits potential-fits 
 
 -- points that stand there, each with its row, are read, given their instructions
 pub points_again : (most routines instrs : ℕ) (bytes : List ℕ) (points : List Point) (at next : ℕ) (rest : List ℕ) → next ≡ at + 58 * length points → rows_stand (replicate most true) points ≡ true
-    → list_all (is_point routines instrs) points ≡ true → All PointFits points → Left bytes at (flat_map told points ++ rest) → (points_at bytes (instrs_of points) at ≡ Ok points) × Left bytes next rest
+    → list_all (is_point false routines instrs) points ≡ true → All PointFits points → Left bytes at (flat_map told points ++ rest) → (points_at bytes (instrs_of points) at ≡ Ok points) × Left bytes next rest
 unfolding points_at
 points_again most routines instrs bytes [] at next rest e stand legal fits l =
     let same = no_more at 58 next e in
     (refl, subst (λ (k : ℕ). Left bytes k rest) same l)
 points_again zero routines instrs bytes (point ∷ points) at next rest e stand legal fits l = absurd cc
 points_again (suc most) routines instrs bytes (point ∷ points) at next rest e stand legal fits l =
-    let parts = and_parts (is_point routines instrs point) (list_all (is_point routines instrs) points) legal in
-    let rows = and_parts (is_instr routines instrs point.instr) (is_given point.row) parts.0 in
+    let parts = and_parts (is_point false routines instrs point) (list_all (is_point false routines instrs) points) legal in
+    let rows = and_parts (is_instr routines instrs point.instr) (is_given false point.row) parts.0 in
     let stands = and_parts (row_stands true point.row) (rows_stand (replicate most true) points) stand in
     let here = All-head PointFits point points fits in
     let place = behind_first at 58 (length points) next e in

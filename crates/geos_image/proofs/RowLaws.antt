@@ -10,7 +10,7 @@ use Rattle.geos_image.specs.declared.row.Row.{Row}
 use Rattle.geos_image.specs.declared.row.Pointer.{Pointer}
 use Rattle.geos_image.specs.declared.row.SlotState.{SlotState}
 use Rattle.geos_image.specs.declared.row.SlotState.TheVariants.{Empty, Mem, Vm, Db}
-use Rattle.geos_image.specs.Legal.{is_pointer, is_row}
+use Rattle.geos_image.specs.Legal.{is_own, is_pointer, is_row}
 use Rattle.geos_image.specs.Ranges.{IsWord, PointerFits, RowFits}
 use Rattle.geos_image.specs.Spelling.{word, flag, slot_code, pointer, pairs_byte, row}
 use Rattle.geos_image.specs.Reading.{guard, byte_at, word_at, byte_below, word_below, items_at, slot_states, slot_of, slot_at, pointer_at, pairs_of, row_at}
@@ -24,27 +24,44 @@ use Rattle.geos_image.proofs.RunLaws.{items_found, items_again}
 abbrev slot_text : SlotState → List ℕ
 slot_text s = slot_code s ∷ []
 
-slot_found : (bytes : List ℕ) (at next : ℕ) (s : SlotState) → next ≡ at + 1 → slot_at bytes at ≡ Ok s → Takes bytes at (slot_text s) next
+slot_found : (borrows : Bool) (bytes : List ℕ) (at next : ℕ) (s : SlotState) → next ≡ at + 1 → slot_at borrows bytes at ≡ Ok s → Takes bytes at (slot_text s) next
 unfolding slot_at
-slot_found bytes at next s e h =
+slot_found borrows bytes at next s e h =
     after (byte_at bytes at) _ s h (λ code read-code h.
-    let found : slot_of code ≡ Some s = or_fault_ok at (slot_of code) s h in
-    let spells : slot_code s ≡ code = eqb-true _ _ (find_passes (λ state. slot_code state == code) slot_states s found) in
+    let found : slot_of borrows code ≡ Some s = or_fault_ok at (slot_of borrows code) s h in
+    let spells : slot_code s ≡ code = eqb-true _ _ ((and_parts (slot_code s == code) (borrows || is_own s) (find_passes (λ state. slot_code state == code && (borrows || is_own state)) slot_states s found)).0) in
     subst (λ (k : ℕ). Takes bytes at (k ∷ []) next) (sym spells) (byte_found bytes at next code e read-code))
 
-slot_of_again : (s : SlotState) → slot_of (slot_code s) ≡ Some s
-slot_of_again Empty = refl
-slot_of_again Mem = refl
-slot_of_again (Vm false) = refl
-slot_of_again (Vm true) = refl
-slot_of_again (Db false) = refl
-slot_of_again (Db true) = refl
+slot_of_again : (borrows : Bool) (s : SlotState) → (borrows || is_own s) ≡ true → slot_of borrows (slot_code s) ≡ Some s
+slot_of_again true Empty h = refl
+slot_of_again true Mem h = refl
+slot_of_again true (Vm false false) h = refl
+slot_of_again true (Vm true false) h = refl
+slot_of_again true (Db false) h = refl
+slot_of_again true (Db true) h = refl
+slot_of_again true (Vm false true) h = refl
+slot_of_again true (Vm true true) h = refl
+slot_of_again false Empty h = refl
+slot_of_again false Mem h = refl
+slot_of_again false (Vm false false) h = refl
+slot_of_again false (Vm true false) h = refl
+slot_of_again false (Db false) h = refl
+slot_of_again false (Db true) h = refl
+slot_of_again false (Vm marked true) h = absurd cc
 
-slot_again : (bytes : List ℕ) (at next : ℕ) (s : SlotState) (rest : List ℕ) → next ≡ at + 1 → Unit {0} → Left bytes at (slot_text s ++ rest) → (slot_at bytes at ≡ Ok s) × Left bytes next rest
+slot_again : (borrows : Bool) (bytes : List ℕ) (at next : ℕ) (s : SlotState) (rest : List ℕ) → next ≡ at + 1 → (borrows || is_own s) ≡ true → Left bytes at (slot_text s ++ rest) → (slot_at borrows bytes at ≡ Ok s) × Left bytes next rest
 unfolding slot_at
-slot_again bytes at next s rest e u l =
+slot_again borrows bytes at next s rest e h l =
     let code = byte_again bytes at next _ _ e l in
-    (rw (code.0, slot_of_again s) refl, code.1)
+    (rw (code.0, slot_of_again borrows s h) refl, code.1)
+
+-- where slots may be borrowed or none is, that holds of each
+each_own : (borrows : Bool) (slots : List SlotState) → (borrows || list_all is_own slots) ≡ true → All (λ s. (borrows || is_own s) ≡ true) slots
+each_own borrows [] h = All-nil (λ s. (borrows || is_own s) ≡ true)
+each_own true (s ∷ slots) h = All-cons (λ s. (true || is_own s) ≡ true) s slots refl (each_own true slots refl)
+each_own false (s ∷ slots) h =
+    let parts = and_parts (is_own s) (list_all is_own slots) h in
+    All-cons (λ s. (false || is_own s) ≡ true) s slots parts.0 (each_own false slots parts.1)
 
 -- ---- pointers
 
@@ -136,17 +153,17 @@ pairs_again pairs len =
 -- ---- rows
 
 -- a row that was read stands there
-pub row_found : (bytes : List ℕ) → IsBytes bytes → (at next : ℕ) (r : Row) → next ≡ at + 38 → row_at bytes at ≡ Ok r → Takes bytes at (row r) next
+pub row_found : (borrows : Bool) (bytes : List ℕ) → IsBytes bytes → (at next : ℕ) (r : Row) → next ≡ at + 38 → row_at borrows bytes at ≡ Ok r → Takes bytes at (row r) next
 unfolding row_at
-row_found bytes fits at next r e h =
+row_found borrows bytes fits at next r e h =
     after (items_at (word_at bytes) 2 8 at) _ r h (λ bounds read-bounds h.
-    after (items_at (slot_at bytes) 1 4 (at + 16)) _ r h (λ slots read-slots h.
+    after (items_at (slot_at borrows bytes) 1 4 (at + 16)) _ r h (λ slots read-slots h.
     after (items_at (pointer_at bytes) 4 4 (at + 20)) _ r h (λ pointers read-pointers h.
     after (byte_below 64 bytes (at + 36)) _ r h (λ pairs read-pairs h.
     after (byte_below 1 bytes (at + 37)) _ r h (λ unused read-unused h.
     let read : Row = record { bounds = bounds; slots = slots; pointers = pointers; pairs = pairs_of pairs } in
     let takes-bounds = items_found bytes (word_at bytes) word 2 (word_found bytes fits) 8 at (at + 16) bounds refl read-bounds in
-    let takes-slots = items_found bytes (slot_at bytes) slot_text 1 (slot_found bytes) 4 (at + 16) (at + 20) slots (plus at 16 4) read-slots in
+    let takes-slots = items_found bytes (slot_at borrows bytes) slot_text 1 (slot_found borrows bytes) 4 (at + 16) (at + 20) slots (plus at 16 4) read-slots in
     let takes-states = subst (λ (t : List ℕ). Takes bytes (at + 16) t (at + 20)) (flat_map_single slot_code slots) takes-slots.0 in
     let takes-pointers = items_found bytes (pointer_at bytes) pointer 4 (pointer_found bytes fits) 4 (at + 20) (at + 36) pointers (plus at 20 16) read-pointers in
     let below = below_ok 64 (at + 36) (byte_at bytes (at + 36)) pairs read-pairs in
@@ -156,24 +173,27 @@ row_found bytes fits at next r e h =
     subst (λ (q : Row). Takes bytes at (row q) next) (ok_is read r h) (Takes-then (Takes-then (Takes-then takes-bounds.0 takes-states) takes-pointers.0) (Takes-then takes-pairs takes-unused)))))))
 
 -- a row of the right shape whose pointers lead into slots
-record Shape (r : Row) : Type 0 where
+record Shape (borrows : Bool) (r : Row) : Type 0 where
+  own : (borrows || list_all is_own r.slots) ≡ true
   bounds : length r.bounds ≡ 8
   slots : length r.slots ≡ 4
   four : length r.pointers ≡ 4
   pairs : length r.pairs ≡ 6
   legal : list_all is_pointer r.pointers ≡ true
 
-row_shape : (r : Row) → is_row r ≡ true → Shape r
-row_shape r h =
+row_shape : (borrows : Bool) (r : Row) → is_row borrows r ≡ true → Shape borrows r
+row_shape borrows r h =
     let bounds = length r.bounds == 8 in
     let slots = length r.slots == 4 in
     let four = length r.pointers == 4 in
     let pairs = length r.pairs == 6 in
-    let p = and_parts (bounds && slots && four && pairs) (list_all is_pointer r.pointers) h in
-    let q = and_parts (bounds && slots && four) pairs p.0 in
+    let own = borrows || list_all is_own r.slots in
+    let p = and_parts (own && (bounds && slots && four && pairs)) (list_all is_pointer r.pointers) h in
+    let o = and_parts own (bounds && slots && four && pairs) p.0 in
+    let q = and_parts (bounds && slots && four) pairs o.1 in
     let s = and_parts (bounds && slots) four q.0 in
     let t = and_parts bounds slots s.0 in
-    record { bounds = eqb-true _ _ t.0; slots = eqb-true _ _ t.1; four = eqb-true _ _ s.1; pairs = eqb-true _ _ q.1; legal = p.1 }
+    record { own = o.0; bounds = eqb-true _ _ t.0; slots = eqb-true _ _ t.1; four = eqb-true _ _ s.1; pairs = eqb-true _ _ q.1; legal = p.1 }
 
 -- what is known of each pointer
 both_all : (pointers : List (Option Pointer)) → list_all is_pointer pointers ≡ true → All PointerFits pointers → All (λ p. (is_pointer p ≡ true) × PointerFits p) pointers
@@ -183,10 +203,10 @@ both_all (p ∷ pointers) legal fits =
     All-cons (λ q. (is_pointer q ≡ true) × PointerFits q) p pointers (parts.0, All-head PointerFits p pointers fits) (both_all pointers parts.1 (All-tail PointerFits p pointers fits))
 
 -- a row that stands there is read
-pub row_again : (bytes : List ℕ) (at next : ℕ) (r : Row) (rest : List ℕ) → next ≡ at + 38 → is_row r ≡ true → RowFits r → Left bytes at (row r ++ rest) → (row_at bytes at ≡ Ok r) × Left bytes next rest
+pub row_again : (borrows : Bool) (bytes : List ℕ) (at next : ℕ) (r : Row) (rest : List ℕ) → next ≡ at + 38 → is_row borrows r ≡ true → RowFits r → Left bytes at (row r ++ rest) → (row_at borrows bytes at ≡ Ok r) × Left bytes next rest
 unfolding row_at
-row_again bytes at next r rest e legal fits l =
-    let shape = row_shape r legal in
+row_again borrows bytes at next r rest e legal fits l =
+    let shape = row_shape borrows r legal in
     let six = pairs_again r.pairs shape.pairs in
     let slot-texts : map slot_code r.slots ≡ flat_map slot_text r.slots = sym (flat_map_single slot_code r.slots) in
     let end = pairs_byte r.pairs ∷ 0 ∷ [] in
@@ -194,7 +214,7 @@ row_again bytes at next r rest e legal fits l =
     let one-kind = ap (λ (t : List ℕ). flat_map word r.bounds ++ (t ++ (flat_map pointer r.pointers ++ (end ++ rest)))) slot-texts in
     let left = Left-as (texts ∙ one-kind) l in
     let bounds = items_again bytes (word_at bytes) word 2 IsWord (word_again bytes) r.bounds 8 at (at + 16) _ shape.bounds refl fits.bounds left in
-    let slots = items_again bytes (slot_at bytes) slot_text 1 (λ _. Unit {0}) (slot_again bytes) r.slots 4 (at + 16) (at + 20) _ shape.slots (plus at 16 4) (λ k d lt. tt) bounds.1 in
+    let slots = items_again bytes (slot_at borrows bytes) slot_text 1 (λ s. (borrows || is_own s) ≡ true) (slot_again borrows bytes) r.slots 4 (at + 16) (at + 20) _ shape.slots (plus at 16 4) (each_own borrows r.slots shape.own) bounds.1 in
     let pointers = items_again bytes (pointer_at bytes) pointer 4 (λ p. (is_pointer p ≡ true) × PointerFits p) (pointer_again bytes) r.pointers 4 (at + 20) (at + 36) _ shape.four (plus at 20 16) (both_all r.pointers shape.legal fits.pointers) slots.1 in
     let pairs = byte_below_again 64 bytes (at + 36) (at + 37) (pairs_byte r.pairs) _ (plus at 36 1) six.0 pointers.1 in
     let unused = byte_below_again 1 bytes (at + 37) next 0 rest (e ∙ plus at 37 1) (lit< tt) pairs.1 in

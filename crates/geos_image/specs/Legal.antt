@@ -6,6 +6,8 @@ use Rattle.std.specs.Char.{is_ascii_alphabetic, is_ascii_alphanumeric}
 use Rattle.geos_image.specs.declared.instr.Instr.{Instr}
 use Rattle.geos_image.specs.declared.row.Row.{Row}
 use Rattle.geos_image.specs.declared.row.Pointer.{Pointer}
+use Rattle.geos_image.specs.declared.row.SlotState.{SlotState}
+use Rattle.geos_image.specs.declared.row.SlotState.TheVariants.{Vm}
 use Rattle.geos_image.specs.declared.routine.Routine.{Routine}
 use Rattle.geos_opcodes.specs.Facts.{operands_of, limit}
 use Rattle.geos_image.specs.declared.point.Point.{Point}
@@ -35,9 +37,14 @@ is_pointer (Some p) = nat_lt p.slot 4
 abbrev pub is_shaped : Row → Bool
 is_shaped row = length row.bounds == 8 && length row.slots == 4 && length row.pointers == 4 && length row.pairs == 6
 
--- a row of such a shape whose pointers lead into slots
-abbrev pub is_row : Row → Bool
-is_row row = is_shaped row && list_all is_pointer row.pointers
+-- the slot is not borrowed from a routine's caller
+abbrev pub is_own : SlotState → Bool
+is_own (Vm marked borrowed) = not borrowed
+is_own _ = true
+
+-- a row of such a shape whose pointers lead into slots; its slots may be borrowed or else may not
+abbrev pub is_row : Bool → Row → Bool
+is_row borrows row = (borrows || list_all is_own row.slots) && is_shaped row && list_all is_pointer row.pointers
 
 -- each field is below the limit of its operand, in an image with so many routines and
 -- instructions
@@ -52,17 +59,17 @@ is_instr routines instrs i =
     && nat_lt i.target (limit routines instrs fields.target)
 
 -- a row that is given is such a one
-abbrev pub is_given : Option Row → Bool
-is_given None = true
-is_given (Some row) = is_row row
+abbrev pub is_given : Bool → Option Row → Bool
+is_given borrows None = true
+is_given borrows (Some row) = is_row borrows row
 
 -- an instruction and a row that may stand in such an image
-abbrev pub is_point : ℕ → ℕ → Point → Bool
-is_point routines instrs point = is_instr routines instrs point.instr && is_given point.row
+abbrev pub is_point : Bool → ℕ → ℕ → Point → Bool
+is_point borrows routines instrs point = is_instr routines instrs point.instr && is_given borrows point.row
 
 -- the points are legal in each image in which the instructions are
-abbrev pub LegalWhere : List Instr → List Point → Type 0
-LegalWhere code points = (routines instrs : ℕ) → list_all (is_instr routines instrs) code ≡ true → list_all (is_point routines instrs) points ≡ true
+abbrev pub LegalWhere : Bool → List Instr → List Point → Type 0
+LegalWhere borrows code points = (routines instrs : ℕ) → list_all (is_instr routines instrs) code ≡ true → list_all (is_point borrows routines instrs) points ≡ true
 
 -- some routine has the name
 abbrev pub is_named : List ℕ → List Routine → Bool
@@ -70,18 +77,18 @@ is_named name routines = list_any (λ r. pointwise nat_eq r.name name) routines
 
 -- a routine behind those before it: its name is one, and none of theirs, and it has
 -- instructions
-abbrev pub is_routine : List Routine → Routine → Bool
-is_routine earlier r =
+abbrev pub is_routine : Bool → List Routine → Routine → Bool
+is_routine borrows earlier r =
     is_name r.name
     && not (is_named r.name earlier)
     && nat_lt 0 r.count
-    && is_row r.entry
-    && is_row r.exit
+    && is_row borrows r.entry
+    && is_row borrows r.exit
 
 -- each of the routines, behind those before it
-abbrev pub are_routines : List Routine → List Routine → Bool
-are_routines earlier [] = true
-are_routines earlier (r ∷ routines) = is_routine earlier r && are_routines (earlier ++ r ∷ []) routines
+abbrev pub are_routines : Bool → List Routine → List Routine → Bool
+are_routines borrows earlier [] = true
+are_routines borrows earlier (r ∷ routines) = is_routine borrows earlier r && are_routines borrows (earlier ++ r ∷ []) routines
 
 -- a row stands at each point that is flagged, and at no other
 abbrev pub rows_stand : List Bool → List Point → Bool
@@ -93,16 +100,21 @@ rows_stand (flag ∷ flags) (point ∷ points) = row_stands flag point.row && ro
 abbrev pub row_flags : Bool → List Routine → List Point → List Bool
 row_flags keyed routines points = if keyed then key_flags routines (instrs_of points) else replicate 4096 true
 
--- 1 to 32 routines, and a point for each of their instructions, at most 4,096, with the rows that the image is to give
-abbrev pub is_image : Parts → Bool
-is_image image =
+-- 1 to 32 routines, and a point for each of their instructions, at most 4,096, with the rows that the image is to
+-- give; slots may be borrowed or else may not
+abbrev pub is_formed : Bool → Parts → Bool
+is_formed borrows image =
     nat_lt 0 (length image.routines)
     && nat_le (length image.routines) 32
-    && are_routines [] image.routines
+    && are_routines borrows [] image.routines
     && nat_le (length image.points) 4096
     && total_count image.routines == length image.points
-    && list_all (is_point (length image.routines) (length image.points)) image.points
+    && list_all (is_point borrows (length image.routines) (length image.points)) image.points
     && rows_stand (row_flags image.keyed image.routines image.points) image.points
+
+-- so formed, with borrowed slots in version 2 alone
+abbrev pub is_image : Parts → Bool
+is_image image = is_formed image.keyed image
 
 -- the image that gives these rows at its key places, in their order
 abbrev pub keyed_parts : List Routine → List Point → List Row → Parts
@@ -113,10 +125,10 @@ abbrev pub is_keyed : List Routine → List Point → List Row → Bool
 is_keyed routines points rows = flag_count (key_flags routines (instrs_of points)) (instrs_of points) == length rows && is_image (keyed_parts routines points rows)
 
 -- routines and instructions that an image may have
-pub record IsCode (routines : List Routine) (instrs : List Instr) : Type 0 where
+pub record IsCode (borrows : Bool) (routines : List Routine) (instrs : List Instr) : Type 0 where
   pub some : 0 < length routines
   pub few : length routines ≤ 32
-  pub in_order : are_routines [] routines ≡ true
+  pub in_order : are_routines borrows [] routines ≡ true
   pub short : length instrs ≤ 4096
   pub counts : total_count routines ≡ length instrs
   pub fit : list_all (is_instr (length routines) (length instrs)) instrs ≡ true

@@ -16,7 +16,7 @@ use Rattle.geos_opcodes.specs.Facts.{opcode_of, operands_of, limit}
 use Rattle.geos_image.specs.declared.point.Point.{Point}
 use Rattle.geos_image.specs.Parts.{Parts, total_count}
 use Rattle.geos_image.specs.Keys.{key_flags, with_rows, flag_count}
-use Rattle.geos_image.specs.Legal.{is_name, is_named}
+use Rattle.geos_image.specs.Legal.{is_own, is_name, is_named}
 use Rattle.geos_image.specs.Spelling.{magic, slot_code}
 
 -- reading goes on with what was read, and stops at the first fault
@@ -98,17 +98,17 @@ instr_at routines instrs bytes at = do
 
 -- every state of a slot
 abbrev pub slot_states : List SlotState
-slot_states = Empty ∷ Mem ∷ Vm false ∷ Vm true ∷ Db false ∷ Db true ∷ []
+slot_states = Empty ∷ Mem ∷ Vm false false ∷ Vm true false ∷ Db false ∷ Db true ∷ Vm false true ∷ Vm true true ∷ []
 
--- the state that a byte spells
-abbrev pub slot_of : ℕ → Option SlotState
-slot_of code = find (λ state. slot_code state == code) slot_states
+-- the state that a byte spells, where slots may be borrowed or else may not
+abbrev pub slot_of : Bool → ℕ → Option SlotState
+slot_of borrows code = find (λ state. slot_code state == code && (borrows || is_own state)) slot_states
 
 -- the state of a slot
-unfoldable pub slot_at : List ℕ → ℕ → Result SlotState ℕ
-slot_at bytes at = do
+unfoldable pub slot_at : Bool → List ℕ → ℕ → Result SlotState ℕ
+slot_at borrows bytes at = do
   code ← byte_at bytes at
-  or_fault at (slot_of code)
+  or_fault at (slot_of borrows code)
 
 -- a pointer: its slot, 0, and the least length; slot 255 with length 0 is a stale one
 unfoldable pub pointer_at : List ℕ → ℕ → Result (Option Pointer) ℕ
@@ -123,11 +123,11 @@ pointer_at bytes at = do
 abbrev pub pairs_of : ℕ → List Bool
 pairs_of n = (n % 2 == 1) ∷ (n / 2 % 2 == 1) ∷ (n / 4 % 2 == 1) ∷ (n / 8 % 2 == 1) ∷ (n / 16 % 2 == 1) ∷ (n / 32 % 2 == 1) ∷ []
 
--- a row: eight bounds, four slots, four pointers, the pairs, and 0
-unfoldable pub row_at : List ℕ → ℕ → Result Row ℕ
-row_at bytes at = do
+-- a row: eight bounds, four slots, four pointers, the pairs, and 0; its slots may be borrowed or else may not
+unfoldable pub row_at : Bool → List ℕ → ℕ → Result Row ℕ
+row_at borrows bytes at = do
   bounds ← items_at (word_at bytes) 2 8 at
-  slots ← items_at (slot_at bytes) 1 4 (at + 16)
+  slots ← items_at (slot_at borrows bytes) 1 4 (at + 16)
   pointers ← items_at (pointer_at bytes) 4 4 (at + 20)
   pairs ← byte_below 64 bytes (at + 36)
   unused ← byte_below 1 bytes (at + 37)
@@ -154,28 +154,28 @@ count_at earlier bytes at = do
   Ok count
 
 -- a routine behind those before it
-unfoldable pub routine_at : List Routine → List ℕ → ℕ → Result Routine ℕ
-routine_at earlier bytes at = do
+unfoldable pub routine_at : Bool → List Routine → List ℕ → ℕ → Result Routine ℕ
+routine_at borrows earlier bytes at = do
   name ← name_at earlier bytes at
   public ← byte_below 2 bytes (at + 16)
   unused ← byte_below 1 bytes (at + 17)
   count ← count_at earlier bytes (at + 18)
   budget ← long_at bytes (at + 20)
-  entry ← row_at bytes (at + 24)
-  exit ← row_at bytes (at + 62)
+  entry ← row_at borrows bytes (at + 24)
+  exit ← row_at borrows bytes (at + 62)
   Ok (record { name = name; public = public == 1; count = count; budget = budget; entry = entry; exit = exit })
 
 -- so many more routines behind those before them
-unfoldable pub routines_at : List ℕ → ℕ → ℕ → List Routine → Result (List Routine) ℕ
-routines_at bytes zero at earlier = Ok earlier
-routines_at bytes (suc n) at earlier = do
-  r ← routine_at earlier bytes at
-  routines_at bytes n (at + 100) (earlier ++ r ∷ [])
+unfoldable pub routines_at : Bool → List ℕ → ℕ → ℕ → List Routine → Result (List Routine) ℕ
+routines_at borrows bytes zero at earlier = Ok earlier
+routines_at borrows bytes (suc n) at earlier = do
+  r ← routine_at borrows earlier bytes at
+  routines_at borrows bytes n (at + 100) (earlier ++ r ∷ [])
 
--- what the verifier is told at an instruction
+-- what the verifier is told at an instruction, in version 1
 unfoldable pub entry_at : List ℕ → ℕ → Result (Row × Potential) ℕ
 entry_at bytes at = do
-  row ← row_at bytes at
+  row ← row_at false bytes at
   potential ← potential_at bytes (at + 38)
   Ok (row, potential)
 
@@ -219,7 +219,7 @@ keyed_at bytes routines instrs at =
     let rows_from = at + 20 * length instrs in
     let end = rows_from + 38 * flag_count flags instrs in
     (bare_points_at bytes instrs at >>= λ points.
-    items_at (row_at bytes) 38 (flag_count flags instrs) rows_from >>= λ rows.
+    items_at (row_at true bytes) 38 (flag_count flags instrs) rows_from >>= λ rows.
     guard end (length bytes == end) >>= λ ended.
     Ok (record { keyed = true; routines = routines; points = with_rows flags points rows }))
 
@@ -232,7 +232,7 @@ rest_at true bytes routines instrs at = keyed_at bytes routines instrs at
 unfoldable pub image_at : List ℕ → Result Parts ℕ
 image_at bytes = do
   head ← header_at bytes
-  routines ← routines_at bytes head.1 8 []
+  routines ← routines_at head.0 bytes head.1 8 []
   instrs ← items_at (instr_at head.1 (total_count routines) bytes) 10 (total_count routines) (8 + 100 * head.1)
   rest_at head.0 bytes routines instrs (8 + 100 * head.1 + 10 * total_count routines)
 

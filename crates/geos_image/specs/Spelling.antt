@@ -34,11 +34,11 @@ flag true = 1
 abbrev pub instr : Instr → List ℕ
 instr i = (code_of i.opcode ∷ i.a ∷ i.b ∷ i.c ∷ i.d ∷ 0 ∷ []) ++ word i.imm ++ word i.target
 
--- the byte of a slot's state: one more where it is marked
+-- the byte of a slot's state: one more where it is marked, four more where it is borrowed
 abbrev pub slot_code : SlotState → ℕ
 slot_code Empty = 0
 slot_code Mem = 1
-slot_code (Vm marked) = 2 + flag marked
+slot_code (Vm marked borrowed) = 2 + flag marked + 4 * flag borrowed
 slot_code (Db marked) = 4 + flag marked
 
 -- slot, 0, then the word of the least length; a stale pointer is slot 255 with length 0

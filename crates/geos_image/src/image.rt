@@ -4,13 +4,13 @@ ghost use Rattle.std.specs.Prelude.{◌≡◌, ◌<◌, ◌≤◌, ◌+◌, ◌�
 ghost use Rattle.std.specs.List.{list_all};
 ghost use Rattle.geos_image.specs.declared.point.Point.{Point};
 ghost use Rattle.geos_image.specs.Parts.{Parts, start_of};
-ghost use Rattle.geos_image.specs.Legal.{is_image, are_routines, is_point, rows_stand, row_flags, keyed_parts, is_keyed};
-ghost use Rattle.geos_image.specs.Keys.{gives, is_key, branches, falls_through, keyed_of};
+ghost use Rattle.geos_image.specs.Legal.{is_image, is_formed, are_routines, is_point, rows_stand, row_flags, keyed_parts, is_keyed};
+ghost use Rattle.geos_image.specs.Keys.{gives, is_key, branches, falls_through};
 ghost use Rattle.geos_image.specs.Spelling.{version};
 ghost use Rattle.geos_image.specs.Fields.{FieldsFit, TargetFits, CalleeFits};
 
 use crate::instr::Instr;
-use crate::keys::{Flags, flag_count, keep_rows, keys_of, place_rows};
+use crate::keys::{Flags, flag_count, keys_of, place_rows};
 use crate::legal::{MOST_INSTRS, MOST_ROUTINES, is_point, is_routine, total_count};
 use crate::point::Point;
 use crate::potential::Potential;
@@ -42,23 +42,25 @@ impl Model for Image {
 }
 
 /// Whether each routine may stand behind those before it.
-fn are_routines(routines: &[Routine]) -> bool
-    ensures { result ≡ are_routines [] routines.now }
+fn are_routines(borrows: bool, routines: &[Routine]) -> bool
+    ensures { result ≡ are_routines borrows [] routines.now }
 {
     for (k, routine) in routines.iter().enumerate() {
-        if !is_routine(&routines[..k], routine) {
+        if !is_routine(borrows, &routines[..k], routine) {
             return false;
         }
     }
     true
 }
 
-fn are_points(routines: u32, points: &[Point]) -> bool
+fn are_points(borrows: bool, routines: u32, points: &[Point]) -> bool
     requires { length points.now ≤ MOST_INSTRS }
-    ensures { result ≡ list_all (is_point routines (length points.now)) points.now }
+    ensures { result ≡ list_all (is_point borrows routines (length points.now)) points.now }
 {
     let instrs = points.len() as u32;
-    points.iter().all(|point| is_point(routines, instrs, point))
+    points
+        .iter()
+        .all(|point| is_point(borrows, routines, instrs, point))
 }
 
 /// Whether a row stands at each point that is flagged, and at no other.
@@ -94,15 +96,16 @@ fn row_flags(keyed: bool, routines: &[Routine], points: &[Point]) -> Flags
     }
 }
 
-fn is_image(keyed: bool, routines: &[Routine], points: &[Point]) -> bool
-    ensures { result ≡ is_image (record { keyed = keyed; routines = routines.now; points = points.now }) }
+/// Whether these make an image. `borrows` says whether slots may be borrowed.
+pub(crate) fn is_formed(borrows: bool, keyed: bool, routines: &[Routine], points: &[Point]) -> bool
+    ensures { result ≡ is_formed borrows (record { keyed = keyed; routines = routines.now; points = points.now }) }
 {
     !routines.is_empty()
         && routines.len() <= usize::from(MOST_ROUTINES)
-        && are_routines(routines)
+        && are_routines(borrows, routines)
         && points.len() <= usize::from(MOST_INSTRS)
         && total_count(routines) as usize == points.len()
-        && are_points(routines.len() as u32, points)
+        && are_points(borrows, routines.len() as u32, points)
         && rows_stand(&row_flags(keyed, routines, points), points)
 }
 
@@ -120,7 +123,7 @@ impl Image {
         ensures some { IsSome result ↔ IsTrue (is_image (record { keyed = false; routines = routines.items; points = points.items })) }
         ensures value { IfSome result (λ image. image ≡ record { keyed = false; routines = routines.items; points = points.items }) }
     {
-        if is_image(false, &routines, &points) {
+        if is_formed(false, false, &routines, &points) {
             Some(Image {
                 keyed: false,
                 routines,
@@ -159,7 +162,7 @@ impl Image {
         }
         let mut points = points;
         place_rows(&flags, &mut points, &rows);
-        if is_image(true, &routines, &points) {
+        if is_formed(true, true, &routines, &points) {
             Some(Image {
                 keyed: true,
                 routines,
@@ -167,21 +170,6 @@ impl Image {
             })
         } else {
             None
-        }
-    }
-
-    /// The same image in version 2: of its rows it keeps those at key places. It takes no memory.
-    pub fn into_keyed(self) -> Image
-        ensures value { result ≡ keyed_of self }
-        ensures legal { is_image self ≡ true }
-    {
-        let flags = keys_of(&self.routines, &self.points);
-        let mut points = self.points;
-        keep_rows(&flags, &mut points);
-        Image {
-            keyed: true,
-            routines: self.routines,
-            points,
         }
     }
 

@@ -1,15 +1,15 @@
 //! The rules that routines and points keep within an image.
 
-ghost use Rattle.std.specs.Prelude.{◌≡◌, ◌<◌, ◌≤◌, ◌^◌, length, not, ◌==◌, IfSome};
+ghost use Rattle.std.specs.Prelude.{◌≡◌, ◌<◌, ◌≤◌, ◌^◌, ◌||◌, length, not, ◌==◌, IfSome};
 ghost use Rattle.std.specs.List.{list_all};
-ghost use Rattle.geos_image.specs.Legal.{is_name_byte, text_end, is_name, is_pointer, is_row, is_given, is_instr, is_point, is_named, is_routine};
+ghost use Rattle.geos_image.specs.Legal.{is_name_byte, text_end, is_name, is_own, is_pointer, is_row, is_given, is_instr, is_point, is_named, is_routine};
 ghost use Rattle.geos_image.specs.declared.point.Point.{Point};
 ghost use Rattle.geos_image.specs.Parts.{total_count};
 
 use crate::instr::Instr;
 use crate::point::Point;
 use crate::routine::Routine;
-use crate::row::{Pointer, Row};
+use crate::row::{Pointer, Row, SlotState};
 
 /// The most routines that an image has.
 pub const MOST_ROUTINES: u16 = 32;
@@ -81,16 +81,30 @@ fn is_pointer(pointer: &Option<Pointer>) -> bool
     }
 }
 
-fn is_row(row: &Row) -> bool
-    ensures { result ≡ is_row row.now }
+/// Whether no slot is borrowed from a routine's caller.
+fn are_own(slots: &[SlotState]) -> bool
+    ensures { result ≡ list_all is_own slots.now }
+{
+    slots.iter().all(|state| state.is_own())
+}
+
+/// Whether slots may be borrowed, or none is.
+fn may_borrow(borrows: bool, slots: &[SlotState]) -> bool
+    ensures { result ≡ borrows || list_all is_own slots.now }
+{
+    borrows || are_own(slots)
+}
+
+fn is_row(borrows: bool, row: &Row) -> bool
+    ensures { result ≡ is_row borrows row.now }
 {
     let Row {
         bounds: _,
-        slots: _,
+        slots,
         pointers,
         pairs: _,
     } = *row;
-    pointers.iter().all(is_pointer)
+    may_borrow(borrows, &slots) && pointers.iter().all(is_pointer)
 }
 
 fn is_instr(routines: u32, instrs: u32, instr: &Instr) -> bool
@@ -105,29 +119,30 @@ fn is_instr(routines: u32, instrs: u32, instr: &Instr) -> bool
         && u32::from(instr.target) < fields.target.limit(routines, instrs)
 }
 
-fn is_given(row: &Option<Row>) -> bool
-    ensures { result ≡ is_given row.now }
+fn is_given(borrows: bool, row: &Option<Row>) -> bool
+    ensures { result ≡ is_given borrows row.now }
 {
     match row {
-        Some(row) => is_row(row),
+        Some(row) => is_row(borrows, row),
         None => true,
     }
 }
 
-/// Whether a point may stand in an image with so many routines and instructions.
-pub(crate) fn is_point(routines: u32, instrs: u32, point: &Point) -> bool
-    ensures { result ≡ is_point routines instrs point.now }
+/// Whether a point may stand in an image with so many routines and instructions. `borrows` says whether slots may be
+/// borrowed.
+pub(crate) fn is_point(borrows: bool, routines: u32, instrs: u32, point: &Point) -> bool
+    ensures { result ≡ is_point borrows routines instrs point.now }
 {
-    is_instr(routines, instrs, &point.instr) && is_given(&point.row)
+    is_instr(routines, instrs, &point.instr) && is_given(borrows, &point.row)
 }
 
-/// Whether a routine may stand behind the earlier ones.
-pub(crate) fn is_routine(earlier: &[Routine], routine: &Routine) -> bool
-    ensures { result ≡ is_routine earlier.now routine.now }
+/// Whether a routine may stand behind the earlier ones. `borrows` says whether slots may be borrowed.
+pub(crate) fn is_routine(borrows: bool, earlier: &[Routine], routine: &Routine) -> bool
+    ensures { result ≡ is_routine borrows earlier.now routine.now }
 {
     is_name(&routine.name)
         && !is_named(&routine.name, earlier)
         && routine.count > 0
-        && is_row(&routine.entry)
-        && is_row(&routine.exit)
+        && is_row(borrows, &routine.entry)
+        && is_row(borrows, &routine.exit)
 }

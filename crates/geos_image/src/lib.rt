@@ -14,6 +14,7 @@ mod potential;
 mod reader;
 mod routine;
 mod row;
+mod whole;
 mod writer;
 
 pub use error::ReadError;
@@ -27,4 +28,5 @@ pub use potential::Potential;
 pub use reader::read;
 pub use routine::Routine;
 pub use row::{Pointer, Row, SlotState};
+pub use whole::Whole;
 pub use writer::write;

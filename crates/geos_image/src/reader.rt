@@ -1,6 +1,6 @@
 //! The image that bytes spell.
 
-ghost use Rattle.std.specs.Prelude.{◌≡◌, ◌<◌, ◌≤◌, ◌^◌, length, IfOk};
+ghost use Rattle.std.specs.Prelude.{◌≡◌, ◌<◌, ◌≤◌, ◌^◌, length, true, false, IfOk};
 ghost use Rattle.geos_image.specs.Reading.{image_at, whole_at, keyed_at, Gives};
 ghost use Rattle.geos_image.specs.Legal.{IsCode};
 ghost use Rattle.geos_image.specs.Spelling.{spelling};
@@ -31,7 +31,7 @@ fn whole_at(
 ) -> Result<Image, ReadError>
     requires place { at < 2 ^ 20 }
     requires short { length code.now ≤ MOST_INSTRS }
-    requires legal { IsCode routines.items code.now }
+    requires legal { IsCode false routines.items code.now }
     ensures { Gives (λ image. image) result (whole_at bytes.now routines.items code.now at) }
 {
     let points = points_at(alloc, bytes, code, at)?;
@@ -58,7 +58,7 @@ fn keyed_at(
 ) -> Result<Image, ReadError>
     requires place { at < 2 ^ 20 }
     requires short { length code.now ≤ MOST_INSTRS }
-    requires legal { IsCode routines.items code.now }
+    requires legal { IsCode true routines.items code.now }
     ensures { Gives (λ image. image) result (keyed_at bytes.now routines.items code.now at) }
 {
     let mut points = bare_at(alloc, bytes, code, at)?;
@@ -87,7 +87,7 @@ pub fn read(alloc: Global, bytes: &[u8]) -> Result<Image, ReadError>
     ensures exact { Gives (λ image. image) result (image_at bytes.now) }
 {
     let (keyed, count) = header_at(bytes)?;
-    let routines = routines_at(alloc, bytes, count)?;
+    let routines = routines_at(alloc, keyed, bytes, count)?;
     let instrs = total_count(&routines);
     let start = 8 + 100 * usize::from(count);
     let code = instrs_at(alloc, bytes, u32::from(count), instrs, start)?;

@@ -2,6 +2,7 @@
 
 ghost use Rattle.std.specs.Prelude.{◌≡◌};
 ghost use Rattle.geos_image.specs.Open.{open_row};
+ghost use Rattle.geos_image.specs.Legal.{is_own};
 ghost use Rattle.geos_image.specs.Spelling.{slot_code};
 ghost use Rattle.geos_image.specs.Reading.{slot_of};
 
@@ -12,20 +13,35 @@ pub enum SlotState {
     Empty,
     /// It holds a memory block.
     Mem,
-    /// It holds a VM block, which may be known to be marked as changed.
-    Vm { marked: bool },
+    /// It holds a VM block, which may be known to be marked as changed, and which the routine may have borrowed from its
+    /// caller.
+    Vm { marked: bool, borrowed: bool },
     /// It holds a DB group, which may be known to be marked as changed.
     Db { marked: bool },
 }
 
 /// Every state of a slot.
-const SLOT_STATES: [SlotState; 6] = [
+const SLOT_STATES: [SlotState; 8] = [
     SlotState::Empty,
     SlotState::Mem,
-    SlotState::Vm { marked: false },
-    SlotState::Vm { marked: true },
+    SlotState::Vm {
+        marked: false,
+        borrowed: false,
+    },
+    SlotState::Vm {
+        marked: true,
+        borrowed: false,
+    },
     SlotState::Db { marked: false },
     SlotState::Db { marked: true },
+    SlotState::Vm {
+        marked: false,
+        borrowed: true,
+    },
+    SlotState::Vm {
+        marked: true,
+        borrowed: true,
+    },
 ];
 
 impl SlotState {
@@ -36,19 +52,30 @@ impl SlotState {
         match self {
             SlotState::Empty => 0,
             SlotState::Mem => 1,
-            SlotState::Vm { marked } => 2 + u8::from(marked),
+            SlotState::Vm { marked, borrowed } => 2 + u8::from(marked) + 4 * u8::from(borrowed),
             SlotState::Db { marked } => 4 + u8::from(marked),
         }
     }
 
-    /// The state that the byte spells, if it spells one.
-    pub(crate) fn from_code(code: u8) -> Option<SlotState>
-        ensures { result ≡ slot_of code }
+    /// Whether it is not borrowed from a routine's caller.
+    pub fn is_own(self) -> bool
+        ensures { result ≡ is_own self }
     {
-        SLOT_STATES
-            .iter()
-            .copied()
-            .find(|state| state.code() == code)
+        match self {
+            SlotState::Vm {
+                marked: _,
+                borrowed,
+            } => !borrowed,
+            _ => true,
+        }
+    }
+
+    /// The state that the byte spells, if it spells one. `borrows` says whether a slot may be borrowed.
+    pub(crate) fn from_code(borrows: bool, code: u8) -> Option<SlotState>
+        ensures { result ≡ slot_of borrows code }
+    {
+        SLOT_STATES.iter().copied().find(|state| state.code() == code
+            && (borrows || state.is_own()))
     }
 }
 

@@ -23,4 +23,4 @@ lies image legal r routine there =
     let parts = image_parts image legal in
     let end = start_of-end image.routines r routine there in
     let counts = parts.counts in
-    (omega arith, (routine_parts [] image.routines r routine parts.routines there).count, parts.short)
+    (omega arith, (routine_parts image.keyed [] image.routines r routine parts.routines there).count, parts.short)

@@ -151,7 +151,7 @@ module _ (image : Parts) (has : HasAccepted image) (r : ℕ) (routine : Routine)
       let low : start_of has.other.routines r ≤ pc = subst (λ (routines : List Routine). start_of routines r ≤ pc) (sym has.same.routines) within.above in
       let high : pc < start_of has.other.routines (r + 1) = subst (λ (routines : List Routine). pc < start_of routines (r + 1)) (sym has.same.routines) within.below in
       let end = ends-at has.other.routines r routine there in
-      point_at has.other r routine pc has.checked.0 there (place_true (start_of has.other.routines r) routine.count pc low (omega (arith, high, end)))
+      point_at has.other.keyed has.other r routine pc has.checked.0 there (place_true (start_of has.other.routines r) routine.count pc low (omega (arith, high, end)))
 
   takes-here : (pc : ℕ) (old : Point) → slice_get image.points pc ≡ Some old → taken_at image pc ≡ 1 + call_steps image old.instr
   takes-here pc old read = rw (read, taken_at) refl
@@ -171,7 +171,7 @@ module _ (image : Parts) (has : HasAccepted image) (r : ℕ) (routine : Routine)
   edge-value pc to before after point false at leads counts =
       let same = same-instr pc leads.point point leads.there at.read in
       let falls : falls_through point.instr.opcode ≡ true = ap (λ (x : Instr). falls_through x.opcode) same ∙ leads.has in
-      let L = leads-along has.other has.checked.0 has.checked.1 r pc routine point at point.instr.opcode refl falls in
+      let L = leads-along has.other.keyed has.other has.checked.0 has.checked.1 r pc routine point at point.instr.opcode refl falls in
       let here = subst (λ (x : Instr). Counts image x x.opcode false before after) (sym same) counts in
       let paid = along-value image has.other point.instr point.instr.opcode point.row point.potential L.point.potential before after (touches-same image has.other has.same) (four-at (pc + 1) L.point L.has.read).four L.pays here in
       let taken = takes-here pc leads.point leads.there in
@@ -180,7 +180,7 @@ module _ (image : Parts) (has : HasAccepted image) (r : ℕ) (routine : Routine)
   edge-value pc to before after point true at leads counts =
       let same = same-instr pc leads.point point leads.there at.read in
       let goes : branches point.instr.opcode ≡ true = ap (λ (x : Instr). branches x.opcode) same ∙ leads.has in
-      let L = leads-branching has.other has.checked.0 has.checked.1 r pc routine point at point.instr.opcode refl goes in
+      let L = leads-branching has.other.keyed has.other has.checked.0 has.checked.1 r pc routine point at point.instr.opcode refl goes in
       let here = subst (λ (x : Instr). Counts image x x.opcode true before after) (sym same) counts in
       let paid = branching-value image has.other point.instr point.instr.opcode point.potential L.point.potential before after goes L.pays here in
       let taken = takes-here pc leads.point leads.there in
@@ -220,14 +220,14 @@ module _ (image : Parts) (has : HasAccepted image) (r : ℕ) (routine : Routine)
 
       by_end : (n : ℕ) → taken_at image pc ≡ 1 + n → call_steps has.other point.instr ≡ n → (returns point.instr.opcode ≡ true) ⊎ ((falls_through point.instr.opcode ≡ true) ⊎ (point.instr.opcode ≡ Jmp)) → taken_at image pc ≤ point.potential.constant
       by_end n taken calls_it (inl is) =
-          let paid = (may_return has.other has.checked.0 has.checked.1 r pc routine point at is).1 in
+          let paid = (may_return has.other.keyed has.other has.checked.0 has.checked.1 r pc routine point at is).1 in
           omega (arith, taken, calls_it, no-call point.instr.opcode is, paid)
       by_end n taken calls_it (inr (inl falls)) =
-          let L = leads-along has.other has.checked.0 has.checked.1 r pc routine point at point.instr.opcode refl falls in
+          let L = leads-along has.other.keyed has.other has.checked.0 has.checked.1 r pc routine point at point.instr.opcode refl falls in
           let paid = along-steps has.other point.instr point.instr.opcode point.row point.potential L.point.potential L.pays in
           omega (arith, taken, calls_it, paid)
       by_end n taken calls_it (inr (inr jumps)) =
-          let L = leads-branching has.other has.checked.0 has.checked.1 r pc routine point at Jmp jumps refl in
+          let L = leads-branching has.other.keyed has.other has.checked.0 has.checked.1 r pc routine point at Jmp jumps refl in
           let paid = pays-steps point.potential L.point.potential L.pays in
           let none : call_steps has.other point.instr ≡ 0 = ap (called has.other point.instr) jumps in
           omega (arith, taken, calls_it, none, paid)

@@ -103,12 +103,12 @@ module _ (o : Parts) (checked : IsChecked o) where
       → fits (edge_row o point.instr branch point.row) next.row ≡ true
   row-fits pc true point next read to edge at =
       let has = has-point o checked.0 pc point read in
-      let L = leads-branching o checked.0 checked.1 has.0 pc has.1 point has.2 point.instr.opcode refl edge.has in
+      let L = leads-branching o.keyed o checked.0 checked.1 has.0 pc has.1 point has.2 point.instr.opcode refl edge.has in
       let same : L.point ≡ next = same_Some L.point next (sym L.has.read ∙ ap (slice_get (places o)) edge.leads ∙ at) in
       subst (λ (x : Place). fits (row_branching point.instr point.instr.opcode point.row) x.row ≡ true) same L.fits
   row-fits pc false point next read to edge at =
       let has = has-point o checked.0 pc point read in
-      let L = leads-along o checked.0 checked.1 has.0 pc has.1 point has.2 point.instr.opcode refl edge.has in
+      let L = leads-along o.keyed o checked.0 checked.1 has.0 pc has.1 point has.2 point.instr.opcode refl edge.has in
       let same : L.point ≡ next = same_Some L.point next (sym L.has.read ∙ ap (slice_get (places o)) edge.leads ∙ at) in
       subst (λ (x : Place). fits (row_along o point.instr point.instr.opcode point.row) x.row ≡ true) same L.fits
 
@@ -116,12 +116,12 @@ module _ (o : Parts) (checked : IsChecked o) where
       → point.instr.opcode ≢ Loop → next.potential.constant + 1 + call_steps o point.instr ≤ point.potential.constant
   step-paid pc true point next read to edge at ne =
       let has = has-point o checked.0 pc point read in
-      let L = leads-branching o checked.0 checked.1 has.0 pc has.1 point has.2 point.instr.opcode refl edge.has in
+      let L = leads-branching o.keyed o checked.0 checked.1 has.0 pc has.1 point has.2 point.instr.opcode refl edge.has in
       let same : L.point ≡ next = same_Some L.point next (sym L.has.read ∙ ap (slice_get (places o)) edge.leads ∙ at) in
       subst (λ (x : Place). x.potential.constant + 1 + call_steps o point.instr ≤ point.potential.constant) same (branching-steps o point.instr point.instr.opcode point.potential L.point.potential ne edge.has L.pays)
   step-paid pc false point next read to edge at ne =
       let has = has-point o checked.0 pc point read in
-      let L = leads-along o checked.0 checked.1 has.0 pc has.1 point has.2 point.instr.opcode refl edge.has in
+      let L = leads-along o.keyed o checked.0 checked.1 has.0 pc has.1 point has.2 point.instr.opcode refl edge.has in
       let same : L.point ≡ next = same_Some L.point next (sym L.has.read ∙ ap (slice_get (places o)) edge.leads ∙ at) in
       subst (λ (x : Place). x.potential.constant + 1 + call_steps o point.instr ≤ point.potential.constant) same (along-steps o point.instr point.instr.opcode point.row point.potential L.point.potential L.pays)
 
@@ -149,11 +149,11 @@ module _ (o : Parts) (checked : IsChecked o) where
       where
         leads : (branch : Bool) (point : Place) → HasPoint o r routine pc point → Edge (instrs_of o) pc branch to point.instr → has_place (start_of o.routines r) routine.count to ≡ true
         leads true point has e =
-            let L = leads-branching o checked.0 checked.1 r pc routine point has point.instr.opcode refl e.has in
+            let L = leads-branching o.keyed o checked.0 checked.1 r pc routine point has point.instr.opcode refl e.has in
             let P : ℕ → Type 0 = λ n. has_place (start_of o.routines r) routine.count n ≡ true in
             subst P e.leads L.has.within
         leads false point has e =
-            let L = leads-along o checked.0 checked.1 r pc routine point has point.instr.opcode refl e.has in
+            let L = leads-along o.keyed o checked.0 checked.1 r pc routine point has point.instr.opcode refl e.has in
             let P : ℕ → Type 0 = λ n. has_place (start_of o.routines r) routine.count n ≡ true in
             subst P e.leads L.has.within
 
@@ -168,8 +168,8 @@ module _ (o : Parts) (checked : IsChecked o) where
       where
         entry_ : (other : Routine) (row : Row) → slice_get o.routines r ≡ Some other → (point : Place) × (slice_get (places o) (start_of o.routines r) ≡ Some point) × (row_at point ≡ row) → fits other.entry row ≡ true
         entry_ other row at_r (point, read, is) =
-            let has : HasPoint o r other (start_of o.routines r) point = record { there = at_r; within = begins-within o checked.0 r other at_r; read = read } in
-            subst (λ (x : Row). fits other.entry x ≡ true) is ((may_begin o checked.0 checked.1 r (start_of o.routines r) other point has refl).0)
+            let has : HasPoint o r other (start_of o.routines r) point = record { there = at_r; within = begins-within o.keyed o checked.0 r other at_r; read = read } in
+            subst (λ (x : Row). fits other.entry x ≡ true) is ((may_begin o.keyed o checked.0 checked.1 r (start_of o.routines r) other point has refl).0)
 
         edges_ : (pc to : ℕ) (branch : Bool) (i : Instr) (row next : Row) → Edge (instrs_of o) pc branch to i → (point : Place) × (slice_get (places o) pc ≡ Some point) × (row_at point ≡ row)
             → (point : Place) × (slice_get (places o) to ≡ Some point) × (row_at point ≡ next) → fits (edge_row o i branch row) next ≡ true
@@ -203,7 +203,7 @@ module _ (o : Parts) (checked : IsChecked o) where
       returns = λ pc i within there is. (
           let from = code-place o pc i there in
           let has = has-point o checked.0 pc from.0 from.1 in
-          rw (constant-at pc from.0 from.1) ((may_return o checked.0 checked.1 has.0 pc has.1 from.0 has.2 (ap (λ (x : Instr). returns x.opcode) from.2 ∙ is)).1)
+          rw (constant-at pc from.0 from.1) ((may_return o.keyed o checked.0 checked.1 has.0 pc has.1 from.0 has.2 (ap (λ (x : Instr). returns x.opcode) from.2 ∙ is)).1)
           );
       long = λ pc within.
           let room = lies o checked.0 r routine there in

@@ -15,7 +15,7 @@ use Rattle.geos_verify.specs.Rows.{slot_state, alike, are_alike, may_be_same}
 use Rattle.geos_verify.specs.Uses.{same_kind}
 use Rattle.geos_semantics.specs.Lists.{Each, Each2}
 use Rattle.geos_semantics.specs.State.{Held, owner_of, name_of, State, slot, same_name}
-use Rattle.geos_semantics.specs.Meets.{Meets, Sound, name_held, Differ, PairMeets, SlotIsSound, IsOfKind}
+use Rattle.geos_semantics.specs.Meets.{Base, Meets, Sound, name_held, Differ, PairMeets, SlotIsSound, IsOfKind}
 use Rattle.geos_semantics.proofs.Memories.{same_name-true}
 use Rattle.geos_semantics.proofs.NoFaults.{kind-known, slot-sound}
 
@@ -181,7 +181,7 @@ held-apart m (Some x) (Some y) name other is also held_o held_q same unlike =
     let second : name_of y ≡ other = cc in
     kinds-apart m x.kind y.kind x.handle y.handle is also (second ∙ same ∙ sym first) unlike
 
-pub not-same : (base : Name → ℕ) (s : State) (row : Row) (a b : ℕ) (name other : Name) → Sound base s → Meets s row → name_held (slot s a) ≡ Some name → name_held (slot s b) ≡ Some other
+pub not-same : (base : Base) (s : State) (row : Row) (a b : ℕ) (name other : Name) → Sound base s → Meets s row → name_held (slot s a) ≡ Some name → name_held (slot s b) ≡ Some other
     → may_be_same row a b ≡ false → same_name other name ≡ false
 not-same base s row a b name other S M held_a held_b may = go (same_name other name) refl
   where

@@ -8,13 +8,13 @@ use Rattle.geos_calls.proofs.LegalGiven.{memory-given, locks_of-given, block_of-
 use Rattle.geos_semantics.specs.State.{SlotReference, State}
 use Rattle.geos_semantics.specs.Model.{begun}
 use Rattle.geos_image.specs.declared.row.Row.{Row}
-use Rattle.geos_semantics.specs.Meets.{Meets, PointerIsSound, Sound, name_held}
+use Rattle.geos_semantics.specs.Meets.{Base, Meets, PointerIsSound, Sound, name_held}
 use Rattle.geos_semantics.proofs.Locking.{held-counts, holds-once-is}
 use Rattle.geos_semantics.proofs.Kept.{each-same}
 use Rattle.geos_semantics.proofs.Stays.{stays-given, slots-sound, slots-left}
 use Rattle.geos_semantics.proofs.Moments.{Moment}
 
-module _ (base : Name → ℕ) (s : State) (choice : Choice) (S : Sound base s) where
+module _ (base : Base) (s : State) (choice : Choice) (S : Sound base s) where
   -- a block that a slot holds is locked, and so it is given nothing
   held-locked : (k : ℕ) (name : Name) → name_held (get_or s.slots k None) ≡ Some name → 0 < locks_of s.memory name
   held-locked k name held = omega (arith, S.locks name, held-counts s.slots k name, holds-once-is name (get_or s.slots k None) held)
@@ -32,6 +32,7 @@ module _ (base : Name → ℕ) (s : State) (choice : Choice) (S : Sound base s) 
     none = S.none;
     words = S.words;
     four = S.four;
+    lends = S.lends;
     slots = slots-sound s.memory (given_memory choice.given s.memory) s.slots (λ k held e. stays-given choice.given s.memory held) S.slots;
     locks = λ name. locks_of-given choice.given s.memory name ∙ S.locks name;
     pointers = each-same (PointerIsSound s.memory s.slots) (PointerIsSound (given_memory choice.given s.memory) s.slots) pointer-begun s.pointers S.pointers;

@@ -28,7 +28,7 @@ use Rattle.geos_calls.proofs.Outcomes.{after-kept}
 use Rattle.geos_semantics.specs.State.{Held, owner_of, name_of, SlotReference, State, slot, kept_pointer, kept_pointers}
 use Rattle.geos_semantics.specs.Faults.{is_vm, holds_of_file}
 use Rattle.geos_semantics.specs.Model.{calls, nowhere}
-use Rattle.geos_semantics.specs.Meets.{Meets, Sound, name_held, PointerIsSound, holds_once, holds}
+use Rattle.geos_semantics.specs.Meets.{Base, Meets, Sound, name_held, PointerIsSound, holds_once, holds}
 use Rattle.geos_semantics.proofs.Stays.{Stays, HeldStay, slots-sound, slots-left}
 use Rattle.geos_semantics.proofs.Kept.{Leaves, each-map, kept-nothing}
 use Rattle.geos_verify.proofs.Leads.{Leads}
@@ -78,7 +78,7 @@ name-mem (Some held) name free e =
     let back = ap (λ (n : Name). n.h) (sym here ∙ same) in
     sym same ∙ here ∙ ap mem back
 
-module _ (base : Name → ℕ) (s : State) (row : Row) (S : Sound base s) (M : Meets s row) (a : ℕ) (free : list_any holds_of_file s.slots ≡ false) where
+module _ (base : Base) (s : State) (row : Row) (S : Sound base s) (M : Meets s row) (a : ℕ) (free : list_any holds_of_file s.slots ≡ false) where
   -- no block of the file is locked
   none-locked : NoneLocked s.memory
   none-locked h = omega (arith, S.locks (vm h), S.none h, none-held s.slots h free)
@@ -91,6 +91,7 @@ module _ (base : Name → ℕ) (s : State) (row : Row) (S : Sound base s) (M : M
       words = S.words;
       memory = legal;
       four = S.four;
+      lends = S.lends;
       slots = slots-sound s.memory new s.slots stay S.slots;
       locks = λ name. locks name ∙ S.locks name;
       pointers = each-map (PointerIsSound s.memory s.slots) (PointerIsSound new s.slots) (kept_pointer a Nothing) pointer-beside s.pointers S.pointers;
@@ -104,13 +105,13 @@ module _ (base : Name → ℕ) (s : State) (row : Row) (S : Sound base s) (M : M
       block-same : (h : ℕ) → block_of new (mem h) ≡ block_of s.memory (mem h)
       block-same h = ap (λ entries. at_handle None entries h) blocks
 
-      stay-mem : (h : ℕ) → Stays s.memory new (record { kind = MemBlock; handle = h })
+      stay-mem : (h : ℕ) → Stays s.memory new (record { kind = MemBlock; handle = h; borrowed = false })
       stay-mem h = record { is = λ k. rw (block-same h) k; mark = λ k. refl }
 
       stay : HeldStay s.memory new s.slots
       stay k held e =
           let here : held.kind ≡ MemBlock = held-mem held (ap holds_of_file (sym e) ∙ slot-free s.slots k free) in
-          subst (λ kind. Stays s.memory new (record { kind = kind; handle = held.handle })) (sym here) (stay-mem held.handle)
+          subst (λ kind. Stays s.memory new (record { kind = kind; handle = held.handle; borrowed = false })) (sym here) (stay-mem held.handle)
 
       pointer-beside : (p : Option SlotReference) → PointerIsSound s.memory s.slots p → PointerIsSound new s.slots (kept_pointer a Nothing p)
       pointer-beside None k = tt

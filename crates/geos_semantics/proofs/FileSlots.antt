@@ -40,7 +40,7 @@ use Rattle.geos_semantics.specs.Lists.{Each2}
 use Rattle.geos_semantics.specs.State.{Held, owner_of, SlotReference, State, word, with_word, slot, kind_at, name_in, name_at, kept_pointers}
 use Rattle.geos_semantics.specs.Faults.{is_unmarked_block}
 use Rattle.geos_semantics.specs.Model.{holding, leading, marking}
-use Rattle.geos_semantics.specs.Meets.{Meets, Sound, SlotMeets, IsOfKind, SlotIsSound, name_held}
+use Rattle.geos_semantics.specs.Meets.{Base, Meets, Sound, SlotMeets, IsOfKind, SlotIsSound, name_held}
 use Rattle.geos_semantics.proofs.Lists.{each2-get, each2-set}
 use Rattle.geos_semantics.proofs.Memories.{same_name-is}
 use Rattle.geos_semantics.proofs.NoFaults.{slot-sound, word-small}
@@ -90,10 +90,10 @@ marked-owned m owner.Vm h e = ap not e
 
 -- of a slot whose block was marked its mark is known
 slot-marked : (m : Memory) (o : Option Held) (x : SlotState) → SlotMeets m o x → is_marked m (name_in o).h ≡ true → SlotMeets m o (marked_state x)
-slot-marked m None (Vm marked) k e = absurd k
+slot-marked m None (Vm marked borrowed) k e = absurd k
 slot-marked m None (Db marked) k e = absurd k
-slot-marked m (Some held) (Vm marked) k e = (k.0, λ is. marked-owned m (owner_of held.kind) held.handle e)
-slot-marked m (Some held) (Db marked) k e = (k.0, λ is. marked-owned m (owner_of held.kind) held.handle e)
+slot-marked m (Some held) (Vm marked borrowed) k e = (k.0, k.1, λ is. marked-owned m (owner_of held.kind) held.handle e)
+slot-marked m (Some held) (Db marked) k e = (k.0, k.1, λ is. marked-owned m (owner_of held.kind) held.handle e)
 slot-marked m _ _ k e = k
 
 leaves-marked : (a : ℕ) (m : Memory) (h : ℕ) → IsMemory (with_mark m h true) → Leaves a Nothing m (with_mark m h true)
@@ -105,7 +105,7 @@ leaves-marked a m h legal = record {
 }
 
 -- a block that a slot holds was marked
-fine-marked : (base : Name → ℕ) (s : State) (row : Row) (i : Instr) (kind : Kind) → Sound base s → Meets s row → is_none (listed_at s.memory (name_at s i.a).h) ≡ false → IsMemory (with_mark s.memory (name_at s i.a).h true)
+fine-marked : (base : Base) (s : State) (row : Row) (i : Instr) (kind : Kind) → Sound base s → Meets s row → is_none (listed_at s.memory (name_at s i.a).h) ≡ false → IsMemory (with_mark s.memory (name_at s i.a).h true)
     → Fine base s (record s { memory = with_mark s.memory (name_at s i.a).h true; pointers = kept_pointers i.a Nothing s.pointers }) (record row { slots = slots_after i (Marks kind) row.slots })
 fine-marked base s row i kind S M listed legal =
     let h = (name_at s i.a).h in
@@ -134,9 +134,9 @@ fine-marked base s row i kind S M listed legal =
 
 -- a block of the VM file that is held
 abbrev held_vm : ℕ → Held
-held_vm h = record { kind = VmBlock; handle = h }
+held_vm h = record { kind = VmBlock; handle = h; borrowed = false }
 
-new-into : (base : Name → ℕ) (s : State) (uid : ℕ) → (uid == group_uid) ≡ false → IsMemory (with_new s.memory uid 1) → locks_of (with_new s.memory uid 1) (new_vm s.memory) ≡ 1
+new-into : (base : Base) (s : State) (uid : ℕ) → (uid == group_uid) ≡ false → IsMemory (with_new s.memory uid 1) → locks_of (with_new s.memory uid 1) (new_vm s.memory) ≡ 1
     → LocksInto base s (held_vm (new_vm s.memory).h) (with_new s.memory uid 1)
 new-into base s uid plain legal once =
     let m = s.memory in
@@ -145,6 +145,7 @@ new-into base s uid plain legal once =
     let none : listed_at m h ≡ None = lowest-none m.file.cur.blocks in
     let was : locks_of m (new_vm m) ≡ 0 = ap locks_in (new-free m) in
     record {
+      own = refl;
       legal = legal;
       is = (
         locked-some (block_of new (new_vm m)) once,
@@ -160,7 +161,7 @@ new-into base s uid plain legal once =
 
 -- a group that is held
 abbrev held_group : ℕ → Held
-held_group h = record { kind = DbGroup; handle = h }
+held_group h = record { kind = DbGroup; handle = h; borrowed = false }
 
 module _ (moment : Moment) where
   open moment use {image, base, state as s, good as G}
@@ -181,7 +182,7 @@ module _ (moment : Moment) where
       let once = rows_leave.counts (Vnew uid) choice m tt e in
       let marked = rows_leave.marks (Vnew uid) choice m tt e in
       let L = new-into base s uid pass.0 legal_after once in
-      let F = fine-made base s G.point.row G.sound G.meets i a (held_vm h) (with_new m uid 1) empty (new-free m) L (refl, λ known. ap not marked) in
+      let F = fine-made base s G.point.row G.sound G.meets i a (held_vm h) (with_new m uid 1) empty (new-free m) L (refl, refl, λ known. ap not marked) in
       let small = new-small m G.sound.memory in
       fine-word base s _ _ i.b h 65535 F small small)
       refl
@@ -207,7 +208,7 @@ module _ (moment : Moment) where
       let own = none-behind (no_group m g ∷ locks_full m (vm g) ∷ bringing choice m g) (deref (vm g) item i.imm choice m).refusals e in
       let led = refer-led choice m (vm g) (Deref item i.imm) G.sound.memory own in
       let legal_after = after-kept (ilock g item i.imm choice m) (rows_keep_memory.by_ilock g item i.imm choice m G.sound.memory) e in
-      let L = locks-into base s (held_group g) (group-some (listed_at m g) group, group) legal_after in
+      let L = locks-into base s (held_group g) refl (group-some (listed_at m g) group, group) legal_after in
       let F = fine-locked base s G.point.row G.sound G.meets i a (held_group g) _ empty L in
       let target : SlotReference = record { slot = i.a; reference = (ilock g item i.imm choice m).answer } in
       let held : name_held (get_or (set s.slots i.a (Some (held_group g))) i.a None) ≡ Some (vm g) = ap name_held (get_or-set_same s.slots i.a (Some (held_group g)) None (omega (arith, a, G.sound.four))) in

@@ -16,7 +16,7 @@ use Rattle.geos_opcodes.specs.declared.uses.SlotUse.TheVariants.{Moves}
 use Rattle.geos_verify.specs.Rows.{with_bound, may_be_same, pointers_kept, stale_where}
 use Rattle.geos_semantics.specs.Lists.{Each2}
 use Rattle.geos_semantics.specs.State.{SlotReference, State, with_word, slot, with_pointer, kept_pointer, kept_pointers}
-use Rattle.geos_semantics.specs.Meets.{Meets, Sound, PointerMeets, name_held, IsInChunk, PointerIsSound}
+use Rattle.geos_semantics.specs.Meets.{Base, Meets, Sound, PointerMeets, name_held, IsInChunk, PointerIsSound}
 use Rattle.geos_semantics.proofs.Lists.{each2-set}
 use Rattle.geos_semantics.proofs.Memories.{same_name-true, chunks_at-other, chunks_at-same, locks_of-chunks, names, names-apart, chunk-kept}
 use Rattle.geos_semantics.proofs.Stays.{stays-mapped, slots-left}
@@ -27,7 +27,7 @@ use Rattle.geos_semantics.proofs.Rows.{meets-word}
 
 -- a state that control comes to within a routine: sound, as the row says, and with what belongs
 -- to control as it was
-pub record Fine (base : Name → ℕ) (s t : State) (row : Row) : Type 0 where
+pub record Fine (base : Base) (s t : State) (row : Row) : Type 0 where
   pub sound : Sound base t
   pub meets : Meets t row
   pub routine : t.routine ≡ s.routine
@@ -35,9 +35,9 @@ pub record Fine (base : Name → ℕ) (s t : State) (row : Row) : Type 0 where
   pub counters : t.counters ≡ s.counters
 
 -- a word is written, within the bound that is known of it and that of all words
-pub fine-word : (base : Name → ℕ) (s t : State) (row : Row) (a v n : ℕ) → Fine base s t row → v ≤ n → v ≤ 65535 → Fine base s (with_word a v t) (with_bound a n row)
+pub fine-word : (base : Base) (s t : State) (row : Row) (a v n : ℕ) → Fine base s t row → v ≤ n → v ≤ 65535 → Fine base s (with_word a v t) (with_bound a n row)
 fine-word base s t row a v n F le small = record {
-  sound = record { none = F.sound.none; words = each-set (λ n. n ≤ 65535) t.words a v F.sound.words small; memory = F.sound.memory; four = F.sound.four; slots = F.sound.slots; locks = F.sound.locks; pointers = F.sound.pointers };
+  sound = record { none = F.sound.none; words = each-set (λ n. n ≤ 65535) t.words a v F.sound.words small; memory = F.sound.memory; four = F.sound.four; lends = F.sound.lends; slots = F.sound.slots; locks = F.sound.locks; pointers = F.sound.pointers };
   meets = meets-word t row a v n F.meets le;
   routine = F.routine;
   stack = F.stack;
@@ -48,7 +48,7 @@ fine-word base s t row a v n F le small = record {
 abbrev chunks_written : Memory → Reference → ℕ → List ℕ → List (Option (List ℕ))
 chunks_written m ref at ws = with_bytes (chunks_at m ref.name) ref.chunk (with_part (bytes_of (chunks_at m ref.name) ref.chunk) (ref.start + at) ws)
 
-module _ (base : Name → ℕ) (s : State) (row : Row) (S : Sound base s) (M : Meets s row) where
+module _ (base : Base) (s : State) (row : Row) (S : Sound base s) (M : Meets s row) where
   -- after a call that makes nothing stale
   pub fine-nothing : (a : ℕ) (new : Memory) → Leaves a Nothing s.memory new → Fine base s (record s { memory = new; pointers = kept_pointers a Nothing s.pointers }) row
   fine-nothing a new L = record {
@@ -129,7 +129,7 @@ module _ (base : Name → ℕ) (s : State) (row : Row) (S : Sound base s) (M : M
       ]
 
 -- a pointer is set to bytes of a chunk of the block that a slot holds
-pub fine-pointing : (base : Name → ℕ) (s t : State) (row : Row) (p : ℕ) (target : SlotReference) (least : ℕ) → Fine base s t row → PointerIsSound t.memory t.slots (Some target) → least ≤ target.reference.len
+pub fine-pointing : (base : Base) (s t : State) (row : Row) (p : ℕ) (target : SlotReference) (least : ℕ) → Fine base s t row → PointerIsSound t.memory t.slots (Some target) → least ≤ target.reference.len
     → Fine base s (with_pointer p (Some target) t) (record row { pointers = set row.pointers p (Some (record { slot = target.slot; least = least })) })
 fine-pointing base s t row p target least F sound le = record {
   sound = record {
@@ -137,6 +137,7 @@ fine-pointing base s t row p target least F sound le = record {
     none = F.sound.none;
     words = F.sound.words;
     four = F.sound.four;
+    lends = F.sound.lends;
     slots = F.sound.slots;
     locks = F.sound.locks;
     pointers = each-set (PointerIsSound t.memory t.slots) t.pointers p (Some target) F.sound.pointers sound;

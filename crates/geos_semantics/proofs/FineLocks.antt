@@ -18,8 +18,8 @@ use Rattle.geos_opcodes.specs.declared.uses.Kind.TheVariants.{MemBlock}
 use Rattle.geos_opcodes.specs.declared.uses.SlotUse.TheVariants.{LocksNew, Locks, Unlocks}
 use Rattle.geos_verify.specs.Rows.{pairs_after, pointers_kept, slots_after, stale_where, slot_state, holds_kind, held_state}
 use Rattle.geos_semantics.specs.Lists.{Each2}
-use Rattle.geos_semantics.specs.State.{Held, name_of, SlotReference, State, slot, same_name, kept_pointer, kept_pointers}
-use Rattle.geos_semantics.specs.Meets.{Meets, Sound, SlotMeets, PointerMeets, name_held, IsOfKind, SlotIsSound, PointerIsSound}
+use Rattle.geos_semantics.specs.State.{is_borrowed, Held, name_of, SlotReference, State, slot, same_name, kept_pointer, kept_pointers}
+use Rattle.geos_semantics.specs.Meets.{Base, Meets, Sound, SlotMeets, PointerMeets, name_held, IsOfKind, SlotIsSound, PointerIsSound}
 use Rattle.geos_semantics.proofs.Lists.{each2-set}
 use Rattle.geos_semantics.proofs.Memories.{same_name-true, block_of-other, locks_of-set, locks_of-other, chunks_at-locked, lowest-free}
 use Rattle.geos_semantics.proofs.Stays.{Stays, kind-some, kind-there, stays-from, stays-mapped, slots-left, meets-held}
@@ -34,12 +34,13 @@ none-some None e h = absurd cc
 none-some (Some x) e h = absurd cc
 
 -- memory after one lock more
-pub locks-into : (base : Name → ℕ) (s : State) (locked : Held) → IsOfKind s.memory locked.kind (name_of locked) → IsMemory (with_locks s.memory (name_of locked) (locks_of s.memory (name_of locked) + 1))
+pub locks-into : (base : Base) (s : State) (locked : Held) → locked.borrowed ≡ false → IsOfKind s.memory locked.kind (name_of locked) → IsMemory (with_locks s.memory (name_of locked) (locks_of s.memory (name_of locked) + 1))
     → LocksInto base s locked (with_locks s.memory (name_of locked) (locks_of s.memory (name_of locked) + 1))
-locks-into base s locked is legal =
+locks-into base s locked own is legal =
     let name = name_of locked in
     let n = locks_of s.memory name + 1 in
     record {
+      own = own;
       legal = legal;
       is = (stays-mapped s.memory (locked_block n) name locked).is is;
       once = locks_of-set s.memory name n (kind-there s.memory locked.kind name is);
@@ -62,7 +63,7 @@ new_block = record { locks = 1; heap = new_heap }
 
 -- a block of global memory that is held
 abbrev pub held_mem : ℕ → Held
-held_mem h = record { kind = MemBlock; handle = h }
+held_mem h = record { kind = MemBlock; handle = h; borrowed = false }
 
 -- what slots know stays so where a block of global memory is made
 stays-made : (m : Memory) (h : ℕ) → block_of m (mem h) ≡ None → (held : Held) → Stays m (with_block m (mem h) (Some new_block)) held
@@ -72,12 +73,13 @@ stays-made m h free held =
     refl refl
 
 -- memory after a block was made and locked
-pub makes-into : (base : Name → ℕ) (s : State) (h : ℕ) → lowest_handle s.memory owner.Mem ≡ Some h → IsMemory (with_block s.memory (mem h) (Some new_block)) → LocksInto base s (held_mem h) (with_block s.memory (mem h) (Some new_block))
+pub makes-into : (base : Base) (s : State) (h : ℕ) → lowest_handle s.memory owner.Mem ≡ Some h → IsMemory (with_block s.memory (mem h) (Some new_block)) → LocksInto base s (held_mem h) (with_block s.memory (mem h) (Some new_block))
 makes-into base s h lowest legal =
     let free = lowest-free s.memory h (Some new_block) lowest in
     let was : locks_of s.memory (mem h) ≡ 0 = ap locks_in free.0 in
     let now : locks_of (with_block s.memory (mem h) (Some new_block)) (mem h) ≡ 1 = ap locks_in free.1 in
     record {
+      own = refl;
       legal = legal;
       is = there-some (block_of (with_block s.memory (mem h) (Some new_block)) (mem h)) (ap is_none free.1);
       once = omega (arith, was, now);
@@ -100,7 +102,7 @@ unlocks s name there legal =
       chunks = λ ref h. record { bytes = h.bytes; there = rw (chunks_at-locked s.memory name ref.name n) h.there; fits = h.fits };
     }
 
-module _ (base : Name → ℕ) (s : State) (row : Row) (S : Sound base s) (M : Meets s row) (i : Instr) (within : i.a < 4) where
+module _ (base : Base) (s : State) (row : Row) (S : Sound base s) (M : Meets s row) (i : Instr) (within : i.a < 4) where
   -- a slot that held nothing holds a block, as is known of it
   locked-slots : (locked : Held) (state : SlotState) (new : Memory) → LocksInto base s locked new → SlotMeets new (Some locked) state → Each2 (SlotMeets new) (set s.slots i.a (Some locked)) (set row.slots i.a state)
   locked-slots locked state new L known = each2-set (SlotMeets new) s.slots row.slots i.a (Some locked) state (slots-left s.memory new s.slots row.slots (λ k held e. L.held held) M.slots) known
@@ -113,7 +115,7 @@ module _ (base : Name → ℕ) (s : State) (row : Row) (S : Sound base s) (M : M
     sound = sound-locked base s i.a locked new S within empty L;
     meets = record {
       words = M.words;
-      slots = locked-slots locked (held_state locked.kind false) new L (meets-held new locked);
+      slots = locked-slots locked (held_state locked.kind false) new L (meets-held new locked L.own);
       pointers = kept-nothing i.a s.pointers row.pointers M.pointers;
       pairs = pairs-without s.slots i.a (Some locked) row.pairs M.pairs;
     };
@@ -154,11 +156,11 @@ module _ (base : Name → ℕ) (s : State) (row : Row) (S : Sound base s) (M : M
       one p q sound m = pointer-kept i.a (OfLock name) (λ b. b == i.a) p q (λ target is r known slot_is test. rw slot_is test) m
 
   -- a lock is given back, and the slot is empty
-  pub fine-unlocked : (kind : Kind) (name : Name) (new : Memory) → name_held (slot s i.a) ≡ Some name → GivesBack s name new
+  pub fine-unlocked : (kind : Kind) (name : Name) (new : Memory) → name_held (slot s i.a) ≡ Some name → is_borrowed (slot s i.a) ≡ false → GivesBack s name new
       → Fine base s (record s { memory = new; slots = set s.slots i.a None; pointers = kept_pointers i.a (OfLock name) s.pointers })
       (record row { slots = slots_after i (Unlocks kind) row.slots; pointers = pointers_kept i (Unlocks kind) row; pairs = pairs_after i (Unlocks kind) row })
-  fine-unlocked kind name new full U = record {
-    sound = sound-unlocked base s i.a name new S within full U;
+  fine-unlocked kind name new full own U = record {
+    sound = sound-unlocked base s i.a name new S within full own U;
     meets = record {
       words = M.words;
       slots = each2-set (SlotMeets new) s.slots row.slots i.a None Empty (slots-left s.memory new s.slots row.slots (λ k held e. U.held held) M.slots) tt;
@@ -171,7 +173,7 @@ module _ (base : Name → ℕ) (s : State) (row : Row) (S : Sound base s) (M : M
   }
 
 -- a block that no one holds is freed
-pub fine-freed : (base : Name → ℕ) (s : State) (row : Row) (S : Sound base s) (M : Meets s row) (a : ℕ) (name : Name) (new : Memory) → locks_of s.memory name ≡ 0 → IsMemory new → LeavesOthers (OneBlock name) s.memory new → locks_of new name ≡ 0
+pub fine-freed : (base : Base) (s : State) (row : Row) (S : Sound base s) (M : Meets s row) (a : ℕ) (name : Name) (new : Memory) → locks_of s.memory name ≡ 0 → IsMemory new → LeavesOthers (OneBlock name) s.memory new → locks_of new name ≡ 0
     → Fine base s (record s { memory = new; pointers = kept_pointers a Nothing s.pointers }) row
 fine-freed base s row S M a name new free legal L gone = record {
   sound = sound-freed base s a name new S free legal L gone;

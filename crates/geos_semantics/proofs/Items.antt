@@ -21,7 +21,7 @@ use Rattle.geos_verify.specs.Rows.{alike, slot_state, holds_kind, pointers_kept,
 use Rattle.geos_semantics.specs.Lists.{Each2}
 use Rattle.geos_semantics.specs.State.{Held, owner_of, name_of, SlotReference, State, slot, same_name, is_made_stale, kept_pointer, kept_pointers}
 use Rattle.geos_semantics.specs.Faults.{is_unmarked_block}
-use Rattle.geos_semantics.specs.Meets.{Meets, Sound, PointerMeets, name_held, SlotIsSound, PointerIsSound}
+use Rattle.geos_semantics.specs.Meets.{Base, Meets, Sound, PointerMeets, name_held, SlotIsSound, PointerIsSound}
 use Rattle.geos_semantics.proofs.Memories.{same_name-true, chunks_at-other, locks_of-chunks, names-apart}
 use Rattle.geos_semantics.proofs.Stays.{Stays, kind-from, stays-mapped, slots-left}
 use Rattle.geos_semantics.proofs.Kept.{Leaves, sound-left, pointer-kept, each2-map}
@@ -110,13 +110,13 @@ not-in-group a m g o target is held unlike = by (is_group m g) refl
 
     apart : is_group m g ≡ true → (b : Bool) → same_name name (vm g) ≡ b → b ≡ false
     apart group false e = refl
-    apart group true e = absurd (held-apart m (Some (record { kind = DbGroup; handle = g })) o (vm g) name (group-some (listed_at m g) group, group) is refl held (same_name-true name (vm g) e) unlike)
+    apart group true e = absurd (held-apart m (Some (record { kind = DbGroup; handle = g; borrowed = false })) o (vm g) name (group-some (listed_at m g) group, group) is refl held (same_name-true name (vm g) e) unlike)
 
     by : (b : Bool) → is_group m g ≡ b → is_made_stale a (cond b (InBlock (vm g)) Nothing) target ≡ false
     by false group = refl
     by true group = apart group (same_name name (vm g)) refl
 
-module _ (base : Name → ℕ) (s : State) (row : Row) (S : Sound base s) (M : Meets s row) (i : Instr) (g : ℕ) where
+module _ (base : Base) (s : State) (row : Row) (S : Sound base s) (M : Meets s row) (i : Instr) (g : ℕ) where
   -- what is known of pointers after items of a group may have moved
   regrouped-pointers : Each2 PointerMeets (kept_pointers i.a (in_group s.memory g) s.pointers) (pointers_kept i MovesGroup row)
   regrouped-pointers = each2-map (PointerIsSound s.memory s.slots) PointerMeets PointerMeets (kept_pointer i.a (in_group s.memory g)) (stale_where (λ b. holds_kind DbGroup (slot_state row b))) one s.pointers row.pointers S.pointers M.pointers

@@ -9,7 +9,7 @@ use Rattle.geos_image.specs.declared.row.Pointer.{Pointer}
 use Rattle.geos_verify.specs.Rows.{stale_where}
 use Rattle.geos_semantics.specs.Lists.{Each, Each2}
 use Rattle.geos_semantics.specs.State.{Held, SlotReference, State, is_made_stale, kept_pointer, kept_pointers}
-use Rattle.geos_semantics.specs.Meets.{PointerMeets, IsInChunk, PointerIsSound, Sound}
+use Rattle.geos_semantics.specs.Meets.{Base, PointerMeets, IsInChunk, PointerIsSound, Sound}
 use Rattle.geos_semantics.proofs.Stays.{Stays, stays-same, slots-sound}
 
 -- a fact of each element is one of each changed element
@@ -57,13 +57,14 @@ pointer-left a stale old new slots L (Some target) h = go (is_made_stale a stale
     go false e = (h.0, L.chunks target e h.1)
 
 -- such a call leaves a sound state sound
-pub sound-left : (base : Name → ℕ) (s : State) (a : ℕ) (stale : Staleness) (new : Memory) → Sound base s → Leaves a stale s.memory new
+pub sound-left : (base : Base) (s : State) (a : ℕ) (stale : Staleness) (new : Memory) → Sound base s → Leaves a stale s.memory new
     → Sound base (record s { memory = new; pointers = kept_pointers a stale s.pointers })
 sound-left base s a stale new S L = record {
   memory = L.legal;
   none = S.none;
   words = S.words;
   four = S.four;
+  lends = S.lends;
   slots = slots-sound s.memory new s.slots (λ k held e. L.held held) S.slots;
   locks = λ name. L.locks name ∙ S.locks name;
   pointers = each-map (PointerIsSound s.memory s.slots) (PointerIsSound new s.slots) (kept_pointer a stale) (pointer-left a stale s.memory new s.slots L) s.pointers S.pointers;

@@ -30,3 +30,4 @@ pub mod CommitSteps
 pub mod Steps
 pub mod Ends
 pub mod Runs
+pub mod Lending

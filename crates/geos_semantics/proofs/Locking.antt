@@ -11,8 +11,8 @@ use Rattle.geos_calls.specs.Legal.{IsMemory}
 use Rattle.geos_calls.specs.Effects.{Reference, Nothing, OfLock}
 use Rattle.geos_calls.specs.Leaving.{OneBlock, LeavesOthers}
 use Rattle.geos_semantics.specs.Lists.{Each}
-use Rattle.geos_semantics.specs.State.{Held, name_of, SlotReference, State, slot, same_name, kept_pointer, kept_pointers}
-use Rattle.geos_semantics.specs.Meets.{name_held, IsOfKind, SlotIsSound, IsInChunk, PointerIsSound, holds_once, holds, Sound}
+use Rattle.geos_semantics.specs.State.{is_borrowed, Held, name_of, SlotReference, State, slot, same_name, kept_pointer, kept_pointers}
+use Rattle.geos_semantics.specs.Meets.{lent_in, lent, Base, name_held, IsOfKind, SlotIsSound, IsInChunk, PointerIsSound, holds_once, holds, Sound}
 use Rattle.geos_semantics.proofs.Memories.{same_name-true, same_name-is, names}
 use Rattle.geos_semantics.proofs.Stays.{Stays, HeldStay, block_of-beside, stays-beside, slots-sound}
 use Rattle.geos_semantics.proofs.Kept.{each-map}
@@ -21,6 +21,17 @@ pub each-set : {X : Type 0} (P : X → Type 0) (xs : List X) (k : ℕ) (x : X) �
 each-set P [] k x h new = tt
 each-set P (y ∷ ys) zero x h new = (new, h.1)
 each-set P (y ∷ ys) (suc k) x h new = (h.0, each-set P ys k x h.1 new)
+
+-- what is borrowed, once a slot has another content of which the same is borrowed
+pub lent-set : (slots : List (Option Held)) (a : ℕ) (new : Option Held) → lent_in new ≡ lent_in (get_or slots a None) → lent (set slots a new) ≡ lent slots
+lent-set [] a new e = refl
+lent-set (x ∷ xs) zero new e = ap (λ (o : Option Name). o ∷ lent xs) e
+lent-set (x ∷ xs) (suc a) new e = ap (λ (os : List (Option Name)). lent_in x ∷ os) (lent-set xs a new e)
+
+-- nothing is borrowed in a slot that is not
+pub lent-none : (held : Option Held) → is_borrowed held ≡ false → lent_in held ≡ None
+lent-none None e = refl
+lent-none (Some held) e = ap (λ b. cond b (Some (name_of held)) None) e
 
 -- how many slots hold a block, once a slot has another content
 pub holds-set : (slots : List (Option Held)) (a : ℕ) (new : Option Held) (name : Name) → a < length slots
@@ -54,7 +65,8 @@ leads-there m ref h = go (block_of m ref.name) refl
 
 -- A block that is locked once more into an empty slot, or made and locked
 
-pub record LocksInto (base : Name → ℕ) (s : State) (locked : Held) (new : Memory) : Type 0 where
+pub record LocksInto (base : Base) (s : State) (locked : Held) (new : Memory) : Type 0 where
+  pub own : locked.borrowed ≡ false
   pub legal : IsMemory new
   pub is : IsOfKind new locked.kind (name_of locked)
   pub once : locks_of new (name_of locked) ≡ locks_of s.memory (name_of locked) + 1
@@ -66,7 +78,7 @@ pub there-some : {X : Type 0} (o : Option X) → is_none o ≡ false → IsSome 
 there-some None h = absurd cc
 there-some (Some x) h = refl
 
-module _ (base : Name → ℕ) (s : State) (a : ℕ) (locked : Held) (new : Memory) (S : Sound base s) (within : a < 4) (empty : slot s a ≡ None) (L : LocksInto base s locked new) where
+module _ (base : Base) (s : State) (a : ℕ) (locked : Held) (new : Memory) (S : Sound base s) (within : a < 4) (empty : slot s a ≡ None) (L : LocksInto base s locked new) where
   pointer-locked : (p : Option SlotReference) → PointerIsSound s.memory s.slots p → PointerIsSound new (set s.slots a (Some locked)) (kept_pointer a Nothing p)
   pointer-locked None k = tt
   pointer-locked (Some target) k = (ap name_held (get_or-set_other s.slots a target.slot (Some locked) None apart) ∙ k.0, L.chunks target.reference k.1)
@@ -74,7 +86,7 @@ module _ (base : Name → ℕ) (s : State) (a : ℕ) (locked : Held) (new : Memo
       apart : target.slot ≢ a
       apart e = (let none : name_held (get_or s.slots target.slot None) ≡ None = rw e (ap name_held empty) in let both : None ≡ Some target.reference.name = sym none ∙ k.0 in absurd cc)
 
-  locks-locked : (name : Name) → locks_of new name ≡ base name + holds (set s.slots a (Some locked)) name
+  locks-locked : (name : Name) → locks_of new name ≡ base.locks name + holds (set s.slots a (Some locked)) name
   locks-locked name =
       let more = holds-set s.slots a (Some locked) name (omega (arith, S.four, within)) in
       let none : holds_once name (get_or s.slots a None) ≡ 0 = ap (holds_once name) empty in
@@ -98,6 +110,7 @@ module _ (base : Name → ℕ) (s : State) (a : ℕ) (locked : Held) (new : Memo
     none = S.none;
     words = S.words;
     four = length-set s.slots a (Some locked) ∙ S.four;
+    lends = lent-set s.slots a (Some locked) (lent-none (Some locked) L.own ∙ sym (ap lent_in empty)) ∙ S.lends;
     slots = each-set (SlotIsSound new) s.slots a (Some locked) (slots-sound s.memory new s.slots (λ k held e. L.held held) S.slots) L.is;
     locks = locks-locked;
     pointers = each-map (PointerIsSound s.memory s.slots) (PointerIsSound new (set s.slots a (Some locked))) (kept_pointer a Nothing) pointer-locked s.pointers S.pointers;
@@ -112,7 +125,7 @@ pub record GivesBack (s : State) (name : Name) (new : Memory) : Type 0 where
   pub held : (held : Held) → Stays s.memory new held
   pub chunks : (ref : Reference) → IsInChunk s.memory ref → IsInChunk new ref
 
-module _ (base : Name → ℕ) (s : State) (a : ℕ) (name : Name) (new : Memory) (S : Sound base s) (within : a < 4) (full : name_held (slot s a) ≡ Some name) (U : GivesBack s name new) where
+module _ (base : Base) (s : State) (a : ℕ) (name : Name) (new : Memory) (S : Sound base s) (within : a < 4) (full : name_held (slot s a) ≡ Some name) (own : is_borrowed (slot s a) ≡ false) (U : GivesBack s name new) where
   -- the block is locked, by this slot at least
   pub is-locked : 1 ≤ locks_of s.memory name
   is-locked = omega (arith, S.locks name, held-counts s.slots a name, holds-once-is name (get_or s.slots a None) full)
@@ -125,7 +138,7 @@ module _ (base : Name → ℕ) (s : State) (a : ℕ) (name : Name) (new : Memory
       go true e = tt
       go false e = (ap name_held (get_or-set_other s.slots a target.slot None None (eqb-false target.slot a e)) ∙ k.0, U.chunks target.reference k.1)
 
-  locks-unlocked : (other : Name) → locks_of new other ≡ base other + holds (set s.slots a None) other
+  locks-unlocked : (other : Name) → locks_of new other ≡ base.locks other + holds (set s.slots a None) other
   locks-unlocked other =
       let less = holds-set s.slots a None other (omega (arith, S.four, within)) in
       elim (names name other) [
@@ -152,6 +165,7 @@ module _ (base : Name → ℕ) (s : State) (a : ℕ) (name : Name) (new : Memory
     none = S.none;
     words = S.words;
     four = length-set s.slots a None ∙ S.four;
+    lends = lent-set s.slots a None (sym (lent-none (slot s a) own)) ∙ S.lends;
     slots = each-set (SlotIsSound new) s.slots a None (slots-sound s.memory new s.slots (λ k held e. U.held held) S.slots) tt;
     locks = locks-unlocked;
     pointers = each-map (PointerIsSound s.memory s.slots) (PointerIsSound new (set s.slots a None)) (kept_pointer a (OfLock name)) pointer-unlocked s.pointers S.pointers;
@@ -159,7 +173,7 @@ module _ (base : Name → ℕ) (s : State) (a : ℕ) (name : Name) (new : Memory
 
 -- A block that is freed is held by no slot
 
-module _ (base : Name → ℕ) (s : State) (a : ℕ) (name : Name) (new : Memory) (S : Sound base s) (free : locks_of s.memory name ≡ 0) (legal : IsMemory new) (L : LeavesOthers (OneBlock name) s.memory new) (gone : locks_of new name ≡ 0) where
+module _ (base : Base) (s : State) (a : ℕ) (name : Name) (new : Memory) (S : Sound base s) (free : locks_of s.memory name ≡ 0) (legal : IsMemory new) (L : LeavesOthers (OneBlock name) s.memory new) (gone : locks_of new name ≡ 0) where
   -- no slot holds it
   none-holds : (k : ℕ) → name_held (get_or s.slots k None) ≡ Some name → ⊥
   none-holds k e = (let one = holds-once-is name (get_or s.slots k None) e in let most = held-counts s.slots k name in absurd (omega (arith, one, most, S.locks name, free)))
@@ -174,7 +188,7 @@ module _ (base : Name → ℕ) (s : State) (a : ℕ) (name : Name) (new : Memory
       let same = block_of-beside name s.memory new L target.reference.name (λ e. none-holds target.slot (k.0 ∙ ap Some (sym e))) in
       (k.0, record { bytes = k.1.bytes; there = rw (ap chunks_in same) k.1.there; fits = k.1.fits })
 
-  locks-freed : (other : Name) → locks_of new other ≡ base other + holds s.slots other
+  locks-freed : (other : Name) → locks_of new other ≡ base.locks other + holds s.slots other
   locks-freed other = elim (names name other) [
     | inl is ↦ (
         let same = same_name-true name other is in
@@ -191,6 +205,7 @@ module _ (base : Name → ℕ) (s : State) (a : ℕ) (name : Name) (new : Memory
     none = S.none;
     words = S.words;
     four = S.four;
+    lends = S.lends;
     slots = slots-sound s.memory new s.slots held-stay S.slots;
     locks = locks-freed;
     pointers = each-map (PointerIsSound s.memory s.slots) (PointerIsSound new s.slots) (kept_pointer a Nothing) pointer-freed s.pointers S.pointers;

@@ -114,7 +114,7 @@ module _ (moment : Moment) where
       let own = own_counter opcode is counting in
       let now_owed = now moment in
       let same = kept-set image root s.routine G.frames s.counters k v G.chain own.0 own.1 in
-      came moment (with_counter k v s) to G.point.row paid L (record { none = G.sound.none; words = G.sound.words; memory = G.sound.memory; four = G.sound.four; slots = G.sound.slots; locks = G.sound.locks; pointers = G.sound.pointers })
+      came moment (with_counter k v s) to G.point.row paid L (record { none = G.sound.none; words = G.sound.words; memory = G.sound.memory; four = G.sound.four; lends = G.sound.lends; slots = G.sound.slots; locks = G.sound.locks; pointers = G.sound.pointers })
       (record { words = G.meets.words; slots = G.meets.slots; pointers = G.meets.pointers; pairs = G.meets.pairs }) refl refl
       (omega (arith, now_owed, same, le))
 
@@ -152,7 +152,7 @@ module _ (moment : Moment) where
       go : (o : Option Refusal) → Well moment (answer G.point.instr o s (record s { output = s.output ++ word s G.point.instr.a ∷ [] }))
       go None =
           fine-goes moment (record s { output = s.output ++ word s G.point.instr.a ∷ [] }) (s.pc + 1) G.point.row (along_edge moment op.Out is refl) (record {
-            sound = record { none = G.sound.none; words = G.sound.words; memory = G.sound.memory; four = G.sound.four; slots = G.sound.slots; locks = G.sound.locks; pointers = G.sound.pointers };
+            sound = record { none = G.sound.none; words = G.sound.words; memory = G.sound.memory; four = G.sound.four; lends = G.sound.lends; slots = G.sound.slots; locks = G.sound.locks; pointers = G.sound.pointers };
             meets = record { words = G.meets.words; slots = G.meets.slots; pointers = G.meets.pointers; pairs = G.meets.pairs };
             routine = refl;
             stack = refl;

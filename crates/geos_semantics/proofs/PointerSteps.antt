@@ -135,6 +135,7 @@ module _ (moment : Moment) where
           none = G.sound.none;
           words = G.sound.words;
           four = G.sound.four;
+          lends = G.sound.lends;
           slots = G.sound.slots;
           locks = G.sound.locks;
           pointers = each-set (PointerIsSound s.memory s.slots) s.pointers i.a (pointer s i.b) G.sound.pointers (pointer-sound base s i.b G.sound);

@@ -10,7 +10,7 @@ use Rattle.geos_image.specs.declared.row.Pointer.{Pointer}
 use Rattle.geos_image.specs.declared.row.SlotState.{SlotState}
 use Rattle.geos_image.specs.declared.row.SlotState.TheVariants.{Empty, Mem, Vm, Db}
 use Rattle.geos_verify.specs.Lists.{all2}
-use Rattle.geos_verify.specs.Rows.{bound, with_bound, or_any, mark_fits, slot_fits, pointer_fits, pair_fits, fits}
+use Rattle.geos_verify.specs.Rows.{same_flag, bound, with_bound, or_any, mark_fits, slot_fits, pointer_fits, pair_fits, fits}
 use Rattle.geos_calls.specs.Memory.{Memory}
 use Rattle.geos_verify.specs.Pairs.{slot_pairs}
 use Rattle.geos_semantics.specs.State.{Held, SlotReference, State, word, with_word}
@@ -24,10 +24,12 @@ mark-known false wanted e is = absurd cc
 slot-meets : (m : Memory) (h : Option Held) (x y : SlotState) → SlotMeets m h x → slot_fits x y ≡ true → SlotMeets m h y
 slot-meets m h Empty Empty k e = k
 slot-meets m h Mem Mem k e = k
-slot-meets m None (Vm marked) (Vm wanted) k e = k
-slot-meets m (Some held) (Vm marked) (Vm wanted) k e = (k.0, λ is. k.1 (mark-known marked wanted e is))
+slot-meets m None (Vm marked borrowed) (Vm wanted lent) k e = k
+slot-meets m (Some held) (Vm marked borrowed) (Vm wanted lent) k e =
+    let parts = and_parts (mark_fits marked wanted) (same_flag borrowed lent) e in
+    (k.0, k.1 ∙ flag-is borrowed lent parts.1, λ is. k.2 (mark-known marked wanted parts.0 is))
 slot-meets m None (Db marked) (Db wanted) k e = k
-slot-meets m (Some held) (Db marked) (Db wanted) k e = (k.0, λ is. k.1 (mark-known marked wanted e is))
+slot-meets m (Some held) (Db marked) (Db wanted) k e = (k.0, k.1, λ is. k.2 (mark-known marked wanted e is))
 slot-meets m h _ _ k e = absurd cc
 
 pointer-meets : (x : Option SlotReference) (y z : Option Pointer) → PointerMeets x y → pointer_fits y z ≡ true → PointerMeets x z

@@ -156,8 +156,8 @@ slots-sound old new (None ∷ slots) stay h = (tt, slots-sound old new slots (λ
 slots-sound old new (Some held ∷ slots) stay h = ((stay 0 held refl).is h.0, slots-sound old new slots (λ k other e. stay (suc k) other e) h.1)
 
 slot-left : (old new : Memory) (o : Option Held) (x : SlotState) → ((held : Held) → o ≡ Some held → Stays old new held) → SlotMeets old o x → SlotMeets new o x
-slot-left old new (Some held) (Vm marked) stay k = (k.0, λ is. (stay held refl).mark (k.1 is))
-slot-left old new (Some held) (Db marked) stay k = (k.0, λ is. (stay held refl).mark (k.1 is))
+slot-left old new (Some held) (Vm marked borrowed) stay k = (k.0, k.1, λ is. (stay held refl).mark (k.2 is))
+slot-left old new (Some held) (Db marked) stay k = (k.0, k.1, λ is. (stay held refl).mark (k.2 is))
 slot-left old new _ _ stay k = k
 
 pub slots-left : (old new : Memory) (slots : List (Option Held)) (states : List SlotState) → HeldStay old new slots → Each2 (SlotMeets old) slots states → Each2 (SlotMeets new) slots states
@@ -166,11 +166,11 @@ slots-left old new [] (y ∷ ys) stay h = absurd h
 slots-left old new (x ∷ xs) [] stay h = absurd h
 slots-left old new (x ∷ xs) (y ∷ ys) stay h = (slot-left old new x y (λ held e. stay 0 held e) h.0, slots-left old new xs ys (λ k held e. stay (suc k) held e) h.1)
 
--- a block of a kind is what a row says of a slot that holds one, of which no mark is known
-pub meets-held : (m : Memory) (held : Held) → SlotMeets m (Some held) (held_state held.kind false)
-meets-held m held = by held.kind refl
+-- a block of a kind that is not borrowed is what a row says of a slot that holds one, of which no mark is known
+pub meets-held : (m : Memory) (held : Held) → held.borrowed ≡ false → SlotMeets m (Some held) (held_state held.kind false)
+meets-held m held own = by held.kind refl
   where
     by : (kind : Kind) → held.kind ≡ kind → SlotMeets m (Some held) (held_state kind false)
-    by block.MemBlock e = e
-    by block.VmBlock e = (e, λ is. absurd (let x : false ≡ true = is in cc))
-    by block.DbGroup e = (e, λ is. absurd (let x : false ≡ true = is in cc))
+    by block.MemBlock e = (e, own)
+    by block.VmBlock e = (e, own, λ is. absurd (let x : false ≡ true = is in cc))
+    by block.DbGroup e = (e, own, λ is. absurd (let x : false ≡ true = is in cc))

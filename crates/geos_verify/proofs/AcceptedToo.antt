@@ -17,8 +17,8 @@ use Rattle.geos_image.proofs.Kept.{kept-instrs, kept-length, keyed-legal, keyed-
 use Rattle.geos_verify.specs.Lists.{all2}
 use Rattle.geos_verify.specs.declared.place.Place.{Place}
 use Rattle.geos_verify.specs.Places.{places}
-use Rattle.geos_verify.specs.Rows.{fits, bound, at_point, is_plain}
-use Rattle.geos_verify.specs.Rules.{HasPoint, IsChecked, Accepted, refusal, returns, entry_misfits, call_misfits, edge_unpaid, unpaid_along, unpaid_branching}
+use Rattle.geos_verify.specs.Rows.{fits, bound, at_point, may_enter, may_leave}
+use Rattle.geos_verify.specs.Rules.{HasPoint, IsAcceptable, Accepted, refusal, returns, entry_misfits, call_misfits, edge_unpaid, unpaid_along, unpaid_branching}
 use Rattle.geos_verify.specs.Touched.{counts, calls, points_of, touches_here, touches_within, touched_by}
 use Rattle.geos_verify.specs.Potentials.{pays_branching, is_paid, asked_along, are_spent, pays_along}
 use Rattle.geos_verify.specs.Kept.{KeptIsAccepted}
@@ -99,7 +99,7 @@ paid-there image to old new step h = go (key_flags image.routines (instrs_of ima
     go (flag ∷ flags) (point ∷ points) zero h = step point.potential h
     go (flag ∷ flags) (point ∷ points) (suc to) h = go flags points to h
 
-module _ (image : Parts) (checked : IsChecked image) (all : image.keyed ≡ false) (r : ℕ) (routine : Routine) (pc : ℕ) (p : Place) (has : HasPoint image r routine pc p) where
+module _ (image : Parts) (checked : IsAcceptable image) (all : image.keyed ≡ false) (r : ℕ) (routine : Routine) (pc : ℕ) (p : Place) (has : HasPoint image r routine pc p) where
   abbrev start : ℕ
   start = start_of image.routines r
 
@@ -114,10 +114,10 @@ module _ (image : Parts) (checked : IsChecked image) (all : image.keyed ≡ fals
       let R = K.row in
       let pass = passes image checked all r routine pc p has in
       let stand = may_stand-mono image r routine i R p.row K.fit (stands image checked all r routine pc p has) in
-      let entry : entry_misfits routine start pc R ≡ false = not-both (pc == start) (not (fits routine.entry R) || (routine.public && not (is_plain routine.entry && is_plain routine.exit))) (λ here.
+      let entry : entry_misfits routine start pc R ≡ false = not-both (pc == start) (not (fits routine.entry R) || (routine.public && not (may_enter routine.entry && may_leave routine.entry routine.exit))) (λ here.
       let at = eqb-true pc start here in
       let given = start-given image checked.0 all r routine p has.there (ap (slice_get (places image)) (sym at) ∙ has.read) in
-      subst (λ (x : Row). (not (fits routine.entry x) || (routine.public && not (is_plain routine.entry && is_plain routine.exit))) ≡ false) (sym (K.same (subst (λ k. gives (keyed_of image) k ≡ true) (sym at) given))) (and-false (pc == start) _ pass.entry here)) in
+      subst (λ (x : Row). (not (fits routine.entry x) || (routine.public && not (may_enter routine.entry && may_leave routine.entry routine.exit))) ≡ false) (sym (K.same (subst (λ k. gives (keyed_of image) k ≡ true) (sym at) given))) (and-false (pc == start) _ pass.entry here)) in
       let call : call_misfits (keyed_of image) r i R ≡ false = stand.call in
       let edges = edges-pass image checked all r routine pc p has C in
       let paid = or_parts _ (returns i.opcode && p.potential.constant == 0) pass.paid in
@@ -139,7 +139,7 @@ module _ (image : Parts) (checked : IsChecked image) (all : image.keyed ≡ fals
       subst (λ (x : Place). refusal (keyed_of image) r routine start pc x ≡ None) (same-place made q (sym C.known.there ∙ read)) (refuses-none C)
 
 -- so no rule refuses at any place
-accepted-whole : (image : Parts) → IsChecked image → image.keyed ≡ false → Accepted (keyed_of image)
+accepted-whole : (image : Parts) → IsAcceptable image → image.keyed ≡ false → Accepted (keyed_of image)
 accepted-whole image checked all r pc routine q has_q =
     let keyed = keyed_of image in
     let lt : pc < length image.points = omega (arith, found-within (places keyed) pc q has_q.read, places-length keyed, kept-length (key_flags image.routines (instrs_of image.points)) image.points) in

@@ -9,6 +9,7 @@ use Rattle.geos_opcodes.specs.declared.opcode.Opcode.TheVariants as op
 use Rattle.geos_opcodes.specs.declared.facts.Yields.{Yields}
 use Rattle.geos_opcodes.specs.declared.facts.Yields.TheVariants.{Computed}
 use Rattle.geos_image.specs.declared.instr.Instr.{Instr}
+use Rattle.geos_image.specs.Legal.{is_own}
 use Rattle.geos_image.specs.declared.row.Row.{Row}
 use Rattle.geos_image.specs.declared.row.Pointer.{Pointer}
 use Rattle.geos_image.specs.declared.row.SlotState.{SlotState}
@@ -67,7 +68,7 @@ stay-marked (s ∷ slots) zero zero h = one s h
     one : (s : SlotState) → is_empty s ≡ false → is_empty (marked_state s) ≡ false
     one Empty h = absurd (false≢true (sym h))
     one Mem h = refl
-    one (Vm m) h = refl
+    one (Vm m b) h = refl
     one (Db m) h = refl
 stay-marked (s ∷ slots) zero (suc k) h = h
 stay-marked (s ∷ slots) (suc a) zero h = h
@@ -191,7 +192,7 @@ used-clean i opcode row fields h held =
     }
 
 misuse-slots : (i : Instr) (slot : SlotUse) (r s : Row) → r.slots ≡ s.slots → misuses_slot i slot s ≡ false → misuses_slot i slot r ≡ false
-misuse-slots i (Unlocks kind) r s e h = subst (λ (xs : List SlotState). not (holds_kind kind (get_or xs i.a Empty)) ≡ false) (sym e) h
+misuse-slots i (Unlocks kind) r s e h = subst (λ (xs : List SlotState). (not (holds_kind kind (get_or xs i.a Empty)) || not (is_own (get_or xs i.a Empty))) ≡ false) (sym e) h
 misuse-slots i (Marks kind) r s e h = subst (λ (xs : List SlotState). not (holds_kind kind (get_or xs i.a Empty)) ≡ false) (sym e) h
 misuse-slots i Compares r s e h = subst (λ (xs : List SlotState). (is_empty (get_or xs i.a Empty) || not (are_alike (get_or xs i.a Empty) (get_or xs i.b Empty))) ≡ false) (sym e) h
 misuse-slots i Moves r s e h = subst (λ (xs : List SlotState). is_empty (get_or xs i.a Empty) ≡ false) (sym e) h

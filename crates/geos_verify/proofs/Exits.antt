@@ -20,7 +20,7 @@ use Rattle.geos_verify.specs.declared.place.Place.{Place}
 use Rattle.geos_verify.specs.Rows.{slot_fits, pointer_fits, fits, bound, is_empty, leads_nowhere}
 use Rattle.geos_verify.specs.Potentials.{asks, asks_setting, asks_calling, left_with, is_paid, budget_of, are_spent, pays_along}
 use Rattle.geos_verify.specs.Touched.{touched_by}
-use Rattle.geos_verify.specs.Rules.{HasPoint, IsChecked, returns, names_empty_slot, tests}
+use Rattle.geos_verify.specs.Rules.{HasPoint, IsAcceptable, returns, names_empty_slot, tests}
 use Rattle.geos_verify.proofs.Passed.{passed}
 use Rattle.geos_verify.proofs.RowsFit.{fitting, empty-at}
 use Rattle.geos_verify.proofs.Passing.{neither}
@@ -67,7 +67,7 @@ ends-so Ret e = inr refl
 ends-so Jmp e = inl refl
 ends-so _ e = absurd cc
 
-module _ (image : Parts) (checked : IsChecked image) (r : ℕ) (routine : Routine) where
+module _ (image : Parts) (checked : IsAcceptable image) (r : ℕ) (routine : Routine) where
   -- at a place that does not return, control goes on where fewer steps are left
   abbrev GoesOn : Place → Type 0
   GoesOn p = (returns p.instr.opcode ≡ true) ⊎ ((to : ℕ) × (q : Place) × HasPoint image r routine to q × (q.potential.constant + 1 ≤ p.potential.constant))
@@ -77,13 +77,13 @@ module _ (image : Parts) (checked : IsChecked image) (r : ℕ) (routine : Routin
     where
       by_ends : (p.instr.opcode ≡ Jmp) ⊎ (p.instr.opcode ≡ Ret) → GoesOn p
       by_ends (inl jump) =
-          let L = leads-branching image checked.0 checked.1 r pc routine p has Jmp jump refl in
+          let L = leads-branching true image checked.0 checked.1 r pc routine p has Jmp jump refl in
           inr (p.instr.target, L.point, L.has, steps-asked (asks L.point.potential) p.potential L.pays)
       by_ends (inr ret) = inl (ap returns ret)
 
       by_test : (b : Bool) → falls_through p.instr.opcode ≡ b → GoesOn p
       by_test true e =
-          let L = leads-along image checked.0 checked.1 r pc routine p has p.instr.opcode refl e in
+          let L = leads-along true image checked.0 checked.1 r pc routine p has p.instr.opcode refl e in
           inr (pc + 1, L.point, L.has, fewer-along image p.instr p.instr.opcode p.row p.potential L.point.potential L.pays)
       by_test false e = by_ends (ends-so p.instr.opcode e)
 
@@ -104,7 +104,7 @@ module _ (image : Parts) (checked : IsChecked image) (r : ℕ) (routine : Routin
   pub exit-clean : slice_get image.routines r ≡ Some routine → names_empty_slot routine.exit ≡ false
   exit-clean there =
       let start = start_of image.routines r in
-      let first = point_at image r routine start checked.0 there (begins-within image checked.0 r routine there) in
+      let first = point_at true image r routine start checked.0 there (begins-within true image checked.0 r routine there) in
       let last = returns-at first.0.potential.constant start first.0 first.1 (omega arith) in
-      let fit = (may_return image checked.0 checked.1 r last.0 routine last.1 last.2 last.3).0 in
+      let fit = (may_return true image checked.0 checked.1 r last.0 routine last.1 last.2 last.3).0 in
       clean-weaker last.1.row routine.exit fit ((passed (tests image r routine start last.0 last.1) (checked.1 r last.0 routine last.1 last.2)).1.0)

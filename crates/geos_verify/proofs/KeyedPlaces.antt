@@ -10,7 +10,7 @@ use Rattle.geos_image.specs.declared.routine.Routine.{Routine}
 use Rattle.geos_image.specs.declared.point.Point.{Point}
 use Rattle.geos_image.specs.Parts.{Parts, start_of}
 use Rattle.geos_image.specs.Keys.{falls_through, branches, gives, keyed_of}
-use Rattle.geos_image.specs.Legal.{is_image}
+use Rattle.geos_image.specs.Legal.{is_formed}
 use Rattle.geos_image.proofs.Given.{gives-start, gives-cut, gives-target}
 use Rattle.geos_image.proofs.Kept.{keyed-legal, row-there, point-given, point-bare}
 use Rattle.geos_verify.specs.declared.place.Place.{Place}
@@ -28,7 +28,7 @@ along-same image i _ row = refl
 some-same : (x y : Place) → Some x ≡ Some y → x ≡ y
 some-same x y e = cc
 
-module _ (image : Parts) (legal : is_image image ≡ true) (all : image.keyed ≡ false) where
+module _ (image : Parts) (legal : is_formed true image ≡ true) (all : image.keyed ≡ false) where
   place-within : (pc : ℕ) (p : Place) → slice_get (places image) pc ≡ Some p → pc < length image.points
   place-within pc p read = omega (arith, found-within (places image) pc p read, places-length image)
 

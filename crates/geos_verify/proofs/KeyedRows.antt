@@ -8,12 +8,12 @@ use Rattle.geos_image.specs.declared.routine.Routine.{Routine}
 use Rattle.geos_image.specs.Parts.{Parts, start_of}
 use Rattle.geos_image.specs.Keys.{falls_through, branches, gives, keyed_of}
 use Rattle.geos_image.specs.Fields.{FieldsFit}
-use Rattle.geos_image.proofs.Instrs.{instr_fits}
+use Rattle.geos_image.proofs.Instrs.{formed_fits}
 use Rattle.geos_image.proofs.Kept.{row-there, four-exit}
 use Rattle.geos_verify.specs.declared.place.Place.{Place}
 use Rattle.geos_verify.specs.Places.{places, at_place}
 use Rattle.geos_verify.specs.Rows.{fits, row_along, row_branching}
-use Rattle.geos_verify.specs.Rules.{HasPoint, IsChecked, names_empty_slot, misfits_at, edge_misfits, tests}
+use Rattle.geos_verify.specs.Rules.{HasPoint, IsAcceptable, names_empty_slot, misfits_at, edge_misfits, tests}
 use Rattle.geos_verify.proofs.Passed.{NoneRefuses, passed, none-refuses}
 use Rattle.geos_verify.proofs.Places.{place_bounds, place_true, item_at, found-within, point-of}
 use Rattle.geos_verify.proofs.Known.{at_place-is}
@@ -23,7 +23,7 @@ use Rattle.geos_verify.proofs.Exits.{exit-clean}
 use Rattle.geos_verify.proofs.Clean.{IsClean, along-clean}
 use Rattle.geos_verify.proofs.KeyedPlaces.{KnownAs, along-same, known-given, known-next, along-fits, branching-fits, start-given, target-given, falls-there}
 
-module _ (image : Parts) (checked : IsChecked image) (all : image.keyed ≡ false) (r : ℕ) (routine : Routine) where
+module _ (image : Parts) (checked : IsAcceptable image) (all : image.keyed ≡ false) (r : ℕ) (routine : Routine) where
   -- what is known at a place in version 2, without pointers into empty slots
   pub record CleanAs (pc : ℕ) (p : Place) : Type 0 where
     pub known : KnownAs image checked.0 all pc p
@@ -52,12 +52,12 @@ module _ (image : Parts) (checked : IsChecked image) (all : image.keyed ≡ fals
   fields : (pc : ℕ) (p : Place) → slice_get (places image) pc ≡ Some p → FieldsFit p.instr.opcode p.instr
   fields pc p read =
       let found = point-of image pc p read in
-      subst (λ (i : Instr). FieldsFit i.opcode i) (sym found.2.instr) ((instr_fits image pc found.0 checked.0 found.1).0)
+      subst (λ (i : Instr). FieldsFit i.opcode i) (sym found.2.instr) ((formed_fits true image pc found.0 checked.0 found.1).0)
 
   -- what goes on from an accepted place fits what is known behind it
   fits-along : (pc : ℕ) (p q : Place) → HasPoint image r routine pc p → falls_through p.instr.opcode ≡ true → slice_get (places image) (suc pc) ≡ Some q → fits (row_along image p.instr p.instr.opcode p.row) q.row ≡ true
   fits-along pc p q has falls read =
-      let L = leads-along image checked.0 checked.1 r pc routine p has p.instr.opcode refl falls in
+      let L = leads-along true image checked.0 checked.1 r pc routine p has p.instr.opcode refl falls in
       let plus : suc pc ≡ pc + 1 = omega arith in
       let both_there : Some L.point ≡ Some q = sym L.has.read ∙ ap (slice_get (places image)) (sym plus) ∙ read in
       let is : L.point ≡ q = cc in
@@ -105,7 +105,7 @@ module _ (image : Parts) (checked : IsChecked image) (all : image.keyed ≡ fals
   along-passes pc p has C falls =
       let i = p.instr in
       let K = C.known in
-      let L = leads-along image checked.0 checked.1 r pc routine p has i.opcode refl falls in
+      let L = leads-along true image checked.0 checked.1 r pc routine p has i.opcode refl falls in
       let plus : pc + 1 ≡ suc pc = omega arith in
       let next : HasPoint image r routine (suc pc) L.point = subst (λ k. HasPoint image r routine k L.point) plus L.has in
       let N = (clean-as (suc pc) L.point next).known in
@@ -120,7 +120,7 @@ module _ (image : Parts) (checked : IsChecked image) (all : image.keyed ≡ fals
   branching-passes pc p has C branch =
       let i = p.instr in
       let K = C.known in
-      let L = leads-branching image checked.0 checked.1 r pc routine p has i.opcode refl branch in
+      let L = leads-branching true image checked.0 checked.1 r pc routine p has i.opcode refl branch in
       let N = (clean-as i.target L.point L.has).known in
       let given = target-given image checked.0 all pc p L.point has.read branch L.has.read in
       let fit = branching-fits image checked.0 all pc i.target p L.point K N given L.fits in

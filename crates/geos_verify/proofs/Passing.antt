@@ -4,6 +4,7 @@ use Rattle.std.specs.Prelude.{◌&&◌, ◌||◌, ◌==◌, nat_le, nat_lt}
 use Rattle.std.specs.List.{list_any}
 use Rattle.std.proofs.lemmas.Bool.{and_parts, or_parts, leb-true, ltb-false, le-ltb, eqb-true, not-false, false≢true}
 use Rattle.geos_image.specs.declared.instr.Instr.{Instr}
+use Rattle.geos_image.specs.Legal.{is_own}
 use Rattle.geos_image.specs.declared.row.Row.{Row}
 use Rattle.geos_image.specs.declared.row.Pointer.{Pointer}
 use Rattle.geos_image.specs.declared.row.SlotState.{SlotState}
@@ -18,11 +19,11 @@ use Rattle.geos_opcodes.specs.declared.uses.SlotUse.TheVariants.{LocksNew, Locks
 use Rattle.geos_opcodes.specs.declared.uses.PointerUse.{PointerUse}
 use Rattle.geos_opcodes.specs.declared.uses.PointerUse.TheVariants.{Loads, Stores, Copies, Duplicates, Measures}
 use Rattle.geos_opcodes.specs.Facts.{uses_of}
-use Rattle.geos_verify.specs.Rows.{slot_state, pointer_at, mark_fits, slot_fits, pointer_fits, fits, is_empty, is_stale}
+use Rattle.geos_verify.specs.Rows.{same_flag, slot_state, pointer_at, mark_fits, slot_fits, pointer_fits, fits, is_empty, is_stale}
 use Rattle.geos_verify.specs.Lists.{all2}
 use Rattle.geos_verify.specs.Touched.{calls}
 use Rattle.geos_verify.specs.Rules.{returns, uses_stale, stale_pointer, reach, least_at, reaches_past, passes_end, is_unmarked, pointed_state, writes_unmarked, moves_unmarked, changes_unmarked, locks_held, locks_into_held, misuses_slot, wrong_slot, is_of_file, commits_held, commits_with_held, at_routine, call_misfits, exit_misfits}
-use Rattle.geos_verify.proofs.RowsFit.{fitting, fits-trans, slot-empty}
+use Rattle.geos_verify.proofs.RowsFit.{flag-is, fitting, fits-trans, slot-empty}
 use Rattle.geos_verify.proofs.RowsAfter.{bound-mono, slot-mono, pointer-mono, same-alike, same-holds}
 
 -- Tests that are false
@@ -63,16 +64,23 @@ mark-mono false b h e = sym h ∙ e
 unmarked-mono : (x y : SlotState) → slot_fits x y ≡ true → is_unmarked y ≡ false → is_unmarked x ≡ false
 unmarked-mono Empty y h e = refl
 unmarked-mono Mem y h e = refl
-unmarked-mono (Vm a) (Vm b) h e = mark-mono a b h e
+unmarked-mono (Vm a l) (Vm b m) h e = mark-mono a b ((and_parts (mark_fits a b) (same_flag l m) h).0) e
 unmarked-mono (Db a) (Db b) h e = mark-mono a b h e
 unmarked-mono _ _ h e = absurd (false≢true h)
 
 of_file-same : (x y : SlotState) → slot_fits x y ≡ true → is_of_file x ≡ is_of_file y
 of_file-same Empty Empty h = refl
 of_file-same Mem Mem h = refl
-of_file-same (Vm a) (Vm b) h = refl
+of_file-same (Vm a l) (Vm b m) h = refl
 of_file-same (Db a) (Db b) h = refl
 of_file-same _ _ h = absurd (false≢true h)
+
+own-same : (x y : SlotState) → slot_fits x y ≡ true → is_own x ≡ is_own y
+own-same Empty Empty h = refl
+own-same Mem Mem h = refl
+own-same (Vm a l) (Vm b m) h = ap not (flag-is l m ((and_parts (mark_fits a b) (same_flag l m) h).1))
+own-same (Db a) (Db b) h = refl
+own-same _ _ h = absurd (false≢true h)
 
 -- slots hold blocks of the VM file in both rows, or in neither
 file-same : (xs ys : List SlotState) → all2 slot_fits xs ys ≡ true → list_any is_of_file xs ≡ list_any is_of_file ys
@@ -151,7 +159,7 @@ module _ (i : Instr) (r s : Row) (h : fits r s ≡ true) where
   locks-same _ = refl
 
   misuses-same : (slot : SlotUse) → misuses_slot i slot r ≡ misuses_slot i slot s
-  misuses-same (Unlocks kind) = rw (same-holds r s kind i.a h) refl
+  misuses-same (Unlocks kind) = rw (same-holds r s kind i.a h, own-same (slot_state r i.a) (slot_state s i.a) (slot-mono r s i.a h)) refl
   misuses-same (Marks kind) = rw (same-holds r s kind i.a h) refl
   misuses-same Compares = rw (same-empty i.a, same-alike r s i.a i.b h) refl
   misuses-same Moves = same-empty i.a

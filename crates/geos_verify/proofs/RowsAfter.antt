@@ -25,7 +25,7 @@ use Rattle.geos_opcodes.specs.declared.uses.PointerUse.TheVariants.{Sets, Duplic
 use Rattle.geos_opcodes.specs.declared.uses.Uses.{Uses}
 use Rattle.geos_verify.specs.Lists.{all2}
 use Rattle.geos_verify.specs.Pairs.{slot_pairs, is_pair, has_slot, each_pair, without_slot, has_pair, are_apart}
-use Rattle.geos_verify.specs.Rows.{bound, with_bound, or_any, computed, with_result, bounded, slot_state, kind_in, are_alike, holds_kind, held_state, marked_state, slots_after, pairs_after, pointer_at, may_be_same, stale_where, pointers_kept, with_pointer, used, refused, exit_row, row_along, row_branching, slot_fits, pointer_fits, pair_fits, fits}
+use Rattle.geos_verify.specs.Rows.{mark_fits, same_flag, bound, with_bound, or_any, computed, with_result, bounded, slot_state, kind_in, are_alike, holds_kind, held_state, marked_state, slots_after, pairs_after, pointer_at, may_be_same, stale_where, pointers_kept, with_pointer, used, refused, exit_row, row_along, row_branching, slot_fits, pointer_fits, pair_fits, fits}
 use Rattle.geos_verify.specs.Touched.{calls}
 use Rattle.geos_verify.proofs.Along.{row_along-used}
 use Rattle.geos_verify.proofs.Pairwise.{both, all2-set, all2-get}
@@ -94,7 +94,7 @@ slot-mono r s a h = all2-get slot_fits r.slots s.slots a Empty refl ((fitting r 
 kind-same : (x y : SlotState) → slot_fits x y ≡ true → kind_in x ≡ kind_in y
 kind-same Empty Empty h = refl
 kind-same Mem Mem h = refl
-kind-same (Vm a) (Vm b) h = refl
+kind-same (Vm a l) (Vm b m) h = refl
 kind-same (Db a) (Db b) h = refl
 kind-same _ _ h = absurd (false≢true h)
 
@@ -110,7 +110,7 @@ same-holds r s kind a h = rw (same-kind r s a h) refl
 marked-mono : (x y : SlotState) → slot_fits x y ≡ true → slot_fits (marked_state x) (marked_state y) ≡ true
 marked-mono Empty Empty h = refl
 marked-mono Mem Mem h = refl
-marked-mono (Vm a) (Vm b) h = refl
+marked-mono (Vm a l) (Vm b m) h = (and_parts (mark_fits a b) (same_flag l m) h).1
 marked-mono (Db a) (Db b) h = refl
 marked-mono _ _ h = absurd (false≢true h)
 

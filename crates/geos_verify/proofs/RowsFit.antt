@@ -7,7 +7,7 @@ use Rattle.geos_image.specs.declared.row.Pointer.{Pointer}
 use Rattle.geos_image.specs.declared.row.SlotState.{SlotState}
 use Rattle.geos_image.specs.declared.row.SlotState.TheVariants.{Empty, Mem, Vm, Db}
 use Rattle.geos_verify.specs.Lists.{all2}
-use Rattle.geos_verify.specs.Rows.{mark_fits, slot_fits, pointer_fits, pair_fits, fits, is_empty}
+use Rattle.geos_verify.specs.Rows.{same_flag, mark_fits, slot_fits, pointer_fits, pair_fits, fits, is_empty}
 use Rattle.geos_verify.proofs.Pairwise.{both, all2-trans, all2-refl}
 
 -- the parts of the test
@@ -54,16 +54,29 @@ mark-trans true b c h j = refl
 mark-trans false true c h j = absurd cc
 mark-trans false false c h j = j
 
+flag-refl : (a : Bool) → same_flag a a ≡ true
+flag-refl true = refl
+flag-refl false = refl
+
+pub flag-is : (a b : Bool) → same_flag a b ≡ true → a ≡ b
+flag-is true true h = refl
+flag-is false false h = refl
+flag-is true false h = absurd cc
+flag-is false true h = absurd cc
+
 pub slot-refl : (x : SlotState) → slot_fits x x ≡ true
 slot-refl Empty = refl
 slot-refl Mem = refl
-slot-refl (Vm marked) = mark-refl marked
+slot-refl (Vm marked borrowed) = both (mark_fits marked marked) (same_flag borrowed borrowed) (mark-refl marked) (flag-refl borrowed)
 slot-refl (Db marked) = mark-refl marked
 
 slot-trans : (x y z : SlotState) → slot_fits x y ≡ true → slot_fits y z ≡ true → slot_fits x z ≡ true
 slot-trans Empty Empty z h j = j
 slot-trans Mem Mem z h j = j
-slot-trans (Vm a) (Vm b) (Vm c) h j = mark-trans a b c h j
+slot-trans (Vm a l) (Vm b m) (Vm c n) h j =
+    let p = and_parts (mark_fits a b) (same_flag l m) h in
+    let q = and_parts (mark_fits b c) (same_flag m n) j in
+    both (mark_fits a c) (same_flag l n) (mark-trans a b c p.0 q.0) (subst (λ x. same_flag x n ≡ true) (sym (flag-is l m p.1)) q.1)
 slot-trans (Db a) (Db b) (Db c) h j = mark-trans a b c h j
 slot-trans _ _ _ h j = absurd cc
 
@@ -71,7 +84,7 @@ slot-trans _ _ _ h j = absurd cc
 pub slot-empty : (x y : SlotState) → slot_fits x y ≡ true → is_empty x ≡ is_empty y
 slot-empty Empty Empty h = refl
 slot-empty Mem Mem h = refl
-slot-empty (Vm a) (Vm b) h = refl
+slot-empty (Vm a l) (Vm b m) h = refl
 slot-empty (Db a) (Db b) h = refl
 slot-empty _ _ h = absurd (false≢true h)
 

@@ -22,7 +22,7 @@ use Rattle.geos_opcodes.specs.declared.uses.PointerUse.{PointerUse}
 use Rattle.geos_opcodes.specs.declared.uses.PointerUse.TheVariants.{Sets, Duplicates}
 use Rattle.geos_opcodes.specs.declared.uses.Uses.{Uses}
 use Rattle.geos_verify.specs.Lists.{all2}
-use Rattle.geos_verify.specs.Pairs.{without_slot, with_pair, with_pairs, are_apart}
+use Rattle.geos_verify.specs.Pairs.{slot_pairs, without_slot, with_pair, with_pairs, are_apart}
 use Rattle.geos_verify.specs.Uses.{same_kind}
 
 -- Edges
@@ -103,7 +103,7 @@ slot_state row a = slice_index_or row.slots a Empty
 abbrev pub kind_in : SlotState → Option Kind
 kind_in Empty = None
 kind_in Mem = Some MemBlock
-kind_in (Vm marked) = Some VmBlock
+kind_in (Vm marked borrowed) = Some VmBlock
 kind_in (Db marked) = Some DbGroup
 
 -- one kind, or nothing in both places
@@ -120,15 +120,15 @@ are_alike state other = alike (kind_in state) (kind_in other)
 abbrev pub holds_kind : Kind → SlotState → Bool
 holds_kind kind state = alike (kind_in state) (Some kind)
 
--- a slot that holds a block of the kind, which is known to be marked or is not
+-- a slot into which a block of the kind was locked, which is known to be marked or is not
 abbrev pub held_state : Kind → Bool → SlotState
 held_state MemBlock marked = Mem
-held_state VmBlock marked = Vm marked
+held_state VmBlock marked = Vm marked false
 held_state DbGroup marked = Db marked
 
 -- the same of a block that was marked: one of the VM file has a mark, which is then known
 abbrev pub marked_state : SlotState → SlotState
-marked_state (Vm marked) = Vm true
+marked_state (Vm marked borrowed) = Vm true borrowed
 marked_state (Db marked) = Db true
 marked_state state = state
 
@@ -226,11 +226,16 @@ after image pc row branch = elim (slice_get image.points pc) [
 abbrev pub mark_fits : Bool → Bool → Bool
 mark_fits marked wanted = marked || not wanted
 
+-- both are so, or neither
+abbrev pub same_flag : Bool → Bool → Bool
+same_flag true wanted = wanted
+same_flag false wanted = not wanted
+
 -- the slot is in the wanted state, or marked where that is not wanted
 abbrev pub slot_fits : SlotState → SlotState → Bool
 slot_fits Empty Empty = true
 slot_fits Mem Mem = true
-slot_fits (Vm marked) (Vm wanted) = mark_fits marked wanted
+slot_fits (Vm marked borrowed) (Vm wanted lent) = mark_fits marked wanted && same_flag borrowed lent
 slot_fits (Db marked) (Db wanted) = mark_fits marked wanted
 slot_fits _ _ = false
 
@@ -265,9 +270,31 @@ abbrev pub is_stale : Option Pointer → Bool
 is_stale None = true
 is_stale (Some p) = false
 
--- no slot is held, and each pointer is stale
-abbrev pub is_plain : Row → Bool
-is_plain row = list_all is_empty row.slots && list_all is_stale row.pointers
+-- the slot is empty, or borrowed from the caller and not known to be marked
+abbrev pub may_be_given : SlotState → Bool
+may_be_given Empty = true
+may_be_given (Vm marked borrowed) = not marked && borrowed
+may_be_given _ = false
+
+-- two slots are not known to hold different blocks, or one of them is empty
+abbrev pub may_be_one : List SlotState → Bool → ℕ × ℕ → Bool
+may_be_one slots known pair = not known || is_empty (slice_index_or slots pair.0 Empty) || is_empty (slice_index_or slots pair.1 Empty)
+
+-- a row that each caller from outside can meet: no block is held but borrowed ones, which may all be one, and each pointer is
+-- stale
+abbrev pub may_enter : Row → Bool
+may_enter row = list_all may_be_given row.slots && list_all is_stale row.pointers && all2 (may_be_one row.slots) row.pairs slot_pairs
+
+-- the slot is left as the caller gave it, marked or not
+abbrev pub is_left : SlotState → SlotState → Bool
+is_left Empty Empty = true
+is_left (Vm marked borrowed) (Vm dirty lent) = borrowed && lent
+is_left _ _ = false
+
+-- a row with which a routine may return to a caller from outside, where it was entered with the other: it holds what was
+-- borrowed and nothing else, and each pointer is stale
+abbrev pub may_leave : Row → Row → Bool
+may_leave entry exit = all2 is_left entry.slots exit.slots && list_all is_stale exit.pointers
 
 -- the pointer leads into a slot that is empty
 abbrev pub leads_nowhere : List SlotState → Option Pointer → Bool

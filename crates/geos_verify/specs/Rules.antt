@@ -10,7 +10,7 @@ use Rattle.geos_image.specs.declared.potential.Potential.{Potential}
 use Rattle.geos_image.specs.declared.routine.Routine.{Routine}
 use Rattle.geos_image.specs.Parts.{Parts, start_of}
 use Rattle.geos_image.specs.Fields.{FieldsFit, CalleeFits}
-use Rattle.geos_image.specs.Legal.{is_image}
+use Rattle.geos_image.specs.Legal.{is_own, is_formed, is_image}
 use Rattle.geos_verify.specs.declared.rule.Rule.{Rule}
 use Rattle.geos_verify.specs.declared.rule.Rule.TheVariants.{LeavesRoutine, NamesEmptySlot, EntryMisfit, StalePointer, PassesEnd, ChangesUnmarked, LocksIntoHeld, WrongSlot, CommitsHeld, CallMisfit, ExitMisfit, EdgeMisfit, EdgeUnpaid, OverBudget}
 use Rattle.geos_verify.specs.declared.rule.Reject.{Reject}
@@ -28,7 +28,7 @@ use Rattle.geos_image.specs.Keys.{falls_through, branches}
 use Rattle.geos_verify.specs.declared.place.Place.{Place}
 use Rattle.geos_verify.specs.Places.{places, at_place}
 use Rattle.geos_verify.specs.Uses.{bytes_in}
-use Rattle.geos_verify.specs.Rows.{at_point, bound, slot_state, pointer_at, are_alike, holds_kind, row_along, row_branching, fits, is_empty, is_stale, is_plain, leads_nowhere}
+use Rattle.geos_verify.specs.Rows.{at_point, bound, slot_state, pointer_at, are_alike, holds_kind, row_along, row_branching, fits, is_empty, is_stale, may_enter, may_leave, leads_nowhere}
 use Rattle.geos_verify.specs.Touched.{calls}
 use Rattle.geos_verify.specs.Potentials.{pays_along, pays_branching, is_within}
 
@@ -55,11 +55,11 @@ unfoldable pub names_empty_slot : Row → Bool
 names_empty_slot row = list_any (leads_nowhere row.slots) row.pointers
 
 -- at the first pc: the entry row does not fit the row here, or a routine that is public has an
--- entry or exit row that a caller from outside cannot meet
+-- entry row that some caller from outside cannot meet, or an exit row with which it may not return to one
 unfoldable pub entry_misfits : Routine → ℕ → ℕ → Row → Bool
 entry_misfits routine start pc row =
     pc == start
-    && (not (fits routine.entry row) || (routine.public && not (is_plain routine.entry && is_plain routine.exit)))
+    && (not (fits routine.entry row) || (routine.public && not (may_enter routine.entry && may_leave routine.entry routine.exit)))
 
 -- the row knows nothing of a pointer that is read, written, copied or measured
 abbrev pub uses_stale : Instr → PointerUse → Row → Bool
@@ -98,7 +98,7 @@ passes_end i row = reaches_past i (uses_of i.opcode).pointer row
 
 -- the slot holds a block of the VM file that is not known to be marked
 abbrev pub is_unmarked : SlotState → Bool
-is_unmarked (Vm marked) = not marked
+is_unmarked (Vm marked borrowed) = not marked
 is_unmarked (Db marked) = not marked
 is_unmarked _ = false
 
@@ -131,9 +131,10 @@ locks_held i _ row = false
 unfoldable pub locks_into_held : Instr → Row → Bool
 locks_into_held i row = locks_held i (uses_of i.opcode).slot row
 
--- a slot that must be held is empty or of another kind; two that are compared must be of one
+-- a slot that must be held is empty or of another kind; two that are compared must be of one; what is borrowed is not
+-- unlocked
 abbrev pub misuses_slot : Instr → SlotUse → Row → Bool
-misuses_slot i (Unlocks kind) row = not (holds_kind kind (slot_state row i.a))
+misuses_slot i (Unlocks kind) row = not (holds_kind kind (slot_state row i.a)) || not (is_own (slot_state row i.a))
 misuses_slot i (Marks kind) row = not (holds_kind kind (slot_state row i.a))
 misuses_slot i Compares row = is_empty (slot_state row i.a) || not (are_alike (slot_state row i.a) (slot_state row i.b))
 misuses_slot i Moves row = is_empty (slot_state row i.a)
@@ -146,7 +147,7 @@ wrong_slot i row = misuses_slot i (uses_of i.opcode).slot row
 
 -- the slot holds a block of the VM file
 abbrev pub is_of_file : SlotState → Bool
-is_of_file (Vm marked) = true
+is_of_file (Vm marked borrowed) = true
 is_of_file (Db marked) = true
 is_of_file _ = false
 
@@ -259,6 +260,10 @@ pub record HasPoint (image : Parts) (r : ℕ) (routine : Routine) (pc : ℕ) (pl
 abbrev pub Accepted : Parts → Type 0
 Accepted image = (r pc : ℕ) (routine : Routine) (place : Place) → HasPoint image r routine pc place
     → refusal image r routine (start_of image.routines r) pc place ≡ None
+
+-- no rule refuses, and the parts make an image where slots may be borrowed in either version
+abbrev pub IsAcceptable : Parts → Type 0
+IsAcceptable image = (is_formed true image ≡ true) × Accepted image
 
 -- an image that may run
 abbrev pub IsChecked : Parts → Type 0

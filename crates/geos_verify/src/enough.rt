@@ -3,7 +3,7 @@
 ghost use Rattle.std.specs.Prelude.{◌≡◌, nat_le};
 ghost use Rattle.std.specs.List.{list_all};
 ghost use Rattle.geos_verify.specs.Lists.{all2};
-ghost use Rattle.geos_verify.specs.Rows.{slot_fits, pointer_fits, pair_fits, fits, is_empty, is_stale, is_plain, leads_nowhere};
+ghost use Rattle.geos_verify.specs.Rows.{slot_fits, pointer_fits, pair_fits, fits, is_empty, is_stale, leads_nowhere};
 ghost use Rattle.geos_verify.specs.Rules.{names_empty_slot};
 
 use geos_image::{Pointer, Row, SlotState};
@@ -31,8 +31,14 @@ pub fn slot_fits(r: SlotState, s: SlotState) -> bool
 {
     match (r, s) {
         (SlotState::Empty, SlotState::Empty) | (SlotState::Mem, SlotState::Mem) => true,
-        (SlotState::Vm { marked }, SlotState::Vm { marked: wanted })
-        | (SlotState::Db { marked }, SlotState::Db { marked: wanted }) => marked || !wanted,
+        (
+            SlotState::Vm { marked, borrowed },
+            SlotState::Vm {
+                marked: wanted,
+                borrowed: lent,
+            },
+        ) => (marked || !wanted) && borrowed == lent,
+        (SlotState::Db { marked }, SlotState::Db { marked: wanted }) => marked || !wanted,
         _ => false,
     }
 }
@@ -101,23 +107,10 @@ pub(crate) fn is_stale(pointer: &Option<Pointer>) -> bool
     pointer.is_none()
 }
 
-fn are_empty(slots: &[SlotState]) -> bool
-    ensures { result ≡ list_all is_empty slots.now }
-{
-    slots.iter().all(|slot| is_empty(*slot))
-}
-
-fn are_stale(pointers: &[Option<Pointer>]) -> bool
+pub(crate) fn are_stale(pointers: &[Option<Pointer>]) -> bool
     ensures { result ≡ list_all is_stale pointers.now }
 {
     pointers.iter().all(is_stale)
-}
-
-/// Whether no slot is held and each pointer is stale.
-pub(crate) fn is_plain(row: &Row) -> bool
-    ensures { result ≡ is_plain row.now }
-{
-    are_empty(&row.slots) && are_stale(&row.pointers)
 }
 
 /// Whether the pointer leads into a slot that is empty.

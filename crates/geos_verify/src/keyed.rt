@@ -2,7 +2,7 @@
 
 ghost use Rattle.geos_verify.specs.Kept.{KeptIsAccepted};
 
-/// A law: an image that is accepted is accepted in version 2 too (`Image::into_keyed`).
+/// A law: what is accepted with its rows at each place is accepted in version 2 too (`Whole::into_keyed`).
 pub fn accepted_images_are_accepted_in_version_2()
     ensures { KeptIsAccepted }
 {}

@@ -15,6 +15,7 @@ mod pairs;
 mod place;
 mod pointers;
 mod potentials;
+mod public;
 mod refusal;
 mod rule;
 mod slots;

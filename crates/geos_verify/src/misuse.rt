@@ -86,7 +86,11 @@ fn is_unmarked(state: SlotState) -> bool
     ensures { result ≡ is_unmarked state }
 {
     match state {
-        SlotState::Vm { marked } | SlotState::Db { marked } => !marked,
+        SlotState::Vm {
+            marked,
+            borrowed: _,
+        }
+        | SlotState::Db { marked } => !marked,
         _ => false,
     }
 }
@@ -143,7 +147,7 @@ pub(crate) fn locks_into_held(i: &Instr, slot: SlotUse, row: &Row) -> bool
     }
 }
 
-/// Whether a slot that must be held is empty or of another kind.
+/// Whether a slot that must be held is empty or of another kind, or one that is unlocked is borrowed.
 #[tactic(auto, unfolding(crate::specs::Rules::wrong_slot))]
 pub(crate) fn wrong_slot(i: &Instr, slot: SlotUse, row: &Row) -> bool
     requires { slot ≡ (uses_of i.now.opcode).slot }
@@ -151,7 +155,8 @@ pub(crate) fn wrong_slot(i: &Instr, slot: SlotUse, row: &Row) -> bool
 {
     let state = slot_state(row, i.a);
     match slot {
-        SlotUse::Unlocks(kind) | SlotUse::Marks(kind) => !holds_kind(kind, state),
+        SlotUse::Unlocks(kind) => !holds_kind(kind, state) || !state.is_own(),
+        SlotUse::Marks(kind) => !holds_kind(kind, state),
         SlotUse::Compares => is_empty(state) || !are_alike(state, slot_state(row, i.b)),
         SlotUse::Moves | SlotUse::LooksAt => is_empty(state),
         _ => false,

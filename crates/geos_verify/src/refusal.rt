@@ -14,7 +14,8 @@ ghost use Rattle.geos_verify.specs.Uses.{UsesFit};
 
 use crate::body::Body;
 use crate::edges::{go_along, go_to_target};
-use crate::enough::{fits, is_plain, names_empty_slot};
+use crate::enough::{fits, names_empty_slot};
+use crate::public::{may_enter, may_leave};
 use crate::misuse::{
     changes_unmarked, commits_with_held, locks_into_held, passes_end, stale_pointer, wrong_slot,
 };
@@ -60,7 +61,8 @@ fn entry_misfits(start: u16, routine: &Routine, pc: u16, row: &Row) -> bool
 {
     pc == start
         && (!fits(&routine.entry, row)
-            || routine.public && !(is_plain(&routine.entry) && is_plain(&routine.exit)))
+            || routine.public
+                && !(may_enter(&routine.entry) && may_leave(&routine.entry, &routine.exit)))
 }
 
 /// Whether the instruction calls a routine that is not below its own, which is r, or one whose

@@ -10,8 +10,9 @@ pub enum Rule {
     LeavesRoutine = 1,
     /// A pointer of the row leads into an empty slot.
     NamesEmptySlot = 2,
-    /// The entry row does not fit the first row, or a public routine's entry or exit row has a
-    /// slot held or a pointer that is not stale.
+    /// The entry row does not fit the first row, or a public routine's entry or exit row has a pointer that is not stale
+    /// or a slot held that is not borrowed; or the exit row has not what was borrowed, or the entry row claims that two
+    /// borrowed blocks differ, or that one is marked.
     EntryMisfit = 3,
     /// A pointer is read, written, copied or measured of which the row knows nothing: it may be
     /// stale.
@@ -22,7 +23,7 @@ pub enum Rule {
     ChangesUnmarked = 6,
     /// A block is locked into a slot that is held.
     LocksIntoHeld = 7,
-    /// A slot that must be held is empty or of another kind.
+    /// A slot that must be held is empty or of another kind, or one that is borrowed is unlocked.
     WrongSlot = 8,
     /// The VM file is written while a slot holds a block of it.
     CommitsHeld = 9,

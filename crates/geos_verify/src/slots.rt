@@ -64,13 +64,16 @@ pub(crate) fn holds_kind(kind: Kind, state: SlotState) -> bool
     alike(kind_in(state), Some(kind))
 }
 
-/// A slot that holds a block of the kind, which is known to be marked or is not.
+/// A slot into which a block of the kind was locked, which is known to be marked or is not.
 fn held_state(kind: Kind, marked: bool) -> SlotState
     ensures { result ≡ held_state kind marked }
 {
     match kind {
         Kind::MemBlock => SlotState::Mem,
-        Kind::VmBlock => SlotState::Vm { marked },
+        Kind::VmBlock => SlotState::Vm {
+            marked,
+            borrowed: false,
+        },
         Kind::DbGroup => SlotState::Db { marked },
     }
 }
@@ -81,7 +84,13 @@ fn marked_state(state: SlotState) -> SlotState
     ensures { result ≡ marked_state state }
 {
     match state {
-        SlotState::Vm { .. } => SlotState::Vm { marked: true },
+        SlotState::Vm {
+            marked: _,
+            borrowed,
+        } => SlotState::Vm {
+            marked: true,
+            borrowed,
+        },
         SlotState::Db { .. } => SlotState::Db { marked: true },
         _ => state,
     }

@@ -1,6 +1,6 @@
 //! The instructions, and what the verifier is told at each of them.
 
-ghost use Rattle.std.specs.Prelude.{◌≡◌, ℕ, ◌<◌, ◌≤◌, ◌^◌, length, true, IfOk};
+ghost use Rattle.std.specs.Prelude.{◌≡◌, ℕ, ◌<◌, ◌≤◌, ◌^◌, length, true, false, IfOk};
 ghost use Rattle.std.specs.List.{list_all};
 ghost use Rattle.geos_image.specs.Legal.{is_instr, is_row, LegalWhere};
 ghost use Rattle.geos_image.specs.Parts.{instrs_of};
@@ -120,7 +120,7 @@ pub(crate) fn points_at(
     requires place { start < 2 ^ 20 }
     requires short { length code.now ≤ MOST_INSTRS }
     ensures exact { Gives (λ v. v.items) result (points_at bytes.now code.now start) }
-    ensures legal { IfOk result (λ v. LegalWhere code.now v.items) }
+    ensures legal { IfOk result (λ v. LegalWhere false code.now v.items) }
     ensures len { IfOk result (λ v. length v.items ≡ length code.now) }
 {
     let mut points = Vec::with_capacity(alloc, code.len())?;
@@ -147,7 +147,7 @@ pub(crate) fn bare_at(
     requires place { start < 2 ^ 20 }
     requires short { length code.now ≤ MOST_INSTRS }
     ensures exact { Gives (λ v. v.items) result (bare_points_at bytes.now code.now start) }
-    ensures legal { IfOk result (λ v. LegalWhere code.now v.items) }
+    ensures legal { IfOk result (λ v. LegalWhere true code.now v.items) }
     ensures instrs { IfOk result (λ v. instrs_of v.items ≡ code.now) }
 {
     let mut points = Vec::with_capacity(alloc, code.len())?;
@@ -173,14 +173,14 @@ pub(crate) fn rows_at(
 ) -> Result<Vec<Row>, ReadError>
     requires place { start < 2 ^ 21 }
     requires short { count ≤ MOST_INSTRS }
-    ensures exact { Gives (λ v. v.items) result (items_at (row_at bytes.now) 38 count start) }
-    ensures legal { IfOk result (λ v. list_all is_row v.items ≡ true) }
+    ensures exact { Gives (λ v. v.items) result (items_at (row_at true bytes.now) 38 count start) }
+    ensures legal { IfOk result (λ v. list_all (is_row true) v.items ≡ true) }
     ensures len { IfOk result (λ v. length v.items ≡ count) }
 {
     let mut rows = Vec::with_capacity(alloc, count)?;
     let mut at = start;
     for _ in 0..count {
-        let row = row_at(bytes, at)?;
+        let row = row_at(true, bytes, at)?;
         rows.push(row)?;
         at += 38;
     }

@@ -76,20 +76,20 @@ fn count_at(earlier: &[Routine], bytes: &[u8], at: usize) -> Result<u16, Fault>
 }
 
 #[tactic(auto, unfolding(crate::specs::Reading::routine_at))]
-fn routine_at(earlier: &[Routine], bytes: &[u8], at: usize) -> Result<Routine, Fault>
+fn routine_at(borrows: bool, earlier: &[Routine], bytes: &[u8], at: usize) -> Result<Routine, Fault>
     requires place { at < 2 ^ 27 }
     requires few { length earlier.now ≤ MOST_ROUTINES }
     requires room { total_count earlier.now ≤ MOST_INSTRS }
-    ensures exact { result ≡ routine_at earlier.now bytes.now at }
-    ensures legal { IfOk result (λ r. (is_routine earlier.now r ≡ true) × (total_count earlier.now + r.count ≤ MOST_INSTRS)) }
+    ensures exact { result ≡ routine_at borrows earlier.now bytes.now at }
+    ensures legal { IfOk result (λ r. (is_routine borrows earlier.now r ≡ true) × (total_count earlier.now + r.count ≤ MOST_INSTRS)) }
 {
     let name = name_at(earlier, bytes, at)?;
     let public = byte_below(2, bytes, at + 16)? == 1;
     byte_below(1, bytes, at + 17)?;
     let count = count_at(earlier, bytes, at + 18)?;
     let budget = long_at(bytes, at + 20)?;
-    let entry = row_at(bytes, at + 24)?;
-    let exit = row_at(bytes, at + 62)?;
+    let entry = row_at(borrows, bytes, at + 24)?;
+    let exit = row_at(borrows, bytes, at + 62)?;
     Ok(Routine {
         name,
         public,
@@ -100,19 +100,21 @@ fn routine_at(earlier: &[Routine], bytes: &[u8], at: usize) -> Result<Routine, F
     })
 }
 
+/// The routines. `borrows` says whether slots may be borrowed.
 pub(crate) fn routines_at(
     alloc: Global,
+    borrows: bool,
     bytes: &[u8],
     count: u16,
 ) -> Result<Vec<Routine>, ReadError>
     requires { count ≤ MOST_ROUTINES }
-    ensures exact { Gives (λ v. v.items) result (routines_at bytes.now count 8 []) }
-    ensures legal { IfOk result (λ v. (are_routines [] v.items ≡ true) × (length v.items ≡ count) × (total_count v.items ≤ MOST_INSTRS)) }
+    ensures exact { Gives (λ v. v.items) result (routines_at borrows bytes.now count 8 []) }
+    ensures legal { IfOk result (λ v. (are_routines borrows [] v.items ≡ true) × (length v.items ≡ count) × (total_count v.items ≤ MOST_INSTRS)) }
 {
     let mut routines = Vec::new(alloc);
     let mut at = 8;
     for _ in 0..count {
-        let routine = routine_at(&routines, bytes, at)?;
+        let routine = routine_at(borrows, &routines, bytes, at)?;
         routines.push(routine)?;
         at += 100;
     }

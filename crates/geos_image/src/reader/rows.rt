@@ -1,8 +1,8 @@
 //! Rows and potentials.
 
-ghost use Rattle.std.specs.Prelude.{◌≡◌, ◌<◌, ◌^◌, IfOk, true};
+ghost use Rattle.std.specs.Prelude.{◌≡◌, ◌<◌, ◌^◌, ◌||◌, IfOk, true, false};
 ghost use Rattle.std.specs.List.{list_all};
-ghost use Rattle.geos_image.specs.Legal.{is_pointer, is_row};
+ghost use Rattle.geos_image.specs.Legal.{is_own, is_pointer, is_row};
 ghost use Rattle.geos_image.specs.Reading.{word_at, long_at, slot_at, pointer_at, pairs_of, items_at, row_at, potential_at, entry_at};
 
 use crate::potential::Potential;
@@ -10,10 +10,11 @@ use crate::reader::numbers::{Fault, byte_at, byte_below, long_at, word_at, word_
 use crate::row::{Pointer, Row, SlotState};
 
 #[tactic(auto, unfolding(crate::specs::Reading::slot_at))]
-fn slot_at(bytes: &[u8], at: usize) -> Result<SlotState, Fault>
-    ensures { result ≡ slot_at bytes.now at }
+fn slot_at(borrows: bool, bytes: &[u8], at: usize) -> Result<SlotState, Fault>
+    ensures exact { result ≡ slot_at borrows bytes.now at }
+    ensures legal { IfOk result (λ s. (borrows || is_own s) ≡ true) }
 {
-    SlotState::from_code(byte_at(bytes, at)?).ok_or(at)
+    SlotState::from_code(borrows, byte_at(bytes, at)?).ok_or(at)
 }
 
 /// The slot byte of a pointer that is stale.
@@ -67,15 +68,16 @@ fn bounds_at(bytes: &[u8], at: usize) -> Result<[u16; 8], Fault>
     ])
 }
 
-fn slots_at(bytes: &[u8], at: usize) -> Result<[SlotState; 4], Fault>
+fn slots_at(borrows: bool, bytes: &[u8], at: usize) -> Result<[SlotState; 4], Fault>
     requires { at < 2 ^ 31 }
-    ensures { result ≡ items_at (slot_at bytes.now) 1 4 at }
+    ensures exact { result ≡ items_at (slot_at borrows bytes.now) 1 4 at }
+    ensures legal { IfOk result (λ slots. (borrows || list_all is_own slots) ≡ true) }
 {
     Ok([
-        slot_at(bytes, at)?,
-        slot_at(bytes, at + 1)?,
-        slot_at(bytes, at + 2)?,
-        slot_at(bytes, at + 3)?,
+        slot_at(borrows, bytes, at)?,
+        slot_at(borrows, bytes, at + 1)?,
+        slot_at(borrows, bytes, at + 2)?,
+        slot_at(borrows, bytes, at + 3)?,
     ])
 }
 
@@ -92,14 +94,15 @@ fn pointers_at(bytes: &[u8], at: usize) -> Result<[Option<Pointer>; 4], Fault>
     ])
 }
 
+/// A row. `borrows` says whether its slots may be borrowed.
 #[tactic(auto, unfolding(crate::specs::Reading::row_at))]
-pub(crate) fn row_at(bytes: &[u8], at: usize) -> Result<Row, Fault>
+pub(crate) fn row_at(borrows: bool, bytes: &[u8], at: usize) -> Result<Row, Fault>
     requires { at < 2 ^ 29 }
-    ensures exact { result ≡ row_at bytes.now at }
-    ensures legal { IfOk result (λ r. is_row r ≡ true) }
+    ensures exact { result ≡ row_at borrows bytes.now at }
+    ensures legal { IfOk result (λ r. is_row borrows r ≡ true) }
 {
     let bounds = bounds_at(bytes, at)?;
-    let slots = slots_at(bytes, at + 16)?;
+    let slots = slots_at(borrows, bytes, at + 16)?;
     let pointers = pointers_at(bytes, at + 20)?;
     let pairs = pairs_of(byte_below(64, bytes, at + 36)?);
     byte_below(1, bytes, at + 37)?;
@@ -140,9 +143,9 @@ pub(crate) fn potential_at(bytes: &[u8], at: usize) -> Result<Potential, Fault>
 pub(crate) fn entry_at(bytes: &[u8], at: usize) -> Result<(Row, Potential), Fault>
     requires { at < 2 ^ 28 }
     ensures exact { result ≡ entry_at bytes.now at }
-    ensures legal { IfOk result (λ e. is_row e.0 ≡ true) }
+    ensures legal { IfOk result (λ e. is_row false e.0 ≡ true) }
 {
-    let row = row_at(bytes, at)?;
+    let row = row_at(false, bytes, at)?;
     let potential = potential_at(bytes, at + 38)?;
     Ok((row, potential))
 }

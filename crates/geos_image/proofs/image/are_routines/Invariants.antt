@@ -4,4 +4,4 @@ use Rattle.geos_image.proofs.image.are_routines.Given as goal
 
 -- the routines so far may stand, if those that are left may
 abbrev pub invariant-loop-k : goal.invariant-loop-k
-invariant-loop-k l = are_routines (take l.k l.routines) (drop l.k l.routines) ≡ are_routines [] l.routines
+invariant-loop-k l = are_routines l.borrows (take l.k l.routines) (drop l.k l.routines) ≡ are_routines l.borrows [] l.routines

@@ -23,5 +23,5 @@ returns-clause-given c =
     let routine = item_at image.routines c.args.i c.requires in
     let end = start_of-end image.routines c.args.i routine.0 routine.1 in
     let parts = image_parts image legal in
-    let some = routine_counts [] image.routines c.args.i routine.0 parts.routines routine.1 in
+    let some = routine_counts image.keyed [] image.routines c.args.i routine.0 parts.routines routine.1 in
     subst (λ (n : ℕ). gives image n ≡ true) (sym start_is) (gives-start image legal c.args.i routine.0 routine.1 (omega (arith, end, parts.counts, some)))

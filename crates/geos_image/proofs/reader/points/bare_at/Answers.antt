@@ -1,4 +1,4 @@
-use Rattle.std.proofs.Common.{None, refl, sym, arith}
+use Rattle.std.proofs.Common.{true, None, refl, sym, arith}
 use Rattle.std.proofs.lemmas.Result.{err_from_is_err_and}
 use Rattle.geos_image.proofs.Items.{bare-more, bare-fault, bare-end}
 use Rattle.geos_image.proofs.Pushes.{points-push, instrs-push}
@@ -9,7 +9,7 @@ pub loop-instr-preserved : goal.loop-instr-preserved
 loop-instr-preserved c = (
   omega arith,
   rw c.in_ok-push.ensures.items (instrs-push c.args.code.now c.loop-instr.points.items c.loop-instr.instr-index _ None c.in_ok-potential.potential c.loop-instr-test.true c.loop-instr.invariant.1),
-  (λ routines instrs h. rw c.in_ok-push.ensures.items (points-push routines instrs c.args.code.now c.loop-instr.points.items c.loop-instr.instr-index _ None c.in_ok-potential.potential
+  (λ routines instrs h. rw c.in_ok-push.ensures.items (points-push true routines instrs c.args.code.now c.loop-instr.points.items c.loop-instr.instr-index _ None c.in_ok-potential.potential
       c.loop-instr-test.true (c.loop-instr.invariant.2 routines instrs) refl h)),
   rw c.in_ok-push.ensures.items (bare-more c.args.bytes.now c.args.code.now _ c.loop-instr.points.items c.loop-instr.instr-index c.loop-instr.at _ c.in_ok-potential.potential
       c.loop-instr-test.true (sym c.in_ok-potential.ensures) c.loop-instr.invariant.3),

@@ -1,4 +1,4 @@
-use Rattle.std.proofs.Common.{Some, sym, arith}
+use Rattle.std.proofs.Common.{false, Some, sym, arith}
 use Rattle.std.proofs.lemmas.Result.{err_from_is_err_and}
 use Rattle.geos_image.proofs.Items.{points-more, points-fault, points-end}
 use Rattle.geos_image.proofs.Pushes.{points-push}
@@ -15,7 +15,7 @@ pub loop-instr-preserved : goal.loop-instr-preserved
 loop-instr-preserved c = (
   omega arith,
   omega (arith, c.in_ok-push.ensures.len),
-  (λ routines instrs h. rw c.in_ok-push.ensures.items (points-push routines instrs c.args.code.now c.loop-instr.points.items c.loop-instr.instr-index _ (Some c.in_ok-row.row) c.in_ok-row.potential
+  (λ routines instrs h. rw c.in_ok-push.ensures.items (points-push false routines instrs c.args.code.now c.loop-instr.points.items c.loop-instr.instr-index _ (Some c.in_ok-row.row) c.in_ok-row.potential
       c.loop-instr-test.true (c.loop-instr.invariant.2 routines instrs) c.in_ok-row.ensures.legal h)),
   rw c.in_ok-push.ensures.items (points-more c.args.bytes.now c.args.code.now _ c.loop-instr.points.items c.loop-instr.instr-index c.loop-instr.at _ c.in_ok-row.row c.in_ok-row.potential
       c.loop-instr-test.true (sym c.in_ok-row.ensures.exact) c.loop-instr.invariant.3),

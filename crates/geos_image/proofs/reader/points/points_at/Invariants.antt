@@ -1,4 +1,4 @@
-use Rattle.std.proofs.Common.{◌≡◌, ℕ, ◌+◌, ◌*◌, length, true, take, drop}
+use Rattle.std.proofs.Common.{◌≡◌, ℕ, ◌+◌, ◌*◌, length, true, false, take, drop}
 use Rattle.std.specs.List.{list_all}
 use Rattle.geos_image.specs.Legal.{is_instr, is_point}
 use Rattle.geos_image.specs.Reading.{points_at}
@@ -7,5 +7,5 @@ use Rattle.geos_image.proofs.reader.points.points_at.Given as goal
 
 abbrev pub invariant-loop-instr : goal.invariant-loop-instr
 invariant-loop-instr l = (l.at ≡ l.start + 58 * l.instr-index) × (length l.points.items ≡ l.instr-index)
-    × ((routines instrs : ℕ) → list_all (is_instr routines instrs) (take l.instr-index l.code) ≡ true → list_all (is_point routines instrs) l.points.items ≡ true)
+    × ((routines instrs : ℕ) → list_all (is_instr routines instrs) (take l.instr-index l.code) ≡ true → list_all (is_point false routines instrs) l.points.items ≡ true)
     × (with_front l.points.items (points_at l.bytes (drop l.instr-index l.code) l.at) ≡ points_at l.bytes l.code l.start)

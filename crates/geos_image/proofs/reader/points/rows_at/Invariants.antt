@@ -6,5 +6,5 @@ use Rattle.geos_image.proofs.Items.{with_front}
 use Rattle.geos_image.proofs.reader.points.rows_at.Given as goal
 
 abbrev pub invariant-loop : goal.invariant-loop
-invariant-loop l = (l.at ≡ l.start + 38 * l.counter) × (length l.rows.items ≡ l.counter) × (list_all is_row l.rows.items ≡ true)
-    × (with_front l.rows.items (items_at (row_at l.bytes) 38 (l.count - l.counter) l.at) ≡ items_at (row_at l.bytes) 38 l.count l.start)
+invariant-loop l = (l.at ≡ l.start + 38 * l.counter) × (length l.rows.items ≡ l.counter) × (list_all (is_row true) l.rows.items ≡ true)
+    × (with_front l.rows.items (items_at (row_at true l.bytes) 38 (l.count - l.counter) l.at) ≡ items_at (row_at true l.bytes) 38 l.count l.start)
