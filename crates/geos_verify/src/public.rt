@@ -38,12 +38,9 @@ fn may_all_be_one(slots: &[SlotState; 4], pairs: &[bool; 6]) -> bool
 {
     let [s0, s1, s2, s3] = *slots;
     let [p01, p02, p03, p12, p13, p23] = *pairs;
-    may_hold_one(p01, s0, s1)
-        && may_hold_one(p02, s0, s2)
-        && may_hold_one(p03, s0, s3)
-        && may_hold_one(p12, s1, s2)
-        && may_hold_one(p13, s1, s3)
-        && may_hold_one(p23, s2, s3)
+    let first = may_hold_one(p01, s0, s1) & may_hold_one(p02, s0, s2) & may_hold_one(p03, s0, s3);
+    let last = may_hold_one(p12, s1, s2) & may_hold_one(p13, s1, s3) & may_hold_one(p23, s2, s3);
+    first & last
 }
 
 /// Whether each caller from outside can meet the row: no block is held but borrowed ones, which may all be one, and each

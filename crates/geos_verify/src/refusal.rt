@@ -15,11 +15,11 @@ ghost use Rattle.geos_verify.specs.Uses.{UsesFit};
 use crate::body::Body;
 use crate::edges::{go_along, go_to_target};
 use crate::enough::{fits, names_empty_slot};
-use crate::public::{may_enter, may_leave};
 use crate::misuse::{
     changes_unmarked, commits_with_held, locks_into_held, passes_end, stale_pointer, wrong_slot,
 };
 use crate::potentials::{is_within, pays_along, pays_branching};
+use crate::public::{may_enter, may_leave};
 use crate::rule::Rule;
 use crate::touched::calls;
 use crate::uses::uses_at;
