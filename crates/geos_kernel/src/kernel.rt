@@ -134,8 +134,8 @@ impl<D: Device + Drop> Kernel<D> {
     /// What holds of the kernel's memory at all times: there is a VM file that the model may know
     /// beside it; each block in memory, of either owner, is a heap under its handle; sizes of
     /// blocks are legal and have room for their chunks, chunks are lists of bytes, and no block is
-    /// locked more often than it can be; no block of the VM file is locked exactly where the model has
-    /// none locked; what is seen of how often the device has failed is what it says; and in what a stop
+    /// locked more often than it can be; each block is locked as often as the model has it, and so no block of the VM
+    /// file exactly where the model has none locked; what is seen of how often the device has failed is what it says; and in what a stop
     /// leaves now `open` finds what the model has as kept.
     pub fn memory_is_legal(&self)
         ensures file { (f : model_file.VmFile) × IsFileOf (D.medium.honest self.now.device) self.now.core f }
@@ -145,6 +145,8 @@ impl<D: Device + Drop> Kernel<D> {
         ensures kept { LeavesKept D.medium self.now }
         ensures unlocked { (f : model_file.VmFile) → IsFileOf (D.medium.honest self.now.device) self.now.core f
             → NoneLocked self.now.core.blocks ↔ ((h : ℕ) → model.locks_of (memory_of self.now.core f) (vm h) ≡ 0) }
+        ensures locks { (f : model_file.VmFile) → IsFileOf (D.medium.honest self.now.device) self.now.core f
+            → (name : Name) → model.locks_of (memory_of self.now.core f) name ≡ store.locks_of self.now.core.blocks (slot_of name) }
     {
         // what lies in the region are bytes
         let _region = self.blocks.region();

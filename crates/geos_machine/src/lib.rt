@@ -8,6 +8,7 @@ mod blocks;
 mod chunks;
 mod files;
 mod head;
+mod lent;
 mod machine;
 mod outcome;
 mod step;

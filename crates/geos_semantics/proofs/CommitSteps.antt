@@ -1,5 +1,5 @@
 -- Each step of an instruction that writes the VM file goes well.
-use Rattle.std.proofs.Common.{◌≡◌, ℕ, zero, suc, ◌+◌, false, Option, Some, None, List, [], ◌∷◌, get_or, refl, sym, ap, ◌∙◌, subst, arith}
+use Rattle.std.proofs.Common.{Bool, ◌≡◌, ℕ, zero, suc, ◌+◌, false, Option, Some, None, List, [], ◌∷◌, get_or, refl, sym, ap, ◌∙◌, subst, arith}
 use Rattle.std.specs.List.{list_any}
 use Rattle.std.proofs.lemmas.Bool.{or_parts, cond_both}
 use Rattle.std.proofs.lemmas.List.Sums.{sum_by-cons}
@@ -105,13 +105,13 @@ module _ (base : Base) (s : State) (row : Row) (S : Sound base s) (M : Meets s r
       block-same : (h : ℕ) → block_of new (mem h) ≡ block_of s.memory (mem h)
       block-same h = ap (λ entries. at_handle None entries h) blocks
 
-      stay-mem : (h : ℕ) → Stays s.memory new (record { kind = MemBlock; handle = h; borrowed = false })
-      stay-mem h = record { is = λ k. rw (block-same h) k; mark = λ k. refl }
+      stay-mem : (h : ℕ) (borrowed : Bool) → Stays s.memory new (record { kind = MemBlock; handle = h; borrowed = borrowed })
+      stay-mem h borrowed = record { is = λ k. rw (block-same h) k; mark = λ k. refl }
 
       stay : HeldStay s.memory new s.slots
       stay k held e =
           let here : held.kind ≡ MemBlock = held-mem held (ap holds_of_file (sym e) ∙ slot-free s.slots k free) in
-          subst (λ kind. Stays s.memory new (record { kind = kind; handle = held.handle; borrowed = false })) (sym here) (stay-mem held.handle)
+          subst (λ kind. Stays s.memory new (record { kind = kind; handle = held.handle; borrowed = held.borrowed })) (sym here) (stay-mem held.handle held.borrowed)
 
       pointer-beside : (p : Option SlotReference) → PointerIsSound s.memory s.slots p → PointerIsSound new s.slots (kept_pointer a Nothing p)
       pointer-beside None k = tt

@@ -1,4 +1,5 @@
 -- What each change of a state does to the row that it meets.
+use Rattle.geos_verify.proofs.RowsFit.{flag-is}
 use Rattle.std.proofs.Common.{◌≡◌, ℕ, ◌+◌, ◌%◌, ◌≤◌, Bool, true, false, Option, Some, None, refl, ◌∙◌, arith, ◌*◌, ◌/◌, ◌^◌}
 use Rattle.std.specs.Prelude.{nat_le, ◌==◌, ◌&&◌, min, bit_and}
 use Rattle.std.proofs.lemmas.Bool.{eqb-true, and_parts, leb-true}

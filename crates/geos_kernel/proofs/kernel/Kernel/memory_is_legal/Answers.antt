@@ -4,6 +4,8 @@ use Rattle.geos_terms.specs.Names.{vm}
 use Rattle.geos_terms.specs.declared.name.Name.{Name}
 use Rattle.block_handles.specs.Names.{slot_of}
 use Rattle.block_handles.specs.Store.{IsThere, bytes_of}
+use Rattle.block_handles.specs.Store as store
+use Rattle.chunk_calls.proofs.Named.{locks-known}
 use Rattle.vm_file.specs.Outcomes.{IsHeapUnder}
 use Rattle.geos_calls.specs.Memory.{locks_of}
 use Rattle.geos_calls.specs.Legal.{IsMemory}
@@ -47,3 +49,10 @@ returns-clause-heaps g c =
 
 pub returns-clause-kept : goal.returns-clause-kept
 returns-clause-kept g c = subst (λ k. LeavesKept g.D.Device.medium k) c.self.view_is (leaves-kept g.D.Device.medium c.self.inside.vm c.self.inside.blocks c.is_sure.ensures.kept)
+
+pub returns-clause-locks : goal.returns-clause-locks
+returns-clause-locks g c =
+    let v = c.self.inside.vm in
+    let blocks = c.self.inside.blocks in
+    subst (λ k. (f : VmFile) → IsFileOf (g.D.Device.medium.honest k.device) k.core f → (name : Name) → locks_of (memory_of k.core f) name ≡ store.locks_of k.core.blocks (slot_of name)) c.self.view_is
+    (λ f tied name. locks-known g.D.Device.medium v blocks c.self.invariant.tied (memory_of (core_of g.D.Device.medium v blocks) f) (memory-known g.D.Device.medium v blocks f tied) name)
