@@ -4,13 +4,12 @@ use Rattle.std.specs.Prelude.{All, IfSome, option_and_then, option_map, bytes_eq
 use Rattle.std.specs.List.{position_from, cons_option, AllByRecursion}
 use Rattle.std.proofs.lemmas.List.Elements.{All-from_recursion}
 use Rattle.geos_image.specs.Parts.{Parts}
-use Rattle.geos_machine.specs.Runs.{admits}
 use Rattle.geos_cli.specs.declared.script.Call.{Call}
 use Rattle.geos_cli.specs.declared.script.Command.{Command}
 use Rattle.geos_cli.specs.declared.script.Command.TheVariants as command
 use Rattle.geos_text.specs.Words.{is_empty}
 use Rattle.geos_cli.specs.declared.script.Numbered.{Numbered}
-use Rattle.geos_cli.specs.Script.{IsAdmitted, routine_named, registers_of, call_named, how_named, command_of, commands_from, commands_of, is_bad, on_line, said}
+use Rattle.geos_cli.specs.Script.{IsAdmitted, routine_named, registers_of, call_named, how_named, command_of, commands_from, commands_of, is_bad, on_line, said, may_ask}
 
 -- a line that says nothing
 pub commands-blank : (image : Parts) (n : ℕ) (line : List ℕ) (lines : List (List ℕ)) → said line ≡ []
@@ -39,7 +38,7 @@ and_then-some : {T U : Type 0} (P : U → Type 0) (f : T → Option U) (o : Opti
 and_then-some P f None h = tt
 and_then-some P f (Some x) h = h x
 
-if_admitted-some : (image : Parts) (call : Call) (b : Bool) → admits image call.routine call.words ≡ b → IfSome (if b then Some call else None) (λ c. admits image c.routine c.words ≡ true)
+if_admitted-some : (image : Parts) (call : Call) (b : Bool) → may_ask image call ≡ b → IfSome (if b then Some call else None) (λ c. may_ask image c ≡ true)
 if_admitted-some image call true e = e
 if_admitted-some image call false e = tt
 
@@ -56,10 +55,10 @@ any-some None = tt
 any-some (Some x) = tt
 
 -- a call is one that the machine may be asked for
-pub call_named-admitted : (image : Parts) (name : List ℕ) (numbers : List (List ℕ)) → IfSome (call_named image name numbers) (λ c. admits image c.routine c.words ≡ true)
+pub call_named-admitted : (image : Parts) (name : List ℕ) (numbers : List (List ℕ)) → IfSome (call_named image name numbers) (λ c. may_ask image c ≡ true)
 call_named-admitted image name numbers =
-    and_then-some (λ c. admits image c.routine c.words ≡ true) _ (routine_named image name)
-    (λ r. and_then-some (λ c. admits image c.routine c.words ≡ true) _ (registers_of numbers) (λ ws. if_admitted-some image (record { routine = r; words = ws }) _ refl))
+    and_then-some (λ c. may_ask image c ≡ true) _ (routine_named image name)
+    (λ r. and_then-some (λ c. may_ask image c ≡ true) _ (registers_of numbers) (λ ws. if_admitted-some image (record { routine = r; words = ws }) _ refl))
 
 -- a command is one that may be asked for
 command_of-admitted : (image : Parts) (ws : List (List ℕ)) → IfSome (command_of image ws) (IsAdmitted image)

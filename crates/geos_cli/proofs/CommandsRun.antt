@@ -28,7 +28,7 @@ use Rattle.geos_cli.specs.declared.script.Numbered.{Numbered}
 use Rattle.geos_cli.specs.declared.script.RefusedCommit.{RefusedCommit}
 use Rattle.geos_input.specs.Counted.{AppendsPart}
 use Rattle.geos_cli.specs.Commits.{may_commit, last_may_commit, is_flush_due}
-use Rattle.geos_cli.specs.Script.{printed, committed, commands_of, Does, GoesOn, Prints, PrintsAhead, PrintsPart, PrintsRefused, PrintsTo, PrintsUpTo, From, IsAllowed, Leads, Loads, RanCommand, RanCommands, RanScript, RunsScript, StoppedCommand, StoppedCommands, StoppedScript, StopsScript, stage_of}
+use Rattle.geos_cli.specs.Script.{printed, committed, commands_of, Does, GoesOn, Prints, PrintsAhead, PrintsPart, PrintsRefused, PrintsTo, PrintsUpTo, From, IsAllowed, Leads, Loads, RanCommand, RanCommands, RanScript, RunsScript, StoppedCommand, StoppedCommands, StoppedScript, StopsScript, stage_of, no_handles}
 use Rattle.geos_text.specs.Words.{most_bytes}
 use Rattle.geos_cli.proofs.Prints.{does-wider, prints-more, ran-wider}
 
@@ -49,7 +49,7 @@ throughout-then medium old mid new h P Q R first second (passes, whole) (more, r
 -- the machine ran a call from the one kernel to the other
 abbrev RunsCall : Type 0 → Within → Parts → Call → Outcome → KernelState → KernelState → Type 0
 RunsCall honest within image call outcome kernel later =
-    (f : VmFile) → IsFileOf honest kernel f → RanWith honest within image call.routine call.words kernel later outcome f
+    (f : VmFile) → IsFileOf honest kernel f → RanWith honest within image call.routine call.words no_handles kernel later outcome f
 
 -- a stop in between leaves what the model has as kept beside the one, or beside the other
 abbrev StopsBetween : Type 0 → Within → KernelState → KernelState → Type 0
@@ -71,12 +71,12 @@ module _ (honest : Type 0) (within : Within) (image : Parts) (kernel later : Ker
       let r = ran f tied in
       let wide =
       ran-wider (IsChosen honest kernel later) (IsAllowed honest (failed_in kernel) (failed_in later)) (allowed-between honest kernel later r.lasts)
-      image call.routine call.words (memory_of kernel f) (memory_of later r.file) outcome r.ran in
+      image call.routine call.words no_handles (memory_of kernel f) (memory_of later r.file) outcome r.ran in
       record {
         file = r.file;
         tied = r.tied;
         lasts = r.lasts;
-        keeps = kept_along image r.ran.choices (begin image call.routine call.words (memory_of kernel f));
+        keeps = kept_along image r.ran.choices (begin image call.routine call.words no_handles (memory_of kernel f));
         does = (outcome, wide, refl, is, refl);
         stops = r.stops;
       }

@@ -14,7 +14,7 @@ use Rattle.geos_cli.specs.declared.script.Command.{Command}
 use Rattle.geos_cli.specs.declared.script.Command.TheVariants as command
 use Rattle.geos_cli.specs.declared.script.Mode.{Mode}
 use Rattle.geos_cli.specs.declared.script.Numbered.{Numbered}
-use Rattle.geos_cli.specs.Script.{Allows, Does, GoesOn, Prints, PrintsPart, PrintsUpTo, Stage}
+use Rattle.geos_cli.specs.Script.{Allows, Does, GoesOn, Prints, PrintsPart, PrintsUpTo, Stage, no_handles}
 
 -- one more command prints behind the others, where they left it, and the script goes on
 pub prints-more : (mode : Mode) (allows : Allows) (image : Parts) (commands : List Numbered) (before between after : Stage) (text : List ℕ) (keeps : List Kept)
@@ -43,9 +43,9 @@ prints-more mode allows image (first ∷ commands) before between after text kee
 -- What is said under some choices holds under more of them
 
 unfoldable pub ran-wider : (P Q : Choice → Type 0) → ((choice : Choice) → P choice → Q choice)
-    → (image : Parts) (r : ℕ) (words : List ℕ) (before after : Memory) (outcome : Outcome)
-    → Ran P image r words before after outcome → Ran Q image r words before after outcome
-ran-wider P Q wider image r words before after outcome ran = record {
+    → (image : Parts) (r : ℕ) (words handles : List ℕ) (before after : Memory) (outcome : Outcome)
+    → Ran P image r words handles before after outcome → Ran Q image r words handles before after outcome
+ran-wider P Q wider image r words handles before after outcome ran = record {
   choices = ran.choices;
   chosen = each-wider P Q wider ran.choices ran.chosen;
   last = ran.last;
@@ -61,7 +61,7 @@ pub does-wider : (P Q : Allows) (image : Parts) (c : Command) (result : Result (
 unfolding ran-wider
 does-wider P Q image (command.Call call) result before after text keeps wider (outcome, ran, done, e, k) = (
   outcome,
-  ran-wider (P before.failed after.failed) (Q before.failed after.failed) wider image call.routine call.words before.memory after.memory outcome ran,
+  ran-wider (P before.failed after.failed) (Q before.failed after.failed) wider image call.routine call.words no_handles before.memory after.memory outcome ran,
   done,
   e,
   k,
@@ -75,7 +75,7 @@ module _ (P Q : Allows) (back : (before now : ℕ) (choice : Choice) → P befor
     (wider : (before now : ℕ) → before ≡ 0 → now ≡ 0 → (choice : Choice) → P before now choice → Q before now choice) (mode : Mode) (image : Parts) where
   does-back : (c : Command) (result : Result (Unit {0}) Refusal) (before after : Stage) (text : List ℕ) (keeps : List Kept) → Does P image c result before after text keeps → after.failed ≡ 0 → before.failed ≡ 0
   does-back (command.Call call) result before after text keeps (outcome, ran, done, e, k) none =
-      let first = some-choice (P before.failed after.failed) image call.routine call.words before.memory after.memory outcome ran in
+      let first = some-choice (P before.failed after.failed) image call.routine call.words no_handles before.memory after.memory outcome ran in
       back before.failed after.failed first.0 first.1 none
   does-back (command.Commit how) result before after text keeps (choice, chosen, comes, e, k) none = back before.failed after.failed choice chosen none
 

@@ -53,7 +53,7 @@ module _ (image : Parts) (legal : is_image image ≡ true) (accepted : Accepted 
       let place = place-at image s.pc point there in
       let has : HasPoint image s.routine found.0 s.pc place.0 = record { there = found.1; within = found.2; read = place.1 } in
       exec-keeps kept r choice point.instr s same below image point.instr.opcode quiet (λ is.
-      let may = may_call image legal accepted s.routine s.pc found.0 place.0 has (rw (place.2.instr, is) refl) in
+      let may = may_call image.keyed image legal accepted s.routine s.pc found.0 place.0 has (rw (place.2.instr, is) refl) in
       let lower : point.instr.imm < s.routine = subst (λ (i : Instr). i.imm < s.routine) place.2.instr may.2 in
       omega (arith, lower, below.0))
 
@@ -110,7 +110,7 @@ module _ (image : Parts) (legal : is_image image ≡ true) (accepted : Accepted 
 -- a call that may not commit keeps what is kept
 pub other_calls_keep : OtherCallsKeep
 other_calls_keep image checked call never memory choices =
-    let start = begin image call.routine call.words memory in
+    let start = begin image call.routine call.words (0 ∷ 0 ∷ 0 ∷ 0 ∷ []) memory in
     let below : IsUpTo call.routine start = (omega arith, tt) in
     record {
       along = All-from_recursion (λ k. k ≡ memory.file.kept) (kept_along image choices start)

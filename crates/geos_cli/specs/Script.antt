@@ -2,7 +2,7 @@
 use Rattle.std.specs.Prelude.{◌≡◌, ◌<◌, ◌≤◌, ◌⊎◌, ℕ, ◌+◌, ◌-◌, Bool, true, ◌&&◌, not, nat_le, if◌then◌else◌, decimal, codes, bytes_eq}
 use Rattle.std.specs.Prelude.{List, [], ◌∷◌, ◌++◌, length, replicate, take, position, flat_map}
 use Rattle.std.specs.Prelude.{Option, Some, None, option_map, option_and_then, is_none, unwrap_or, Result, Ok, Err}
-use Rattle.std.specs.List.{cons_option, position_from}
+use Rattle.std.specs.List.{cons_option, position_from, list_all}
 use Rattle.std.specs.Str.Lines.{lines}
 use Rattle.std.specs.Io.KnownBytes.{Appends}
 use Rattle.geos_calls.specs.Memory as model
@@ -18,11 +18,11 @@ use Rattle.geos_kernel.specs.View.{KernelState, failed_in, memory_of, IsFileOf}
 use Rattle.geos_kernel.specs.Kernel.{HasRisen, NeverFell}
 use Rattle.geos_image.specs.declared.routine.Routine.{Routine}
 use Rattle.geos_image.specs.Parts.{Parts}
-use Rattle.geos_image.specs.Legal.{text_end}
+use Rattle.geos_image.specs.Legal.{text_end, is_own}
 use Rattle.geos_image.specs.Reading.{image_at}
 use Rattle.geos_verify.specs.Rules.{Accepted, FirstRefusal}
 use Rattle.geos_machine.specs.declared.outcome.Outcome.{Outcome}
-use Rattle.geos_machine.specs.Runs.{admits, begin, kept_along, OpensAsOneOf, Ran, Within}
+use Rattle.geos_machine.specs.Runs.{admits, begin, kept_along, OpensAsOneOf, Ran, Within, entry_slots}
 use Rattle.geos_text.specs.Words.{most_bytes}
 use Rattle.geos_cli.specs.declared.script.Call.{Call}
 use Rattle.geos_cli.specs.declared.script.Command.{Command}
@@ -37,9 +37,21 @@ use Rattle.geos_input.specs.declared.fault.ScriptFault.TheVariants.{TooLong, Bad
 use Rattle.geos_text.specs.Words.{is_empty, words, without_comment}
 use Rattle.geos_text.specs.Numbers.{number_of}
 
+-- the routine borrows no block
+abbrev pub borrows_none : Parts → ℕ → Bool
+borrows_none image r = list_all is_own (entry_slots image r)
+
+-- no handle for any slot
+abbrev pub no_handles : List ℕ
+no_handles = 0 ∷ 0 ∷ 0 ∷ 0 ∷ []
+
+-- the machine may be asked for the call, which lends no block
+abbrev pub may_ask : Parts → Call → Bool
+may_ask image call = admits image call.routine call.words && borrows_none image call.routine
+
 -- the machine may be asked for the call; a commit may always be asked for
 abbrev pub IsAdmitted : Parts → Command → Type 0
-IsAdmitted image (command.Call call) = admits image call.routine call.words ≡ true
+IsAdmitted image (command.Call call) = may_ask image call ≡ true
 IsAdmitted image (command.Commit how) = Unit {0}
 
 -- a routine's name without the zeros behind it
@@ -61,7 +73,7 @@ registers_of ws = if nat_le (length ws) 8 then option_map (λ ns. ns ++ replicat
 
 -- a call, if the machine may be asked for it
 abbrev pub if_admitted : Parts → Call → Option Call
-if_admitted image call = if admits image call.routine call.words then Some call else None
+if_admitted image call = if may_ask image call then Some call else None
 
 -- the call of the routine of that name on those numbers
 abbrev pub call_named : Parts → List ℕ → List (List ℕ) → Option Call
@@ -142,10 +154,10 @@ pub record IsAllowed (honest : Type 0) (before now : ℕ) (choice : Choice) : Ty
 abbrev pub Does : Allows → Parts → Command → Result (Unit {0}) Refusal → Stage → Stage → List ℕ → List Kept → Type 0
 Does allows image (command.Call call) result before after text keeps =
     (outcome : Outcome)
-    × (ran : Ran (allows before.failed after.failed) image call.routine call.words before.memory after.memory outcome)
+    × (ran : Ran (allows before.failed after.failed) image call.routine call.words no_handles before.memory after.memory outcome)
     × (result ≡ Ok tt)
     × (text ≡ printed outcome.output.items)
-    × (keeps ≡ kept_along image ran.choices (begin image call.routine call.words before.memory))
+    × (keeps ≡ kept_along image ran.choices (begin image call.routine call.words no_handles before.memory))
 Does allows image (command.Commit how) result before after text keeps =
     (choice : Choice)
     × allows before.failed after.failed choice

@@ -14,10 +14,9 @@ ghost use Rattle.geos_machine.specs.Runs.{Throughout};
 ghost use Rattle.vm_blocks.specs.Listed.{NoneLocked};
 
 use crate::call_fault::CallFault;
-use crate::script::{Call, Command, Mode, Numbered, carry_out_all, load, routine_named};
+use crate::script::{Call, Command, Mode, Numbered, carry_out_all, load, may_ask, routine_named};
 use geos_input::Counted;
 use geos_kernel::Kernel;
-use geos_machine::admits_words;
 use geos_text::number;
 use geos_verify::Checked;
 use std::alloc::Global;
@@ -44,8 +43,9 @@ fn call_on(checked: &Checked, name: &str, numbers: &[&str]) -> Option<Call>
 {
     let routine = routine_named(checked.image(), name.as_bytes())?;
     let words = registers_of_words(numbers)?;
-    if admits_words(checked, routine, &words) {
-        Some(Call { routine, words })
+    let call = Call { routine, words };
+    if may_ask(checked, &call) {
+        Some(call)
     } else {
         None
     }

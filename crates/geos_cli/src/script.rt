@@ -9,26 +9,28 @@ ghost use Rattle.vm_file.specs.State.{Steadily};
 ghost use Rattle.geos_input.specs.Fault.{KeptUnless};
 ghost use Rattle.geos_cli.specs.Commits.{commits, first_commit, may_commit, IsGiven};
 ghost use Rattle.geos_cli.specs.declared.script.Mode.TheVariants.{Lenient, Strict};
-ghost use Rattle.geos_cli.specs.Script.{GoesOn, IsAdmitted, routine_named, registers_of, call_named, how_named, command_of};
+ghost use Rattle.geos_cli.specs.Script.{GoesOn, IsAdmitted, borrows_none, may_ask, no_handles, routine_named, registers_of, call_named, how_named, command_of};
 ghost use Rattle.geos_cli.specs.Script.{commands_of, first_bad, IsBadLine, IsBadImage};
 ghost use Rattle.geos_cli.specs.Script.{RanCommand, StoppedCommand, RanCommands, StoppedCommands, RanScript, StoppedScript, ScriptEndsBy};
 ghost use Rattle.geos_kernel.specs.Files.{vm_file_of};
 ghost use Rattle.geos_kernel.specs.Kernel.{Calls};
 ghost use Rattle.geos_kernel.specs.View.{IsFileOf, SeesDevice};
-ghost use Rattle.geos_machine.specs.Runs.{OpensAsOneOf, Throughout};
+ghost use Rattle.geos_machine.specs.Runs.{OpensAsOneOf, RanWith, Throughout};
 ghost use Rattle.geos_calls.specs.VmFile.{VmFile};
 ghost use Rattle.geos_calls.specs.VmCalls.{commit};
 ghost use Rattle.vm_blocks.specs.Listed.{NoneLocked};
 ghost use Rattle.vm_blocks.specs.ListedCalls.{keeper_of};
+ghost use Rattle.std.specs.List.{list_all};
+ghost use Rattle.geos_image.specs.Legal.{is_own};
 ghost use Rattle.geos_image.specs.Reading.{image_at};
 ghost use Rattle.geos_verify.specs.Rules.{Accepted};
 ghost use Rattle.geos_text.specs.Words.{words};
 
 use crate::output::{give_before, print, print_refusal};
-use geos_image::{Image, Opcode, Point};
+use geos_image::{Image, Opcode, Point, SlotState};
 use geos_input::{Counted, MOST_BYTES, ScriptFault};
 use geos_kernel::Kernel;
-use geos_machine::{Machine, admits_words};
+use geos_machine::{Machine, Outcome, admits_words};
 use geos_terms::Refusal;
 use geos_text::{first_line, first_word, number, without_comment};
 use geos_verify::{Checked, check};
@@ -108,14 +110,40 @@ fn registers_of(numbers: &[u8]) -> Option<[u16; 8]>
     }
 }
 
+/// Whether no slot is borrowed.
+fn are_own(slots: &[SlotState]) -> bool
+    ensures { result ≡ list_all is_own slots.now }
+{
+    slots.iter().all(|state| state.is_own())
+}
+
+/// Whether the routine borrows no block.
+fn borrows_none(checked: &Checked, routine: u16) -> bool
+    ensures { result ≡ borrows_none checked.now routine }
+{
+    let image = checked.image();
+    if routine >= image.count() {
+        return true;
+    }
+    are_own(&image.routine(routine).entry.slots)
+}
+
+/// Whether the machine may be asked for the call, which lends no block.
+pub(crate) fn may_ask(checked: &Checked, call: &Call) -> bool
+    ensures { result ≡ may_ask checked.now call.now }
+{
+    admits_words(checked, call.routine, &call.words) && borrows_none(checked, call.routine)
+}
+
 /// The call of the routine of that name on those numbers, if the machine may be asked for it.
 fn call_named(checked: &Checked, name: &[u8], numbers: &[u8]) -> Option<Call>
     ensures { result ≡ call_named checked.now name.now (words numbers.now) }
 {
     let routine = routine_named(checked.image(), name)?;
     let words = registers_of(numbers)?;
-    if admits_words(checked, routine, &words) {
-        Some(Call { routine, words })
+    let call = Call { routine, words };
+    if may_ask(checked, &call) {
+        Some(call)
     } else {
         None
     }
@@ -234,6 +262,29 @@ fn keep<D: Device + Drop>(kernel: &mut Kernel<D>, how: How) -> Result<(), Refusa
     done
 }
 
+/// Runs the routine of a call, which lends it no block.
+fn run<D: Device + Drop>(
+    machine: &mut Machine,
+    checked: &Checked,
+    call: &Call,
+    kernel: &mut Kernel<D>,
+) -> Outcome
+    requires admitted { may_ask checked.now call.now ≡ true }
+    requires unlocked { NoneLocked kernel.old.core.blocks }
+    ensures ran { (f : VmFile) → IsFileOf (D.medium.honest kernel.old.device) kernel.old.core f
+        → RanWith (D.medium.honest kernel.old.device) (Throughout D.medium kernel.old.device kernel.new.device)
+        checked.now call.now.routine call.now.words no_handles kernel.old.core kernel.new.core result f }
+    ensures honest { D.medium.honest kernel.new.device ↔ D.medium.honest kernel.old.device }
+    ensures unlocked { NoneLocked kernel.new.core.blocks }
+    ensures sees { SeesDevice D.medium kernel.old × SeesDevice D.medium kernel.new }
+    ensures steadily { Steadily D.medium (vm_file_of kernel.old) (vm_file_of kernel.new) }
+{
+    // for the shape of the entry row, and how often blocks are locked
+    checked.image().len();
+    kernel.memory_is_legal();
+    machine.run(checked, call.routine, &call.words, &[0; 4], kernel)
+}
+
 /// Carries out a command, prints what a call puts out, or the number of a refusal, and gives what a
 /// commit came to. Where the command may commit, what was printed before has been given out.
 fn carry_out<W: Write, D: Device + Drop>(
@@ -261,7 +312,7 @@ fn carry_out<W: Write, D: Device + Drop>(
 {
     match command {
         Command::Call(call) => {
-            let outcome = machine.run(checked, call.routine, &call.words, kernel);
+            let outcome = run(machine, checked, call, kernel);
             print(outcome.output.as_slice(), out)?;
             Ok(Ok(()))
         }
