@@ -96,7 +96,11 @@ places_computed = record { second_in = refl; rows = refl; late_in = refl; outer_
 -- items of rows, in either order of a pair
 pub record Items : Type 0 where
   pub bound : item open_row (codes "w7<=9") ≡ Ok (record open_row { bounds = 65535 ∷ 65535 ∷ 65535 ∷ 65535 ∷ 65535 ∷ 65535 ∷ 65535 ∷ 9 ∷ [] })
-  pub slot : item open_row (codes "s1=vm!") ≡ Ok (record open_row { slots = Empty ∷ Vm true ∷ Empty ∷ Empty ∷ [] })
+  pub slot : item open_row (codes "s1=vm!") ≡ Ok (record open_row { slots = Empty ∷ Vm true false ∷ Empty ∷ Empty ∷ [] })
+  pub borrowed : item open_row (codes "s1=vm@") ≡ Ok (record open_row { slots = Empty ∷ Vm false true ∷ Empty ∷ Empty ∷ [] })
+  pub borrowed_marked : item open_row (codes "s1=vm@!") ≡ Ok (record open_row { slots = Empty ∷ Vm true true ∷ Empty ∷ Empty ∷ [] })
+  pub other_order : item open_row (codes "s1=vm!@") ≡ Err WrongOperands
+  pub group : item open_row (codes "s1=db@") ≡ Err WrongOperands
   pub pointer : item open_row (codes "p0=s3:8") ≡ Ok (record open_row { pointers = Some (record { slot = 3; least = 8 }) ∷ None ∷ None ∷ None ∷ [] })
   pub pair : item open_row (codes "s3#s1") ≡ Ok (record open_row { pairs = false ∷ false ∷ false ∷ false ∷ true ∷ false ∷ [] })
   pub same : item open_row (codes "s1#s1") ≡ Err WrongOperands
@@ -106,7 +110,7 @@ pub record Items : Type 0 where
 
 items_computed : Items
 unfolding with_line label_of name_of is_name_byte take_line header instruction constant register row_of item
-items_computed = record { bound = refl; slot = refl; pointer = refl; pair = refl; same = refl; form = refl; large = refl; least = refl }
+items_computed = record { bound = refl; slot = refl; borrowed = refl; borrowed_marked = refl; other_order = refl; group = refl; pointer = refl; pair = refl; same = refl; form = refl; large = refl; least = refl }
 
 -- lines: their ends, their comments, words with a colon, labels of the whole text
 pub record Said : Type 0 where

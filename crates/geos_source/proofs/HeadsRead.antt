@@ -15,8 +15,8 @@ use Rattle.geos_source.proofs.NamesRead.{name_of-legal}
 -- what an image asks of a routine, but that it has instructions
 pub record LegalHead (r : Routine) : Type 0 where
   pub name : is_name r.name ≡ true
-  pub entry : is_row r.entry ≡ true
-  pub exit : is_row r.exit ≡ true
+  pub entry : is_row true r.entry ≡ true
+  pub exit : is_row true r.exit ≡ true
 
 -- a routine of this name that has just begun
 record Begun (name : Option (List ℕ)) (r : Routine) : Type 0 where
@@ -73,5 +73,5 @@ legal_name (word ∷ words) name e = (name_of-legal word name e).0
 pub header-made : (words : List (List ℕ)) (r : Routine) → header words ≡ Ok r → (name_in_front words ≡ Some r.name) × (r.count ≡ 0) × LegalHead r
 header-made words r e =
     let begun = header_begun words r e in
-    let legal : LegalHead r = record { name = legal_name words r.name begun.named; entry = ap is_row begun.entry; exit = ap is_row begun.exit } in
+    let legal : LegalHead r = record { name = legal_name words r.name begun.named; entry = ap (is_row true) begun.entry; exit = ap (is_row true) begun.exit } in
     (begun.named, begun.empty, legal)

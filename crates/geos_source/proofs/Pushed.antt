@@ -29,16 +29,16 @@ is_named-push name done r =
     ∙ ap (λ b. is_named name (map routine_of done) || b) (or_nothing (bytes_eq r.routine.name name))
 
 -- a routine that may stand behind others
-pub is_routine-from : (earlier : List Routine) (r : Routine) → is_name r.name ≡ true → is_named r.name earlier ≡ false → 0 < r.count → is_row r.entry ≡ true → is_row r.exit ≡ true → is_routine earlier r ≡ true
+pub is_routine-from : (earlier : List Routine) (r : Routine) → is_name r.name ≡ true → is_named r.name earlier ≡ false → 0 < r.count → is_row true r.entry ≡ true → is_row true r.exit ≡ true → is_routine true earlier r ≡ true
 is_routine-from earlier r name new some entry exit =
     let a = is_name r.name in
     let b = not (is_named r.name earlier) in
     let c = nat_lt 0 r.count in
-    let d = is_row r.entry in
+    let d = is_row true r.entry in
     let two = and_from a b name (not_from_false (is_named r.name earlier) new) in
     let three = and_from (a && b) c two (lt-ltb 0 r.count some) in
     let four = and_from (a && b && c) d three entry in
-    and_from (a && b && c && d) (is_row r.exit) four exit
+    and_from (a && b && c && d) (is_row true r.exit) four exit
 
 -- what holds of a new value and of the old one holds of what a name stands for
 pub named-holds : (P : ℕ → Type 0) (same : Bool) (value v : ℕ) (old : Option ℕ) → P value → (old ≡ Some v → P v) → cond same (Some value) old ≡ Some v → P v

@@ -16,7 +16,7 @@ use Rattle.geos_source.proofs.ReadLaws.{ok_is, unless_faulty_is, list_all-set}
 use Rattle.geos_source.proofs.NumbersRead.{register_of-below}
 
 abbrev IsLegal : Row → Type 0
-IsLegal row = is_row row ≡ true
+IsLegal row = is_row true row ≡ true
 
 -- what reading answers is legal, if it is a row
 abbrev LegalIfRead : Result Row Why → Type 0
@@ -101,7 +101,7 @@ item_by-legal row None (Some s) pointer rest h = slot_item-legal row s rest (beh
 item_by-legal row None None (Some p) rest h = pointer_item-legal row p (behind (codes "=") rest) h
 item_by-legal row None None None rest h = not_read _
 
-pub item-legal : (row next : Row) (word : List ℕ) → is_row row ≡ true → item row word ≡ Ok next → is_row next ≡ true
+pub item-legal : (row next : Row) (word : List ℕ) → is_row true row ≡ true → item row word ≡ Ok next → is_row true next ≡ true
 unfolding item
 item-legal row next word h e =
     let front = take 2 word in
@@ -120,7 +120,7 @@ with_items-legal (word ∷ words) read h =
     (with_item-legal (item read.row word) read (λ next e. item-legal read.row next word h e) h)
 
 -- a row that is read is one that an image may have
-pub row_of-legal : (words : List (List ℕ)) (row : Row) → row_of words ≡ Ok row → is_row row ≡ true
+pub row_of-legal : (words : List (List ℕ)) (row : Row) → row_of words ≡ Ok row → is_row true row ≡ true
 unfolding row_of
 row_of-legal words row e =
     let start : RowRead = record { row = open_row; fault = None } in

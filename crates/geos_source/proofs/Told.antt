@@ -32,8 +32,8 @@ LegalInstr names i = (routines instrs : ℕ) → TableBelow routines names.routi
 pub record MayStandBehind (done : List TextRoutine) (r : Routine) : Type 0 where
   pub name : is_name r.name ≡ true
   pub new : is_named r.name (map routine_of done) ≡ false
-  pub entry : is_row r.entry ≡ true
-  pub exit : is_row r.exit ≡ true
+  pub entry : is_row true r.entry ≡ true
+  pub exit : is_row true r.exit ≡ true
 
 -- what is known of the routine that has begun, by where the next line stands
 abbrev pub Current : Part → List TextRoutine → Option TextRoutine → Type 0
@@ -47,7 +47,7 @@ Current Body done (Some r) = MayStandBehind done r.routine × (0 < r.routine.cou
 -- what lines without fault declare, beside what they say, where names stand for these
 pub record Told (names : Names) (d : Declared) (t : Draft) : Type 0 where
   pub part : Current t.progress.part t.routines t.progress.current
-  pub complete : are_routines [] (map routine_of t.routines) ≡ true
+  pub complete : are_routines true [] (map routine_of t.routines) ≡ true
   pub instrs : d.instrs ≡ length t.code
   pub routines : d.routines ≡ length (all_of t)
   pub short : length t.code ≤ 4096
@@ -129,7 +129,7 @@ labels-told names n (name ∷ labels) d t h =
 
 -- the routine that has begun is complete, if it has an instruction
 pub complete-told : (part : Part) (done : List TextRoutine) (current : Option TextRoutine) → Current part done current → unfilled part ≡ None
-    → are_routines [] (map routine_of done) ≡ true → are_routines [] (map routine_of (with_current done current)) ≡ true
+    → are_routines true [] (map routine_of done) ≡ true → are_routines true [] (map routine_of (with_current done current)) ≡ true
 complete-told Outside done None h filled legal = legal
 complete-told Outside done (Some r) h filled legal = absurd h
 complete-told (Head line has_in has_out) done current h filled legal = absurd cc
@@ -137,11 +137,11 @@ complete-told Body done None h filled legal = absurd h
 complete-told Body done (Some r) h filled legal =
     let b = h.0 in
     let here = is_routine-from (map routine_of done) r.routine b.name b.new h.1 b.entry b.exit in
-    subst (λ rs. are_routines [] rs ≡ true) (sym (routines-push done r)) (are_routines-push (map routine_of done) r.routine legal here)
+    subst (λ rs. are_routines true [] rs ≡ true) (sym (routines-push done r)) (are_routines-push true (map routine_of done) r.routine legal here)
 
 -- a routine of a new name has begun
 pub begun-told : (names : Names) (d : Declared) (t : Draft) (r : Routine) (line : ℕ) (f g : Option BadLine) → Told names d t → t.progress.waiting ≡ None → unfilled t.progress.part ≡ None
-    → length (all_of t) < 32 → d.names.routines r.name ≡ None → r.count ≡ 0 → is_name r.name ≡ true → is_row r.entry ≡ true → is_row r.exit ≡ true
+    → length (all_of t) < 32 → d.names.routines r.name ≡ None → r.count ≡ 0 → is_name r.name ≡ true → is_row true r.entry ≡ true → is_row true r.exit ≡ true
     → Told names
     (record { routines = min (d.routines + 1) 32; instrs = d.instrs; names = record { labels = d.names.labels; routines = with_name d.names.routines r.name d.routines }; fault = f })
     (record { routines = all_of t; code = t.code; progress = record { part = Head line false false; current = Some (record { line = line; routine = r }); waiting = None; fault = g } })

@@ -61,7 +61,7 @@ row_line-quiet n (Ok row) misplaced p quiet =
     (row, refl, unfollowed-none p.waiting (first-none _ _ q.0).1, at_line-none n misplaced q.1)
 
 -- a line `in`
-in-told : (names : Names) (n : ℕ) (read : Result Row Why) (d : Declared) (t : Draft) → ((row : Row) → read ≡ Ok row → is_row row ≡ true) → Told names d t → (take_in n read (drop_labels t.progress)).fault ≡ None
+in-told : (names : Names) (n : ℕ) (read : Result Row Why) (d : Declared) (t : Draft) → ((row : Row) → read ≡ Ok row → is_row true row ≡ true) → Told names d t → (take_in n read (drop_labels t.progress)).fault ≡ None
     → Told names d (record { routines = t.routines; code = t.code; progress = take_in n read (drop_labels t.progress) })
 in-told names n read d t legal h quiet =
     let line = row_line-quiet n read (misplaced_in t.progress.part) t.progress quiet in
@@ -69,7 +69,7 @@ in-told names n read d t legal h quiet =
     subst (λ (other : Result Row Why). Told names d (record { routines = t.routines; code = t.code; progress = take_in n other (drop_labels t.progress) })) (sym line.1) told
 
 -- a line `out`
-out-told : (names : Names) (n : ℕ) (read : Result Row Why) (d : Declared) (t : Draft) → ((row : Row) → read ≡ Ok row → is_row row ≡ true) → Told names d t → (take_out n read (drop_labels t.progress)).fault ≡ None
+out-told : (names : Names) (n : ℕ) (read : Result Row Why) (d : Declared) (t : Draft) → ((row : Row) → read ≡ Ok row → is_row true row ≡ true) → Told names d t → (take_out n read (drop_labels t.progress)).fault ≡ None
     → Told names d (record { routines = t.routines; code = t.code; progress = take_out n read (drop_labels t.progress) })
 out-told names n read d t legal h quiet =
     let line = row_line-quiet n read (misplaced_out t.progress.part) t.progress quiet in

@@ -53,7 +53,7 @@ module _ (names : Names) (d : Declared) (routines : List TextRoutine) (code : Li
 
   -- a line `in`
   pub in_part-told : (part : Part) (current : Option TextRoutine) (waiting : Option ℕ) (fault : Option BadLine) (n : ℕ) (row : Row) → Told names d (drafted routines code part current waiting fault)
-      → misplaced_in part ≡ None → waiting ≡ None → is_row row ≡ true
+      → misplaced_in part ≡ None → waiting ≡ None → is_row true row ≡ true
       → Told names d (record { routines = routines; code = code; progress = take_in n (Ok row) (drop_labels (record { part = part; current = current; waiting = waiting; fault = fault })) })
   in_part-told Outside current waiting fault n row h placed none legal = absurd cc
   in_part-told Body current waiting fault n row h placed none legal = absurd cc
@@ -66,7 +66,7 @@ module _ (names : Names) (d : Declared) (routines : List TextRoutine) (code : Li
 
   -- a line `out`
   pub out_part-told : (part : Part) (current : Option TextRoutine) (waiting : Option ℕ) (fault : Option BadLine) (n : ℕ) (row : Row) → Told names d (drafted routines code part current waiting fault)
-      → misplaced_out part ≡ None → waiting ≡ None → is_row row ≡ true
+      → misplaced_out part ≡ None → waiting ≡ None → is_row true row ≡ true
       → Told names d (record { routines = routines; code = code; progress = take_out n (Ok row) (drop_labels (record { part = part; current = current; waiting = waiting; fault = fault })) })
   out_part-told Outside current waiting fault n row h placed none legal = absurd cc
   out_part-told Body current waiting fault n row h placed none legal = absurd cc

@@ -28,8 +28,10 @@ bound_item row w (Some digits) = with_bound row w (numbered 65535 digits)
 abbrev pub slot_state_of : List ℕ → Option SlotState
 slot_state_of word =
     if bytes_eq word (codes "mem") then Some Mem
-    else if bytes_eq word (codes "vm") then Some (Vm false)
-    else if bytes_eq word (codes "vm!") then Some (Vm true)
+    else if bytes_eq word (codes "vm") then Some (Vm false false)
+    else if bytes_eq word (codes "vm!") then Some (Vm true false)
+    else if bytes_eq word (codes "vm@") then Some (Vm false true)
+    else if bytes_eq word (codes "vm@!") then Some (Vm true true)
     else if bytes_eq word (codes "db") then Some (Db false)
     else if bytes_eq word (codes "db!") then Some (Db true)
     else None

@@ -32,8 +32,22 @@ fn slot_state_of(word: &[u8]) -> Option<SlotState>
 {
     match word {
         b"mem" => Some(SlotState::Mem),
-        b"vm" => Some(SlotState::Vm { marked: false }),
-        b"vm!" => Some(SlotState::Vm { marked: true }),
+        b"vm" => Some(SlotState::Vm {
+            marked: false,
+            borrowed: false,
+        }),
+        b"vm!" => Some(SlotState::Vm {
+            marked: true,
+            borrowed: false,
+        }),
+        b"vm@" => Some(SlotState::Vm {
+            marked: false,
+            borrowed: true,
+        }),
+        b"vm@!" => Some(SlotState::Vm {
+            marked: true,
+            borrowed: true,
+        }),
         b"db" => Some(SlotState::Db { marked: false }),
         b"db!" => Some(SlotState::Db { marked: true }),
         _ => None,

@@ -1,12 +1,12 @@
 //! The parser.
 
 ghost use Rattle.std.specs.Prelude.{◌≡◌, true, Ok, IfOk, IfErr};
-ghost use Rattle.geos_image.specs.Legal.{is_image};
+ghost use Rattle.geos_image.specs.Legal.{is_formed};
 ghost use Rattle.geos_source.specs.Faults.{first};
 ghost use Rattle.geos_source.specs.Texts.{too_long, without_routine, code_of};
 ghost use Rattle.geos_source.specs.declared.parser.ParseError.TheVariants.{Memory};
 ghost use Rattle.geos_source.specs.Parsing.{code_in, IsWhyNot};
-ghost use Rattle.geos_source.specs.Skeletons.{skeleton};
+ghost use Rattle.geos_source.specs.Skeletons.{bare_whole};
 
 use crate::declarations::declare;
 use crate::draft::draft_of;
@@ -71,9 +71,9 @@ fn first_fault(text: &[u8], twice: Option<BadLine>, progress: Progress) -> Optio
 /// least line, and there the least number. `Memory` may come at any text.
 pub fn parse(alloc: Global, text: &[u8]) -> Result<Parsed, ParseError>
     ensures parsed { IfOk result (λ parsed. code_of text.now ≡ Ok (code_in parsed)) }
-    // The code makes an image: names are fit for one and stand for what there is, each routine has
+    // The code may stand in an image of version 2: names are fit for one and stand for what there is, each routine has
     // instructions, and there are no more than an image may have.
-    ensures legal { IfOk result (λ parsed. is_image (skeleton (code_in parsed)) ≡ true) }
+    ensures formed { IfOk result (λ parsed. is_formed true (bare_whole (code_in parsed)) ≡ true) }
     ensures bad { IfErr result (IsWhyNot text.now) }
 {
     let declarations = declare(alloc, text)?;

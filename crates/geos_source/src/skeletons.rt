@@ -1,13 +1,13 @@
 //! The image of a code of which nothing is found yet.
 
 ghost use Rattle.std.specs.Prelude.{◌≡◌, true, map, IfOk};
-ghost use Rattle.geos_image.specs.Legal.{is_image};
+ghost use Rattle.geos_image.specs.Legal.{is_formed};
 ghost use Rattle.geos_source.specs.Parsing.{code_in};
-ghost use Rattle.geos_source.specs.Skeletons.{routine_of, blank_point, skeleton};
+ghost use Rattle.geos_source.specs.Skeletons.{routine_of, blank_point, bare_whole, skeleton};
 
 use crate::parser::Parsed;
 use crate::progress::TextRoutine;
-use geos_image::{Image, Instr, Point, Potential, Routine, Row};
+use geos_image::{Image, Instr, Point, Potential, Routine, Row, Whole};
 use std::alloc::{AllocError, Global};
 
 /// The routines without their lines.
@@ -40,13 +40,13 @@ fn points_of(alloc: Global, instrs: &[Instr]) -> Result<Vec<Point>, AllocError>
     Ok(points)
 }
 
-/// The image of the code of a text, with the open row and no potential at each instruction: what
-/// rows and potentials are to be found for. `AllocError` where the allocator refuses memory.
+/// The image of version 2 of the code of a text, with the open row at its key places, and no potential: what rows and
+/// potentials are to be found for. `AllocError` where the allocator refuses memory.
 pub fn skeleton(alloc: Global, parsed: &Parsed) -> Result<Image, AllocError>
-    requires { is_image (skeleton (code_in parsed.now)) ≡ true }
+    requires { is_formed true (bare_whole (code_in parsed.now)) ≡ true }
     ensures { IfOk result (λ image. image ≡ skeleton (code_in parsed.now)) }
 {
     let routines = routines_of(alloc, &parsed.routines)?;
     let points = points_of(alloc, &parsed.instrs)?;
-    Ok(Image::of_legal(false, routines, points))
+    Ok(Whole::of_formed(routines, points).into_keyed())
 }
