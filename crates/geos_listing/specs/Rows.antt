@@ -18,11 +18,12 @@ bound_item i bound = if bound == 65535 then [] else codes " w" ++ decimal i ++ c
 abbrev pub held_item : ℕ → List ℕ → List ℕ
 held_item i word = codes " s" ++ decimal i ++ codes "=" ++ word
 
--- what a slot holds, in a word; `!` says that it is marked
+-- what a slot holds, in a word; `@` says that it is borrowed from the routine's caller, and `!` that it is marked
 abbrev pub state_word : SlotState → List ℕ
 state_word Empty = codes "empty"
 state_word Mem = codes "mem"
-state_word (Vm marked) = if marked then codes "vm!" else codes "vm"
+state_word (Vm marked false) = if marked then codes "vm!" else codes "vm"
+state_word (Vm marked true) = if marked then codes "vm@!" else codes "vm@"
 state_word (Db marked) = if marked then codes "db!" else codes "db"
 
 -- what a slot holds, unless it is empty

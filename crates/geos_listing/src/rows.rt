@@ -44,14 +44,21 @@ fn put_held(out: &mut Vec<u8>, i: usize, word: &str) -> Result<(), AllocError>
     out.extend_from_slice(word.as_bytes())
 }
 
-/// What a slot holds, in a word; `!` says that it is marked.
+/// What a slot holds, in a word; `@` says that it is borrowed from the routine's caller, and `!` that it is marked.
 pub fn state_word(state: SlotState) -> &'static str
     ensures { result.now ≡ state_word state }
 {
     match state {
         SlotState::Empty => "empty",
         SlotState::Mem => "mem",
-        SlotState::Vm { marked } => if marked { "vm!" } else { "vm" },
+        SlotState::Vm {
+            marked,
+            borrowed: false,
+        } => if marked { "vm!" } else { "vm" },
+        SlotState::Vm {
+            marked,
+            borrowed: true,
+        } => if marked { "vm@!" } else { "vm@" },
         SlotState::Db { marked } => if marked { "db!" } else { "db" },
     }
 }
