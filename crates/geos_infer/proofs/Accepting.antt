@@ -16,7 +16,7 @@ use Rattle.geos_verify.specs.Lists.{all2}
 use Rattle.geos_image.specs.Keys.{falls_through, branches}
 use Rattle.geos_verify.specs.declared.place.Place.{Place}
 use Rattle.geos_verify.specs.Places.{places, at_place}
-use Rattle.geos_verify.specs.Rows.{at_point, bound, fits, is_plain, row_along, row_branching}
+use Rattle.geos_verify.specs.Rows.{at_point, bound, fits, may_enter, may_leave, row_along, row_branching}
 use Rattle.geos_verify.specs.Touched.{calls, touches}
 use Rattle.geos_verify.specs.Potentials.{pays, pays_setting, pays_taking, pays_calling, budget_of, pays_along, pays_branching, is_within}
 use Rattle.geos_verify.specs.Rules.{returns, leaves_routine, names_empty_slot, entry_misfits, call_misfits, misfits_at, edge_misfits, unpaid_along, unpaid_branching, edge_unpaid, over_budget, tests, refusal}
@@ -127,9 +127,9 @@ accepts o found same r routine start pc i row wanted steps potential le accepted
   where
     entry : entry_misfits routine start pc wanted ≡ false → entry_misfits routine start pc row ≡ false
     entry h = not-both (pc == start) _ (λ at.
-        let other = second-false (pc == start) (not (fits routine.entry wanted) || (routine.public && not (is_plain routine.entry && is_plain routine.exit))) h at in
-        let parts = or_parts (not (fits routine.entry wanted)) (routine.public && not (is_plain routine.entry && is_plain routine.exit)) other in
-        neither (not (fits routine.entry row)) (routine.public && not (is_plain routine.entry && is_plain routine.exit)) (true-not (fits routine.entry row) (B.entry (eqb-true pc start at))) parts.1)
+        let other = second-false (pc == start) (not (fits routine.entry wanted) || (routine.public && not (may_enter routine.entry && may_leave routine.entry routine.exit))) h at in
+        let parts = or_parts (not (fits routine.entry wanted)) (routine.public && not (may_enter routine.entry && may_leave routine.entry routine.exit)) other in
+        neither (not (fits routine.entry row)) (routine.public && not (may_enter routine.entry && may_leave routine.entry routine.exit)) (true-not (fits routine.entry row) (B.entry (eqb-true pc start at))) parts.1)
 
     edges : edge_misfits found pc i row ≡ false
     edges = neither (falls_through i.opcode && misfits_at found (pc + 1) (row_along found i i.opcode row)) (branches i.opcode && misfits_at found i.target (row_branching i i.opcode row))

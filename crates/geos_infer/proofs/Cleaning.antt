@@ -107,7 +107,7 @@ shape-parts row h =
     }
 
 -- of that shape, it may stand in an image
-pub clean-legal : (row : Row) → is_shaped row ≡ true → is_row (clean row) ≡ true
+pub clean-legal : (row : Row) → is_shaped row ≡ true → is_row true (clean row) ≡ true
 unfolding names_empty_slot
 clean-legal row h =
     let p = shape-parts row h in

@@ -120,7 +120,7 @@ pub record Made (image : Parts) (known : List (Option Row)) (numbers : Numbers) 
   pub len : length points ≡ n
   pub each : (k : ℕ) (old : Point) → k < n → slice_get image.points k ≡ Some old
       → slice_get points k ≡ Some (point_of old.instr (row_of (known_at known k)) (slice_index numbers.steps k) (slice_index_or numbers.coefficients k []))
-  pub legal : (k : ℕ) → k < n → is_row (row_of (known_at known k)) ≡ true
+  pub legal : (k : ℕ) → k < n → is_row true (row_of (known_at known k)) ≡ true
 
 pub made-none : (image : Parts) (known : List (Option Row)) (numbers : Numbers) (points : List Point) → points ≡ [] → Made image known numbers 0 points
 made-none image known numbers points e = record {
@@ -130,14 +130,14 @@ made-none image known numbers points e = record {
 }
 
 pub made-more : (image : Parts) (known : List (Option Row)) (numbers : Numbers) (n : ℕ) (points next : List Point) (y : Point) (row : Row) → next ≡ points ++ y ∷ []
-    → IfSome (slice_get image.points n) (λ point. y.instr ≡ point.instr) → y.row ≡ Some row → row ≡ row_of (known_at known n) → is_row row ≡ true
+    → IfSome (slice_get image.points n) (λ point. y.instr ≡ point.instr) → y.row ≡ Some row → row ≡ row_of (known_at known n) → is_row true row ≡ true
     → y.potential.constant ≡ slice_index numbers.steps n → y.potential.coefficients ≡ slice_index_or numbers.coefficients n []
     → Made image known numbers n points → Made image known numbers (n + 1) next
 made-more image known numbers n points next y row e there given row_is legal constant coefficients M =
     let last : slice_get next n ≡ Some y = subst (λ (xs : List Point). slice_get xs n ≡ Some y) (sym e) (subst (λ (k : ℕ). slice_get (points ++ y ∷ []) k ≡ Some y) M.len (got_last points y)) in
     let P : ℕ → Type 0 = λ k. (old : Point) → slice_get image.points k ≡ Some old
     → slice_get next k ≡ Some (point_of old.instr (row_of (known_at known k)) (slice_index numbers.steps k) (slice_index_or numbers.coefficients k [])) in
-    let Q : ℕ → Type 0 = λ k. is_row (row_of (known_at known k)) ≡ true in
+    let Q : ℕ → Type 0 = λ k. is_row true (row_of (known_at known k)) ≡ true in
     let below : (k : ℕ) → k < n → P k = λ k lt old is.
     subst (λ (xs : List Point). slice_get xs k ≡ Some (point_of old.instr (row_of (known_at known k)) (slice_index numbers.steps k) (slice_index_or numbers.coefficients k []))) (sym e) (got_left points (y ∷ []) k (point_of old.instr (row_of (known_at known k)) (slice_index numbers.steps k) (slice_index_or numbers.coefficients k [])) (M.each k old lt is)) in
     let here : P n = λ old is.
@@ -146,7 +146,7 @@ made-more image known numbers n points next y row e there given row_is legal con
     record {
       len = ap length e ∙ (length_more points y ∙ ap (λ (k : ℕ). k + 1) M.len);
       each = λ k old lt is. below_more P n below here k lt old is;
-      legal = below_more Q n M.legal (subst (λ (w : Row). is_row w ≡ true) row_is legal);
+      legal = below_more Q n M.legal (subst (λ (w : Row). is_row true w ≡ true) row_is legal);
     }
 
 pub made-all : (image : Parts) (known : List (Option Row)) (numbers : Numbers) (n : ℕ) (points : List Point) → n ≡ length image.points → Made image known numbers n points → PointsOf image known numbers points

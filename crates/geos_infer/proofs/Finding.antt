@@ -11,7 +11,7 @@ use Rattle.geos_image.specs.declared.routine.Routine.{Routine}
 use Rattle.geos_image.specs.declared.point.Point.{Point}
 use Rattle.geos_image.specs.Parts.{Parts, start_of, total_count}
 use Rattle.geos_image.specs.Keys.{row_stands}
-use Rattle.geos_image.specs.Legal.{is_given, is_instr, is_point, are_routines, rows_stand, is_image}
+use Rattle.geos_image.specs.Legal.{is_given, is_instr, is_point, are_routines, rows_stand, is_formed, is_image}
 use Rattle.geos_image.proofs.Instrs.{image_parts}
 use Rattle.geos_verify.specs.declared.place.Place.{Place}
 use Rattle.geos_verify.specs.Places.{places}
@@ -32,6 +32,7 @@ use Rattle.geos_verify.proofs.Pairwise.{both}
 use Rattle.geos_verify.proofs.RowsFit.{fits-trans}
 use Rattle.geos_infer.proofs.Cleaning.{clean-least}
 use Rattle.geos_infer.proofs.Bodies.{lies}
+use Rattle.geos_infer.proofs.Borrowing.{routines-too}
 use Rattle.geos_infer.proofs.Flows.{all-reached}
 use Rattle.geos_infer.proofs.Ends.{code-at, code-length, code-place, same-edge}
 use Rattle.geos_infer.proofs.Wanted.{row_at, constant_at, map-get, routine-at, ends-at, closed-wanted, rows-wanted, steps-wanted, forward-in}
@@ -184,8 +185,8 @@ all-given most [] le each = refl
 all-given zero (point ∷ points) le each = absurd (omega (arith, le))
 all-given (suc most) (point ∷ points) le each = both (row_stands true point.row) (rows_stand (replicate most true) points) (each 0 point refl) (all-given most points (omega (arith, le)) (λ k other e. each (suc k) other e))
 
-pub found-legal : (image : Parts) (known : List (Option Row)) (numbers : Numbers) (points : List Point) → is_image image ≡ true → PointsOf image known numbers points → is_image (with_points image points) ≡ true
-found-legal image known numbers points legal P =
+pub found-formed : (image : Parts) (known : List (Option Row)) (numbers : Numbers) (points : List Point) → is_image image ≡ true → PointsOf image known numbers points → is_formed true (with_points image points) ≡ true
+found-formed image known numbers points legal P =
     let parts = image_parts image legal in
     let len = P.len in
     let r = length image.routines in
@@ -194,13 +195,13 @@ found-legal image known numbers points legal P =
     let few : nat_le r 32 ≡ true = le-leb r 32 parts.few in
     let short : nat_le n 4096 ≡ true = le-leb n 4096 (let s = parts.short in omega arith) in
     let counts : (total_count image.routines == n) ≡ true = eq-eqb (total_count image.routines) n (parts.counts ∙ sym len) in
-    let all : list_all (is_point r n) points ≡ true = list_all-from (is_point r n) points one in
+    let all : list_all (is_point true r n) points ≡ true = list_all-from (is_point true r n) points one in
     let given : rows_stand (replicate 4096 true) points ≡ true = all-given 4096 points (let s = parts.short in omega arith) (λ k point at. ap (λ (x : Point). row_stands true x.row) (sym (found k point at).2)) in
-    both (nat_lt 0 r && nat_le r 32 && are_routines [] image.routines && nat_le n 4096 && total_count image.routines == n && list_all (is_point r n) points) (rows_stand (replicate 4096 true) points)
-    (both (nat_lt 0 r && nat_le r 32 && are_routines [] image.routines && nat_le n 4096 && total_count image.routines == n) (list_all (is_point r n) points)
-    (both (nat_lt 0 r && nat_le r 32 && are_routines [] image.routines && nat_le n 4096) (total_count image.routines == n)
-    (both (nat_lt 0 r && nat_le r 32 && are_routines [] image.routines) (nat_le n 4096)
-    (both (nat_lt 0 r && nat_le r 32) (are_routines [] image.routines) (both (nat_lt 0 r) (nat_le r 32) some few) parts.routines) short) counts) all) given
+    both (nat_lt 0 r && nat_le r 32 && are_routines true [] image.routines && nat_le n 4096 && total_count image.routines == n && list_all (is_point true r n) points) (rows_stand (replicate 4096 true) points)
+    (both (nat_lt 0 r && nat_le r 32 && are_routines true [] image.routines && nat_le n 4096 && total_count image.routines == n) (list_all (is_point true r n) points)
+    (both (nat_lt 0 r && nat_le r 32 && are_routines true [] image.routines && nat_le n 4096) (total_count image.routines == n)
+    (both (nat_lt 0 r && nat_le r 32 && are_routines true [] image.routines) (nat_le n 4096)
+    (both (nat_lt 0 r && nat_le r 32) (are_routines true [] image.routines) (both (nat_lt 0 r) (nat_le r 32) some few) (routines-too image.keyed [] image.routines parts.routines)) short) counts) all) given
   where
     -- the point that was made for an instruction
     made : ℕ → Instr → Point
@@ -213,15 +214,15 @@ found-legal image known numbers points legal P =
         let old = item_at image.points k (omega arith) in
         (old.0, old.1, same_Some (made k old.0.instr) point (sym (P.each k old.0 old.1) ∙ at))
 
-    one : (k : ℕ) (point : Point) → slice_get points k ≡ Some point → is_point (length image.routines) (length points) point ≡ true
+    one : (k : ℕ) (point : Point) → slice_get points k ≡ Some point → is_point true (length image.routines) (length points) point ≡ true
     one k point at =
         let points_len = P.len in
         let old = found k point at in
-        let old_legal = list_all-get (is_point (length image.routines) (length image.points)) image.points k old.0 (image_parts image legal).points old.1 in
-        let instr = (and_parts (is_instr (length image.routines) (length image.points) old.0.instr) (is_given old.0.row) old_legal).0 in
+        let old_legal = list_all-get (is_point image.keyed (length image.routines) (length image.points)) image.points k old.0 (image_parts image legal).points old.1 in
+        let instr = (and_parts (is_instr (length image.routines) (length image.points) old.0.instr) (is_given image.keyed old.0.row) old_legal).0 in
         let here : is_instr (length image.routines) (length points) old.0.instr ≡ true = subst (λ (m : ℕ). is_instr (length image.routines) m old.0.instr ≡ true) (sym points_len) instr in
-        subst (λ (x : Point). is_point (length image.routines) (length points) x ≡ true) old.2
-        (both (is_instr (length image.routines) (length points) old.0.instr) (is_given (Some (row_of (known_at known k)))) here (P.legal k old.0 old.1))
+        subst (λ (x : Point). is_point true (length image.routines) (length points) x ≡ true) old.2
+        (both (is_instr (length image.routines) (length points) old.0.instr) (is_given true (Some (row_of (known_at known k)))) here (P.legal k old.0 old.1))
 
 -- the code of the image stays
 pub found-code : (image : Parts) (known : List (Option Row)) (numbers : Numbers) (points : List Point) → PointsOf image known numbers points → instrs_of (with_points image points) ≡ instrs_of image
@@ -266,10 +267,10 @@ module _ (image : Parts) (legal : is_image image ≡ true) (known : List (Option
       let L = plain image legal known numbers points zeros-at P in
       found-accepted image legal has.other has.same has.checked known numbers.steps points L r routine at.there (forward-at r) (rows-at r lt) (rows-of r lt) (counted-of r lt).steps pc point at
 
--- where an image with that code is accepted, what is found is
-pub found-checked : (image : Parts) → is_image image ≡ true → (known : List (Option Row)) (numbers : Numbers) (points : List Point) → HaveFlowed image known (length image.routines) → AreCounted image 0 (length image.routines) numbers
+-- where an image with that code is accepted, so is what is found
+pub found-acceptable : (image : Parts) → is_image image ≡ true → (known : List (Option Row)) (numbers : Numbers) (points : List Point) → HaveFlowed image known (length image.routines) → AreCounted image 0 (length image.routines) numbers
     → PointsOf image known numbers points → FindsWhatThereIs image (with_points image points)
-found-checked image legal known numbers points flowed counts P = λ forward has. (found-legal image known numbers points legal P, all-accepted image legal known numbers points flowed counts P forward has)
+found-acceptable image legal known numbers points flowed counts P = λ forward has. (found-formed image known numbers points legal P, all-accepted image legal known numbers points flowed counts P forward has)
 
 -- where nothing holds in some routine, no image is accepted
 pub none-accepted : (image : Parts) → is_image image ≡ true → (r : ℕ) → r < length image.routines → NothingHoldsIn image r → NoneIsAccepted image
@@ -290,17 +291,17 @@ stuck-in image r routines error names e none_rows why =
       ],
     )
 
--- The image that is made of them
+-- What is made of them
 
--- the image of these routines and points
+-- these routines and points
 abbrev pub made_of : List Routine → List Point → Parts
 made_of routines points = record { keyed = false; routines = routines; points = points }
 
 pub same-routines : (image : Parts) (routines : List Routine) → RoutinesOf image routines → routines ≡ image.routines
 same-routines image routines R = same-lists routines image.routines R.len R.each
 
-pub made-legal : (image : Parts) (routines : List Routine) (points : List Point) → RoutinesOf image routines → is_image (with_points image points) ≡ true → is_image (made_of routines points) ≡ true
-made-legal image routines points R h = subst (λ (rs : List Routine). is_image (made_of rs points) ≡ true) (sym (same-routines image routines R)) h
+pub made-formed : (image : Parts) (routines : List Routine) (points : List Point) → RoutinesOf image routines → is_formed true (with_points image points) ≡ true → is_formed true (made_of routines points) ≡ true
+made-formed image routines points R h = subst (λ (rs : List Routine). is_formed true (made_of rs points) ≡ true) (sym (same-routines image routines R)) h
 
 pub made-is : (image made : Parts) (routines : List Routine) (points : List Point) → RoutinesOf image routines → made ≡ made_of routines points → made ≡ with_points image points
 made-is image made routines points R e = e ∙ ap (λ (rs : List Routine). made_of rs points) (same-routines image routines R)

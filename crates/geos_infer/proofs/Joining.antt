@@ -7,11 +7,11 @@ use Rattle.geos_image.specs.declared.row.Pointer.{Pointer}
 use Rattle.geos_image.specs.declared.row.SlotState.{SlotState}
 use Rattle.geos_image.specs.declared.row.SlotState.TheVariants.{Empty, Mem, Vm, Db}
 use Rattle.geos_image.specs.Legal.{is_shaped}
-use Rattle.geos_verify.specs.Rows.{mark_fits, slot_fits, pointer_fits, pair_fits, fits}
+use Rattle.geos_verify.specs.Rows.{same_flag, mark_fits, slot_fits, pointer_fits, pair_fits, fits}
 use Rattle.geos_infer.specs.Joins.{slots_agree, slot_join, pointer_join, pair_join, agree, joined, IsLeastAbove, FitNothing}
 use Rattle.geos_verify.proofs.Pairwise.{both, as_long, as_long-from, all2-above, zip2-left, zip2-right, zip2-least}
 use Rattle.geos_infer.proofs.Cleaning.{shape-parts}
-use Rattle.geos_verify.proofs.RowsFit.{fitting, fits-from, slot-refl, pointer-none}
+use Rattle.geos_verify.proofs.RowsFit.{flag-is, fitting, fits-from, slot-refl, pointer-none}
 
 -- Bounds
 
@@ -46,11 +46,24 @@ marks_agree true b = refl
 marks_agree false true = refl
 marks_agree false false = refl
 
+-- VM blocks agree that are both borrowed, or neither
+borrowed_alike : (a b m n : Bool) → m ≡ n → slots_agree (Vm a m) (Vm b n) ≡ true
+borrowed_alike true b true true e = refl
+borrowed_alike true b false false e = refl
+borrowed_alike false true true true e = refl
+borrowed_alike false true false false e = refl
+borrowed_alike false false true true e = refl
+borrowed_alike false false false false e = refl
+borrowed_alike _ _ _ _ e = absurd cc
+
 -- two states that fit one agree
 slots-agree : (u x y : SlotState) → slot_fits x u ≡ true → slot_fits y u ≡ true → slots_agree x y ≡ true
 slots-agree Empty Empty Empty h j = refl
 slots-agree Mem Mem Mem h j = refl
-slots-agree (Vm u) (Vm a) (Vm b) h j = marks_agree a b
+slots-agree (Vm u l) (Vm a m) (Vm b n) h j =
+    let p = and_parts (mark_fits a u) (same_flag m l) h in
+    let q = and_parts (mark_fits b u) (same_flag n l) j in
+    borrowed_alike a b m n (flag-is m l p.1 ∙ sym (flag-is n l q.1))
 slots-agree (Db u) (Db a) (Db b) h j = marks_agree a b
 slots-agree _ _ _ h j = absurd cc
 

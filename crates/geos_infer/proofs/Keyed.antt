@@ -1,4 +1,4 @@
--- In version 2 the rows of an image hold where they do in version 1, and it is accepted where that is.
+-- In version 2 rows hold where they do with a row at each place, and what is accepted so is accepted there.
 use Rattle.std.proofs.Common.{◌≡◌, ℕ, suc, ◌+◌, Bool, true, false, List, [], ◌∷◌, length, map, Some, slice_get, refl, sym, ap, ◌∙◌, subst, arith}
 use Rattle.std.specs.Prelude.{option_map}
 use Rattle.std.specs.Option.{is_some}
@@ -10,7 +10,7 @@ use Rattle.geos_image.specs.declared.row.Row.{Row}
 use Rattle.geos_image.specs.declared.routine.Routine.{Routine}
 use Rattle.geos_image.specs.Parts.{Parts, start_of}
 use Rattle.geos_image.specs.Keys.{branches, gives, key_flags, keyed_of}
-use Rattle.geos_image.specs.Legal.{is_image}
+use Rattle.geos_image.specs.Legal.{is_formed}
 use Rattle.geos_image.proofs.Kept.{kept-instrs, keyed-same, row-there}
 use Rattle.geos_verify.specs.declared.place.Place.{Place}
 use Rattle.geos_verify.specs.Places.{places}
@@ -29,14 +29,14 @@ use Rattle.geos_infer.proofs.Wanted.{map-get}
 pub keyed-code : (image : Parts) → instrs_of (keyed_of image) ≡ instrs_of image
 keyed-code image = kept-instrs (key_flags image.routines (map instr_of image.points)) image.points
 
--- an image that is found is accepted in version 2 too
+-- what is found is accepted in version 2 too
 pub found-keyed : (skeleton image : Parts) → FindsWhatThereIs skeleton image → FindsWhatThereIs skeleton (keyed_of image)
 found-keyed skeleton image found = λ forward has. accepted_too image (found forward has)
 
 same-place : (x y : Place) → Some x ≡ Some y → x ≡ y
 same-place x y e = cc
 
-module _ (image : Parts) (legal : is_image image ≡ true) (all : image.keyed ≡ false) (r : ℕ) (routine : Routine) (there : slice_get image.routines r ≡ Some routine) (H : HoldWhereReached image r (rows_of image)) where
+module _ (image : Parts) (legal : is_formed true image ≡ true) (all : image.keyed ≡ false) (r : ℕ) (routine : Routine) (there : slice_get image.routines r ≡ Some routine) (H : HoldWhereReached image r (rows_of image)) where
   row-of : (pc : ℕ) (p : Place) → slice_get (places image) pc ≡ Some p → slice_get (rows_of image) pc ≡ Some p.row
   row-of pc p e = slice_get-map row_in (places image) pc ∙ ap (option_map row_in) e
 
@@ -157,7 +157,7 @@ module _ (image : Parts) (legal : is_image image ≡ true) (all : image.keyed �
   }
 
 -- so they hold in all routines
-pub all-hold-keyed : (image : Parts) → is_image image ≡ true → AllHoldWhereReached image → AllHoldWhereReached (keyed_of image)
+pub all-hold-keyed : (image : Parts) → is_formed true image ≡ true → AllHoldWhereReached image → AllHoldWhereReached (keyed_of image)
 all-hold-keyed image legal hold = by_version image.keyed refl
   where
     by_version : (b : Bool) → image.keyed ≡ b → AllHoldWhereReached (keyed_of image)

@@ -3,6 +3,7 @@ pub mod Joining
 pub mod Cleaning
 pub mod Ends
 pub mod Bodies
+pub mod Borrowing
 pub mod Flows
 pub mod Seeding
 pub mod Back

@@ -5,7 +5,7 @@ use Rattle.geos_image.specs.declared.row.Row.{Row}
 use Rattle.geos_image.specs.declared.routine.Routine.{Routine}
 use Rattle.geos_image.specs.Parts.{Parts, start_of}
 use Rattle.geos_image.specs.Keys.{gives, keyed_of}
-use Rattle.geos_image.specs.Legal.{is_image}
+use Rattle.geos_image.specs.Legal.{is_formed}
 use Rattle.geos_verify.specs.declared.place.Place.{Place}
 use Rattle.geos_verify.specs.Places.{places}
 use Rattle.geos_verify.specs.Rows.{fits}
@@ -47,7 +47,7 @@ AllHoldWhereReached image = (r : ℕ) → r < length image.routines → HoldWher
 
 -- rows that hold in an image do in version 2 too
 abbrev pub KeptRowsHold : Type 0
-KeptRowsHold = (image : Parts) → is_image image ≡ true → AllHoldWhereReached image → AllHoldWhereReached (keyed_of image)
+KeptRowsHold = (image : Parts) → is_formed true image ≡ true → AllHoldWhereReached image → AllHoldWhereReached (keyed_of image)
 
 -- What the verifier says of such rows
 

@@ -4,13 +4,13 @@ use Rattle.geos_image.specs.declared.row.Row.{Row}
 use Rattle.geos_image.specs.declared.point.Point.{Point}
 use Rattle.geos_image.specs.Parts.{Parts}
 use Rattle.geos_image.specs.Ranges.{ImageFits}
-use Rattle.geos_verify.specs.Rules.{IsChecked}
+use Rattle.geos_verify.specs.Rules.{IsAcceptable, IsChecked}
 use Rattle.geos_infer.specs.declared.error.InferError.{InferError}
 use Rattle.geos_infer.specs.declared.error.InferError.TheVariants.{NoRows, Memory}
 use Rattle.geos_infer.specs.Code.{SameCode, Forward, ForwardIn}
 use Rattle.geos_infer.specs.Solutions.{RowsHoldIn, StepsHoldIn}
 
--- the image that has these points in place of the image's own, and gives all rows
+-- the routines of the image with these points, and all rows
 abbrev pub with_points : Parts → List Point → Parts
 with_points image points = record { keyed = false; routines = image.routines; points = points }
 
@@ -21,9 +21,9 @@ pub record HasAccepted (image : Parts) : Type 0 where
   pub fits : ImageFits other
   pub checked : IsChecked other
 
--- an image is accepted, if its code has no loops and some image with that code is
+-- what is found is accepted, if its code has no loops and some image with that code is
 abbrev pub FindsWhatThereIs : Parts → Parts → Type 0
-FindsWhatThereIs skeleton found = Forward skeleton → HasAccepted skeleton → IsChecked found
+FindsWhatThereIs skeleton found = Forward skeleton → HasAccepted skeleton → IsAcceptable found
 
 -- no image is accepted that has this code, or the code has loops
 abbrev pub NoneIsAccepted : Parts → Type 0

@@ -179,7 +179,7 @@ fn pointers_without_empty(row: &Row) -> [Option<Pointer>; 4]
 pub fn clean(row: &Row) -> Row
     ensures value { result ≡ clean row.now }
     ensures least { IsLeastClean row.now result }
-    ensures legal { is_row result ≡ true }
+    ensures legal { is_row true result ≡ true }
 {
     shape(row);
     Row {

@@ -26,7 +26,7 @@ const STRONGEST: Row = Row {
 /// The row at a place where this much is known.
 pub(crate) fn row_of(known: &Option<Row>) -> Row
     ensures value { result ≡ row_of known.now }
-    ensures legal { is_row result ≡ true }
+    ensures legal { is_row true result ≡ true }
 {
     match known {
         None => STRONGEST,

@@ -13,7 +13,7 @@ use crate::error::InferError;
 use crate::flow::row_of;
 use crate::rows::find_rows;
 use crate::table::{Known, Potentials};
-use geos_image::{Image, Point, Routine};
+use geos_image::{Image, Point, Routine, Whole};
 use std::alloc::{AllocError, Global};
 
 /// The instructions of the image, with the rows and potentials that were found.
@@ -47,25 +47,24 @@ fn routines_of(alloc: Global, image: &Image) -> Result<Vec<Routine>, AllocError>
     Ok(routines)
 }
 
-/// An image with the code of the skeleton (its routines, with entry and exit rows and budgets,
-/// and its instructions), and with rows and potentials that are found for it; those of the
-/// skeleton are not looked at. It is of version 1: a row stands at each instruction. `Image::into_keyed` leaves those
-/// out that the verifier computes.
+/// The code of the skeleton (its routines, with entry and exit rows and budgets, and its instructions), with a row and a
+/// potential at each instruction that are found for it; those of the skeleton are not looked at. `Whole::into_keyed`
+/// leaves those rows out that the verifier computes.
 ///
 /// The rows hold wherever control reaches, in loops too, so that the verifier's rules on rows pass
 /// there (`rows_that_hold_pass`).
 ///
 /// Where there is no LOOP, no edge leads back, and each instruction but a routine's first has an
-/// edge into it, the verifier accepts the image that is answered if it accepts any with that code.
-/// The image may be one that it refuses: then `geos_verify::check` says where. `NoRows` names a
+/// edge into it, the verifier accepts what is answered, in version 2 too, if it accepts any image with that code.
+/// It may be such that the verifier refuses it: then `geos_verify::check` says where. `NoRows` names a
 /// routine for which no rows or no potentials were found; that it is the first such one is not
 /// proved. If it has no LOOP, no edge that leads back, and an edge of its own into each instruction
 /// but the first, no rows and numbers of steps hold in it, whatever the others are.
-pub fn infer(alloc: Global, skeleton: &Image) -> Result<Image, InferError>
-    ensures code { IfOk result (λ image. SameCode skeleton.now image) }
-    ensures version { IfOk result (λ image. image.keyed ≡ false) }
+pub fn infer(alloc: Global, skeleton: &Image) -> Result<Whole, InferError>
+    ensures code { IfOk result (λ whole. SameCode skeleton.now whole) }
+    ensures all { IfOk result (λ whole. whole.keyed ≡ false) }
     ensures rows { IfOk result AllHoldWhereReached }
-    ensures found { IfOk result (λ image. FindsWhatThereIs skeleton.now image) }
+    ensures found { IfOk result (λ whole. FindsWhatThereIs skeleton.now whole) }
     ensures none { IfErr result (λ error. (r : ℕ) → error ≡ NoRows r → NoneIsAccepted skeleton.now) }
     ensures stuck { IfErr result (λ error. (r : ℕ) → error ≡ NoRows r → NothingHoldsIn skeleton.now r) }
     ensures within { IfErr result (NamesRoutine skeleton.now) }
@@ -81,7 +80,7 @@ pub fn infer(alloc: Global, skeleton: &Image) -> Result<Image, InferError>
         points_of(alloc, skeleton, &known, &potentials)?
     };
     let routines = routines_of(alloc, skeleton)?;
-    Ok(Image::of_legal(false, routines, points))
+    Ok(Whole::of_formed(routines, points))
 }
 
 /// A law: where the rows of an image hold, the verifier's rules on rows pass wherever control reaches. No
@@ -91,7 +90,7 @@ pub fn rows_that_hold_pass()
     ensures { RowsThatHoldPass }
 {}
 
-/// A law: where the rows of an image hold, they do in version 2 too (`Image::into_keyed`).
+/// A law: where rows at each place hold, they do in version 2 too (`Whole::into_keyed`).
 pub fn kept_rows_hold()
     ensures { KeptRowsHold }
 {}

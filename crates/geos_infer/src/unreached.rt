@@ -80,7 +80,10 @@ fn slots_before(i: &Instr, behind: &[SlotState; 4]) -> [SlotState; 4]
         SlotUse::Unlocks(kind) => {
             slots[i.a as usize] = match kind {
                 Kind::MemBlock => SlotState::Mem,
-                Kind::VmBlock => SlotState::Vm { marked: true },
+                Kind::VmBlock => SlotState::Vm {
+                    marked: true,
+                    borrowed: false,
+                },
                 Kind::DbGroup => SlotState::Db { marked: true },
             };
         }

@@ -5,7 +5,7 @@ use Rattle.geos_infer.specs.Count.{AreCounted}
 use Rattle.geos_infer.specs.Numbers.{numbers_of}
 use Rattle.geos_infer.specs.Reached.{AllHoldWhereReached}
 use Rattle.geos_infer.specs.Theorem.{FindsWhatThereIs, with_points}
-use Rattle.geos_infer.proofs.Finding.{found-legal, found-code, found-checked, none-accepted, stuck-in, made-legal, made-is, made-code}
+use Rattle.geos_infer.proofs.Finding.{found-formed, found-code, found-acceptable, none-accepted, stuck-in, made-formed, made-is, made-code}
 use Rattle.geos_infer.proofs.Reaching.{fit-holds}
 use Rattle.geos_infer.proofs.inference.infer.Goals as goal
 
@@ -18,29 +18,29 @@ returns-in-Err-clause-none c = λ r e.
 pub returns-in-Err-clause-stuck : goal.returns-in-Err-clause-stuck
 returns-in-Err-clause-stuck c = λ r e. (stuck-in c.args.skeleton.now r c.in_ok-known.routines c.in-Err.error c.in-Err.ensures.within e c.in_ok-known.ensures.none (c.in-Err.ensures.none r e)).1
 
-pub of_legal-requires : goal.of_legal-requires
-of_legal-requires c =
+pub of_formed-requires : goal.of_formed-requires
+of_formed-requires c =
     let image = c.args.skeleton.now in
     let points = c.in_ok-points.points.items in
-    let legal = found-legal image c.in_ok-known.known (numbers_of c.in-Ok.potentials) points c.len-legal.ensures.legal c.in_ok-points.ensures in
-    made-legal image c.in_ok-routines.routines.items points c.in_ok-routines.ensures legal
+    let formed = found-formed image c.in_ok-known.known (numbers_of c.in-Ok.potentials) points c.len-legal.ensures.legal c.in_ok-points.ensures in
+    made-formed image c.in_ok-routines.routines.items points c.in_ok-routines.ensures formed
 
 pub returns-clause-code : goal.returns-clause-code
 returns-clause-code c =
     let image = c.args.skeleton.now in
     let points = c.in_ok-points.points.items in
-    let is = made-is image c.of_legal.result c.in_ok-routines.routines.items points c.in_ok-routines.ensures c.of_legal.ensures in
-    made-code image c.of_legal.result points is (found-code image c.in_ok-known.known (numbers_of c.in-Ok.potentials) points c.in_ok-points.ensures)
+    let is = made-is image c.of_formed.result c.in_ok-routines.routines.items points c.in_ok-routines.ensures c.of_formed.ensures in
+    made-code image c.of_formed.result points is (found-code image c.in_ok-known.known (numbers_of c.in-Ok.potentials) points c.in_ok-points.ensures)
 
 pub returns-clause-found : goal.returns-clause-found
 returns-clause-found c =
     let image = c.args.skeleton.now in
     let points = c.in_ok-points.points.items in
-    let is = made-is image c.of_legal.result c.in_ok-routines.routines.items points c.in_ok-routines.ensures c.of_legal.ensures in
+    let is = made-is image c.of_formed.result c.in_ok-routines.routines.items points c.in_ok-routines.ensures c.of_formed.ensures in
     let all = c.in-Ok.ensures.all in
     let flowed = subst (λ (n : ℕ). HaveFlowed image c.in_ok-known.known n) all (c.in_ok-known.ensures.found all) in
     let counted = subst (λ (n : ℕ). AreCounted image 0 n (numbers_of c.in-Ok.potentials)) all c.in-Ok.ensures.counted in
-    let found = found-checked image c.len-legal.ensures.legal c.in_ok-known.known (numbers_of c.in-Ok.potentials) points flowed counted c.in_ok-points.ensures in
+    let found = found-acceptable image c.len-legal.ensures.legal c.in_ok-known.known (numbers_of c.in-Ok.potentials) points flowed counted c.in_ok-points.ensures in
     subst (λ (x : Parts). FindsWhatThereIs image x) (sym is) found
 
 pub returns-clause-rows : goal.returns-clause-rows
@@ -48,7 +48,7 @@ returns-clause-rows c =
     let image = c.args.skeleton.now in
     let known = c.in_ok-known.known in
     let points = c.in_ok-points.points.items in
-    let is = made-is image c.of_legal.result c.in_ok-routines.routines.items points c.in_ok-routines.ensures c.of_legal.ensures in
+    let is = made-is image c.of_formed.result c.in_ok-routines.routines.items points c.in_ok-routines.ensures c.of_formed.ensures in
     let codes = found-code image known (numbers_of c.in-Ok.potentials) points c.in_ok-points.ensures in
     let hold : AllHoldWhereReached (with_points image points) = (λ r lt. fit-holds image known (numbers_of c.in-Ok.potentials) points c.in_ok-points.ensures codes r (c.in_ok-known.ensures.fit r (let all = c.in-Ok.ensures.all in omega arith))) in
     subst AllHoldWhereReached (sym is) hold
