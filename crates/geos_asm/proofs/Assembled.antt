@@ -5,7 +5,7 @@ use Rattle.std.proofs.lemmas.List.{length-map}
 use Rattle.std.proofs.lemmas.Option.{slice_get_read}
 use Rattle.geos_image.specs.Parts.{Parts}
 use Rattle.geos_image.specs.Keys.{keyed_of}
-use Rattle.geos_image.specs.Legal.{is_image}
+use Rattle.geos_image.specs.Legal.{is_formed}
 use Rattle.geos_source.specs.declared.progress.TextRoutine.{TextRoutine}
 use Rattle.geos_source.specs.Texts.{Code, code_of}
 use Rattle.geos_source.specs.Skeletons.{routine_of, skeleton}
@@ -16,19 +16,23 @@ use Rattle.geos_infer.specs.Theorem.{FindsWhatThereIs, NoneIsAccepted, NothingHo
 use Rattle.geos_infer.specs.Causes.{Holds}
 use Rattle.geos_infer.proofs.Keyed.{keyed-code, found-keyed, all-hold-keyed}
 use Rattle.geos_infer.specs.declared.cause.Cause.{Cause}
-use Rattle.geos_asm.specs.Assembling.{IsAssembled, HasNoRows, IsCauseOf}
+use Rattle.geos_asm.specs.Assembling.{IsAssembled, RunsIfAnyDoes, HasNoRows, IsCauseOf}
 
--- an image of a text is one in version 2 too
-pub assembled_keyed : (text : List ℕ) (image : Parts) → is_image image ≡ true → IsAssembled text image → IsAssembled text (keyed_of image)
-assembled_keyed text image legal A = record {
+-- what is assembled of a text is so in version 2 too
+pub assembled_keyed : (text : List ℕ) (image : Parts) → is_formed true image ≡ true → IsAssembled text image → IsAssembled text (keyed_of image)
+assembled_keyed text image formed A = record {
   code = A.code;
   read = A.read;
   has = record { routines = A.has.routines; instrs = keyed-code image ∙ A.has.instrs };
-  rows = all-hold-keyed image legal A.rows;
+  rows = all-hold-keyed image formed A.rows;
   found = found-keyed (skeleton A.code) image A.found;
 }
 
--- an image with the skeleton's code has the code of the text
+-- and may run there, if any image may
+pub runs_if_any : (text : List ℕ) (image : Parts) → IsAssembled text image → RunsIfAnyDoes text (keyed_of image)
+runs_if_any text image A = record { code = A.code; read = A.read; found = found-keyed (skeleton A.code) image A.found }
+
+-- what has the skeleton's code has the code of the text
 pub assembled : (text : List ℕ) (code : Code) (blank image : Parts) → code_of text ≡ Ok code → blank ≡ skeleton code → SameCode blank image → AllHoldWhereReached image → FindsWhatThereIs blank image → IsAssembled text image
 assembled text code blank image read is same rows found =
     let same_code = subst (λ (b : Parts). SameCode b image) is same in

@@ -23,44 +23,44 @@ pub record IsListed (r : Routine) : Type 0 where
   pub exit : IsSound r.exit
 
 -- the parts of the rule for routines
-record Legal (earlier : List Routine) (r : Routine) : Type 0 where
+record Legal (borrows : Bool) (earlier : List Routine) (r : Routine) : Type 0 where
   name : is_name r.name ≡ true
   new : not (is_named r.name earlier) ≡ true
   some : 0 < r.count
-  entry : is_row r.entry ≡ true
-  exit : is_row r.exit ≡ true
+  entry : is_row borrows r.entry ≡ true
+  exit : is_row borrows r.exit ≡ true
 
-legal_parts : (earlier : List Routine) (r : Routine) → is_routine earlier r ≡ true → Legal earlier r
-legal_parts earlier r h =
+legal_parts : (borrows : Bool) (earlier : List Routine) (r : Routine) → is_routine borrows earlier r ≡ true → Legal borrows earlier r
+legal_parts borrows earlier r h =
     let name = is_name r.name in
     let new = not (is_named r.name earlier) in
     let some = nat_lt 0 r.count in
-    let p = and_parts (name && new && some && is_row r.entry) (is_row r.exit) h in
-    let q = and_parts (name && new && some) (is_row r.entry) p.0 in
+    let p = and_parts (name && new && some && is_row borrows r.entry) (is_row borrows r.exit) h in
+    let q = and_parts (name && new && some) (is_row borrows r.entry) p.0 in
     let s = and_parts (name && new) some q.0 in
     let t = and_parts name new s.0 in
     record { name = t.0; new = t.1; some = ltb-true 0 r.count s.1; entry = q.1; exit = p.1 }
 
 -- what the rule says of one of the routines
-legal_at : (earlier routines : List Routine) (n : ℕ) (r : Routine) → are_routines earlier routines ≡ true → slice_get routines n ≡ Some r → (before : List Routine) × Legal before r
-legal_at earlier [] n r h e = absurd cc
-legal_at earlier (x ∷ routines) zero r h e =
+legal_at : (borrows : Bool) (earlier routines : List Routine) (n : ℕ) (r : Routine) → are_routines borrows earlier routines ≡ true → slice_get routines n ≡ Some r → (before : List Routine) × Legal borrows before r
+legal_at borrows earlier [] n r h e = absurd cc
+legal_at borrows earlier (x ∷ routines) zero r h e =
     let same : x ≡ r = cc in
-    let here = legal_parts earlier x (and_parts (is_routine earlier x) (are_routines (earlier ++ x ∷ []) routines) h).0 in
-    (earlier, subst (Legal earlier) same here)
-legal_at earlier (x ∷ routines) (suc n) r h e =
-    legal_at (earlier ++ x ∷ []) routines n r (and_parts (is_routine earlier x) (are_routines (earlier ++ x ∷ []) routines) h).1 e
+    let here = legal_parts borrows earlier x (and_parts (is_routine borrows earlier x) (are_routines borrows (earlier ++ x ∷ []) routines) h).0 in
+    (earlier, subst (Legal borrows earlier) same here)
+legal_at borrows earlier (x ∷ routines) (suc n) r h e =
+    legal_at borrows (earlier ++ x ∷ []) routines n r (and_parts (is_routine borrows earlier x) (are_routines borrows (earlier ++ x ∷ []) routines) h).1 e
 
 listed : (image : Parts) (n : ℕ) (r : Routine) → is_image image ≡ true → RoutineFits r → slice_get image.routines n ≡ Some r → IsListed r
 listed image n r legal fits e =
-    let parts = (legal_at [] image.routines n r (image_parts image legal).routines e).1 in
+    let parts = (legal_at image.keyed [] image.routines n r (image_parts image legal).routines e).1 in
     record {
       name = parts.name;
       long = fits.name;
       budget = fits.budget;
       some = parts.some;
-      entry = is_sound r.entry parts.entry fits.entry;
-      exit = is_sound r.exit parts.exit fits.exit;
+      entry = is_sound image.keyed r.entry parts.entry fits.entry;
+      exit = is_sound image.keyed r.exit parts.exit fits.exit;
     }
 
 -- ---- names are different
@@ -78,29 +78,29 @@ not_first name (y ∷ earlier) later x h =
     not_first name earlier later x (ap not p.1)
 
 -- routines behind one lack its name
-later_lack : (earlier between routines : List Routine) (x r : Routine) (n : ℕ) → are_routines (earlier ++ (x ∷ between)) routines ≡ true → slice_get routines n ≡ Some r → bytes_eq x.name r.name ≡ false
-later_lack earlier between [] x r n h e = absurd cc
-later_lack earlier between (y ∷ routines) x r zero h e =
+later_lack : (borrows : Bool) (earlier between routines : List Routine) (x r : Routine) (n : ℕ) → are_routines borrows (earlier ++ (x ∷ between)) routines ≡ true → slice_get routines n ≡ Some r → bytes_eq x.name r.name ≡ false
+later_lack borrows earlier between [] x r n h e = absurd cc
+later_lack borrows earlier between (y ∷ routines) x r zero h e =
     let all = earlier ++ (x ∷ between) in
     let same : y ≡ r = cc in
-    let here = legal_parts all y (and_parts (is_routine all y) (are_routines (all ++ y ∷ []) routines) h).0 in
+    let here = legal_parts borrows all y (and_parts (is_routine borrows all y) (are_routines borrows (all ++ y ∷ []) routines) h).0 in
     subst (λ (s : Routine). bytes_eq x.name s.name ≡ false) same (not_first y.name earlier between x here.new)
-later_lack earlier between (y ∷ routines) x r (suc n) h e =
+later_lack borrows earlier between (y ∷ routines) x r (suc n) h e =
     let all = earlier ++ (x ∷ between) in
-    let rest = (and_parts (is_routine all y) (are_routines (all ++ y ∷ []) routines) h).1 in
-    later_lack earlier (between ++ y ∷ []) routines x r n
-    (ap (λ (front : List Routine). are_routines front routines) (sym (append_assoc earlier (x ∷ between) (y ∷ []))) ∙ rest) e
+    let rest = (and_parts (is_routine borrows all y) (are_routines borrows (all ++ y ∷ []) routines) h).1 in
+    later_lack borrows earlier (between ++ y ∷ []) routines x r n
+    (ap (λ (front : List Routine). are_routines borrows front routines) (sym (append_assoc earlier (x ∷ between) (y ∷ []))) ∙ rest) e
 
-lack_at : (earlier routines : List Routine) (i j : ℕ) (x r : Routine) → are_routines earlier routines ≡ true → i < j
+lack_at : (borrows : Bool) (earlier routines : List Routine) (i j : ℕ) (x r : Routine) → are_routines borrows earlier routines ≡ true → i < j
     → slice_get routines i ≡ Some x → slice_get routines j ≡ Some r → bytes_eq x.name r.name ≡ false
-lack_at earlier [] i j x r h lt e f = absurd cc
-lack_at earlier (y ∷ routines) i zero x r h lt e f = absurd (omega (arith, lt))
-lack_at earlier (y ∷ routines) zero (suc j) x r h lt e f =
+lack_at borrows earlier [] i j x r h lt e f = absurd cc
+lack_at borrows earlier (y ∷ routines) i zero x r h lt e f = absurd (omega (arith, lt))
+lack_at borrows earlier (y ∷ routines) zero (suc j) x r h lt e f =
     let same : y ≡ x = cc in
-    let rest = (and_parts (is_routine earlier y) (are_routines (earlier ++ y ∷ []) routines) h).1 in
-    subst (λ (s : Routine). bytes_eq s.name r.name ≡ false) same (later_lack earlier [] routines y r j rest f)
-lack_at earlier (y ∷ routines) (suc i) (suc j) x r h lt e f =
-    lack_at (earlier ++ y ∷ []) routines i j x r (and_parts (is_routine earlier y) (are_routines (earlier ++ y ∷ []) routines) h).1 (omega (arith, lt)) e f
+    let rest = (and_parts (is_routine borrows earlier y) (are_routines borrows (earlier ++ y ∷ []) routines) h).1 in
+    subst (λ (s : Routine). bytes_eq s.name r.name ≡ false) same (later_lack borrows earlier [] routines y r j rest f)
+lack_at borrows earlier (y ∷ routines) (suc i) (suc j) x r h lt e f =
+    lack_at borrows (earlier ++ y ∷ []) routines i j x r (and_parts (is_routine borrows earlier y) (are_routines borrows (earlier ++ y ∷ []) routines) h).1 (omega (arith, lt)) e f
 
 -- ---- points
 
@@ -145,6 +145,6 @@ facts image legal fits =
           let is = here k at.0 at.1 in
           subst IsNamed (sym (get_or-at image.routines k at.0 d at.1)) (is.name, is.long);
       routine = here;
-      apart = λ i j x s lt e f. lack_at [] image.routines i j x s parts.routines lt e f;
-      instr = λ pc point e. (and_parts (is_instr r n point.instr) (is_given point.row) (test_at (is_point r n) image.points pc point parts.points e)).0;
+      apart = λ i j x s lt e f. lack_at image.keyed [] image.routines i j x s parts.routines lt e f;
+      instr = λ pc point e. (and_parts (is_instr r n point.instr) (is_given image.keyed point.row) (test_at (is_point image.keyed r n) image.points pc point parts.points e)).0;
     }

@@ -51,8 +51,10 @@ bound-short i bound false lt =
 slot-short : (i : ℕ) (state : SlotState) → length (spaced (slot_words i state)) ≤ 16
 slot-short i Empty = omega arith
 slot-short i Mem = omega arith
-slot-short i (Vm true) = omega arith
-slot-short i (Vm false) = omega arith
+slot-short i (Vm true true) = omega arith
+slot-short i (Vm true false) = omega arith
+slot-short i (Vm false true) = omega arith
+slot-short i (Vm false false) = omega arith
 slot-short i (Db true) = omega arith
 slot-short i (Db false) = omega arith
 

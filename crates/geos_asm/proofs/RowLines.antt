@@ -32,8 +32,10 @@ bounds-words i bound false lt word = one (bound_word i bound) (bound-word i boun
 state_word-inner : (state : SlotState) → list_all is_inner (state_word state) ≡ true
 state_word-inner Empty = refl
 state_word-inner Mem = refl
-state_word-inner (Vm true) = refl
-state_word-inner (Vm false) = refl
+state_word-inner (Vm true true) = refl
+state_word-inner (Vm true false) = refl
+state_word-inner (Vm false true) = refl
+state_word-inner (Vm false false) = refl
 state_word-inner (Db true) = refl
 state_word-inner (Db false) = refl
 

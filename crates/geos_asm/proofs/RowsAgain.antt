@@ -1,5 +1,5 @@
 -- A row that is written by its items is read back.
-use Rattle.std.proofs.Common.{◌≡◌, ◌∙◌, ◌<◌, ◌≤◌, ◌^◌, ℕ, zero, suc, ◌+◌, Bool, true, false, cond, ◌==◌, ◌&&◌, nat_lt, List, [], ◌∷◌, ◌++◌, length, get_or, replicate, slice_index, slice_set, Option, Some, None, Ok, refl, sym, ap, append_assoc, arith}
+use Rattle.std.proofs.Common.{◌≡◌, ◌∙◌, ◌<◌, ◌≤◌, ◌^◌, ℕ, zero, suc, ◌+◌, Bool, true, false, cond, ◌==◌, ◌&&◌, ◌||◌, nat_lt, List, [], ◌∷◌, ◌++◌, length, get_or, replicate, slice_index, slice_set, Option, Some, None, Ok, refl, sym, ap, append_assoc, arith}
 use Rattle.std.specs.Prelude.{codes, decimal, slice_index_or}
 use Rattle.std.specs.List.{list_all}
 use Rattle.std.proofs.lemmas.Bool.{and_parts, and_from, eqb-true, ltb-true}
@@ -10,7 +10,7 @@ use Rattle.geos_image.specs.declared.row.Row.{Row}
 use Rattle.geos_image.specs.declared.row.Pointer.{Pointer}
 use Rattle.geos_image.specs.declared.row.SlotState.{SlotState}
 use Rattle.geos_image.specs.declared.row.SlotState.TheVariants.{Empty, Mem, Vm, Db}
-use Rattle.geos_image.specs.Legal.{is_pointer, is_shaped, is_row}
+use Rattle.geos_image.specs.Legal.{is_own, is_pointer, is_shaped, is_row}
 use Rattle.geos_image.specs.Open.{open_row}
 use Rattle.geos_image.specs.Ranges.{PointerFits, RowFits}
 use Rattle.geos_listing.specs.Rows.{texts_below, state_word, slot_item, pointer_item, pair_item, pair_slots, row_items}
@@ -98,14 +98,16 @@ passes_at test [] k d passes h = passes
 passes_at test (x ∷ xs) zero d passes h = (and_parts (test x) (list_all test xs) h).0
 passes_at test (x ∷ xs) (suc k) d passes h = passes_at test xs k d passes ((and_parts (test x) (list_all test xs) h).1)
 
-pub is_sound : (row : Row) → is_row row ≡ true → RowFits row → IsSound row
-is_sound row legal fits =
-    let p = and_parts (is_shaped row) (list_all is_pointer row.pointers) legal in
+pub is_sound : (borrows : Bool) (row : Row) → is_row borrows row ≡ true → RowFits row → IsSound row
+is_sound borrows row legal fits =
+    let borrowed = borrows || list_all is_own row.slots in
+    let o = and_parts (borrowed && is_shaped row) (list_all is_pointer row.pointers) legal in
+    let shaped = (and_parts borrowed (is_shaped row) o.0).1 in
     let a = length row.bounds == 8 in
     let b = length row.slots == 4 in
     let c = length row.pointers == 4 in
     let d = length row.pairs == 6 in
-    let q = and_parts (a && b && c) d p.0 in
+    let q = and_parts (a && b && c) d shaped in
     let r = and_parts (a && b) c q.0 in
     let s = and_parts a b r.0 in
     let eight : length row.bounds ≡ 8 = eqb-true (length row.bounds) 8 s.0 in
@@ -116,7 +118,7 @@ is_sound row legal fits =
       pointers = four;
       pairs = eqb-true (length row.pairs) 6 q.1;
       bound = λ i lt. fits.bounds i 0 (omega (arith, lt, eight));
-      leads = λ i lt. passes_at is_pointer row.pointers i None refl p.1;
+      leads = λ i lt. passes_at is_pointer row.pointers i None refl o.1;
       least = λ i lt. fits.pointers i None (omega (arith, lt, four));
     }
 
@@ -217,8 +219,10 @@ is_held _ = true
 state_word-read : (state : SlotState) → is_held state ≡ true → slot_state_of (state_word state) ≡ Some state
 state_word-read Empty h = absurd cc
 state_word-read Mem h = refl
-state_word-read (Vm true) h = refl
-state_word-read (Vm false) h = refl
+state_word-read (Vm true true) h = refl
+state_word-read (Vm true false) h = refl
+state_word-read (Vm false true) h = refl
+state_word-read (Vm false false) h = refl
 state_word-read (Db true) h = refl
 state_word-read (Db false) h = refl
 

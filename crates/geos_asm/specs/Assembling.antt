@@ -6,9 +6,10 @@ use Rattle.geos_source.specs.declared.parser.ParseError.TheVariants as parse_err
 use Rattle.geos_source.specs.declared.progress.TextRoutine.{TextRoutine}
 use Rattle.geos_source.specs.Texts.{Code, code_of}
 use Rattle.geos_source.specs.Skeletons.{routine_of, skeleton}
-use Rattle.geos_infer.specs.Code.{instrs_of}
+use Rattle.geos_verify.specs.Rules.{IsChecked}
+use Rattle.geos_infer.specs.Code.{Forward, instrs_of}
 use Rattle.geos_infer.specs.Reached.{AllHoldWhereReached}
-use Rattle.geos_infer.specs.Theorem.{FindsWhatThereIs, NoneIsAccepted, NothingHoldsIn}
+use Rattle.geos_infer.specs.Theorem.{HasAccepted, FindsWhatThereIs, NoneIsAccepted, NothingHoldsIn}
 use Rattle.geos_infer.specs.Causes.{Holds}
 use Rattle.geos_infer.specs.declared.cause.Cause.{Cause}
 use Rattle.geos_asm.specs.declared.error.AssembleError.{AssembleError}
@@ -37,14 +38,20 @@ pub record BeginsAt (code : Code) (line : ℕ) : Type 0 where
   pub there : slice_get code.routines r ≡ Some routine
   pub line_is : routine.line ≡ line
 
--- the text has no fault; the image has its code, its rows hold wherever control reaches, and it is
--- accepted if that code has no loops and some image with it is
+-- the text has no fault; the image has its code, its rows hold wherever control reaches, and no rule
+-- refuses it if that code has no loops and some image with it is accepted
 pub record IsAssembled (text : List ℕ) (image : Parts) : Type 0 where
   pub code : Code
   pub read : code_of text ≡ Ok code
   pub has : HasCode code image
   pub rows : AllHoldWhereReached image
   pub found : FindsWhatThereIs (skeleton code) image
+
+-- the text has no fault, and the image may run, if that code has no loops and some image with it may
+pub record RunsIfAnyDoes (text : List ℕ) (image : Parts) : Type 0 where
+  pub code : Code
+  pub read : code_of text ≡ Ok code
+  pub found : Forward (skeleton code) → HasAccepted (skeleton code) → IsChecked image
 
 -- the text has no fault, and a routine of it begins at the line; if its code has no loops, no image
 -- with that code is accepted; and if that routine has none, no rows and numbers of steps hold in it

@@ -1,26 +1,26 @@
 //! The image of a text.
 
 ghost use Rattle.std.specs.Prelude.{◌≡◌, true, false, IfOk, IfErr};
-ghost use Rattle.geos_asm.specs.Assembling.{IsAssembled, IsWhyNoImage};
+ghost use Rattle.geos_asm.specs.Assembling.{IsAssembled, RunsIfAnyDoes, IsWhyNoImage};
 
 use crate::error::AssembleError;
-use geos_image::Image;
+use geos_image::{Image, Whole};
 use geos_infer::{InferError, infer};
 use geos_source::{parse, skeleton};
 use std::alloc::Global;
 
-/// The image of version 1 of an assembly text: its routines and instructions, with potentials that are found for them, and
-/// with a row at each. Those that `assemble` leaves out are ones that the verifier computes. The errors are those of
-/// `assemble`.
-pub fn assemble_all_rows(alloc: Global, text: &[u8]) -> Result<Image, AssembleError>
-    ensures image { IfOk result (IsAssembled text.now) }
-    ensures version { IfOk result (λ image. image.keyed ≡ false) }
+/// The code of an assembly text with all rows: its routines and instructions, with potentials that are found for them, and
+/// with a row at each. Those that `assemble` leaves out are ones that the verifier computes. `Whole::into_image` makes an
+/// image of version 1 of it, where no slot is borrowed. The errors are those of `assemble`.
+pub fn assemble_all_rows(alloc: Global, text: &[u8]) -> Result<Whole, AssembleError>
+    ensures whole { IfOk result (IsAssembled text.now) }
+    ensures all { IfOk result (λ whole. whole.keyed ≡ false) }
     ensures fault { IfErr result (IsWhyNoImage text.now) }
 {
     let parsed = parse(alloc, text)?;
     let blank = skeleton(alloc, &parsed)?;
     match infer(alloc, &blank) {
-        Ok(image) => Ok(image),
+        Ok(whole) => Ok(whole),
         Err(InferError::NoRows(r)) => {
             let routine = &parsed.routines[usize::from(r)];
             Err(AssembleError::NoRows(routine.line))
@@ -42,10 +42,11 @@ pub fn assemble_all_rows(alloc: Global, text: &[u8]) -> Result<Image, AssembleEr
 pub fn assemble(alloc: Global, text: &[u8]) -> Result<Image, AssembleError>
     ensures image { IfOk result (IsAssembled text.now) }
     ensures version { IfOk result (λ image. image.keyed ≡ true) }
+    ensures accepted { IfOk result (RunsIfAnyDoes text.now) }
     ensures fault { IfErr result (IsWhyNoImage text.now) }
 {
     match assemble_all_rows(alloc, text) {
-        Ok(image) => Ok(image.into_keyed()),
+        Ok(whole) => Ok(whole.into_keyed()),
         Err(fault) => Err(fault),
     }
 }
