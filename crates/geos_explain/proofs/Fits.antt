@@ -86,30 +86,33 @@ slot-none : (i : ℕ) (known wanted : SlotState) → slot_fits known wanted ≡ 
     → (slot_item i (lacking_slot known wanted) ≡ []) × (held_item i known wanted ≡ [])
 slot-none i Empty Empty fit = (refl, refl)
 slot-none i Mem Empty fit = absurd cc
-slot-none i (Vm a) Empty fit = absurd cc
+slot-none i (Vm a c) Empty fit = absurd cc
 slot-none i (Db a) Empty fit = absurd cc
 slot-none i known Mem fit = (rw fit refl, refl)
-slot-none i known (Vm b) fit = (rw fit refl, refl)
+slot-none i known (Vm b c) fit = (rw fit refl, refl)
 slot-none i known (Db b) fit = (rw fit refl, refl)
 
 none-slot : (i : ℕ) (known wanted : SlotState) → slot_item i (lacking_slot known wanted) ≡ [] → held_item i known wanted ≡ [] → slot_fits known wanted ≡ true
 none-slot i Empty Empty none held = refl
 none-slot i Mem Empty none held = absurd cc
-none-slot i (Vm a) Empty none held = absurd cc
+none-slot i (Vm a c) Empty none held = absurd cc
 none-slot i (Db a) Empty none held = absurd cc
 none-slot i Mem Mem none held = refl
 none-slot i Empty Mem none held = absurd cc
-none-slot i (Vm a) Mem none held = absurd cc
+none-slot i (Vm a c) Mem none held = absurd cc
 none-slot i (Db a) Mem none held = absurd cc
-none-slot i (Vm true) (Vm b) none held = refl
-none-slot i (Vm false) (Vm false) none held = refl
-none-slot i (Vm false) (Vm true) none held = absurd cc
-none-slot i Empty (Vm true) none held = absurd cc
-none-slot i Empty (Vm false) none held = absurd cc
-none-slot i Mem (Vm true) none held = absurd cc
-none-slot i Mem (Vm false) none held = absurd cc
-none-slot i (Db a) (Vm true) none held = absurd cc
-none-slot i (Db a) (Vm false) none held = absurd cc
+none-slot i (Vm true true) (Vm b true) none held = refl
+none-slot i (Vm true false) (Vm b false) none held = refl
+none-slot i (Vm true true) (Vm b false) none held = absurd cc
+none-slot i (Vm true false) (Vm b true) none held = absurd cc
+none-slot i (Vm false true) (Vm false true) none held = refl
+none-slot i (Vm false false) (Vm false false) none held = refl
+none-slot i (Vm false true) (Vm false false) none held = absurd cc
+none-slot i (Vm false false) (Vm false true) none held = absurd cc
+none-slot i (Vm false a) (Vm true b) none held = absurd cc
+none-slot i Empty (Vm a b) none held = absurd cc
+none-slot i Mem (Vm a b) none held = absurd cc
+none-slot i (Db a) (Vm b c) none held = absurd cc
 none-slot i (Db true) (Db b) none held = refl
 none-slot i (Db false) (Db false) none held = refl
 none-slot i (Db false) (Db true) none held = absurd cc
@@ -117,8 +120,8 @@ none-slot i Empty (Db true) none held = absurd cc
 none-slot i Empty (Db false) none held = absurd cc
 none-slot i Mem (Db true) none held = absurd cc
 none-slot i Mem (Db false) none held = absurd cc
-none-slot i (Vm a) (Db true) none held = absurd cc
-none-slot i (Vm a) (Db false) none held = absurd cc
+none-slot i (Vm a c) (Db true) none held = absurd cc
+none-slot i (Vm a c) (Db false) none held = absurd cc
 
 -- a pointer is known as is wanted exactly where no item is lacking
 pointer-none : (i : ℕ) (known wanted : Option Pointer) → pointer_fits known wanted ≡ true → pointer_item i (lacking_pointer known wanted) ≡ []

@@ -130,14 +130,14 @@ slot_wish _ = codes " is known here, and a held slot is wanted"
 abbrev pub unlocks_text : SlotState → List ℕ
 unlocks_text Empty = []
 unlocks_text Mem = codes ": MUNLOCK unlocks it"
-unlocks_text (Vm marked) = codes ": VUNLOCK unlocks it"
+unlocks_text (Vm marked borrowed) = codes ": VUNLOCK unlocks it"
 unlocks_text (Db marked) = codes ": IUNLOCK unlocks it"
 
 -- the instruction that marks what a slot holds; none where it is empty or holds a block that has no mark
 abbrev pub marks_text : SlotState → List ℕ
 marks_text Empty = []
 marks_text Mem = []
-marks_text (Vm marked) = codes ": VDIRTY marks it"
+marks_text (Vm marked borrowed) = codes ": VDIRTY marks it"
 marks_text (Db marked) = codes ": IDIRTY marks it"
 
 -- the instruction that serves in the place of one that wants another kind
