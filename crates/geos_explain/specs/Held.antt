@@ -5,8 +5,9 @@ use Rattle.geos_listing.specs.Rows.{texts_below, row_items}
 use Rattle.geos_verify.specs.Rows.{is_empty, slot_state}
 use Rattle.geos_verify.specs.Rules.{is_of_file}
 use Rattle.geos_explain.specs.Lacks.{lacking, lacking_items}
-use Rattle.geos_explain.specs.Numbers.{are_behind, are_text, pc_text}
+use Rattle.geos_explain.specs.Numbers.{are_behind, are_text, also_are, pc_text}
 use Rattle.geos_explain.specs.Places.{Place}
+use Rattle.geos_explain.specs.Public.{missing_words}
 use Rattle.geos_explain.specs.Uses.{state_item}
 use Rattle.geos_explain.specs.declared.held.HeldAt.{HeldAt}
 use Rattle.geos_explain.specs.declared.held.HeldAt.TheVariants.{Return, Write}
@@ -64,17 +65,13 @@ since_at which place a =
 abbrev pub sinces_at : HeldAt → Place → List ℕ
 sinces_at which place = texts_below 4 (λ a. since_at which place a)
 
--- what else the exit row wants
-unfoldable pub also_wanted : List ℕ → List ℕ
-also_wanted items = if length items == 0 then [] else codes ";" ++ are_text items (codes " wanted by the exit row, and not known here")
-
 -- what else the exit row of a place wants
 unfoldable pub else_wanted : Place → List ℕ
-else_wanted place = also_wanted (row_items (lacking place.row place.routine.exit))
+else_wanted place = also_are (row_items (lacking place.row place.routine.exit)) (codes " wanted by the exit row, and not known here")
 
--- that slots are still held at the return, since where, and what else the exit row wants
+-- that slots are still held at the return, since where, which of them are borrowed, and what else the exit row wants
 unfoldable pub kept_behind : Place → List ℕ
-kept_behind place = are_behind (slots_at Return place) (codes " still held at the return") ++ sinces_at Return place ++ else_wanted place
+kept_behind place = are_behind (slots_at Return place) (codes " still held at the return") ++ sinces_at Return place ++ missing_words place.row place.routine.exit ++ else_wanted place
 
 -- the same behind these slots
 abbrev pub kept_words : Place → List ℕ

@@ -1,4 +1,5 @@
 pub mod Numbers
+pub mod Public
 pub mod Edges
 pub mod Led
 pub mod Places

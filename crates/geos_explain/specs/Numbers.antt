@@ -1,5 +1,5 @@
 -- The words that go with a number of steps or of items, and what a place is called.
-use Rattle.std.specs.Prelude.{ℕ, Bool, ◌==◌, if◌then◌else◌, List, [], ◌∷◌, ◌++◌, Some, None, slice_get, codes, decimal}
+use Rattle.std.specs.Prelude.{ℕ, Bool, ◌==◌, if◌then◌else◌, List, [], ◌∷◌, ◌++◌, length, Some, None, slice_get, codes, decimal}
 use Rattle.std.specs.List.{concat, count_by}
 
 -- one text where there is just one thing, else the other
@@ -41,6 +41,10 @@ are_behind items what = concat (is_or_are items ∷ what ∷ [])
 -- items, that it is or that they are, and what
 abbrev pub are_text : List ℕ → List ℕ → List ℕ
 are_text items what = items ++ are_behind items what
+
+-- the same behind a semicolon, if there are items
+unfoldable pub also_are : List ℕ → List ℕ → List ℕ
+also_are items what = if length items == 0 then [] else codes ";" ++ are_text items what
 
 -- a target as the reader has it: in an author's text its line, else the label that the listing gives it
 unfoldable pub label_text : List ℕ → ℕ → List ℕ

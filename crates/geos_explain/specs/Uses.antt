@@ -1,11 +1,12 @@
 -- What is wrong with the slots and pointers that an instruction uses, rule by rule.
-use Rattle.std.specs.Prelude.{ℕ, Bool, ◌-◌, nat_lt, nat_le, ◌==◌, if◌then◌else◌, List, [], ◌∷◌, map, ◌++◌, Option, Some, None, codes, decimal}
+use Rattle.std.specs.Prelude.{ℕ, Bool, true, false, ◌-◌, nat_lt, nat_le, ◌==◌, if◌then◌else◌, List, [], ◌∷◌, map, ◌++◌, Option, Some, None, codes, decimal}
 use Rattle.std.specs.List.{concat}
 use Rattle.geos_image.specs.declared.instr.Instr.{Instr}
 use Rattle.geos_image.specs.declared.row.Row.{Row}
 use Rattle.geos_image.specs.declared.row.Pointer.{Pointer}
 use Rattle.geos_image.specs.declared.row.SlotState.{SlotState}
 use Rattle.geos_image.specs.declared.row.SlotState.TheVariants.{Empty, Mem, Vm, Db}
+use Rattle.geos_image.specs.Legal.{is_own}
 use Rattle.geos_image.specs.Open.{open_row}
 use Rattle.geos_listing.specs.Rows.{row_items}
 use Rattle.geos_opcodes.specs.declared.uses.Kind.{Kind}
@@ -109,9 +110,13 @@ unmarked_words i pointer row =
     concat (codes " s" ∷ decimal a ∷ codes "=" ∷ state_word state ∷ codes " is changed here, and may not be marked yet: "
     ∷ mark_word state ∷ codes " s" ∷ decimal a ∷ codes " marks it" ∷ [])
 
+-- that a slot is held, and not empty as is wanted
+abbrev pub not_empty : SlotState → List ℕ
+not_empty state = if is_own state then codes " is held here, and an empty slot is wanted" else codes " is borrowed from the caller, and an empty slot is wanted"
+
 -- a block is locked into a slot that is held
 unfoldable pub held_words : Instr → Row → List ℕ
-held_words i row = state_item i.a row ++ codes " is held here, and an empty slot is wanted"
+held_words i row = state_item i.a row ++ not_empty (slot_state row i.a)
 
 -- a block of this kind is wanted
 abbrev pub kind_wish : Kind → List ℕ
@@ -119,18 +124,28 @@ kind_wish MemBlock = codes " is known here, and mem is wanted"
 kind_wish VmBlock = codes " is known here, and vm or vm! is wanted"
 kind_wish DbGroup = codes " is known here, and db or db! is wanted"
 
--- what an instruction wants of its slot, or of two
-unfoldable pub slot_wish : SlotUse → List ℕ
-slot_wish (Unlocks kind) = kind_wish kind
-slot_wish (Marks kind) = kind_wish kind
-slot_wish Compares = codes " are known here, and two held slots of one kind are wanted"
-slot_wish _ = codes " is known here, and a held slot is wanted"
+-- the same to mark it
+abbrev pub mark_wish : Kind → List ℕ
+mark_wish VmBlock = codes " is known here, and vm, vm!, vm@ or vm@! is wanted"
+mark_wish kind = kind_wish kind
 
--- the instruction that unlocks what a slot holds; none where it is empty
+-- the same to unlock it; what is borrowed is not unlocked
+abbrev pub unlock_wish : Kind → SlotState → List ℕ
+unlock_wish kind state = if is_own state then kind_wish kind else codes " is borrowed from the caller, which unlocks it"
+
+-- what an instruction wants of its slot, or of two, where the first is in a state
+unfoldable pub slot_wish : SlotUse → SlotState → List ℕ
+slot_wish (Unlocks kind) state = unlock_wish kind state
+slot_wish (Marks kind) state = mark_wish kind
+slot_wish Compares state = codes " are known here, and two held slots of one kind are wanted"
+slot_wish _ state = codes " is known here, and a held slot is wanted"
+
+-- the instruction that unlocks what a slot holds; none where it is empty or borrowed
 abbrev pub unlocks_text : SlotState → List ℕ
 unlocks_text Empty = []
 unlocks_text Mem = codes ": MUNLOCK unlocks it"
-unlocks_text (Vm marked borrowed) = codes ": VUNLOCK unlocks it"
+unlocks_text (Vm marked true) = []
+unlocks_text (Vm marked false) = codes ": VUNLOCK unlocks it"
 unlocks_text (Db marked) = codes ": IUNLOCK unlocks it"
 
 -- the instruction that marks what a slot holds; none where it is empty or holds a block that has no mark
@@ -153,4 +168,4 @@ other_item i _ row = []
 
 -- a slot is not held as the instruction wants it, and what serves in its place
 unfoldable pub slot_words : Instr → SlotUse → Row → List ℕ
-slot_words i slot row = state_item i.a row ++ other_item i slot row ++ (slot_wish slot ++ serving slot (slot_state row i.a))
+slot_words i slot row = state_item i.a row ++ other_item i slot row ++ (slot_wish slot (slot_state row i.a) ++ serving slot (slot_state row i.a))

@@ -18,6 +18,7 @@ use Rattle.geos_explain.specs.Unset.{over_words}
 use Rattle.geos_explain.specs.Lacks.{lacking_items}
 use Rattle.geos_explain.specs.Numbers.{is_or_are, are_text, label_text, pc_text}
 use Rattle.geos_explain.specs.Held.{exit_words}
+use Rattle.geos_explain.specs.Public.{public_words}
 use Rattle.geos_explain.specs.Written.{written_words}
 use Rattle.geos_explain.specs.Uses.{nowhere_words, past_words, unmarked_words, held_words, slot_words}
 use Rattle.geos_explain.specs.Stale.{stale_words}
@@ -36,7 +37,7 @@ leaves_words place =
 unfoldable pub entry_words : Routine → Row → List ℕ
 entry_words routine row =
     if length (lacking_items routine.entry row) == 0
-    then codes " a public routine begins and ends with empty slots and stale pointers"
+    then public_words routine
     else are_text (lacking_items routine.entry row) (codes " wanted here, and not known from the entry row")
 
 -- that items are wanted by a routine or at a pc

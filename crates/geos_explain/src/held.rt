@@ -6,11 +6,11 @@ ghost use Rattle.geos_explain.specs.Places.{IsPlace, place_of};
 ghost use Rattle.geos_explain.specs.Held.{is_held_at, slot_at, slots_at, since_place, or_another, since_text, since_at, sinces_at, else_wanted, kept_behind, unmet_words, exit_words};
 
 use crate::lacks::{lacking, put_lacking};
-use crate::numbers::{pc_part, put_are};
+use crate::numbers::{pc_part, put_also, put_are};
 use crate::place::Place;
+use crate::public::put_missing;
 use crate::since::{Since, held_since};
 use crate::uses::put_state;
-use geos_listing::put_items;
 use geos_text::{Part, put_parts};
 use geos_verify::{is_empty, is_of_file, slot_state};
 use std::alloc::AllocError;
@@ -131,21 +131,18 @@ pub(crate) fn put_sinces_at(
 }
 
 /// What else the exit row wants.
-#[tactic(auto, unfolding(crate::specs::Held::also_wanted, crate::specs::Held::else_wanted))]
+#[tactic(auto, unfolding(crate::specs::Held::else_wanted))]
 fn put_else_wanted(out: &mut Vec<u8>, place: &Place) -> Result<(), AllocError>
     ensures { OnOk result (out.new.items ≡ out.old.items ++ else_wanted (place_of place.now)) }
 {
-    out.extend_from_slice(b";")?;
-    let before = out.len();
-    put_items(out, &lacking(place.row, &place.routine.exit))?;
-    if out.len() == before {
-        out.truncate(before - 1);
-        return Ok(());
-    }
-    put_are(out, before, " wanted by the exit row, and not known here")
+    put_also(
+        out,
+        &lacking(place.row, &place.routine.exit),
+        " wanted by the exit row, and not known here",
+    )
 }
 
-/// Slots are still held at the return, since where, and what else the exit row wants.
+/// Slots are still held at the return, since where, which of them are borrowed, and what else the exit row wants.
 #[tactic(auto, unfolding(crate::specs::Held::kept_words))]
 fn put_kept_words(out: &mut Vec<u8>, place: &Place, before: usize) -> Result<(), AllocError>
     requires place { IsPlace (place_of place.now) }
@@ -155,6 +152,7 @@ fn put_kept_words(out: &mut Vec<u8>, place: &Place, before: usize) -> Result<(),
 {
     put_are(out, before, " still held at the return")?;
     put_sinces_at(out, HeldAt::Return, place)?;
+    put_missing(out, place.row, &place.routine.exit)?;
     put_else_wanted(out, place)
 }
 

@@ -18,6 +18,7 @@ mod listed;
 mod notes;
 mod numbers;
 mod place;
+mod public;
 mod routines;
 mod since;
 mod stale;

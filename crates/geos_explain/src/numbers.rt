@@ -2,8 +2,11 @@
 
 ghost use Rattle.std.specs.Prelude.{◌≡◌, ◌≤◌, ◌==◌, ◌++◌, drop, length, OnOk};
 ghost use Rattle.geos_text.specs.Parts.{part_text};
-ghost use Rattle.geos_explain.specs.Numbers.{either, items_in, is_or_are, are_behind, label_text, pc_text};
+ghost use Rattle.geos_listing.specs.Rows.{row_items};
+ghost use Rattle.geos_explain.specs.Numbers.{either, items_in, is_or_are, are_behind, also_are, label_text, pc_text};
 
+use geos_image::Row;
+use geos_listing::put_items;
 use geos_text::{Part, put_parts};
 use std::alloc::AllocError;
 
@@ -71,4 +74,19 @@ pub(crate) fn put_are(out: &mut Vec<u8>, before: usize, what: &str) -> Result<()
 {
     let verb = is_or_are(written_from(out, before));
     put_parts(out, &[Part::Text(verb), Part::Text(what)])
+}
+
+/// The items of the row behind a semicolon, that it is or that they are, and what; nothing for the open row.
+#[tactic(auto, unfolding(crate::specs::Numbers::also_are))]
+pub(crate) fn put_also(out: &mut Vec<u8>, row: &Row, what: &str) -> Result<(), AllocError>
+    ensures { OnOk result (out.new.items ≡ out.old.items ++ also_are (row_items row.now) what.now) }
+{
+    out.extend_from_slice(b";")?;
+    let before = out.len();
+    put_items(out, row)?;
+    if out.len() == before {
+        out.truncate(before - 1);
+        return Ok(());
+    }
+    put_are(out, before, what)
 }

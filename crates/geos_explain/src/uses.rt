@@ -4,7 +4,7 @@ ghost use Rattle.std.specs.Prelude.{◌≡◌, ◌<◌, ◌++◌, OnOk};
 ghost use Rattle.geos_image.specs.Fields.{FieldsFit};
 ghost use Rattle.geos_opcodes.specs.Facts.{uses_of};
 ghost use Rattle.geos_verify.specs.Uses.{OffsetFits};
-ghost use Rattle.geos_explain.specs.Uses.{state_item, nowhere_only, leading_nowhere, nowhere_words, short_words, index_known, index_wanted, known_bytes, index_words, reach_words, past_words, slot_behind, changed_slot, mark_word, unmarked_words, held_words, slot_wish, serving, other_item, slot_words};
+ghost use Rattle.geos_explain.specs.Uses.{state_item, nowhere_only, leading_nowhere, nowhere_words, short_words, index_known, index_wanted, known_bytes, index_words, reach_words, past_words, slot_behind, changed_slot, mark_word, unmarked_words, not_empty, held_words, kind_wish, mark_wish, unlock_wish, slot_wish, serving, other_item, slot_words};
 
 use crate::numbers::{either, is_one_item, written_from};
 use geos_image::{Instr, Pointer, Row, SlotState};
@@ -261,40 +261,81 @@ pub(crate) fn put_unmarked(out: &mut Vec<u8>, i: &Instr, row: &Row) -> Result<()
     )
 }
 
+/// That a slot is held, and not empty as is wanted.
+fn not_empty(state: SlotState) -> &'static str
+    ensures { result.now ≡ not_empty state }
+{
+    if state.is_own() {
+        " is held here, and an empty slot is wanted"
+    } else {
+        " is borrowed from the caller, and an empty slot is wanted"
+    }
+}
+
 /// A block is locked into a slot that is held.
 #[tactic(auto, unfolding(crate::specs::Uses::held_words, crate::specs::Uses::state_item))]
 pub(crate) fn put_held(out: &mut Vec<u8>, i: &Instr, row: &Row) -> Result<(), AllocError>
     ensures { OnOk result (out.new.items ≡ out.old.items ++ held_words i.now row.now) }
 {
+    let state = slot_state(row, i.a);
     put_parts(
         out,
         &[
             Part::Numbered(" s", i.a as u64),
             Part::Text("="),
-            Part::Text(state_word(slot_state(row, i.a))),
-            Part::Text(" is held here, and an empty slot is wanted"),
+            Part::Text(state_word(state)),
+            Part::Text(not_empty(state)),
         ],
     )
 }
 
-/// What the instruction wants of its slot, or of two.
+/// A block of this kind is wanted.
+fn kind_wish(kind: Kind) -> &'static str
+    ensures { result.now ≡ kind_wish kind }
+{
+    match kind {
+        Kind::MemBlock => " is known here, and mem is wanted",
+        Kind::VmBlock => " is known here, and vm or vm! is wanted",
+        Kind::DbGroup => " is known here, and db or db! is wanted",
+    }
+}
+
+/// The same to mark it.
+fn mark_wish(kind: Kind) -> &'static str
+    ensures { result.now ≡ mark_wish kind }
+{
+    match kind {
+        Kind::VmBlock => " is known here, and vm, vm!, vm@ or vm@! is wanted",
+        _ => kind_wish(kind),
+    }
+}
+
+/// The same to unlock it; what is borrowed is not unlocked.
+fn unlock_wish(kind: Kind, state: SlotState) -> &'static str
+    ensures { result.now ≡ unlock_wish kind state }
+{
+    if state.is_own() {
+        kind_wish(kind)
+    } else {
+        " is borrowed from the caller, which unlocks it"
+    }
+}
+
+/// What the instruction wants of its slot, or of two, where the first is in a state.
 #[tactic(auto, unfolding(crate::specs::Uses::slot_wish))]
-fn slot_wish(slot: SlotUse) -> &'static str
-    ensures { result.now ≡ slot_wish slot }
+fn slot_wish(slot: SlotUse, state: SlotState) -> &'static str
+    ensures { result.now ≡ slot_wish slot state }
 {
     match slot {
-        SlotUse::Unlocks(kind) | SlotUse::Marks(kind) => match kind {
-            Kind::MemBlock => " is known here, and mem is wanted",
-            Kind::VmBlock => " is known here, and vm or vm! is wanted",
-            Kind::DbGroup => " is known here, and db or db! is wanted",
-        },
+        SlotUse::Unlocks(kind) => unlock_wish(kind, state),
+        SlotUse::Marks(kind) => mark_wish(kind),
         SlotUse::Compares => " are known here, and two held slots of one kind are wanted",
         _ => " is known here, and a held slot is wanted",
     }
 }
 
 /// The instruction that serves in the place of one that wants another kind: it unlocks or marks what the slot holds; none where
-/// it is empty, or is to be marked and holds a block that has no mark.
+/// it is empty, is to be unlocked and is borrowed, or is to be marked and holds a block that has no mark.
 #[tactic(auto, unfolding(crate::specs::Uses::serving))]
 fn serving(slot: SlotUse, state: SlotState) -> &'static str
     ensures { result.now ≡ serving slot state }
@@ -303,7 +344,10 @@ fn serving(slot: SlotUse, state: SlotState) -> &'static str
         SlotUse::Unlocks(_) => match state {
             SlotState::Empty => "",
             SlotState::Mem => ": MUNLOCK unlocks it",
-            SlotState::Vm { .. } => ": VUNLOCK unlocks it",
+            SlotState::Vm {
+                marked: _,
+                borrowed,
+            } => if borrowed { "" } else { ": VUNLOCK unlocks it" },
             SlotState::Db { .. } => ": IUNLOCK unlocks it",
         },
         SlotUse::Marks(_) => match state {
@@ -334,7 +378,8 @@ pub(crate) fn put_slot(out: &mut Vec<u8>, i: &Instr, row: &Row) -> Result<(), Al
     let slot = i.opcode.uses().slot;
     put_state(out, i.a, row)?;
     put_other(out, i, slot, row)?;
-    let wish = slot_wish(slot);
-    let serving = serving(slot, slot_state(row, i.a));
+    let state = slot_state(row, i.a);
+    let wish = slot_wish(slot, state);
+    let serving = serving(slot, state);
     put_parts(out, &[Part::Text(wish), Part::Text(serving)])
 }

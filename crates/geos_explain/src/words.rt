@@ -9,6 +9,7 @@ use crate::held::put_exit;
 use crate::lacks::put_lacking;
 use crate::numbers::{is_or_are, label_part, pc_part, put_are, written_from};
 use crate::place::Place;
+use crate::public::put_public;
 use crate::stale::put_stale;
 use crate::steps::put_unpaid;
 use crate::unset::put_over;
@@ -49,9 +50,7 @@ fn put_entry(out: &mut Vec<u8>, routine: &Routine, row: &Row) -> Result<(), Allo
     let before = out.len();
     put_lacking(out, &routine.entry, row)?;
     if out.len() == before {
-        return out.extend_from_slice(
-            b" a public routine begins and ends with empty slots and stale pointers",
-        );
+        return put_public(out, routine);
     }
     put_are(
         out,

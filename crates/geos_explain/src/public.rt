@@ -1,0 +1,209 @@
+//! What the entry and exit rows of a public routine say and may not say.
+
+ghost use Rattle.std.specs.Prelude.{◌≡◌, ◌++◌, ◌&&◌, not, OnOk};
+ghost use Rattle.geos_verify.specs.Rows.{is_empty};
+ghost use Rattle.geos_explain.specs.Public.{own_only, own_slots, marked_only, marked_slots, held_pairs, known_pointers, missing_only, missing_slots, kept_only, kept_slots, entry_faults, missing_words, exit_faults, public_words};
+
+use crate::numbers::put_also;
+use geos_image::{Routine, Row, SlotState};
+use geos_verify::is_empty;
+use std::alloc::AllocError;
+
+/// The slot where it is held and not borrowed, else an empty one.
+fn own_only(state: SlotState) -> SlotState
+    ensures { result ≡ own_only state }
+{
+    if state.is_own() {
+        state
+    } else {
+        SlotState::Empty
+    }
+}
+
+/// The slots of an entry row that are held and not borrowed.
+fn own_slots(entry: &Row) -> Row
+    ensures { result ≡ own_slots entry.now }
+{
+    let [s0, s1, s2, s3] = entry.slots;
+    let mut own = Row::open();
+    own.slots = [own_only(s0), own_only(s1), own_only(s2), own_only(s3)];
+    own
+}
+
+/// The slot where it is borrowed and known to be marked, else an empty one.
+fn marked_only(state: SlotState) -> SlotState
+    ensures { result ≡ marked_only state }
+{
+    match state {
+        SlotState::Vm {
+            marked: true,
+            borrowed: true,
+        } => state,
+        _ => SlotState::Empty,
+    }
+}
+
+/// The slots of an entry row that are borrowed and known to be marked.
+fn marked_slots(entry: &Row) -> Row
+    ensures { result ≡ marked_slots entry.now }
+{
+    let [s0, s1, s2, s3] = entry.slots;
+    let mut marked = Row::open();
+    marked.slots = [
+        marked_only(s0),
+        marked_only(s1),
+        marked_only(s2),
+        marked_only(s3),
+    ];
+    marked
+}
+
+/// Whether slots a and b are held, and known to hold different blocks.
+fn differ_held(known: bool, a: SlotState, b: SlotState) -> bool
+    ensures { result ≡ known && not (is_empty a) && not (is_empty b) }
+{
+    known && !is_empty(a) && !is_empty(b)
+}
+
+/// Such pairs of an entry row.
+fn held_pairs(entry: &Row) -> Row
+    ensures { result ≡ held_pairs entry.now }
+{
+    let [s0, s1, s2, s3] = entry.slots;
+    let [p01, p02, p03, p12, p13, p23] = entry.pairs;
+    let mut held = Row::open();
+    held.pairs = [
+        differ_held(p01, s0, s1),
+        differ_held(p02, s0, s2),
+        differ_held(p03, s0, s3),
+        differ_held(p12, s1, s2),
+        differ_held(p13, s1, s3),
+        differ_held(p23, s2, s3),
+    ];
+    held
+}
+
+/// The pointers of which the row knows something.
+fn known_pointers(row: &Row) -> Row
+    ensures { result ≡ known_pointers row.now }
+{
+    let pointers = row.pointers;
+    let mut known = Row::open();
+    known.pointers = pointers;
+    known
+}
+
+/// The slot where it is borrowed in the first row and not in the second, else an empty one.
+fn missing_only(entry: SlotState, exit: SlotState) -> SlotState
+    ensures { result ≡ missing_only entry exit }
+{
+    if !entry.is_own() && exit.is_own() {
+        entry
+    } else {
+        SlotState::Empty
+    }
+}
+
+/// The slots that the row has borrowed and the exit row has not.
+fn missing_slots(row: &Row, exit: &Row) -> Row
+    ensures { result ≡ missing_slots row.now exit.now }
+{
+    let [r0, r1, r2, r3] = row.slots;
+    let [x0, x1, x2, x3] = exit.slots;
+    let mut missing = Row::open();
+    missing.slots = [
+        missing_only(r0, x0),
+        missing_only(r1, x1),
+        missing_only(r2, x2),
+        missing_only(r3, x3),
+    ];
+    missing
+}
+
+/// The slot where it is held in the second row and not borrowed in both, else an empty one.
+fn kept_only(entry: SlotState, exit: SlotState) -> SlotState
+    ensures { result ≡ kept_only entry exit }
+{
+    if entry.is_own() || exit.is_own() {
+        exit
+    } else {
+        SlotState::Empty
+    }
+}
+
+/// The slots that the exit row has held, other than those that both rows have borrowed.
+fn kept_slots(entry: &Row, exit: &Row) -> Row
+    ensures { result ≡ kept_slots entry.now exit.now }
+{
+    let [e0, e1, e2, e3] = entry.slots;
+    let [x0, x1, x2, x3] = exit.slots;
+    let mut kept = Row::open();
+    kept.slots = [
+        kept_only(e0, x0),
+        kept_only(e1, x1),
+        kept_only(e2, x2),
+        kept_only(e3, x3),
+    ];
+    kept
+}
+
+/// What the entry row wants that not every caller from outside has.
+#[tactic(auto, unfolding(crate::specs::Public::entry_faults))]
+fn put_entry_faults(out: &mut Vec<u8>, entry: &Row) -> Result<(), AllocError>
+    ensures { OnOk result (out.new.items ≡ out.old.items ++ entry_faults entry.now) }
+{
+    put_also(
+        out,
+        &own_slots(entry),
+        " held in the in line, and not borrowed",
+    )?;
+    put_also(
+        out,
+        &marked_slots(entry),
+        " marked in the in line, which no caller from outside promises",
+    )?;
+    put_also(
+        out,
+        &held_pairs(entry),
+        " known in the in line, and a caller from outside may lend one block twice",
+    )?;
+    put_also(out, &known_pointers(entry), " known in the in line")
+}
+
+/// Slots that the row has borrowed are missing in the exit row.
+#[tactic(auto, unfolding(crate::specs::Public::missing_words))]
+pub(crate) fn put_missing(out: &mut Vec<u8>, row: &Row, exit: &Row) -> Result<(), AllocError>
+    ensures { OnOk result (out.new.items ≡ out.old.items ++ missing_words row.now exit.now) }
+{
+    put_also(
+        out,
+        &missing_slots(row, exit),
+        " borrowed from the caller, and missing in the out line",
+    )
+}
+
+/// What the exit row lacks of what was borrowed, and what else it holds or knows.
+#[tactic(auto, unfolding(crate::specs::Public::exit_faults))]
+fn put_exit_faults(out: &mut Vec<u8>, entry: &Row, exit: &Row) -> Result<(), AllocError>
+    ensures { OnOk result (out.new.items ≡ out.old.items ++ exit_faults entry.now exit.now) }
+{
+    put_missing(out, entry, exit)?;
+    put_also(
+        out,
+        &kept_slots(entry, exit),
+        " held in the out line, and not borrowed in the in line",
+    )?;
+    put_also(out, &known_pointers(exit), " known in the out line")
+}
+
+/// How a public routine begins and ends, and what the rows of this one say otherwise.
+#[tactic(auto, unfolding(crate::specs::Public::public_words))]
+pub(crate) fn put_public(out: &mut Vec<u8>, routine: &Routine) -> Result<(), AllocError>
+    ensures { OnOk result (out.new.items ≡ out.old.items ++ public_words routine.now) }
+{
+    out.extend_from_slice(
+        b" a public routine begins and ends with empty or borrowed slots and stale pointers",
+    )?;
+    put_entry_faults(out, &routine.entry)?;
+    put_exit_faults(out, &routine.entry, &routine.exit)
+}
