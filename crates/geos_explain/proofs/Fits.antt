@@ -14,7 +14,7 @@ use Rattle.geos_verify.specs.Rows.{bound, slot_fits, pointer_fits, pair_fits, fi
 use Rattle.geos_explain.specs.Lacks.{lacking_bound, lacking_slot, lacking_pointer, lacking_pair, held_item, lacking_items, LacksNothingWhereItFits}
 
 -- two texts are none together where each is
-none-append : (xs ys : List ℕ) → xs ++ ys ≡ [] → (xs ≡ []) × (ys ≡ [])
+pub none-append : (xs ys : List ℕ) → xs ++ ys ≡ [] → (xs ≡ []) × (ys ≡ [])
 none-append [] ys e = (refl, e)
 none-append (x ∷ xs) ys e = absurd cc
 
@@ -24,7 +24,7 @@ below_next k n true is lt = inl (grind (arith, nat_tests))
 below_next k n false is lt = inr (grind (arith, nat_tests))
 
 -- where texts are none, each is
-texts_below-none : (n : ℕ) (text : ℕ → List ℕ) → texts_below n text ≡ [] → (k : ℕ) → k < n → text k ≡ []
+pub texts_below-none : (n : ℕ) (text : ℕ → List ℕ) → texts_below n text ≡ [] → (k : ℕ) → k < n → text k ≡ []
 unfolding texts_below
 texts_below-none zero text e k lt = absurd (omega arith)
 texts_below-none (suc n) text e k lt =
@@ -32,7 +32,7 @@ texts_below-none (suc n) text e k lt =
     elim (below_next k n (nat_lt k n) refl lt) [ inl below ↦ texts_below-none n text parts.0 k below | inr same ↦ ap text same ∙ parts.1 ]
 
 -- and where each is none, so are they together
-none-texts_below : (n : ℕ) (text : ℕ → List ℕ) → ((k : ℕ) → k < n → text k ≡ []) → texts_below n text ≡ []
+pub none-texts_below : (n : ℕ) (text : ℕ → List ℕ) → ((k : ℕ) → k < n → text k ≡ []) → texts_below n text ≡ []
 unfolding texts_below
 none-texts_below zero text none = refl
 none-texts_below (suc n) text none =
@@ -41,7 +41,7 @@ none-texts_below (suc n) text none =
     rw (before, here) refl
 
 -- an operation on two lists, at an index
-zip2-get : {X : Type 0} (f : X → X → X) (xs ys : List X) (d : X) (k : ℕ) → length xs ≡ length ys → k < length xs
+pub zip2-get : {X : Type 0} (f : X → X → X) (xs ys : List X) (d : X) (k : ℕ) → length xs ≡ length ys → k < length xs
     → get_or (zip2 f xs ys) k d ≡ f (get_or xs k d) (get_or ys k d)
 zip2-get f [] ys d k same lt = absurd (omega arith)
 zip2-get f (x ∷ xs) [] d k same lt = absurd (omega arith)
@@ -49,14 +49,14 @@ zip2-get f (x ∷ xs) (y ∷ ys) d zero same lt = refl
 zip2-get f (x ∷ xs) (y ∷ ys) d (suc k) same lt = zip2-get f xs ys d k (omega arith) (omega arith)
 
 -- where a test holds of two lists, it does at an index
-all2-get : {X : Type 0} (test : X → X → Bool) (xs ys : List X) (d : X) (k : ℕ) → all2 test xs ys ≡ true → k < length xs → test (get_or xs k d) (get_or ys k d) ≡ true
+pub all2-get : {X : Type 0} (test : X → X → Bool) (xs ys : List X) (d : X) (k : ℕ) → all2 test xs ys ≡ true → k < length xs → test (get_or xs k d) (get_or ys k d) ≡ true
 all2-get test [] ys d k all lt = absurd (omega arith)
 all2-get test (x ∷ xs) [] d k all lt = absurd cc
 all2-get test (x ∷ xs) (y ∷ ys) d zero all lt = (and_parts (test x y) (all2 test xs ys) all).0
 all2-get test (x ∷ xs) (y ∷ ys) d (suc k) all lt = all2-get test xs ys d k ((and_parts (test x y) (all2 test xs ys) all).1) (omega arith)
 
 -- and where it does at each index, it holds of the lists
-all2-of : {X : Type 0} (test : X → X → Bool) (xs ys : List X) (d : X) → length xs ≡ length ys
+pub all2-of : {X : Type 0} (test : X → X → Bool) (xs ys : List X) (d : X) → length xs ≡ length ys
     → ((k : ℕ) → k < length xs → test (get_or xs k d) (get_or ys k d) ≡ true) → all2 test xs ys ≡ true
 all2-of test [] [] d same each = refl
 all2-of test [] (y ∷ ys) d same each = absurd (omega arith)
@@ -146,13 +146,13 @@ none-pair pair false false none = refl
 none-pair pair false true none = absurd cc
 
 -- how long the lists of a row are
-record HasLengths (row : Row) : Type 0 where
-  bounds : length row.bounds ≡ 8
-  slots : length row.slots ≡ 4
-  pointers : length row.pointers ≡ 4
-  pairs : length row.pairs ≡ 6
+pub record HasLengths (row : Row) : Type 0 where
+  pub bounds : length row.bounds ≡ 8
+  pub slots : length row.slots ≡ 4
+  pub pointers : length row.pointers ≡ 4
+  pub pairs : length row.pairs ≡ 6
 
-lengths : (row : Row) → is_shaped row ≡ true → HasLengths row
+pub lengths : (row : Row) → is_shaped row ≡ true → HasLengths row
 lengths row shaped =
     let pairs = and_parts (length row.bounds == 8 && length row.slots == 4 && length row.pointers == 4) (length row.pairs == 6) shaped in
     let pointers = and_parts (length row.bounds == 8 && length row.slots == 4) (length row.pointers == 4) pairs.0 in

@@ -2,6 +2,7 @@ mod Fits
 mod Holding
 mod Losing
 mod Noted
+mod Outside
 mod Places
 mod Reached
 mod Tables

@@ -36,6 +36,7 @@ pub use lacks::rows_that_fit_lack_nothing;
 pub use led::marks_what_is_reached;
 pub use listed::{explanation_is_listing_with_notes, explanation_is_text_with_notes};
 pub use numbers::pc_part;
+pub use public::rows_without_faults_may_be_public;
 pub use since::what_is_said_of_a_held_slot_holds;
 pub use texts::explain_text;
 pub use trace::what_is_said_of_a_pointer_holds;

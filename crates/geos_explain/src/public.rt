@@ -2,7 +2,7 @@
 
 ghost use Rattle.std.specs.Prelude.{◌≡◌, ◌++◌, ◌&&◌, not, OnOk};
 ghost use Rattle.geos_verify.specs.Rows.{is_empty};
-ghost use Rattle.geos_explain.specs.Public.{own_only, own_slots, marked_only, marked_slots, held_pairs, known_pointers, missing_only, missing_slots, kept_only, kept_slots, entry_faults, missing_words, exit_faults, public_words};
+ghost use Rattle.geos_explain.specs.Public.{own_only, own_slots, marked_only, marked_slots, held_pairs, known_pointers, missing_only, missing_slots, kept_only, kept_slots, entry_faults, missing_words, exit_faults, public_words, NoFaultsWhereItMayEnterAndLeave};
 
 use crate::numbers::put_also;
 use geos_image::{Routine, Row, SlotState};
@@ -207,3 +207,8 @@ pub(crate) fn put_public(out: &mut Vec<u8>, routine: &Routine) -> Result<(), All
     put_entry_faults(out, &routine.entry)?;
     put_exit_faults(out, &routine.entry, &routine.exit)
 }
+
+/// Something is said against the rows of a public routine exactly where a caller from outside may not enter or leave by them.
+pub fn rows_without_faults_may_be_public()
+    ensures { NoFaultsWhereItMayEnterAndLeave }
+{}
