@@ -1,0 +1,3 @@
+routine main budget 9
+        in s0=vm@ s1=vm
+        RET
