@@ -1,0 +1,8 @@
+routine poke public budget 40
+in s0=vm@
+out s0=vm@!
+    VDIRTY s0
+    LDI w1 16
+    DEREF s0 p0 w1 2 e
+    STW w0 p0 0
+e:  RET
