@@ -1,7 +1,8 @@
 -- What the commands on the bytes of texts and images answer.
-use Rattle.std.specs.Prelude.{◌≡◌, ◌⊎◌, ℕ, Bool, false, not, MatchBool, ◌==◌, List, [], Ok, Option, codes}
+use Rattle.std.specs.Prelude.{◌≡◌, ◌⊎◌, ℕ, Bool, true, false, not, MatchBool, ◌==◌, List, [], Ok, Option, codes}
 use Rattle.std.specs.List.{starts_with}
 use Rattle.geos_image.specs.Parts.{Parts}
+use Rattle.geos_image.specs.Legal.{is_formed}
 use Rattle.geos_image.specs.Reading.{image_at}
 use Rattle.geos_verify.specs.declared.rule.Reject.{Reject}
 use Rattle.geos_listing.specs.Listing.{listing}
@@ -16,6 +17,10 @@ use Rattle.geos_asm.specs.declared.error.AssembleError.{AssembleError}
 -- the bytes spell an image that is one of the text, with all rows or with those at its key places
 abbrev pub IsAssembledAs : List ℕ → Bool → List ℕ → Type 0
 IsAssembledAs text all_rows bytes = (image : Parts) × (image_at bytes ≡ Ok image) × IsAssembled text image × (image.keyed ≡ not all_rows)
+
+-- with all rows the text's code may stand in an image where slots may be borrowed, and in none where they may not
+abbrev pub TakesVersion2 : List ℕ → Type 0
+TakesVersion2 text = (whole : Parts) × IsAssembled text whole × (whole.keyed ≡ false) × (is_formed true whole ≡ true) × (is_formed false whole ≡ false)
 
 -- the bytes spell an image, and the text is its listing, and has its code
 abbrev pub IsListed : List ℕ → List ℕ → Type 0

@@ -1,43 +1,44 @@
 //! The commands.
 
-ghost use Rattle.std.specs.Prelude.{◌≡◌, not, IfOk, IfErr};
-ghost use Rattle.geos_asm.specs.Assembling.{IsAssembled, IsWhyNoImage};
+ghost use Rattle.std.specs.Prelude.{◌≡◌, true, false, IfOk, IfErr, IfSome, IfNone};
+ghost use Rattle.geos_asm.specs.Assembling.{IsWhyNoImage};
 ghost use Rattle.geos_image.specs.Reading.{image_at, Fails};
-ghost use Rattle.geos.specs.Commands.{IsAssembledAs, IsImageOf, IsWhyNoneOf, IsListed, IsJudged, IsExplained, IsExplainedText, IsCauseTold, begins_as_image};
+ghost use Rattle.geos.specs.Commands.{IsAssembledAs, TakesVersion2, IsImageOf, IsWhyNoneOf, IsListed, IsJudged, IsExplained, IsExplainedText, IsCauseTold, begins_as_image};
 
 use geos_asm::{AssembleError, assemble, assemble_all_rows, list, why_no_rows};
 use geos_causes::explain_cause;
 use geos_explain::{explain, explain_text};
-use geos_image::{Image, ReadError};
+use geos_image::ReadError;
 use geos_source::lines_of_instrs;
 use geos_verify::{Reject, check};
 use std::alloc::Global;
 
-/// The image of an assembly text: with all rows, or with those at its key places.
-fn assembled(alloc: Global, text: &[u8], all_rows: bool) -> Result<Image, AssembleError>
-    ensures image { IfOk result (IsAssembled text.now) }
-    ensures version { IfOk result (λ image. image.keyed ≡ not all_rows) }
+/// The bytes of the image of an assembly text, with rows at its key places. Its faults are those of `geos_asm::assemble`.
+pub(crate) fn assemble_bytes(alloc: Global, text: &[u8]) -> Result<Vec<u8>, AssembleError>
+    ensures assembled { IfOk result (λ bytes. IsAssembledAs text.now false bytes.items) }
     ensures fault { IfErr result (IsWhyNoImage text.now) }
 {
-    if all_rows {
-        assemble_all_rows(alloc, text)
-    } else {
-        assemble(alloc, text)
-    }
+    let image = assemble(alloc, text)?;
+    Ok(geos_image::write(alloc, &image)?)
 }
 
-/// The bytes of the image of an assembly text: with all rows, in version 1, or with those at its key places. Its faults are
-/// those of `geos_asm::assemble`.
-pub(crate) fn assemble_bytes(
+/// The bytes of the image of an assembly text with all rows, of version 1. `None` where a slot is borrowed, which takes
+/// version 2. Its faults are those of `geos_asm::assemble`.
+pub(crate) fn assemble_all_rows_bytes(
     alloc: Global,
     text: &[u8],
-    all_rows: bool,
-) -> Result<Vec<u8>, AssembleError>
-    ensures assembled { IfOk result (λ bytes. IsAssembledAs text.now all_rows bytes.items) }
+) -> Result<Option<Vec<u8>>, AssembleError>
+    ensures assembled { IfOk result (λ made. IfSome made (λ bytes. IsAssembledAs text.now true bytes.items)) }
+    ensures none { IfOk result (λ made. IfNone made (TakesVersion2 text.now)) }
     ensures fault { IfErr result (IsWhyNoImage text.now) }
 {
-    let image = assembled(alloc, text, all_rows)?;
-    Ok(geos_image::write(alloc, &image)?)
+    let whole = assemble_all_rows(alloc, text)?;
+    // For what `len` says of it: slots alone may keep it from being an image of version 1.
+    let _formed = whole.len();
+    match whole.into_image() {
+        Some(image) => Ok(Some(geos_image::write(alloc, &image)?)),
+        None => Ok(None),
+    }
 }
 
 /// The listing of the image that the bytes spell. `ReadError::BadImage` where they spell none.
@@ -107,7 +108,7 @@ pub(crate) fn image_bytes(alloc: Global, bytes: Vec<u8>) -> Result<Vec<u8>, Asse
     if begins_as_image(&bytes) {
         Ok(bytes)
     } else {
-        assemble_bytes(alloc, &bytes, false)
+        assemble_bytes(alloc, &bytes)
     }
 }
 

@@ -1,8 +1,8 @@
 //! The commands on texts and images that a path names.
 
 use crate::commands::{
-    Explained, assemble_bytes, begins_as_image, cause_bytes, check_bytes, explain_bytes,
-    explain_text_bytes, image_bytes, list_bytes,
+    Explained, assemble_all_rows_bytes, assemble_bytes, begins_as_image, cause_bytes, check_bytes,
+    explain_bytes, explain_text_bytes, image_bytes, list_bytes,
 };
 use crate::request_fault::RequestFault;
 use geos_asm::AssembleError;
@@ -26,7 +26,14 @@ pub(crate) fn assemble<'a>(
     all_rows: bool,
 ) -> Result<(), RequestFault<'a>> {
     let bytes = read(rt, text, MOST_READ)?;
-    let bytes = assemble_bytes(rt.alloc(), &bytes, all_rows)?;
+    let bytes = if all_rows {
+        match assemble_all_rows_bytes(rt.alloc(), &bytes)? {
+            Some(bytes) => bytes,
+            None => return Err(RequestFault::TakesVersion2),
+        }
+    } else {
+        assemble_bytes(rt.alloc(), &bytes)?
+    };
     Ok(write(rt, image, &bytes, text)?)
 }
 

@@ -33,6 +33,9 @@ pub(crate) enum RequestFault<'a> {
     /// A text is not assembled.
     #[error(transparent)]
     Assemble(#[from] AssembleError),
+    /// An image of version 1 is wanted of a text with a borrowed slot.
+    #[error("a borrowed slot takes version 2")]
+    TakesVersion2,
     /// The bytes are no image.
     #[error(transparent)]
     Read(#[from] ReadError),
