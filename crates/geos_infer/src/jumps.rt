@@ -17,6 +17,16 @@ pub(crate) enum Jump {
     Pays(u16),
 }
 
+impl Jump {
+    /// Whether it is a LOOP's that pays in a nest.
+    pub(crate) fn pays_in(self, nest: u16) -> bool {
+        match self {
+            Jump::Pays(other) => other == nest,
+            _ => false,
+        }
+    }
+}
+
 /// What is found of the way from each place to its target.
 pub(crate) type Jumps = Table<Jump>;
 

@@ -31,6 +31,7 @@ mod lengths;
 mod nests;
 mod order;
 mod paid;
+mod paying;
 mod pieces;
 mod pile;
 mod place;

@@ -1,31 +1,24 @@
 //! What a unit of each counter pays for, nest by nest: as much as ways round lack that go through its LOOPs.
 
-ghost use Rattle.std.specs.Prelude.{◌<◌, ◌≤◌};
+ghost use Rattle.std.specs.Prelude.{◌<◌};
 
 use crate::arcs::{Arc, Counting};
 use crate::graph::Graph;
-use crate::jumps::Jump;
 use crate::lengths::{Lengths, Link, Share};
-use crate::nests::{Nest, Splitting};
+use crate::nests::Splitting;
+use crate::paying::Paying;
 use crate::pieces::Piece;
 use crate::pile::Pile;
 use crate::spread::{Spread, go_back, go_back_from, number_of, only, raise};
-use crate::table::{Table, two_tables};
+use crate::table::two_tables;
 use geos_image::MOST_INSTRS;
 use std::alloc::{AllocError, Global};
 
 /// How often the nests are gone over.
 const ROUNDS: u16 = 64;
 
-/// How often the unit of a nest is raised to just what a way round lacks, before it is doubled each time.
-const RAISES: u32 = 32;
-
-/// So many sweeps over a nest are each followed by a look for ways that come round, then every so many: such a way grows with each sweep, and is
-/// found at last.
-const EACH: u32 = 4;
-
 /// How many edges are looked at in all: some 2 s. Of the texts that were made to hurt none took a third of that.
-const LOOKS: u32 = 1 << 27;
+pub(crate) const LOOKS: u32 = 1 << 27;
 
 /// Why no units are found.
 #[derive(Clone, Copy)]
@@ -42,20 +35,6 @@ pub(crate) enum Lack {
     Looks,
 }
 
-/// A way round that lacks something.
-#[derive(Clone, Copy)]
-struct Round {
-    costs: u64,
-    paid: u64,
-    /// How many units the nest's LOOPs take whose unit is the nest's, and how many are set for these.
-    takes: u64,
-    sets: u64,
-    /// The least unit at its LOOPs; none where it has none.
-    least: Option<u32>,
-    /// Whether the counter is set on it for them.
-    is_set: bool,
-}
-
 /// The units of counters, and the longest ways where these pay.
 #[derive(Drop)]
 pub(crate) struct Units {
@@ -63,36 +42,9 @@ pub(crate) struct Units {
     pub(crate) pay: Spread,
     pub(crate) lengths: Lengths,
     /// 1 of a nest's counter where it is kept up to a LOOP that pays in the nest.
-    before: Spread,
+    pub(crate) before: Spread,
     waits: Pile,
     looks: u32,
-}
-
-/// A nest that is paid for.
-#[derive(Clone, Copy)]
-struct Paying {
-    nest: Nest,
-    id: u16,
-    unit: u32,
-}
-
-/// The unit of a nest, where the way round that lacks something is paid for.
-fn next_unit(unit: u32, round: &Round, raises: u32) -> Option<u64> {
-    let least = round.least?;
-    if round.takes == 0 && round.sets == 0 {
-        return Some(u64::from(least));
-    }
-    let takes = round.takes.saturating_sub(round.sets);
-    if takes == 0 {
-        return None;
-    }
-    let lacks = round.costs.saturating_sub(round.paid);
-    let next = u64::from(unit).saturating_add(lacks.div_ceil(takes));
-    if RAISES < raises {
-        Some(next.saturating_mul(2))
-    } else {
-        Some(next)
-    }
 }
 
 impl Units {
@@ -155,171 +107,13 @@ impl Units {
         link
     }
 
-    /// The same in a nest that is paid for.
-    fn link_paying(&self, paying: &Paying, pc: u16, arc: &Arc, pays: bool) -> Link
-        requires { pc < 4096 }
-    {
-        let mut link = self.link(pc, arc);
-        if pays {
-            link.paid = link.paid.max(u64::from(paying.unit));
-            link.share = Share::Pays;
-        }
-        if let Some((counter, most)) = arc.sets() {
-            let is_for_it = paying.nest.tight
-                && counter == paying.nest.counter
-                && number_of(self.before.get(arc.to), counter) != 0;
-            if is_for_it {
-                let unit = self.unit(arc.to, counter).max(paying.unit);
-                link.costs = arc
-                    .steps()
-                    .saturating_add(u64::from(unit).saturating_mul(u64::from(most)));
-                link.share = Share::Costs(most);
-            }
-        }
-        link
-    }
-
-    /// The edge of a place that is looked at in a nest that is paid for.
-    fn link_in(
-        &self,
-        graph: &Graph,
-        splitting: &Splitting,
-        paying: &Paying,
-        pc: u16,
-        branch: bool,
-    ) -> Option<Link>
-        requires { pc < 4096 }
-    {
-        let arc = graph.arc(pc, branch)?;
-        if !splitting.order.has(&paying.nest.piece, arc.to) {
-            return None;
-        }
-        let mut pays = false;
-        if branch {
-            match splitting.jumps.at(pc) {
-                Jump::Free => return None,
-                Jump::Pays(nest) if nest < paying.id => return None,
-                Jump::Pays(nest) => pays = nest == paying.id,
-                Jump::Plain => {}
-            }
-        }
-        Some(self.link_paying(paying, pc, &arc, pays))
-    }
-
-    /// Notes what each edge costs in a nest that is paid for, and forgets which edges made ways long.
-    fn weigh(&mut self, graph: &Graph, splitting: &Splitting, paying: &Paying) {
-        let piece = &paying.nest.piece;
-        for x in piece.begin..piece.end {
-            let pc = splitting.order.place(x);
-            let along = self.link_in(graph, splitting, paying, pc, false);
-            let branching = self.link_in(graph, splitting, paying, pc, true);
-            self.lengths.set_links(pc, [along, branching]);
-        }
-        self.lengths.forget(&splitting.order, piece);
-    }
-
-    /// Whether the LOOP at a place pays in a nest.
-    fn pays_in(&self, splitting: &Splitting, id: u16, pc: u16) -> bool
-        requires { pc < 4096 }
-    {
-        match splitting.jumps.at(pc) {
-            Jump::Pays(nest) => nest == id,
-            _ => false,
-        }
-    }
-
-    /// The least unit at the LOOPs that pay in a nest.
-    fn least_unit(&self, splitting: &Splitting, id: u16, nest: &Nest) -> u32 {
-        let mut least = u32::MAX;
-        for x in nest.piece.begin..nest.piece.end {
-            let pc = splitting.order.place(x);
-            if self.pays_in(splitting, id, pc) {
-                least = least.min(self.unit(pc, nest.counter));
-            }
-        }
-        least
-    }
-
-    /// A way round with one more edge.
-    fn with_link(&self, paying: &Paying, round: &Round, pc: u16, link: &Link) -> Round
-        requires { pc < 4096 }
-    {
-        let mut next = *round;
-        next.costs = next.costs.saturating_add(link.costs);
-        next.paid = next.paid.saturating_add(link.paid);
-        match link.share {
-            Share::Pays => {
-                let unit = self.unit(pc, paying.nest.counter);
-                next.least = match next.least {
-                    Some(least) => Some(least.min(unit)),
-                    None => Some(unit),
-                };
-                if unit <= paying.unit {
-                    next.takes = next.takes.saturating_add(1);
-                }
-            }
-            Share::Costs(most) => {
-                if self.unit(link.to, paying.nest.counter) <= paying.unit {
-                    next.sets = next.sets.saturating_add(u64::from(most));
-                }
-                next.is_set = true;
-            }
-            Share::Nothing => {}
-        }
-        next
-    }
-
-    /// The way round from a place.
-    fn round_at(&self, paying: &Paying, from: u16) -> Round
-        requires { from < 4096 }
-    {
-        let mut round = Round {
-            costs: 0,
-            paid: 0,
-            takes: 0,
-            sets: 0,
-            least: None,
-            is_set: false,
-        };
-        let mut at = from;
-        for _ in 0..MOST_INSTRS {
-            let Some(link) = self.lengths.next(at) else {
-                return round;
-            };
-            round = self.with_link(paying, &round, at, &link);
-            at = link.to;
-            if at == from {
-                return round;
-            }
-        }
-        round
-    }
-
-    /// The unit of a nest, where a way round from a place is paid for, too.
-    fn raised(&self, paying: &Paying, at: u16, raises: u32) -> Result<u32, Lack>
-        requires { at < 4096 }
-    {
-        let round = self.round_at(paying, at);
-        let Some(unit) = next_unit(paying.unit, &round, raises) else {
-            return Err(if round.is_set {
-                Lack::SetWithin(paying.nest.piece)
-            } else {
-                Lack::InTurn
-            });
-        };
-        match u32::try_from(unit) {
-            Ok(unit) => Ok(unit),
-            Err(_) => Err(Lack::Passes),
-        }
-    }
-
     /// Notes from where the counter of a nest is kept up to its LOOPs.
     fn note_before(&mut self, graph: &Graph, splitting: &Splitting, paying: &Paying) {
         self.before.fill_from(0, [0; 4]);
         let piece = &paying.nest.piece;
         for x in piece.begin..piece.end {
             let pc = splitting.order.place(x);
-            if self.pays_in(splitting, paying.id, pc) {
+            if splitting.jumps.at(pc).pays_in(paying.id) {
                 let here = only(paying.nest.counter, 1);
                 raise(&mut self.before, &mut self.waits, pc, &here);
             }
@@ -421,41 +215,12 @@ impl Units {
         let piece = &paying.nest.piece;
         for x in piece.begin..piece.end {
             let pc = splitting.order.place(x);
-            if self.pays_in(splitting, paying.id, pc) {
+            if splitting.jumps.at(pc).pays_in(paying.id) {
                 let unit = only(paying.nest.counter, paying.unit);
                 raise(&mut self.pay, &mut self.waits, pc, &unit);
             }
         }
         self.carry(graph, splitting, paying, round)
-    }
-
-    /// The least unit of a nest with which no way round in it lacks something.
-    fn find_unit(
-        &mut self,
-        graph: &Graph,
-        splitting: &Splitting,
-        paying: &mut Paying,
-    ) -> Result<(), Lack> {
-        let piece = paying.nest.piece;
-        let mut raises = 0;
-        self.weigh(graph, splitting, paying);
-        for sweep in 0..LOOKS {
-            if !self.look(2 * piece.length()) {
-                return Err(Lack::Looks);
-            }
-            if !self.lengths.sweep(&splitting.order, &piece) {
-                return Ok(());
-            }
-            if EACH < sweep && sweep % EACH != 0 {
-                continue;
-            }
-            if let Some(at) = self.lengths.find_round(&splitting.order, &piece) {
-                paying.unit = self.raised(paying, at, raises)?;
-                raises = raises.saturating_add(1);
-                self.weigh(graph, splitting, paying);
-            }
-        }
-        Err(Lack::Looks)
     }
 
     /// Pays for a nest.
@@ -472,12 +237,11 @@ impl Units {
         nest.due = false;
         nest.paid = nest.paid.saturating_add(1);
         splitting.nests.set(id, nest);
-        let unit = self.least_unit(splitting, id, &nest);
-        let mut paying = Paying { nest, id, unit };
+        let mut paying = Paying::begin(self, splitting, id, nest);
         if nest.tight {
             self.note_before(graph, splitting, &paying);
         }
-        self.find_unit(graph, splitting, &mut paying)?;
+        paying.find_unit(graph, splitting, self)?;
         self.set_unit(graph, splitting, &paying, round)
     }
 
