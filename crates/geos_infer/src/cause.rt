@@ -268,9 +268,9 @@ struct Tables {
 
 impl Tables {
     fn new(alloc: Global) -> Result<Tables, AllocError> {
-        let search = Search::new(alloc)?;
         let potentials = Table::new(alloc, NOTHING)?;
         let trails = Trails::new(alloc)?;
+        let search = Search::new(alloc)?;
         Ok(Tables {
             search,
             potentials,
@@ -301,7 +301,10 @@ fn cause_of_search(
     ensures { IfOk result (λ cause. IfSome cause (Holds body.now.image.now body.now.r)) }
 {
     let mut tables = Tables::new(alloc)?;
-    Ok(tables.cause(body, touched, known))
+    let cause = tables.cause(body, touched, known);
+    // By a call, so that the check does not go over each table where this function ends.
+    drop(tables);
+    Ok(cause)
 }
 
 /// Why no numbers of steps are found. That the steps pass the limit comes first: then none are enough, whatever else there is.

@@ -108,7 +108,10 @@ fn count_in(
         None => Tables::new(alloc, body.image)?,
     };
     let counted = count_loops(body, known, &mut tables, potentials);
-    *made = Some(tables);
+    if let Some(old) = made.replace(tables) {
+        // By a call, so that the check does not go over each table here.
+        drop(old);
+    }
     Ok(counted)
 }
 
@@ -151,7 +154,11 @@ fn count_all(
     ensures none { IfOk result (λ left. IfSome left (NoStepsHoldIn image.now)) }
 {
     let mut tables = None;
-    count_each(alloc, image, routines, known, &mut tables, potentials)
+    let left = count_each(alloc, image, routines, known, &mut tables, potentials);
+    if let Some(tables) = tables {
+        drop(tables);
+    }
+    left
 }
 
 /// Enough steps at each instruction, and coefficients, where so many routines have rows. `NoRows`

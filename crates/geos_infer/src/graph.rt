@@ -20,8 +20,8 @@ pub(crate) struct Graph {
 impl Graph {
     /// There are no edges.
     pub(crate) fn new(alloc: Global) -> Result<Graph, AllocError> {
-        let leads = Leads::new(alloc)?;
         let arcs = Table::new(alloc, [None, None])?;
+        let leads = Leads::new(alloc)?;
         Ok(Graph { arcs, leads })
     }
 

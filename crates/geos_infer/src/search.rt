@@ -25,8 +25,8 @@ impl Search {
     pub(crate) fn new(alloc: Global) -> Result<Search, AllocError> {
         let graph = Graph::new(alloc)?;
         let classes = Classes::new(alloc)?;
-        let splitting = Splitting::new(alloc)?;
         let units = Units::new(alloc)?;
+        let splitting = Splitting::new(alloc)?;
         Ok(Search {
             graph,
             classes,
