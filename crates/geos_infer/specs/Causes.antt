@@ -1,12 +1,16 @@
 -- Causes for which no rows or no numbers of steps are found for a routine, and what each says.
-use Rattle.std.specs.Prelude.{◌≡◌, ◌≤◌, ℕ, Bool, ◌&&◌, List, [], ◌∷◌, ◌+◌, true, false, ◌==◌, None, Some, slice_get}
+use Rattle.std.specs.Prelude.{◌≡◌, ◌≤◌, ℕ, Bool, ◌&&◌, List, [], ◌∷◌, ◌+◌, true, false, ◌==◌, Option, None, Some, slice_get}
 use Rattle.geos_opcodes.specs.declared.opcode.Opcode.{Opcode}
 use Rattle.geos_opcodes.specs.declared.opcode.Opcode.TheVariants.{Setk, Setkw, Loop}
 use Rattle.geos_image.specs.declared.instr.Instr.{Instr}
 use Rattle.geos_image.specs.declared.point.Point.{Point}
+use Rattle.geos_image.specs.declared.row.Row.{Row}
 use Rattle.geos_image.specs.Parts.{Parts}
+use Rattle.geos_verify.specs.Rows.{bound}
 use Rattle.geos_verify.specs.Touched.{calls, noted, touches}
 use Rattle.geos_infer.specs.Code.{IsPcOf}
+use Rattle.geos_infer.specs.Flow.{row_of, known_at}
+use Rattle.geos_infer.specs.Reached.{FitWhereReached}
 use Rattle.geos_infer.specs.Why.{LeadsTo, AreApart}
 use Rattle.geos_infer.specs.Trails.{IsTrail}
 use Rattle.geos_infer.specs.Taken as taken
@@ -83,9 +87,11 @@ pub record LoopsTo (image : Parts) (r : ℕ) (back : BackWay) (counter : ℕ) : 
 abbrev pub ComesRound : Parts → ℕ → ℕ → ℕ → Type 0
 ComesRound image r from to = (branches : List Bool) × IsTrail image r None from branches to
 
--- behind a pc control can come to another, and nothing sets the counter on that way
-abbrev pub IsKept : Parts → ℕ → ℕ → ℕ → ℕ → Type 0
-IsKept image r counter at to = (branches : List Bool) × IsTrail image r (Some counter) (at + 1) branches to
+-- behind a pc of routine r control can come to another, and nothing sets the counter on that way
+pub record IsKept (image : Parts) (r counter at to : ℕ) : Type 0 where
+  pub behind : IsPcOf image r (at + 1)
+  pub branches : List Bool
+  pub trail : IsTrail image r (Some counter) (at + 1) branches to
 
 -- from a LOOP's target control comes to where its counter is set, and from there with the counter to the LOOP
 pub record SetsWithin (image : Parts) (r : ℕ) (within : Within) : Type 0 where
@@ -115,6 +121,13 @@ pub record SetsFor (image : Parts) (r : ℕ) (back other : BackWay) (counter at 
   pub round : ComesRound image r back.to at
   pub again : ComesRound image r at back.from
 
+-- behind a pc the counter is kept up to a LOOP that takes from it, and control goes round by that
+pub record PaysForLoop (image : Parts) (r counter at : ℕ) : Type 0 where
+  pub back : BackWay
+  pub loops : LoopsTo image r back counter
+  pub kept : IsKept image r counter at back.from
+  pub round : ComesRound image r back.to back.from
+
 -- two LOOPs close loops in each of which the counter of the other is set for it
 pub record WaitInTurn (image : Parts) (r : ℕ) (both : LoopPair) : Type 0 where
   pub loops : LoopsTo image r both.back both.counter
@@ -127,10 +140,18 @@ abbrev pub sets_to_word : ℕ → ℕ → Instr → Opcode → Bool
 sets_to_word k w i Setkw = (i.a == k) && (i.b == w)
 sets_to_word k w i _ = false
 
--- an instruction of routine r sets a counter to a word
+-- by rows that hold wherever control reaches in routine r, a word is so much at most at a pc
+pub record IsAtMost (image : Parts) (r pc word most : ℕ) : Type 0 where
+  pub known : List (Option Row)
+  pub holds : FitWhereReached image r known
+  pub is : most ≡ bound (row_of (known_at known pc)) word
+
+-- an instruction of routine r sets a counter to a word, which is so much at most there, for a loop
 pub record SetsByWord (image : Parts) (r : ℕ) (by_word : ByWord) : Type 0 where
   pub here : IsPcOf image r by_word.at
   pub sets : PassesAt image by_word.at (λ i. sets_to_word by_word.counter by_word.word i i.opcode)
+  pub most : IsAtMost image r by_word.at by_word.word by_word.most
+  pub for_loop : PaysForLoop image r by_word.counter by_word.at
 
 -- the cause holds of the image's routine r
 abbrev pub Holds : Parts → ℕ → Cause → Type 0

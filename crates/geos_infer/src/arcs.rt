@@ -2,6 +2,7 @@
 
 ghost use Rattle.std.specs.Prelude.{◌≡◌, ◌<◌, ◌≤◌, ◌+◌};
 ghost use Rattle.geos_image.specs.Fields.{FieldsFit, CalleeFits};
+ghost use Rattle.geos_verify.specs.Rows.{bound};
 ghost use Rattle.geos_infer.specs.Taken.{taken_at};
 
 use crate::body::Body;
@@ -84,7 +85,9 @@ fn is_among(counters: &[bool; 4], counter: u8) -> bool {
 }
 
 /// The bound of a word; a row has no other word.
-pub(crate) fn bound_of(row: &Row, word: u8) -> u16 {
+pub(crate) fn bound_of(row: &Row, word: u8) -> u16
+    ensures { word < 8 → result ≡ bound row.now word }
+{
     match row.bounds.get(usize::from(word)) {
         Some(bound) => *bound,
         None => u16::MAX,

@@ -1,7 +1,8 @@
 //! Why no rows or no numbers of steps are found for a routine.
 
-ghost use Rattle.std.specs.Prelude.{◌≡◌, ◌<◌, length, IfSome, IfOk};
-ghost use Rattle.geos_infer.specs.Causes.{LeadsBack, SetsByWord, NotesTouched, Holds};
+ghost use Rattle.std.specs.Prelude.{◌<◌, length, IfSome, IfOk};
+ghost use Rattle.geos_infer.specs.Causes.{LeadsBack, NotesTouched, Holds};
+ghost use Rattle.geos_infer.specs.Reached.{FitWhereReached};
 
 use crate::apart::{Apart, find_apart};
 use crate::body::{Body, body_of};
@@ -10,6 +11,7 @@ use crate::in_turn::find_in_turn;
 use crate::pieces::Piece;
 use crate::rows::find_rows;
 use crate::search::Search;
+use crate::setting::find_dear;
 use crate::spent::find_touched;
 use crate::table::{Known, Potentials, Table};
 use crate::trails::Trails;
@@ -17,7 +19,7 @@ use crate::turns::steps_pass;
 use crate::units::Lack;
 use crate::unpaid::find_round;
 use crate::within::{find_set_within, find_touched_before, find_touched_within};
-use geos_image::{Image, Opcode, Potential};
+use geos_image::{Image, Potential};
 use geos_verify::Touched;
 use std::alloc::{AllocError, Global};
 
@@ -169,63 +171,17 @@ fn cause_of_stuck(
     None
 }
 
-/// What the unit of the counter costs that the instruction at a pc sets to a word; 0 where it sets none so.
-fn price_by_word(body: &Body, search: &Search, pc: u16) -> u64
-    requires { pc < body.now.end }
-{
-    let i = body.image.instr(pc);
-    match i.opcode {
-        Opcode::Setkw => match search.graph.arc(pc, false) {
-            Some(arc) => search.units.link(pc, &arc).costs,
-            None => 0,
-        },
-        _ => 0,
-    }
-}
-
-/// The instruction at a pc, if it sets a counter to a word.
-fn by_word_at(body: &Body, search: &Search, at: u16) -> Option<ByWord>
-    requires { at < body.now.end }
-    ensures { IfSome result (SetsByWord body.now.image.now body.now.r) }
-{
-    let (_, most) = search.graph.arc(at, false)?.sets()?;
-    let i = body.image.instr(at);
-    match i.opcode {
-        Opcode::Setkw if body.start <= at => Some(ByWord {
-            at,
-            counter: i.a,
-            word: i.b,
-            most,
-        }),
-        _ => None,
-    }
-}
-
-/// The place where a counter is set to a word at the greatest price.
-fn find_by_word(body: &Body, search: &Search) -> Option<ByWord>
-    ensures { IfSome result (SetsByWord body.now.image.now body.now.r) }
-{
-    let mut dearest = None;
-    let mut most = 1;
-    for pc in body.start..body.end {
-        let price = price_by_word(body, search, pc);
-        if most < price {
-            most = price;
-            dearest = by_word_at(body, search, pc);
-        }
-    }
-    dearest
-}
-
 /// Why no numbers of steps are found, from what was in the way.
 fn cause_of_lack(
     body: &Body,
     touched: &Touched,
+    known: &Known,
     search: &Search,
     lack: Lack,
     trails: &mut Trails,
 ) -> Option<Cause>
-    requires { NotesTouched body.now.image.now touched.now }
+    requires touched { NotesTouched body.now.image.now touched.now }
+    requires rows { FitWhereReached body.now.image.now body.now.r known.now }
     ensures { IfSome result (Holds body.now.image.now body.now.r) }
 {
     match lack {
@@ -236,10 +192,7 @@ fn cause_of_lack(
             if let Some(pair) = find_in_turn(body, &search.graph, &search.splitting, trails) {
                 return Some(Cause::InTurn(pair));
             }
-            match find_by_word(body, search) {
-                Some(by_word) => Some(Cause::WordUnbounded(by_word)),
-                None => None,
-            }
+            find_dear(body, known, search, trails)
         }
         Lack::InTurn => match find_in_turn(body, &search.graph, &search.splitting, trails) {
             Some(pair) => Some(Cause::InTurn(pair)),
@@ -280,12 +233,13 @@ impl Tables {
 
     /// What was in the way of the search, in an author's terms.
     fn cause(&mut self, body: &Body, touched: &Touched, known: &Known) -> Option<Cause>
-        requires { NotesTouched body.now.image.now touched.now }
+        requires touched { NotesTouched body.now.image.now touched.now }
+        requires rows { FitWhereReached body.now.image.now body.now.r known.now }
         ensures { IfSome result (Holds body.now.image.now body.now.r) }
     {
         match self.search.find(body, known, touched, &mut self.potentials) {
             Ok(()) => None,
-            Err(lack) => cause_of_lack(body, touched, &self.search, lack, &mut self.trails),
+            Err(lack) => cause_of_lack(body, touched, known, &self.search, lack, &mut self.trails),
         }
     }
 }
@@ -297,7 +251,8 @@ fn cause_of_search(
     touched: &Touched,
     known: &Known,
 ) -> Result<Option<Cause>, AllocError>
-    requires { NotesTouched body.now.image.now touched.now }
+    requires touched { NotesTouched body.now.image.now touched.now }
+    requires rows { FitWhereReached body.now.image.now body.now.r known.now }
     ensures { IfOk result (λ cause. IfSome cause (Holds body.now.image.now body.now.r)) }
 {
     let mut tables = Tables::new(alloc)?;
@@ -307,26 +262,22 @@ fn cause_of_search(
     Ok(cause)
 }
 
-/// Why no numbers of steps are found. That the steps pass the limit comes first: then none are enough, whatever else there is.
+/// Why no numbers of steps are found where rows are. That the steps pass the limit comes first: then none are enough, whatever else
+/// there is.
 fn cause_of_steps(
     alloc: Global,
     body: &Body,
     touched: &Touched,
     known: &Known,
-) -> Result<Cause, AllocError>
-    requires { NotesTouched body.now.image.now touched.now }
-    ensures { IfOk result (Holds body.now.image.now body.now.r) }
+) -> Result<Option<Cause>, AllocError>
+    requires touched { NotesTouched body.now.image.now touched.now }
+    requires rows { FitWhereReached body.now.image.now body.now.r known.now }
+    ensures { IfOk result (λ cause. IfSome cause (Holds body.now.image.now body.now.r)) }
 {
     if steps_pass(alloc, body, touched)? {
-        return Ok(Cause::StepsPass);
+        return Ok(Some(Cause::StepsPass));
     }
-    if let Some(cause) = cause_of_search(alloc, body, touched, known)? {
-        return Ok(cause);
-    }
-    match find_back(body) {
-        Some(back) => Ok(Cause::NoSteps(back)),
-        None => Ok(Cause::Unknown),
-    }
+    cause_of_search(alloc, body, touched, known)
 }
 
 /// Why `infer` finds no rows or no numbers of steps for routine r, which it names in `NoRows`: of what may be the
@@ -343,6 +294,14 @@ pub fn find_cause(alloc: Global, image: &Image, r: u16) -> Result<Cause, AllocEr
     if let Some(back) = find_round(alloc, &body)? {
         return Ok(Cause::NoLoop(back));
     }
-    let (known, _) = find_rows(alloc, image)?;
-    cause_of_steps(alloc, &body, &find_touched(image), &known)
+    let (known, routines) = find_rows(alloc, image)?;
+    if r < routines {
+        if let Some(cause) = cause_of_steps(alloc, &body, &find_touched(image), &known)? {
+            return Ok(cause);
+        }
+    }
+    match find_back(&body) {
+        Some(back) => Ok(Cause::NoSteps(back)),
+        None => Ok(Cause::Unknown),
+    }
 }

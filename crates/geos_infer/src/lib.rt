@@ -40,6 +40,7 @@ mod rounds;
 mod rows;
 mod search;
 mod seeds;
+mod setting;
 mod spent;
 mod spread;
 mod table;

@@ -1,7 +1,7 @@
 //! Counters that are set, or that a call touches, where their own loops go round.
 
-ghost use Rattle.std.specs.Prelude.{◌≡◌, ◌<◌, ◌+◌, true, List, Bool, None, Some, IfSome};
-ghost use Rattle.geos_infer.specs.Causes.{NotesTouched, LoopsTo, SetsWithin, TouchesWithin, TouchesBefore, PassesAt, sets_counter, calls_touching};
+ghost use Rattle.std.specs.Prelude.{◌≡◌, ◌<◌, ◌≤◌, true, List, Bool, None, IfSome};
+ghost use Rattle.geos_infer.specs.Causes.{NotesTouched, LoopsTo, IsKept, SetsWithin, TouchesWithin, TouchesBefore, PassesAt, sets_counter, calls_touching};
 ghost use Rattle.geos_infer.specs.Code.{IsPcOf};
 ghost use Rattle.geos_infer.specs.Trails.{IsTrail};
 
@@ -82,15 +82,25 @@ pub(crate) fn comes_round(
     trails.lead(body, None, from, to)
 }
 
+/// Whether the counter is kept behind a place on the way to another that is noted.
+pub(crate) fn is_kept(body: &Body, trails: &Trails, counter: u8, at: u16, to: u16) -> bool
+    requires above { body.now.start ≤ at }
+    requires below { at < body.now.end }
+    requires inside { to < 4096 }
+    ensures { result ≡ true → IsKept body.now.image.now body.now.r counter at to }
+{
+    at + 1 < body.end && trails.lead(body, Some(counter), at + 1, to)
+}
+
 /// A place that the way to another comes from that is noted, on which the counter is kept behind that place.
 pub(crate) fn kept_from(body: &Body, trails: &Trails, counter: u8, to: u16) -> Option<u16>
     requires { to < 4096 }
     ensures inside { IfSome result (λ at. at < body.now.end) }
     ensures within { IfSome result (λ at. IsPcOf body.now.image.now body.now.r at) }
-    ensures kept { IfSome result (λ at. (branches : List Bool) × IsTrail body.now.image.now body.now.r (Some counter) (at + 1) branches to) }
+    ensures kept { IfSome result (λ at. IsKept body.now.image.now body.now.r counter at to) }
 {
     let at = trails.origin(body, to)?;
-    if body.start <= at && trails.lead(body, Some(counter), at + 1, to) {
+    if body.start <= at && is_kept(body, trails, counter, at, to) {
         Some(at)
     } else {
         None

@@ -1,0 +1,155 @@
+//! Counters that are set for loops at a price past what a potential can say.
+
+ghost use Rattle.std.specs.Prelude.{◌≡◌, ◌<◌, ◌≤◌, true, IfSome};
+ghost use Rattle.geos_infer.specs.Causes.{LoopsTo, IsKept, PaysForLoop, Holds};
+ghost use Rattle.geos_infer.specs.Reached.{FitWhereReached};
+
+use crate::arcs::bound_of;
+use crate::body::Body;
+use crate::cause::{BackWay, ByWord, Cause};
+use crate::flow::row_of;
+use crate::graph::Graph;
+use crate::jumps::Jump;
+use crate::nests::Splitting;
+use crate::search::Search;
+use crate::table::Known;
+use crate::trails::Trails;
+use crate::within::{comes_round, is_kept, loop_at};
+use geos_image::Opcode;
+
+/// The LOOP at a pc, if it takes from the counter, and the counter is kept up to it from behind a place from where control goes on.
+fn kept_at(body: &Body, trails: &Trails, counter: u8, at: u16, from: u16) -> Option<BackWay>
+    requires above { body.now.start ≤ at }
+    requires below { at < body.now.end }
+    requires from { from < body.now.end }
+    ensures loops { IfSome result (λ back. LoopsTo body.now.image.now body.now.r back counter) }
+    ensures kept { IfSome result (λ back. IsKept body.now.image.now body.now.r counter at back.from) }
+    ensures begins { IfSome result (λ back. back.from < 4096) }
+    ensures ends { IfSome result (λ back. back.to < 4096) }
+{
+    let (back, other) = loop_at(body, from)?;
+    if other == counter && is_kept(body, trails, counter, at, from) {
+        Some(back)
+    } else {
+        None
+    }
+}
+
+/// The first LOOP that pays in a nest, and up to which a counter is kept from behind a place.
+fn find_kept(
+    body: &Body,
+    graph: &Graph,
+    splitting: &Splitting,
+    counter: u8,
+    at: u16,
+    trails: &mut Trails,
+) -> Option<BackWay>
+    requires above { body.now.start ≤ at }
+    requires below { at < body.now.end }
+    ensures loops { IfSome result (λ back. LoopsTo body.now.image.now body.now.r back counter) }
+    ensures kept { IfSome result (λ back. IsKept body.now.image.now body.now.r counter at back.from) }
+    ensures begins { IfSome result (λ back. back.from < 4096) }
+    ensures ends { IfSome result (λ back. back.to < 4096) }
+{
+    let behind = graph.arc(at, false)?.to;
+    trails.clear(body);
+    trails.note(behind, None);
+    trails.go(graph, Some(counter));
+    for from in body.start..body.end {
+        if let Jump::Pays(_) = splitting.jumps.at(from) {
+            if let Some(back) = kept_at(body, trails, counter, at, from) {
+                return Some(back);
+            }
+        }
+    }
+    None
+}
+
+/// Whether a counter is kept from behind a place to a LOOP that takes from it, by which control goes round.
+fn pays_for_loop(
+    body: &Body,
+    graph: &Graph,
+    splitting: &Splitting,
+    counter: u8,
+    at: u16,
+    trails: &mut Trails,
+) -> bool
+    requires above { body.now.start ≤ at }
+    requires below { at < body.now.end }
+    ensures { result ≡ true → PaysForLoop body.now.image.now body.now.r counter at }
+{
+    match find_kept(body, graph, splitting, counter, at, trails) {
+        Some(back) => comes_round(body, graph, trails, back.to, back.from),
+        None => false,
+    }
+}
+
+/// What it costs that the instruction at a pc sets a counter to a word; 0 where it sets none so.
+fn price_at(body: &Body, search: &Search, pc: u16) -> u64
+    requires { pc < body.now.end }
+{
+    match body.image.instr(pc).opcode {
+        Opcode::Setkw => match search.graph.arc(pc, false) {
+            Some(arc) => search.units.link(pc, &arc).costs,
+            None => 0,
+        },
+        _ => 0,
+    }
+}
+
+/// The place where a counter is set to a word at the greatest price, if a unit of one costs something.
+fn find_dearest(body: &Body, search: &Search) -> Option<u16>
+    ensures { IfSome result (λ at. at < body.now.end) }
+{
+    let mut dearest = None;
+    let mut most = 1;
+    for pc in body.start..body.end {
+        let price = price_at(body, search, pc);
+        if most < price {
+            most = price;
+            dearest = Some(pc);
+        }
+    }
+    dearest
+}
+
+/// How the instruction at a pc sets a counter, if to a word, which pays for a loop.
+fn setting_at(body: &Body, known: &Known, counter: u8, at: u16) -> Option<Cause>
+    requires above { body.now.start ≤ at }
+    requires below { at < body.now.end }
+    requires rows { FitWhereReached body.now.image.now body.now.r known.now }
+    requires pays { PaysForLoop body.now.image.now body.now.r counter at }
+    ensures { IfSome result (Holds body.now.image.now body.now.r) }
+{
+    let i = body.image.instr(at);
+    match i.opcode {
+        Opcode::Setkw if i.a == counter => Some(Cause::WordUnbounded(ByWord {
+            at,
+            counter,
+            word: i.b,
+            most: bound_of(&row_of(&known.at(at)), i.b),
+        })),
+        _ => None,
+    }
+}
+
+/// The place where a counter is set to a word for a loop at the greatest price.
+pub(crate) fn find_dear(
+    body: &Body,
+    known: &Known,
+    search: &Search,
+    trails: &mut Trails,
+) -> Option<Cause>
+    requires { FitWhereReached body.now.image.now body.now.r known.now }
+    ensures { IfSome result (Holds body.now.image.now body.now.r) }
+{
+    let at = find_dearest(body, search)?;
+    let counter = body.image.instr(at).a;
+    if body.start <= at
+        && pays_for_loop(body, &search.graph, &search.splitting, counter, at, trails)
+    {
+        setting_at(body, known, counter, at)
+    } else {
+        None
+    }
+}
