@@ -12,8 +12,9 @@ use Rattle.geos_infer.specs.declared.cause.BackWay.{BackWay}
 use Rattle.geos_infer.specs.declared.cause.Within.{Within}
 use Rattle.geos_infer.specs.declared.cause.LoopPair.{LoopPair}
 use Rattle.geos_infer.specs.declared.cause.ByWord.{ByWord}
+use Rattle.geos_infer.specs.declared.cause.ByNumber.{ByNumber}
 use Rattle.geos_infer.specs.declared.cause.Cause.{Cause}
-use Rattle.geos_infer.specs.declared.cause.Cause.TheVariants.{SlotsDiffer, NoLoop, SetWithin, TouchedWithin, TouchedBefore, InTurn, StepsPass, WordUnbounded, GivenUp, NoSteps, Unknown}
+use Rattle.geos_infer.specs.declared.cause.Cause.TheVariants.{SlotsDiffer, NoLoop, SetWithin, TouchedWithin, TouchedBefore, InTurn, StepsPass, WordUnbounded, NumberHigh, GivenUp, NoSteps, Unknown}
 use Rattle.geos_explain.specs.Numbers.{pc_text}
 
 -- what a slot holds
@@ -113,6 +114,14 @@ in_turn_text lines both = codes "two loops set the counters of each other: " ++ 
 unfoldable pub by_word_text : List ℕ → ByWord → List ℕ
 by_word_text lines by_word = concat (codes "the steps may pass 4,294,967,295, since w" ∷ decimal by_word.word ∷ codes " may be " ∷ decimal by_word.most ∷ codes " at" ∷ pc_text lines by_word.at ∷ codes ": CHK it" ∷ [])
 
+-- a counter is set to a number
+unfoldable pub set_to_text : List ℕ → ByNumber → List ℕ
+set_to_text lines by_number = concat (codes "k" ∷ decimal by_number.counter ∷ codes " is set to " ∷ decimal by_number.number ∷ codes " at" ∷ pc_text lines by_number.at ∷ [])
+
+-- the steps may pass the limit where a number is so high
+abbrev pub by_number_text : List ℕ → ByNumber → List ℕ
+by_number_text lines by_number = codes "the steps may pass 4,294,967,295, since " ++ set_to_text lines by_number
+
 -- the search was given up
 abbrev pub given_up_text : List ℕ → BackWay → List ℕ
 given_up_text lines back = codes "the search for steps takes too long and was given up; the first loop:" ++ back_text lines back
@@ -143,6 +152,7 @@ cause_words lines (TouchedBefore within) = touched_before_text lines within
 cause_words lines (InTurn both) = in_turn_text lines both
 cause_words lines StepsPass = steps_pass_text
 cause_words lines (WordUnbounded by_word) = by_word_text lines by_word
+cause_words lines (NumberHigh by_number) = by_number_text lines by_number
 cause_words lines (GivenUp back) = given_up_text lines back
 cause_words lines (NoSteps back) = no_steps_text lines back
 cause_words lines Unknown = unknown_text

@@ -1,11 +1,11 @@
 //! Why no rows or no numbers of steps are found, in an author's words.
 
 ghost use Rattle.std.specs.Prelude.{◌≡◌, ◌++◌, OnOk, IfOk};
-ghost use Rattle.geos_causes.specs.Causes.{differing_item, differing_items, is_from, edge_text, coming_from, coming_text, touched_text, touched_before_text, set_in_text, in_turn_text, by_word_text, apart_text, back_text, within_text, cause_words, cause_text};
+ghost use Rattle.geos_causes.specs.Causes.{differing_item, differing_items, is_from, edge_text, coming_from, coming_text, touched_text, touched_before_text, set_in_text, in_turn_text, by_word_text, set_to_text, apart_text, back_text, within_text, cause_words, cause_text};
 
 use geos_explain::pc_part;
 use geos_image::SlotState;
-use geos_infer::{Apart, BackWay, ByWord, Cause, Coming, Edge, LoopPair, Within};
+use geos_infer::{Apart, BackWay, ByNumber, ByWord, Cause, Coming, Edge, LoopPair, Within};
 use geos_listing::state_word;
 use geos_text::{Part, put_parts};
 use geos_verify::{is_empty, slot_fits};
@@ -248,6 +248,28 @@ fn put_by_word(out: &mut Vec<u8>, lines: &[usize], by_word: &ByWord) -> Result<(
     )
 }
 
+/// A text, and that a counter is set to a number.
+#[tactic(auto, unfolding(crate::specs::Causes::set_to_text))]
+fn put_set_to(
+    out: &mut Vec<u8>,
+    text: &str,
+    lines: &[usize],
+    by_number: &ByNumber,
+) -> Result<(), AllocError>
+    ensures { OnOk result (out.new.items ≡ out.old.items ++ (text.now ++ set_to_text lines.now by_number.now)) }
+{
+    put_parts(
+        out,
+        &[
+            Part::Text(text),
+            Part::Numbered("k", by_number.counter as u64),
+            Part::Numbered(" is set to ", by_number.number as u64),
+            Part::Text(" at"),
+            pc_part(lines, by_number.at),
+        ],
+    )
+}
+
 /// Why no rows or no numbers of steps are found.
 fn put_cause(out: &mut Vec<u8>, lines: &[usize], cause: &Cause) -> Result<(), AllocError>
     ensures { OnOk result (out.new.items ≡ out.old.items ++ cause_words lines.now cause.now) }
@@ -260,6 +282,12 @@ fn put_cause(out: &mut Vec<u8>, lines: &[usize], cause: &Cause) -> Result<(), Al
         Cause::TouchedBefore(within) => put_touched_before(out, lines, within),
         Cause::InTurn(both) => put_in_turn(out, lines, both),
         Cause::WordUnbounded(by_word) => put_by_word(out, lines, by_word),
+        Cause::NumberHigh(by_number) => put_set_to(
+            out,
+            "the steps may pass 4,294,967,295, since ",
+            lines,
+            by_number,
+        ),
         Cause::GivenUp(back) => put_back(
             out,
             "the search for steps takes too long and was given up; the first loop:",

@@ -18,8 +18,9 @@ use Rattle.geos_infer.specs.declared.cause.BackWay.{BackWay}
 use Rattle.geos_infer.specs.declared.cause.Within.{Within}
 use Rattle.geos_infer.specs.declared.cause.LoopPair.{LoopPair}
 use Rattle.geos_infer.specs.declared.cause.ByWord.{ByWord}
+use Rattle.geos_infer.specs.declared.cause.ByNumber.{ByNumber}
 use Rattle.geos_infer.specs.declared.cause.Cause.{Cause}
-use Rattle.geos_infer.specs.declared.cause.Cause.TheVariants.{SlotsDiffer, NoLoop, SetWithin, TouchedWithin, TouchedBefore, InTurn, StepsPass, WordUnbounded, GivenUp, NoSteps, Unknown}
+use Rattle.geos_infer.specs.declared.cause.Cause.TheVariants.{SlotsDiffer, NoLoop, SetWithin, TouchedWithin, TouchedBefore, InTurn, StepsPass, WordUnbounded, NumberHigh, GivenUp, NoSteps, Unknown}
 
 -- an instruction of routine r leads back within it by its target
 pub record LeadsBack (image : Parts) (r : ℕ) (back : BackWay) : Type 0 where
@@ -153,6 +154,17 @@ pub record SetsByWord (image : Parts) (r : ℕ) (by_word : ByWord) : Type 0 wher
   pub most : IsAtMost image r by_word.at by_word.word by_word.most
   pub for_loop : PaysForLoop image r by_word.counter by_word.at
 
+-- the instruction sets this counter to a number
+abbrev pub sets_to_number : ℕ → ℕ → Instr → Opcode → Bool
+sets_to_number k n i Setk = (i.a == k) && (i.imm == n)
+sets_to_number k n i _ = false
+
+-- an instruction of routine r sets a counter to a number for a loop
+pub record SetsByNumber (image : Parts) (r : ℕ) (by_number : ByNumber) : Type 0 where
+  pub here : IsPcOf image r by_number.at
+  pub sets : PassesAt image by_number.at (λ i. sets_to_number by_number.counter by_number.number i i.opcode)
+  pub for_loop : PaysForLoop image r by_number.counter by_number.at
+
 -- the cause holds of the image's routine r
 abbrev pub Holds : Parts → ℕ → Cause → Type 0
 Holds image r (SlotsDiffer apart) = AreApart image r apart
@@ -163,6 +175,7 @@ Holds image r (TouchedBefore within) = TouchesBefore image r within
 Holds image r (InTurn both) = WaitInTurn image r both
 Holds image r StepsPass = taken.StepsPass image r
 Holds image r (WordUnbounded by_word) = SetsByWord image r by_word
+Holds image r (NumberHigh by_number) = SetsByNumber image r by_number
 Holds image r (GivenUp back) = LeadsBack image r back
 Holds image r (NoSteps back) = LeadsBack image r back
 Holds image r Unknown = Unit {0}

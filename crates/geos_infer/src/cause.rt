@@ -71,6 +71,15 @@ pub struct ByWord {
     pub most: u16,
 }
 
+/// Where a counter is set to a number.
+#[derive(Clone, Copy)]
+pub struct ByNumber {
+    /// The pc of the instruction.
+    pub at: u16,
+    pub counter: u8,
+    pub number: u16,
+}
+
 /// Why no rows or no numbers of steps are found for a routine.
 #[derive(Clone, Copy)]
 pub enum Cause {
@@ -88,8 +97,10 @@ pub enum Cause {
     InTurn(LoopPair),
     /// On some way more steps are taken than a potential can say.
     StepsPass,
-    /// The numbers of steps pass what a potential can say, and a counter is set to a word of which too little is known.
+    /// The numbers of steps pass what a potential can say, and a counter is set for a loop to a word of which too little is known.
     WordUnbounded(ByWord),
+    /// The same, and a counter is set to a number for a loop.
+    NumberHigh(ByNumber),
     /// The search for numbers of steps was given up, as it took too long.
     GivenUp(BackWay),
     /// None of these was found; a way leads back.

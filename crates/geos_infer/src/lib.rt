@@ -55,7 +55,7 @@ mod widening;
 mod within;
 
 pub use apart::{Apart, Coming};
-pub use cause::{BackWay, ByWord, Cause, LoopPair, Within, find_cause};
+pub use cause::{BackWay, ByNumber, ByWord, Cause, LoopPair, Within, find_cause};
 pub use common::{clean, join};
 pub use edges::Edge;
 pub use error::InferError;

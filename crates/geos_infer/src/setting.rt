@@ -6,7 +6,7 @@ ghost use Rattle.geos_infer.specs.Reached.{FitWhereReached};
 
 use crate::arcs::bound_of;
 use crate::body::Body;
-use crate::cause::{BackWay, ByWord, Cause};
+use crate::cause::{BackWay, ByNumber, ByWord, Cause};
 use crate::flow::row_of;
 use crate::graph::Graph;
 use crate::jumps::Jump;
@@ -84,27 +84,27 @@ fn pays_for_loop(
     }
 }
 
-/// What it costs that the instruction at a pc sets a counter to a word; 0 where it sets none so.
-fn price_at(body: &Body, search: &Search, pc: u16) -> u64
-    requires { pc < body.now.end }
+/// What it costs that the instruction at a pc sets a counter; 0 where it sets none, or to 0.
+fn price_at(search: &Search, pc: u16) -> u64
+    requires { pc < 4096 }
 {
-    match body.image.instr(pc).opcode {
-        Opcode::Setkw => match search.graph.arc(pc, false) {
-            Some(arc) => search.units.link(pc, &arc).costs,
+    match search.graph.arc(pc, false) {
+        Some(arc) => match arc.sets() {
+            Some(_) => search.units.link(pc, &arc).costs,
             None => 0,
         },
-        _ => 0,
+        None => 0,
     }
 }
 
-/// The place where a counter is set to a word at the greatest price, if a unit of one costs something.
+/// The place where a counter is set at the greatest price, if a unit of one costs something.
 fn find_dearest(body: &Body, search: &Search) -> Option<u16>
     ensures { IfSome result (λ at. at < body.now.end) }
 {
     let mut dearest = None;
     let mut most = 1;
     for pc in body.start..body.end {
-        let price = price_at(body, search, pc);
+        let price = price_at(search, pc);
         if most < price {
             most = price;
             dearest = Some(pc);
@@ -113,7 +113,7 @@ fn find_dearest(body: &Body, search: &Search) -> Option<u16>
     dearest
 }
 
-/// How the instruction at a pc sets a counter, if to a word, which pays for a loop.
+/// How the instruction at a pc sets a counter, which pays for a loop.
 fn setting_at(body: &Body, known: &Known, counter: u8, at: u16) -> Option<Cause>
     requires above { body.now.start ≤ at }
     requires below { at < body.now.end }
@@ -129,11 +129,16 @@ fn setting_at(body: &Body, known: &Known, counter: u8, at: u16) -> Option<Cause>
             word: i.b,
             most: bound_of(&row_of(&known.at(at)), i.b),
         })),
+        Opcode::Setk if i.a == counter => Some(Cause::NumberHigh(ByNumber {
+            at,
+            counter,
+            number: i.imm,
+        })),
         _ => None,
     }
 }
 
-/// The place where a counter is set to a word for a loop at the greatest price.
+/// How a counter is set for a loop at the greatest price.
 pub(crate) fn find_dear(
     body: &Body,
     known: &Known,
