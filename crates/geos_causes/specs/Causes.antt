@@ -14,7 +14,7 @@ use Rattle.geos_infer.specs.declared.cause.LoopPair.{LoopPair}
 use Rattle.geos_infer.specs.declared.cause.ByWord.{ByWord}
 use Rattle.geos_infer.specs.declared.cause.ByNumber.{ByNumber}
 use Rattle.geos_infer.specs.declared.cause.Cause.{Cause}
-use Rattle.geos_infer.specs.declared.cause.Cause.TheVariants.{SlotsDiffer, NoLoop, SetWithin, TouchedWithin, TouchedBefore, InTurn, StepsPass, WordUnbounded, NumberHigh, GivenUp, NoSteps, Unknown}
+use Rattle.geos_infer.specs.declared.cause.Cause.TheVariants.{SlotsDiffer, NoLoop, SetWithin, TouchedWithin, TouchedBefore, InTurn, StepsPass, WordUnbounded, NumberHigh, GivenUp, StepsMayPass, NoSteps, Unknown}
 use Rattle.geos_explain.specs.Numbers.{pc_text}
 
 -- what a slot holds
@@ -134,6 +134,10 @@ no_loop_text lines back = codes "nothing pays for the way back:" ++ back_text li
 abbrev pub steps_pass_text : List ℕ
 steps_pass_text = codes "the steps pass 4,294,967,295"
 
+-- a way on which none leads back may take more steps than a potential can say
+abbrev pub steps_may_pass_text : List ℕ
+steps_may_pass_text = codes "the steps may pass 4,294,967,295 on a way that leads ahead"
+
 -- no numbers of steps were found
 abbrev pub no_steps_text : List ℕ → BackWay → List ℕ
 no_steps_text lines back = codes "no steps were found for the loop:" ++ back_text lines back
@@ -154,6 +158,7 @@ cause_words lines StepsPass = steps_pass_text
 cause_words lines (WordUnbounded by_word) = by_word_text lines by_word
 cause_words lines (NumberHigh by_number) = by_number_text lines by_number
 cause_words lines (GivenUp back) = given_up_text lines back
+cause_words lines StepsMayPass = steps_may_pass_text
 cause_words lines (NoSteps back) = no_steps_text lines back
 cause_words lines Unknown = unknown_text
 

@@ -21,3 +21,4 @@ pub mod Noting
 pub mod Changes
 pub mod Onward
 pub mod Refused
+pub mod Longest

@@ -14,13 +14,14 @@ use Rattle.geos_infer.specs.Reached.{FitWhereReached}
 use Rattle.geos_infer.specs.Why.{LeadsTo, AreApart}
 use Rattle.geos_infer.specs.Trails.{IsTrail}
 use Rattle.geos_infer.specs.Taken as taken
+use Rattle.geos_infer.specs.Ahead.{MayPass, NonePasses}
 use Rattle.geos_infer.specs.declared.cause.BackWay.{BackWay}
 use Rattle.geos_infer.specs.declared.cause.Within.{Within}
 use Rattle.geos_infer.specs.declared.cause.LoopPair.{LoopPair}
 use Rattle.geos_infer.specs.declared.cause.ByWord.{ByWord}
 use Rattle.geos_infer.specs.declared.cause.ByNumber.{ByNumber}
 use Rattle.geos_infer.specs.declared.cause.Cause.{Cause}
-use Rattle.geos_infer.specs.declared.cause.Cause.TheVariants.{SlotsDiffer, NoLoop, SetWithin, TouchedWithin, TouchedBefore, InTurn, StepsPass, WordUnbounded, NumberHigh, GivenUp, NoSteps, Unknown}
+use Rattle.geos_infer.specs.declared.cause.Cause.TheVariants.{SlotsDiffer, NoLoop, SetWithin, TouchedWithin, TouchedBefore, InTurn, StepsPass, WordUnbounded, NumberHigh, GivenUp, StepsMayPass, NoSteps, Unknown}
 
 -- an instruction of routine r leads back within it by its target
 pub record LeadsBack (image : Parts) (r : ℕ) (back : BackWay) : Type 0 where
@@ -103,15 +104,20 @@ pub record SetsWithin (image : Parts) (r : ℕ) (within : Within) : Type 0 where
   pub round : ComesRound image r within.back.to within.at
 
 -- a routine is called that touches the counter of a LOOP, and it is not set from there to the LOOP
-pub record TouchesBefore (image : Parts) (r : ℕ) (within : Within) : Type 0 where
+pub record LeavesTouched (image : Parts) (r : ℕ) (within : Within) : Type 0 where
   pub loops : LoopsTo image r within.back within.counter
   pub here : IsPcOf image r within.at
   pub touches : PassesAt image within.at (calls_touching image within.counter)
   pub kept : IsKept image r within.counter within.at within.back.from
 
--- the same, and control comes there from the LOOP's target
+-- the same, and control comes from the LOOP's target to the LOOP
+pub record TouchesBefore (image : Parts) (r : ℕ) (within : Within) : Type 0 where
+  pub left : LeavesTouched image r within
+  pub round : ComesRound image r within.back.to within.back.from
+
+-- the same, and control comes from the LOOP's target to the call
 pub record TouchesWithin (image : Parts) (r : ℕ) (within : Within) : Type 0 where
-  pub before : TouchesBefore image r within
+  pub left : LeavesTouched image r within
   pub round : ComesRound image r within.back.to within.at
 
 -- in the loop that a LOOP closes, the counter of another LOOP is set, and kept from there to that
@@ -177,5 +183,16 @@ Holds image r StepsPass = taken.StepsPass image r
 Holds image r (WordUnbounded by_word) = SetsByWord image r by_word
 Holds image r (NumberHigh by_number) = SetsByNumber image r by_number
 Holds image r (GivenUp back) = LeadsBack image r back
+Holds image r StepsMayPass = MayPass image r
 Holds image r (NoSteps back) = LeadsBack image r back
-Holds image r Unknown = Unit {0}
+Holds image r Unknown = NonePasses image r
+
+-- the cause is neither that slots differ nor unknown
+abbrev pub tells_of_steps : Cause → Bool
+tells_of_steps (SlotsDiffer apart) = false
+tells_of_steps Unknown = false
+tells_of_steps _ = true
+
+-- where the cause is unknown, no other one holds, but perhaps that slots differ
+abbrev pub NoOtherHolds : Type 0
+NoOtherHolds = (image : Parts) (r : ℕ) (cause : Cause) → Holds image r Unknown → tells_of_steps cause ≡ true → Holds image r cause → ⊥

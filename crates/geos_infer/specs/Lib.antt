@@ -12,4 +12,5 @@ pub mod Why
 pub mod Taken
 pub mod Turns
 pub mod Trails
+pub mod Ahead
 pub mod Causes

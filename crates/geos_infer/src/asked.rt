@@ -87,7 +87,7 @@ pub(crate) fn return_steps(i: &Instr) -> u64
     }
 }
 
-fn larger64(a: u64, b: u64) -> u64
+pub(crate) fn larger64(a: u64, b: u64) -> u64
     ensures { result ≡ max a b }
 {
     a.max(b)

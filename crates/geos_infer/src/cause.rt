@@ -1,9 +1,12 @@
 //! Why no rows or no numbers of steps are found for a routine.
 
-ghost use Rattle.std.specs.Prelude.{◌<◌, length, IfSome, IfOk};
-ghost use Rattle.geos_infer.specs.Causes.{LeadsBack, NotesTouched, Holds};
+ghost use Rattle.std.specs.Prelude.{◌<◌, ◌≤◌, length, IfSome, IfNone, IfOk};
+ghost use Rattle.geos_infer.specs.Ahead.{OnlyAhead};
+ghost use Rattle.geos_infer.specs.Causes.{LeadsBack, NotesTouched, Holds, NoOtherHolds};
+ghost use Rattle.geos_infer.specs.Code.{TargetAhead};
 ghost use Rattle.geos_infer.specs.Reached.{FitWhereReached};
 
+use crate::ahead::may_pass;
 use crate::apart::{Apart, find_apart};
 use crate::body::{Body, body_of};
 use crate::edges::edge_in;
@@ -103,28 +106,31 @@ pub enum Cause {
     NumberHigh(ByNumber),
     /// The search for numbers of steps was given up, as it took too long.
     GivenUp(BackWay),
+    /// No way leads back, and on some way more steps are taken than a potential can say, if LOOPs may go either way.
+    StepsMayPass,
     /// None of these was found; a way leads back.
     NoSteps(BackWay),
-    /// None of these was found, nor a way back.
+    /// None of these holds, but perhaps that slots differ.
     Unknown,
 }
 
 /// The edge of the instruction to its target, if that leads back.
 fn back_at(body: &Body, from: u16) -> Option<BackWay>
-    requires { from < body.now.end }
-    ensures { IfSome result (LeadsBack body.now.image.now body.now.r) }
+    requires above { body.now.start ≤ from }
+    requires below { from < body.now.end }
+    ensures some { IfSome result (LeadsBack body.now.image.now body.now.r) }
+    ensures none { IfNone result (TargetAhead body.now.image.now body.now.r from) }
 {
-    let to = edge_in(body, from, true)?.to;
-    if to <= from {
-        Some(BackWay { from, to })
-    } else {
-        None
+    match edge_in(body, from, true) {
+        Some(edge) if edge.to <= from => Some(BackWay { from, to: edge.to }),
+        _ => None,
     }
 }
 
 /// The first way that leads back.
 fn find_back(body: &Body) -> Option<BackWay>
-    ensures { IfSome result (LeadsBack body.now.image.now body.now.r) }
+    ensures some { IfSome result (LeadsBack body.now.image.now body.now.r) }
+    ensures none { IfNone result (OnlyAhead body.now.image.now body.now.r) }
 {
     for from in body.start..body.end {
         if let Some(back) = back_at(body, from) {
@@ -291,6 +297,18 @@ fn cause_of_steps(
     cause_of_search(alloc, body, touched, known)
 }
 
+/// Why no numbers of steps are found in a routine in which no way leads back.
+fn cause_ahead(alloc: Global, body: &Body) -> Result<Cause, AllocError>
+    requires { OnlyAhead body.now.image.now body.now.r }
+    ensures { IfOk result (Holds body.now.image.now body.now.r) }
+{
+    if may_pass(alloc, body)? {
+        Ok(Cause::StepsMayPass)
+    } else {
+        Ok(Cause::Unknown)
+    }
+}
+
 /// Why `infer` finds no rows or no numbers of steps for routine r, which it names in `NoRows`: of what may be the
 /// cause, the first that is found. What the cause says holds of that routine. `AllocError` where the allocator refuses
 /// memory.
@@ -313,6 +331,11 @@ pub fn find_cause(alloc: Global, image: &Image, r: u16) -> Result<Cause, AllocEr
     }
     match find_back(&body) {
         Some(back) => Ok(Cause::NoSteps(back)),
-        None => Ok(Cause::Unknown),
+        None => cause_ahead(alloc, &body),
     }
 }
+
+/// A law: where the cause is unknown, no other one holds, but perhaps that slots differ.
+pub fn no_other_cause_holds()
+    ensures { NoOtherHolds }
+{}

@@ -3,6 +3,7 @@
 //! docs/VERIFIER.md says what rows and potentials are.
 #![tactic(auto)]
 
+mod ahead;
 mod apart;
 mod arcs;
 mod asked;
@@ -55,7 +56,9 @@ mod widening;
 mod within;
 
 pub use apart::{Apart, Coming};
-pub use cause::{BackWay, ByNumber, ByWord, Cause, LoopPair, Within, find_cause};
+pub use cause::{
+    BackWay, ByNumber, ByWord, Cause, LoopPair, Within, find_cause, no_other_cause_holds,
+};
 pub use common::{clean, join};
 pub use edges::Edge;
 pub use error::InferError;

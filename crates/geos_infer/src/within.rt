@@ -212,7 +212,7 @@ pub(crate) fn find_touched_within(
     }
 }
 
-/// A call that touches the counter of a LOOP, and it is not set from there to the LOOP.
+/// A call that touches the counter of a LOOP by which control goes round, and it is not set from there to the LOOP.
 pub(crate) fn find_touched_before(
     body: &Body,
     touched: &Touched,
@@ -228,7 +228,9 @@ pub(crate) fn find_touched_before(
     let (back, counter) = loop_at(body, from)?;
     note_touched(body, graph, order, None, counter, trails);
     let at = kept_from(body, trails, counter, from)?;
-    if calls_touching(body, touched, counter, at) {
+    if calls_touching(body, touched, counter, at)
+        && comes_round(body, graph, trails, back.to, from)
+    {
         Some(Within { back, counter, at })
     } else {
         None
