@@ -22,3 +22,4 @@ pub mod Changes
 pub mod Onward
 pub mod Refused
 pub mod Longest
+pub mod Costs

@@ -13,4 +13,5 @@ pub mod Taken
 pub mod Turns
 pub mod Trails
 pub mod Ahead
+pub mod Arcs
 pub mod Causes

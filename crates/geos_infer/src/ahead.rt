@@ -3,9 +3,9 @@
 ghost use Rattle.std.specs.Prelude.{◌≡◌, ◌<◌, ◌≤◌, ℕ, true, false, slice_index, IfOk};
 ghost use Rattle.geos_infer.specs.Ahead.{OnlyAhead, MayPass, NonePasses, IsLongestOver, IsLongestFrom};
 
-use crate::arcs::taken_at;
 use crate::asked::larger64;
 use crate::body::Body;
+use crate::counting::taken_at;
 use crate::edges::edge_in;
 use crate::table::Table;
 use std::alloc::{AllocError, Global};

@@ -1,9 +1,11 @@
 //! The edges of a routine with what they cost, from each place and into it.
 
-ghost use Rattle.std.specs.Prelude.{◌<◌};
+ghost use Rattle.std.specs.Prelude.{◌≡◌, ◌<◌};
+ghost use Rattle.geos_infer.specs.Arcs.{AreArcs, arc_at};
 
-use crate::arcs::{Arc, arc_of};
+use crate::arcs::Arc;
 use crate::body::Body;
+use crate::counting::arc_of;
 use crate::leads::{Lead, Leads};
 use crate::table::{Known, Table};
 use geos_verify::Touched;
@@ -26,7 +28,11 @@ impl Graph {
     }
 
     /// Notes the edges of a routine, in the place of those of another.
-    pub(crate) fn note(&mut self, body: &Body, known: &Known, touched: &Touched) {
+    pub(crate) fn note(&mut self, body: &Body, known: &Known, touched: &Touched)
+        ensures { AreArcs body.now.image.now body.now.r known.now touched.now self.new.arcs }
+    {
+        // For what its law says.
+        self.arcs.lengths();
         self.leads.clear_from(body.start);
         for pc in body.start..body.end {
             let along = arc_of(body, known, touched, pc, false);
@@ -40,6 +46,7 @@ impl Graph {
     /// The edge of the instruction at a pc, to its target where `branch` says so.
     pub(crate) fn arc(&self, pc: u16, branch: bool) -> Option<Arc>
         requires { pc < 4096 }
+        ensures { result ≡ arc_at self.now.arcs pc branch }
     {
         let [along, branching] = self.arcs.get(pc);
         if branch { *branching } else { *along }

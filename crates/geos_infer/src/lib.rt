@@ -16,6 +16,7 @@ mod components;
 mod constants;
 mod count;
 mod counters;
+mod counting;
 mod cycles;
 mod depth;
 mod descent;

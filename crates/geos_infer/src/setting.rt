@@ -4,9 +4,9 @@ ghost use Rattle.std.specs.Prelude.{◌≡◌, ◌<◌, ◌≤◌, true, IfSome}
 ghost use Rattle.geos_infer.specs.Causes.{LoopsTo, IsKept, PaysForLoop, Holds};
 ghost use Rattle.geos_infer.specs.Reached.{FitWhereReached};
 
-use crate::arcs::bound_of;
 use crate::body::Body;
 use crate::cause::{BackWay, ByNumber, ByWord, Cause};
+use crate::counting::bound_of;
 use crate::flow::row_of;
 use crate::graph::Graph;
 use crate::jumps::Jump;

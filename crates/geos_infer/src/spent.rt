@@ -3,6 +3,7 @@
 
 ghost use Rattle.std.specs.Prelude.{◌≡◌, ◌<◌};
 ghost use Rattle.geos_verify.specs.Touched.{noted};
+ghost use Rattle.geos_infer.specs.Arcs.{touched_by};
 ghost use Rattle.geos_infer.specs.Causes.{NotesTouched};
 
 use crate::body::Body;
@@ -22,7 +23,9 @@ pub(crate) fn find_touched(image: &Image) -> Touched
 }
 
 /// Which counters a routine touches, as the table says it.
-pub(crate) fn touched_by(table: &Touched, r: u16) -> [bool; 4] {
+pub(crate) fn touched_by(table: &Touched, r: u16) -> [bool; 4]
+    ensures { result ≡ touched_by table.now r }
+{
     match table.get(usize::from(r)) {
         Some(touched) => *touched,
         None => [false; 4],

@@ -1,6 +1,6 @@
 //! Numbers of counters go along edges, or back over them, as long as these keep the counters; at each place the greatest stays.
 
-ghost use Rattle.std.specs.Prelude.{◌<◌};
+ghost use Rattle.std.specs.Prelude.{◌≡◌, ◌<◌, slice_index};
 
 use crate::arcs::Arc;
 use crate::graph::Graph;
@@ -35,7 +35,9 @@ pub(crate) fn only(counter: u8, number: u32) -> [u32; 4] {
 }
 
 /// The number of a counter; there is no other counter.
-pub(crate) fn number_of(numbers: &[u32; 4], counter: u8) -> u32 {
+pub(crate) fn number_of(numbers: &[u32; 4], counter: u8) -> u32
+    ensures { result ≡ slice_index numbers.now counter }
+{
     match numbers.get(usize::from(counter)) {
         Some(number) => *number,
         None => 0,

@@ -5,11 +5,11 @@ ghost use Rattle.geos_infer.specs.Turns.{begin_from, GoOn, AreReached, StayReach
 ghost use Rattle.geos_infer.specs.Taken.{NoneIsAcceptedPast, StepsPass};
 ghost use Rattle.geos_infer.specs.Why.{LeadsTo};
 
-use crate::arcs::taken_at;
 use crate::body::Body;
 use crate::counters::{
     Counter, counter_at, counters_after, number_in, unless_all_changed, untouched, with_counter,
 };
+use crate::counting::taken_at;
 use crate::edges::{edge_in, is_loop};
 use crate::reach::{Reach, Reached, note};
 use crate::spent::touched_by;

@@ -1,6 +1,7 @@
 //! What a unit of each counter pays for, nest by nest: as much as ways round lack that go through its LOOPs.
 
-ghost use Rattle.std.specs.Prelude.{◌<◌};
+ghost use Rattle.std.specs.Prelude.{◌≡◌, ◌<◌, ◌≤◌};
+ghost use Rattle.geos_infer.specs.Arcs.{IsLink, unit_at, price_of, paid_by};
 
 use crate::arcs::{Arc, Counting};
 use crate::graph::Graph;
@@ -70,6 +71,7 @@ impl Units {
     /// The unit of a counter at a place.
     pub(crate) fn unit(&self, pc: u16, counter: u8) -> u32
         requires { pc < 4096 }
+        ensures { result ≡ unit_at self.now.pay pc counter }
     {
         number_of(self.pay.get(pc), counter)
     }
@@ -86,25 +88,44 @@ impl Units {
         go_back(graph, &mut self.pay, &mut self.waits);
     }
 
+    /// What it costs that an edge sets a counter which is wanted where it leads.
+    fn price(&self, to: u16, counting: &Counting) -> u64
+        requires { to < 4096 }
+        ensures value { result ≡ price_of self.now.pay to counting.now }
+        ensures small { result ≤ 281470681677825 }
+    {
+        match counting {
+            Counting::Sets(counter, most) => {
+                u64::from(self.unit(to, *counter)).saturating_mul(u64::from(*most))
+            }
+            _ => 0,
+        }
+    }
+
+    /// What is paid where a unit is taken from a counter at a place.
+    fn paid(&self, pc: u16, counting: &Counting) -> u64
+        requires { pc < 4096 }
+        ensures { result ≡ paid_by self.now.pay pc counting.now }
+    {
+        match counting {
+            Counting::Takes(counter) => u64::from(self.unit(pc, *counter)),
+            _ => 0,
+        }
+    }
+
     /// An edge with what it costs.
     pub(crate) fn link(&self, pc: u16, arc: &Arc) -> Link
         requires { pc < 4096 }
+        ensures { IsLink self.now.pay pc arc.now result }
     {
-        let mut link = Link {
+        Link {
             to: arc.to,
-            costs: arc.steps(),
-            paid: 0,
+            costs: arc
+                .steps()
+                .saturating_add(self.price(arc.to, &arc.counting)),
+            paid: self.paid(pc, &arc.counting),
             share: Share::Nothing,
-        };
-        match arc.counting {
-            Counting::Sets(counter, most) => {
-                let price = u64::from(self.unit(arc.to, counter)).saturating_mul(u64::from(most));
-                link.costs = link.costs.saturating_add(price);
-            }
-            Counting::Takes(counter) => link.paid = u64::from(self.unit(pc, counter)),
-            _ => {}
         }
-        link
     }
 
     /// Notes from where the counter of a nest is kept up to its LOOPs.

@@ -5,9 +5,9 @@ ghost use Rattle.geos_image.specs.Fields.{FieldsFit, CalleeFits};
 ghost use Rattle.geos_infer.specs.Flow.{AllKnown};
 ghost use Rattle.geos_infer.specs.Reached.{AllFit};
 
-use crate::arcs::bound_of;
 use crate::body::Body;
 use crate::common::clean;
+use crate::counting::bound_of;
 use crate::fitted::all_fit;
 use crate::flow::row_of;
 use crate::rounds::flow_on;

@@ -1,6 +1,6 @@
 use Rattle.std.proofs.Common.{arith}
 use Rattle.geos_infer.proofs.Asks.{taken-call, taken-else}
-use Rattle.geos_infer.proofs.arcs.called_at.Goals as goal
+use Rattle.geos_infer.proofs.counting.called_at.Goals as goal
 
 pub returns-in-Call : goal.returns-in-Call
 returns-in-Call c =
