@@ -1,7 +1,6 @@
 //! Where ways of control meet with slots that differ.
 
-ghost use Rattle.std.specs.Prelude.{◌≡◌, ◌<◌, IfSome, IfOk, IfErr};
-ghost use Rattle.geos_infer.specs.Flow.{known_at};
+ghost use Rattle.std.specs.Prelude.{◌<◌, IfSome, IfOk, IfErr};
 ghost use Rattle.geos_infer.specs.Why.{ComesBy, IsUnlike, AreApartIf, AllCome};
 
 use crate::body::Body;

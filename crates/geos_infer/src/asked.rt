@@ -1,6 +1,6 @@
 //! What the instruction at a pc asks of the potential there.
 
-ghost use Rattle.std.specs.Prelude.{◌≡◌, ◌<◌, ◌≤◌, max, zip, length};
+ghost use Rattle.std.specs.Prelude.{◌≡◌, ◌<◌, ◌≤◌, max};
 ghost use Rattle.geos_verify.specs.Lists.{zip2};
 ghost use Rattle.geos_infer.specs.Numbers.{numbers_of, zeros};
 ghost use Rattle.geos_infer.specs.Count.{asked_steps, asked_coefficients, return_steps, AsksSteps, IsFound};

@@ -1,8 +1,8 @@
 //! Loops that wait on each other: each sets the counter of the other, so that what a unit of either pays for grows with that of the
 //! other.
 
-ghost use Rattle.std.specs.Prelude.{◌≡◌, ◌<◌, IfSome};
-ghost use Rattle.geos_infer.specs.Causes.{WaitInTurn, SetsFor, LoopsTo};
+ghost use Rattle.std.specs.Prelude.{◌<◌, IfSome};
+ghost use Rattle.geos_infer.specs.Causes.{WaitInTurn, SetsFor};
 
 use crate::body::Body;
 use crate::cause::{BackWay, LoopPair};

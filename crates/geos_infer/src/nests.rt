@@ -1,6 +1,6 @@
 //! Nests: places among which control goes round, each with the LOOPs that pay for that.
 
-ghost use Rattle.std.specs.Prelude.{◌<◌, ◌≤◌, IfSome};
+ghost use Rattle.std.specs.Prelude.{◌<◌, IfSome};
 
 use crate::body::Body;
 use crate::choice::{Choice, Chosen, Tier, choose};

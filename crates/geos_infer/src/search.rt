@@ -1,7 +1,5 @@
 //! The search for potentials of a routine with loops.
 
-ghost use Rattle.std.specs.Prelude.{◌<◌};
-
 use crate::body::Body;
 use crate::classes::Classes;
 use crate::constants::{find_constants, free_loops, put_potentials};

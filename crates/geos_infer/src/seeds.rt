@@ -1,6 +1,5 @@
 //! What is known in a routine before rows flow.
 
-ghost use Rattle.geos_image.specs.Fields.{FieldsFit, CalleeFits};
 ghost use Rattle.geos_infer.specs.Flow.{Seeded, StaysBefore};
 ghost use Rattle.geos_infer.specs.Reached.{Copies};
 

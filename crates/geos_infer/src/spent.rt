@@ -1,7 +1,7 @@
 //! Behind a call nothing is known of the counters that the routine touches, so that no coefficient
 //! may be left on them.
 
-ghost use Rattle.std.specs.Prelude.{◌≡◌, ◌<◌};
+ghost use Rattle.std.specs.Prelude.{◌≡◌};
 ghost use Rattle.geos_verify.specs.Touched.{noted};
 ghost use Rattle.geos_infer.specs.Arcs.{touched_by};
 ghost use Rattle.geos_infer.specs.Causes.{NotesTouched};

@@ -1,6 +1,6 @@
 //! Ways of control within a routine: noted by an edge into each place, and followed back.
 
-ghost use Rattle.std.specs.Prelude.{◌≡◌, ◌<◌, true, List, Bool, Option, ℕ, IfSome};
+ghost use Rattle.std.specs.Prelude.{◌≡◌, ◌<◌, true, List, Bool, Option, IfSome};
 ghost use Rattle.geos_infer.specs.Trails.{LeadsKeeping, IsTrail, keeps};
 
 use crate::body::Body;

@@ -1,6 +1,6 @@
 //! The turns of loops, and ways on which more steps are taken than a potential can say.
 
-ghost use Rattle.std.specs.Prelude.{◌≡◌, ◌<◌, ◌≤◌, ◌+◌, ◌-◌, ℕ, true, false, IfSome, IfOk};
+ghost use Rattle.std.specs.Prelude.{◌≡◌, ◌<◌, ◌≤◌, ◌-◌, ℕ, true, false, IfSome, IfOk};
 ghost use Rattle.geos_infer.specs.Turns.{begin_from, GoOn, AreReached, StayReached, IsTurn, AreTurns};
 ghost use Rattle.geos_infer.specs.Taken.{NoneIsAcceptedPast, StepsPass};
 ghost use Rattle.geos_infer.specs.Why.{LeadsTo};

@@ -1,6 +1,6 @@
 //! Ways round that no counter pays for.
 
-ghost use Rattle.std.specs.Prelude.{◌≡◌, ◌<◌, ◌≤◌, true, List, Bool, IfSome, IfOk};
+ghost use Rattle.std.specs.Prelude.{◌≡◌, ◌<◌, true, List, Bool, IfSome, IfOk};
 ghost use Rattle.geos_infer.specs.Causes.{LeadsUnpaid, IsUnpaidWay, GoesRound};
 
 use crate::body::Body;

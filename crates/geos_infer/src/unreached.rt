@@ -1,7 +1,7 @@
 //! Rows at places that nothing reaches: the rules are tried there too.
 
 ghost use Rattle.std.specs.Prelude.{◌≡◌, ◌<◌, true, false};
-ghost use Rattle.geos_image.specs.Fields.{FieldsFit, CalleeFits};
+ghost use Rattle.geos_image.specs.Fields.{FieldsFit};
 ghost use Rattle.geos_infer.specs.Flow.{AllKnown};
 
 use crate::body::Body;

@@ -1,7 +1,6 @@
 //! Rows at places that are reached, weakened by what flows into them from places that nothing reaches.
 
 ghost use Rattle.std.specs.Prelude.{◌≡◌, ◌<◌, true};
-ghost use Rattle.geos_image.specs.Fields.{FieldsFit, CalleeFits};
 ghost use Rattle.geos_infer.specs.Flow.{AllKnown};
 ghost use Rattle.geos_infer.specs.Reached.{AllFit};
 
