@@ -14,4 +14,5 @@ pub mod Turns
 pub mod Trails
 pub mod Ahead
 pub mod Arcs
+pub mod Least
 pub mod Causes

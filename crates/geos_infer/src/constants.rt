@@ -1,6 +1,7 @@
 //! Constants: the longest ways from each place, where units of counters pay for so much.
 
-ghost use Rattle.std.specs.Prelude.{◌<◌};
+ghost use Rattle.std.specs.Prelude.{◌≡◌, ◌<◌};
+ghost use Rattle.geos_infer.specs.Least.{AreEnds, AreLeast, StayAtMost};
 
 use crate::asked::return_steps;
 use crate::body::Body;
@@ -8,7 +9,7 @@ use crate::graph::Graph;
 use crate::jumps::Jump;
 use crate::lengths::Link;
 use crate::nests::Splitting;
-use crate::pieces::Piece;
+use crate::pieces::{Order, Piece};
 use crate::spread::{go_back, only, raise};
 use crate::table::Potentials;
 use crate::units::{Lack, Units};
@@ -33,13 +34,10 @@ fn link_at(
     Some(units.link(pc, &arc))
 }
 
-/// Finds the longest way from each place.
-pub(crate) fn find_constants(
-    body: &Body,
-    graph: &Graph,
-    splitting: &Splitting,
-    units: &mut Units,
-) -> Result<(), Lack> {
+/// Notes what the edges of a routine cost, and that a way from a place takes what a return does there, if anything.
+fn begin(body: &Body, graph: &Graph, splitting: &Splitting, units: &mut Units)
+    ensures { AreEnds body.now.image.now body.now.r units.old.lengths.ways units.new.lengths.ways }
+{
     for pc in body.start..body.end {
         let along = link_at(graph, splitting, units, pc, false);
         let branching = link_at(graph, splitting, units, pc, true);
@@ -47,20 +45,40 @@ pub(crate) fn find_constants(
         let steps = return_steps(body.image.instr(pc));
         units.lengths.set_steps(pc, steps);
     }
-    let all = Piece {
-        begin: body.start,
-        end: body.end,
-    };
+}
+
+/// Makes ways longer until none grows.
+fn lengthen(order: &Order, all: &Piece, units: &mut Units) -> Result<(), Lack>
+    ensures links { units.new.lengths.links ≡ units.old.lengths.links }
+    ensures below { StayAtMost units.old.lengths.links units.old.lengths.ways units.new.lengths.ways }
+{
     // A way that passes no place twice is found by as many sweeps as it has edges, and in the last one nothing is longer.
     for _ in 0..all.length().saturating_add(2) {
         if !units.look(2 * all.length()) {
             return Err(Lack::Looks);
         }
-        if !units.lengths.sweep(&splitting.order, &all) {
+        if !units.lengths.sweep(order, all) {
             return Ok(());
         }
     }
     Err(Lack::Looks)
+}
+
+/// Finds the longest way from each place.
+pub(crate) fn find_constants(
+    body: &Body,
+    graph: &Graph,
+    splitting: &Splitting,
+    units: &mut Units,
+) -> Result<(), Lack>
+    ensures { AreLeast body.now.image.now body.now.r units.new.lengths.links units.old.lengths.ways units.new.lengths.ways }
+{
+    begin(body, graph, splitting, units);
+    let all = Piece {
+        begin: body.start,
+        end: body.end,
+    };
+    lengthen(&splitting.order, &all, units)
 }
 
 /// Sets what a unit has to pay for at the LOOP at a pc, whose counter is 0.

@@ -57,6 +57,9 @@ pub(crate) struct Lengths {
 }
 
 impl Lengths {
+    ghost use Rattle.std.specs.Prelude.{◌≡◌, ◌≤◌, ℕ, None, slice_set};
+    ghost use Rattle.geos_infer.specs.Least.{steps_at, PaysLink, AtMost, StayAtMost};
+
     pub(crate) fn new(alloc: Global) -> Result<Lengths, AllocError> {
         let (links, ways) = two_tables(alloc, [None, None], Way::NOTHING)?;
         Ok(Lengths {
@@ -69,6 +72,8 @@ impl Lengths {
     /// The edges from a place that are looked at.
     pub(crate) fn set_links(&mut self, pc: u16, links: [Option<Link>; 2])
         requires { pc < 4096 }
+        ensures links { self.new.links ≡ slice_set self.old.links pc links }
+        ensures ways { self.new.ways ≡ self.old.ways }
     {
         self.links.set(pc, links);
     }
@@ -76,6 +81,7 @@ impl Lengths {
     /// How many steps the way from a place takes.
     pub(crate) fn steps(&self, pc: u16) -> u64
         requires { pc < 4096 }
+        ensures { result ≡ steps_at self.now.ways pc }
     {
         self.ways.get(pc).steps
     }
@@ -83,6 +89,8 @@ impl Lengths {
     /// A way from a place takes so many steps, and no edge is known to make it so long.
     pub(crate) fn set_steps(&mut self, pc: u16, steps: u64)
         requires { pc < 4096 }
+        ensures links { self.new.links ≡ self.old.links }
+        ensures ways { self.new.ways ≡ slice_set self.old.ways pc (record { steps = steps; first = None; passed = 0 }) }
     {
         let way = Way {
             steps,
@@ -111,7 +119,9 @@ impl Lengths {
 
     /// How many steps a way takes that begins with an edge; 0 where there is none.
     #[inline(always)]
-    fn over(&self, link: &Option<Link>) -> u64 {
+    fn over(&self, link: &Option<Link>) -> u64
+        ensures { (want : ℕ → ℕ) (pc : ℕ) → AtMost self.now.ways want → PaysLink want pc link.now → result ≤ want pc }
+    {
         match link {
             Some(link) => self
                 .ways
@@ -127,10 +137,12 @@ impl Lengths {
     #[inline(always)]
     fn lengthen(&mut self, pc: u16) -> bool
         requires { pc < 4096 }
+        ensures links { self.new.links ≡ self.old.links }
+        ensures below { StayAtMost self.old.links self.old.ways self.new.ways }
     {
-        let links = self.links.get(pc);
-        let by_along = self.over(&links[0]);
-        let by_branching = self.over(&links[1]);
+        let [along, branching] = self.links.get(pc);
+        let by_along = self.over(along);
+        let by_branching = self.over(branching);
         let steps = self.ways.get(pc).steps;
         if by_along.max(by_branching) <= steps {
             return false;
@@ -145,7 +157,10 @@ impl Lengths {
     }
 
     /// The same from each place of a piece; whether some way is longer.
-    pub(crate) fn sweep(&mut self, order: &Order, piece: &Piece) -> bool {
+    pub(crate) fn sweep(&mut self, order: &Order, piece: &Piece) -> bool
+        ensures links { self.new.links ≡ self.old.links }
+        ensures below { StayAtMost self.old.links self.old.ways self.new.ways }
+    {
         let mut longer = false;
         for x in piece.begin..piece.end {
             longer |= self.lengthen(order.place(x));

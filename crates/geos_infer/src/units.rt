@@ -63,7 +63,10 @@ impl Units {
     }
 
     /// Whether so many more edges may be looked at.
-    pub(crate) fn look(&mut self, edges: u32) -> bool {
+    pub(crate) fn look(&mut self, edges: u32) -> bool
+        ensures lengths { self.new.lengths ≡ self.old.lengths }
+        ensures pay { self.new.pay ≡ self.old.pay }
+    {
         self.looks = self.looks.saturating_add(edges);
         self.looks <= LOOKS
     }
