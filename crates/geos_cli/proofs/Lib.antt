@@ -1,6 +1,8 @@
 pub mod CallRuns
 pub mod Commands
 pub mod Examples
+pub mod FormWords
+pub mod InFormRun
 pub mod MayCommit
 pub mod Parts
 pub mod Prints

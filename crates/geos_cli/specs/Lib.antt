@@ -1,4 +1,6 @@
 pub mod Calls
 pub mod Commits
+pub mod Forms
+pub mod InForm
 pub mod Script
 pub mod Session

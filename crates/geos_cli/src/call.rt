@@ -38,7 +38,7 @@ fn registers_of_words(numbers: &[&str]) -> Option<[u16; 8]>
 }
 
 /// The call of the routine of that name on those numbers, if the machine may be asked for it.
-fn call_on(checked: &Checked, name: &str, numbers: &[&str]) -> Option<Call>
+pub(crate) fn call_on(checked: &Checked, name: &str, numbers: &[&str]) -> Option<Call>
     ensures { result ≡ call_named checked.now name.now (texts numbers.now) }
 {
     let routine = routine_named(checked.image(), name.as_bytes())?;
@@ -52,7 +52,7 @@ fn call_on(checked: &Checked, name: &str, numbers: &[&str]) -> Option<Call>
 }
 
 /// The first wrong word of what is no call: 0 is the name, and any other one a number, counted from 1.
-fn first_wrong(checked: &Checked, name: &str, numbers: &[&str]) -> usize
+pub(crate) fn first_wrong(checked: &Checked, name: &str, numbers: &[&str]) -> usize
     requires { call_named checked.now name.now (texts numbers.now) ≡ None }
     ensures { IsFirstWrong checked.now name.now (texts numbers.now) result }
 {

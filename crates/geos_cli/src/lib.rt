@@ -8,10 +8,14 @@
 //! | output | prints what commands put out, and flushes the writer |
 //! | script | `run_script`, `run_script_strictly`: carry out the commands of a script, and print what calls put out |
 //! | call | `run_call`: carries out one call, which words name |
+//! | form | `Form`: how an output is written, and its text |
+//! | in_form | `run_script_in_form`, `run_call_in_form`: the same, printed in a form |
 #![tactic(auto)]
 
 mod call;
 mod call_fault;
+mod form;
+mod in_form;
 mod law;
 mod output;
 mod script;
@@ -19,6 +23,8 @@ mod session;
 
 pub use crate::call::run_call;
 pub use crate::call_fault::CallFault;
+pub use crate::form::{Form, Writing};
+pub use crate::in_form::{run_call_in_form, run_script_in_form};
 pub use crate::law::other_calls_keep;
 pub use crate::script::{RefusedCommit, run_script, run_script_strictly};
 pub use crate::session::run_session;

@@ -12,7 +12,8 @@ use geos_input::{Counted, ScriptFault};
 use geos_terms::Refusal;
 use std::io::Write;
 
-fn write<W: Write>(out: &mut Counted<W>, bytes: &[u8]) -> Result<(), ScriptFault>
+/// Writes the bytes.
+pub(crate) fn write<W: Write>(out: &mut Counted<W>, bytes: &[u8]) -> Result<(), ScriptFault>
     ensures ok { IfOk result (λ _. Appends (W.contents out.old.stream) (W.contents out.new.stream) bytes.now) }
     ensures part { IfErr result (λ _. AppendsPart (W.contents out.old.stream) (W.contents out.new.stream) bytes.now) }
     ensures kept { IfOk result (λ _. out.new.failures ≡ out.old.failures) }

@@ -182,7 +182,7 @@ fn command_of(checked: &Checked, line: &[u8]) -> Option<Command>
 }
 
 /// The commands of a script with the numbers of their lines, or the number of its first bad line.
-fn commands_of(
+pub(crate) fn commands_of(
     alloc: Global,
     checked: &Checked,
     script: &[u8],
@@ -219,7 +219,7 @@ fn commits(opcode: Opcode) -> bool
 }
 
 /// The first pc of an instruction that commits.
-fn first_commit(points: &[Point]) -> Option<usize>
+pub(crate) fn first_commit(points: &[Point]) -> Option<usize>
     ensures { result ≡ first_commit points.now }
 {
     points.iter().position(|point| commits(point.instr.opcode))
@@ -227,7 +227,7 @@ fn first_commit(points: &[Point]) -> Option<usize>
 
 /// Whether the command may commit: a call, where the first instruction that commits stands in
 /// front of the end of its routine.
-fn may_commit(checked: &Checked, first: Option<usize>, command: &Command) -> bool
+pub(crate) fn may_commit(checked: &Checked, first: Option<usize>, command: &Command) -> bool
     requires admitted { IsAdmitted checked.now command.now }
     requires first { first ≡ first_commit checked.now.points }
     ensures { result ≡ may_commit checked.now command.now }
@@ -287,7 +287,7 @@ fn run<D: Device + Drop>(
 
 /// Carries out a command, prints what a call puts out, or the number of a refusal, and gives what a
 /// commit came to. Where the command may commit, what was printed before has been given out.
-fn carry_out<W: Write, D: Device + Drop>(
+pub(crate) fn carry_out<W: Write, D: Device + Drop>(
     machine: &mut Machine,
     checked: &Checked,
     command: &Command,
@@ -327,7 +327,7 @@ fn carry_out<W: Write, D: Device + Drop>(
 }
 
 /// The refused commit behind which the script does not go on, if the command of the line is one.
-fn ended_by(mode: Mode, line: usize, done: Result<(), Refusal>) -> Option<RefusedCommit>
+pub(crate) fn ended_by(mode: Mode, line: usize, done: Result<(), Refusal>) -> Option<RefusedCommit>
     ensures { MatchOption result (GoesOn mode done) (λ refused. (mode ≡ Strict) × (refused.line ≡ line) × (done ≡ Err refused.refusal)) }
 {
     match (mode, done) {

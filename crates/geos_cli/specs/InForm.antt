@@ -1,0 +1,136 @@
+-- Scripts and calls whose outputs are printed in a form.
+use Rattle.std.specs.Prelude.{◌≡◌, ◌⊎◌, ◌≤◌, ℕ, Bool, if◌then◌else◌, List, [], ◌∷◌, ◌++◌, length, Option, Some, None, Result, Err}
+use Rattle.std.specs.Str.Lines.{lines}
+use Rattle.std.specs.Io.KnownBytes.{Appends}
+use Rattle.vm_file.specs.Device.{Medium}
+use Rattle.geos_terms.specs.declared.refusal.Refusal.{Refusal}
+use Rattle.geos_kernel.specs.View.{KernelOn}
+use Rattle.geos_image.specs.Parts.{Parts}
+use Rattle.geos_machine.specs.Runs.{Throughout}
+use Rattle.geos_text.specs.Words.{most_bytes}
+use Rattle.geos_input.specs.declared.fault.ScriptFault.{ScriptFault}
+use Rattle.geos_input.specs.declared.fault.ScriptFault.TheVariants.{TooLong, BadHex, BadImage, Rejected, BadScript, Read, Write, Memory}
+use Rattle.geos_cli.specs.declared.call_fault.CallFault.{CallFault}
+use Rattle.geos_cli.specs.declared.call_fault.CallFault.TheVariants.{BadWord, Script}
+use Rattle.geos_cli.specs.declared.form.Form.{Form}
+use Rattle.geos_cli.specs.declared.script.Call.{Call}
+use Rattle.geos_cli.specs.declared.script.Command.{Command}
+use Rattle.geos_cli.specs.declared.script.Command.TheVariants as command
+use Rattle.geos_cli.specs.declared.script.Mode.{Mode}
+use Rattle.geos_cli.specs.declared.script.Mode.TheVariants.{Lenient, Strict}
+use Rattle.geos_cli.specs.declared.script.Numbered.{Numbered}
+use Rattle.geos_cli.specs.declared.script.RefusedCommit.{RefusedCommit}
+use Rattle.geos_cli.specs.Calls.{Asks}
+use Rattle.geos_cli.specs.Forms.{shown_in}
+use Rattle.geos_cli.specs.Script.{commands_of, on_line, GoesOn, Loads, RanCommand}
+
+-- a command is carried out, from kernel to kernel, and comes to this result; this is what it prints plainly
+abbrev pub RunsPlainly : {D : Type 0} → Medium D → Parts → Command → Result (Unit {0}) Refusal → KernelOn D → KernelOn D → List ℕ → Type 0
+RunsPlainly medium image command result kernel later plain =
+    RanCommand (medium.honest kernel.device) (Throughout medium kernel.device later.device) image command result kernel.core later.core (Some []) (Some plain)
+
+-- and a writer got that in the form
+abbrev pub RanShown : {D : Type 0} → Medium D → Form → Parts → Command → Result (Unit {0}) Refusal → KernelOn D → KernelOn D → Option (List ℕ) → Option (List ℕ) → Type 0
+RanShown medium form image command result kernel later old new =
+    (plain : List ℕ) × RunsPlainly medium image command result kernel later plain × Appends old new (shown_in form image command plain)
+
+-- or a beginning of it
+abbrev pub StoppedShown : {D : Type 0} → Medium D → Form → Parts → Command → KernelOn D → KernelOn D → Option (List ℕ) → Option (List ℕ) → Type 0
+StoppedShown medium form image command kernel later old new =
+    (result : Result (Unit {0}) Refusal) × (plain : List ℕ) × (part : List ℕ) × (rest : List ℕ)
+    × RunsPlainly medium image command result kernel later plain × (shown_in form image command plain ≡ part ++ rest) × Appends old new part
+
+-- commands are carried out one after another, each where the one before left the kernel, and behind each the script goes on; the text is
+-- what each prints, in the form
+abbrev pub RunsInForm : {D : Type 0} → Medium D → Form → Mode → Parts → List Numbered → KernelOn D → KernelOn D → List ℕ → Type 0
+RunsInForm medium form mode image [] kernel later text = (later ≡ kernel) × (text ≡ [])
+RunsInForm {D} medium form mode image (here ∷ commands) kernel later text =
+    (between : KernelOn D)
+    × (plain : List ℕ)
+    × (others : List ℕ)
+    × (result : Result (Unit {0}) Refusal)
+    × RunsPlainly medium image here.command result kernel between plain
+    × GoesOn mode result
+    × RunsInForm medium form mode image commands between later others
+    × (text ≡ shown_in form image here.command plain ++ others)
+
+-- so some of them are, and the last one is a commit that is refused, at this line and with this refusal; the others are not begun
+pub record RefusesInForm {D : Type 0} (medium : Medium D) (form : Form) (mode : Mode) (image : Parts) (commands : List Numbered) (refused : RefusedCommit) (kernel later : KernelOn D) (text : List ℕ) : Type 0 where
+  pub done : List Numbered
+  pub last : Numbered
+  pub others : List Numbered
+  pub in_order : commands ≡ done ++ last ∷ others
+  pub line : refused.line ≡ last.line
+  pub between : KernelOn D
+  pub earlier : List ℕ
+  pub plain : List ℕ
+  pub runs : RunsInForm medium form mode image done kernel between earlier
+  pub refuses : RunsPlainly medium image last.command (Err refused.refusal) between later plain
+  pub written : text ≡ earlier ++ shown_in form image last.command plain
+
+-- commands are carried out, all or up to this refused commit, as far as the mode goes on
+abbrev pub RunsTo : {D : Type 0} → Medium D → Form → Mode → Parts → List Numbered → Option RefusedCommit → KernelOn D → KernelOn D → List ℕ → Type 0
+RunsTo medium form mode image commands None kernel later text = RunsInForm medium form mode image commands kernel later text
+RunsTo medium form mode image commands (Some refused) kernel later text = (mode ≡ Strict) × RefusesInForm medium form mode image commands refused kernel later text
+
+-- some of the commands were carried out, and the text is a beginning of what they print in the form; the others were not begun
+pub record StopsInForm {D : Type 0} (medium : Medium D) (form : Form) (image : Parts) (commands : List Numbered) (kernel later : KernelOn D) (text : List ℕ) : Type 0 where
+  pub done : List Numbered
+  pub others : List Numbered
+  pub in_order : commands ≡ done ++ others
+  pub rest : List ℕ
+  pub runs : RunsInForm medium form Lenient image done kernel later (text ++ rest)
+
+-- commands ran, and a writer got their text
+abbrev pub RanInForm : {D : Type 0} → Medium D → Form → Mode → Parts → List Numbered → Option RefusedCommit → KernelOn D → KernelOn D → Option (List ℕ) → Option (List ℕ) → Type 0
+RanInForm medium form mode image commands refused kernel later old new =
+    (text : List ℕ) × RunsTo medium form mode image commands refused kernel later text × Appends old new text
+
+-- commands were stopped, and a writer got their text up to there
+abbrev pub StoppedInForm : {D : Type 0} → Medium D → Form → Parts → List Numbered → KernelOn D → KernelOn D → Option (List ℕ) → Option (List ℕ) → Type 0
+StoppedInForm medium form image commands kernel later old new =
+    (text : List ℕ) × StopsInForm medium form image commands kernel later text × Appends old new text
+
+-- a script ran on the image that the bytes spell, to its end or to this refused commit, and a writer got its text
+abbrev pub RanScriptInForm : {D : Type 0} → Medium D → Form → Mode → List ℕ → List ℕ → Option RefusedCommit → KernelOn D → KernelOn D → Option (List ℕ) → Option (List ℕ) → Type 0
+RanScriptInForm medium form mode bytes script refused kernel later old new =
+    (image : Parts) × (length script ≤ most_bytes) × Loads bytes (lines script) image
+    × RanInForm medium form mode image (commands_of image (lines script)) refused kernel later old new
+
+-- it was stopped
+abbrev pub StoppedScriptInForm : {D : Type 0} → Medium D → Form → List ℕ → List ℕ → KernelOn D → KernelOn D → Option (List ℕ) → Option (List ℕ) → Type 0
+StoppedScriptInForm medium form bytes script kernel later old new =
+    (image : Parts) × (length script ≤ most_bytes) × Loads bytes (lines script) image
+    × StoppedInForm medium form image (commands_of image (lines script)) kernel later old new
+
+-- the call that words name ran on the image that the bytes spell, and a writer got its text
+abbrev pub RanCallInForm : {D : Type 0} → Medium D → Form → List ℕ → List ℕ → List (List ℕ) → KernelOn D → KernelOn D → Option (List ℕ) → Option (List ℕ) → Type 0
+RanCallInForm medium form bytes name numbers kernel later old new =
+    (image : Parts) × (call : Call) × Asks bytes name numbers image call
+    × RanInForm medium form Lenient image (on_line 1 (command.Call call) ∷ []) None kernel later old new
+
+-- it was stopped
+abbrev pub StoppedCallInForm : {D : Type 0} → Medium D → Form → List ℕ → List ℕ → List (List ℕ) → KernelOn D → KernelOn D → Option (List ℕ) → Option (List ℕ) → Type 0
+StoppedCallInForm medium form bytes name numbers kernel later old new =
+    (image : Parts) × (call : Call) × Asks bytes name numbers image call
+    × StoppedInForm medium form image (on_line 1 (command.Call call) ∷ []) kernel later old new
+
+-- what a script does behind a refused commit
+abbrev pub mode_of : Bool → Mode
+mode_of strict = if strict then Strict else Lenient
+
+-- what is left at a fault: all as it was, or behind some commands where the writer failed, or where memory was refused for what one prints
+abbrev pub Leaves : ScriptFault → Type 0 → Type 0 → Type 0
+Leaves Write kept stopped = stopped
+Leaves Memory kept stopped = kept ⊎ stopped
+Leaves TooLong kept stopped = kept
+Leaves (BadHex line) kept stopped = kept
+Leaves (BadImage at) kept stopped = kept
+Leaves (Rejected pc rule) kept stopped = kept
+Leaves (BadScript line) kept stopped = kept
+Leaves Read kept stopped = kept
+
+-- the same of a call, by its fault
+abbrev pub LeavesCall : CallFault → Type 0 → Type 0 → Type 0
+LeavesCall (BadWord at) kept stopped = kept
+LeavesCall (Script fault) kept stopped = Leaves fault kept stopped

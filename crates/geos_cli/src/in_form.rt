@@ -1,0 +1,215 @@
+//! Scripts and calls whose outputs are printed in a form.
+
+ghost use Rattle.std.specs.Prelude.{◌≡◌, ◌≢◌, ◌↔◌, ◌⊎◌, true, All, IfOk, IfErr, MatchResult};
+ghost use Rattle.std.specs.Io.KnownBytes.{Keeps};
+ghost use Rattle.vm_file.specs.Device.{Rose};
+ghost use Rattle.vm_file.specs.State.{Steadily};
+ghost use Rattle.geos_input.specs.declared.fault.ScriptFault.TheVariants.{Memory, Write};
+ghost use Rattle.geos_input.specs.Fault.{KeptUnless};
+ghost use Rattle.geos_cli.specs.declared.call_fault.CallFault.TheVariants.{Script};
+ghost use Rattle.geos_cli.specs.Calls.{texts, CallEndsBy};
+ghost use Rattle.geos_cli.specs.Commits.{may_commit, IsGiven};
+ghost use Rattle.geos_cli.specs.InForm.{mode_of, RanShown, StoppedShown, RanInForm, StoppedInForm, RanScriptInForm, StoppedScriptInForm};
+ghost use Rattle.geos_cli.specs.InForm.{RanCallInForm, StoppedCallInForm, Leaves, LeavesCall};
+ghost use Rattle.geos_cli.specs.Script.{IsAdmitted, ScriptEndsBy};
+ghost use Rattle.geos_kernel.specs.Files.{vm_file_of};
+ghost use Rattle.geos_kernel.specs.View.{SeesDevice};
+ghost use Rattle.vm_blocks.specs.Listed.{NoneLocked};
+
+use crate::call::{call_on, first_wrong};
+use crate::call_fault::CallFault;
+use crate::form::{Form, shown_in};
+use crate::output::{give_before, write};
+use crate::script::{
+    Command, Mode, Numbered, RefusedCommit, carry_out, commands_of, ended_by, first_commit, load,
+    may_commit,
+};
+use geos_input::{Counted, MOST_BYTES, ScriptFault};
+use geos_kernel::Kernel;
+use geos_machine::Machine;
+use geos_terms::Refusal;
+use geos_verify::Checked;
+use std::alloc::Global;
+use std::io::Write;
+use vm_file::Device;
+
+/// Carries out a command, and prints in a form what it prints. Its plain text is at most 1,024 lines of six bytes. `Memory` where that
+/// or the text in the form has none, `Write` where the writer fails: the command is done all the same.
+fn carry_out_in_form<W: Write, D: Device + Drop>(
+    alloc: Global,
+    form: Form,
+    machine: &mut Machine,
+    checked: &Checked,
+    command: &Command,
+    kernel: &mut Kernel<D>,
+    out: &mut Counted<W>,
+) -> Result<Result<(), Refusal>, ScriptFault>
+    requires admitted { IsAdmitted checked.now command.now }
+    requires unlocked { NoneLocked kernel.old.core.blocks }
+    requires given { may_commit checked.now command.now ≡ true → IsGiven out.old.asked out.old.flushed }
+    ensures ok { IfOk result (λ done. RanShown D.medium form checked.now command.now done kernel.old kernel.new
+        (W.contents out.old.stream) (W.contents out.new.stream)) }
+    ensures stopped { IfErr result (λ _. StoppedShown D.medium form checked.now command.now kernel.old kernel.new
+        (W.contents out.old.stream) (W.contents out.new.stream)) }
+    ensures honest { D.medium.honest kernel.new.device ↔ D.medium.honest kernel.old.device }
+    ensures unlocked { NoneLocked kernel.new.core.blocks }
+    ensures sees { SeesDevice D.medium kernel.old × SeesDevice D.medium kernel.new }
+    ensures steadily { Steadily D.medium (vm_file_of kernel.old) (vm_file_of kernel.new) }
+    ensures fault { IfErr result (λ fault. (fault ≡ Write) ⊎ (fault ≡ Memory)) }
+    ensures failed { IfErr result (λ fault. fault ≡ Write → Rose out.old.failures out.new.failures) }
+    ensures kept { KeptUnless Write result out.old.failures out.new.failures }
+{
+    let mut plain = Counted::new(Vec::new(alloc));
+    match carry_out(machine, checked, command, kernel, &mut plain) {
+        Ok(done) => {
+            let text = shown_in(alloc, form, checked, command, &plain.stream)?;
+            write(out, &text)?;
+            Ok(done)
+        }
+        Err(_) => Err(ScriptFault::Memory),
+    }
+}
+
+/// Carries out the commands one after another, as `carry_out_all` does, and prints in a form what they print.
+fn carry_out_all_in_form<W: Write, D: Device + Drop>(
+    alloc: Global,
+    form: Form,
+    mode: Mode,
+    checked: &Checked,
+    commands: &[Numbered],
+    kernel: &mut Kernel<D>,
+    out: &mut Counted<W>,
+) -> Result<Option<RefusedCommit>, ScriptFault>
+    requires admitted { All (λ c. IsAdmitted checked.now c.command) commands.now }
+    requires unlocked { NoneLocked kernel.old.core.blocks }
+    ensures ran { IfOk result (λ refused. RanInForm D.medium form mode checked.now commands.now refused kernel.old kernel.new
+        (W.contents out.old.stream) (W.contents out.new.stream)) }
+    ensures stopped { IfErr result (λ _. StoppedInForm D.medium form checked.now commands.now kernel.old kernel.new
+        (W.contents out.old.stream) (W.contents out.new.stream)) }
+    ensures honest { D.medium.honest kernel.new.device ↔ D.medium.honest kernel.old.device }
+    ensures unlocked { NoneLocked kernel.new.core.blocks }
+    ensures sees { SeesDevice D.medium kernel.old × SeesDevice D.medium kernel.new }
+    ensures steadily { Steadily D.medium (vm_file_of kernel.old) (vm_file_of kernel.new) }
+    ensures fault { IfErr result (λ fault. (fault ≡ Write) ⊎ (fault ≡ Memory)) }
+    ensures failed { IfErr result (λ fault. fault ≡ Write → Rose out.old.failures out.new.failures) }
+    ensures kept { KeptUnless Write result out.old.failures out.new.failures }
+{
+    let mut machine = Machine::new();
+    kernel.memory_is_legal();
+    let first = first_commit(checked.image().points());
+    let mut behind = false;
+    for numbered in commands {
+        let command = &numbered.command;
+        let ahead = may_commit(checked, first, command);
+        give_before(behind, ahead, out)?;
+        behind = ahead;
+        let done = carry_out_in_form(alloc, form, &mut machine, checked, command, kernel, out)?;
+        if let Some(refused) = ended_by(mode, numbered.line, done) {
+            return Ok(Some(refused));
+        }
+    }
+    Ok(None)
+}
+
+/// What a script does behind a refused commit.
+fn mode_of(strict: bool) -> Mode
+    ensures { result ≡ mode_of strict }
+{
+    if strict { Mode::Strict } else { Mode::Lenient }
+}
+
+/// Runs a script as `run_script` does, or, strictly, as `run_script_strictly`, and prints in a form what each of its commands prints.
+///
+/// The faults are those of `run_script`, and `Memory` also where it is refused for what a command prints: that command is done, and no
+/// other is begun.
+pub fn run_script_in_form<W: Write, D: Device + Drop>(
+    alloc: Global,
+    form: Form,
+    strict: bool,
+    image: &[u8],
+    script: &[u8],
+    kernel: &mut Kernel<D>,
+    out: &mut Counted<W>,
+) -> Result<Option<RefusedCommit>, ScriptFault>
+    requires unlocked { NoneLocked kernel.old.core.blocks }
+    // Each command did what it does plainly, and the writer got what they printed, in the form.
+    ensures ran { IfOk result (λ refused. RanScriptInForm D.medium form (mode_of strict) image.now script.now refused kernel.old kernel.new
+        (W.contents out.old.stream) (W.contents out.new.stream)) }
+    ensures due { IfErr result (ScriptEndsBy image.now script.now) }
+    // Nothing ran and nothing was written, or some commands did, and the writer got a beginning of their text.
+    ensures left { IfErr result (λ fault. Leaves fault
+        ((kernel.new ≡ kernel.old) × Keeps (W.contents out.old.stream) (W.contents out.new.stream))
+        (StoppedScriptInForm D.medium form image.now script.now kernel.old kernel.new (W.contents out.old.stream) (W.contents out.new.stream))) }
+    ensures honest { D.medium.honest kernel.new.device ↔ D.medium.honest kernel.old.device }
+    ensures unlocked { NoneLocked kernel.new.core.blocks }
+    ensures sees { SeesDevice D.medium kernel.old × SeesDevice D.medium kernel.new }
+    ensures steadily { Steadily D.medium (vm_file_of kernel.old) (vm_file_of kernel.new) }
+    ensures writer_failed { IfErr result (λ fault. fault ≡ Write → Rose out.old.failures out.new.failures) }
+    ensures writer_kept { KeptUnless Write result out.old.failures out.new.failures }
+{
+    kernel.memory_is_legal();
+    if script.len() > MOST_BYTES {
+        return Err(ScriptFault::TooLong);
+    }
+    let checked = load(alloc, image)?;
+    let commands = commands_of(alloc, &checked, script)?;
+    carry_out_all_in_form(
+        alloc,
+        form,
+        mode_of(strict),
+        &checked,
+        &commands,
+        kernel,
+        out,
+    )
+}
+
+/// Runs one call as `run_call` does, and prints in a form what it puts out. The faults are those of `run_call`, and `Memory` also where
+/// it is refused for what the call prints: it is done then.
+pub fn run_call_in_form<W: Write, D: Device + Drop>(
+    alloc: Global,
+    form: Form,
+    image: &[u8],
+    name: &str,
+    numbers: &[&str],
+    kernel: &mut Kernel<D>,
+    out: &mut Counted<W>,
+) -> Result<(), CallFault>
+    requires unlocked { NoneLocked kernel.old.core.blocks }
+    // The call did what it does plainly, and the writer got what it printed, in the form.
+    ensures ran { IfOk result (λ _. RanCallInForm D.medium form image.now name.now (texts numbers.now) kernel.old kernel.new
+        (W.contents out.old.stream) (W.contents out.new.stream)) }
+    ensures due { IfErr result (CallEndsBy image.now name.now (texts numbers.now)) }
+    // Nothing ran and nothing was written, or the call did, and the writer got a beginning of its text.
+    ensures left { IfErr result (λ fault. LeavesCall fault
+        ((kernel.new ≡ kernel.old) × Keeps (W.contents out.old.stream) (W.contents out.new.stream))
+        (StoppedCallInForm D.medium form image.now name.now (texts numbers.now) kernel.old kernel.new (W.contents out.old.stream) (W.contents out.new.stream))) }
+    ensures honest { D.medium.honest kernel.new.device ↔ D.medium.honest kernel.old.device }
+    ensures unlocked { NoneLocked kernel.new.core.blocks }
+    ensures sees { SeesDevice D.medium kernel.old × SeesDevice D.medium kernel.new }
+    ensures steadily { Steadily D.medium (vm_file_of kernel.old) (vm_file_of kernel.new) }
+    ensures writer_failed { IfErr result (λ fault. fault ≡ Script Write → Rose out.old.failures out.new.failures) }
+    ensures writer_kept { MatchResult result (λ _. out.new.failures ≡ out.old.failures) (λ fault. fault ≢ Script Write → out.new.failures ≡ out.old.failures) }
+{
+    kernel.memory_is_legal();
+    let checked = load(alloc, image)?;
+    let Some(call) = call_on(&checked, name, numbers) else {
+        return Err(CallFault::BadWord(first_wrong(&checked, name, numbers)));
+    };
+    let command = Numbered {
+        line: 1,
+        command: Command::Call(call),
+    };
+    match carry_out_all_in_form(
+        alloc,
+        form,
+        Mode::Lenient,
+        &checked,
+        &[command],
+        kernel,
+        out,
+    ) {
+        Ok(_) => Ok(()),
+        Err(fault) => Err(CallFault::Script(fault)),
+    }
+}
