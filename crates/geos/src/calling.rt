@@ -5,12 +5,11 @@ ghost use Rattle.geos_shell.specs.Limits.{IsRegion};
 
 use crate::files::{Unlocked, open_unlocked, opened};
 use crate::images::{MOST_READ, read_image};
+use crate::manner::{Manner, run_call_on, run_script_on};
 use crate::request_fault::RequestFault;
-use crate::running::output;
-use geos_cli::{CallFault, ScriptFault, run_call, run_script};
+use geos_cli::ScriptFault;
 use geos_kernel::{Kernel, kernel_in_memory};
 use geos_shell::{CallWords, Sharing, read};
-use std::io::Write;
 use vm_file::{Device, FileDevice, VmFile};
 
 /// The path of the standard input.
@@ -36,53 +35,26 @@ fn work_of<'a>(
     }
 }
 
-/// The fault of a call, by what is wrong.
-fn call_fault<'a>(call: &CallWords<'a>, fault: CallFault) -> RequestFault<'a> {
-    match fault {
-        CallFault::Script(fault) => RequestFault::Session(fault),
-        CallFault::BadWord(0) => RequestFault::NoRoutine(call.name),
-        CallFault::BadWord(word) => match call.numbers.get(word - 1) {
-            Some(number) if word <= 8 => RequestFault::BadNumber(word - 1, *number),
-            _ => RequestFault::TooManyNumbers,
-        },
-    }
-}
-
 /// Runs it with an image on a kernel of whose VM file no block is locked.
 fn work_on<'a, D: Device + Drop>(
     rt: &HostRuntime,
+    manner: &Manner,
     image: &[u8],
     work: &Work<'a>,
     kernel: &mut Kernel<D>,
 ) -> Result<(), RequestFault<'a>>
     requires { NoneLocked kernel.old.core.blocks }
 {
-    let mut out = output(rt)?;
     match work {
-        Work::Call(call) => {
-            match run_call(
-                rt.alloc(),
-                image,
-                call.name,
-                &call.numbers,
-                kernel,
-                &mut out,
-            ) {
-                Ok(()) => {}
-                Err(fault) => return Err(call_fault(call, fault)),
-            }
-        }
-        Work::Script(script) => run_script(rt.alloc(), image, script, kernel, &mut out)?,
-    }
-    match out.flush() {
-        Ok(()) => Ok(()),
-        Err(_) => Err(RequestFault::Session(ScriptFault::Write)),
+        Work::Call(call) => run_call_on(rt, manner, image, call, kernel),
+        Work::Script(script) => run_script_on(rt, manner, image, script, kernel),
     }
 }
 
 /// Runs it on a new VM file in memory, with so many bytes for blocks in memory.
 fn work_in_memory<'a>(
     rt: &HostRuntime,
+    manner: &Manner,
     image: &[u8],
     work: &Work<'a>,
     region: u32,
@@ -90,7 +62,7 @@ fn work_in_memory<'a>(
     requires { IsRegion region }
 {
     match kernel_in_memory(rt.alloc(), region) {
-        Ok(mut kernel) => work_on(rt, image, work, &mut kernel),
+        Ok(mut kernel) => work_on(rt, manner, image, work, &mut kernel),
         Err(_) => Err(RequestFault::Session(ScriptFault::Memory)),
     }
 }
@@ -98,6 +70,7 @@ fn work_in_memory<'a>(
 /// Runs it on an open VM file, with so many bytes for blocks in memory.
 fn work_in<'a>(
     rt: &HostRuntime,
+    manner: &Manner,
     image: &[u8],
     work: &Work<'a>,
     region: u32,
@@ -106,7 +79,7 @@ fn work_in<'a>(
     requires { IsRegion region }
 {
     match Kernel::new(rt.alloc(), region, file) {
-        Ok(mut kernel) => work_on(rt, image, work, &mut kernel),
+        Ok(mut kernel) => work_on(rt, manner, image, work, &mut kernel),
         Err(_) => Err(RequestFault::Session(ScriptFault::Memory)),
     }
 }
@@ -114,6 +87,7 @@ fn work_in<'a>(
 /// Runs it on the VM file with the path, whose lock is waited for when a script has been read, as of `run`.
 fn work_on_file<'a>(
     rt: &HostRuntime,
+    manner: &Manner,
     image: &[u8],
     path: &'a str,
     call: Option<CallWords<'a>>,
@@ -129,13 +103,14 @@ fn work_on_file<'a>(
     let _lock = lockable.wait(rt)?;
     let file = opened(rt, device)?;
     let work = work?;
-    work_in(rt, image, &work, region, file)
+    work_in(rt, manner, image, &work, region, file)
 }
 
 /// Runs one call of the routines in a text or an image, or without one the script on the standard input, which is not read otherwise; on
 /// a VM file, or without one on a new one in memory; with so many bytes for blocks in memory.
 pub(crate) fn call<'a>(
     rt: &HostRuntime,
+    manner: &Manner,
     image: &'a str,
     call: Option<CallWords<'a>>,
     file: Option<&'a str>,
@@ -145,10 +120,10 @@ pub(crate) fn call<'a>(
 {
     let image = read_image(rt, image)?;
     match file {
-        Some(path) => work_on_file(rt, &image, path, call, region),
+        Some(path) => work_on_file(rt, manner, &image, path, call, region),
         None => {
             let work = work_of(rt, call)?;
-            work_in_memory(rt, &image, &work, region)
+            work_in_memory(rt, manner, &image, &work, region)
         }
     }
 }

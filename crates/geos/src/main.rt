@@ -5,6 +5,7 @@ mod calling;
 mod commands;
 mod files;
 mod images;
+mod manner;
 mod request_fault;
 mod requests;
 mod running;

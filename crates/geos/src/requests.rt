@@ -5,6 +5,7 @@ ghost use Rattle.geos_shell.specs.Limits.{KeepsLimits};
 use crate::calling::call as run_call;
 use crate::files::{draw_file, make_file, print_file};
 use crate::images::{assemble, check, explain, list};
+use crate::manner::Manner;
 use crate::request_fault::RequestFault;
 use crate::running::{run, session};
 use geos_dump::Detail;
@@ -21,7 +22,9 @@ pub(crate) fn carry_out<'a>(rt: &HostRuntime, request: Request<'a>) -> Result<()
             call,
             file,
             region,
-        } => run_call(rt, image, call, file, region),
+            strict,
+            form,
+        } => run_call(rt, &Manner { strict, form }, image, call, file, region),
         Request::Assemble {
             text,
             image,
@@ -37,7 +40,8 @@ pub(crate) fn carry_out<'a>(rt: &HostRuntime, request: Request<'a>) -> Result<()
             script,
             region,
             strict,
-        } => run(rt, image, file, script, region, strict),
+            form,
+        } => run(rt, &Manner { strict, form }, image, file, script, region),
         Request::Dump {
             file,
             chunks: false,

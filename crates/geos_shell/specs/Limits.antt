@@ -23,8 +23,8 @@ IsWidth n = (60 ≤ n) × (n ≤ 1000)
 -- each number of a request is within its limits
 abbrev pub KeepsLimits : Request → Type 0
 KeepsLimits (New file area) = IsArea area
-KeepsLimits (Call image call file region) = IsRegion region
-KeepsLimits (Run image file script region strict) = IsRegion region
+KeepsLimits (Call image call file region strict form) = IsRegion region
+KeepsLimits (Run image file script region strict form) = IsRegion region
 KeepsLimits (Map file width) = IsWidth width
 KeepsLimits Session = Unit {0}
 KeepsLimits (Assemble text image all_rows) = Unit {0}

@@ -101,6 +101,19 @@ const STRICT: ArgText = ArgText::Flag(
     "Ends with status 1 at the first line of SCRIPT that prints `refused K`",
 );
 
+const STRICT_CALL: ArgText = ArgText::Flag(
+    "strict",
+    "Ends with status 1 at the first line of the script that prints `refused K`",
+);
+
+const HEX: ArgText = ArgText::Flag("hex", "Prints words in four hexadecimal digits behind 0x");
+
+const SIGNED: ArgText = ArgText::Flag("signed", "Prints words as numbers from -32768 to 32767");
+
+const AS_TEXT: ArgText = ArgText::Flag("text", "Prints the words of a call as bytes of a text");
+
+const LABEL: ArgText = ArgText::Flag("label", "Prints each line behind its call");
+
 const ALL_ROWS: ArgText = ArgText::Flag(
     "all-rows",
     "Gives a row at each instruction, as images of version 1 do",
@@ -128,7 +141,18 @@ static COMMANDS: [CommandText; 9] = [
     CommandText {
         name: "call",
         about: "Checks a text or an image, and runs one routine of it, or a script",
-        args: &[TEXT_OR_IMAGE, NAME, NUMBERS, ON_FILE, REGION_SIZE],
+        args: &[
+            TEXT_OR_IMAGE,
+            NAME,
+            NUMBERS,
+            ON_FILE,
+            REGION_SIZE,
+            STRICT_CALL,
+            HEX,
+            SIGNED,
+            AS_TEXT,
+            LABEL,
+        ],
         more: More::Called,
     },
     CommandText {
@@ -164,7 +188,17 @@ static COMMANDS: [CommandText; 9] = [
     CommandText {
         name: "run",
         about: "Runs a script on a VM file",
-        args: &[IMAGE_OR_TEXT, FILE, SCRIPT, REGION_SIZE, STRICT],
+        args: &[
+            IMAGE_OR_TEXT,
+            FILE,
+            SCRIPT,
+            REGION_SIZE,
+            STRICT,
+            HEX,
+            SIGNED,
+            AS_TEXT,
+            LABEL,
+        ],
         more: More::Runs,
     },
     CommandText {

@@ -5,13 +5,13 @@ pub(crate) const ABOUT: &str =
      Says what there is to say of them, runs scripts on VM files that last, and shows what such a file keeps.";
 
 pub(crate) const USAGES: &str = "\
-geos call IN [NAME [N..]] [--file FILE] [--region N]
+geos call IN [NAME [N..]] [--file FILE] [--region N] [--strict] [FORM]
        geos asm IN OUT [--all-rows]
        geos list IMAGE
        geos check IMAGE
        geos explain IMAGE
        geos new FILE [--area N]
-       geos run IMAGE FILE SCRIPT [--region N] [--strict]
+       geos run IMAGE FILE SCRIPT [--region N] [--strict] [FORM]
        geos dump FILE [--chunks]
        geos map FILE [--width N]
        geos < SESSION
@@ -30,10 +30,10 @@ pub(crate) enum Usage {
 impl Usage {
     pub(crate) fn text(self) -> &'static str {
         match self {
-            Usage::Call => "geos call IN [NAME [N..]] [--file FILE] [--region N]",
+            Usage::Call => "geos call IN [NAME [N..]] [--file FILE] [--region N] [--strict] [FORM]",
             Usage::Asm => "geos asm IN OUT [--all-rows]",
             Usage::New => "geos new FILE [--area N]",
-            Usage::Run => "geos run IMAGE FILE SCRIPT [--region N] [--strict]",
+            Usage::Run => "geos run IMAGE FILE SCRIPT [--region N] [--strict] [FORM]",
             Usage::Map => "geos map FILE [--width N]",
         }
     }
@@ -57,7 +57,7 @@ the instructions, examples/README.md the routines of that folder in words.
 IN is a file of assembly text, for `call` also of an image; OUT and IMAGE are files of an image's bytes,
 and for `explain` and `run` IMAGE may be a text; SCRIPT is a file of commands as of a session. `-` is the
 standard input, or for OUT the standard output, and `./-` a file of that name. FILE is a VM file, and never
-a stream.
+a stream. FORM is --label, and one of --hex, --signed and --text.
 
 Without words a session is read from standard input, at most 1,048,576 bytes of it. It is
   1. an image, a set of routines in hexadecimal digits;
@@ -82,7 +82,11 @@ the verifier accepts the image: `geos help asm` has the faults of a text, `geos 
 
 NAME is a public routine, which runs on at most eight numbers, its words w0 to w7; missing ones are 0. Each
 word that it puts out is printed in decimal on a line. `bad call: ..` says which word of the call is wrong.
-Without NAME a script is read from the standard input, as `geos help run` has it.
+Without NAME a script is read from the standard input, as `geos help run` has it, --strict too.
+
+--hex prints 0x000a for the word 10, --signed -2 for 65534. With --text all words of a call are one line, each
+the byte that it is, or two bytes, the low one first, from 256 on. --label prints each line behind its call, as
+`add 2 3: 5`; zeros at the end of the call's words are left out.
 
 With FILE the routines work on that VM file, as `geos new` makes it, and nothing else may meanwhile. What
 they change in it is lost unless VUPDATE or VSAVE in a routine keeps it, or a command of the script.
@@ -90,6 +94,7 @@ Without FILE they have one in memory, whose areas have 65,536 bytes, and which i
 
 Example:
   geos call add.asm add 2 3         prints 5, where add.asm is the text of `geos help`
+  geos call add.asm add 2 65533 --signed --label        prints `add 2 65533: -1`
   printf 'call add 2 3\\ncall add 4 5\\n' | geos call add.asm
   geos new counter.vm
   geos call examples/counter.asm --file counter.vm < examples/counter.script";
@@ -163,6 +168,7 @@ is lost: end a script with `update`, or have a routine do VUPDATE.
 A script goes on behind a refusal, and its status is 0. With --strict nothing runs behind the first of
 them, the status is 1, and the last line is `line N: refused K` on standard error, N being the line of
 SCRIPT, counted from 1. A routine that commits sees its refusals itself: they end no script.
+`geos help call` says how --hex, --signed, --text and --label print; a commit is labelled by its word.
 
 A stop at any moment, as of the machine, leaves the file as one of these commands left it or would
 have: whole, or not at all. Others that run on the file meanwhile wait, and so does `dump`; nobody

@@ -14,6 +14,8 @@ pub(crate) enum Misuse {
     TwoOfOneStream,
     /// A text or an image is to come on the standard input, and no routine is named, so that a script is to come there too.
     NoName,
+    /// A word of an output is to be written in two ways, of a command of this usage.
+    TwoWritings(Usage),
     /// The image of a text is to take the place of the text.
     ImageOntoText,
     /// Nothing is wrong with the words, but an allocation was refused.
@@ -46,6 +48,12 @@ impl Misuse {
             Misuse::NoName => {
                 String::from_str(alloc, "IN is the standard input, so NAME has to be given")
             }
+            Misuse::TwoWritings(_) => {
+                String::from_str(
+                    alloc,
+                    "only one of '--hex', '--signed' and '--text' can be given",
+                )
+            }
             Misuse::ImageOntoText => {
                 String::from_str(alloc, "IN and OUT are one file, and the text would be lost")
             }
@@ -57,6 +65,7 @@ impl Misuse {
     fn usage(&self) -> &'static str {
         match self {
             Misuse::WrongNumber(number) => number.usage.text(),
+            Misuse::TwoWritings(usage) => usage.text(),
             Misuse::TwoOfOneStream => Usage::Run.text(),
             Misuse::NoName | Misuse::Memory => Usage::Call.text(),
             Misuse::ImageOntoText => Usage::Asm.text(),

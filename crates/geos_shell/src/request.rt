@@ -5,6 +5,8 @@ ghost use Rattle.geos_shell.specs.Limits.{KeepsLimits};
 
 use crate::answer::Answer;
 use crate::command_line::matches_of;
+use crate::forms::OutputForm;
+use crate::help::Usage;
 use crate::misuse::Misuse;
 use crate::numbers::{AREA, CALL_REGION, REGION, WIDTH};
 use crate::printable::{Printable, has_control};
@@ -26,12 +28,14 @@ pub enum Request<'a> {
     /// To run the session on the standard input.
     Session,
     /// To run one call of a text's or an image's routines, or with none the script on the standard input; on a VM file, or with none on
-    /// one in memory, with so many bytes for blocks in memory.
+    /// one in memory, with so many bytes for blocks in memory; a script to its end, or, strictly, to its first refused commit.
     Call {
         image: &'a str,
         call: Option<CallWords<'a>>,
         file: Option<&'a str>,
         region: u32,
+        strict: bool,
+        form: OutputForm,
     },
     /// To make the image of a text, with all rows or with those at its key places.
     Assemble {
@@ -58,6 +62,7 @@ pub enum Request<'a> {
         script: &'a str,
         region: u32,
         strict: bool,
+        form: OutputForm,
     },
     /// To print a VM file, with the bytes of its chunks or without.
     Dump {
@@ -110,6 +115,8 @@ fn call_of<'a>(alloc: Global, words: &ArgMatches<'a>) -> Result<Request<'a>, Mis
         call,
         file: words.get_str("file"),
         region,
+        strict: words.get_flag("strict"),
+        form: OutputForm::of(words, Usage::Call)?,
     })
 }
 
@@ -145,18 +152,19 @@ fn new_of<'a>(words: &ArgMatches<'a>) -> Result<Request<'a>, Misuse>
 fn run_of<'a>(words: &ArgMatches<'a>) -> Result<Request<'a>, Misuse>
     ensures { IfOk result KeepsLimits }
 {
+    let region = REGION.of(words)?;
     let (image, script) = (word(words, "IMAGE"), word(words, "SCRIPT"));
-    match REGION.of(words) {
-        Ok(_) if is_stream(image) && is_stream(script) => Err(Misuse::TwoOfOneStream),
-        Ok(region) => Ok(Request::Run {
-            image,
-            file: word(words, "FILE"),
-            script,
-            region,
-            strict: words.get_flag("strict"),
-        }),
-        Err(misuse) => Err(misuse),
+    if is_stream(image) && is_stream(script) {
+        return Err(Misuse::TwoOfOneStream);
     }
+    Ok(Request::Run {
+        image,
+        file: word(words, "FILE"),
+        script,
+        region,
+        strict: words.get_flag("strict"),
+        form: OutputForm::of(words, Usage::Run)?,
+    })
 }
 
 /// What a `map` asks for.

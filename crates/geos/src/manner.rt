@@ -1,0 +1,142 @@
+//! How scripts and calls are run, and what they print.
+
+ghost use Rattle.vm_blocks.specs.Listed.{NoneLocked};
+
+use crate::request_fault::RequestFault;
+use geos_cli::{
+    CallFault, Counted, Form, RefusedCommit, ScriptFault, Writing, run_call, run_call_in_form,
+    run_script, run_script_in_form, run_script_strictly,
+};
+use geos_kernel::Kernel;
+use geos_shell::{CallWords, Digits, OutputForm};
+use std::alloc::Global;
+use std::io;
+use std::io::{BufWriter, Printer, Write};
+use vm_file::Device;
+
+/// How a script or a call is run.
+#[derive(Clone, Copy)]
+pub(crate) struct Manner {
+    /// Whether a script ends at its first refused commit.
+    pub(crate) strict: bool,
+    /// How outputs are written.
+    pub(crate) form: OutputForm,
+}
+
+/// Standard output behind a buffer, with what is asked of it counted. `ScriptFault::Memory` where
+/// there is none for the buffer.
+pub(crate) fn output(
+    rt: &HostRuntime,
+) -> Result<Counted<BufWriter<Printer<'_, HostRuntime>, Global>>, ScriptFault> {
+    match BufWriter::new(rt.alloc(), io::writer(rt)) {
+        Ok(writer) => Ok(Counted::new(writer)),
+        Err(_) => Err(ScriptFault::Memory),
+    }
+}
+
+/// The form as scripts and calls take it.
+fn form_of(form: &OutputForm) -> Form {
+    Form {
+        writing: match form.digits {
+            Digits::Decimal => Writing::Decimal,
+            Digits::Hex => Writing::Hex,
+            Digits::Signed => Writing::Signed,
+            Digits::Text => Writing::Text,
+        },
+        label: form.label,
+    }
+}
+
+/// Runs a script with an image on a kernel of whose VM file no block is locked.
+fn run_script_in<W: Write, D: Device + Drop>(
+    rt: &HostRuntime,
+    manner: &Manner,
+    image: &[u8],
+    script: &[u8],
+    kernel: &mut Kernel<D>,
+    out: &mut Counted<W>,
+) -> Result<Option<RefusedCommit>, ScriptFault>
+    requires { NoneLocked kernel.old.core.blocks }
+{
+    let alloc = rt.alloc();
+    let Manner { strict, form } = *manner;
+    if !form.is_plain() {
+        return run_script_in_form(alloc, form_of(&form), strict, image, script, kernel, out);
+    }
+    if strict {
+        return run_script_strictly(alloc, image, script, kernel, out);
+    }
+    run_script(alloc, image, script, kernel, out)?;
+    Ok(None)
+}
+
+/// As `run_script_in`, on standard output. What was printed is out before a refused commit is a fault.
+pub(crate) fn run_script_on<'a, D: Device + Drop>(
+    rt: &HostRuntime,
+    manner: &Manner,
+    image: &[u8],
+    script: &[u8],
+    kernel: &mut Kernel<D>,
+) -> Result<(), RequestFault<'a>>
+    requires { NoneLocked kernel.old.core.blocks }
+{
+    let mut out = output(rt)?;
+    let refused = run_script_in(rt, manner, image, script, kernel, &mut out)?;
+    out.flush().map_err(|_| ScriptFault::Write)?;
+    match refused {
+        None => Ok(()),
+        Some(RefusedCommit { line, refusal }) => Err(RequestFault::Refused(line, refusal.number())),
+    }
+}
+
+/// Runs a call with an image on a kernel of whose VM file no block is locked.
+fn run_call_in<W: Write, D: Device + Drop>(
+    rt: &HostRuntime,
+    form: &OutputForm,
+    image: &[u8],
+    call: &CallWords<'_>,
+    kernel: &mut Kernel<D>,
+    out: &mut Counted<W>,
+) -> Result<(), CallFault>
+    requires { NoneLocked kernel.old.core.blocks }
+{
+    let alloc = rt.alloc();
+    let CallWords { name, numbers } = call;
+    if form.is_plain() {
+        return run_call(alloc, image, name, numbers, kernel, out);
+    }
+    run_call_in_form(alloc, form_of(form), image, name, numbers, kernel, out)
+}
+
+/// The fault of a call, by what is wrong.
+fn call_fault<'a>(call: &CallWords<'a>, fault: CallFault) -> RequestFault<'a> {
+    match fault {
+        CallFault::Script(fault) => RequestFault::Session(fault),
+        CallFault::BadWord(0) => RequestFault::NoRoutine(call.name),
+        CallFault::BadWord(word) => match call.numbers.get(word - 1) {
+            Some(number) if word <= 8 => RequestFault::BadNumber(word - 1, *number),
+            _ => RequestFault::TooManyNumbers,
+        },
+    }
+}
+
+/// As `run_call_in`, on standard output.
+pub(crate) fn run_call_on<'a, D: Device + Drop>(
+    rt: &HostRuntime,
+    manner: &Manner,
+    image: &[u8],
+    call: &CallWords<'a>,
+    kernel: &mut Kernel<D>,
+) -> Result<(), RequestFault<'a>>
+    requires { NoneLocked kernel.old.core.blocks }
+{
+    let mut out = output(rt)?;
+    match run_call_in(rt, &manner.form, image, call, kernel, &mut out) {
+        Ok(()) => {}
+        Err(fault) => return Err(call_fault(call, fault)),
+    }
+    match out.flush() {
+        Ok(()) => Ok(()),
+        Err(_) => Err(RequestFault::Session(ScriptFault::Write)),
+    }
+}

@@ -1,0 +1,52 @@
+//! How outputs are to be written.
+
+use crate::help::Usage;
+use crate::misuse::Misuse;
+use clap::ArgMatches;
+
+/// How a word that is put out is written.
+#[derive(Clone, Copy)]
+pub enum Digits {
+    /// In decimal, on a line.
+    Decimal,
+    /// In hexadecimal digits, on a line.
+    Hex,
+    /// As a number that may be below 0, on a line.
+    Signed,
+    /// As bytes of a text, all of a call on one line.
+    Text,
+}
+
+/// How outputs are written.
+#[derive(Clone, Copy)]
+pub struct OutputForm {
+    pub digits: Digits,
+    /// Whether each line stands behind its command.
+    pub label: bool,
+}
+
+impl OutputForm {
+    /// What the words ask for: a word is written in one way alone.
+    pub(crate) fn of<'a>(words: &ArgMatches<'a>, usage: Usage) -> Result<OutputForm, Misuse> {
+        let digits = match (
+            words.get_flag("hex"),
+            words.get_flag("signed"),
+            words.get_flag("text"),
+        ) {
+            (false, false, false) => Digits::Decimal,
+            (true, false, false) => Digits::Hex,
+            (false, true, false) => Digits::Signed,
+            (false, false, true) => Digits::Text,
+            _ => return Err(Misuse::TwoWritings(usage)),
+        };
+        Ok(OutputForm {
+            digits,
+            label: words.get_flag("label"),
+        })
+    }
+
+    /// Whether each word is in decimal on a line, and nothing else is.
+    pub fn is_plain(&self) -> bool {
+        matches!(self.digits, Digits::Decimal) && !self.label
+    }
+}
