@@ -1,3 +1,4 @@
+pub mod BudgetLines
 pub mod Assembled
 pub mod Spaced
 pub mod NumbersAgain

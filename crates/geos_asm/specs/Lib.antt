@@ -1,1 +1,2 @@
 pub mod Assembling
+pub mod Budgets

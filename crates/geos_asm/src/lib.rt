@@ -4,11 +4,13 @@
 #![tactic(auto)]
 
 mod assembler;
+mod budgets;
 mod cause;
 mod error;
 mod listing;
 
 pub use assembler::{assemble, assemble_all_rows};
+pub use budgets::with_least_budgets;
 pub use cause::why_no_rows;
 pub use error::AssembleError;
 pub use geos_source::{BadLine, Why};

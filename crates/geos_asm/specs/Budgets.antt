@@ -1,0 +1,64 @@
+-- Texts with other budgets.
+use Rattle.std.specs.Prelude.{◌≡◌, ◌⊎◌, ◌&&◌, ◌||◌, ◌==◌, ℕ, Bool, true, false, if◌then◌else◌, decimal, codes, bytes_eq, is_ok, List, [], ◌∷◌, ◌++◌}
+use Rattle.geos_image.specs.Parts.{Parts}
+use Rattle.geos_text.specs.Numbers.{number_up_to}
+use Rattle.geos_text.specs.Words.{words}
+use Rattle.geos_asm.specs.Assembling.{IsAssembled, IsWhyNoImage}
+use Rattle.geos_asm.specs.declared.error.AssembleError.{AssembleError}
+
+-- a byte in front of the first line, if there is one
+abbrev pub in_front : ℕ → List (List ℕ) → List (List ℕ)
+in_front byte [] = (byte ∷ []) ∷ []
+in_front byte (line ∷ lines) = (byte ∷ line) ∷ lines
+
+-- the lines of a text with their ends: each but the last ends with its LF
+abbrev pub whole_lines : List ℕ → List (List ℕ)
+whole_lines [] = []
+whole_lines (byte ∷ bytes) = if byte == 10 then (byte ∷ []) ∷ whole_lines bytes else in_front byte (whole_lines bytes)
+
+-- a number that a budget may be, or a `?`
+abbrev pub is_budget : List ℕ → Bool
+is_budget word = bytes_eq word (codes "?") || is_ok (number_up_to 4294967295 word)
+
+-- the words of a routine's line up to its budget
+abbrev pub is_header : List (List ℕ) → Bool
+is_header (first ∷ name ∷ last ∷ []) = bytes_eq first (codes "routine") && bytes_eq last (codes "budget")
+is_header (first ∷ name ∷ public ∷ last ∷ []) = bytes_eq first (codes "routine") && bytes_eq public (codes "public") && bytes_eq last (codes "budget")
+is_header words = false
+
+-- a line that is cut at two places: up to the budget, the budget, and what stands behind it
+pub record Header : Type 0 where
+  pub front : List ℕ
+  pub budget : List ℕ
+  pub behind : List ℕ
+
+-- the line begins a routine, and is cut round its budget
+pub record IsCutRound (line : List ℕ) (parts : Header) : Type 0 where
+  pub whole : line ≡ parts.front ++ parts.budget ++ parts.behind
+  pub header : is_header (words parts.front) ≡ true
+  pub budget : is_budget parts.budget ≡ true
+
+-- the line with another budget
+abbrev pub with_budget : Header → ℕ → List ℕ
+with_budget header n = header.front ++ decimal n ++ header.behind
+
+-- a line stays, or begins a routine and has another budget
+abbrev pub IsLineAlike : List ℕ → List ℕ → Type 0
+IsLineAlike old new = (new ≡ old) ⊎ ((header : Header) × (n : ℕ) × IsCutRound old header × (new ≡ with_budget header n))
+
+-- so does each of some lines
+abbrev pub AreLinesAlike : List (List ℕ) → List ℕ → Type 0
+AreLinesAlike [] new = new ≡ []
+AreLinesAlike (line ∷ lines) new = (here : List ℕ) × (others : List ℕ) × IsLineAlike line here × AreLinesAlike lines others × (new ≡ here ++ others)
+
+-- a text is the same but for the budgets of its routines
+abbrev pub HasOtherBudgets : List ℕ → List ℕ → Type 0
+HasOtherBudgets text new = AreLinesAlike (whole_lines text) new
+
+-- so it is, and has an image
+abbrev pub IsBudgeted : List ℕ → List ℕ → Type 0
+IsBudgeted text new = HasOtherBudgets text new × ((image : Parts) × IsAssembled new image)
+
+-- why it has none with some budgets
+abbrev pub IsWhyNoBudgets : List ℕ → AssembleError → Type 0
+IsWhyNoBudgets text fault = (new : List ℕ) × HasOtherBudgets text new × IsWhyNoImage new fault

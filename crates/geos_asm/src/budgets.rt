@@ -1,0 +1,188 @@
+//! Texts whose routines have the least budgets.
+
+ghost use Rattle.std.specs.Prelude.{◌≡◌, ◌<◌, ◌≤◌, ◌++◌, ◌∷◌, ◌==◌, true, List, ℕ, length, position, IfOk, IfErr, IfSome, OnOk};
+ghost use Rattle.geos_text.specs.Words.{words};
+ghost use Rattle.geos_asm.specs.Budgets.{whole_lines, is_budget, is_header, IsCutRound, IsLineAlike, HasOtherBudgets, IsBudgeted, IsWhyNoBudgets};
+
+use crate::assembler::assemble;
+use crate::error::AssembleError;
+use geos_image::Image;
+use geos_text::{first_word, is_blank, number_up_to, put_numbered, without_comment};
+use std::alloc::{AllocError, Global};
+
+/// The most routines of a text: a chain of calls has no more.
+const MOST_ROUTINES: u8 = 32;
+
+/// Where the first line ends, if it ends with a line feed.
+fn first_feed(text: &[u8]) -> Option<usize>
+    ensures { result ≡ position (λ byte. byte == 10) text.now }
+{
+    text.iter().position(|byte| *byte == b'\n')
+}
+
+/// The first line with its end, and the text behind it.
+fn first_whole_line(text: &[u8]) -> (&[u8], &[u8])
+    requires { 0 < length text.now }
+    ensures line { whole_lines text.now ≡ result.0.now ∷ whole_lines result.1.now }
+    ensures less { length result.1.now < length text.now }
+{
+    match first_feed(text) {
+        Some(feed) => text.split_at(feed + 1),
+        None => text.split_at(text.len()),
+    }
+}
+
+/// Whether a word is a number that a budget may be, or a `?`.
+fn is_budget(word: &[u8]) -> bool
+    ensures { result ≡ is_budget word.now }
+{
+    word == b"?".as_slice() || number_up_to(u32::MAX, word).is_ok()
+}
+
+/// Whether words are those of a routine's line up to its budget.
+fn is_header(front: &[u8]) -> bool
+    ensures { result ≡ true → is_header (words front.now) ≡ true }
+{
+    let Some((first, rest)) = first_word(front) else {
+        return false;
+    };
+    let Some((_name, rest)) = first_word(rest) else {
+        return false;
+    };
+    let Some((third, rest)) = first_word(rest) else {
+        return false;
+    };
+    if first != b"routine".as_slice() {
+        return false;
+    }
+    match first_word(rest) {
+        None => third == b"budget".as_slice(),
+        Some((last, rest)) => {
+            third == b"public".as_slice()
+                && last == b"budget".as_slice()
+                && first_word(rest).is_none()
+        }
+    }
+}
+
+/// Where the last word of a line begins and ends, in front of a comment.
+fn last_word(line: &[u8]) -> (usize, usize)
+    ensures { (result.0 ≤ result.1) × (result.1 ≤ length line.now) }
+{
+    let said = without_comment(line);
+    let inner = |byte: &u8| !is_blank(*byte) && *byte != b'\r' && *byte != b'\n';
+    let end = match said.iter().rposition(inner) {
+        Some(last) => last + 1,
+        None => 0,
+    };
+    let start = match said[..end].iter().rposition(|byte| is_blank(*byte)) {
+        Some(blank) => blank + 1,
+        None => 0,
+    };
+    (start, end)
+}
+
+/// A line that begins a routine, up to its budget, the budget, and what stands behind it.
+fn cut(line: &[u8]) -> Option<(&[u8], &[u8], &[u8])>
+    ensures { IfSome result (λ parts. IsCutRound line.now (record { front = parts.0.now; budget = parts.1.now; behind = parts.2.now })) }
+{
+    let (start, end) = last_word(line);
+    let (front, budget, behind) = (&line[..start], &line[start..end], &line[end..]);
+    if is_header(front) && is_budget(budget) {
+        Some((front, budget, behind))
+    } else {
+        None
+    }
+}
+
+/// Appends a line; with another budget where it begins a routine, and tells whether it does.
+fn put_line(new: &mut Vec<u8>, line: &[u8], budget: u32) -> Result<bool, AllocError>
+    ensures { OnOk result ((here : List ℕ) × IsLineAlike line.now here × (new.new.items ≡ new.old.items ++ here)) }
+{
+    match cut(line) {
+        Some((front, _old, behind)) => {
+            new.extend_from_slice(front)?;
+            put_numbered(new, "", u64::from(budget))?;
+            new.extend_from_slice(behind)?;
+            Ok(true)
+        }
+        None => {
+            new.extend_from_slice(line)?;
+            Ok(false)
+        }
+    }
+}
+
+/// The text with these budgets for its routines, in their order, and 0 for each other one.
+fn with_budgets(alloc: Global, text: &[u8], budgets: &[u32]) -> Result<Vec<u8>, AllocError>
+    ensures { IfOk result (λ new. HasOtherBudgets text.now new.items) }
+{
+    let mut new = Vec::new(alloc);
+    let mut rest = text;
+    let mut left = budgets;
+    while !rest.is_empty() {
+        let (line, behind) = first_whole_line(rest);
+        rest = behind;
+        let (budget, others) = match left.split_first() {
+            Some((budget, others)) => (*budget, others),
+            None => (0, left),
+        };
+        if put_line(&mut new, line, budget)? {
+            left = others;
+        }
+    }
+    Ok(new)
+}
+
+/// The constant of the potential at each routine's first instruction.
+fn constants(alloc: Global, image: &Image) -> Result<Vec<u32>, AllocError> {
+    let mut constants = Vec::new(alloc);
+    for r in 0..image.count() {
+        let pc = usize::from(image.start(r));
+        let constant = image
+            .points()
+            .get(pc)
+            .map_or(0, |point| point.potential.constant);
+        constants.push(constant)?;
+    }
+    Ok(constants)
+}
+
+/// A text with other budgets, which has an image.
+#[derive(Drop)]
+struct Draft {
+    text: Vec<u8>,
+    /// The budgets that are found for it.
+    found: Vec<u32>,
+}
+
+/// The text with these budgets, and those that are found for it.
+fn drafted(alloc: Global, text: &[u8], budgets: &[u32]) -> Result<Draft, AssembleError>
+    ensures budgeted { IfOk result (λ draft. IsBudgeted text.now draft.text.items) }
+    ensures fault { IfErr result (IsWhyNoBudgets text.now) }
+{
+    let new = with_budgets(alloc, text, budgets)?;
+    let image = assemble(alloc, &new)?;
+    let found = constants(alloc, &image)?;
+    Ok(Draft { text: new, found })
+}
+
+/// The text with the least budget that is found for each routine in the place of its own: the constant of the potential at its first
+/// instruction. A `?` may stand for a budget. All other bytes stay. What is found for a routine depends on the budgets of those that it
+/// calls, so each round finds one more on a chain of calls.
+///
+/// The faults are those of `assemble`, of the text with other budgets.
+pub fn with_least_budgets(alloc: Global, text: &[u8]) -> Result<Vec<u8>, AssembleError>
+    ensures budgeted { IfOk result (λ new. IsBudgeted text.now new.items) }
+    ensures fault { IfErr result (IsWhyNoBudgets text.now) }
+{
+    let mut draft = drafted(alloc, text, &[])?;
+    for _ in 0..MOST_ROUTINES {
+        let next = drafted(alloc, text, &draft.found)?;
+        if next.found == draft.found {
+            return Ok(next.text);
+        }
+        draft = next;
+    }
+    Ok(draft.text)
+}
