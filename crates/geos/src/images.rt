@@ -5,7 +5,7 @@ use crate::commands::{
     explain_bytes, explain_text_bytes, image_bytes, list_bytes,
 };
 use crate::request_fault::RequestFault;
-use geos_asm::AssembleError;
+use geos_asm::{AssembleError, with_least_budgets};
 use geos_cli::MOST_BYTES;
 use geos_shell::{print, print_lines, read, write};
 
@@ -35,6 +35,17 @@ pub(crate) fn assemble<'a>(
         assemble_bytes(rt.alloc(), &bytes)?
     };
     Ok(write(rt, image, &bytes, text)?)
+}
+
+/// Writes a text with the least budget of each routine.
+pub(crate) fn budget<'a>(
+    rt: &HostRuntime,
+    text: &'a str,
+    new: &'a str,
+) -> Result<(), RequestFault<'a>> {
+    let bytes = read(rt, text, MOST_READ)?;
+    let bytes = with_least_budgets(rt.alloc(), &bytes)?;
+    Ok(write(rt, new, &bytes, text)?)
 }
 
 /// Prints the listing of an image.

@@ -4,7 +4,7 @@ ghost use Rattle.geos_shell.specs.Limits.{KeepsLimits};
 
 use crate::calling::call as run_call;
 use crate::files::{draw_file, make_file, print_file};
-use crate::images::{assemble, check, explain, list};
+use crate::images::{assemble, budget, check, explain, list};
 use crate::manner::Manner;
 use crate::request_fault::RequestFault;
 use crate::running::{run, session};
@@ -30,6 +30,7 @@ pub(crate) fn carry_out<'a>(rt: &HostRuntime, request: Request<'a>) -> Result<()
             image,
             all_rows,
         } => assemble(rt, text, image, all_rows),
+        Request::Budget { text, new } => budget(rt, text, new),
         Request::List(path) => list(rt, path),
         Request::Check(path) => check(rt, path),
         Request::Explain(path) => explain(rt, path),

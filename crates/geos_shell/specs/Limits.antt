@@ -2,7 +2,7 @@
 use Rattle.std.specs.Prelude.{◌≡◌, ℕ, ◌≤◌, ◌%◌}
 use Rattle.geos_shell.specs.declared.numbers.Number.{Number}
 use Rattle.geos_shell.specs.declared.request.Request.{Request}
-use Rattle.geos_shell.specs.declared.request.Request.TheVariants.{Session, Call, Assemble, List, Check, Explain, New, Run, Dump, Map}
+use Rattle.geos_shell.specs.declared.request.Request.TheVariants.{Session, Call, Assemble, Budget, List, Check, Explain, New, Run, Dump, Map}
 
 -- a number is within the limits of its kind
 abbrev pub IsWithin : Number → ℕ → Type 0
@@ -28,6 +28,7 @@ KeepsLimits (Run image file script region strict form) = IsRegion region
 KeepsLimits (Map file width) = IsWidth width
 KeepsLimits Session = Unit {0}
 KeepsLimits (Assemble text image all_rows) = Unit {0}
+KeepsLimits (Budget text new) = Unit {0}
 KeepsLimits (List path) = Unit {0}
 KeepsLimits (Check path) = Unit {0}
 KeepsLimits (Explain path) = Unit {0}

@@ -69,6 +69,16 @@ const NEW_IMAGE: ArgText = ArgText::Word(
     "The file that the image goes to; `-` is the standard output",
 );
 
+const TEXT_TO_BUDGET: ArgText = ArgText::Word(
+    "TEXT",
+    "A file of assembly text, whose budgets may each be a `?`; `-` is the standard input",
+);
+
+const NEW_TEXT: ArgText = ArgText::MayBe(
+    "OUT",
+    "The file that the text goes to; `-`, or with none, is the standard output",
+);
+
 const IMAGE: ArgText = ArgText::Word(
     "IMAGE",
     "A file of an image's bytes; `-` is the standard input",
@@ -137,7 +147,7 @@ const LINE_WIDTH: ArgText = ArgText::Number(NumberText {
     default: "80",
 });
 
-static COMMANDS: [CommandText; 9] = [
+static COMMANDS: [CommandText; 10] = [
     CommandText {
         name: "call",
         about: "Checks a text or an image, and runs one routine of it, or a script",
@@ -160,6 +170,12 @@ static COMMANDS: [CommandText; 9] = [
         about: "Makes the image of a text",
         args: &[TEXT, NEW_IMAGE, ALL_ROWS],
         more: More::Faults,
+    },
+    CommandText {
+        name: "budget",
+        about: "Writes a text with the least budget of each routine",
+        args: &[TEXT_TO_BUDGET, NEW_TEXT],
+        more: More::Budgeted,
     },
     CommandText {
         name: "list",

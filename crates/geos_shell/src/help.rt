@@ -7,6 +7,7 @@ pub(crate) const ABOUT: &str =
 pub(crate) const USAGES: &str = "\
 geos call IN [NAME [N..]] [--file FILE] [--region N] [--strict] [FORM]
        geos asm IN OUT [--all-rows]
+       geos budget TEXT [OUT]
        geos list IMAGE
        geos check IMAGE
        geos explain IMAGE
@@ -116,6 +117,16 @@ The first fault of the text is `line N: why K`; of several on one line, the lowe
 to an instruction and another on another way; or no number of steps is enough: a loop is not counted by
 LOOP, its counter is set or touched within it, or the steps pass 4,294,967,295. `geos explain` says which.";
 
+/// How a text gets its budgets.
+const BUDGETED: &str = "\
+Each number behind `budget`, or a `?` in its place, becomes the least one that is found, so that a caller
+pays for what its callees take now; all other bytes stay. Faults are those of `asm`, whose help has them.
+A potential with a coefficient at a routine's begin, which V14 refuses, is none that a budget can pay for:
+`geos check` says so of the image.
+
+Example:
+  geos budget draft.asm add.asm && geos call add.asm add 2 3";
+
 /// What is said of an image or a text.
 const EXPLAINED: &str = "\
 IMAGE may be a text too: what does not begin as an image does is read as one. Its own lines are printed,
@@ -200,6 +211,7 @@ pub(crate) enum More {
     Nothing,
     Called,
     Faults,
+    Budgeted,
     Explained,
     Rules,
     Made,
@@ -214,6 +226,7 @@ impl More {
             More::Nothing => "",
             More::Called => CALLED,
             More::Faults => FAULTS,
+            More::Budgeted => BUDGETED,
             More::Explained => EXPLAINED,
             More::Rules => RULES,
             More::Made => MADE,

@@ -10,7 +10,7 @@ use crate::help::Usage;
 use crate::misuse::Misuse;
 use crate::numbers::{AREA, CALL_REGION, REGION, WIDTH};
 use crate::printable::{Printable, has_control};
-use crate::streams::is_stream;
+use crate::streams::{STANDARD, is_stream};
 use clap::{ArgMatches, Error};
 use std::alloc::{AllocError, Global};
 
@@ -42,6 +42,11 @@ pub enum Request<'a> {
         text: &'a str,
         image: &'a str,
         all_rows: bool,
+    },
+    /// To write a text with the least budgets.
+    Budget {
+        text: &'a str,
+        new: &'a str,
     },
     /// To print the listing of an image.
     List(&'a str),
@@ -196,6 +201,10 @@ fn unnumbered_of<'a>(name: &str, words: &ArgMatches<'a>) -> Request<'a>
     ensures { KeepsLimits result }
 {
     match name {
+        "budget" => Request::Budget {
+            text: word(words, "TEXT"),
+            new: words.get_str("OUT").unwrap_or(STANDARD),
+        },
         "dump" => Request::Dump {
             file: word(words, "FILE"),
             chunks: words.get_flag("chunks"),
