@@ -1,3 +1,4 @@
+pub mod Bytes
 pub mod Calls
 pub mod Commits
 pub mod Forms

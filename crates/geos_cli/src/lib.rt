@@ -8,10 +8,12 @@
 //! | output | prints what commands put out, and flushes the writer |
 //! | script | `run_script`, `run_script_strictly`: carry out the commands of a script, and print what calls put out |
 //! | call | `run_call`: carries out one call, which words name |
+//! | bytes | `put_bytes`, `get_bytes`: write and read a chunk or an item |
 //! | form | `Form`: how an output is written, and its text |
 //! | in_form | `run_script_in_form`, `run_call_in_form`: the same, printed in a form |
 #![tactic(auto)]
 
+mod bytes;
 mod call;
 mod call_fault;
 mod form;
@@ -21,6 +23,7 @@ mod output;
 mod script;
 mod session;
 
+pub use crate::bytes::{Place, get_bytes, put_bytes};
 pub use crate::call::run_call;
 pub use crate::call_fault::CallFault;
 pub use crate::form::{Form, Writing};
