@@ -2,6 +2,7 @@
 #![tactic(auto)]
 
 mod calling;
+mod chunks;
 mod commands;
 mod files;
 mod images;

@@ -21,6 +21,9 @@ pub(crate) enum RequestFault<'a> {
     /// The line of a script that runs strictly, counted from 1, is a commit that was refused.
     #[error("line {0}: refused {1}")]
     Refused(usize, u16),
+    /// A call of the kernel on a chunk was refused.
+    #[error("refused {0}")]
+    NotDone(u16),
     /// No public routine has the name that a call gives.
     #[error("bad call: no public routine {}", Printable(.0))]
     NoRoutine(&'a str),

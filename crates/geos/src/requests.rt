@@ -3,6 +3,7 @@
 ghost use Rattle.geos_shell.specs.Limits.{KeepsLimits};
 
 use crate::calling::call as run_call;
+use crate::chunks::{get, put};
 use crate::files::{draw_file, make_file, print_file};
 use crate::images::{assemble, budget, check, explain, list};
 use crate::manner::Manner;
@@ -43,6 +44,8 @@ pub(crate) fn carry_out<'a>(rt: &HostRuntime, request: Request<'a>) -> Result<()
             strict,
             form,
         } => run(rt, &Manner { strict, form }, image, file, script, region),
+        Request::Put { chunk, at, region } => put(rt, &chunk, at, region),
+        Request::Get { chunk, region } => get(rt, &chunk, region),
         Request::Dump {
             file,
             chunks: false,

@@ -2,7 +2,7 @@
 use Rattle.std.specs.Prelude.{◌≡◌, ℕ, ◌≤◌, ◌%◌}
 use Rattle.geos_shell.specs.declared.numbers.Number.{Number}
 use Rattle.geos_shell.specs.declared.request.Request.{Request}
-use Rattle.geos_shell.specs.declared.request.Request.TheVariants.{Session, Call, Assemble, Budget, List, Check, Explain, New, Run, Dump, Map}
+use Rattle.geos_shell.specs.declared.request.Request.TheVariants.{Session, Call, Assemble, Budget, List, Check, Explain, New, Run, Put, Get, Dump, Map}
 
 -- a number is within the limits of its kind
 abbrev pub IsWithin : Number → ℕ → Type 0
@@ -25,6 +25,8 @@ abbrev pub KeepsLimits : Request → Type 0
 KeepsLimits (New file area) = IsArea area
 KeepsLimits (Call image call file region strict form) = IsRegion region
 KeepsLimits (Run image file script region strict form) = IsRegion region
+KeepsLimits (Put chunk at region) = IsRegion region
+KeepsLimits (Get chunk region) = IsRegion region
 KeepsLimits (Map file width) = IsWidth width
 KeepsLimits Session = Unit {0}
 KeepsLimits (Assemble text image all_rows) = Unit {0}

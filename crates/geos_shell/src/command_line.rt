@@ -79,6 +79,17 @@ const NEW_TEXT: ArgText = ArgText::MayBe(
     "The file that the text goes to; `-`, or with none, is the standard output",
 );
 
+const HANDLE: ArgText = ArgText::Word("H", "The handle of the block, or with --item of the group");
+
+const CHUNK: ArgText = ArgText::Word("C", "The handle of the chunk, or with --item of the item");
+
+const OFFSET: ArgText = ArgText::MayBe(
+    "AT",
+    "The offset from which on bytes are written over; with none, all are replaced",
+);
+
+const ITEM: ArgText = ArgText::Flag("item", "H is a group, and C an item of it");
+
 const IMAGE: ArgText = ArgText::Word(
     "IMAGE",
     "A file of an image's bytes; `-` is the standard input",
@@ -147,7 +158,7 @@ const LINE_WIDTH: ArgText = ArgText::Number(NumberText {
     default: "80",
 });
 
-static COMMANDS: [CommandText; 10] = [
+static COMMANDS: [CommandText; 12] = [
     CommandText {
         name: "call",
         about: "Checks a text or an image, and runs one routine of it, or a script",
@@ -216,6 +227,18 @@ static COMMANDS: [CommandText; 10] = [
             LABEL,
         ],
         more: More::Runs,
+    },
+    CommandText {
+        name: "put",
+        about: "Writes the standard input into a chunk of a VM file",
+        args: &[FILE, HANDLE, CHUNK, OFFSET, ITEM, REGION_SIZE],
+        more: More::Put,
+    },
+    CommandText {
+        name: "get",
+        about: "Prints the bytes of a chunk of a VM file",
+        args: &[FILE, HANDLE, CHUNK, ITEM, REGION_SIZE],
+        more: More::Got,
     },
     CommandText {
         name: "dump",

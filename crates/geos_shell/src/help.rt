@@ -13,6 +13,8 @@ geos call IN [NAME [N..]] [--file FILE] [--region N] [--strict] [FORM]
        geos explain IMAGE
        geos new FILE [--area N]
        geos run IMAGE FILE SCRIPT [--region N] [--strict] [FORM]
+       geos put FILE H C [AT] [--item] [--region N]
+       geos get FILE H C [--item] [--region N]
        geos dump FILE [--chunks]
        geos map FILE [--width N]
        geos < SESSION
@@ -25,6 +27,8 @@ pub(crate) enum Usage {
     Asm,
     New,
     Run,
+    Put,
+    Get,
     Map,
 }
 
@@ -35,6 +39,8 @@ impl Usage {
             Usage::Asm => "geos asm IN OUT [--all-rows]",
             Usage::New => "geos new FILE [--area N]",
             Usage::Run => "geos run IMAGE FILE SCRIPT [--region N] [--strict] [FORM]",
+            Usage::Put => "geos put FILE H C [AT] [--item] [--region N]",
+            Usage::Get => "geos get FILE H C [--item] [--region N]",
             Usage::Map => "geos map FILE [--width N]",
         }
     }
@@ -127,6 +133,25 @@ A potential with a coefficient at a routine's begin, which V14 refuses, is none 
 Example:
   geos budget draft.asm add.asm && geos call add.asm add 2 3";
 
+/// How bytes get into a VM file.
+const PUT: &str = "\
+The block is brought into memory, marked, and its chunk gets as many bytes as there are, or, from AT on,
+as many as there must be, with zeros up to AT; then the bytes are written, and the file keeps its blocks as
+`update` does. With --item H is a group and C an item of it. The chunk has to be there: a routine makes it
+by LALLOC or INEW, and `geos dump` lists handles.
+`refused N` is said where a step is refused, N as docs/INSTRUCTIONS.md has it: 1 no such block, 2 no such
+chunk, 4 no room in the region, 6 too long, 11 the disk fails. The file is then as it was, but that after
+11 it may be as it would have been.
+
+Example:
+  geos put notes.vm 1 16 < notes.txt
+  geos get notes.vm 1 16";
+
+/// How bytes get out of a VM file.
+const GOT: &str = "\
+With --item H is a group and C an item of it. The bytes are those that the file keeps now; nothing is
+written to it. `refused N` is said as by `put`.";
+
 /// What is said of an image or a text.
 const EXPLAINED: &str = "\
 IMAGE may be a text too: what does not begin as an image does is read as one. Its own lines are printed,
@@ -216,6 +241,8 @@ pub(crate) enum More {
     Rules,
     Made,
     Runs,
+    Put,
+    Got,
     Dumped,
     Mapped,
 }
@@ -231,6 +258,8 @@ impl More {
             More::Rules => RULES,
             More::Made => MADE,
             More::Runs => RUNS,
+            More::Put => PUT,
+            More::Got => GOT,
             More::Dumped => DUMPED,
             More::Mapped => MAPPED,
         }

@@ -10,6 +10,8 @@ use std::alloc::{AllocError, Global};
 pub(crate) enum Misuse {
     /// What stands behind `--name` is no number, or not one within the limits.
     WrongNumber(Number),
+    /// What stands for this name, of a command of this usage, is no number up to 65,535.
+    NoWord(&'static str, Usage),
     /// Two words name the standard input.
     TwoOfOneStream,
     /// A text or an image is to come on the standard input, and no routine is named, so that a script is to come there too.
@@ -42,6 +44,7 @@ impl Misuse {
     fn message(&self, alloc: Global) -> Result<String, AllocError> {
         match self {
             Misuse::WrongNumber(number) => limits(alloc, number),
+            Misuse::NoWord(name, _) => { format!(in alloc; "{name} is a number from 0 to 65535") }
             Misuse::TwoOfOneStream => {
                 String::from_str(alloc, "only one of IMAGE and SCRIPT is the standard input")
             }
@@ -65,7 +68,7 @@ impl Misuse {
     fn usage(&self) -> &'static str {
         match self {
             Misuse::WrongNumber(number) => number.usage.text(),
-            Misuse::TwoWritings(usage) => usage.text(),
+            Misuse::TwoWritings(usage) | Misuse::NoWord(_, usage) => usage.text(),
             Misuse::TwoOfOneStream => Usage::Run.text(),
             Misuse::NoName | Misuse::Memory => Usage::Call.text(),
             Misuse::ImageOntoText => Usage::Asm.text(),

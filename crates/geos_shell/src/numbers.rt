@@ -47,6 +47,24 @@ pub(crate) const CALL_REGION: Number = Number {
     usage: Usage::Call,
 };
 
+/// The same for `put` and `get`.
+pub(crate) const PUT_REGION: Number = Number {
+    name: "region",
+    least: 65_536,
+    most: 16_777_216,
+    unit: 1,
+    usage: Usage::Put,
+};
+
+/// The same.
+pub(crate) const GET_REGION: Number = Number {
+    name: "region",
+    least: 65_536,
+    most: 16_777_216,
+    unit: 1,
+    usage: Usage::Get,
+};
+
 /// The columns of a drawing.
 pub(crate) const WIDTH: Number = Number {
     name: "width",
@@ -62,6 +80,18 @@ fn number_in(text: &str) -> Option<u32> {
         return None;
     }
     text.parse().ok()
+}
+
+/// The number of 16 bits that a word is in digits alone.
+pub(crate) fn word_of<'a>(
+    words: &ArgMatches<'a>,
+    name: &'static str,
+    usage: Usage,
+) -> Result<u16, Misuse> {
+    match number_in(words.get_str(name).unwrap_or("")) {
+        Some(n) if n <= 65_535 => Ok(n as u16),
+        _ => Err(Misuse::NoWord(name, usage)),
+    }
 }
 
 impl Number {

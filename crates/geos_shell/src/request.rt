@@ -8,7 +8,7 @@ use crate::command_line::matches_of;
 use crate::forms::OutputForm;
 use crate::help::Usage;
 use crate::misuse::Misuse;
-use crate::numbers::{AREA, CALL_REGION, REGION, WIDTH};
+use crate::numbers::{AREA, CALL_REGION, GET_REGION, PUT_REGION, REGION, WIDTH, word_of};
 use crate::printable::{Printable, has_control};
 use crate::streams::{STANDARD, is_stream};
 use clap::{ArgMatches, Error};
@@ -19,6 +19,18 @@ use std::alloc::{AllocError, Global};
 pub struct CallWords<'a> {
     pub name: &'a str,
     pub numbers: Vec<&'a str>,
+}
+
+/// A chunk of a block of a VM file, or an item of a group.
+#[derive(Clone, Copy)]
+pub struct ChunkPath<'a> {
+    pub file: &'a str,
+    /// The handle of the block or group.
+    pub handle: u16,
+    /// The handle of the chunk or item.
+    pub chunk: u16,
+    /// Whether it is an item.
+    pub item: bool,
 }
 
 /// What the words on the command line ask for. A path of `-` is a standard stream, but that of a VM
@@ -68,6 +80,17 @@ pub enum Request<'a> {
         region: u32,
         strict: bool,
         form: OutputForm,
+    },
+    /// To write the standard input into a chunk of a VM file, and to update that, with so many bytes for blocks in memory.
+    Put {
+        chunk: ChunkPath<'a>,
+        at: Option<u16>,
+        region: u32,
+    },
+    /// To print the bytes of a chunk.
+    Get {
+        chunk: ChunkPath<'a>,
+        region: u32,
     },
     /// To print a VM file, with the bytes of its chunks or without.
     Dump {
@@ -172,6 +195,38 @@ fn run_of<'a>(words: &ArgMatches<'a>) -> Result<Request<'a>, Misuse>
     })
 }
 
+/// The chunk that a `put` or a `get` names.
+fn chunk_of<'a>(words: &ArgMatches<'a>, usage: Usage) -> Result<ChunkPath<'a>, Misuse> {
+    Ok(ChunkPath {
+        file: word(words, "FILE"),
+        handle: word_of(words, "H", usage)?,
+        chunk: word_of(words, "C", usage)?,
+        item: words.get_flag("item"),
+    })
+}
+
+/// What a `put` asks for.
+fn put_of<'a>(words: &ArgMatches<'a>) -> Result<Request<'a>, Misuse>
+    ensures { IfOk result KeepsLimits }
+{
+    let region = PUT_REGION.of(words)?;
+    let chunk = chunk_of(words, Usage::Put)?;
+    let at = match words.get_str("AT") {
+        Some(_) => Some(word_of(words, "AT", Usage::Put)?),
+        None => None,
+    };
+    Ok(Request::Put { chunk, at, region })
+}
+
+/// What a `get` asks for.
+fn get_of<'a>(words: &ArgMatches<'a>) -> Result<Request<'a>, Misuse>
+    ensures { IfOk result KeepsLimits }
+{
+    let region = GET_REGION.of(words)?;
+    let chunk = chunk_of(words, Usage::Get)?;
+    Ok(Request::Get { chunk, region })
+}
+
 /// What a `map` asks for.
 fn map_of<'a>(words: &ArgMatches<'a>) -> Result<Request<'a>, Misuse>
     ensures { IfOk result KeepsLimits }
@@ -225,6 +280,8 @@ fn request_of<'a>(alloc: Global, matches: &ArgMatches<'a>) -> Result<Request<'a>
         "asm" => asm_of(words),
         "new" => new_of(words),
         "run" => run_of(words),
+        "put" => put_of(words),
+        "get" => get_of(words),
         "map" => map_of(words),
         _ => Ok(unnumbered_of(name, words)),
     }

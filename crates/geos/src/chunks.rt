@@ -1,0 +1,111 @@
+//! The bytes of a chunk of a VM file are written and read.
+
+ghost use Rattle.geos_shell.specs.Limits.{IsRegion};
+
+use crate::files::{Unlocked, open_unlocked, opened};
+use crate::request_fault::RequestFault;
+use geos_cli::{Place, ScriptFault, get_bytes, put_bytes};
+use geos_kernel::Kernel;
+use geos_shell::{ChunkPath, Sharing, print, read};
+use vm_file::{FileDevice, VmFile};
+
+/// The path of the standard input.
+const STANDARD: &str = "-";
+
+/// The most bytes that are read to be put: one more than a chunk may have.
+const MOST_PUT: u64 = 65_536;
+
+/// Where the bytes are.
+fn place_of(chunk: &ChunkPath<'_>) -> Place {
+    if chunk.item {
+        Place::Item(chunk.handle, chunk.chunk)
+    } else {
+        Place::Chunk(chunk.handle, chunk.chunk)
+    }
+}
+
+/// Writes bytes into a chunk of an open VM file, and updates that.
+fn put_in<'a>(
+    rt: &HostRuntime,
+    place: Place,
+    at: Option<u16>,
+    bytes: &[u8],
+    region: u32,
+    file: VmFile<FileDevice>,
+) -> Result<(), RequestFault<'a>>
+    requires { IsRegion region }
+{
+    let Ok(mut kernel) = Kernel::new(rt.alloc(), region, file) else {
+        return Err(RequestFault::Session(ScriptFault::Memory));
+    };
+    match put_bytes(&mut kernel, place, at, bytes) {
+        Ok(()) => Ok(()),
+        Err(refusal) => Err(RequestFault::NotDone(refusal.number())),
+    }
+}
+
+/// Writes the standard input into a chunk of a VM file, and updates that. Its lock is waited for when the input has been read, as of
+/// `run`.
+pub(crate) fn put<'a>(
+    rt: &HostRuntime,
+    chunk: &ChunkPath<'a>,
+    at: Option<u16>,
+    region: u32,
+) -> Result<(), RequestFault<'a>>
+    requires { IsRegion region }
+{
+    let Unlocked {
+        device,
+        file: lockable,
+    } = open_unlocked(rt, chunk.file, Sharing::Alone)?;
+    let bytes = read(rt, STANDARD, MOST_PUT);
+    let _lock = lockable.wait(rt)?;
+    let file = opened(rt, device)?;
+    let bytes = bytes?;
+    put_in(rt, place_of(chunk), at, &bytes, region, file)
+}
+
+/// The bytes of a chunk of an open VM file.
+fn bytes_in<'a>(
+    rt: &HostRuntime,
+    place: Place,
+    region: u32,
+    file: VmFile<FileDevice>,
+) -> Result<Vec<u8>, RequestFault<'a>>
+    requires { IsRegion region }
+{
+    let Ok(mut kernel) = Kernel::new(rt.alloc(), region, file) else {
+        return Err(RequestFault::Session(ScriptFault::Memory));
+    };
+    match get_bytes(rt.alloc(), &mut kernel, place) {
+        Ok(Ok(bytes)) => Ok(bytes),
+        Ok(Err(refusal)) => Err(RequestFault::NotDone(refusal.number())),
+        Err(_) => Err(RequestFault::Session(ScriptFault::Memory)),
+    }
+}
+
+/// The bytes of a chunk of a VM file, whose lock is let go before they are printed: whoever reads them may want the file next.
+fn bytes_of<'a>(
+    rt: &HostRuntime,
+    chunk: &ChunkPath<'a>,
+    region: u32,
+) -> Result<Vec<u8>, RequestFault<'a>>
+    requires { IsRegion region }
+{
+    let Unlocked { device, file } = open_unlocked(rt, chunk.file, Sharing::Shared)?;
+    let _lock = file.wait(rt)?;
+    let file = opened(rt, device)?;
+    bytes_in(rt, place_of(chunk), region, file)
+}
+
+/// Prints the bytes of a chunk of a VM file.
+pub(crate) fn get<'a>(
+    rt: &HostRuntime,
+    chunk: &ChunkPath<'a>,
+    region: u32,
+) -> Result<(), RequestFault<'a>>
+    requires { IsRegion region }
+{
+    let bytes = bytes_of(rt, chunk, region)?;
+    Ok(print(rt, &bytes)?)
+}
