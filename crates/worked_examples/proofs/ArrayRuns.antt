@@ -31,8 +31,8 @@ pub record JudgedOnArrays : Type 0 where
   pub counted : judged (with_row (s0_p0 8) (instr Cacount 0 1 2 0 1)) ≡ fine 2
   pub found : judged (with_row (s0_p0 8) (instr Caelt 0 1 2 0 1)) ≡ fine 2
   pub found_short : judged (with_row (s0_p0 8) (instr Caelt 0 0 2 7 1)) ≡ refused_at 0 EdgeMisfit 1
-  pub change_unmarked : judged (with_row (s0 (Vm false)) (instr Caadd 0 1 2 0 1)) ≡ refused_at 0 ChangesUnmarked 1
-  pub count_unmarked : judged (with_row (s0 (Vm false)) (instr Cacount 0 1 2 0 1)) ≡ fine 2
+  pub change_unmarked : judged (with_row (s0 (Vm false false)) (instr Caadd 0 1 2 0 1)) ≡ refused_at 0 ChangesUnmarked 1
+  pub count_unmarked : judged (with_row (s0 (Vm false false)) (instr Cacount 0 1 2 0 1)) ≡ fine 2
   pub change_in_empty : judged (with_row (s0 Mem) (instr Cadel 1 1 2 0 1)) ≡ refused_at 0 WrongSlot 1
   pub look_in_empty : judged (with_row (s0 Mem) (instr Caelt 1 1 2 0 1)) ≡ refused_at 0 WrongSlot 1
 

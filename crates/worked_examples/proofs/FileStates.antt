@@ -90,7 +90,7 @@ no_handle = listing (clean ∷ group ∷ dirty 1 ∷ [])
 
 -- s3 holds the file's block, or group, with a handle
 abbrev pub with_s3 : Kind → ℕ → State → State
-with_s3 kind h s = record s { slots = held 1 ∷ held 1 ∷ held 2 ∷ Some (record { kind = kind; handle = h }) ∷ [] }
+with_s3 kind h s = record s { slots = held 1 ∷ held 1 ∷ held 2 ∷ Some (record { kind = kind; handle = h; borrowed = false }) ∷ [] }
 
 -- p3 leads through it to the bytes of chunk 16
 abbrev pub with_p3 : ℕ → State → State

@@ -1,9 +1,8 @@
 -- A sound state in which slots hold a block and a group of the VM file.
-use Rattle.std.proofs.Common.{◌≡◌, refl, ℕ, zero, suc, ◌+◌, ◌<◌, false, [], ◌∷◌, replicate, Option, Some, None, set, sym, subst, arith, inl, inr}
+use Rattle.std.proofs.Common.{◌≡◌, refl, ℕ, zero, suc, ◌+◌, ◌<◌, false, List, [], ◌∷◌, replicate, Option, Some, None, set, sym, subst, arith, inl, inr}
 use Rattle.std.specs.Prelude.{option_map}
 use Rattle.std.proofs.lemmas.Bool.{cases_lt}
 use Rattle.std.proofs.lemmas.List.{get_or-replicate, get_or_past, length-replicate}
-use Rattle.geos_terms.specs.declared.name.Name.{Name}
 use Rattle.geos_terms.specs.Names.{vm}
 use Rattle.geos_calls.specs.Directories as directories
 use Rattle.geos_calls.specs.VmFile.{empty_file}
@@ -14,14 +13,17 @@ use Rattle.geos_calls.specs.Legal.{IsLegalListed, IsMemory}
 use Rattle.geos_calls.proofs.HandleLists.{entry-kept}
 use Rattle.geos_calls.proofs.LegalBlocks.{new_heap-legal, empty-legal, added_listed-legal, with_locks-legal}
 use Rattle.geos_opcodes.specs.declared.uses.Kind.TheVariants.{VmBlock, DbGroup}
+use Rattle.geos_image.specs.declared.row.SlotState.{SlotState}
+use Rattle.geos_image.specs.declared.row.SlotState.TheVariants.{Empty}
 use Rattle.geos_semantics.specs.State.{Held, name_of, State, slot, kept_pointers}
 use Rattle.geos_semantics.specs.Faults.{lacks_mark}
-use Rattle.geos_semantics.specs.Meets.{IsOfKind, Sound}
+use Rattle.geos_semantics.specs.Meets.{Base, IsOfKind, Sound}
+use Rattle.geos_semantics.specs.Lending.{AreLent, base_of}
 use Rattle.geos_semantics.proofs.Locking.{sound-locked}
 use Rattle.geos_semantics.proofs.FineLocks.{locks-into}
-use Rattle.geos_semantics.proofs.Runs.{sound-plain}
+use Rattle.geos_semantics.proofs.Lending.{sound-lent}
 
--- a block of whatever kind is locked into a slot
+-- a block of whatever kind, which is not borrowed, is locked into a slot
 abbrev pub with_lock : ℕ → Held → State → State
 with_lock a held s = record s {
   memory = with_locks s.memory (name_of held) (locks_of s.memory (name_of held) + 1);
@@ -30,11 +32,11 @@ with_lock a held s = record s {
 }
 
 -- the state stays sound
-pub lock-sound : (base : Name → ℕ) (s : State) (a : ℕ) (held : Held) → Sound base s → a < 4 → slot s a ≡ None → IsOfKind s.memory held.kind (name_of held) → locks_of s.memory (name_of held) < 65535 → Sound base (with_lock a held s)
-lock-sound base s a held S within empty is few =
+pub lock-sound : (base : Base) (s : State) (a : ℕ) (held : Held) → held.borrowed ≡ false → Sound base s → a < 4 → slot s a ≡ None → IsOfKind s.memory held.kind (name_of held) → locks_of s.memory (name_of held) < 65535 → Sound base (with_lock a held s)
+lock-sound base s a held own S within empty is few =
     let name = name_of held in
     let n = locks_of s.memory name + 1 in
-    sound-locked base s a held (with_locks s.memory name n) S within empty (locks-into base s held is (with_locks-legal s.memory name n (omega (arith, few)) S.memory))
+    sound-locked base s a held (with_locks s.memory name n) S within empty (locks-into base s held own is (with_locks-legal s.memory name n (omega (arith, few)) S.memory))
 
 -- memory with no block, and with a block of the file under handle 1 and a group under handle 2,
 -- both marked
@@ -83,34 +85,41 @@ idle = record {
 
 -- s0 holds the block and s1 the group
 abbrev block_held : Held
-block_held = record { kind = VmBlock; handle = 1 }
+block_held = record { kind = VmBlock; handle = 1; borrowed = false }
 
 abbrev group_held : Held
-group_held = record { kind = DbGroup; handle = 2 }
+group_held = record { kind = DbGroup; handle = 2; borrowed = false }
 
 abbrev pub both : State
 both = with_lock 1 group_held (with_lock 0 block_held idle)
 
--- how often others lock each block
-abbrev pub others : Name → ℕ
-others name = locks_of two name
+-- what belongs to others
+abbrev pub others : Base
+others = base_of two idle.slots
+
+-- nothing is lent
+abbrev empty : List SlotState
+empty = replicate 4 Empty
+
+nothing-lent : AreLent empty (replicate 4 0) two
+nothing-lent = record { each = (refl, (refl, (refl, (refl, tt)))); counts = two-idle }
 
 pub record HeldOfFile : Type 0 where
   pub sound : Sound others both
   pub slots : both.slots ≡ Some block_held ∷ Some group_held ∷ None ∷ None ∷ []
   pub block_locked : locks_of both.memory (vm 1) ≡ 1
   pub group_locked : locks_of both.memory (vm 2) ≡ 1
-  pub block_by_others : others (vm 1) ≡ 0
-  pub group_by_others : others (vm 2) ≡ 0
+  pub block_by_others : others.locks (vm 1) ≡ 0
+  pub group_by_others : others.locks (vm 2) ≡ 0
   pub block_marked : lacks_mark both.memory (vm 1) ≡ false
   pub group_marked : lacks_mark both.memory (vm 2) ≡ false
 
 pub examples : HeldOfFile
 examples = record {
   sound = (
-      let plain = sound-plain idle two-legal two-idle (omega arith, (omega arith, (omega arith, (omega arith, (omega arith, (omega arith, (omega arith, (omega arith, tt)))))))) refl (refl, (refl, (refl, (refl, tt)))) (refl, (refl, (refl, (refl, tt)))) in
-      let first = lock-sound others idle 0 block_held plain (omega arith) refl (refl, refl) (omega arith) in
-      lock-sound others (with_lock 0 block_held idle) 1 group_held first (omega arith) refl (refl, refl) (omega arith)
+      let idle_is = sound-lent idle empty (replicate 4 0) refl refl nothing-lent two-legal (omega arith, (omega arith, (omega arith, (omega arith, (omega arith, (omega arith, (omega arith, (omega arith, tt)))))))) (refl, (refl, (refl, (refl, tt)))) in
+      let first = lock-sound others idle 0 block_held refl idle_is (omega arith) refl (refl, refl) (omega arith) in
+      lock-sound others (with_lock 0 block_held idle) 1 group_held refl first (omega arith) refl (refl, refl) (omega arith)
       );
   slots = refl;
   block_locked = refl;

@@ -55,18 +55,18 @@ pub record JudgedOnBlocks : Type 0 where
   -- LALLOC may have moved the chunk before it was refused
   pub moved_though_refused : judged read_after_refusal ≡ refused_at 7 StalePointer 3
   pub found_though_refused : judged deref_after_refusal ≡ fine 12
-  pub write_unmarked : judged (with_row (p0_into (Vm false)) (instr Stw 0 0 0 0 0)) ≡ refused_at 0 ChangesUnmarked 1
-  pub write_marked : judged (with_row (p0_into (Vm true)) (instr Stw 0 0 0 0 0)) ≡ fine 2
+  pub write_unmarked : judged (with_row (p0_into (Vm false false)) (instr Stw 0 0 0 0 0)) ≡ refused_at 0 ChangesUnmarked 1
+  pub write_marked : judged (with_row (p0_into (Vm true false)) (instr Stw 0 0 0 0 0)) ≡ fine 2
   pub new_into_held : judged (with_row (s0 Mem) (instr Mnew 0 0 0 0 1)) ≡ refused_at 0 LocksIntoHeld 1
   pub lock_into_held : judged (with_row (s0 Mem) (instr Mlock 0 0 0 0 1)) ≡ refused_at 0 LocksIntoHeld 1
   pub unlock_empty : judged (with_row open_row (instr Munlock 0 0 0 0 0)) ≡ refused_at 0 WrongSlot 1
-  pub unlock_other_kind : judged (with_row (s0 (Vm false)) (instr Munlock 0 0 0 0 0)) ≡ refused_at 0 WrongSlot 1
+  pub unlock_other_kind : judged (with_row (s0 (Vm false false)) (instr Munlock 0 0 0 0 0)) ≡ refused_at 0 WrongSlot 1
   pub compare_with_empty : judged (with_row (s0 Mem) (instr Sne 0 1 0 0 1)) ≡ refused_at 0 WrongSlot 1
   pub compare_of_one_kind : judged (with_row s0_s1 (instr Sne 0 1 0 0 1)) ≡ fine 2
   pub look_at_empty : judged (with_row (s0 Mem) (instr Lsize 1 0 0 0 1)) ≡ refused_at 0 WrongSlot 1
   pub duplicate_stale : judged (with_row (s0 Mem) (instr Movp 0 1 0 0 0)) ≡ refused_at 0 StalePointer 1
-  pub update_over_held : judged (with_row (s0 (Vm true)) (instr Vupdate 0 0 0 0 1)) ≡ refused_at 0 CommitsHeld 1
-  pub save_over_held : judged (with_row (s0 (Vm false)) (instr Vsave 0 0 0 0 1)) ≡ refused_at 0 CommitsHeld 1
+  pub update_over_held : judged (with_row (s0 (Vm true false)) (instr Vupdate 0 0 0 0 1)) ≡ refused_at 0 CommitsHeld 1
+  pub save_over_held : judged (with_row (s0 (Vm false false)) (instr Vsave 0 0 0 0 1)) ≡ refused_at 0 CommitsHeld 1
   pub revert_over_group : judged (with_row (s0 (Db false)) (instr Vrevert 0 0 0 0 1)) ≡ refused_at 0 CommitsHeld 1
   -- a block of global memory may be held
   pub update_beside_memory : judged (with_row (s0 Mem) (instr Vupdate 0 0 0 0 1)) ≡ fine 2

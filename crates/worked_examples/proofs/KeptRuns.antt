@@ -30,7 +30,7 @@ put = record {
 
 -- a call of it begins
 abbrev pub calling : Memory → State
-calling memory = begin put 0 (0 ∷ 5 ∷ replicate 6 0) memory
+calling memory = begin put 0 (0 ∷ 5 ∷ replicate 6 0) (replicate 4 0) memory
 
 -- the memory that it leaves
 abbrev pub memory_at : Memory → Ending → Memory

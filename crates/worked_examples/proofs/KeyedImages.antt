@@ -1,6 +1,6 @@
 -- The image of `add` in version 2, which gives rows at key places alone: its bytes, where the first fault is in bytes that
 -- spell none, and what the rules say of it.
-use Rattle.std.proofs.Common.{◌≡◌, refl, ℕ, true, List, [], ◌∷◌, ◌++◌, length, take, set, replicate, Option, Some, None}
+use Rattle.std.proofs.Common.{◌≡◌, refl, ℕ, true, List, [], ◌∷◌, ◌++◌, length, take, set, replicate, Some, None}
 use Rattle.std.specs.Prelude.{Ok, Err}
 use Rattle.geos_opcodes.specs.declared.opcode.Opcode.TheVariants.{Ldi, Add, Out, Ret}
 use Rattle.geos_image.specs.declared.instr.Instr.{Instr}

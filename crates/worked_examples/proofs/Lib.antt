@@ -5,8 +5,10 @@ pub mod Spelled
 pub mod Judged
 pub mod JudgedOnBlocks
 pub mod KeyedImages
+pub mod BorrowedImages
 pub mod Runs
 pub mod KeptRuns
+pub mod Borrowed
 pub mod Executed
 pub mod OnSlots
 pub mod OnPointers

@@ -44,9 +44,9 @@ pub record OnFile : Type 0 where
   pub group_as_block : SlotIsSound (file_of DbGroup false []) (held_listed VmBlock) → ⊥
   pub nothing : SlotIsSound (beside_listed None) (held_listed VmBlock) → ⊥
   -- it is as a row says that knows its mark where it is marked
-  pub marked : SlotMeets (file_of VmBlock true []) (held_listed VmBlock) (Vm true)
-  pub unmarked : SlotMeets (file_of VmBlock false []) (held_listed VmBlock) (Vm false)
-  pub unmarked_as_marked : SlotMeets (file_of VmBlock false []) (held_listed VmBlock) (Vm true) → ⊥
+  pub marked : SlotMeets (file_of VmBlock true []) (held_listed VmBlock) (Vm true false)
+  pub unmarked : SlotMeets (file_of VmBlock false []) (held_listed VmBlock) (Vm false false)
+  pub unmarked_as_marked : SlotMeets (file_of VmBlock false []) (held_listed VmBlock) (Vm true false) → ⊥
   pub group_marked : SlotMeets (file_of DbGroup true []) (held_listed DbGroup) (Db true)
   pub group_unmarked_as_marked : SlotMeets (file_of DbGroup false []) (held_listed DbGroup) (Db true) → ⊥
   -- it is read without a mark, and changed with one, which it keeps, as it does its user ID
@@ -66,11 +66,11 @@ examples = record {
   group = (refl, refl);
   group_as_block = λ h. absurd (let both : true ≡ false = h.1 in cc);
   nothing = λ h. absurd (let both : false ≡ true = h.0 in cc);
-  marked = (refl, λ is. refl);
-  unmarked = (refl, λ is. absurd (let both : false ≡ true = is in cc));
-  unmarked_as_marked = λ h. absurd (let both : true ≡ false = h.1 refl in cc);
-  group_marked = (refl, λ is. refl);
-  group_unmarked_as_marked = λ h. absurd (let both : true ≡ false = h.1 refl in cc);
+  marked = (refl, refl, λ is. refl);
+  unmarked = (refl, refl, λ is. absurd (let both : false ≡ true = is in cc));
+  unmarked_as_marked = λ h. absurd (let both : true ≡ false = h.2 refl in cc);
+  group_marked = (refl, refl, λ is. refl);
+  group_unmarked_as_marked = λ h. absurd (let both : true ≡ false = h.2 refl in cc);
   read = refl;
   sized = refl;
   write = refl;

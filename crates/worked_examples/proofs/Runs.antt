@@ -15,13 +15,13 @@ use Rattle.worked_examples.proofs.States.{willing, unwilling, no_blocks, block}
 
 -- the ending of a run of at most n steps of routine r, on words that are 0 and no block
 abbrev pub ending : Parts → ℕ → ℕ → Ending
-ending image r n = run image 0 (replicate n willing) 0 (begin image r (replicate 8 0) no_blocks)
+ending image r n = run image 0 (replicate n willing) 0 (begin image r (replicate 8 0) (replicate 4 0) no_blocks)
 
 -- the same of the first routine, in a region of 128 bytes with one handle, all of which may be
 -- refused or nothing
 abbrev pub ending_in_128 : Choice → Parts → ℕ → Ending
 ending_in_128 choice image n =
-    run image 0 (replicate n choice) 0 (begin image 0 (replicate 8 0) (record { blocks = None ∷ []; file = empty_file 0; region = 128 }))
+    run image 0 (replicate n choice) 0 (begin image 0 (replicate 8 0) (replicate 4 0) (record { blocks = None ∷ []; file = empty_file 0; region = 128 }))
 
 -- the blocks that are left
 abbrev pub left : Ending → List (Option Block)

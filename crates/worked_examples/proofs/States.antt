@@ -71,7 +71,7 @@ with_second chunks = region_of (first ∷ block 1 chunks ∷ third ∷ None ∷ 
 
 -- a slot that holds the memory block with a handle
 abbrev pub held : ℕ → Option Held
-held h = Some (record { kind = MemBlock; handle = h })
+held h = Some (record { kind = MemBlock; handle = h; borrowed = false })
 
 -- a pointer through a slot to so many bytes of chunk 16 of the block with a handle
 abbrev pub leads : ℕ → ℕ → ℕ → Option SlotReference
@@ -125,7 +125,7 @@ beside_listed entry = record memory { file = record (empty_file 0) { cur = recor
 
 -- a slot that holds what is listed, as one of this kind
 abbrev pub held_listed : Kind → Option Held
-held_listed kind = Some (record { kind = kind; handle = 1 })
+held_listed kind = Some (record { kind = kind; handle = 1; borrowed = false })
 
 -- it is in s3, and p3 leads into it
 abbrev pub with_vm : Kind → Option Listed → State
