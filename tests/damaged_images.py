@@ -47,9 +47,13 @@ class Lines:
             self.call(image, index, routine)
 
     def call(self, image, index, routine):
-        """Wants the run of a public routine on words that are 0, which ends within the budget."""
+        """Wants the run of a public routine on words that are 0, which ends within the budget; none where it is lent blocks."""
         if not routine.public:
             return
+        name = f"{routine.name.decode()}, public, instructions {routine.count}, budget {routine.budget}"
+        if any(routine.entry.slots):
+            self.ask(f"routine {index}", name)
+            return self.ask("call", "not admitted")
         try:
             steps, words, output = image_reading.run(image, index, [0] * 8)
         except NotImplementedError:
@@ -57,7 +61,7 @@ class Lines:
         self.run += 1
         if steps > routine.budget:
             print(f"{steps} steps, and the budget is {routine.budget}")
-        self.ask(f"routine {index}", f"{routine.name.decode()}, public, instructions {routine.count}, budget {routine.budget}")
+        self.ask(f"routine {index}", name)
         outputs = f"output {runs(output)}" if output else "no output"
         self.ask("call", f"steps {steps}, words {' '.join(map(str, words))}, {outputs}")
 

@@ -34,13 +34,15 @@ WANT_NONE = set("VFIND VGETMAP VSETMAP GNEW IGETMAP ISETMAP".split()) | COMMITS
 # What a slot holds that one of these locks a block into, and the states of one that others unlock or mark.
 LOCKS = {"MNEW": 1, "MLOCK": 1, "VNEW": 3, "VLOCK": 2, "ILOCK": 4}
 UNLOCKS = {"MUNLOCK": (1,), "VUNLOCK": (2, 3), "IUNLOCK": (4, 5)}
-MARKS = {"VDIRTY": (2, 3), "IDIRTY": (4, 5)}
+MARKS = {"VDIRTY": (2, 3, 6, 7), "IDIRTY": (4, 5)}
 # The label of these is no refusal's.
 BRANCHES = set("CHK JMP BEQ BLT LOOP SNE".split())
 READS = set("LDB LDW LDXB LDXW LDCB LDCW".split())
 WRITES = set("STB STW STXB STXW STCB STCW".split())
-KINDS = [None, "memory", "VM", "VM", "DB", "DB"]
-UNMARKED = (2, 4)
+KINDS = [None, "memory", "VM", "VM", "DB", "DB", "VM", "VM"]
+# The states of blocks that are not known to be marked, each with the state of one that is; and of blocks that the caller lends.
+MARKED = {2: 3, 4: 5, 6: 7}
+BORROWED = (6, 7)
 PAIRS = list(combinations(range(4), 2))
 
 Row = namedtuple("Row", "bounds slots pointers pairs")
@@ -76,9 +78,9 @@ def part(read, data, at, size, *more):
 
 
 @lru_cache(maxsize=None)
-def read_row(data):
+def read_row(data, states):
     bounds = tuple(number(data, 2 * i, 2) for i in range(8))
-    slots = tuple(number(data, 16 + i, 1, most=5) for i in range(4))
+    slots = tuple(number(data, 16 + i, 1, most=states - 1) for i in range(4))
     pointers = []
     for at in range(20, 36, 4):
         slot = number(data, at, 1)
@@ -121,7 +123,7 @@ def read_name(data):
     return letters
 
 
-def read_routine(data, before):
+def read_routine(data, states, before):
     name = part(read_name, data, 0, 16)
     if name in [other.name for other in before]:
         raise Fault(0)
@@ -130,7 +132,8 @@ def read_routine(data, before):
     number(data, 17, 1, most=0)
     count = number(data, 18, 2, 1, 4096 - start)
     budget = number(data, 20, 4)
-    return Routine(name, public, start, count, budget, part(read_row, data, 24, 38), part(read_row, data, 62, 38))
+    entry, leave = (part(read_row, data, at, 38, states) for at in (24, 62))
+    return Routine(name, public, start, count, budget, entry, leave)
 
 
 def keys_of(routines, instrs):
@@ -141,36 +144,37 @@ def keys_of(routines, instrs):
     return sorted(pc for pc in starts | targets | behind if pc < len(instrs))
 
 
-def read_entry(data):
+def read_entry(data, states):
     """A row and the potential behind it."""
-    return part(read_row, data, 0, 38), part(read_potential, data, 38, 20)
+    return part(read_row, data, 0, 38, states), part(read_potential, data, 38, 20)
 
 
-def read_points(data, at, version, routines, instrs):
+def read_points(data, at, version, states, routines, instrs):
     """The rows by pc and the potentials, and where they end."""
     n = len(instrs)
     if version == 1:
-        entries = [part(read_entry, data, at + 58 * pc, 58) for pc in range(n)]
+        entries = [part(read_entry, data, at + 58 * pc, 58, states) for pc in range(n)]
         return {pc: row for pc, (row, _) in enumerate(entries)}, [potential for _, potential in entries], at + 58 * n
     potentials = [part(read_potential, data, at + 20 * pc, 20) for pc in range(n)]
     at += 20 * n
     keys = keys_of(routines, instrs)
-    return {pc: part(read_row, data, at + 38 * k, 38) for k, pc in enumerate(keys)}, potentials, at + 38 * len(keys)
+    return {pc: part(read_row, data, at + 38 * k, 38, states) for k, pc in enumerate(keys)}, potentials, at + 38 * len(keys)
 
 
-def read(data):
-    """The image that the bytes spell; a `Fault` where there is none."""
+def read(data, may_borrow=False):
+    """The image that the bytes spell; a `Fault` where there is none. Slots may be borrowed in version 2, and else where that is asked."""
     if data[:4] != b"GRT1":
         raise Fault(0)
     version = number(data, 4, 2, 1, 2)
+    states = len(KINDS) if may_borrow or version == 2 else len(KINDS) - len(BORROWED)
     count = number(data, 6, 2, 1, 32)
     routines = []
     for i in range(count):
-        routines.append(part(read_routine, data, 8 + 100 * i, 100, routines))
+        routines.append(part(read_routine, data, 8 + 100 * i, 100, states, routines))
     n = sum(routine.count for routine in routines)
     at = 8 + 100 * count
     instrs = [part(read_instr, data, at + 10 * i, 10, count, n) for i in range(n)]
-    given, potentials, end = read_points(data, at + 10 * n, version, routines, instrs)
+    given, potentials, end = read_points(data, at + 10 * n, version, states, routines, instrs)
     if len(data) > end:
         raise Fault(end)
     image = Image(routines, instrs, [], potentials)
@@ -180,8 +184,8 @@ def read(data):
 
 
 def in_version_2(data):
-    """The bytes of a legal image of version 1 in version 2: the rows at its key places alone."""
-    image = read(data)
+    """The bytes of an image of version 1, legal but for slots that are borrowed, in version 2: the rows at its key places alone."""
+    image = read(data, True)
     at = 8 + 100 * len(image.routines)
     code = at + 10 * len(image.instrs)
     points = [data[code + 58 * pc : code + 58 * pc + 58] for pc in range(len(image.instrs))]
@@ -195,7 +199,7 @@ def fits(r, s):
     return (
         r == s
         or all(x <= y for x, y in zip(r.bounds, s.bounds))
-        and all(x == y or (x, y) in ((3, 2), (5, 4)) for x, y in zip(r.slots, s.slots))
+        and all(x == y or x == MARKED.get(y) for x, y in zip(r.slots, s.slots))
         and all(y is None or x is not None and x[0] == y[0] and x[1] >= y[1] for x, y in zip(r.pointers, s.pointers))
         and s.pairs <= r.pairs
     )
@@ -268,7 +272,7 @@ def after(image, i, row, to_label):
             pairs = row.pairs | {pair_of(x, i.a) for x in others}
         row = row._replace(slots=put(row.slots, i.a, state), pairs=pairs)
     if i.word in MARKS:
-        row = row._replace(slots=put(row.slots, i.a, {2: 3, 4: 5}.get(row.slots[i.a], row.slots[i.a])))
+        row = row._replace(slots=put(row.slots, i.a, MARKED.get(row.slots[i.a], row.slots[i.a])))
     if i.word in UNLOCKS:
         row = Row(row.bounds, put(row.slots, i.a, 0), stale_into(row.pointers, [i.a]), without(row.pairs, i.a))
     if i.word == "SNE" and i.a != i.b:
@@ -334,9 +338,20 @@ def is_wrong_slot(i, slots):
 def is_unmarked(i, row):
     """Whether a slot is changed whose block is not known to be marked."""
     if i.word in MOVES:
-        return row.slots[i.a] in UNMARKED
+        return row.slots[i.a] in MARKED
     written = i.b if i.word in WRITES else i.a if i.word == "COPY" else None
-    return written is not None and row.slots[row.pointers[written][0]] in UNMARKED
+    return written is not None and row.slots[row.pointers[written][0]] in MARKED
+
+
+def may_enter(row):
+    """Whether each caller from outside can meet a row: slots are empty or borrowed, pointers stale, and no held slots known to differ."""
+    is_lent = all(slot in (0, 6) for slot in row.slots)
+    return is_lent and not any(row.pointers) and not any(row.slots[a] and row.slots[b] for a, b in row.pairs)
+
+
+def may_leave(entry, row):
+    """Whether a public routine may return with a row: it holds what was borrowed, marked or not, and nothing else."""
+    return not any(row.pointers) and all(y in BORROWED if x == 6 else y == 0 for x, y in zip(entry.slots, row.slots))
 
 
 def rule_at(image, counters, index, pc):
@@ -351,7 +366,7 @@ def rule_at(image, counters, index, pc):
         return 2
     if is_first and not fits(routine.entry, row):
         return 3
-    if is_first and routine.public and any(any(r.slots) or any(p is not None for p in r.pointers) for r in routine[-2:]):
+    if is_first and routine.public and not (may_enter(routine.entry) and may_leave(routine.entry, routine.exit)):
         return 3
     used = [i.a, i.b] if i.word == "COPY" else [i.b] if i.word in READS | WRITES | {"MOVP", "PLEN"} else []
     if any(row.pointers[p] is None for p in used):

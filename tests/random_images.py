@@ -1,7 +1,7 @@
 """Makes random images of a private routine, whose rows are alike but for some numbers and whose potentials fall by one, and compares what the
-program of `routine_trials` answers with a second reading of images. Nearly all are legal, and the rules V2 to V9 and V11 to V13 come up.
-Then images whose rows are just what follows from the row before, or, now and then, a little more. Each that is legal is tried in version 2
-too.
+program of `routine_trials` answers with a second reading of images. Nearly all are legal, those with borrowed slots in version 2 alone, and
+the rules V2 to V9 and V11 to V13 come up. Then images whose rows are just what follows from the row before, or, now and then, a little more.
+Each is tried in version 2 too, where it is legal there.
 
     python3 random_images.py PROGRAM
 """
@@ -11,7 +11,7 @@ import sys
 from collections import Counter
 
 from damaged_images import Lines
-from image_reading import COUNTS, OPERANDS, PAIRS, Fault, after, in_version_2, read_instr, read_row
+from image_reading import COUNTS, KINDS, OPERANDS, PAIRS, Fault, after, in_version_2, read_instr, read_row
 
 # How many images of either kind.
 IMAGES = 5000
@@ -27,7 +27,8 @@ def word(number):
 def random_row(choices):
     """A row most of whose pointers lead into slots that are held."""
     bounds = [choices.choice(SMALL) for _ in range(8)]
-    slots = [choices.choice((0, 1, 1, 2, 3, 4, 5)) for _ in range(4)]
+    states = choices.choice(((0, 1, 1, 2, 3, 4, 5), (0, 1, 2, 3, 5, 6, 6, 7)))
+    slots = [choices.choice(states) for _ in range(4)]
     held = [i for i, slot in enumerate(slots) if slot] + choices.choice(([0], []))
     pointers = b""
     for _ in range(4):
@@ -97,7 +98,7 @@ def tight_image(choices):
     for i in range(n):
         instr = random_instr(choices, 1)
         instrs.append(instr[:8] + word(n + 1 + i) if read_instr(instr, 1, 1).has_label else instr)
-    row = read_row(random_row(choices))
+    row = read_row(random_row(choices), len(KINDS))
     rows, others = [row], []
     for instr in instrs:
         instr = read_instr(instr, 1, 2 * n + 1)
@@ -109,7 +110,7 @@ def tight_image(choices):
 
 
 def give(lines, image):
-    """Tries an image, in version 2 too if it is legal."""
+    """Tries an image, in version 2 too if it is legal there."""
     lines.give(image)
     try:
         lines.give(in_version_2(image))
