@@ -12,7 +12,8 @@
 //! of each chunk too.
 //!
 //! `image` begins an image, whose hexadecimal digits are on the lines up to `end`; that is answered whether it may run. `call R WORD ..`
-//! runs its routine R, counted from 0, on at most seven words over the kernel, and tells the words and the output that it leaves.
+//! runs its routine R, counted from 0, on at most seven words over the kernel, and tells the words and the output that it leaves. `lend H ..`
+//! gives the handles of blocks that the runs from then on are lent, s0 first; they have to be locked before, by `vlock`.
 //!
 //! `close` lets the kernel go, and its device stays. `open` makes a kernel on what that holds, `kept` tells it, `kept_bytes` with the bytes
 //! of blocks, and `calls` how many calls the device had since it was made or opened. `power_off PART..` makes of it what a stop leaves: 0 what lasted, 1 what was
@@ -125,6 +126,7 @@ impl trial_lines::Trial for Trial {
             "stop" => Ok(self.fail(line, true)),
             "image" => Ok(self.routines.begin()),
             "end" => self.routines.end(alloc),
+            "lend" => Ok(self.routines.lend(line)),
             "call" => self.call(alloc, line),
             _ => self.stand.answer(alloc, line),
         }

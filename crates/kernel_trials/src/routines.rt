@@ -19,6 +19,8 @@ pub(crate) struct Routines {
     is_reading: bool,
     /// The image of the bytes, where it may run.
     accepted: Option<Checked>,
+    /// The handles of the blocks that the next runs are lent, one for each slot.
+    lent: [u16; 4],
 }
 
 impl Routines {
@@ -28,7 +30,15 @@ impl Routines {
             bytes: Vec::new(alloc),
             is_reading: false,
             accepted: None,
+            lent: [0; 4],
         }
+    }
+
+    /// Takes the handles of the blocks that the next runs are lent.
+    pub(crate) fn lend(&mut self, line: &Line<'_>) -> Answer {
+        let [h0, h1, h2, h3, ..] = line.words();
+        self.lent = [h0, h1, h2, h3];
+        Answer::Done
     }
 
     /// Begins an image, of which the next lines have the digits.
@@ -82,10 +92,10 @@ impl Routines {
         };
         let [routine, w0, w1, w2, w3, w4, w5, w6] = line.words();
         let words = [w0, w1, w2, w3, w4, w5, w6, 0];
-        if !admits(checked, routine, &words, kernel) {
+        if !admits(checked, routine, &words, &self.lent, kernel) {
             return Ok(Answer::NotAsked("not admitted"));
         }
-        let outcome = Machine::new().run(checked, routine, &words, kernel);
+        let outcome = Machine::new().run(checked, routine, &words, &self.lent, kernel);
         Ok(Answer::Text(text_of(alloc, &outcome)?))
     }
 }

@@ -139,10 +139,10 @@ impl Trial {
         };
         let words = line.words();
         let mut kernel = kernel_in_memory(alloc, REGION)?;
-        if !admits(checked, self.routine, &words, &kernel) {
+        if !admits(checked, self.routine, &words, &[0; 4], &kernel) {
             return Ok(Answer::Said("not admitted"));
         }
-        let outcome = Machine::new().run(checked, self.routine, &words, &mut kernel);
+        let outcome = Machine::new().run(checked, self.routine, &words, &[0; 4], &mut kernel);
         Ok(Answer::Text(text_of(alloc, &outcome)?))
     }
 }
