@@ -13,8 +13,9 @@ ghost use Rattle.geos_kernel.specs.View.{SeesDevice};
 ghost use Rattle.geos_machine.specs.Runs.{Throughout};
 ghost use Rattle.vm_blocks.specs.Listed.{NoneLocked};
 
+use crate::asked::may_ask;
 use crate::call_fault::CallFault;
-use crate::script::{Call, Command, Mode, Numbered, carry_out_all, load, may_ask, routine_named};
+use crate::script::{Call, Command, Mode, Numbered, carry_out_all, load, routine_named};
 use geos_input::Counted;
 use geos_kernel::Kernel;
 use geos_text::number;
@@ -64,7 +65,7 @@ pub(crate) fn first_wrong(checked: &Checked, name: &str, numbers: &[&str]) -> us
 }
 
 /// Checks an image and runs one routine of it, on at most eight numbers; prints the words that it puts out. `name` is that of a public
-/// routine, and each number is of digits alone, at most 65,535 and within the bound of its word. The call finds the kernel's memory as
+/// routine that borrows nothing, and each number is of digits alone, at most 65,535 and within the bound of its word. The call finds the kernel's memory as
 /// it is, and nothing commits but the routine's own instructions. What was printed before is flushed where the call may commit; behind
 /// it nothing is flushed.
 ///

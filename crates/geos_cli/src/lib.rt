@@ -5,6 +5,7 @@
 //! |---|---|
 //! | session | `run_session`: reads a session to its end, and runs it |
 //! | law | `other_calls_keep`: calls that may not commit leave what the device holds as it was |
+//! | asked | which calls the machine may be asked for |
 //! | output | prints what commands put out, and flushes the writer |
 //! | script | `run_script`, `run_script_strictly`: carry out the commands of a script, and print what calls put out |
 //! | call | `run_call`: carries out one call, which words name |
@@ -13,6 +14,7 @@
 //! | in_form | `run_script_in_form`, `run_call_in_form`: the same, printed in a form |
 #![tactic(auto)]
 
+mod asked;
 mod bytes;
 mod call;
 mod call_fault;

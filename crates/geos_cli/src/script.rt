@@ -9,7 +9,7 @@ ghost use Rattle.vm_file.specs.State.{Steadily};
 ghost use Rattle.geos_input.specs.Fault.{KeptUnless};
 ghost use Rattle.geos_cli.specs.Commits.{commits, first_commit, may_commit, IsGiven};
 ghost use Rattle.geos_cli.specs.declared.script.Mode.TheVariants.{Lenient, Strict};
-ghost use Rattle.geos_cli.specs.Script.{GoesOn, IsAdmitted, borrows_none, may_ask, no_handles, routine_named, registers_of, call_named, how_named, command_of};
+ghost use Rattle.geos_cli.specs.Script.{GoesOn, IsAdmitted, may_ask, no_handles, routine_named, registers_of, call_named, how_named, command_of};
 ghost use Rattle.geos_cli.specs.Script.{commands_of, first_bad, IsBadLine, IsBadImage};
 ghost use Rattle.geos_cli.specs.Script.{RanCommand, StoppedCommand, RanCommands, StoppedCommands, RanScript, StoppedScript, ScriptEndsBy};
 ghost use Rattle.geos_kernel.specs.Files.{vm_file_of};
@@ -20,17 +20,16 @@ ghost use Rattle.geos_calls.specs.VmFile.{VmFile};
 ghost use Rattle.geos_calls.specs.VmCalls.{commit};
 ghost use Rattle.vm_blocks.specs.Listed.{NoneLocked};
 ghost use Rattle.vm_blocks.specs.ListedCalls.{keeper_of};
-ghost use Rattle.std.specs.List.{list_all};
-ghost use Rattle.geos_image.specs.Legal.{is_own};
 ghost use Rattle.geos_image.specs.Reading.{image_at};
 ghost use Rattle.geos_verify.specs.Rules.{Accepted};
 ghost use Rattle.geos_text.specs.Words.{words};
 
+use crate::asked::may_ask;
 use crate::output::{give_before, print, print_refusal};
-use geos_image::{Image, Opcode, Point, SlotState};
+use geos_image::{Image, Opcode, Point};
 use geos_input::{Counted, MOST_BYTES, ScriptFault};
 use geos_kernel::Kernel;
-use geos_machine::{Machine, Outcome, admits_words};
+use geos_machine::{Machine, Outcome};
 use geos_terms::Refusal;
 use geos_text::{first_line, first_word, number, without_comment};
 use geos_verify::{Checked, check};
@@ -108,31 +107,6 @@ fn registers_of(numbers: &[u8]) -> Option<[u16; 8]>
         None => Some(registers),
         Some(_) => None,
     }
-}
-
-/// Whether no slot is borrowed.
-fn are_own(slots: &[SlotState]) -> bool
-    ensures { result ≡ list_all is_own slots.now }
-{
-    slots.iter().all(|state| state.is_own())
-}
-
-/// Whether the routine borrows no block.
-fn borrows_none(checked: &Checked, routine: u16) -> bool
-    ensures { result ≡ borrows_none checked.now routine }
-{
-    let image = checked.image();
-    if routine >= image.count() {
-        return true;
-    }
-    are_own(&image.routine(routine).entry.slots)
-}
-
-/// Whether the machine may be asked for the call, which lends no block.
-pub(crate) fn may_ask(checked: &Checked, call: &Call) -> bool
-    ensures { result ≡ may_ask checked.now call.now }
-{
-    admits_words(checked, call.routine, &call.words) && borrows_none(checked, call.routine)
 }
 
 /// The call of the routine of that name on those numbers, if the machine may be asked for it.
