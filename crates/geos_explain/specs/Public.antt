@@ -73,7 +73,7 @@ missing_words row exit = also_are (row_items (missing_slots row exit)) (codes " 
 unfoldable pub exit_faults : Row → Row → List ℕ
 exit_faults entry exit =
     missing_words entry exit
-    ++ also_are (row_items (kept_slots entry exit)) (codes " held in the out line, and not borrowed in the in line")
+    ++ also_are (row_items (kept_slots entry exit)) (codes " held in the out line, and not borrowed in both lines")
     ++ also_are (row_items (known_pointers exit)) (codes " known in the out line")
 
 -- how a public routine begins and ends, and what its rows say otherwise

@@ -191,7 +191,7 @@ fn put_exit_faults(out: &mut Vec<u8>, entry: &Row, exit: &Row) -> Result<(), All
     put_also(
         out,
         &kept_slots(entry, exit),
-        " held in the out line, and not borrowed in the in line",
+        " held in the out line, and not borrowed in both lines",
     )?;
     put_also(out, &known_pointers(exit), " known in the out line")
 }

@@ -61,10 +61,11 @@ Example:
 docs/AUTHORS.md says how to write a routine, docs/FORMATS.md has the form of texts, docs/INSTRUCTIONS.md
 the instructions, examples/README.md the routines of that folder in words.
 
-IN is a file of assembly text, for `call` also of an image; OUT and IMAGE are files of an image's bytes,
-and for `explain` and `run` IMAGE may be a text; SCRIPT is a file of commands as of a session. `-` is the
-standard input, or for OUT the standard output, and `./-` a file of that name. FILE is a VM file, and never
-a stream. FORM is --label, and one of --hex, --signed and --text.
+IN and TEXT are files of assembly text, IN of `call` also of an image; OUT and IMAGE are files of an image's
+bytes, but OUT of `budget` is a text, and IMAGE of `explain` and `run` may be one; SCRIPT is a file of
+commands as of a session. `-` is the standard input, or for OUT the standard output, and `./-` a file of
+that name. FILE is a VM file, and never a stream; H is the handle of a block there, C of a chunk in it, and
+AT counts its bytes from 0. FORM is --label, and one of --hex, --signed and --text.
 
 Without words a session is read from standard input, at most 1,048,576 bytes of it. It is
   1. an image, a set of routines in hexadecimal digits;
@@ -127,8 +128,8 @@ LOOP, its counter is set or touched within it, or the steps pass 4,294,967,295. 
 const BUDGETED: &str = "\
 Each number behind `budget`, or a `?` in its place, becomes the least one that is found, so that a caller
 pays for what its callees take now; all other bytes stay. Faults are those of `asm`, whose help has them.
-A potential with a coefficient at a routine's begin, which V14 refuses, is none that a budget can pay for:
-`geos check` says so of the image.
+OUT is not TEXT. Where a LOOP takes from a counter that its routine does not set, no budget is enough:
+`geos check` says so of the image (V14). `geos explain` says why no steps are found; it wants numbers for `?`.
 
 Example:
   geos budget draft.asm add.asm && geos call add.asm add 2 3";
@@ -140,8 +141,8 @@ as many as there must be, with zeros up to AT; then the bytes are written, and t
 `update` does. With --item H is a group and C an item of it. The chunk has to be there: a routine makes it
 by LALLOC or INEW, and `geos dump` lists handles.
 `refused N` is said where a step is refused, N as docs/INSTRUCTIONS.md has it: 1 no such block, 2 no such
-chunk, 4 no room in the region, 6 too long, 11 the disk fails. The file is then as it was, but that after
-11 it may be as it would have been.
+chunk, 4 no room in the region, 6 too long, 11 the disk fails, 15 a group without --item. The file is then
+as it was, but that after 11 it may be as it would have been.
 
 Example:
   geos put notes.vm 1 16 < notes.txt
@@ -169,12 +170,13 @@ const RULES: &str = "\
 lowest rule there; `geos explain` says more. The rules:
   V1   control stays within the routine
   V2   a pointer of which something is known leads into a slot that is held
-  V3   a routine begins with what its entry row says; a public one begins and ends with nothing held
+  V3   a routine begins with what its entry row says; a public one begins and ends with nothing held but
+       what it borrows
   V4   a pointer that is used is not stale: nothing has moved since it was fetched
   V5   what is read or written lies within the bytes that are known behind the pointer
   V6   a block of a VM file is marked before it is changed
   V7   a block is locked into an empty slot
-  V8   a slot holds a block of the kind that is wanted
+  V8   a slot holds a block of the kind that is wanted, and what is borrowed is not unlocked
   V9   no slot holds a block of a VM file that is updated, saved or reverted
   V10  a routine calls one that stands before it, with what that one's entry row says
   V11  a routine returns with what its exit row says

@@ -12,7 +12,7 @@ returns c =
     let entry = c.args.entry.now in
     let exit = c.args.exit.now in
     let missing = missing_words entry exit in
-    let kept = also_are (row_items (kept_slots entry exit)) (codes " held in the out line, and not borrowed in the in line") in
+    let kept = also_are (row_items (kept_slots entry exit)) (codes " held in the out line, and not borrowed in both lines") in
     let pointers = also_are (row_items (known_pointers exit)) (codes " known in the out line") in
     rw (
       sym (append_assoc out (missing ++ kept) pointers),
