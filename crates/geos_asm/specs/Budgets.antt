@@ -1,8 +1,8 @@
 -- Texts with other budgets.
-use Rattle.std.specs.Prelude.{◌≡◌, ◌⊎◌, ◌&&◌, ◌||◌, ◌==◌, ℕ, Bool, true, false, if◌then◌else◌, decimal, codes, bytes_eq, is_ok, List, [], ◌∷◌, ◌++◌}
+use Rattle.std.specs.Prelude.{◌≡◌, ◌⊎◌, ◌&&◌, ◌||◌, ◌==◌, ℕ, Bool, true, false, if◌then◌else◌, decimal, codes, bytes_eq, is_ok, slice_get, length, ◌-◌, Option, Some, None, List, [], ◌∷◌, ◌++◌}
 use Rattle.geos_image.specs.Parts.{Parts}
 use Rattle.geos_text.specs.Numbers.{number_up_to}
-use Rattle.geos_text.specs.Words.{words}
+use Rattle.geos_text.specs.Words.{is_blank, words}
 use Rattle.geos_asm.specs.Assembling.{IsAssembled, IsWhyNoImage}
 use Rattle.geos_asm.specs.declared.error.AssembleError.{AssembleError}
 
@@ -26,17 +26,33 @@ is_header (first ∷ name ∷ last ∷ []) = bytes_eq first (codes "routine") &&
 is_header (first ∷ name ∷ public ∷ last ∷ []) = bytes_eq first (codes "routine") && bytes_eq public (codes "public") && bytes_eq last (codes "budget")
 is_header words = false
 
+-- a blank, if there is a byte
+abbrev pub is_blank_there : Option ℕ → Bool
+is_blank_there None = false
+is_blank_there (Some byte) = is_blank byte
+
+-- a word may begin behind it: it ends with a blank
+abbrev pub begins_word : List ℕ → Bool
+begins_word front = is_blank_there (slice_get front (length front - 1))
+
+-- a word ends there: the line ends, or a blank, a comment or the line's end follows
+abbrev pub ends_word : List ℕ → Bool
+ends_word [] = true
+ends_word (byte ∷ bytes) = is_blank byte || byte == 59 || byte == 13 || byte == 10
+
 -- a line that is cut at two places: up to the budget, the budget, and what stands behind it
 pub record Header : Type 0 where
   pub front : List ℕ
   pub budget : List ℕ
   pub behind : List ℕ
 
--- the line begins a routine, and is cut round its budget
+-- the line begins a routine, and is cut round its budget, a whole word
 pub record IsCutRound (line : List ℕ) (parts : Header) : Type 0 where
   pub whole : line ≡ parts.front ++ parts.budget ++ parts.behind
   pub header : is_header (words parts.front) ≡ true
   pub budget : is_budget parts.budget ≡ true
+  pub begins : begins_word parts.front ≡ true
+  pub ends : ends_word parts.behind ≡ true
 
 -- the line with another budget
 abbrev pub with_budget : Header → ℕ → List ℕ

@@ -2,7 +2,7 @@
 
 ghost use Rattle.std.specs.Prelude.{◌≡◌, ◌<◌, ◌≤◌, ◌++◌, ◌∷◌, ◌==◌, true, List, ℕ, length, position, IfOk, IfErr, IfSome, OnOk};
 ghost use Rattle.geos_text.specs.Words.{words};
-ghost use Rattle.geos_asm.specs.Budgets.{whole_lines, is_budget, is_header, IsCutRound, IsLineAlike, HasOtherBudgets, IsBudgeted, IsWhyNoBudgets};
+ghost use Rattle.geos_asm.specs.Budgets.{begins_word, ends_word, whole_lines, is_budget, is_header, IsCutRound, IsLineAlike, HasOtherBudgets, IsBudgeted, IsWhyNoBudgets};
 
 use crate::assembler::assemble;
 use crate::error::AssembleError;
@@ -65,6 +65,26 @@ fn is_header(front: &[u8]) -> bool
     }
 }
 
+/// Whether a word may begin behind these bytes.
+fn begins_word(front: &[u8]) -> bool
+    ensures { result ≡ begins_word front.now }
+{
+    match front.last() {
+        Some(byte) => is_blank(*byte),
+        None => false,
+    }
+}
+
+/// Whether a word ends in front of these bytes.
+fn ends_word(behind: &[u8]) -> bool
+    ensures { result ≡ ends_word behind.now }
+{
+    match behind.first() {
+        Some(byte) => is_blank(*byte) || *byte == b';' || *byte == b'\r' || *byte == b'\n',
+        None => true,
+    }
+}
+
 /// Where the last word of a line begins and ends, in front of a comment.
 fn last_word(line: &[u8]) -> (usize, usize)
     ensures { (result.0 ≤ result.1) × (result.1 ≤ length line.now) }
@@ -88,7 +108,7 @@ fn cut(line: &[u8]) -> Option<(&[u8], &[u8], &[u8])>
 {
     let (start, end) = last_word(line);
     let (front, budget, behind) = (&line[..start], &line[start..end], &line[end..]);
-    if is_header(front) && is_budget(budget) {
+    if begins_word(front) && ends_word(behind) && is_header(front) && is_budget(budget) {
         Some((front, budget, behind))
     } else {
         None
