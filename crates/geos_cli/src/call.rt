@@ -6,7 +6,7 @@ ghost use Rattle.vm_file.specs.Device.{Rose};
 ghost use Rattle.vm_file.specs.State.{Steadily};
 ghost use Rattle.geos_input.specs.declared.fault.ScriptFault.TheVariants.{Write};
 ghost use Rattle.geos_cli.specs.declared.call_fault.CallFault.TheVariants.{Script};
-ghost use Rattle.geos_cli.specs.Script.{registers_of, call_named};
+ghost use Rattle.geos_cli.specs.Script.{registers_of, plain_call};
 ghost use Rattle.geos_cli.specs.Calls.{texts, IsFirstWrong, RanCall, StoppedCall, CallEndsBy};
 ghost use Rattle.geos_kernel.specs.Files.{vm_file_of};
 ghost use Rattle.geos_kernel.specs.View.{SeesDevice};
@@ -15,7 +15,7 @@ ghost use Rattle.vm_blocks.specs.Listed.{NoneLocked};
 
 use crate::asked::may_ask;
 use crate::call_fault::CallFault;
-use crate::script::{Call, Command, Mode, Numbered, carry_out_all, load, routine_named};
+use crate::script::{Call, Command, Mode, Numbered, carry_out_all, if_admitted, load, placed, routine_named};
 use geos_input::Counted;
 use geos_kernel::Kernel;
 use geos_text::number;
@@ -38,23 +38,26 @@ fn registers_of_words(numbers: &[&str]) -> Option<[u16; 8]>
     Some(registers)
 }
 
-/// The call of the routine of that name on those numbers, if the machine may be asked for it.
+/// The call of the routine of that name on those numbers, which lends no block, if the machine may be asked for it.
 pub(crate) fn call_on(checked: &Checked, name: &str, numbers: &[&str]) -> Option<Call>
-    ensures { result ≡ call_named checked.now name.now (texts numbers.now) }
+    ensures { result ≡ plain_call checked.now name.now (texts numbers.now) }
 {
     let routine = routine_named(checked.image(), name.as_bytes())?;
     let words = registers_of_words(numbers)?;
-    let call = Call { routine, words };
-    if may_ask(checked, &call) {
-        Some(call)
-    } else {
-        None
-    }
+    let handles = placed(&checked.image().routine(routine).entry.slots, &[])?;
+    if_admitted(
+        checked,
+        Call {
+            routine,
+            words,
+            handles,
+        },
+    )
 }
 
 /// The first wrong word of what is no call: 0 is the name, and any other one a number, counted from 1.
 pub(crate) fn first_wrong(checked: &Checked, name: &str, numbers: &[&str]) -> usize
-    requires { call_named checked.now name.now (texts numbers.now) ≡ None }
+    requires { plain_call checked.now name.now (texts numbers.now) ≡ None }
     ensures { IsFirstWrong checked.now name.now (texts numbers.now) result }
 {
     let mut word = 0;

@@ -21,6 +21,7 @@ mod call_fault;
 mod form;
 mod in_form;
 mod law;
+mod lending;
 mod output;
 mod script;
 mod session;

@@ -1,6 +1,6 @@
 //! Scripts: lines of commands, read whole before the first one runs.
 
-ghost use Rattle.std.specs.Prelude.{[], ◌∷◌, ◌≡◌, ◌≢◌, ◌↔◌, true, false, All, None, Ok, Err, IfOk, IfErr, MatchOption};
+ghost use Rattle.std.specs.Prelude.{[], ◌∷◌, ◌≡◌, ◌≢◌, ◌↔◌, ◌<◌, length, true, false, All, None, Ok, Err, IfOk, IfErr, IfNone, IfSome, MatchOption, Some};
 ghost use Rattle.std.specs.Str.Lines.{lines};
 ghost use Rattle.std.specs.Io.KnownBytes.{Keeps};
 ghost use Rattle.geos_input.specs.declared.fault.ScriptFault.TheVariants.{Write};
@@ -9,13 +9,13 @@ ghost use Rattle.vm_file.specs.State.{Steadily};
 ghost use Rattle.geos_input.specs.Fault.{KeptUnless};
 ghost use Rattle.geos_cli.specs.Commits.{commits, first_commit, may_commit, IsGiven};
 ghost use Rattle.geos_cli.specs.declared.script.Mode.TheVariants.{Lenient, Strict};
-ghost use Rattle.geos_cli.specs.Script.{GoesOn, IsAdmitted, may_ask, no_handles, routine_named, registers_of, call_named, how_named, command_of};
+ghost use Rattle.geos_cli.specs.Script.{GoesOn, IsAdmitted, may_ask, names_block, handle_of, before_blocks, from_blocks, next_handle, placed, if_admitted, routine_named, registers_of, call_named, how_named, command_of};
 ghost use Rattle.geos_cli.specs.Script.{commands_of, first_bad, IsBadLine, IsBadImage};
 ghost use Rattle.geos_cli.specs.Script.{RanCommand, StoppedCommand, RanCommands, StoppedCommands, RanScript, StoppedScript, ScriptEndsBy};
 ghost use Rattle.geos_kernel.specs.Files.{vm_file_of};
 ghost use Rattle.geos_kernel.specs.Kernel.{Calls};
 ghost use Rattle.geos_kernel.specs.View.{IsFileOf, SeesDevice};
-ghost use Rattle.geos_machine.specs.Runs.{OpensAsOneOf, RanWith, Throughout};
+ghost use Rattle.geos_machine.specs.Runs.{OpensAsOneOf, Throughout};
 ghost use Rattle.geos_calls.specs.VmFile.{VmFile};
 ghost use Rattle.geos_calls.specs.VmCalls.{commit};
 ghost use Rattle.vm_blocks.specs.Listed.{NoneLocked};
@@ -25,11 +25,12 @@ ghost use Rattle.geos_verify.specs.Rules.{Accepted};
 ghost use Rattle.geos_text.specs.Words.{words};
 
 use crate::asked::may_ask;
+use crate::lending::run_lent;
 use crate::output::{give_before, print, print_refusal};
-use geos_image::{Image, Opcode, Point};
+use geos_image::{Image, Opcode, Point, SlotState};
 use geos_input::{Counted, MOST_BYTES, ScriptFault};
 use geos_kernel::Kernel;
-use geos_machine::{Machine, Outcome};
+use geos_machine::Machine;
 use geos_terms::Refusal;
 use geos_text::{first_line, first_word, number, without_comment};
 use geos_verify::{Checked, check};
@@ -37,11 +38,13 @@ use std::alloc::Global;
 use std::io::Write;
 use vm_file::{Device, How};
 
-/// A call of a routine, on these words.
+/// A call of a routine, on these words, and on the blocks of the VM file that it is lent: a handle for each slot that it
+/// borrows, and 0 for the others.
 #[derive(Clone, Copy)]
 pub struct Call {
     pub routine: u16,
     pub words: [u16; 8],
+    pub handles: [u16; 4],
 }
 
 /// A command that may be carried out.
@@ -80,7 +83,8 @@ pub struct RefusedCommit {
 
 /// The routine of that name.
 pub(crate) fn routine_named(image: &Image, name: &[u8]) -> Option<u16>
-    ensures { result ≡ routine_named image.now name.now }
+    ensures named { result ≡ routine_named image.now name.now }
+    ensures within { IfSome result (λ r. r < length image.now.routines) }
 {
     for r in 0..image.count() {
         if image.routine(r).name_text() == name {
@@ -90,9 +94,31 @@ pub(crate) fn routine_named(image: &Image, name: &[u8]) -> Option<u16>
     None
 }
 
-/// The registers w0 to w7 that numbers say: at most eight of them. Missing ones are 0.
+/// Whether the word names a block that is lent: it begins with `@`.
+fn names_block(word: &[u8]) -> bool
+    ensures { result ≡ names_block word.now }
+{
+    match word.first() {
+        Some(byte) => *byte == b'@',
+        None => false,
+    }
+}
+
+/// The handle that a word writes behind `@`.
+fn handle_of(word: &[u8]) -> Option<u16>
+    ensures { result ≡ handle_of word.now }
+{
+    if names_block(word) {
+        number(&word[1..])
+    } else {
+        None
+    }
+}
+
+/// The registers w0 to w7 that numbers say, up to the first word that names a block: at most eight of them. Missing ones
+/// are 0.
 fn registers_of(numbers: &[u8]) -> Option<[u16; 8]>
-    ensures { result ≡ registers_of (words numbers.now) }
+    ensures { result ≡ registers_of (before_blocks (words numbers.now)) }
 {
     let mut registers = [0; 8];
     let mut rest = numbers;
@@ -100,27 +126,96 @@ fn registers_of(numbers: &[u8]) -> Option<[u16; 8]>
         let Some((word, behind)) = first_word(rest) else {
             return Some(registers);
         };
+        if names_block(word) {
+            return Some(registers);
+        }
         registers[i] = number(word)?;
         rest = behind;
     }
     match first_word(rest) {
         None => Some(registers),
+        Some((word, _behind)) => {
+            if names_block(word) {
+                Some(registers)
+            } else {
+                None
+            }
+        }
+    }
+}
+
+/// The words from the first one on that names a block.
+fn from_blocks(numbers: &[u8]) -> &[u8]
+    ensures { words result.now ≡ from_blocks (words numbers.now) }
+{
+    let mut rest = numbers;
+    while let Some((word, behind)) = first_word(rest) {
+        if names_block(word) {
+            return rest;
+        }
+        rest = behind;
+    }
+    rest
+}
+
+/// The handle for a slot, and the words behind it: the first of them says it where the slot is borrowed; else it is 0.
+fn next_handle(state: SlotState, blocks: &[u8]) -> Option<(u16, &[u8])>
+    ensures none { IfNone result (next_handle state (words blocks.now) ≡ None) }
+    ensures some { IfSome result (λ next. next_handle state (words blocks.now) ≡ Some (next.0, words next.1.now)) }
+{
+    if state.is_own() {
+        return Some((0, blocks));
+    }
+    let (word, behind) = first_word(blocks)?;
+    let handle = handle_of(word)?;
+    Some((handle, behind))
+}
+
+/// The handles that words write, one for each slot that is borrowed, in order, with 0 for the others; `None` where there are
+/// fewer or more.
+pub(crate) fn placed(states: &[SlotState; 4], blocks: &[u8]) -> Option<[u16; 4]>
+    ensures { result ≡ placed states.now (words blocks.now) }
+{
+    let [s0, s1, s2, s3] = *states;
+    let (h0, rest) = next_handle(s0, blocks)?;
+    let (h1, rest) = next_handle(s1, rest)?;
+    let (h2, rest) = next_handle(s2, rest)?;
+    let (h3, rest) = next_handle(s3, rest)?;
+    match first_word(rest) {
+        None => Some([h0, h1, h2, h3]),
         Some(_) => None,
     }
 }
 
-/// The call of the routine of that name on those numbers, if the machine may be asked for it.
-fn call_named(checked: &Checked, name: &[u8], numbers: &[u8]) -> Option<Call>
-    ensures { result ≡ call_named checked.now name.now (words numbers.now) }
+/// The call, if the machine may be asked for it.
+pub(crate) fn if_admitted(checked: &Checked, call: Call) -> Option<Call>
+    ensures { result ≡ if_admitted checked.now call }
 {
-    let routine = routine_named(checked.image(), name)?;
-    let words = registers_of(numbers)?;
-    let call = Call { routine, words };
     if may_ask(checked, &call) {
         Some(call)
     } else {
         None
     }
+}
+
+/// The call of the routine of that name on those numbers and the blocks behind them, if the machine may be asked for it.
+fn call_named(checked: &Checked, name: &[u8], numbers: &[u8]) -> Option<Call>
+    ensures { result ≡ call_named checked.now name.now (words numbers.now) }
+{
+    let routine = routine_named(checked.image(), name)?;
+    let words = registers_of(numbers)?;
+    let handles = placed(
+        &checked.image().routine(routine).entry.slots,
+        from_blocks(numbers),
+    )?;
+    if_admitted(
+        checked,
+        Call {
+            routine,
+            words,
+            handles,
+        },
+    )
 }
 
 /// Which pair of directories a word has the VM file keep.
@@ -236,29 +331,6 @@ fn keep<D: Device + Drop>(kernel: &mut Kernel<D>, how: How) -> Result<(), Refusa
     done
 }
 
-/// Runs the routine of a call, which lends it no block.
-fn run<D: Device + Drop>(
-    machine: &mut Machine,
-    checked: &Checked,
-    call: &Call,
-    kernel: &mut Kernel<D>,
-) -> Outcome
-    requires admitted { may_ask checked.now call.now ≡ true }
-    requires unlocked { NoneLocked kernel.old.core.blocks }
-    ensures ran { (f : VmFile) → IsFileOf (D.medium.honest kernel.old.device) kernel.old.core f
-        → RanWith (D.medium.honest kernel.old.device) (Throughout D.medium kernel.old.device kernel.new.device)
-        checked.now call.now.routine call.now.words no_handles kernel.old.core kernel.new.core result f }
-    ensures honest { D.medium.honest kernel.new.device ↔ D.medium.honest kernel.old.device }
-    ensures unlocked { NoneLocked kernel.new.core.blocks }
-    ensures sees { SeesDevice D.medium kernel.old × SeesDevice D.medium kernel.new }
-    ensures steadily { Steadily D.medium (vm_file_of kernel.old) (vm_file_of kernel.new) }
-{
-    // for the shape of the entry row, and how often blocks are locked
-    checked.image().len();
-    kernel.memory_is_legal();
-    machine.run(checked, call.routine, &call.words, &[0; 4], kernel)
-}
-
 /// Carries out a command, prints what a call puts out, or the number of a refusal, and gives what a
 /// commit came to. Where the command may commit, what was printed before has been given out.
 pub(crate) fn carry_out<W: Write, D: Device + Drop>(
@@ -286,8 +358,10 @@ pub(crate) fn carry_out<W: Write, D: Device + Drop>(
 {
     match command {
         Command::Call(call) => {
-            let outcome = run(machine, checked, call, kernel);
-            print(outcome.output.as_slice(), out)?;
+            match run_lent(machine, checked, call, kernel) {
+                Ok(outcome) => print(outcome.output.as_slice(), out)?,
+                Err(refusal) => print_refusal(refusal, out)?,
+            }
             Ok(Ok(()))
         }
         Command::Commit(how) => match keep(kernel, *how) {
