@@ -57,7 +57,11 @@ fn open<D: Device + Drop>(kernel: &mut Kernel<D>, place: Place, n: u16) -> Resul
     match place {
         Place::Chunk(h, c) => {
             let name = lock(kernel, h)?;
-            kernel.deref(name, c, n)
+            let span = kernel.deref(name, c, n);
+            if span.is_err() {
+                close(kernel, place);
+            }
+            span
         }
         Place::Item(g, i) => kernel.ilock(g, i, n),
     }
@@ -99,7 +103,9 @@ fn resize_chunk<D: Device + Drop>(
     if kernel.locks(name) == 0 {
         return Err(Refusal::BadHandle);
     }
-    kernel.lrealloc(name, c, n)
+    let done = kernel.lrealloc(name, c, n);
+    close(kernel, Place::Chunk(h, c));
+    done
 }
 
 /// Gives the chunk or the item so many bytes, and marks its block or group.
@@ -108,11 +114,7 @@ fn resize<D: Device + Drop>(kernel: &mut Kernel<D>, place: Place, n: u16) -> Res
     ensures unwritten { IsUnwritten D.medium kernel.old.device kernel.new.device }
 {
     match place {
-        Place::Chunk(h, c) => {
-            resize_chunk(kernel, h, c, n)?;
-            close(kernel, place);
-            Ok(())
-        }
+        Place::Chunk(h, c) => resize_chunk(kernel, h, c, n),
         Place::Item(g, i) => kernel.irealloc(g, i, n),
     }
 }
@@ -158,6 +160,7 @@ fn put<D: Device + Drop>(
     resize(kernel, place, end.max(least))?;
     let span = open(kernel, place, end)?;
     if !kernel.marked(place.handle()) {
+        close(kernel, place);
         return Err(Refusal::BadHandle);
     }
     store(kernel, span, first, bytes);
@@ -209,8 +212,9 @@ pub fn get_bytes<D: Device + Drop>(
     let mut bytes = Vec::new(alloc);
     match open(kernel, place, 0) {
         Ok(span) => {
-            load(kernel, span, &mut bytes)?;
+            let loaded = load(kernel, span, &mut bytes);
             close(kernel, place);
+            loaded?;
             Ok(Ok(bytes))
         }
         Err(refusal) => Ok(Err(refusal)),
