@@ -13,9 +13,11 @@ use Rattle.geos_input.specs.declared.fault.ScriptFault.{ScriptFault}
 use Rattle.geos_input.specs.declared.fault.ScriptFault.TheVariants.{TooLong, BadHex, BadImage, Rejected, BadScript, Read, Write, Memory}
 use Rattle.geos_input.specs.Counted.{AppendsPart}
 use Rattle.geos_cli.specs.declared.form.Form.{Form}
+use Rattle.vm_file.specs.declared.commit.How.TheVariants.{Update}
 use Rattle.geos_cli.specs.declared.script.Command.{Command}
+use Rattle.geos_cli.specs.declared.script.Command.TheVariants as command
 use Rattle.geos_cli.specs.declared.script.Mode.{Mode}
-use Rattle.geos_cli.specs.declared.script.Mode.TheVariants.{Lenient, Strict}
+use Rattle.geos_cli.specs.declared.script.Mode.TheVariants.{Strict}
 use Rattle.geos_cli.specs.declared.script.Numbered.{Numbered}
 use Rattle.geos_cli.specs.declared.script.RefusedCommit.{RefusedCommit}
 use Rattle.geos_cli.specs.Forms.{shown_in}
@@ -50,6 +52,10 @@ module _ {D : Type 0} (medium : Medium D) (form : Form) (image : Parts) (command
   pub shown-none : StoppedShown medium form image command kernel later a a
   shown-none = (result, plain, [], shown_in form image command plain, runs, refl, Appends-nil a)
 
+-- stands where a list asks for one beyond its end
+pub any_command : Numbered
+any_command = record { line = 0; command = command.Commit Update }
+
 module _ {D : Type 0} (medium : Medium D) (form : Form) (image : Parts) where
   -- one more command is carried out behind the others
   pub runs-more : (mode : Mode) (commands : List Numbered) (kernel between later : KernelOn D) (text : List ℕ) (last : Numbered) (result : Result (Unit {0}) Refusal) (plain : List ℕ)
@@ -70,13 +76,6 @@ module _ {D : Type 0} (medium : Medium D) (form : Form) (image : Parts) where
         ap (λ t. t ++ shown) e ∙ append_assoc (shown_in form image first.command own) others shown,
       )
 
-  -- what a strict script does, a lenient one does
-  pub runs-lenient : (mode : Mode) (commands : List Numbered) (kernel later : KernelOn D) (text : List ℕ)
-      → RunsInForm medium form mode image commands kernel later text → RunsInForm medium form Lenient image commands kernel later text
-  runs-lenient mode [] kernel later text h = h
-  runs-lenient mode (first ∷ commands) kernel later text (next, own, others, came, runs, went, rest, e) =
-      (next, own, others, came, runs, tt, runs-lenient mode commands next later others rest, e)
-
   -- before the first command
   pub none-ran : (mode : Mode) (kernel : KernelOn D) (a : Option (List ℕ)) → RanInForm medium form mode image [] None kernel kernel a a
   none-ran mode kernel a = ([], (refl, refl), Appends-nil a)
@@ -91,21 +90,6 @@ module _ {D : Type 0} (medium : Medium D) (form : Form) (image : Parts) where
     pub all-ran : length commands ≤ k → RanInForm medium form mode image (take k commands) None kernel between a b
         → RanInForm medium form mode image commands None kernel between a b
     all-ran past ran = subst (λ cs. RanInForm medium form mode image cs None kernel between a b) (take_all k commands past) ran
-
-    -- the flush before a command failed
-    pub stopped-ahead : RanInForm medium form mode image (take k commands) None kernel between a b → StoppedInForm medium form image commands kernel between a b
-    stopped-ahead (text, runs, appends) =
-        let lenient = runs-lenient mode (take k commands) kernel between text runs in (
-          text,
-          record {
-            done = take k commands;
-            others = drop k commands;
-            in_order = sym (take-append-drop k commands);
-            rest = [];
-            runs = subst (λ t. RunsInForm medium form Lenient image (take k commands) kernel between t) (sym (append-nil text)) lenient;
-          },
-          appends,
-        )
 
     module _ (default : Numbered) (later : KernelOn D) (c : Option (List ℕ)) (in_range : k < length commands) where
       abbrev here : Numbered
@@ -144,22 +128,43 @@ module _ {D : Type 0} (medium : Medium D) (form : Form) (image : Parts) where
 
       -- the writer failed, or memory was refused, while it was printed
       pub stopped-at : RanInForm medium form mode image (take k commands) None kernel between a b → StoppedShown medium form image here.command between later b c
-          → StoppedInForm medium form image commands kernel later a c
-      stopped-at (text, runs, appends) (result, plain, part, rest, own, parts, shows) =
-          let lenient = runs-lenient mode (take k commands) kernel between text runs in
-          let all = runs-more Lenient (take k commands) kernel between later text here result plain lenient own tt in
-          let order : commands ≡ (take k commands ++ here ∷ []) ++ drop (suc k) commands = split ∙ sym (append_assoc (take k commands) (here ∷ []) (drop (suc k) commands)) in
-          let written : text ++ shown_in form image here.command plain ≡ (text ++ part) ++ rest = ap (λ t. text ++ t) parts ∙ sym (append_assoc text part rest) in (
-            text ++ part,
-            record {
-              done = take k commands ++ here ∷ [];
-              others = drop (suc k) commands;
-              in_order = order;
-              rest = rest;
-              runs = subst (λ t. RunsInForm medium form Lenient image (take k commands ++ here ∷ []) kernel later t) written all;
-            },
-            Appends-trans a b c text part appends shows,
-          )
+          → StoppedInForm medium form mode image commands kernel later a c
+      stopped-at (text, runs, appends) (result, plain, part, rest, own, parts, shows) = (
+        text ++ part,
+        record {
+          done = take k commands;
+          next = here;
+          others = drop (suc k) commands;
+          in_order = split;
+          between = between;
+          earlier = text;
+          part = part;
+          runs = runs;
+          ends = inr (result, plain, rest, own, parts);
+          written = refl;
+        },
+        Appends-trans a b c text part appends shows,
+      )
+
+    -- the flush before a command failed
+    pub stopped-ahead : (default : Numbered) → k < length commands → RanInForm medium form mode image (take k commands) None kernel between a b
+        → StoppedInForm medium form mode image commands kernel between a b
+    stopped-ahead default in_range (text, runs, appends) = (
+      text,
+      record {
+        done = take k commands;
+        next = get_or commands k default;
+        others = drop (suc k) commands;
+        in_order = split default between b in_range;
+        between = between;
+        earlier = text;
+        part = [];
+        runs = runs;
+        ends = inl (refl, refl);
+        written = sym (append-nil text);
+      },
+      appends,
+    )
 
 -- the commands of a script on an image that was loaded
 module _ {D : Type 0} (medium : Medium D) (form : Form) (own mode : Mode) (bytes script : List ℕ) (image : Parts) (kernel later : KernelOn D) (a b : Option (List ℕ))
@@ -169,8 +174,10 @@ module _ {D : Type 0} (medium : Medium D) (form : Form) (own mode : Mode) (bytes
       let of_script = subst (λ cs. RanInForm medium form own image cs refused kernel later a b) all ran in
       (image, short, loads, subst (λ m. RanInForm medium form m image (commands_of image (lines script)) refused kernel later a b) as_said of_script)
 
-  pub script-stopped : StoppedInForm medium form image items kernel later a b → StoppedScriptInForm medium form bytes script kernel later a b
-  script-stopped stopped = (image, short, loads, subst (λ cs. StoppedInForm medium form image cs kernel later a b) all stopped)
+  pub script-stopped : StoppedInForm medium form own image items kernel later a b → StoppedScriptInForm medium form mode bytes script kernel later a b
+  script-stopped stopped =
+      let of_script = subst (λ cs. StoppedInForm medium form own image cs kernel later a b) all stopped in
+      (image, short, loads, subst (λ m. StoppedInForm medium form m image (commands_of image (lines script)) kernel later a b) as_said of_script)
 
 -- what is left at a fault
 

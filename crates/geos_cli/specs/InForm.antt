@@ -73,13 +73,26 @@ abbrev pub RunsTo : {D : Type 0} → Medium D → Form → Mode → Parts → Li
 RunsTo medium form mode image commands None kernel later text = RunsInForm medium form mode image commands kernel later text
 RunsTo medium form mode image commands (Some refused) kernel later text = (mode ≡ Strict) × RefusesInForm medium form mode image commands refused kernel later text
 
--- some of the commands were carried out, and the text is a beginning of what they print in the form; the others were not begun
-pub record StopsInForm {D : Type 0} (medium : Medium D) (form : Form) (image : Parts) (commands : List Numbered) (kernel later : KernelOn D) (text : List ℕ) : Type 0 where
+-- a command was not begun; or it was carried out, and the text is a beginning of what it prints in the form
+abbrev pub EndsAt : {D : Type 0} → Medium D → Form → Parts → Command → KernelOn D → KernelOn D → List ℕ → Type 0
+EndsAt medium form image command kernel later text =
+    ((later ≡ kernel) × (text ≡ []))
+    ⊎ ((result : Result (Unit {0}) Refusal) × (plain : List ℕ) × (rest : List ℕ)
+    × RunsPlainly medium image command result kernel later plain × (shown_in form image command plain ≡ text ++ rest))
+
+-- some of the commands were carried out, and the text has all that they print in the form; the next one was not begun, or the text ends
+-- with a beginning of what it prints; the others were not begun
+pub record StopsInForm {D : Type 0} (medium : Medium D) (form : Form) (mode : Mode) (image : Parts) (commands : List Numbered) (kernel later : KernelOn D) (text : List ℕ) : Type 0 where
   pub done : List Numbered
+  pub next : Numbered
   pub others : List Numbered
-  pub in_order : commands ≡ done ++ others
-  pub rest : List ℕ
-  pub runs : RunsInForm medium form Lenient image done kernel later (text ++ rest)
+  pub in_order : commands ≡ done ++ next ∷ others
+  pub between : KernelOn D
+  pub earlier : List ℕ
+  pub part : List ℕ
+  pub runs : RunsInForm medium form mode image done kernel between earlier
+  pub ends : EndsAt medium form image next.command between later part
+  pub written : text ≡ earlier ++ part
 
 -- commands ran, and a writer got their text
 abbrev pub RanInForm : {D : Type 0} → Medium D → Form → Mode → Parts → List Numbered → Option RefusedCommit → KernelOn D → KernelOn D → Option (List ℕ) → Option (List ℕ) → Type 0
@@ -87,9 +100,9 @@ RanInForm medium form mode image commands refused kernel later old new =
     (text : List ℕ) × RunsTo medium form mode image commands refused kernel later text × Appends old new text
 
 -- commands were stopped, and a writer got their text up to there
-abbrev pub StoppedInForm : {D : Type 0} → Medium D → Form → Parts → List Numbered → KernelOn D → KernelOn D → Option (List ℕ) → Option (List ℕ) → Type 0
-StoppedInForm medium form image commands kernel later old new =
-    (text : List ℕ) × StopsInForm medium form image commands kernel later text × Appends old new text
+abbrev pub StoppedInForm : {D : Type 0} → Medium D → Form → Mode → Parts → List Numbered → KernelOn D → KernelOn D → Option (List ℕ) → Option (List ℕ) → Type 0
+StoppedInForm medium form mode image commands kernel later old new =
+    (text : List ℕ) × StopsInForm medium form mode image commands kernel later text × Appends old new text
 
 -- a script ran on the image that the bytes spell, to its end or to this refused commit, and a writer got its text
 abbrev pub RanScriptInForm : {D : Type 0} → Medium D → Form → Mode → List ℕ → List ℕ → Option RefusedCommit → KernelOn D → KernelOn D → Option (List ℕ) → Option (List ℕ) → Type 0
@@ -98,10 +111,10 @@ RanScriptInForm medium form mode bytes script refused kernel later old new =
     × RanInForm medium form mode image (commands_of image (lines script)) refused kernel later old new
 
 -- it was stopped
-abbrev pub StoppedScriptInForm : {D : Type 0} → Medium D → Form → List ℕ → List ℕ → KernelOn D → KernelOn D → Option (List ℕ) → Option (List ℕ) → Type 0
-StoppedScriptInForm medium form bytes script kernel later old new =
+abbrev pub StoppedScriptInForm : {D : Type 0} → Medium D → Form → Mode → List ℕ → List ℕ → KernelOn D → KernelOn D → Option (List ℕ) → Option (List ℕ) → Type 0
+StoppedScriptInForm medium form mode bytes script kernel later old new =
     (image : Parts) × (length script ≤ most_bytes) × Loads bytes (lines script) image
-    × StoppedInForm medium form image (commands_of image (lines script)) kernel later old new
+    × StoppedInForm medium form mode image (commands_of image (lines script)) kernel later old new
 
 -- the call that words name ran on the image that the bytes spell, and a writer got its text
 abbrev pub RanCallInForm : {D : Type 0} → Medium D → Form → List ℕ → List ℕ → List (List ℕ) → KernelOn D → KernelOn D → Option (List ℕ) → Option (List ℕ) → Type 0
@@ -113,7 +126,7 @@ RanCallInForm medium form bytes name numbers kernel later old new =
 abbrev pub StoppedCallInForm : {D : Type 0} → Medium D → Form → List ℕ → List ℕ → List (List ℕ) → KernelOn D → KernelOn D → Option (List ℕ) → Option (List ℕ) → Type 0
 StoppedCallInForm medium form bytes name numbers kernel later old new =
     (image : Parts) × (call : Call) × Asks bytes name numbers image call
-    × StoppedInForm medium form image (on_line 1 (command.Call call) ∷ []) kernel later old new
+    × StoppedInForm medium form Lenient image (on_line 1 (command.Call call) ∷ []) kernel later old new
 
 -- what a script does behind a refused commit
 abbrev pub mode_of : Bool → Mode

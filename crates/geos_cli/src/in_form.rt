@@ -84,7 +84,7 @@ fn carry_out_all_in_form<W: Write, D: Device + Drop>(
     requires unlocked { NoneLocked kernel.old.core.blocks }
     ensures ran { IfOk result (λ refused. RanInForm D.medium form mode checked.now commands.now refused kernel.old kernel.new
         (W.contents out.old.stream) (W.contents out.new.stream)) }
-    ensures stopped { IfErr result (λ _. StoppedInForm D.medium form checked.now commands.now kernel.old kernel.new
+    ensures stopped { IfErr result (λ _. StoppedInForm D.medium form mode checked.now commands.now kernel.old kernel.new
         (W.contents out.old.stream) (W.contents out.new.stream)) }
     ensures honest { D.medium.honest kernel.new.device ↔ D.medium.honest kernel.old.device }
     ensures unlocked { NoneLocked kernel.new.core.blocks }
@@ -139,7 +139,7 @@ pub fn run_script_in_form<W: Write, D: Device + Drop>(
     // Nothing ran and nothing was written, or some commands did, and the writer got a beginning of their text.
     ensures left { IfErr result (λ fault. Leaves fault
         ((kernel.new ≡ kernel.old) × Keeps (W.contents out.old.stream) (W.contents out.new.stream))
-        (StoppedScriptInForm D.medium form image.now script.now kernel.old kernel.new (W.contents out.old.stream) (W.contents out.new.stream))) }
+        (StoppedScriptInForm D.medium form (mode_of strict) image.now script.now kernel.old kernel.new (W.contents out.old.stream) (W.contents out.new.stream))) }
     ensures honest { D.medium.honest kernel.new.device ↔ D.medium.honest kernel.old.device }
     ensures unlocked { NoneLocked kernel.new.core.blocks }
     ensures sees { SeesDevice D.medium kernel.old × SeesDevice D.medium kernel.new }

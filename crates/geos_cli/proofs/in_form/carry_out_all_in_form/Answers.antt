@@ -1,7 +1,7 @@
 use Rattle.std.proofs.Common.{◌∙◌, refl, arith}
 use Rattle.vm_file.proofs.StateLaws.{steadily_then}
 use Rattle.geos_kernel.specs.Files.{vm_file_of}
-use Rattle.geos_cli.proofs.InFormRun.{none-ran, more-ran, all-ran, refused-ran, shown-kept, stopped-at, stopped-ahead}
+use Rattle.geos_cli.proofs.InFormRun.{any_command, none-ran, more-ran, all-ran, refused-ran, shown-kept, stopped-at, stopped-ahead}
 use Rattle.geos_cli.proofs.Parts.{IfErr-any}
 use Rattle.geos_cli.proofs.in_form.carry_out_all_in_form.Goals as goal
 
@@ -41,7 +41,8 @@ returns-in_err-done-clause-stopped g c =
 pub returns-in_err-give_before-clause-stopped : goal.returns-in_err-give_before-clause-stopped
 returns-in_err-give_before-clause-stopped g c =
     let before = shown-kept g.D.Device.medium c.args.form c.args.checked.now c.args.mode _ _ _ _ _ _ c.loop-numbered.invariant.0 c.give_before.ensures.bytes in
-    IfErr-any _ (stopped-ahead g.D.Device.medium c.args.form c.args.checked.now c.args.mode c.args.commands.now c.loop-numbered.numbered-index _ _ _ _ before)
+    IfErr-any _ (stopped-ahead g.D.Device.medium c.args.form c.args.checked.now c.args.mode c.args.commands.now c.loop-numbered.numbered-index c.args.kernel.now c.loop-numbered.kernel
+    (g.W.Write.contents c.args.out.now.stream) (g.W.Write.contents c.give_before.new.out.stream) any_command c.loop-numbered-test.true before)
 
 pub returns-clause-sees : goal.returns-clause-sees
 returns-clause-sees g c = (c.memory_is_legal.ensures.sees, c.loop-numbered.invariant.4)
