@@ -3,9 +3,7 @@ use Rattle.std.proofs.Common.{◌≡◌, ◌<◌, ◌+◌, ◌∙◌, ℕ, suc, 
 use Rattle.std.specs.Prelude.{is_some, nat_lt}
 use Rattle.std.specs.Borrow.{Bor}
 use Rattle.std.proofs.lemmas.List.{length-map}
-use Rattle.std.specs.Io.KnownBytes.{Appends}
-use Rattle.geos_calls.specs.VmFile.{VmFile}
-use Rattle.geos_kernel.specs.View.{KernelState, IsFileOf}
+use Rattle.geos_kernel.specs.View.{KernelState}
 use Rattle.geos_image.specs.Parts.{Parts}
 use Rattle.geos_machine.specs.Runs.{Within}
 use Rattle.geos_input.specs.declared.fault.ScriptFault.{ScriptFault}

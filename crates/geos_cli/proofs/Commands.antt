@@ -9,7 +9,8 @@ use Rattle.geos_cli.specs.declared.script.Command.{Command}
 use Rattle.geos_cli.specs.declared.script.Command.TheVariants as command
 use Rattle.geos_text.specs.Words.{is_empty}
 use Rattle.geos_cli.specs.declared.script.Numbered.{Numbered}
-use Rattle.geos_cli.specs.Script.{IsAdmitted, routine_named, registers_of, call_named, how_named, command_of, commands_from, commands_of, is_bad, on_line, said, may_ask}
+use Rattle.geos_machine.specs.Runs.{entry_slots}
+use Rattle.geos_cli.specs.Script.{IsAdmitted, before_blocks, from_blocks, placed, routine_named, registers_of, call_named, how_named, command_of, commands_from, commands_of, is_bad, on_line, said, may_ask}
 
 -- a line that says nothing
 pub commands-blank : (image : Parts) (n : ℕ) (line : List ℕ) (lines : List (List ℕ)) → said line ≡ []
@@ -58,7 +59,9 @@ any-some (Some x) = tt
 pub call_named-admitted : (image : Parts) (name : List ℕ) (numbers : List (List ℕ)) → IfSome (call_named image name numbers) (λ c. may_ask image c ≡ true)
 call_named-admitted image name numbers =
     and_then-some (λ c. may_ask image c ≡ true) _ (routine_named image name)
-    (λ r. and_then-some (λ c. may_ask image c ≡ true) _ (registers_of numbers) (λ ws. if_admitted-some image (record { routine = r; words = ws }) _ refl))
+    (λ r. and_then-some (λ c. may_ask image c ≡ true) _ (registers_of (before_blocks numbers))
+    (λ ws. and_then-some (λ c. may_ask image c ≡ true) _ (placed (entry_slots image r) (from_blocks numbers))
+    (λ hs. if_admitted-some image (record { routine = r; words = ws; handles = hs }) _ refl)))
 
 -- a command is one that may be asked for
 command_of-admitted : (image : Parts) (ws : List (List ℕ)) → IfSome (command_of image ws) (IsAdmitted image)

@@ -17,7 +17,7 @@ use Rattle.geos_kernel.specs.View.{KernelState, failed_in, memory_of, IsFileOf}
 use Rattle.geos_kernel.specs.Kernel.{Calls, IsChosen, NeverFell}
 use Rattle.geos_image.specs.Parts.{Parts}
 use Rattle.geos_machine.specs.declared.outcome.Outcome.{Outcome}
-use Rattle.geos_machine.specs.Runs.{begin, kept_along, OpensAsOneOf, RanWith, Throughout, Within}
+use Rattle.geos_machine.specs.Runs.{begin, entry_slots, kept_along, OpensAsOneOf, RanWith, Throughout, Within}
 use Rattle.geos_kernel.proofs.Chosen.{lasts-on}
 use Rattle.geos_kernel.proofs.Seen.{file-on}
 use Rattle.geos_cli.specs.declared.script.Call.{Call}
@@ -28,7 +28,7 @@ use Rattle.geos_cli.specs.declared.script.Numbered.{Numbered}
 use Rattle.geos_cli.specs.declared.script.RefusedCommit.{RefusedCommit}
 use Rattle.geos_input.specs.Counted.{AppendsPart}
 use Rattle.geos_cli.specs.Commits.{may_commit, last_may_commit, is_flush_due}
-use Rattle.geos_cli.specs.Script.{printed, committed, commands_of, Does, GoesOn, Prints, PrintsAhead, PrintsPart, PrintsRefused, PrintsTo, PrintsUpTo, From, IsAllowed, Leads, Loads, RanCommand, RanCommands, RanScript, RunsScript, StoppedCommand, StoppedCommands, StoppedScript, StopsScript, stage_of, no_handles}
+use Rattle.geos_cli.specs.Script.{printed, committed, commands_of, Does, GoesOn, Prints, PrintsAhead, PrintsPart, PrintsRefused, PrintsTo, PrintsUpTo, From, IsAllowed, Leads, Loads, RunsOn, RunsLent, NotLent, lent_handles, RanCommand, RanCommands, RanScript, RunsScript, StoppedCommand, StoppedCommands, StoppedScript, StopsScript, stage_of}
 use Rattle.geos_text.specs.Words.{most_bytes}
 use Rattle.geos_cli.proofs.Prints.{does-wider, prints-more, ran-wider}
 
@@ -47,39 +47,60 @@ throughout-then medium old mid new h P Q R first second (passes, whole) (more, r
 -- One command
 
 -- the machine ran a call from the one kernel to the other
-abbrev RunsCall : Type 0 → Within → Parts → Call → Outcome → KernelState → KernelState → Type 0
+abbrev pub RunsCall : Type 0 → Within → Parts → Call → Outcome → KernelState → KernelState → Type 0
 RunsCall honest within image call outcome kernel later =
-    (f : VmFile) → IsFileOf honest kernel f → RanWith honest within image call.routine call.words no_handles kernel later outcome f
+    (f : VmFile) → IsFileOf honest kernel f → RanWith honest within image call.routine call.words call.handles kernel later outcome f
 
 -- a stop in between leaves what the model has as kept beside the one, or beside the other
-abbrev StopsBetween : Type 0 → Within → KernelState → KernelState → Type 0
+abbrev pub StopsBetween : Type 0 → Within → KernelState → KernelState → Type 0
 StopsBetween honest within kernel later =
     (f g : VmFile) → IsFileOf honest kernel f → IsFileOf honest later g → honest → within (OpensAsOneOf (f.kept ∷ g.kept ∷ []))
 
 -- what came from outside between two kernels is allowed while the count of failures goes from the one to the other
-allowed-between : (honest : Type 0) (kernel later : KernelState) → NeverFell honest kernel later → (choice : Choice) → IsChosen honest kernel later choice
+pub allowed-between : (honest : Type 0) (kernel later : KernelState) → NeverFell honest kernel later → (choice : Choice) → IsChosen honest kernel later choice
     → IsAllowed honest (failed_in kernel) (failed_in later) choice
 allowed-between honest kernel later lasts choice chosen = record { given = chosen.given; device = chosen.device; lasts = lasts }
 
 module _ (honest : Type 0) (within : Within) (image : Parts) (kernel later : KernelState) where
-  -- a call was run
-  call-leads : (call : Call) (outcome : Outcome) (text : List ℕ) → text ≡ printed outcome.output.items
-      → RunsCall honest within image call outcome kernel later
-      → Leads honest within kernel later (λ before after keeps. Does (IsAllowed honest) image (command.Call call) (Ok tt) before after text keeps)
+  -- a routine was run
+  pub run-leads : (call : Call) (outcome : Outcome) → RunsCall honest within image call outcome kernel later → Leads honest within kernel later (RunsOn (IsAllowed honest) image call (printed outcome.output.items))
   unfolding ran-wider
-  call-leads call outcome text is ran f tied =
+  run-leads call outcome ran f tied =
       let r = ran f tied in
       let wide =
       ran-wider (IsChosen honest kernel later) (IsAllowed honest (failed_in kernel) (failed_in later)) (allowed-between honest kernel later r.lasts)
-      image call.routine call.words no_handles (memory_of kernel f) (memory_of later r.file) outcome r.ran in
+      image call.routine call.words call.handles (memory_of kernel f) (memory_of later r.file) outcome r.ran in
       record {
         file = r.file;
         tied = r.tied;
         lasts = r.lasts;
-        keeps = kept_along image r.ran.choices (begin image call.routine call.words no_handles (memory_of kernel f));
-        does = (outcome, wide, refl, is, refl);
+        keeps = kept_along image r.ran.choices (begin image call.routine call.words call.handles (memory_of kernel f));
+        does = (outcome, wide, refl, refl);
         stops = r.stops;
       }
+
+  -- a call was carried out
+  call-leads : (call : Call) (outcome : Outcome) (text : List ℕ) → text ≡ printed outcome.output.items
+      → Leads honest within kernel later (RunsLent (IsAllowed honest) image call (printed outcome.output.items))
+      → Leads honest within kernel later (λ before after keeps. Does (IsAllowed honest) image (command.Call call) (Ok tt) before after text keeps)
+  call-leads call outcome text is leads f tied =
+      let l = leads f tied in
+      record {
+        file = l.file;
+        tied = l.tied;
+        lasts = l.lasts;
+        keeps = l.keeps;
+        does = (refl, inl (subst (λ t. RunsLent (IsAllowed honest) image call t (stage_of kernel f) (stage_of later l.file) l.keeps) (sym is) l.does));
+        stops = l.stops;
+      }
+
+  -- a block that it lends was refused
+  not-lent-leads : (call : Call) (why : Refusal) (text : List ℕ) → text ≡ committed (Err why)
+      → Leads honest within kernel later (NotLent (IsAllowed honest) (lent_handles (entry_slots image call.routine) call.handles) why)
+      → Leads honest within kernel later (λ before after keeps. Does (IsAllowed honest) image (command.Call call) (Ok tt) before after text keeps)
+  not-lent-leads call why text is leads f tied =
+      let l = leads f tied in
+      record { file = l.file; tied = l.tied; lasts = l.lasts; keeps = l.keeps; does = (refl, inr (why, is, l.does)); stops = l.stops }
 
   -- a commit was done or refused
   commit-leads : StopsBetween honest within kernel later → (how : How) (result : Result (Unit {0}) Refusal) (text : List ℕ) → text ≡ committed result
@@ -97,15 +118,25 @@ module _ (honest : Type 0) (within : Within) (image : Parts) (kernel later : Ker
       }
 
   module _ (a b : Option (List ℕ)) where
-    -- a call was run, and printed
-    pub call-ran : (call : Call) (outcome : Outcome) → RunsCall honest within image call outcome kernel later → Appends a b (printed outcome.output.items)
+    -- a call was carried out, and printed
+    pub call-ran : (call : Call) (outcome : Outcome) → Leads honest within kernel later (RunsLent (IsAllowed honest) image call (printed outcome.output.items)) → Appends a b (printed outcome.output.items)
         → RanCommand honest within image (command.Call call) (Ok tt) kernel later a b
     call-ran call outcome ran shown = (printed outcome.output.items, call-leads call outcome (printed outcome.output.items) refl ran, shown)
 
     -- the writer failed while it was printed
-    pub call-stopped : (call : Call) (outcome : Outcome) → RunsCall honest within image call outcome kernel later → AppendsPart a b (printed outcome.output.items)
+    pub call-stopped : (call : Call) (outcome : Outcome) → Leads honest within kernel later (RunsLent (IsAllowed honest) image call (printed outcome.output.items)) → AppendsPart a b (printed outcome.output.items)
         → StoppedCommand honest within image (command.Call call) kernel later a b
     call-stopped call outcome ran (part, rest, e, some, q) = (part, rest, Ok tt, some, call-leads call outcome (part ++ rest) (sym e) ran, q)
+
+    -- a block was refused, and that was printed
+    pub not-lent : (call : Call) (why : Refusal) → Leads honest within kernel later (NotLent (IsAllowed honest) (lent_handles (entry_slots image call.routine) call.handles) why) → Appends a b (committed (Err why))
+        → RanCommand honest within image (command.Call call) (Ok tt) kernel later a b
+    not-lent call why refused shown = (committed (Err why), not-lent-leads call why (committed (Err why)) refl refused, shown)
+
+    -- the writer failed then
+    pub not-lent-stopped : (call : Call) (why : Refusal) → Leads honest within kernel later (NotLent (IsAllowed honest) (lent_handles (entry_slots image call.routine) call.handles) why) → AppendsPart a b (committed (Err why))
+        → StoppedCommand honest within image (command.Call call) kernel later a b
+    not-lent-stopped call why refused (part, rest, e, some, q) = (part, rest, Ok tt, some, not-lent-leads call why (part ++ rest) (sym e) refused, q)
 
     -- a commit was done or refused, and that was printed
     pub commit-ran : StopsBetween honest within kernel later → (how : How) (result : Result (Unit {0}) Refusal)
@@ -134,7 +165,7 @@ module _ (other good : Type 0) (alike : other ↔ good) (within : Within) (image
         tied = file-on other good alike.1 later l.file l.tied;
         lasts = λ g. l.lasts (alike.1 g);
         keeps = l.keeps;
-        does = does-wider (IsAllowed other) (IsAllowed good) image c result (stage_of kernel f) (stage_of later l.file) text l.keeps (wider (failed_in kernel) (failed_in later)) l.does;
+        does = does-wider (IsAllowed other) (IsAllowed good) wider image c result (stage_of kernel f) (stage_of later l.file) text l.keeps l.does;
         stops = λ g. l.stops (alike.1 g);
       }
 
@@ -206,12 +237,12 @@ stopped-ahead mode honest within image commands k default kernel later a b in_ra
         record { file = earlier.file; tied = earlier.tied; lasts = earlier.lasts; keeps = earlier.keeps; does = (earlier.does.0, inr ahead, earlier.does.2); stops = earlier.stops }
 
 -- what is kept in one of some states is kept in one of more
-one-left : (xs ys : List Kept) (c : List ℕ) → OpensAsOneOf xs c → OpensAsOneOf (xs ++ ys) c
+pub one-left : (xs ys : List Kept) (c : List ℕ) → OpensAsOneOf xs c → OpensAsOneOf (xs ++ ys) c
 one-left [] ys c h = absurd h
 one-left (x ∷ xs) ys c (inl opens) = inl opens
 one-left (x ∷ xs) ys c (inr others) = inr (one-left xs ys c others)
 
-one-right : (xs ys : List Kept) (c : List ℕ) → OpensAsOneOf ys c → OpensAsOneOf (xs ++ ys) c
+pub one-right : (xs ys : List Kept) (c : List ℕ) → OpensAsOneOf ys c → OpensAsOneOf (xs ++ ys) c
 one-right [] ys c h = h
 one-right (x ∷ xs) ys c h = inr (one-right xs ys c h)
 

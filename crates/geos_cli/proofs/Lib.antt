@@ -14,3 +14,5 @@ pub mod RunsKeep
 pub mod Searches
 pub mod Sessions
 pub mod StepsKeep
+pub mod LentLocks
+pub mod LentRuns

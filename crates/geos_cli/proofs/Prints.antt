@@ -1,20 +1,22 @@
 -- What commands print, one after another.
 use Rattle.std.proofs.Common.{◌≡◌, ℕ, inl, inr, List, [], ◌∷◌, ◌++◌, refl, sym, ap, ◌∙◌, subst, append_assoc, append-nil}
-use Rattle.std.specs.Prelude.{Result}
+use Rattle.std.specs.Prelude.{Result, Ok, Err}
 use Rattle.geos_terms.specs.declared.refusal.Refusal.{Refusal}
 use Rattle.geos_calls.specs.Memory.{Memory}
 use Rattle.geos_calls.specs.VmFile.{Kept}
-use Rattle.geos_calls.specs.Effects.{Choice}
+use Rattle.geos_calls.specs.Effects.{Call, Choice}
+use Rattle.geos_calls.specs.VmCalls.{vlock, vunlock}
 use Rattle.geos_image.specs.Parts.{Parts}
 use Rattle.geos_machine.specs.declared.outcome.Outcome.{Outcome}
-use Rattle.geos_machine.specs.Runs.{Ran}
+use Rattle.geos_machine.specs.Runs.{Ran, entry_slots}
 use Rattle.geos_machine.proofs.Going.{each-wider}
 use Rattle.geos_machine.proofs.KeptSteps.{some-choice}
 use Rattle.geos_cli.specs.declared.script.Command.{Command}
 use Rattle.geos_cli.specs.declared.script.Command.TheVariants as command
 use Rattle.geos_cli.specs.declared.script.Mode.{Mode}
 use Rattle.geos_cli.specs.declared.script.Numbered.{Numbered}
-use Rattle.geos_cli.specs.Script.{Allows, Does, GoesOn, Prints, PrintsPart, PrintsUpTo, Stage, no_handles}
+use Rattle.geos_cli.specs.declared.script.Call.{Call as ScriptCall}
+use Rattle.geos_cli.specs.Script.{Allows, Does, GoesOn, Prints, PrintsPart, PrintsUpTo, Stage, Way, Comes, Then, Stays, LockedBehind, UnlockedBehind, Locks, Unlocks, RunsOn, lent_handles}
 
 -- one more command prints behind the others, where they left it, and the script goes on
 pub prints-more : (mode : Mode) (allows : Allows) (image : Parts) (commands : List Numbered) (before between after : Stage) (text : List ℕ) (keeps : List Kept)
@@ -55,28 +57,133 @@ ran-wider P Q wider image r words handles before after outcome ran = record {
   memory = ran.memory;
 }
 
-pub does-wider : (P Q : Allows) (image : Parts) (c : Command) (result : Result (Unit {0}) Refusal) (before after : Stage) (text : List ℕ) (keeps : List Kept)
-    → ((choice : Choice) → P before.failed after.failed choice → Q before.failed after.failed choice)
-    → Does P image c result before after text keeps → Does Q image c result before after text keeps
-unfolding ran-wider
-does-wider P Q image (command.Call call) result before after text keeps wider (outcome, ran, done, e, k) = (
-  outcome,
-  ran-wider (P before.failed after.failed) (Q before.failed after.failed) wider image call.routine call.words no_handles before.memory after.memory outcome ran,
-  done,
-  e,
-  k,
-)
-does-wider P Q image (command.Commit how) result before after text keeps wider (choice, chosen, comes, e, k) = (choice, wider choice chosen, comes, e, k)
+-- a way holds under more of them
+abbrev pub Wider : Way → Way → Type 0
+Wider V W = (before after : Stage) (keeps : List Kept) → V before after keeps → W before after keeps
+
+pub same-way : (W : Way) → Wider W W
+same-way W before after keeps w = w
+
+then-wider : (U V W X : Way) → Wider U W → Wider V X → Wider (Then U V) (Then W X)
+then-wider U V W X first second before after keeps (between, own, rest, u, v, e) = (between, own, rest, first before between own u, second between after rest v, e)
+
+module _ (P Q : Allows) (wider : (before now : ℕ) (choice : Choice) → P before now choice → Q before now choice) where
+  comes-wider : {A : Type 0} (row : Call A) (result : Result A Refusal) → Wider (Comes P row result) (Comes Q row result)
+  comes-wider row result before after keeps (choice, chosen, comes, e) = (choice, wider before.failed after.failed choice chosen, comes, e)
+
+  locked-wider : (V W : Way) → Wider V W → (handles : List ℕ) → Wider (LockedBehind P V handles) (LockedBehind Q W handles)
+  locked-wider V W first [] = first
+  locked-wider V W first (h ∷ handles) = locked-wider (Then V (Comes P (vlock h) (Ok tt))) (Then W (Comes Q (vlock h) (Ok tt))) (then-wider V (Comes P (vlock h) (Ok tt)) W (Comes Q (vlock h) (Ok tt)) first (comes-wider (vlock h) (Ok tt))) handles
+
+  pub unlocked-wider : (V W : Way) → Wider V W → (handles : List ℕ) → Wider (UnlockedBehind P V handles) (UnlockedBehind Q W handles)
+  unlocked-wider V W first [] = first
+  unlocked-wider V W first (h ∷ handles) = unlocked-wider (Then V (Comes P (vunlock h) (Ok tt))) (Then W (Comes Q (vunlock h) (Ok tt))) (then-wider V (Comes P (vunlock h) (Ok tt)) W (Comes Q (vunlock h) (Ok tt)) first (comes-wider (vunlock h) (Ok tt))) handles
+
+  pub runs-wider : (image : Parts) (call : ScriptCall) (text : List ℕ) → Wider (RunsOn P image call text) (RunsOn Q image call text)
+  unfolding ran-wider
+  runs-wider image call text before after keeps (outcome, ran, e, k) = (
+    outcome,
+    ran-wider (P before.failed after.failed) (Q before.failed after.failed) (wider before.failed after.failed) image call.routine call.words call.handles before.memory after.memory outcome ran,
+    e,
+    k,
+  )
+
+  pub does-wider : (image : Parts) (c : Command) (result : Result (Unit {0}) Refusal) (before after : Stage) (text : List ℕ) (keeps : List Kept) → Does P image c result before after text keeps → Does Q image c result before after text keeps
+  does-wider image (command.Call call) result before after text keeps (done, inl ran) =
+      let lent = lent_handles (entry_slots image call.routine) call.handles in (
+        done,
+        inl (then-wider (Then (Locks P lent) (RunsOn P image call text)) (Unlocks P lent) (Then (Locks Q lent) (RunsOn Q image call text)) (Unlocks Q lent)
+            (then-wider (Locks P lent) (RunsOn P image call text) (Locks Q lent) (RunsOn Q image call text) (locked-wider Stays Stays (same-way Stays) lent) (runs-wider image call text))
+            (unlocked-wider Stays Stays (same-way Stays) lent) before after keeps ran),
+      )
+  does-wider image (command.Call call) result before after text keeps (done, inr (why, e, n)) = (
+    done,
+    inr (
+      why,
+      e,
+      record {
+        locked = n.locked;
+        refused = n.refused;
+        others = n.others;
+        in_order = n.in_order;
+        does = then-wider (Then (Locks P n.locked) (Comes P (vlock n.refused) (Err why))) (Unlocks P n.locked) (Then (Locks Q n.locked) (Comes Q (vlock n.refused) (Err why))) (Unlocks Q n.locked)
+            (then-wider (Locks P n.locked) (Comes P (vlock n.refused) (Err why)) (Locks Q n.locked) (Comes Q (vlock n.refused) (Err why)) (locked-wider Stays Stays (same-way Stays) n.locked) (comes-wider (vlock n.refused) (Err why)))
+            (unlocked-wider Stays Stays (same-way Stays) n.locked) before after keeps n.does;
+      },
+    ),
+  )
+  does-wider image (command.Commit how) result before after text keeps (choice, chosen, comes, e, k) = (choice, wider before.failed after.failed choice chosen, comes, e, k)
 
 -- Where what is allowed says that a count which is 0 behind a command was 0 before it, commands behind which it is 0 are carried out under
 -- what is allowed while it stays 0
 
 module _ (P Q : Allows) (back : (before now : ℕ) (choice : Choice) → P before now choice → now ≡ 0 → before ≡ 0)
     (wider : (before now : ℕ) → before ≡ 0 → now ≡ 0 → (choice : Choice) → P before now choice → Q before now choice) (mode : Mode) (image : Parts) where
+  -- a count that is 0 behind a way was 0 before it
+  abbrev Backs : Way → Type 0
+  Backs W = (before after : Stage) (keeps : List Kept) → W before after keeps → after.failed ≡ 0 → before.failed ≡ 0
+
+  -- a way behind which the count is 0 holds under the others
+  abbrev Stills : Way → Way → Type 0
+  Stills V W = (before after : Stage) (keeps : List Kept) → after.failed ≡ 0 → V before after keeps → W before after keeps
+
+  then-back : (V W : Way) → Backs V → Backs W → Backs (Then V W)
+  then-back V W first second before after keeps (between, own, rest, v, w, e) zero = first before between own v (second between after rest w zero)
+
+  then-still : (U V W X : Way) → Stills U W → Stills V X → Backs V → Stills (Then U V) (Then W X)
+  then-still U V W X first second backs before after keeps zero (between, own, rest, u, v, e) = (between, own, rest, first before between own (backs between after rest v zero) u, second between after rest zero v, e)
+
+  comes-back : {A : Type 0} (row : Call A) (result : Result A Refusal) → Backs (Comes P row result)
+  comes-back row result before after keeps (choice, chosen, comes, e) zero = back before.failed after.failed choice chosen zero
+
+  comes-still : {A : Type 0} (row : Call A) (result : Result A Refusal) → Stills (Comes P row result) (Comes Q row result)
+  comes-still row result before after keeps zero (choice, chosen, comes, e) = (choice, wider before.failed after.failed (back before.failed after.failed choice chosen zero) zero choice chosen, comes, e)
+
+  stays-back : Backs Stays
+  stays-back before after keeps (same, e) zero = sym (ap (λ (s : Stage). s.failed) same) ∙ zero
+
+  stays-still : Stills Stays Stays
+  stays-still before after keeps zero w = w
+
+  locked-back : (V : Way) → Backs V → (handles : List ℕ) → Backs (LockedBehind P V handles)
+  locked-back V first [] = first
+  locked-back V first (h ∷ handles) = locked-back (Then V (Comes P (vlock h) (Ok tt))) (then-back V (Comes P (vlock h) (Ok tt)) first (comes-back (vlock h) (Ok tt))) handles
+
+  locked-still : (V W : Way) → Stills V W → (handles : List ℕ) → Stills (LockedBehind P V handles) (LockedBehind Q W handles)
+  locked-still V W first [] = first
+  locked-still V W first (h ∷ handles) =
+      locked-still (Then V (Comes P (vlock h) (Ok tt))) (Then W (Comes Q (vlock h) (Ok tt))) (then-still V (Comes P (vlock h) (Ok tt)) W (Comes Q (vlock h) (Ok tt)) first (comes-still (vlock h) (Ok tt)) (comes-back (vlock h) (Ok tt))) handles
+
+  unlocked-back : (V : Way) → Backs V → (handles : List ℕ) → Backs (UnlockedBehind P V handles)
+  unlocked-back V first [] = first
+  unlocked-back V first (h ∷ handles) = unlocked-back (Then V (Comes P (vunlock h) (Ok tt))) (then-back V (Comes P (vunlock h) (Ok tt)) first (comes-back (vunlock h) (Ok tt))) handles
+
+  unlocked-still : (V W : Way) → Stills V W → (handles : List ℕ) → Stills (UnlockedBehind P V handles) (UnlockedBehind Q W handles)
+  unlocked-still V W first [] = first
+  unlocked-still V W first (h ∷ handles) =
+      unlocked-still (Then V (Comes P (vunlock h) (Ok tt))) (Then W (Comes Q (vunlock h) (Ok tt))) (then-still V (Comes P (vunlock h) (Ok tt)) W (Comes Q (vunlock h) (Ok tt)) first (comes-still (vunlock h) (Ok tt)) (comes-back (vunlock h) (Ok tt))) handles
+
+  runs-back : (call : ScriptCall) (text : List ℕ) → Backs (RunsOn P image call text)
+  runs-back call text before after keeps (outcome, ran, e, k) zero =
+      let first = some-choice (P before.failed after.failed) image call.routine call.words call.handles before.memory after.memory outcome ran in
+      back before.failed after.failed first.0 first.1 zero
+
+  runs-still : (call : ScriptCall) (text : List ℕ) → Stills (RunsOn P image call text) (RunsOn Q image call text)
+  unfolding ran-wider
+  runs-still call text before after keeps zero (outcome, ran, e, k) = (
+    outcome,
+    ran-wider (P before.failed after.failed) (Q before.failed after.failed) (wider before.failed after.failed (runs-back call text before after keeps (outcome, ran, e, k) zero) zero) image call.routine call.words call.handles before.memory after.memory outcome ran,
+    e,
+    k,
+  )
+
   does-back : (c : Command) (result : Result (Unit {0}) Refusal) (before after : Stage) (text : List ℕ) (keeps : List Kept) → Does P image c result before after text keeps → after.failed ≡ 0 → before.failed ≡ 0
-  does-back (command.Call call) result before after text keeps (outcome, ran, done, e, k) none =
-      let first = some-choice (P before.failed after.failed) image call.routine call.words no_handles before.memory after.memory outcome ran in
-      back before.failed after.failed first.0 first.1 none
+  does-back (command.Call call) result before after text keeps (done, inl ran) none =
+      let lent = lent_handles (entry_slots image call.routine) call.handles in
+      then-back (Then (Locks P lent) (RunsOn P image call text)) (Unlocks P lent) (then-back (Locks P lent) (RunsOn P image call text) (locked-back Stays stays-back lent) (runs-back call text)) (unlocked-back Stays stays-back lent) before after keeps ran none
+  does-back (command.Call call) result before after text keeps (done, inr (why, e, n)) none =
+      then-back (Then (Locks P n.locked) (Comes P (vlock n.refused) (Err why))) (Unlocks P n.locked) (then-back (Locks P n.locked) (Comes P (vlock n.refused) (Err why)) (locked-back Stays stays-back n.locked) (comes-back (vlock n.refused) (Err why)))
+      (unlocked-back Stays stays-back n.locked) before after keeps n.does none
   does-back (command.Commit how) result before after text keeps (choice, chosen, comes, e, k) none = back before.failed after.failed choice chosen none
 
   prints-back : (commands : List Numbered) (before after : Stage) (text : List ℕ) (keeps : List Kept) → Prints mode P image commands before after text keeps
@@ -87,8 +194,30 @@ module _ (P Q : Allows) (back : (before now : ℕ) (choice : Choice) → P befor
 
   does-still : (c : Command) (result : Result (Unit {0}) Refusal) (before after : Stage) (text : List ℕ) (keeps : List Kept) → after.failed ≡ 0
       → Does P image c result before after text keeps → Does Q image c result before after text keeps
-  does-still c result before after text keeps zero does =
-      does-wider P Q image c result before after text keeps (wider before.failed after.failed (does-back c result before after text keeps does zero) zero) does
+  does-still (command.Call call) result before after text keeps zero (done, inl ran) =
+      let lent = lent_handles (entry_slots image call.routine) call.handles in (
+        done,
+        inl (then-still (Then (Locks P lent) (RunsOn P image call text)) (Unlocks P lent) (Then (Locks Q lent) (RunsOn Q image call text)) (Unlocks Q lent)
+            (then-still (Locks P lent) (RunsOn P image call text) (Locks Q lent) (RunsOn Q image call text) (locked-still Stays Stays stays-still lent) (runs-still call text) (runs-back call text))
+            (unlocked-still Stays Stays stays-still lent) (unlocked-back Stays stays-back lent) before after keeps zero ran),
+      )
+  does-still (command.Call call) result before after text keeps zero (done, inr (why, e, n)) = (
+    done,
+    inr (
+      why,
+      e,
+      record {
+        locked = n.locked;
+        refused = n.refused;
+        others = n.others;
+        in_order = n.in_order;
+        does = then-still (Then (Locks P n.locked) (Comes P (vlock n.refused) (Err why))) (Unlocks P n.locked) (Then (Locks Q n.locked) (Comes Q (vlock n.refused) (Err why))) (Unlocks Q n.locked)
+            (then-still (Locks P n.locked) (Comes P (vlock n.refused) (Err why)) (Locks Q n.locked) (Comes Q (vlock n.refused) (Err why)) (locked-still Stays Stays stays-still n.locked) (comes-still (vlock n.refused) (Err why)) (comes-back (vlock n.refused) (Err why)))
+            (unlocked-still Stays Stays stays-still n.locked) (unlocked-back Stays stays-back n.locked) before after keeps zero n.does;
+      },
+    ),
+  )
+  does-still (command.Commit how) result before after text keeps zero (choice, chosen, comes, e, k) = (choice, wider before.failed after.failed (back before.failed after.failed choice chosen zero) zero choice chosen, comes, e, k)
 
   pub prints-still : (commands : List Numbered) (before after : Stage) (text : List ℕ) (keeps : List Kept) → after.failed ≡ 0
       → Prints mode P image commands before after text keeps → Prints mode Q image commands before after text keeps

@@ -4,7 +4,7 @@ use Rattle.std.proofs.lemmas.Grind.{common_steps}
 use Rattle.std.proofs.lemmas.List.{drop-set-lt, drop-drop}
 use Rattle.std.specs.Prelude.{nat_le, cond, option_map}
 use Rattle.geos_text.specs.Numbers.{number_of}
-use Rattle.geos_cli.specs.Script.{numbers_of, registers_of}
+use Rattle.geos_cli.specs.Script.{before_blocks, from_blocks, names_block, numbers_of, registers_of}
 
 map-front : (front : List ℕ) (n : ℕ) (ns : Option (List ℕ)) → option_map (λ ms. front ++ ms) (option_map (λ ms. n ∷ ms) ns) ≡ option_map (λ ms. (front ++ n ∷ []) ++ ms) ns
 map-front front n None = refl
@@ -58,3 +58,16 @@ pub numbers-many : (all rest : List (List ℕ)) (word : List ℕ) → length all
 numbers-many all rest word len =
     let many : nat_le (length all) 8 ≡ false = grind (arith, len) in
     rw many refl
+
+-- a word that names a block, and one that does not, in front
+pub before-block : (word : List ℕ) (rest : List (List ℕ)) → names_block word ≡ true → before_blocks (word ∷ rest) ≡ []
+before-block word rest e = rw e refl
+
+pub before-number : (word : List ℕ) (rest : List (List ℕ)) → names_block word ≡ false → before_blocks (word ∷ rest) ≡ word ∷ before_blocks rest
+before-number word rest e = rw e refl
+
+pub from-block : (word : List ℕ) (rest : List (List ℕ)) → names_block word ≡ true → from_blocks (word ∷ rest) ≡ word ∷ rest
+from-block word rest e = rw e refl
+
+pub from-number : (word : List ℕ) (rest : List (List ℕ)) → names_block word ≡ false → from_blocks (word ∷ rest) ≡ from_blocks rest
+from-number word rest e = rw e refl

@@ -110,7 +110,7 @@ module _ (image : Parts) (legal : is_image image ≡ true) (accepted : Accepted 
 -- a call that may not commit keeps what is kept
 pub other_calls_keep : OtherCallsKeep
 other_calls_keep image checked call never memory choices =
-    let start = begin image call.routine call.words (0 ∷ 0 ∷ 0 ∷ 0 ∷ []) memory in
+    let start = begin image call.routine call.words call.handles memory in
     let below : IsUpTo call.routine start = (omega arith, tt) in
     record {
       along = All-from_recursion (λ k. k ≡ memory.file.kept) (kept_along image choices start)

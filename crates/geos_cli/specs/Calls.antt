@@ -14,7 +14,7 @@ use Rattle.geos_cli.specs.declared.call_fault.CallFault.TheVariants.{BadWord, Sc
 use Rattle.geos_cli.specs.declared.script.Call.{Call}
 use Rattle.geos_cli.specs.declared.script.Command.TheVariants as command
 use Rattle.geos_cli.specs.declared.script.Mode.TheVariants.{Lenient}
-use Rattle.geos_cli.specs.Script.{call_named, on_line, Allows, From, IsAllowed, IsBadImage, Leads, Prints, PrintsUpTo, Stage}
+use Rattle.geos_cli.specs.Script.{plain_call, on_line, Allows, From, IsAllowed, IsBadImage, Leads, Prints, PrintsUpTo, Stage}
 
 -- words as texts
 abbrev pub texts : List (Bor (List ℕ)) → List (List ℕ)
@@ -24,14 +24,14 @@ texts words = map (λ word. word.now) words
 -- numbers there is one
 pub record IsFirstWrong (image : Parts) (name : List ℕ) (numbers : List (List ℕ)) (at : ℕ) : Type 0 where
   pub there : at ≤ length numbers
-  pub wrong : call_named image name (take at numbers) ≡ None
-  pub good : (k : ℕ) → k < at → is_some (call_named image name (take k numbers)) ≡ true
+  pub wrong : plain_call image name (take at numbers) ≡ None
+  pub good : (k : ℕ) → k < at → is_some (plain_call image name (take k numbers)) ≡ true
 
 -- bytes spell an image that the verifier accepts, and the call is that of its routine with the name, on the numbers
 pub record Asks (bytes name : List ℕ) (numbers : List (List ℕ)) (image : Parts) (call : Call) : Type 0 where
   pub read : image_at bytes ≡ Ok image
   pub accepted : Accepted image
-  pub named : call_named image name numbers ≡ Some call
+  pub named : plain_call image name numbers ≡ Some call
 
 -- that call runs, from stage to stage, and prints the text
 abbrev pub RunsCall : Allows → List ℕ → List ℕ → List (List ℕ) → Stage → Stage → List ℕ → List Kept → Type 0

@@ -54,8 +54,8 @@ IsGiven asked flushed = (asked ≡ 0) ⊎ (flushed ≡ true)
 -- a call's run in this memory, under these choices, leaves what the device holds as it was, in each state that it
 -- passes and in the last one
 pub record KeepsKept (image : Parts) (call : Call) (memory : Memory) (choices : List Choice) : Type 0 where
-  pub along : All (λ kept. kept ≡ memory.file.kept) (kept_along image choices (begin image call.routine call.words (0 ∷ 0 ∷ 0 ∷ 0 ∷ []) memory))
-  pub behind : (steps : ℕ) (last : State) → run image 0 choices 0 (begin image call.routine call.words (0 ∷ 0 ∷ 0 ∷ 0 ∷ []) memory) ≡ Returned steps last
+  pub along : All (λ kept. kept ≡ memory.file.kept) (kept_along image choices (begin image call.routine call.words call.handles memory))
+  pub behind : (steps : ℕ) (last : State) → run image 0 choices 0 (begin image call.routine call.words call.handles memory) ≡ Returned steps last
       → last.memory.file.kept ≡ memory.file.kept
 
 -- so it is of each call of an accepted image that may not commit, whatever comes from outside

@@ -11,7 +11,7 @@ use Rattle.geos_cli.specs.declared.form.Writing.{Writing}
 use Rattle.geos_cli.specs.declared.form.Writing.TheVariants.{Decimal, Hex, Signed, Text}
 use Rattle.geos_cli.specs.declared.script.Command.{Command}
 use Rattle.geos_cli.specs.declared.script.Command.TheVariants as command
-use Rattle.geos_cli.specs.Script.{name_text}
+use Rattle.geos_cli.specs.Script.{lent_by, name_text}
 
 -- a hexadecimal digit
 abbrev pub hex_digit : ℕ → ℕ
@@ -67,11 +67,13 @@ commit_word Update = codes "update"
 commit_word Save = codes "save"
 commit_word Revert = codes "revert"
 
--- a command as its output is labelled: a call by its routine's name and its words, without the zeros at their end
+-- a command as its output is labelled: a call by its routine's name, its words, without the zeros at their end, and the blocks that
+-- it lends
 abbrev pub label_of : Parts → Command → List ℕ
 label_of image (command.Call call) =
     unwrap_or (option_map name_text (slice_get image.routines call.routine)) []
-    ++ flat_map (λ word. 32 ∷ decimal word) (take (words_said call.words 8) call.words)
+    ++ flat_map (λ word. codes " " ++ decimal word) (take (words_said call.words 8) call.words)
+    ++ flat_map (λ h. codes " @" ++ decimal h) (lent_by image call)
     ++ codes ": "
 label_of image (command.Commit how) = commit_word how ++ codes ": "
 

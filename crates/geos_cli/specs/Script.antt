@@ -1,28 +1,30 @@
 -- What the lines of a script say, when a script ends early, and what it prints.
-use Rattle.std.specs.Prelude.{◌≡◌, ◌<◌, ◌≤◌, ◌⊎◌, ℕ, ◌+◌, ◌-◌, Bool, true, ◌&&◌, not, nat_le, if◌then◌else◌, decimal, codes, bytes_eq}
+use Rattle.std.specs.Prelude.{◌≡◌, ◌<◌, ◌≤◌, ◌⊎◌, ℕ, ◌+◌, ◌-◌, Bool, true, ◌&&◌, ◌||◌, ◌==◌, false, not, nat_le, if◌then◌else◌, decimal, codes, bytes_eq}
 use Rattle.std.specs.Prelude.{List, [], ◌∷◌, ◌++◌, length, replicate, take, position, flat_map}
 use Rattle.std.specs.Prelude.{Option, Some, None, option_map, option_and_then, is_none, unwrap_or, Result, Ok, Err}
-use Rattle.std.specs.List.{cons_option, position_from, list_all}
+use Rattle.std.specs.List.{cons_option, position_from}
 use Rattle.std.specs.Str.Lines.{lines}
 use Rattle.std.specs.Io.KnownBytes.{Appends}
-use Rattle.geos_calls.specs.Memory as model
 use Rattle.geos_calls.specs.VmFile.{Kept, VmFile}
 use Rattle.geos_terms.specs.declared.refusal.Refusal.{Refusal}
 use Rattle.geos_terms.specs.Refusals.{refusal_number}
 use Rattle.geos_calls.specs.Effects.{Choice, outcome, effect_of}
-use Rattle.geos_calls.specs.VmCalls.{commit}
+use Rattle.geos_calls.specs.VmCalls.{commit, vlock}
 use Rattle.vm_file.specs.declared.commit.How.{How}
 use Rattle.vm_file.specs.declared.commit.How.TheVariants.{Update, Save, Revert}
 use Rattle.vm_blocks.specs.ListedCalls.{keeper_of}
-use Rattle.geos_kernel.specs.View.{KernelState, failed_in, memory_of, IsFileOf}
-use Rattle.geos_kernel.specs.Kernel.{HasRisen, NeverFell}
+use Rattle.vm_file.specs.Device.{Medium}
+use Rattle.geos_kernel.specs.View.{KernelOn, KernelState, IsFileOf}
+use Rattle.geos_kernel.specs.Kernel.{NeverFell}
 use Rattle.geos_image.specs.declared.routine.Routine.{Routine}
+use Rattle.geos_image.specs.declared.row.SlotState.{SlotState}
+use Rattle.geos_verify.specs.Lists.{all2}
 use Rattle.geos_image.specs.Parts.{Parts}
 use Rattle.geos_image.specs.Legal.{text_end, is_own}
 use Rattle.geos_image.specs.Reading.{image_at}
 use Rattle.geos_verify.specs.Rules.{Accepted, FirstRefusal}
 use Rattle.geos_machine.specs.declared.outcome.Outcome.{Outcome}
-use Rattle.geos_machine.specs.Runs.{admits, begin, kept_along, OpensAsOneOf, Ran, Within, entry_slots}
+use Rattle.geos_machine.specs.Runs.{admits, begin, kept_along, OpensAsOneOf, Ran, Throughout, Within, entry_slots}
 use Rattle.geos_text.specs.Words.{most_bytes}
 use Rattle.geos_cli.specs.declared.script.Call.{Call}
 use Rattle.geos_cli.specs.declared.script.Command.{Command}
@@ -32,22 +34,19 @@ use Rattle.geos_cli.specs.declared.script.Mode.TheVariants.{Lenient, Strict}
 use Rattle.geos_cli.specs.declared.script.Numbered.{Numbered}
 use Rattle.geos_cli.specs.declared.script.RefusedCommit.{RefusedCommit}
 use Rattle.geos_cli.specs.Commits.{is_flush_due}
+pub use Rattle.geos_cli.specs.Stages.{LockedMore, Stage, stage_of, Allows, IsAllowed, Way, Comes, Then, Stays, LockedBehind, UnlockedBehind, Locks, Unlocks, lent_handle, lent_handles, once, times}
 use Rattle.geos_input.specs.declared.fault.ScriptFault.{ScriptFault}
 use Rattle.geos_input.specs.declared.fault.ScriptFault.TheVariants.{TooLong, BadHex, BadImage, Rejected, BadScript, Read, Write, Memory}
 use Rattle.geos_text.specs.Words.{is_empty, words, without_comment}
 use Rattle.geos_text.specs.Numbers.{number_of}
 
--- the routine borrows no block
-abbrev pub borrows_none : Parts → ℕ → Bool
-borrows_none image r = list_all is_own (entry_slots image r)
+-- a handle stands for the slot, or 0 where it is not borrowed
+abbrev pub is_placed : SlotState → ℕ → Bool
+is_placed state h = not (is_own state) || h == 0
 
--- no handle for any slot
-abbrev pub no_handles : List ℕ
-no_handles = 0 ∷ 0 ∷ 0 ∷ 0 ∷ []
-
--- the machine may be asked for the call, which lends no block
+-- the machine may be asked for the call, and handles are given for slots that are borrowed alone
 abbrev pub may_ask : Parts → Call → Bool
-may_ask image call = admits image call.routine call.words && borrows_none image call.routine
+may_ask image call = admits image call.routine call.words && all2 is_placed (entry_slots image call.routine) call.handles
 
 -- the machine may be asked for the call; a commit may always be asked for
 abbrev pub IsAdmitted : Parts → Command → Type 0
@@ -71,14 +70,51 @@ numbers_of (w ∷ ws) = option_and_then (λ n. option_map (λ ns. n ∷ ns) (num
 abbrev pub registers_of : List (List ℕ) → Option (List ℕ)
 registers_of ws = if nat_le (length ws) 8 then option_map (λ ns. ns ++ replicate (8 - length ns) 0) (numbers_of ws) else None
 
+-- the word names a block that is lent: it begins with `@`
+abbrev pub names_block : List ℕ → Bool
+names_block [] = false
+names_block (b ∷ digits) = b == 64
+
+-- the handle that a word writes behind `@`
+abbrev pub handle_of : List ℕ → Option ℕ
+handle_of [] = None
+handle_of (b ∷ digits) = if b == 64 then number_of digits else None
+
+-- the words in front of the first that names a block
+abbrev pub before_blocks : List (List ℕ) → List (List ℕ)
+before_blocks [] = []
+before_blocks (w ∷ ws) = if names_block w then [] else w ∷ before_blocks ws
+
+-- that one, and those behind it
+abbrev pub from_blocks : List (List ℕ) → List (List ℕ)
+from_blocks [] = []
+from_blocks (w ∷ ws) = if names_block w then w ∷ ws else from_blocks ws
+
+-- the handle for a slot, and the words behind it: the first of them says it where the slot is borrowed; else it is 0
+abbrev pub next_handle : SlotState → List (List ℕ) → Option (ℕ × List (List ℕ))
+next_handle state ws = if is_own state then Some (0, ws) else elim ws [ [] ↦ None | w ∷ rest ↦ option_map (λ h. (h, rest)) (handle_of w) ]
+
+-- the handles that words write, one for each slot that is borrowed, in order, and no more; 0 for the others
+abbrev pub placed : List SlotState → List (List ℕ) → Option (List ℕ)
+placed [] [] = Some []
+placed [] (w ∷ ws) = None
+placed (state ∷ states) ws = option_and_then (λ next. option_map (λ hs. next.0 ∷ hs) (placed states next.1)) (next_handle state ws)
+
 -- a call, if the machine may be asked for it
 abbrev pub if_admitted : Parts → Call → Option Call
 if_admitted image call = if may_ask image call then Some call else None
 
--- the call of the routine of that name on those numbers
+-- the call of the routine of that name on those numbers, which are followed by the blocks that it lends
 abbrev pub call_named : Parts → List ℕ → List (List ℕ) → Option Call
-call_named image name numbers =
-    option_and_then (λ r. option_and_then (λ ws. if_admitted image (record { routine = r; words = ws })) (registers_of numbers)) (routine_named image name)
+call_named image name ws =
+    option_and_then (λ r. option_and_then (λ words. option_and_then (λ handles. if_admitted image (record { routine = r; words = words; handles = handles }))
+    (placed (entry_slots image r) (from_blocks ws))) (registers_of (before_blocks ws))) (routine_named image name)
+
+-- the call of the routine of that name on those numbers, which lends no block
+abbrev pub plain_call : Parts → List ℕ → List (List ℕ) → Option Call
+plain_call image name numbers =
+    option_and_then (λ r. option_and_then (λ words. option_and_then (λ handles. if_admitted image (record { routine = r; words = words; handles = handles }))
+    (placed (entry_slots image r) [])) (registers_of numbers)) (routine_named image name)
 
 -- which pair of directories is kept
 abbrev pub how_named : List ℕ → Option How
@@ -88,7 +124,7 @@ how_named word =
     else if bytes_eq word (codes "revert") then Some Revert
     else None
 
--- `call`, the name of a routine, then numbers; or `update`, `save` or `revert` alone
+-- `call`, the name of a routine, then numbers, then blocks; or `update`, `save` or `revert` alone
 abbrev pub command_of : Parts → List (List ℕ) → Option Command
 command_of image [] = None
 command_of image (word ∷ []) = option_map command.Commit (how_named word)
@@ -128,36 +164,39 @@ abbrev pub committed : Result (Unit {0}) Refusal → List ℕ
 committed (Ok done) = []
 committed (Err refusal) = codes "refused " ++ (decimal (refusal_number refusal) ++ 10 ∷ [])
 
--- where a script stands: the memory, and how often the device has failed
-pub record Stage : Type 0 where
-  pub memory : model.Memory
-  pub failed : ℕ
+-- the routine of a call runs on the blocks that it is lent, and this is what it prints
+abbrev pub RunsOn : Allows → Parts → Call → List ℕ → Stage → Stage → List Kept → Type 0
+RunsOn allows image call text before after keeps =
+    (outcome : Outcome)
+    × (ran : Ran (allows before.failed after.failed) image call.routine call.words call.handles before.memory after.memory outcome)
+    × (text ≡ printed outcome.output.items)
+    × (keeps ≡ kept_along image ran.choices (begin image call.routine call.words call.handles before.memory))
 
--- where it stands at a kernel, beside a VM file that the model may know
-abbrev pub stage_of : KernelState → VmFile → Stage
-stage_of kernel f = record { memory = memory_of kernel f; failed = failed_in kernel }
+-- the handles of the blocks that a call lends, in the order of slots
+abbrev pub lent_by : Parts → Call → List ℕ
+lent_by image call = lent_handles (entry_slots image call.routine) call.handles
 
--- which choices are allowed at a command, by how often the device has failed before it and behind it
-abbrev pub Allows : Type 1
-Allows = ℕ → ℕ → Choice → Type 0
+-- the blocks that a call lends are locked, its routine runs, and they are unlocked
+abbrev pub RunsLent : Allows → Parts → Call → List ℕ → Stage → Stage → List Kept → Type 0
+RunsLent allows image call text = Then (Then (Locks allows (lent_by image call)) (RunsOn allows image call text)) (Unlocks allows (lent_by image call))
 
--- those of an honest device: it gives nothing, refuses only where it failed at this command, and has not failed
--- less often behind it
-pub record IsAllowed (honest : Type 0) (before now : ℕ) (choice : Choice) : Type 0 where
-  pub given : honest → choice.given ≡ []
-  pub device : honest → choice.device ≡ true → HasRisen before now
-  pub lasts : honest → (now ≡ before) ⊎ HasRisen before now
+-- one of the blocks is refused: those before it are unlocked again, and no routine runs
+pub record NotLent (allows : Allows) (handles : List ℕ) (why : Refusal) (before after : Stage) (keeps : List Kept) : Type 0 where
+  pub locked : List ℕ
+  pub refused : ℕ
+  pub others : List ℕ
+  pub in_order : handles ≡ locked ++ refused ∷ others
+  pub does : Then (Then (Locks allows locked) (Comes allows (vlock refused) (Err why))) (Unlocks allows locked) before after keeps
 
 -- a command takes one memory to another under allowed choices, comes to this result, and prints this: a
--- call, by a model's run, what that puts out, and it is never refused; a commit, by its row in the table
--- of calls, its refusal. And that is what the file keeps meanwhile, one state after another
+-- call, by the locks of the blocks that it lends, a model's run, what that puts out, and the unlocks, or by the refusal of
+-- a lock; a commit, by its row in the table of calls, its refusal, which alone is a result. And that is what the file
+-- keeps meanwhile, one state after another
 abbrev pub Does : Allows → Parts → Command → Result (Unit {0}) Refusal → Stage → Stage → List ℕ → List Kept → Type 0
 Does allows image (command.Call call) result before after text keeps =
-    (outcome : Outcome)
-    × (ran : Ran (allows before.failed after.failed) image call.routine call.words no_handles before.memory after.memory outcome)
-    × (result ≡ Ok tt)
-    × (text ≡ printed outcome.output.items)
-    × (keeps ≡ kept_along image ran.choices (begin image call.routine call.words no_handles before.memory))
+    (result ≡ Ok tt)
+    × (RunsLent allows image call text before after keeps
+    ⊎ ((why : Refusal) × (text ≡ committed (Err why)) × NotLent allows (lent_by image call) why before after keeps))
 Does allows image (command.Commit how) result before after text keeps =
     (choice : Choice)
     × allows before.failed after.failed choice
@@ -260,6 +299,10 @@ pub record LeadsFrom (honest : Type 0) (within : Within) (kernel later : KernelS
 -- whatever VM file the model knows beside a kernel, where `honest` says that the kernel's device is
 abbrev pub Leads : Type 0 → Within → KernelState → KernelState → (Stage → Stage → List Kept → Type 0) → Type 0
 Leads honest within kernel later this = (f : VmFile) → IsFileOf honest kernel f → LeadsFrom honest within kernel later this f
+
+-- the same over a device, with what is allowed of one as honest as this one
+abbrev pub LeadsOn : {D : Type 0} → Medium D → KernelOn D → KernelOn D → (Allows → Way) → Type 0
+LeadsOn medium old new way = Leads (medium.honest old.device) (Throughout medium old.device new.device) old.core new.core (way (IsAllowed (medium.honest old.device)))
 
 -- what is kept before, and then these
 abbrev pub From : (List Kept → Type 0) → Stage → List Kept → Type 0

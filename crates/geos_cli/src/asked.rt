@@ -1,36 +1,49 @@
 //! Which calls the machine may be asked for.
 
 ghost use Rattle.std.specs.Prelude.{◌≡◌};
-ghost use Rattle.std.specs.List.{list_all};
-ghost use Rattle.geos_image.specs.Legal.{is_own};
-ghost use Rattle.geos_cli.specs.Script.{borrows_none, may_ask};
+ghost use Rattle.geos_verify.specs.Lists.{all2};
+ghost use Rattle.geos_cli.specs.Script.{if_admitted, is_placed, may_ask};
 
 use crate::script::Call;
 use geos_image::SlotState;
 use geos_machine::admits_words;
 use geos_verify::Checked;
 
-/// Whether no slot is borrowed.
-fn are_own(slots: &[SlotState]) -> bool
-    ensures { result ≡ list_all is_own slots.now }
+/// Whether a handle stands for the slot, or 0 where it is not borrowed.
+fn is_placed(state: SlotState, h: u16) -> bool
+    ensures { result ≡ is_placed state h }
 {
-    slots.iter().all(|state| state.is_own())
+    !state.is_own() || h == 0
 }
 
-/// Whether the routine borrows no block.
-fn borrows_none(checked: &Checked, routine: u16) -> bool
-    ensures { result ≡ borrows_none checked.now routine }
+fn are_placed(states: &[SlotState; 4], handles: &[u16; 4]) -> bool
+    ensures { result ≡ all2 is_placed states.now handles.now }
 {
-    let image = checked.image();
-    if routine >= image.count() {
-        return true;
-    }
-    are_own(&image.routine(routine).entry.slots)
+    let [s0, s1, s2, s3] = *states;
+    let [h0, h1, h2, h3] = *handles;
+    is_placed(s0, h0) & is_placed(s1, h1) & is_placed(s2, h2) & is_placed(s3, h3)
 }
 
-/// Whether the machine may be asked for the call, which lends no block.
+/// Whether the machine may be asked for the call, and handles are given for slots that are borrowed alone.
 pub(crate) fn may_ask(checked: &Checked, call: &Call) -> bool
     ensures { result ≡ may_ask checked.now call.now }
 {
-    admits_words(checked, call.routine, &call.words) && borrows_none(checked, call.routine)
+    if !admits_words(checked, call.routine, &call.words) {
+        return false;
+    }
+    are_placed(
+        &checked.image().routine(call.routine).entry.slots,
+        &call.handles,
+    )
+}
+
+/// The call, if the machine may be asked for it.
+pub(crate) fn if_admitted(checked: &Checked, call: Call) -> Option<Call>
+    ensures { result ≡ if_admitted checked.now call }
+{
+    if may_ask(checked, &call) {
+        Some(call)
+    } else {
+        None
+    }
 }

@@ -1,6 +1,6 @@
 //! The bytes of a chunk of a VM file's block, or of an item, are read or written by calls of the kernel.
 
-ghost use Rattle.std.specs.Prelude.{◌≡◌, ◌≤◌, ◌<◌, ◌+◌, true, length, IfOk, Ok};
+ghost use Rattle.std.specs.Prelude.{◌≡◌, ◌≤◌, ◌<◌, ◌+◌, length, IfOk, Ok};
 ghost use Rattle.geos_cli.specs.Bytes.{handle_of, IsUnwritten, EndsWithUpdate};
 ghost use Rattle.geos_kernel.specs.Kernel.{LeavesVm};
 ghost use Rattle.geos_kernel.specs.Spans.{IsStanding, IsWritable};

@@ -6,16 +6,17 @@ ghost use Rattle.vm_file.specs.Device.{Rose};
 ghost use Rattle.vm_file.specs.State.{Steadily};
 ghost use Rattle.geos_input.specs.declared.fault.ScriptFault.TheVariants.{Write};
 ghost use Rattle.geos_cli.specs.declared.call_fault.CallFault.TheVariants.{Script};
-ghost use Rattle.geos_cli.specs.Script.{registers_of, call_named};
+ghost use Rattle.geos_cli.specs.Script.{registers_of, plain_call};
 ghost use Rattle.geos_cli.specs.Calls.{texts, IsFirstWrong, RanCall, StoppedCall, CallEndsBy};
 ghost use Rattle.geos_kernel.specs.Files.{vm_file_of};
 ghost use Rattle.geos_kernel.specs.View.{SeesDevice};
 ghost use Rattle.geos_machine.specs.Runs.{Throughout};
 ghost use Rattle.vm_blocks.specs.Listed.{NoneLocked};
 
-use crate::asked::may_ask;
+use crate::asked::if_admitted;
 use crate::call_fault::CallFault;
-use crate::script::{Call, Command, Mode, Numbered, carry_out_all, load, routine_named};
+use crate::lines::{placed, routine_named};
+use crate::script::{Call, Command, Mode, Numbered, carry_out_all, load};
 use geos_input::Counted;
 use geos_kernel::Kernel;
 use geos_text::number;
@@ -38,23 +39,26 @@ fn registers_of_words(numbers: &[&str]) -> Option<[u16; 8]>
     Some(registers)
 }
 
-/// The call of the routine of that name on those numbers, if the machine may be asked for it.
+/// The call of the routine of that name on those numbers, which lends no block, if the machine may be asked for it.
 pub(crate) fn call_on(checked: &Checked, name: &str, numbers: &[&str]) -> Option<Call>
-    ensures { result ≡ call_named checked.now name.now (texts numbers.now) }
+    ensures { result ≡ plain_call checked.now name.now (texts numbers.now) }
 {
     let routine = routine_named(checked.image(), name.as_bytes())?;
     let words = registers_of_words(numbers)?;
-    let call = Call { routine, words };
-    if may_ask(checked, &call) {
-        Some(call)
-    } else {
-        None
-    }
+    let handles = placed(&checked.image().routine(routine).entry.slots, &[])?;
+    if_admitted(
+        checked,
+        Call {
+            routine,
+            words,
+            handles,
+        },
+    )
 }
 
 /// The first wrong word of what is no call: 0 is the name, and any other one a number, counted from 1.
 pub(crate) fn first_wrong(checked: &Checked, name: &str, numbers: &[&str]) -> usize
-    requires { call_named checked.now name.now (texts numbers.now) ≡ None }
+    requires { plain_call checked.now name.now (texts numbers.now) ≡ None }
     ensures { IsFirstWrong checked.now name.now (texts numbers.now) result }
 {
     let mut word = 0;
@@ -65,9 +69,9 @@ pub(crate) fn first_wrong(checked: &Checked, name: &str, numbers: &[&str]) -> us
 }
 
 /// Checks an image and runs one routine of it, on at most eight numbers; prints the words that it puts out. `name` is that of a public
-/// routine that borrows nothing, and each number is of digits alone, at most 65,535 and within the bound of its word. The call finds the kernel's memory as
-/// it is, and nothing commits but the routine's own instructions. What was printed before is flushed where the call may commit; behind
-/// it nothing is flushed.
+/// routine that borrows nothing, and each number is of digits alone, at most 65,535 and within the bound of its word. The call finds
+/// the kernel's memory as it is, and nothing commits but the routine's own instructions. What was printed before is flushed where the
+/// call may commit; behind it nothing is flushed.
 ///
 /// Of the faults, the first that is due is answered: `BadImage`; `Rejected`; `BadWord`. `Memory` may come before the call. Up to then
 /// nothing is asked of the writer, and the kernel is as it was. `Write` comes where the writer failed: it got a beginning of what the

@@ -1,12 +1,13 @@
 //! How outputs are written.
 
-ghost use Rattle.std.specs.Prelude.{◌≡◌, ◌≤◌, ◌<◌, ◌++◌, ◌∷◌, [], IfOk, OnOk, flat_map, take, decimal, length};
+ghost use Rattle.std.specs.Prelude.{◌≡◌, ◌≤◌, ◌<◌, ◌++◌, IfOk, OnOk, flat_map, decimal, length};
 ghost use Rattle.std.specs.Str.Lines.{lines};
 ghost use Rattle.geos_cli.specs.Forms.{hex_digit, hex_word, signed_word, text_word, word_in, line_in, lines_in, in_form, on_a_line};
-ghost use Rattle.geos_cli.specs.Forms.{words_said, commit_word, label_of, label_in, shown_in};
+ghost use Rattle.geos_cli.specs.Forms.{words_said, commit_word, label_of, shown_in};
 ghost use Rattle.geos_cli.specs.Script.{IsAdmitted};
 ghost use Rattle.geos_cli.specs.declared.script.Command.TheVariants as command;
 
+use crate::lending::lent_handles;
 use crate::script::{Call, Command};
 use geos_image::Image;
 use geos_text::{first_line, number, put_numbered};
@@ -32,7 +33,7 @@ pub enum Writing {
 pub struct Form {
     /// How each word is.
     pub writing: Writing,
-    /// Whether each line stands behind its command: `NAME n..: `, where zeros at the end of the words are left out.
+    /// Whether each line stands behind its command: `NAME n.. @h..: `, where zeros at the end of the words are left out.
     pub label: bool,
 }
 
@@ -170,11 +171,12 @@ fn words_said(words: &[u16; 8]) -> usize
     count
 }
 
-fn put_words(out: &mut Vec<u8>, words: &[u16]) -> Result<(), AllocError>
-    ensures { OnOk result (out.new.items ≡ out.old.items ++ flat_map (λ word. 32 ∷ decimal word) words.now) }
+/// Each number in decimal, behind a sign.
+fn put_each(out: &mut Vec<u8>, sign: &str, numbers: &[u16]) -> Result<(), AllocError>
+    ensures { OnOk result (out.new.items ≡ out.old.items ++ flat_map (λ n. sign.now ++ decimal n) numbers.now) }
 {
-    for word in words {
-        put_numbered(out, " ", u64::from(*word))?;
+    for number in numbers {
+        put_numbered(out, sign, u64::from(*number))?;
     }
     Ok(())
 }
@@ -197,7 +199,9 @@ fn call_label(alloc: Global, image: &Image, call: &Call) -> Result<Vec<u8>, Allo
 {
     let mut label = Vec::new(alloc);
     label.extend_from_slice(image.routine(call.routine).name_text())?;
-    put_words(&mut label, &call.words[..words_said(&call.words)])?;
+    put_each(&mut label, " ", &call.words[..words_said(&call.words)])?;
+    let lent = lent_handles(&image.routine(call.routine).entry.slots, &call.handles);
+    put_each(&mut label, " @", lent.as_slice())?;
     label.extend_from_slice(b": ")?;
     Ok(label)
 }

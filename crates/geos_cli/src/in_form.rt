@@ -19,10 +19,10 @@ ghost use Rattle.vm_blocks.specs.Listed.{NoneLocked};
 use crate::call::{call_on, first_wrong};
 use crate::call_fault::CallFault;
 use crate::form::{Form, shown_in};
+use crate::lines::commands_of;
 use crate::output::{give_before, write};
 use crate::script::{
-    Command, Mode, Numbered, RefusedCommit, carry_out, commands_of, ended_by, first_commit, load,
-    may_commit,
+    Command, Mode, Numbered, RefusedCommit, carry_out, ended_by, first_commit, load, may_commit,
 };
 use geos_input::{Counted, MOST_BYTES, ScriptFault};
 use geos_kernel::Kernel;

@@ -6,6 +6,8 @@
 //! | session | `run_session`: reads a session to its end, and runs it |
 //! | law | `other_calls_keep`: calls that may not commit leave what the device holds as it was |
 //! | asked | which calls the machine may be asked for |
+//! | lines | what the lines of a script say |
+//! | lending | runs a routine on blocks that it borrows, which are locked for it |
 //! | output | prints what commands put out, and flushes the writer |
 //! | script | `run_script`, `run_script_strictly`: carry out the commands of a script, and print what calls put out |
 //! | call | `run_call`: carries out one call, which words name |
@@ -21,6 +23,8 @@ mod call_fault;
 mod form;
 mod in_form;
 mod law;
+mod lending;
+mod lines;
 mod output;
 mod script;
 mod session;

@@ -1,7 +1,6 @@
-//! Scripts: lines of commands, read whole before the first one runs.
+//! Scripts: commands, read whole before the first one runs.
 
 ghost use Rattle.std.specs.Prelude.{[], ◌∷◌, ◌≡◌, ◌≢◌, ◌↔◌, true, false, All, None, Ok, Err, IfOk, IfErr, MatchOption};
-ghost use Rattle.std.specs.Str.Lines.{lines};
 ghost use Rattle.std.specs.Io.KnownBytes.{Keeps};
 ghost use Rattle.geos_input.specs.declared.fault.ScriptFault.TheVariants.{Write};
 ghost use Rattle.vm_file.specs.Device.{Rose};
@@ -9,13 +8,12 @@ ghost use Rattle.vm_file.specs.State.{Steadily};
 ghost use Rattle.geos_input.specs.Fault.{KeptUnless};
 ghost use Rattle.geos_cli.specs.Commits.{commits, first_commit, may_commit, IsGiven};
 ghost use Rattle.geos_cli.specs.declared.script.Mode.TheVariants.{Lenient, Strict};
-ghost use Rattle.geos_cli.specs.Script.{GoesOn, IsAdmitted, may_ask, no_handles, routine_named, registers_of, call_named, how_named, command_of};
-ghost use Rattle.geos_cli.specs.Script.{commands_of, first_bad, IsBadLine, IsBadImage};
+ghost use Rattle.geos_cli.specs.Script.{GoesOn, IsAdmitted, IsBadImage};
 ghost use Rattle.geos_cli.specs.Script.{RanCommand, StoppedCommand, RanCommands, StoppedCommands, RanScript, StoppedScript, ScriptEndsBy};
 ghost use Rattle.geos_kernel.specs.Files.{vm_file_of};
 ghost use Rattle.geos_kernel.specs.Kernel.{Calls};
 ghost use Rattle.geos_kernel.specs.View.{IsFileOf, SeesDevice};
-ghost use Rattle.geos_machine.specs.Runs.{OpensAsOneOf, RanWith, Throughout};
+ghost use Rattle.geos_machine.specs.Runs.{OpensAsOneOf, Throughout};
 ghost use Rattle.geos_calls.specs.VmFile.{VmFile};
 ghost use Rattle.geos_calls.specs.VmCalls.{commit};
 ghost use Rattle.vm_blocks.specs.Listed.{NoneLocked};
@@ -24,24 +22,26 @@ ghost use Rattle.geos_image.specs.Reading.{image_at};
 ghost use Rattle.geos_verify.specs.Rules.{Accepted};
 ghost use Rattle.geos_text.specs.Words.{words};
 
-use crate::asked::may_ask;
+use crate::lending::run_lent;
+use crate::lines::commands_of;
 use crate::output::{give_before, print, print_refusal};
-use geos_image::{Image, Opcode, Point};
+use geos_image::{Opcode, Point};
 use geos_input::{Counted, MOST_BYTES, ScriptFault};
 use geos_kernel::Kernel;
-use geos_machine::{Machine, Outcome};
+use geos_machine::Machine;
 use geos_terms::Refusal;
-use geos_text::{first_line, first_word, number, without_comment};
 use geos_verify::{Checked, check};
 use std::alloc::Global;
 use std::io::Write;
 use vm_file::{Device, How};
 
-/// A call of a routine, on these words.
+/// A call of a routine, on these words, and on the blocks of the VM file that it is lent: a handle for each slot that it
+/// borrows, and 0 for the others.
 #[derive(Clone, Copy)]
 pub struct Call {
     pub routine: u16,
     pub words: [u16; 8],
+    pub handles: [u16; 4],
 }
 
 /// A command that may be carried out.
@@ -76,113 +76,6 @@ pub struct RefusedCommit {
     pub line: usize,
     /// Why it was refused.
     pub refusal: Refusal,
-}
-
-/// The routine of that name.
-pub(crate) fn routine_named(image: &Image, name: &[u8]) -> Option<u16>
-    ensures { result ≡ routine_named image.now name.now }
-{
-    for r in 0..image.count() {
-        if image.routine(r).name_text() == name {
-            return Some(r);
-        }
-    }
-    None
-}
-
-/// The registers w0 to w7 that numbers say: at most eight of them. Missing ones are 0.
-fn registers_of(numbers: &[u8]) -> Option<[u16; 8]>
-    ensures { result ≡ registers_of (words numbers.now) }
-{
-    let mut registers = [0; 8];
-    let mut rest = numbers;
-    for i in 0..registers.len() {
-        let Some((word, behind)) = first_word(rest) else {
-            return Some(registers);
-        };
-        registers[i] = number(word)?;
-        rest = behind;
-    }
-    match first_word(rest) {
-        None => Some(registers),
-        Some(_) => None,
-    }
-}
-
-/// The call of the routine of that name on those numbers, if the machine may be asked for it.
-fn call_named(checked: &Checked, name: &[u8], numbers: &[u8]) -> Option<Call>
-    ensures { result ≡ call_named checked.now name.now (words numbers.now) }
-{
-    let routine = routine_named(checked.image(), name)?;
-    let words = registers_of(numbers)?;
-    let call = Call { routine, words };
-    if may_ask(checked, &call) {
-        Some(call)
-    } else {
-        None
-    }
-}
-
-/// Which pair of directories a word has the VM file keep.
-fn how_named(word: &[u8]) -> Option<How>
-    ensures { result ≡ how_named word.now }
-{
-    if word == b"update".as_slice() {
-        Some(How::Update)
-    } else if word == b"save".as_slice() {
-        Some(How::Save)
-    } else if word == b"revert".as_slice() {
-        Some(How::Revert)
-    } else {
-        None
-    }
-}
-
-/// The command of a line without its comment, if it may be asked for.
-fn command_of(checked: &Checked, line: &[u8]) -> Option<Command>
-    ensures { result ≡ command_of checked.now (words line.now) }
-{
-    let (word, rest) = first_word(line)?;
-    match first_word(rest) {
-        None => Some(Command::Commit(how_named(word)?)),
-        Some((name, numbers)) => {
-            if word == b"call".as_slice() {
-                Some(Command::Call(call_named(checked, name, numbers)?))
-            } else {
-                None
-            }
-        }
-    }
-}
-
-/// The commands of a script with the numbers of their lines, or the number of its first bad line.
-pub(crate) fn commands_of(
-    alloc: Global,
-    checked: &Checked,
-    script: &[u8],
-) -> Result<Vec<Numbered>, ScriptFault>
-    ensures commands { IfOk result (λ commands. (first_bad checked.now (lines script.now) ≡ None) × (commands.items ≡ commands_of checked.now (lines script.now))) }
-    ensures bad { IfErr result (IsBadLine checked.now (lines script.now)) }
-{
-    let mut commands = Vec::new(alloc);
-    let mut rest = script;
-    let mut line_number: usize = 0;
-    while !rest.is_empty() {
-        let (line, behind) = first_line(rest);
-        rest = behind;
-        line_number += 1;
-        let line = without_comment(line);
-        if first_word(line).is_some() {
-            match command_of(checked, line) {
-                Some(command) => commands.push(Numbered {
-                    line: line_number,
-                    command,
-                })?,
-                None => return Err(ScriptFault::BadScript(line_number)),
-            }
-        }
-    }
-    Ok(commands)
 }
 
 /// Whether the instruction commits.
@@ -236,29 +129,6 @@ fn keep<D: Device + Drop>(kernel: &mut Kernel<D>, how: How) -> Result<(), Refusa
     done
 }
 
-/// Runs the routine of a call, which lends it no block.
-fn run<D: Device + Drop>(
-    machine: &mut Machine,
-    checked: &Checked,
-    call: &Call,
-    kernel: &mut Kernel<D>,
-) -> Outcome
-    requires admitted { may_ask checked.now call.now ≡ true }
-    requires unlocked { NoneLocked kernel.old.core.blocks }
-    ensures ran { (f : VmFile) → IsFileOf (D.medium.honest kernel.old.device) kernel.old.core f
-        → RanWith (D.medium.honest kernel.old.device) (Throughout D.medium kernel.old.device kernel.new.device)
-        checked.now call.now.routine call.now.words no_handles kernel.old.core kernel.new.core result f }
-    ensures honest { D.medium.honest kernel.new.device ↔ D.medium.honest kernel.old.device }
-    ensures unlocked { NoneLocked kernel.new.core.blocks }
-    ensures sees { SeesDevice D.medium kernel.old × SeesDevice D.medium kernel.new }
-    ensures steadily { Steadily D.medium (vm_file_of kernel.old) (vm_file_of kernel.new) }
-{
-    // for the shape of the entry row, and how often blocks are locked
-    checked.image().len();
-    kernel.memory_is_legal();
-    machine.run(checked, call.routine, &call.words, &[0; 4], kernel)
-}
-
 /// Carries out a command, prints what a call puts out, or the number of a refusal, and gives what a
 /// commit came to. Where the command may commit, what was printed before has been given out.
 pub(crate) fn carry_out<W: Write, D: Device + Drop>(
@@ -286,8 +156,10 @@ pub(crate) fn carry_out<W: Write, D: Device + Drop>(
 {
     match command {
         Command::Call(call) => {
-            let outcome = run(machine, checked, call, kernel);
-            print(outcome.output.as_slice(), out)?;
+            match run_lent(machine, checked, call, kernel) {
+                Ok(outcome) => print(outcome.output.as_slice(), out)?,
+                Err(refusal) => print_refusal(refusal, out)?,
+            }
             Ok(Ok(()))
         }
         Command::Commit(how) => match keep(kernel, *how) {

@@ -6,7 +6,7 @@ ghost use Rattle.geos_input.specs.declared.fault.ScriptFault.TheVariants.{Read, 
 ghost use Rattle.vm_file.specs.Device.{Rose};
 ghost use Rattle.geos_input.specs.Fault.{KeptUnless};
 ghost use Rattle.geos_text.specs.Words.{most_bytes};
-ghost use Rattle.geos_input.specs.Reading.{Reads, EndsReading};
+ghost use Rattle.geos_input.specs.Reading.{Reads};
 ghost use Rattle.geos_cli.specs.Session.{RanBytes, StoppedBytes, EndsBytes, RanSession, StoppedSession, EndsSession};
 
 use crate::output::flush;

@@ -1,10 +1,8 @@
-use Rattle.std.proofs.Common.{[], ◌∷◌, inl, inr, ⊎_elim}
-use Rattle.geos_machine.specs.Runs.{OpensAsOneOf}
 use Rattle.vm_blocks.specs.ListedCalls.{keeper_of}
 use Rattle.geos_kernel.specs.View.{memory_of}
 use Rattle.geos_kernel.proofs.Seen.{file-on}
 use Rattle.geos_cli.proofs.Commits.{commit-unlocked}
-use Rattle.geos_machine.proofs.Stops.{stops-first, stops-on}
+use Rattle.geos_cli.proofs.LentRuns.{stops-between}
 use Rattle.geos_cli.proofs.script.keep.Goals as goal
 
 pub returns-clause-unlocked : goal.returns-clause-unlocked
@@ -21,9 +19,4 @@ pub returns-clause-stops : goal.returns-clause-stops
 returns-clause-stops g c f after tied tied_after h =
     let d = g.D.Device in
     let k = c.args.kernel.now in
-    let new = c.commit-done.new.self in
-    let first = stops-first d.medium k f tied (g.met.D.Device.at_once k.device) c.memory_is_legal.ensures.kept h
-    (λ x. OpensAsOneOf (f.kept ∷ after.kept ∷ []) x) (λ x opens. inl opens) in
-    stops-on d.medium k k new ((λ a. a), (λ a. a)) c.commit-done.ensures.commits.between.stops h f after tied tied_after
-    (OpensAsOneOf (f.kept ∷ after.kept ∷ [])) (OpensAsOneOf (f.kept ∷ after.kept ∷ [])) (λ x o. o)
-    (λ x either. ⊎_elim (λ was. inl was) (λ now. inr (inl now)) either) first
+    stops-between d.medium k c.commit-done.new.self (g.met.D.Device.at_once k.device) c.memory_is_legal.ensures.kept c.commit-done.ensures.commits.between.stops f after tied tied_after h

@@ -2,19 +2,19 @@ use Rattle.std.proofs.Common.{length-set, arith, sym, ap, ◌∙◌, ◌≡◌, 
 use Rattle.std.specs.Prelude.{option_map, Some}
 use Rattle.geos_text.specs.Words.{words}
 use Rattle.geos_text.specs.Numbers.{number_of}
-use Rattle.geos_cli.specs.Script.{numbers_of}
-use Rattle.geos_cli.proofs.Registers.{numbers-more, numbers-end, zeros-behind}
-use Rattle.geos_cli.proofs.script.registers_of.Goals as goal
+use Rattle.geos_cli.specs.Script.{before_blocks, numbers_of}
+use Rattle.geos_cli.proofs.Registers.{before-number, numbers-more, numbers-end, zeros-behind}
+use Rattle.geos_cli.proofs.lines.registers_of.Goals as goal
 
 pub loop-i-preserved : goal.loop-i-preserved
 loop-i-preserved c =
     let so_far = c.loop-i.invariant in
-    let all = words c.args.numbers.now in
-    let rest = words c.in-Some.behind.now in
+    let all = before_blocks (words c.args.numbers.now) in
+    let rest = before_blocks (words c.in-Some.behind.now) in
     let registers = c.loop-i.registers in
     let i = c.loop-i.i in
     let n = c.in_ok-registers.field-0 in
-    let more = c.in-Some.ensures.some in
+    let more = ap before_blocks c.in-Some.ensures.some ∙ before-number c.in-Some.word.now (words c.in-Some.behind.now) (sym c.names_block.ensures ∙ c.if-names_block.false) in
     let says : number_of c.in-Some.word.now ≡ Some n = sym c.number.ensures ∙ c.in_ok-registers.was in
     let inside : i < length registers = rw so_far.0 c.loop-i-test.true in
     let kept : length (set registers i n) ≡ 8 = length-set registers i n ∙ so_far.0 in
@@ -26,6 +26,6 @@ pub returns-in-None : goal.returns-in-None
 returns-in-None c =
     let so_far = c.loop-i.invariant in
     let i = c.loop-i.i in
-    let none = c.in-None.ensures.none in
+    let none = ap before_blocks c.in-None.ensures.none in
     let numbers = so_far.1 ∙ ap (λ ws. option_map (λ ns. take i c.loop-i.registers ++ ns) (numbers_of ws)) none in
-    sym (numbers-end (words c.args.numbers.now) c.loop-i.registers i so_far.0 c.loop-i.auto.i-end (so_far.2 ∙ ap (λ ws. i + length ws) none) so_far.3 numbers)
+    sym (numbers-end (before_blocks (words c.args.numbers.now)) c.loop-i.registers i so_far.0 c.loop-i.auto.i-end (so_far.2 ∙ ap (λ ws. i + length ws) none) so_far.3 numbers)

@@ -6,13 +6,13 @@ use Rattle.std.proofs.lemmas.Iterator.Adapters.{position_from-zero}
 use Rattle.geos_image.specs.declared.routine.Routine.{Routine}
 use Rattle.geos_cli.specs.Script.{name_text}
 use Rattle.geos_cli.proofs.Searches.{position_from-found, position_from-more}
-use Rattle.geos_cli.proofs.script.routine_named.Goals as goal
+use Rattle.geos_cli.proofs.lines.routine_named.Goals as goal
 
 pub loop-r-init : goal.loop-r-init
 loop-r-init c = position_from-zero _ c.args.image.now.routines
 
-pub returns-then-eq : goal.returns-then-eq
-returns-then-eq c =
+pub returns-then-eq-clause-named : goal.returns-then-eq-clause-named
+returns-then-eq-clause-named c =
     let test : Routine → Bool = λ r. bytes_eq (name_text r) c.args.name.now in
     let passes : test c.routine.result.now ≡ true = cc in
     sym (c.loop-r.invariant ∙ position_from-found test c.args.image.now.routines c.loop-r.r c.loop-r.r c.routine.result.now c.routine.ensures passes)
@@ -23,8 +23,8 @@ loop-r-preserved c =
     let fails : test c.routine.result.now ≡ false = cc in
     c.loop-r.invariant ∙ position_from-more test c.args.image.now.routines c.loop-r.r c.loop-r.r c.routine.result.now c.routine.ensures fails
 
-pub returns : goal.returns
-returns c =
+pub returns-clause-named : goal.returns-clause-named
+returns-clause-named c =
     let test : Routine → Bool = λ r. bytes_eq (name_text r) c.args.name.now in
     let routines = c.args.image.now.routines in
     let all : length routines ≤ c.loop-r.r = omega (arith, c.loop-r-test.false, c.count-r-end.ensures.count) in

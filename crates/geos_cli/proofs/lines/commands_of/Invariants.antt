@@ -2,7 +2,7 @@ use Rattle.std.proofs.Common.{◌≡◌, ◌≤◌, ◌+◌, ◌++◌, length}
 use Rattle.std.specs.List.{position_from}
 use Rattle.std.specs.Str.Lines.{lines}
 use Rattle.geos_cli.specs.Script.{commands_from, commands_of, first_bad, is_bad}
-use Rattle.geos_cli.proofs.script.commands_of.Given as goal
+use Rattle.geos_cli.proofs.lines.commands_of.Given as goal
 
 abbrev pub invariant-loop-rest : goal.invariant-loop-rest
 invariant-loop-rest l =

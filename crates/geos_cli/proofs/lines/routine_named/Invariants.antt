@@ -3,7 +3,7 @@ use Rattle.std.specs.Prelude.{bytes_eq, Bool}
 use Rattle.std.specs.List.{position_from}
 use Rattle.geos_image.specs.declared.routine.Routine.{Routine}
 use Rattle.geos_cli.specs.Script.{name_text}
-use Rattle.geos_cli.proofs.script.routine_named.Given as goal
+use Rattle.geos_cli.proofs.lines.routine_named.Given as goal
 
 abbrev pub invariant-loop-r : goal.invariant-loop-r
 invariant-loop-r l =

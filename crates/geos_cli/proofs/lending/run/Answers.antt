@@ -1,0 +1,28 @@
+use Rattle.std.proofs.Common.{◌≡◌, true}
+use Rattle.std.proofs.lemmas.Bool.{and_parts}
+use Rattle.std.proofs.lemmas.List.Elements.{recursion_from_All}
+use Rattle.geos_terms.specs.Names.{vm}
+use Rattle.geos_verify.specs.Lists.{all2}
+use Rattle.geos_machine.specs.Lent.{has_block}
+use Rattle.geos_machine.specs.Runs.{admits, entry_slots}
+use Rattle.geos_cli.specs.Script.{is_placed, lent_handles}
+use Rattle.geos_cli.proofs.LentLocks.{lends-locked}
+use Rattle.geos_cli.proofs.lending.run.Goals as goal
+
+pub run-requires-clause-lent : goal.run-requires-clause-lent
+run-requires-clause-lent g c =
+    let image = c.args.checked.now in
+    let call = c.args.call.now in
+    let slots = entry_slots image call.routine in
+    let core = c.args.kernel.now.core in
+    lends-locked core slots call.handles (and_parts (admits image call.routine call.words) (all2 is_placed slots call.handles) c.requires.admitted).1
+    (recursion_from_All (λ h. has_block core h ≡ true) (lent_handles slots call.handles) c.requires.there) c.requires.counts
+
+pub run-requires-clause-admitted : goal.run-requires-clause-admitted
+run-requires-clause-admitted g c =
+    let image = c.args.checked.now in
+    let call = c.args.call.now in
+    (and_parts (admits image call.routine call.words) (all2 is_placed (entry_slots image call.routine) call.handles) c.requires.admitted).0
+
+pub returns-clause-counts : goal.returns-clause-counts
+returns-clause-counts g c n = c.run.ensures.locks (vm n)

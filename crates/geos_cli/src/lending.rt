@@ -1,0 +1,181 @@
+//! Calls of routines on blocks of the VM file, which are locked for them and unlocked behind.
+
+ghost use Rattle.std.specs.Prelude.{◌≡◌, ◌↔◌, ◌+◌, ◌≤◌, ◌<◌, ◌++◌, ℕ, length, take, get_or, true, All};
+ghost use Rattle.std.specs.Prelude.{Ok, Err, OnOk, OnErr, IfOk, IfErr};
+ghost use Rattle.geos_terms.specs.Names.{vm};
+ghost use Rattle.geos_calls.specs.VmFile.{VmFile};
+ghost use Rattle.geos_calls.specs.VmCalls.{vlock, vunlock};
+ghost use Rattle.block_handles.specs.Store.{locks_of};
+ghost use Rattle.vm_file.specs.State.{Steadily};
+ghost use Rattle.vm_blocks.specs.Listed.{NoneLocked};
+ghost use Rattle.vm_blocks.specs.View.{vm_slot};
+ghost use Rattle.geos_kernel.specs.Files.{vm_file_of};
+ghost use Rattle.geos_kernel.specs.View.{IsFileOf, IsLocked, SeesDevice};
+ghost use Rattle.geos_machine.specs.Lent.{has_block};
+ghost use Rattle.geos_machine.specs.Runs.{RanWith, Throughout};
+ghost use Rattle.geos_cli.specs.Script.{lent_by, lent_handle, lent_handles, may_ask, once, printed, times};
+ghost use Rattle.geos_cli.specs.Script.{Comes, LeadsOn, LockedMore, Locks, NotLent, RunsLent, Then, Unlocks};
+
+use crate::script::Call;
+use arrayvec::ArrayVec;
+use geos_image::SlotState;
+use geos_kernel::Kernel;
+use geos_machine::{Machine, Outcome};
+use geos_terms::{Name, Refusal};
+use geos_verify::Checked;
+use vm_file::Device;
+
+/// Locks a block of the file once more.
+fn lock<D: Device + Drop>(kernel: &mut Kernel<D>, h: u16) -> Result<(), Refusal>
+    ensures leads { LeadsOn D.medium kernel.old kernel.new (λ allows. Comes allows (vlock h) result) }
+    ensures counts { OnOk result ((g : ℕ) → locks_of kernel.new.core.blocks (vm_slot g) ≡ locks_of kernel.old.core.blocks (vm_slot g) + once h g) }
+    ensures same { OnErr result ((g : ℕ) → locks_of kernel.new.core.blocks (vm_slot g) ≡ locks_of kernel.old.core.blocks (vm_slot g)) }
+    ensures there { OnOk result (has_block kernel.new.core h ≡ true) }
+    ensures stay { (g : ℕ) → has_block kernel.old.core g ≡ true → has_block kernel.new.core g ≡ true }
+    ensures honest { D.medium.honest kernel.new.device ↔ D.medium.honest kernel.old.device }
+    ensures sees { SeesDevice D.medium kernel.old × SeesDevice D.medium kernel.new }
+    ensures steadily { Steadily D.medium (vm_file_of kernel.old) (vm_file_of kernel.new) }
+{
+    kernel.memory_is_legal();
+    let locked = kernel.vlock(h);
+    kernel.memory_is_legal();
+    locked
+}
+
+/// Unlocks a block of the file once.
+fn unlock<D: Device + Drop>(kernel: &mut Kernel<D>, h: u16)
+    requires { IsLocked kernel.old.core (vm h) }
+    ensures leads { LeadsOn D.medium kernel.old kernel.new (λ allows. Comes allows (vunlock h) (Ok tt)) }
+    ensures counts { (g : ℕ) → locks_of kernel.new.core.blocks (vm_slot g) + once h g ≡ locks_of kernel.old.core.blocks (vm_slot g) }
+    ensures honest { D.medium.honest kernel.new.device ↔ D.medium.honest kernel.old.device }
+    ensures sees { SeesDevice D.medium kernel.old × SeesDevice D.medium kernel.new }
+    ensures steadily { Steadily D.medium (vm_file_of kernel.old) (vm_file_of kernel.new) }
+{
+    kernel.memory_is_legal();
+    kernel.vunlock(Name::vm(h));
+    kernel.memory_is_legal();
+}
+
+/// Locks blocks one after another. Where one is refused, it answers how many are locked, and the refusal.
+fn lock_all<D: Device + Drop>(
+    kernel: &mut Kernel<D>,
+    handles: &[u16],
+) -> Result<(), (usize, Refusal)>
+    ensures locked { IfOk result (λ _. LeadsOn D.medium kernel.old kernel.new (λ allows. Locks allows handles.now)) }
+    ensures refused { IfErr result (λ e. LeadsOn D.medium kernel.old kernel.new
+        (λ allows. Then (Locks allows (take e.0 handles.now)) (Comes allows (vlock (get_or handles.now e.0 0)) (Err e.1)))) }
+    ensures within { IfErr result (λ e. e.0 < length handles.now) }
+    ensures counts { IfOk result (λ _. LockedMore kernel.old.core.blocks kernel.new.core.blocks handles.now) }
+    ensures fewer { IfErr result (λ e. LockedMore kernel.old.core.blocks kernel.new.core.blocks (take e.0 handles.now)) }
+    ensures there { IfOk result (λ _. All (λ h. has_block kernel.new.core h ≡ true) handles.now) }
+    ensures honest { D.medium.honest kernel.new.device ↔ D.medium.honest kernel.old.device }
+    ensures sees { SeesDevice D.medium kernel.old × SeesDevice D.medium kernel.new }
+    ensures steadily { Steadily D.medium (vm_file_of kernel.old) (vm_file_of kernel.new) }
+{
+    kernel.memory_is_legal();
+    for (k, h) in handles.iter().enumerate() {
+        if let Err(refusal) = lock(kernel, *h) {
+            return Err((k, refusal));
+        }
+    }
+    Ok(())
+}
+
+/// Unlocks blocks one after another.
+fn unlock_all<D: Device + Drop>(kernel: &mut Kernel<D>, handles: &[u16])
+    requires { (g : ℕ) → times g handles.now ≤ locks_of kernel.old.core.blocks (vm_slot g) }
+    ensures leads { LeadsOn D.medium kernel.old kernel.new (λ allows. Unlocks allows handles.now) }
+    ensures counts { (g : ℕ) → locks_of kernel.new.core.blocks (vm_slot g) + times g handles.now ≡ locks_of kernel.old.core.blocks (vm_slot g) }
+    ensures honest { D.medium.honest kernel.new.device ↔ D.medium.honest kernel.old.device }
+    ensures sees { SeesDevice D.medium kernel.old × SeesDevice D.medium kernel.new }
+    ensures steadily { Steadily D.medium (vm_file_of kernel.old) (vm_file_of kernel.new) }
+{
+    kernel.memory_is_legal();
+    for h in handles {
+        unlock(kernel, *h);
+    }
+}
+
+/// Adds the handle for a slot, where it is borrowed.
+fn lend(lent: &mut ArrayVec<u16, 4>, state: SlotState, handle: u16)
+    requires { length lent.old.items < 4 }
+    ensures items { lent.new.items ≡ lent.old.items ++ lent_handle state handle }
+    ensures one { length lent.new.items ≤ length lent.old.items + 1 }
+{
+    if !state.is_own() {
+        lent.push(handle);
+    }
+}
+
+/// The handles of slots that are borrowed, in their order.
+pub(crate) fn lent_handles(states: &[SlotState; 4], handles: &[u16; 4]) -> ArrayVec<u16, 4>
+    ensures { result.items ≡ lent_handles states.now handles.now }
+{
+    let [s0, s1, s2, s3] = *states;
+    let [h0, h1, h2, h3] = *handles;
+    let mut lent = ArrayVec::new();
+    lend(&mut lent, s0, h0);
+    lend(&mut lent, s1, h1);
+    lend(&mut lent, s2, h2);
+    lend(&mut lent, s3, h3);
+    lent
+}
+
+/// Runs the routine of a call on blocks that are locked for it.
+fn run<D: Device + Drop>(
+    machine: &mut Machine,
+    checked: &Checked,
+    call: &Call,
+    kernel: &mut Kernel<D>,
+) -> Outcome
+    requires admitted { may_ask checked.now call.now ≡ true }
+    requires there { All (λ h. has_block kernel.old.core h ≡ true) (lent_by checked.now call.now) }
+    requires counts { (g : ℕ) → locks_of kernel.old.core.blocks (vm_slot g) ≡ times g (lent_by checked.now call.now) }
+    ensures ran { (f : VmFile) → IsFileOf (D.medium.honest kernel.old.device) kernel.old.core f
+        → RanWith (D.medium.honest kernel.old.device) (Throughout D.medium kernel.old.device kernel.new.device)
+        checked.now call.now.routine call.now.words call.now.handles kernel.old.core kernel.new.core result f }
+    ensures counts { (g : ℕ) → locks_of kernel.new.core.blocks (vm_slot g) ≡ locks_of kernel.old.core.blocks (vm_slot g) }
+    ensures honest { D.medium.honest kernel.new.device ↔ D.medium.honest kernel.old.device }
+    ensures sees { SeesDevice D.medium kernel.old × SeesDevice D.medium kernel.new }
+    ensures steadily { Steadily D.medium (vm_file_of kernel.old) (vm_file_of kernel.new) }
+{
+    machine.run(checked, call.routine, &call.words, &call.handles, kernel)
+}
+
+/// Locks the blocks that a call lends, in the order of slots, runs its routine, and unlocks them. Where a lock is refused,
+/// those before it are unlocked again, and the routine is not run.
+pub(crate) fn run_lent<D: Device + Drop>(
+    machine: &mut Machine,
+    checked: &Checked,
+    call: &Call,
+    kernel: &mut Kernel<D>,
+) -> Result<Outcome, Refusal>
+    requires admitted { may_ask checked.now call.now ≡ true }
+    requires unlocked { NoneLocked kernel.old.core.blocks }
+    ensures ran { IfOk result (λ outcome. LeadsOn D.medium kernel.old kernel.new
+        (λ allows. RunsLent allows checked.now call.now (printed outcome.output.items))) }
+    ensures refused { IfErr result (λ why. LeadsOn D.medium kernel.old kernel.new
+        (λ allows. NotLent allows (lent_by checked.now call.now) why)) }
+    ensures honest { D.medium.honest kernel.new.device ↔ D.medium.honest kernel.old.device }
+    ensures unlocked { NoneLocked kernel.new.core.blocks }
+    ensures sees { SeesDevice D.medium kernel.old × SeesDevice D.medium kernel.new }
+    ensures steadily { Steadily D.medium (vm_file_of kernel.old) (vm_file_of kernel.new) }
+{
+    // for how often blocks are locked
+    kernel.memory_is_legal();
+    let lent = lent_handles(
+        &checked.image().routine(call.routine).entry.slots,
+        &call.handles,
+    );
+    match lock_all(kernel, lent.as_slice()) {
+        Ok(()) => {
+            let outcome = run(machine, checked, call, kernel);
+            unlock_all(kernel, lent.as_slice());
+            Ok(outcome)
+        }
+        Err((locked, refusal)) => {
+            unlock_all(kernel, &lent.as_slice()[..locked]);
+            Err(refusal)
+        }
+    }
+}
