@@ -4,7 +4,7 @@ ghost use Rattle.vm_blocks.specs.Listed.{NoneLocked};
 
 use crate::request_fault::RequestFault;
 use geos_cli::{
-    CallFault, Counted, Form, RefusedCommit, ScriptFault, Writing, run_call, run_call_in_form,
+    CallFault, Counted, Form, RefusedCommand, ScriptFault, Writing, run_call, run_call_in_form,
     run_script, run_script_in_form, run_script_strictly,
 };
 use geos_kernel::Kernel;
@@ -17,7 +17,7 @@ use vm_file::Device;
 /// How a script or a call is run.
 #[derive(Clone, Copy)]
 pub(crate) struct Manner {
-    /// Whether a script ends at its first refused commit.
+    /// Whether a script ends at its first refused command.
     pub(crate) strict: bool,
     /// How outputs are written.
     pub(crate) form: OutputForm,
@@ -55,7 +55,7 @@ fn run_script_in<W: Write, D: Device + Drop>(
     script: &[u8],
     kernel: &mut Kernel<D>,
     out: &mut Counted<W>,
-) -> Result<Option<RefusedCommit>, ScriptFault>
+) -> Result<Option<RefusedCommand>, ScriptFault>
     requires { NoneLocked kernel.old.core.blocks }
 {
     let alloc = rt.alloc();
@@ -70,7 +70,7 @@ fn run_script_in<W: Write, D: Device + Drop>(
     Ok(None)
 }
 
-/// As `run_script_in`, on standard output. What was printed is out before a refused commit is a fault.
+/// As `run_script_in`, on standard output. What was printed is out before a refused command is a fault.
 pub(crate) fn run_script_on<'a, D: Device + Drop>(
     rt: &HostRuntime,
     manner: &Manner,
@@ -85,7 +85,7 @@ pub(crate) fn run_script_on<'a, D: Device + Drop>(
     out.flush().map_err(|_| ScriptFault::Write)?;
     match refused {
         None => Ok(()),
-        Some(RefusedCommit { line, refusal }) => Err(RequestFault::Refused(line, refusal.number())),
+        Some(RefusedCommand { line, refusal }) => Err(RequestFault::Refused(line, refusal.number())),
     }
 }
 

@@ -18,7 +18,7 @@ pub(crate) enum RequestFault<'a> {
     /// A session, or a script, has a fault.
     #[error(transparent)]
     Session(#[from] ScriptFault),
-    /// The line of a script that runs strictly, counted from 1, is a commit that was refused.
+    /// The line of a script that runs strictly, counted from 1, is a command that was refused.
     #[error("line {0}: refused {1}")]
     Refused(usize, u16),
     /// A call of the kernel on a chunk was refused.

@@ -35,7 +35,7 @@ fn run_in<'a>(
 }
 
 /// Runs a script on a VM file, with so many bytes for blocks in memory; to its end, or, strictly, to its first
-/// refused commit, which is a fault then. The words are gone through
+/// refused command, which is a fault then. The words are gone through
 /// from left to right: the image is read, or assembled of a text, the file opened, the script read; then it runs.
 ///
 /// The file's lock is waited for when the script has been read, so that the file is not kept from

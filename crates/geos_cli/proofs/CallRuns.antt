@@ -12,7 +12,7 @@ use Rattle.geos_cli.specs.declared.call_fault.CallFault.TheVariants.{Script}
 use Rattle.geos_cli.specs.declared.script.Call.{Call}
 use Rattle.geos_cli.specs.declared.script.Command.TheVariants as command
 use Rattle.geos_cli.specs.declared.script.Mode.TheVariants.{Lenient}
-use Rattle.geos_cli.specs.declared.script.RefusedCommit.{RefusedCommit}
+use Rattle.geos_cli.specs.declared.script.RefusedCommand.{RefusedCommand}
 use Rattle.geos_cli.specs.Script.{on_line, From, IsAllowed, IsBadImage, Leads, RanCommands, StoppedCommands}
 use Rattle.geos_cli.specs.Calls.{texts, Asks, CallEndsBy, RanCall, RunsCall, StoppedCall, StopsCall}
 
@@ -51,7 +51,7 @@ image-ends bytes name numbers Write h = absurd h
 
 module _ (honest : Type 0) (within : Within) (bytes name : List ℕ) (numbers : List (List ℕ)) (image : Parts) (call : Call) (kernel later : KernelState)
     (a b : Option (List ℕ)) (asks : Asks bytes name numbers image call) where
-  pub call-ran : (refused : Option RefusedCommit) → refused ≡ None → RanCommands Lenient honest within image (on_line 1 (command.Call call) ∷ []) refused kernel later a b
+  pub call-ran : (refused : Option RefusedCommand) → refused ≡ None → RanCommands Lenient honest within image (on_line 1 (command.Call call) ∷ []) refused kernel later a b
       → RanCall honest within bytes name numbers kernel later a b
   call-ran refused none ran = all (subst (λ r. RanCommands Lenient honest within image (on_line 1 (command.Call call) ∷ []) r kernel later a b) none ran)
     where

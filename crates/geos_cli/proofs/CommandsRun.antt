@@ -17,7 +17,7 @@ use Rattle.geos_kernel.specs.View.{KernelState, failed_in, memory_of, IsFileOf}
 use Rattle.geos_kernel.specs.Kernel.{Calls, IsChosen, NeverFell}
 use Rattle.geos_image.specs.Parts.{Parts}
 use Rattle.geos_machine.specs.declared.outcome.Outcome.{Outcome}
-use Rattle.geos_machine.specs.Runs.{begin, entry_slots, kept_along, OpensAsOneOf, RanWith, Throughout, Within}
+use Rattle.geos_machine.specs.Runs.{begin, kept_along, OpensAsOneOf, RanWith, Throughout, Within}
 use Rattle.geos_kernel.proofs.Chosen.{lasts-on}
 use Rattle.geos_kernel.proofs.Seen.{file-on}
 use Rattle.geos_cli.specs.declared.script.Call.{Call}
@@ -25,10 +25,10 @@ use Rattle.geos_cli.specs.declared.script.Command.{Command}
 use Rattle.geos_cli.specs.declared.script.Command.TheVariants as command
 use Rattle.geos_cli.specs.declared.script.Mode.{Mode}
 use Rattle.geos_cli.specs.declared.script.Numbered.{Numbered}
-use Rattle.geos_cli.specs.declared.script.RefusedCommit.{RefusedCommit}
+use Rattle.geos_cli.specs.declared.script.RefusedCommand.{RefusedCommand}
 use Rattle.geos_input.specs.Counted.{AppendsPart}
 use Rattle.geos_cli.specs.Commits.{may_commit, last_may_commit, is_flush_due}
-use Rattle.geos_cli.specs.Script.{printed, committed, commands_of, Does, GoesOn, Prints, PrintsAhead, PrintsPart, PrintsRefused, PrintsTo, PrintsUpTo, From, IsAllowed, Leads, Loads, RunsOn, RunsLent, NotLent, lent_handles, RanCommand, RanCommands, RanScript, RunsScript, StoppedCommand, StoppedCommands, StoppedScript, StopsScript, stage_of}
+use Rattle.geos_cli.specs.Script.{printed, committed, commands_of, Does, GoesOn, Prints, PrintsAhead, PrintsPart, PrintsRefused, PrintsTo, PrintsUpTo, From, IsAllowed, Leads, Loads, RunsOn, RunsLent, NotLent, lent_by, RanCommand, RanCommands, RanScript, RunsScript, StoppedCommand, StoppedCommands, StoppedScript, StopsScript, stage_of}
 use Rattle.geos_text.specs.Words.{most_bytes}
 use Rattle.geos_cli.proofs.Prints.{does-wider, prints-more, ran-wider}
 
@@ -90,17 +90,17 @@ module _ (honest : Type 0) (within : Within) (image : Parts) (kernel later : Ker
         tied = l.tied;
         lasts = l.lasts;
         keeps = l.keeps;
-        does = (refl, inl (subst (λ t. RunsLent (IsAllowed honest) image call t (stage_of kernel f) (stage_of later l.file) l.keeps) (sym is) l.does));
+        does = inl (refl, subst (λ t. RunsLent (IsAllowed honest) image call t (stage_of kernel f) (stage_of later l.file) l.keeps) (sym is) l.does);
         stops = l.stops;
       }
 
   -- a block that it lends was refused
   not-lent-leads : (call : Call) (why : Refusal) (text : List ℕ) → text ≡ committed (Err why)
-      → Leads honest within kernel later (NotLent (IsAllowed honest) (lent_handles (entry_slots image call.routine) call.handles) why)
-      → Leads honest within kernel later (λ before after keeps. Does (IsAllowed honest) image (command.Call call) (Ok tt) before after text keeps)
+      → Leads honest within kernel later (NotLent (IsAllowed honest) (lent_by image call) why)
+      → Leads honest within kernel later (λ before after keeps. Does (IsAllowed honest) image (command.Call call) (Err why) before after text keeps)
   not-lent-leads call why text is leads f tied =
       let l = leads f tied in
-      record { file = l.file; tied = l.tied; lasts = l.lasts; keeps = l.keeps; does = (refl, inr (why, is, l.does)); stops = l.stops }
+      record { file = l.file; tied = l.tied; lasts = l.lasts; keeps = l.keeps; does = inr (why, refl, is, l.does); stops = l.stops }
 
   -- a commit was done or refused
   commit-leads : StopsBetween honest within kernel later → (how : How) (result : Result (Unit {0}) Refusal) (text : List ℕ) → text ≡ committed result
@@ -129,14 +129,14 @@ module _ (honest : Type 0) (within : Within) (image : Parts) (kernel later : Ker
     call-stopped call outcome ran (part, rest, e, some, q) = (part, rest, Ok tt, some, call-leads call outcome (part ++ rest) (sym e) ran, q)
 
     -- a block was refused, and that was printed
-    pub not-lent : (call : Call) (why : Refusal) → Leads honest within kernel later (NotLent (IsAllowed honest) (lent_handles (entry_slots image call.routine) call.handles) why) → Appends a b (committed (Err why))
-        → RanCommand honest within image (command.Call call) (Ok tt) kernel later a b
+    pub not-lent : (call : Call) (why : Refusal) → Leads honest within kernel later (NotLent (IsAllowed honest) (lent_by image call) why) → Appends a b (committed (Err why))
+        → RanCommand honest within image (command.Call call) (Err why) kernel later a b
     not-lent call why refused shown = (committed (Err why), not-lent-leads call why (committed (Err why)) refl refused, shown)
 
     -- the writer failed then
-    pub not-lent-stopped : (call : Call) (why : Refusal) → Leads honest within kernel later (NotLent (IsAllowed honest) (lent_handles (entry_slots image call.routine) call.handles) why) → AppendsPart a b (committed (Err why))
+    pub not-lent-stopped : (call : Call) (why : Refusal) → Leads honest within kernel later (NotLent (IsAllowed honest) (lent_by image call) why) → AppendsPart a b (committed (Err why))
         → StoppedCommand honest within image (command.Call call) kernel later a b
-    not-lent-stopped call why refused (part, rest, e, some, q) = (part, rest, Ok tt, some, not-lent-leads call why (part ++ rest) (sym e) refused, q)
+    not-lent-stopped call why refused (part, rest, e, some, q) = (part, rest, Err why, some, not-lent-leads call why (part ++ rest) (sym e) refused, q)
 
     -- a commit was done or refused, and that was printed
     pub commit-ran : StopsBetween honest within kernel later → (how : How) (result : Result (Unit {0}) Refusal)
@@ -283,7 +283,7 @@ module _ (mode : Mode) (honest : Type 0) (within next whole : Within) (join : Jo
           }
 
   -- it was refused, and that was printed, and the script does not go on
-  pub ran-refused : (refused : RefusedCommit) → refused.line ≡ here.line → (result : Result (Unit {0}) Refusal) → result ≡ Err refused.refusal
+  pub ran-refused : (refused : RefusedCommand) → refused.line ≡ here.line → (result : Result (Unit {0}) Refusal) → result ≡ Err refused.refusal
       → RanCommands mode honest within image (take k commands) None kernel mid a b → RanCommand honest next image here.command result mid later b c
       → RanCommands mode honest whole image commands (Some refused) kernel later a c
   ran-refused refused at result is (text, prints, appends) (shown, does, behind) = (text ++ shown, leads, Appends-trans a b c text shown appends behind)
@@ -368,7 +368,7 @@ if_err-map (Err e) fault m p = λ is. m p
 -- the commands of a script on an image that was loaded
 module _ (mode : Mode) (honest : Type 0) (within : Within) (bytes script : List ℕ) (image : Parts) (kernel later : KernelState) (a b : Option (List ℕ))
     (short : length script ≤ most_bytes) (loads : Loads bytes (lines script) image) (items : List Numbered) (all : items ≡ commands_of image (lines script)) where
-  pub script-ran : (refused : Option RefusedCommit) → RanCommands mode honest within image items refused kernel later a b
+  pub script-ran : (refused : Option RefusedCommand) → RanCommands mode honest within image items refused kernel later a b
       → RanScript mode honest within bytes script refused kernel later a b
   script-ran refused (text, leads, appends) = (text, of_script, appends)
     where

@@ -19,7 +19,7 @@ use Rattle.geos_cli.specs.declared.script.Command.TheVariants as command
 use Rattle.geos_cli.specs.declared.script.Mode.{Mode}
 use Rattle.geos_cli.specs.declared.script.Mode.TheVariants.{Strict}
 use Rattle.geos_cli.specs.declared.script.Numbered.{Numbered}
-use Rattle.geos_cli.specs.declared.script.RefusedCommit.{RefusedCommit}
+use Rattle.geos_cli.specs.declared.script.RefusedCommand.{RefusedCommand}
 use Rattle.geos_cli.specs.Forms.{shown_in}
 use Rattle.geos_cli.specs.InForm.{RunsPlainly, RanShown, StoppedShown, RunsInForm, RefusesInForm, RanInForm, StoppedInForm, RanScriptInForm, StoppedScriptInForm, Leaves}
 use Rattle.std.specs.Str.Lines.{lines}
@@ -107,7 +107,7 @@ module _ {D : Type 0} (medium : Medium D) (form : Form) (image : Parts) where
           (text ++ shown_in form image here.command plain, rw (take_more commands k default in_range) all, Appends-trans a b c text (shown_in form image here.command plain) appends shows)
 
       -- it was refused, and the script does not go on
-      pub refused-ran : (refused : RefusedCommit) → mode ≡ Strict → refused.line ≡ here.line → (result : Result (Unit {0}) Refusal) → result ≡ Err refused.refusal
+      pub refused-ran : (refused : RefusedCommand) → mode ≡ Strict → refused.line ≡ here.line → (result : Result (Unit {0}) Refusal) → result ≡ Err refused.refusal
           → RanInForm medium form mode image (take k commands) None kernel between a b → RanShown medium form image here.command result between later b c
           → RanInForm medium form mode image commands (Some refused) kernel later a c
       refused-ran refused strict at result is (text, runs, appends) (plain, own, shows) =
@@ -169,7 +169,7 @@ module _ {D : Type 0} (medium : Medium D) (form : Form) (image : Parts) where
 -- the commands of a script on an image that was loaded
 module _ {D : Type 0} (medium : Medium D) (form : Form) (own mode : Mode) (bytes script : List ℕ) (image : Parts) (kernel later : KernelOn D) (a b : Option (List ℕ))
     (short : length script ≤ most_bytes) (loads : Loads bytes (lines script) image) (items : List Numbered) (all : items ≡ commands_of image (lines script)) (as_said : own ≡ mode) where
-  pub script-ran : (refused : Option RefusedCommit) → RanInForm medium form own image items refused kernel later a b → RanScriptInForm medium form mode bytes script refused kernel later a b
+  pub script-ran : (refused : Option RefusedCommand) → RanInForm medium form own image items refused kernel later a b → RanScriptInForm medium form mode bytes script refused kernel later a b
   script-ran refused ran =
       let of_script = subst (λ cs. RanInForm medium form own image cs refused kernel later a b) all ran in
       (image, short, loads, subst (λ m. RanInForm medium form m image (commands_of image (lines script)) refused kernel later a b) as_said of_script)

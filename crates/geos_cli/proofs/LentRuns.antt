@@ -13,12 +13,12 @@ use Rattle.geos_kernel.specs.Kernel.{Calls}
 use Rattle.geos_image.specs.declared.row.SlotState.{SlotState}
 use Rattle.geos_image.specs.Parts.{Parts}
 use Rattle.geos_machine.specs.declared.outcome.Outcome.{Outcome}
-use Rattle.geos_machine.specs.Runs.{entry_slots, OpensAsOneOf, Throughout, Within}
+use Rattle.geos_machine.specs.Runs.{OpensAsOneOf, Throughout, Within}
 use Rattle.geos_machine.proofs.Stops.{stops-first, stops-on}
 use Rattle.geos_kernel.proofs.Chosen.{lasts-on}
 use Rattle.geos_kernel.proofs.Seen.{file-on}
 use Rattle.geos_cli.specs.declared.script.Call.{Call as ScriptCall}
-use Rattle.geos_cli.specs.Script.{printed, stage_of, Stage, Allows, IsAllowed, Way, Comes, Then, Stays, LockedBehind, UnlockedBehind, Locks, Unlocks, lent_handle, lent_handles, Leads, RunsOn, RunsLent, NotLent}
+use Rattle.geos_cli.specs.Script.{printed, stage_of, Stage, Allows, IsAllowed, Way, Comes, Then, Stays, LockedBehind, UnlockedBehind, Locks, Unlocks, lent_handle, lent_handles, lent_by, Leads, RunsOn, RunsLent, NotLent}
 use Rattle.geos_cli.proofs.Prints.{runs-wider, same-way, unlocked-wider}
 use Rattle.geos_cli.proofs.CommandsRun.{Joins, throughout-then, RunsCall, StopsBetween, allowed-between, one-left, one-right, run-leads}
 
@@ -177,13 +177,13 @@ module _ {D : Type 0} (medium : Medium D) (old mid new : KernelOn D) where
 -- blocks are locked, a routine runs, and they are unlocked
 pub lent-ran : {D : Type 0} (medium : Medium D) (old locked ran new : KernelOn D) → (medium.honest locked.device ↔ medium.honest old.device) → (medium.honest ran.device ↔ medium.honest old.device)
     → (image : Parts) (call : ScriptCall) (outcome : Outcome)
-    → Leads (medium.honest old.device) (Throughout medium old.device locked.device) old.core locked.core (Locks (IsAllowed (medium.honest old.device)) (lent_handles (entry_slots image call.routine) call.handles))
+    → Leads (medium.honest old.device) (Throughout medium old.device locked.device) old.core locked.core (Locks (IsAllowed (medium.honest old.device)) (lent_by image call))
     → RunsCall (medium.honest locked.device) (Throughout medium locked.device ran.device) image call outcome locked.core ran.core
-    → Leads (medium.honest ran.device) (Throughout medium ran.device new.device) ran.core new.core (Unlocks (IsAllowed (medium.honest ran.device)) (lent_handles (entry_slots image call.routine) call.handles))
+    → Leads (medium.honest ran.device) (Throughout medium ran.device new.device) ran.core new.core (Unlocks (IsAllowed (medium.honest ran.device)) (lent_by image call))
     → Leads (medium.honest old.device) (Throughout medium old.device new.device) old.core new.core (RunsLent (IsAllowed (medium.honest old.device)) image call (printed outcome.output.items))
 lent-ran medium old locked ran new alike alike_ran image call outcome A R U =
     let allows = IsAllowed (medium.honest old.device) in
-    let lent = lent_handles (entry_slots image call.routine) call.handles in
+    let lent = lent_by image call in
     on-unlocked medium old ran new alike_ran (Then (Locks allows lent) (RunsOn allows image call (printed outcome.output.items))) lent (on-run medium old locked ran alike (Locks allows lent) image call outcome A R) U
 
 -- one is refused, and those before it are unlocked

@@ -8,7 +8,7 @@ use Rattle.geos_calls.specs.Effects.{Call, Choice}
 use Rattle.geos_calls.specs.VmCalls.{vlock, vunlock}
 use Rattle.geos_image.specs.Parts.{Parts}
 use Rattle.geos_machine.specs.declared.outcome.Outcome.{Outcome}
-use Rattle.geos_machine.specs.Runs.{Ran, entry_slots}
+use Rattle.geos_machine.specs.Runs.{Ran}
 use Rattle.geos_machine.proofs.Going.{each-wider}
 use Rattle.geos_machine.proofs.KeptSteps.{some-choice}
 use Rattle.geos_cli.specs.declared.script.Command.{Command}
@@ -16,7 +16,7 @@ use Rattle.geos_cli.specs.declared.script.Command.TheVariants as command
 use Rattle.geos_cli.specs.declared.script.Mode.{Mode}
 use Rattle.geos_cli.specs.declared.script.Numbered.{Numbered}
 use Rattle.geos_cli.specs.declared.script.Call.{Call as ScriptCall}
-use Rattle.geos_cli.specs.Script.{Allows, Does, GoesOn, Prints, PrintsPart, PrintsUpTo, Stage, Way, Comes, Then, Stays, LockedBehind, UnlockedBehind, Locks, Unlocks, RunsOn, lent_handles}
+use Rattle.geos_cli.specs.Script.{Allows, Does, GoesOn, Prints, PrintsPart, PrintsUpTo, Stage, Way, Comes, Then, Stays, LockedBehind, UnlockedBehind, Locks, Unlocks, RunsOn, lent_by}
 
 -- one more command prints behind the others, where they left it, and the script goes on
 pub prints-more : (mode : Mode) (allows : Allows) (image : Parts) (commands : List Numbered) (before between after : Stage) (text : List ℕ) (keeps : List Kept)
@@ -89,29 +89,29 @@ module _ (P Q : Allows) (wider : (before now : ℕ) (choice : Choice) → P befo
   )
 
   pub does-wider : (image : Parts) (c : Command) (result : Result (Unit {0}) Refusal) (before after : Stage) (text : List ℕ) (keeps : List Kept) → Does P image c result before after text keeps → Does Q image c result before after text keeps
-  does-wider image (command.Call call) result before after text keeps (done, inl ran) =
-      let lent = lent_handles (entry_slots image call.routine) call.handles in (
+  does-wider image (command.Call call) result before after text keeps (inl (done, ran)) =
+      let lent = lent_by image call in
+      inl (
         done,
-        inl (then-wider (Then (Locks P lent) (RunsOn P image call text)) (Unlocks P lent) (Then (Locks Q lent) (RunsOn Q image call text)) (Unlocks Q lent)
+        (then-wider (Then (Locks P lent) (RunsOn P image call text)) (Unlocks P lent) (Then (Locks Q lent) (RunsOn Q image call text)) (Unlocks Q lent)
             (then-wider (Locks P lent) (RunsOn P image call text) (Locks Q lent) (RunsOn Q image call text) (locked-wider Stays Stays (same-way Stays) lent) (runs-wider image call text))
             (unlocked-wider Stays Stays (same-way Stays) lent) before after keeps ran),
       )
-  does-wider image (command.Call call) result before after text keeps (done, inr (why, e, n)) = (
-    done,
-    inr (
-      why,
-      e,
-      record {
-        locked = n.locked;
-        refused = n.refused;
-        others = n.others;
-        in_order = n.in_order;
-        does = then-wider (Then (Locks P n.locked) (Comes P (vlock n.refused) (Err why))) (Unlocks P n.locked) (Then (Locks Q n.locked) (Comes Q (vlock n.refused) (Err why))) (Unlocks Q n.locked)
-            (then-wider (Locks P n.locked) (Comes P (vlock n.refused) (Err why)) (Locks Q n.locked) (Comes Q (vlock n.refused) (Err why)) (locked-wider Stays Stays (same-way Stays) n.locked) (comes-wider (vlock n.refused) (Err why)))
-            (unlocked-wider Stays Stays (same-way Stays) n.locked) before after keeps n.does;
-      },
-    ),
-  )
+  does-wider image (command.Call call) result before after text keeps (inr (why, is, e, n)) =
+      inr (
+        why,
+        is,
+        e,
+        record {
+          locked = n.locked;
+          refused = n.refused;
+          others = n.others;
+          in_order = n.in_order;
+          does = then-wider (Then (Locks P n.locked) (Comes P (vlock n.refused) (Err why))) (Unlocks P n.locked) (Then (Locks Q n.locked) (Comes Q (vlock n.refused) (Err why))) (Unlocks Q n.locked)
+              (then-wider (Locks P n.locked) (Comes P (vlock n.refused) (Err why)) (Locks Q n.locked) (Comes Q (vlock n.refused) (Err why)) (locked-wider Stays Stays (same-way Stays) n.locked) (comes-wider (vlock n.refused) (Err why)))
+              (unlocked-wider Stays Stays (same-way Stays) n.locked) before after keeps n.does;
+        },
+      )
   does-wider image (command.Commit how) result before after text keeps (choice, chosen, comes, e, k) = (choice, wider before.failed after.failed choice chosen, comes, e, k)
 
 -- Where what is allowed says that a count which is 0 behind a command was 0 before it, commands behind which it is 0 are carried out under
@@ -178,10 +178,10 @@ module _ (P Q : Allows) (back : (before now : ℕ) (choice : Choice) → P befor
   )
 
   does-back : (c : Command) (result : Result (Unit {0}) Refusal) (before after : Stage) (text : List ℕ) (keeps : List Kept) → Does P image c result before after text keeps → after.failed ≡ 0 → before.failed ≡ 0
-  does-back (command.Call call) result before after text keeps (done, inl ran) none =
-      let lent = lent_handles (entry_slots image call.routine) call.handles in
+  does-back (command.Call call) result before after text keeps (inl (done, ran)) none =
+      let lent = lent_by image call in
       then-back (Then (Locks P lent) (RunsOn P image call text)) (Unlocks P lent) (then-back (Locks P lent) (RunsOn P image call text) (locked-back Stays stays-back lent) (runs-back call text)) (unlocked-back Stays stays-back lent) before after keeps ran none
-  does-back (command.Call call) result before after text keeps (done, inr (why, e, n)) none =
+  does-back (command.Call call) result before after text keeps (inr (why, is, e, n)) none =
       then-back (Then (Locks P n.locked) (Comes P (vlock n.refused) (Err why))) (Unlocks P n.locked) (then-back (Locks P n.locked) (Comes P (vlock n.refused) (Err why)) (locked-back Stays stays-back n.locked) (comes-back (vlock n.refused) (Err why)))
       (unlocked-back Stays stays-back n.locked) before after keeps n.does none
   does-back (command.Commit how) result before after text keeps (choice, chosen, comes, e, k) none = back before.failed after.failed choice chosen none
@@ -194,29 +194,29 @@ module _ (P Q : Allows) (back : (before now : ℕ) (choice : Choice) → P befor
 
   does-still : (c : Command) (result : Result (Unit {0}) Refusal) (before after : Stage) (text : List ℕ) (keeps : List Kept) → after.failed ≡ 0
       → Does P image c result before after text keeps → Does Q image c result before after text keeps
-  does-still (command.Call call) result before after text keeps zero (done, inl ran) =
-      let lent = lent_handles (entry_slots image call.routine) call.handles in (
+  does-still (command.Call call) result before after text keeps zero (inl (done, ran)) =
+      let lent = lent_by image call in
+      inl (
         done,
-        inl (then-still (Then (Locks P lent) (RunsOn P image call text)) (Unlocks P lent) (Then (Locks Q lent) (RunsOn Q image call text)) (Unlocks Q lent)
+        (then-still (Then (Locks P lent) (RunsOn P image call text)) (Unlocks P lent) (Then (Locks Q lent) (RunsOn Q image call text)) (Unlocks Q lent)
             (then-still (Locks P lent) (RunsOn P image call text) (Locks Q lent) (RunsOn Q image call text) (locked-still Stays Stays stays-still lent) (runs-still call text) (runs-back call text))
             (unlocked-still Stays Stays stays-still lent) (unlocked-back Stays stays-back lent) before after keeps zero ran),
       )
-  does-still (command.Call call) result before after text keeps zero (done, inr (why, e, n)) = (
-    done,
-    inr (
-      why,
-      e,
-      record {
-        locked = n.locked;
-        refused = n.refused;
-        others = n.others;
-        in_order = n.in_order;
-        does = then-still (Then (Locks P n.locked) (Comes P (vlock n.refused) (Err why))) (Unlocks P n.locked) (Then (Locks Q n.locked) (Comes Q (vlock n.refused) (Err why))) (Unlocks Q n.locked)
-            (then-still (Locks P n.locked) (Comes P (vlock n.refused) (Err why)) (Locks Q n.locked) (Comes Q (vlock n.refused) (Err why)) (locked-still Stays Stays stays-still n.locked) (comes-still (vlock n.refused) (Err why)) (comes-back (vlock n.refused) (Err why)))
-            (unlocked-still Stays Stays stays-still n.locked) (unlocked-back Stays stays-back n.locked) before after keeps zero n.does;
-      },
-    ),
-  )
+  does-still (command.Call call) result before after text keeps zero (inr (why, is, e, n)) =
+      inr (
+        why,
+        is,
+        e,
+        record {
+          locked = n.locked;
+          refused = n.refused;
+          others = n.others;
+          in_order = n.in_order;
+          does = then-still (Then (Locks P n.locked) (Comes P (vlock n.refused) (Err why))) (Unlocks P n.locked) (Then (Locks Q n.locked) (Comes Q (vlock n.refused) (Err why))) (Unlocks Q n.locked)
+              (then-still (Locks P n.locked) (Comes P (vlock n.refused) (Err why)) (Locks Q n.locked) (Comes Q (vlock n.refused) (Err why)) (locked-still Stays Stays stays-still n.locked) (comes-still (vlock n.refused) (Err why)) (comes-back (vlock n.refused) (Err why)))
+              (unlocked-still Stays Stays stays-still n.locked) (unlocked-back Stays stays-back n.locked) before after keeps zero n.does;
+        },
+      )
   does-still (command.Commit how) result before after text keeps zero (choice, chosen, comes, e, k) = (choice, wider before.failed after.failed (back before.failed after.failed choice chosen zero) zero choice chosen, comes, e, k)
 
   pub prints-still : (commands : List Numbered) (before after : Stage) (text : List ℕ) (keeps : List Kept) → after.failed ≡ 0

@@ -19,7 +19,7 @@ use Rattle.geos_cli.specs.declared.script.Command.TheVariants as command
 use Rattle.geos_cli.specs.declared.script.Mode.{Mode}
 use Rattle.geos_cli.specs.declared.script.Mode.TheVariants.{Lenient, Strict}
 use Rattle.geos_cli.specs.declared.script.Numbered.{Numbered}
-use Rattle.geos_cli.specs.declared.script.RefusedCommit.{RefusedCommit}
+use Rattle.geos_cli.specs.declared.script.RefusedCommand.{RefusedCommand}
 use Rattle.geos_cli.specs.Calls.{Asks}
 use Rattle.geos_cli.specs.Forms.{shown_in}
 use Rattle.geos_cli.specs.Script.{commands_of, on_line, GoesOn, Loads, RanCommand}
@@ -54,8 +54,8 @@ RunsInForm {D} medium form mode image (here ∷ commands) kernel later text =
     × RunsInForm medium form mode image commands between later others
     × (text ≡ shown_in form image here.command plain ++ others)
 
--- so some of them are, and the last one is a commit that is refused, at this line and with this refusal; the others are not begun
-pub record RefusesInForm {D : Type 0} (medium : Medium D) (form : Form) (mode : Mode) (image : Parts) (commands : List Numbered) (refused : RefusedCommit) (kernel later : KernelOn D) (text : List ℕ) : Type 0 where
+-- so some of them are, and the last one is refused, at this line and with this refusal; the others are not begun
+pub record RefusesInForm {D : Type 0} (medium : Medium D) (form : Form) (mode : Mode) (image : Parts) (commands : List Numbered) (refused : RefusedCommand) (kernel later : KernelOn D) (text : List ℕ) : Type 0 where
   pub done : List Numbered
   pub last : Numbered
   pub others : List Numbered
@@ -68,8 +68,8 @@ pub record RefusesInForm {D : Type 0} (medium : Medium D) (form : Form) (mode : 
   pub refuses : RunsPlainly medium image last.command (Err refused.refusal) between later plain
   pub written : text ≡ earlier ++ shown_in form image last.command plain
 
--- commands are carried out, all or up to this refused commit, as far as the mode goes on
-abbrev pub RunsTo : {D : Type 0} → Medium D → Form → Mode → Parts → List Numbered → Option RefusedCommit → KernelOn D → KernelOn D → List ℕ → Type 0
+-- commands are carried out, all or up to this refused command, as far as the mode goes on
+abbrev pub RunsTo : {D : Type 0} → Medium D → Form → Mode → Parts → List Numbered → Option RefusedCommand → KernelOn D → KernelOn D → List ℕ → Type 0
 RunsTo medium form mode image commands None kernel later text = RunsInForm medium form mode image commands kernel later text
 RunsTo medium form mode image commands (Some refused) kernel later text = (mode ≡ Strict) × RefusesInForm medium form mode image commands refused kernel later text
 
@@ -95,7 +95,7 @@ pub record StopsInForm {D : Type 0} (medium : Medium D) (form : Form) (mode : Mo
   pub written : text ≡ earlier ++ part
 
 -- commands ran, and a writer got their text
-abbrev pub RanInForm : {D : Type 0} → Medium D → Form → Mode → Parts → List Numbered → Option RefusedCommit → KernelOn D → KernelOn D → Option (List ℕ) → Option (List ℕ) → Type 0
+abbrev pub RanInForm : {D : Type 0} → Medium D → Form → Mode → Parts → List Numbered → Option RefusedCommand → KernelOn D → KernelOn D → Option (List ℕ) → Option (List ℕ) → Type 0
 RanInForm medium form mode image commands refused kernel later old new =
     (text : List ℕ) × RunsTo medium form mode image commands refused kernel later text × Appends old new text
 
@@ -104,8 +104,8 @@ abbrev pub StoppedInForm : {D : Type 0} → Medium D → Form → Mode → Parts
 StoppedInForm medium form mode image commands kernel later old new =
     (text : List ℕ) × StopsInForm medium form mode image commands kernel later text × Appends old new text
 
--- a script ran on the image that the bytes spell, to its end or to this refused commit, and a writer got its text
-abbrev pub RanScriptInForm : {D : Type 0} → Medium D → Form → Mode → List ℕ → List ℕ → Option RefusedCommit → KernelOn D → KernelOn D → Option (List ℕ) → Option (List ℕ) → Type 0
+-- a script ran on the image that the bytes spell, to its end or to this refused command, and a writer got its text
+abbrev pub RanScriptInForm : {D : Type 0} → Medium D → Form → Mode → List ℕ → List ℕ → Option RefusedCommand → KernelOn D → KernelOn D → Option (List ℕ) → Option (List ℕ) → Type 0
 RanScriptInForm medium form mode bytes script refused kernel later old new =
     (image : Parts) × (length script ≤ most_bytes) × Loads bytes (lines script) image
     × RanInForm medium form mode image (commands_of image (lines script)) refused kernel later old new
@@ -128,7 +128,7 @@ StoppedCallInForm medium form bytes name numbers kernel later old new =
     (image : Parts) × (call : Call) × Asks bytes name numbers image call
     × StoppedInForm medium form Lenient image (on_line 1 (command.Call call) ∷ []) kernel later old new
 
--- what a script does behind a refused commit
+-- what a script does behind a refused command
 abbrev pub mode_of : Bool → Mode
 mode_of strict = if strict then Strict else Lenient
 

@@ -32,7 +32,7 @@ use Rattle.geos_cli.specs.declared.script.Command.TheVariants as command
 use Rattle.geos_cli.specs.declared.script.Mode.{Mode}
 use Rattle.geos_cli.specs.declared.script.Mode.TheVariants.{Lenient, Strict}
 use Rattle.geos_cli.specs.declared.script.Numbered.{Numbered}
-use Rattle.geos_cli.specs.declared.script.RefusedCommit.{RefusedCommit}
+use Rattle.geos_cli.specs.declared.script.RefusedCommand.{RefusedCommand}
 use Rattle.geos_cli.specs.Commits.{is_flush_due}
 pub use Rattle.geos_cli.specs.Stages.{LockedMore, Stage, stage_of, Allows, IsAllowed, Way, Comes, Then, Stays, LockedBehind, UnlockedBehind, Locks, Unlocks, lent_handle, lent_handles, once, times}
 use Rattle.geos_input.specs.declared.fault.ScriptFault.{ScriptFault}
@@ -159,7 +159,7 @@ commands_of image lines = commands_from image 1 lines
 abbrev pub printed : List ℕ → List ℕ
 printed words = flat_map (λ word. decimal word ++ 10 ∷ []) words
 
--- nothing of a commit that was done, or the number of its refusal, on a line
+-- nothing of what was done, or the number of the refusal, on a line
 abbrev pub committed : Result (Unit {0}) Refusal → List ℕ
 committed (Ok done) = []
 committed (Err refusal) = codes "refused " ++ (decimal (refusal_number refusal) ++ 10 ∷ [])
@@ -190,13 +190,12 @@ pub record NotLent (allows : Allows) (handles : List ℕ) (why : Refusal) (befor
 
 -- a command takes one memory to another under allowed choices, comes to this result, and prints this: a
 -- call, by the locks of the blocks that it lends, a model's run, what that puts out, and the unlocks, or by the refusal of
--- a lock; a commit, by its row in the table of calls, its refusal, which alone is a result. And that is what the file
--- keeps meanwhile, one state after another
+-- a lock, which is its result then; a commit, by its row in the table of calls, its refusal, which alone is a result. And
+-- that is what the file keeps meanwhile, one state after another
 abbrev pub Does : Allows → Parts → Command → Result (Unit {0}) Refusal → Stage → Stage → List ℕ → List Kept → Type 0
 Does allows image (command.Call call) result before after text keeps =
-    (result ≡ Ok tt)
-    × (RunsLent allows image call text before after keeps
-    ⊎ ((why : Refusal) × (text ≡ committed (Err why)) × NotLent allows (lent_by image call) why before after keeps))
+    ((result ≡ Ok tt) × RunsLent allows image call text before after keeps)
+    ⊎ ((why : Refusal) × (result ≡ Err why) × (text ≡ committed (Err why)) × NotLent allows (lent_by image call) why before after keeps)
 Does allows image (command.Commit how) result before after text keeps =
     (choice : Choice)
     × allows before.failed after.failed choice
@@ -204,7 +203,7 @@ Does allows image (command.Commit how) result before after text keeps =
     × (text ≡ committed result)
     × (keeps ≡ before.memory.file.kept ∷ after.memory.file.kept ∷ [])
 
--- a script goes on behind a command that came to this result: a strict one only where no commit was refused
+-- a script goes on behind a command that came to this result: a strict one only where it was not refused
 abbrev pub GoesOn : Mode → Result (Unit {0}) Refusal → Type 0
 GoesOn Lenient result = Unit {0}
 GoesOn Strict result = result ≡ Ok tt
@@ -226,10 +225,10 @@ Prints mode allows image (here ∷ commands) before after text keeps =
     × (text ≡ shown ++ others)
     × (keeps ≡ own ++ rest)
 
--- what the commands have printed where one is a commit that was refused, at this line and with this
+-- what the commands have printed where one was refused, at this line and with this
 -- refusal, and is the last: those before it are done, and behind each the script went on; it prints its
 -- refusal; the others were not begun
-pub record PrintsRefused (mode : Mode) (allows : Allows) (image : Parts) (commands : List Numbered) (refused : RefusedCommit) (before after : Stage) (text : List ℕ) (keeps : List Kept) : Type 0 where
+pub record PrintsRefused (mode : Mode) (allows : Allows) (image : Parts) (commands : List Numbered) (refused : RefusedCommand) (before after : Stage) (text : List ℕ) (keeps : List Kept) : Type 0 where
   pub done : List Numbered
   pub last : Numbered
   pub others : List Numbered
@@ -245,8 +244,8 @@ pub record PrintsRefused (mode : Mode) (allows : Allows) (image : Parts) (comman
   pub written : text ≡ earlier ++ own
   pub kept : keeps ≡ kept_earlier ++ kept_last
 
--- what the commands of a script have printed when it ends: behind all of them, or behind a refused commit
-abbrev pub PrintsTo : Mode → Allows → Parts → List Numbered → Option RefusedCommit → Stage → Stage → List ℕ → List Kept → Type 0
+-- what the commands of a script have printed when it ends: behind all of them, or behind a refused one
+abbrev pub PrintsTo : Mode → Allows → Parts → List Numbered → Option RefusedCommand → Stage → Stage → List ℕ → List Kept → Type 0
 PrintsTo mode allows image commands None before after text keeps = Prints mode allows image commands before after text keeps
 PrintsTo mode allows image commands (Some refused) before after text keeps = PrintsRefused mode allows image commands refused before after text keeps
 
@@ -322,9 +321,9 @@ StoppedCommand honest within image command kernel later old new =
     × Leads honest within kernel later (λ before after keeps. Does (IsAllowed honest) image command result before after (part ++ rest) keeps)
     × Appends old new part
 
--- the commands were carried out, from kernel to kernel, all or up to this refused commit, and a writer
+-- the commands were carried out, from kernel to kernel, all or up to this refused one, and a writer
 -- got their text
-abbrev pub RanCommands : Mode → Type 0 → Within → Parts → List Numbered → Option RefusedCommit → KernelState → KernelState → Option (List ℕ) → Option (List ℕ) → Type 0
+abbrev pub RanCommands : Mode → Type 0 → Within → Parts → List Numbered → Option RefusedCommand → KernelState → KernelState → Option (List ℕ) → Option (List ℕ) → Type 0
 RanCommands mode honest within image commands refused kernel later old new =
     (text : List ℕ)
     × Leads honest within kernel later (λ before after keeps. From (PrintsTo mode (IsAllowed honest) image commands refused before after text) before keeps)
@@ -357,8 +356,8 @@ IsBadLine image lines Memory = Unit {0}
 IsBadLine image lines _ = ⊥
 
 -- a script of these lines runs on the image that the bytes spell, from stage to stage, to its end or
--- to this refused commit, and prints the text
-abbrev pub Runs : Mode → Allows → List ℕ → List (List ℕ) → Option RefusedCommit → Stage → Stage → List ℕ → List Kept → Type 0
+-- to this refused command, and prints the text
+abbrev pub Runs : Mode → Allows → List ℕ → List (List ℕ) → Option RefusedCommand → Stage → Stage → List ℕ → List Kept → Type 0
 Runs mode allows bytes lines refused before after text keeps =
     (image : Parts) × Loads bytes lines image × PrintsTo mode allows image (commands_of image lines) refused before after text keeps
 
@@ -381,7 +380,7 @@ EndsBy bytes lines Read = ⊥
 
 -- the script runs on the image that the bytes spell, from stage to stage, to its end or to this refused
 -- commit, and prints the text
-abbrev pub RunsScript : Mode → Allows → List ℕ → List ℕ → Option RefusedCommit → Stage → Stage → List ℕ → List Kept → Type 0
+abbrev pub RunsScript : Mode → Allows → List ℕ → List ℕ → Option RefusedCommand → Stage → Stage → List ℕ → List Kept → Type 0
 RunsScript mode allows bytes script refused before after text keeps =
     (length script ≤ most_bytes) × Runs mode allows bytes (lines script) refused before after text keeps
 
@@ -390,8 +389,8 @@ RunsScript mode allows bytes script refused before after text keeps =
 abbrev pub StopsScript : Mode → Allows → List ℕ → List ℕ → Stage → Stage → List ℕ → List Kept → Type 0
 StopsScript mode allows bytes script before after text keeps = (length script ≤ most_bytes) × Stops mode allows bytes (lines script) before after text keeps
 
--- the script ran, from kernel to kernel, to its end or to this refused commit, and a writer got its text
-abbrev pub RanScript : Mode → Type 0 → Within → List ℕ → List ℕ → Option RefusedCommit → KernelState → KernelState → Option (List ℕ) → Option (List ℕ) → Type 0
+-- the script ran, from kernel to kernel, to its end or to this refused command, and a writer got its text
+abbrev pub RanScript : Mode → Type 0 → Within → List ℕ → List ℕ → Option RefusedCommand → KernelState → KernelState → Option (List ℕ) → Option (List ℕ) → Type 0
 RanScript mode honest within bytes script refused kernel later old new =
     (text : List ℕ)
     × Leads honest within kernel later (λ before after keeps. From (RunsScript mode (IsAllowed honest) bytes script refused before after text) before keeps)

@@ -22,7 +22,7 @@ use crate::form::{Form, shown_in};
 use crate::lines::commands_of;
 use crate::output::{give_before, write};
 use crate::script::{
-    Command, Mode, Numbered, RefusedCommit, carry_out, ended_by, first_commit, load, may_commit,
+    Command, Mode, Numbered, RefusedCommand, carry_out, ended_by, first_commit, load, may_commit,
 };
 use geos_input::{Counted, MOST_BYTES, ScriptFault};
 use geos_kernel::Kernel;
@@ -79,7 +79,7 @@ fn carry_out_all_in_form<W: Write, D: Device + Drop>(
     commands: &[Numbered],
     kernel: &mut Kernel<D>,
     out: &mut Counted<W>,
-) -> Result<Option<RefusedCommit>, ScriptFault>
+) -> Result<Option<RefusedCommand>, ScriptFault>
     requires admitted { All (λ c. IsAdmitted checked.now c.command) commands.now }
     requires unlocked { NoneLocked kernel.old.core.blocks }
     ensures ran { IfOk result (λ refused. RanInForm D.medium form mode checked.now commands.now refused kernel.old kernel.new
@@ -111,7 +111,7 @@ fn carry_out_all_in_form<W: Write, D: Device + Drop>(
     Ok(None)
 }
 
-/// What a script does behind a refused commit.
+/// What a script does behind a refused command.
 fn mode_of(strict: bool) -> Mode
     ensures { result ≡ mode_of strict }
 {
@@ -130,7 +130,7 @@ pub fn run_script_in_form<W: Write, D: Device + Drop>(
     script: &[u8],
     kernel: &mut Kernel<D>,
     out: &mut Counted<W>,
-) -> Result<Option<RefusedCommit>, ScriptFault>
+) -> Result<Option<RefusedCommand>, ScriptFault>
     requires unlocked { NoneLocked kernel.old.core.blocks }
     // Each command did what it does plainly, and the writer got what they printed, in the form.
     ensures ran { IfOk result (λ refused. RanScriptInForm D.medium form (mode_of strict) image.now script.now refused kernel.old kernel.new

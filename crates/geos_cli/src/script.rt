@@ -60,7 +60,7 @@ pub struct Numbered {
     pub command: Command,
 }
 
-/// What a script does behind a commit that was refused.
+/// What a script does behind a command that was refused.
 #[derive(Clone, Copy)]
 pub enum Mode {
     /// It goes on.
@@ -69,9 +69,9 @@ pub enum Mode {
     Strict,
 }
 
-/// A commit of a script that was refused.
+/// A command of a script that was refused: a commit, or a call that lends a block which can't be locked.
 #[derive(Clone, Copy)]
-pub struct RefusedCommit {
+pub struct RefusedCommand {
     /// The number of its line, counted from 1.
     pub line: usize,
     /// Why it was refused.
@@ -129,8 +129,8 @@ fn keep<D: Device + Drop>(kernel: &mut Kernel<D>, how: How) -> Result<(), Refusa
     done
 }
 
-/// Carries out a command, prints what a call puts out, or the number of a refusal, and gives what a
-/// commit came to. Where the command may commit, what was printed before has been given out.
+/// Carries out a command, prints what a call puts out, or the number of a refusal, and gives what the
+/// command came to. Where the command may commit, what was printed before has been given out.
 pub(crate) fn carry_out<W: Write, D: Device + Drop>(
     machine: &mut Machine,
     checked: &Checked,
@@ -155,13 +155,16 @@ pub(crate) fn carry_out<W: Write, D: Device + Drop>(
     ensures failed { IfErr result (λ fault. (fault ≡ Write) × Rose out.old.failures out.new.failures) }
 {
     match command {
-        Command::Call(call) => {
-            match run_lent(machine, checked, call, kernel) {
-                Ok(outcome) => print(outcome.output.as_slice(), out)?,
-                Err(refusal) => print_refusal(refusal, out)?,
+        Command::Call(call) => match run_lent(machine, checked, call, kernel) {
+            Ok(outcome) => {
+                print(outcome.output.as_slice(), out)?;
+                Ok(Ok(()))
             }
-            Ok(Ok(()))
-        }
+            Err(refusal) => {
+                print_refusal(refusal, out)?;
+                Ok(Err(refusal))
+            }
+        },
         Command::Commit(how) => match keep(kernel, *how) {
             Ok(()) => Ok(Ok(())),
             Err(refusal) => {
@@ -172,17 +175,17 @@ pub(crate) fn carry_out<W: Write, D: Device + Drop>(
     }
 }
 
-/// The refused commit behind which the script does not go on, if the command of the line is one.
-pub(crate) fn ended_by(mode: Mode, line: usize, done: Result<(), Refusal>) -> Option<RefusedCommit>
+/// The refused command behind which the script does not go on, if the command of the line is one.
+pub(crate) fn ended_by(mode: Mode, line: usize, done: Result<(), Refusal>) -> Option<RefusedCommand>
     ensures { MatchOption result (GoesOn mode done) (λ refused. (mode ≡ Strict) × (refused.line ≡ line) × (done ≡ Err refused.refusal)) }
 {
     match (mode, done) {
-        (Mode::Strict, Err(refusal)) => Some(RefusedCommit { line, refusal }),
+        (Mode::Strict, Err(refusal)) => Some(RefusedCommand { line, refusal }),
         _ => None,
     }
 }
 
-/// Carries out the commands one after another, all of them or up to the refused commit behind which
+/// Carries out the commands one after another, all of them or up to the refused command behind which
 /// the script does not go on. Each finds the kernel as the one before left it, and what those before
 /// printed is flushed where it may commit, or the last one may have.
 pub(crate) fn carry_out_all<W: Write, D: Device + Drop>(
@@ -191,7 +194,7 @@ pub(crate) fn carry_out_all<W: Write, D: Device + Drop>(
     commands: &[Numbered],
     kernel: &mut Kernel<D>,
     out: &mut Counted<W>,
-) -> Result<Option<RefusedCommit>, ScriptFault>
+) -> Result<Option<RefusedCommand>, ScriptFault>
     requires admitted { All (λ c. IsAdmitted checked.now c.command) commands.now }
     requires unlocked { NoneLocked kernel.old.core.blocks }
     ensures ok { IfOk result (λ refused. RanCommands mode (D.medium.honest kernel.old.device)
@@ -237,7 +240,7 @@ pub(crate) fn load(alloc: Global, image: &[u8]) -> Result<Checked, ScriptFault>
     }
 }
 
-/// Checks an image and runs a script, to its end or to the refused commit behind which it does not go on.
+/// Checks an image and runs a script, to its end or to the refused command behind which it does not go on.
 fn run_in_mode<W: Write, D: Device + Drop>(
     alloc: Global,
     mode: Mode,
@@ -245,7 +248,7 @@ fn run_in_mode<W: Write, D: Device + Drop>(
     script: &[u8],
     kernel: &mut Kernel<D>,
     out: &mut Counted<W>,
-) -> Result<Option<RefusedCommit>, ScriptFault>
+) -> Result<Option<RefusedCommand>, ScriptFault>
     requires unlocked { NoneLocked kernel.old.core.blocks }
     ensures ran { IfOk result (λ refused. RanScript mode (D.medium.honest kernel.old.device)
         (Throughout D.medium kernel.old.device kernel.new.device) image.now script.now refused kernel.old.core kernel.new.core
@@ -275,8 +278,8 @@ fn run_in_mode<W: Write, D: Device + Drop>(
     carry_out_all(mode, &checked, &commands, kernel, out)
 }
 
-/// Checks an image and runs a script: calls, which print the words that they put out, and commits
-/// (`update`, `save`, `revert`), which print nothing, or `refused` and a number. Each command finds
+/// Checks an image and runs a script: calls, which print the words that they put out, or `refused` and a number where a block
+/// that they lend can't be locked, and commits (`update`, `save`, `revert`), which print nothing, or `refused` and a number. Each command finds
 /// the kernel's memory as the one before left it, and the kernel keeps what the last one left. The
 /// script is read whole first, and a bad one runs nothing. What commands have printed is flushed
 /// before each that may commit, also a call, and behind it before the next one; behind the last one
@@ -333,19 +336,19 @@ pub fn run_script<W: Write, D: Device + Drop>(
     }
 }
 
-/// Runs a script as `run_script`, but ends behind the first commit that is refused: it is answered, once
+/// Runs a script as `run_script`, but ends behind the first command that is refused: it is answered, once
 /// its `refused` and number are printed, and no command behind it is begun. Where none is refused, `None`
 /// is answered, and all is as of `run_script`. What a routine's own commits come to is the routine's to
-/// handle: no call is refused. The faults are those of `run_script`.
+/// handle, and refuses no call. The faults are those of `run_script`.
 pub fn run_script_strictly<W: Write, D: Device + Drop>(
     alloc: Global,
     image: &[u8],
     script: &[u8],
     kernel: &mut Kernel<D>,
     out: &mut Counted<W>,
-) -> Result<Option<RefusedCommit>, ScriptFault>
+) -> Result<Option<RefusedCommand>, ScriptFault>
     requires unlocked { NoneLocked kernel.old.core.blocks }
-    // The commits are done, all or up to the one that is answered, and nothing behind that was begun.
+    // The commands are done, all or up to the one that is answered, and nothing behind that was begun.
     // What it printed; and stopped at any moment, opening the file finds what the model's run of the
     // script has as kept in one of its states.
     ensures ran { IfOk result (λ refused. RanScript Strict (D.medium.honest kernel.old.device)

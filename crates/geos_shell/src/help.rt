@@ -70,12 +70,14 @@ AT counts its bytes from 0. FORM is --label, and one of --hex, --signed and --te
 Without words a session is read from standard input, at most 1,048,576 bytes of it. It is
   1. an image, a set of routines in hexadecimal digits;
   2. a line `end`;
-  3. a script, with one command a line: `call NAME n..` runs the public routine of that name on
-     at most eight numbers, its words w0 to w7; `update`, `save` and `revert` are what VUPDATE,
-     VSAVE and VREVERT do. A line may be blank; text from `;` on is skipped.
+  3. a script, with one command a line: `call NAME n.. @h..` runs the public routine of that name on
+     at most eight numbers, its words w0 to w7, and lends it blocks, by their handles; `update`,
+     `save` and `revert` are what VUPDATE, VSAVE and VREVERT do. A line may be blank; text from `;` on
+     is skipped.
 
 Nothing runs unless the whole image is accepted and no line of the script is bad. A call prints
-each word that its routine puts out, in decimal on a line; the others print nothing, or `refused N`.
+each word that its routine puts out, in decimal on a line, or `refused N` where a block can't be lent;
+the others print nothing, or `refused N`.
 A session has a VM file of its own, in memory; `call` and `run` run on one that lasts.
 
 Status: 0 where all was done, also where lines `refused N` say that something was not; 1 after a fault,
@@ -196,11 +198,14 @@ the file can't be made.";
 const RUNS: &str = "\
 IMAGE may be a text too: what does not begin as an image does is read as one, and assembled in memory.
 SCRIPT has a command a line, as a session behind its image:
-  call NAME n..   runs the public routine on at most eight numbers, and prints what it puts out
-  update          the file keeps its blocks as they are
-  save            the same, and they are what `revert` goes back to
-  revert          the blocks are again as they were saved last; the file keeps that
-These three print nothing, or `refused N`: 6 where the blocks are too long, 11 where the disk fails,
+  call NAME n.. @h..  runs the public routine on at most eight numbers, and prints what it puts out
+  update              the file keeps its blocks as they are
+  save                the same, and they are what `revert` goes back to
+  revert              the blocks are again as they were saved last; the file keeps that
+Behind the numbers of a call stands the handle of a block for each slot that the routine borrows, in their
+order. These blocks are locked, and unlocked behind the run. Where one can't be, `refused N` is printed, and
+the routine does not run.
+The other three print nothing, or `refused N`: 6 where the blocks are too long, 11 where the disk fails,
 12 where an earlier failure left it open what the file has. What was changed behind the last of them
 is lost: end a script with `update`, or have a routine do VUPDATE.
 A script goes on behind a refusal, and its status is 0. With --strict nothing runs behind the first of

@@ -4,6 +4,10 @@ printf 'call put 77\ncall peek @1\ncall peek @9\ncall poke 8 @1\ncall peek @1\nc
 printf 'call put 77\ncall peek\n' | "$1" call "$text" 2>&1
 echo "status $?"
 
+# A strict script ends where a block can't be lent.
+printf 'call put 77\ncall peek @9\ncall peek @1\n' | "$1" call "$text" --strict 2>&1
+echo "status $?"
+
 # Labels say which blocks were lent.
 printf 'call put 77\ncall peek @1\ncall peek 0 5 0 @01\ncall two @9 @1\n' | "$1" call "$text" --label --hex
 
