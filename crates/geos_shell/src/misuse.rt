@@ -16,6 +16,8 @@ pub(crate) enum Misuse {
     TwoOfOneStream,
     /// A text or an image is to come on the standard input, and no routine is named, so that a script is to come there too.
     NoName,
+    /// A routine is named, so that no script is to run, and it is said how one ends.
+    NoScript,
     /// A word of an output is to be written in two ways, of a command of this usage.
     TwoWritings(Usage),
     /// The image of a text is to take the place of the text.
@@ -51,6 +53,9 @@ impl Misuse {
             Misuse::NoName => {
                 String::from_str(alloc, "IN is the standard input, so NAME has to be given")
             }
+            Misuse::NoScript => {
+                String::from_str(alloc, "'--strict' is for a script, so NAME can't be given")
+            }
             Misuse::TwoWritings(_) => {
                 String::from_str(
                     alloc,
@@ -70,7 +75,7 @@ impl Misuse {
             Misuse::WrongNumber(number) => number.usage.text(),
             Misuse::TwoWritings(usage) | Misuse::NoWord(_, usage) => usage.text(),
             Misuse::TwoOfOneStream => Usage::Run.text(),
-            Misuse::NoName | Misuse::Memory => Usage::Call.text(),
+            Misuse::NoName | Misuse::NoScript | Misuse::Memory => Usage::Call.text(),
             Misuse::ImageOntoText => Usage::Asm.text(),
         }
     }

@@ -40,7 +40,7 @@ pub enum Request<'a> {
     /// To run the session on the standard input.
     Session,
     /// To run one call of a text's or an image's routines, or with none the script on the standard input; on a VM file, or with none on
-    /// one in memory, with so many bytes for blocks in memory; a script to its end, or, strictly, to its first refused commit.
+    /// one in memory, with so many bytes for blocks in memory; a script to its end, or, strictly, to its first refused command.
     Call {
         image: &'a str,
         call: Option<CallWords<'a>>,
@@ -72,7 +72,7 @@ pub enum Request<'a> {
         area: u32,
     },
     /// To run a script on a VM file, with so many bytes for blocks in memory; to its end, or, strictly, to
-    /// its first refused commit.
+    /// its first refused command.
     Run {
         image: &'a str,
         file: &'a str,
@@ -138,12 +138,16 @@ fn call_of<'a>(alloc: Global, words: &ArgMatches<'a>) -> Result<Request<'a>, Mis
     if call.is_none() && is_stream(image) {
         return Err(Misuse::NoName);
     }
+    let strict = words.get_flag("strict");
+    if call.is_some() && strict {
+        return Err(Misuse::NoScript);
+    }
     Ok(Request::Call {
         image,
         call,
         file: words.get_str("file"),
         region,
-        strict: words.get_flag("strict"),
+        strict,
         form: OutputForm::of(words, Usage::Call)?,
     })
 }
