@@ -1,6 +1,6 @@
 //! The kernel: blocks of global memory, each with a heap of chunks, beside those of a VM file.
 
-ghost use Rattle.std.specs.Prelude.{true, false, ◌≡◌, ◌<◌, ◌≤◌, ◌↔◌, IfOk, IfErr, IsTrue, OnOk, OnErr, Ok, Err};
+ghost use Rattle.std.specs.Prelude.{false, ◌≡◌, ◌≤◌, ◌↔◌, IfOk, IfErr, IsTrue, OnOk, OnErr, Ok, Err};
 ghost use Rattle.block_handles.specs.Names.{IsHandle, slot_of};
 ghost use Rattle.block_handles.specs.Store.{IsThere};
 ghost use Rattle.vm_blocks.specs.Listed.{NoneLocked};

@@ -1,6 +1,6 @@
 //! The rules on what an instruction does with slots and pointers.
 
-ghost use Rattle.std.specs.Prelude.{◌≡◌, ◌<◌};
+ghost use Rattle.std.specs.Prelude.{◌≡◌};
 ghost use Rattle.std.specs.List.{list_any};
 ghost use Rattle.geos_image.specs.Fields.{FieldsFit};
 ghost use Rattle.geos_opcodes.specs.Facts.{uses_of};

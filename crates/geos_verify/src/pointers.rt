@@ -1,6 +1,6 @@
 //! What a row says of pointers, and what an instruction changes of it.
 
-ghost use Rattle.std.specs.Prelude.{◌≡◌, ◌<◌, ◌==◌, map};
+ghost use Rattle.std.specs.Prelude.{◌≡◌, ◌==◌, map};
 ghost use Rattle.geos_opcodes.specs.declared.uses.Kind.TheVariants as kind;
 ghost use Rattle.geos_verify.specs.Uses.{PointerFits};
 ghost use Rattle.geos_verify.specs.Rows.{pointer_at, slot_state, holds_kind, may_be_same, stale_where, pointers_kept, with_pointer};

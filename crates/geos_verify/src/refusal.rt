@@ -1,10 +1,8 @@
 //! The rules at one point.
 
-ghost use Rattle.std.specs.Prelude.{◌≡◌, ◌<◌, ◌≤◌, ◌+◌, ◌||◌, ◌&&◌, length, true, false, slice_get, Some, IfSome};
-ghost use Rattle.geos_image.specs.Parts.{start_of};
+ghost use Rattle.std.specs.Prelude.{◌≡◌, ◌<◌, ◌≤◌, ◌+◌, length, true, false, slice_get, IfSome};
 ghost use Rattle.geos_image.specs.Fields.{FieldsFit, TargetFits, CalleeFits};
 ghost use Rattle.geos_image.specs.Keys.{falls_through, branches, gives};
-ghost use Rattle.geos_verify.specs.declared.place.Place.{Place};
 ghost use Rattle.geos_verify.specs.Places.{places, RowAt};
 ghost use Rattle.geos_verify.specs.Rows.{row_along, row_branching};
 ghost use Rattle.geos_verify.specs.Rules.{has_place, returns, leaves_routine, entry_misfits, call_misfits, exit_misfits, misfits_at, edge_misfits, unpaid_along, unpaid_branching, edge_unpaid, over_budget, refusal, GoesWithin};

@@ -1,8 +1,7 @@
 //! Calls that look at a heap.
 ghost use Rattle.std.specs.Prelude.{◌≡◌, ◌≢◌, ◌+◌, ◌<◌, ◌≤◌, length, MatchResult, MatchOption, IfOk, IsSomeAnd};
 ghost use Rattle.lmem_raw.specs.Bytes.{part};
-ghost use Rattle.geos_terms.specs.Bytes.{word};
-ghost use Rattle.geos_terms.specs.Chunks.{chunk_of, entry_bytes, handle_of, used_bytes};
+ghost use Rattle.geos_terms.specs.Chunks.{chunk_of, entry_bytes, used_bytes};
 ghost use Rattle.geos_terms.specs.Block.{chunks, entries, entry, place_of, place_at, IsPlaced};
 ghost use Rattle.geos_terms.specs.Heap.{IsHeap};
 ghost use Rattle.lmem_block.specs.Found.{HasEntry, IsLast, IsNext};

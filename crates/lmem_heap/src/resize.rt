@@ -1,5 +1,5 @@
 //! Chunks that get another length.
-ghost use Rattle.std.specs.Prelude.{◌≡◌, ◌≢◌, ◌+◌, ◌-◌, ◌<◌, ◌≤◌, length, slice_set, IfErr, IsSome, OnErr, OnOk};
+ghost use Rattle.std.specs.Prelude.{◌≡◌, ◌≢◌, ◌+◌, ◌<◌, ◌≤◌, length, slice_set, IfErr, IsSome, OnErr, OnOk};
 ghost use Rattle.geos_terms.specs.Chunks.{bytes_of, chunk_of, entry_bytes, need, with_deleted, with_inserted, with_resized};
 ghost use Rattle.geos_terms.specs.Block.{chunks, entries, entry, handle_word};
 ghost use Rattle.geos_terms.specs.Heap.{IsHeap};

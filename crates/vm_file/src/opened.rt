@@ -1,5 +1,5 @@
 //! What a device holds when a file is opened.
-ghost use Rattle.std.specs.Prelude.{◌≡◌, ◌+◌, ◌-◌, ◌<◌, ◌≤◌, ◌^◌, true, min, length, take, Err, IfOk, OnOk};
+ghost use Rattle.std.specs.Prelude.{◌≡◌, ◌+◌, ◌-◌, ◌<◌, ◌≤◌, ◌^◌, true, length, take, Err, IfOk, OnOk};
 ghost use Rattle.lmem_raw.specs.Bytes.{part};
 ghost use Rattle.vm_file.specs.Device.{Only};
 ghost use Rattle.vm_file.specs.Directories.{directory_length, is_directory};
