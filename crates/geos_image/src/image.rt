@@ -1,6 +1,7 @@
 //! Images.
 
-ghost use Rattle.std.specs.Prelude.{◌≡◌, ◌<◌, ◌≤◌, ◌+◌, ◌↔◌, IsTrue, IsSome, IfSome, true, false, [], replicate, ◌&&◌, nat_le, length, slice_get, Some};
+ghost use Rattle.std.specs.Prelude.{◌≡◌, ◌<◌, ◌≤◌, ◌+◌, ◌↔◌, IsTrue, IsSome, IfSome, true};
+ghost use Rattle.std.specs.Prelude.{false, [], replicate, ◌&&◌, nat_le, length, slice_get, Some};
 ghost use Rattle.std.specs.List.{list_all};
 ghost use Rattle.geos_image.specs.Parts.{Parts, start_of};
 ghost use Rattle.geos_image.specs.Legal.{is_image, is_formed, are_routines, is_point, rows_stand, row_flags, keyed_parts, is_keyed};

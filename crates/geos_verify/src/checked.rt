@@ -41,7 +41,8 @@ impl Checked {
 
 /// The first refusal in a routine.
 fn refusal_in(body: &Body) -> Option<Reject>
-    ensures none { IfNone result (RefusesNone body.now.image.now body.now.r body.now.routine.now body.now.start (body.now.start + body.now.routine.now.count)) }
+    ensures none { IfNone result
+        (RefusesNone body.now.image.now body.now.r body.now.routine.now body.now.start (body.now.start + body.now.routine.now.count)) }
     ensures within { IfSome result (λ reject. (body.now.start ≤ reject.pc) × (reject.pc < body.now.start + body.now.routine.now.count)) }
     ensures some { IfSome result (Refuses body.now.image.now body.now.r body.now.routine.now body.now.start) }
     ensures first { IfSome result (λ reject. RefusesNone body.now.image.now body.now.r body.now.routine.now body.now.start reject.pc) }

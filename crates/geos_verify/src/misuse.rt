@@ -5,7 +5,8 @@ ghost use Rattle.std.specs.List.{list_any};
 ghost use Rattle.geos_image.specs.Fields.{FieldsFit};
 ghost use Rattle.geos_opcodes.specs.Facts.{uses_of};
 ghost use Rattle.geos_verify.specs.Uses.{bytes_in, OffsetFits, PointerFits};
-ghost use Rattle.geos_verify.specs.Rules.{reach, least_at, pointed_state, is_unmarked, writes_unmarked, moves_unmarked, stale_pointer, passes_end, changes_unmarked, locks_into_held, wrong_slot, is_of_file, commits_with_held, misuses};
+ghost use Rattle.geos_verify.specs.Rules.{reach, least_at, pointed_state, is_unmarked, writes_unmarked, moves_unmarked, stale_pointer};
+ghost use Rattle.geos_verify.specs.Rules.{passes_end, changes_unmarked, locks_into_held, wrong_slot, is_of_file, commits_with_held, misuses};
 
 use crate::enough::{is_empty, is_stale};
 use crate::pointers::pointer_at;

@@ -3,7 +3,8 @@ ghost use Rattle.std.specs.Prelude.{◌≡◌, ◌+◌, ◌*◌, ◌≤◌, ◌�
 ghost use Rattle.std.specs.List.{Contains};
 ghost use Rattle.std.specs.Vec.{vec_len, vec_capacity};
 ghost use Rattle.vm_file.specs.Device.{FailedOnce, Only, Passes, Rose};
-ghost use Rattle.vm_file.specs.Outcomes.{BeginsWithSync, CausesDisk, CausesNoBlock, CausesNoBlocks, IsCaused, IsHeapUnder, IsRefused, ReadsOnly, WritesOnly};
+ghost use Rattle.vm_file.specs.Outcomes.{BeginsWithSync, CausesDisk, CausesNoBlock, CausesNoBlocks};
+ghost use Rattle.vm_file.specs.Outcomes.{IsCaused, IsHeapUnder, IsRefused, ReadsOnly, WritesOnly};
 ghost use Rattle.vm_file.specs.Reading.{file_at};
 
 use crate::commit::{How, Nothing, Source, are_there, keep, length_after, selector_of};
@@ -45,13 +46,15 @@ impl<D: Device + Drop> Model for VmFile<D> {
 impl<D: Device + Drop> VmFile<D> {
     ghost use Rattle.geos_terms.specs.Bytes.{AreBytes};
     ghost use Rattle.lmem_raw.specs.Bytes.{with_part};
-    ghost use Rattle.vm_file.specs.Committing.{AreResident, CommitsFile, FindsEither, IsContentsOf, IsKept, MayCommit, MayHaveWritten, NeedsNoRead, Spells};
-    ghost use Rattle.vm_file.specs.Committing.{contents_from, current_after, image_after, kept_after, length_after, saved_after};
+    ghost use Rattle.vm_file.specs.Committing.{AreResident, CommitsFile, FindsEither, IsContentsOf, IsKept};
+    ghost use Rattle.vm_file.specs.Committing.{MayCommit, MayHaveWritten, NeedsNoRead, Spells, contents_from};
+    ghost use Rattle.vm_file.specs.Committing.{current_after, image_after, kept_after, length_after, saved_after};
     ghost use Rattle.vm_file.specs.Contents.{contents_spelling, listed, pair_in};
     ghost use Rattle.vm_file.specs.Directories.{directory_length, is_directory};
     ghost use Rattle.vm_file.specs.Spelling.{empty_contents, empty_pair, new_file};
     ghost use Rattle.vm_file.specs.Reading.{is_area};
-    ghost use Rattle.vm_file.specs.State.{Finds, HasBlock, IsOther, ListsPair, ReadsFile, Steadily, block_at, bytes_of_block, file_of, pair_of, saved_block_at};
+    ghost use Rattle.vm_file.specs.State.{Finds, HasBlock, IsOther, ListsPair, ReadsFile, Steadily};
+    ghost use Rattle.vm_file.specs.State.{block_at, bytes_of_block, file_of, pair_of, saved_block_at};
 
     /// Makes a file on a device: writes the header, the selector and two empty directories,
     /// and ends with a `sync`. `area` is a legal area size, and the device has room for the file
@@ -68,7 +71,8 @@ impl<D: Device + Drop> VmFile<D> {
           current = listed empty_contents;
           saved = listed empty_contents;
         }) }
-        ensures bytes { D.medium.honest device → IfOk result (λ file. D.medium.image file.device ≡ with_part (D.medium.image device) 0 (new_file area)) }
+        ensures bytes { D.medium.honest device
+            → IfOk result (λ file. D.medium.image file.device ≡ with_part (D.medium.image device) 0 (new_file area)) }
         ensures found { D.medium.honest device → IfOk result
             (λ file. file_at (D.medium.image file.device) ≡ Ok (record { area = area; second = false; pair = empty_pair })) }
         // Whatever it answers, nothing but the first 1,040 bytes was written.
@@ -191,8 +195,10 @@ impl<D: Device + Drop> VmFile<D> {
         // Nothing is written: a stop meanwhile, and one afterwards, leaves a file in which
         // `open` finds what it would have found.
         ensures reads { ReadsOnly D.medium self.old.device self.new.device }
-        ensures any_moment { D.medium.honest self.old.device → Passes D.medium.may_have_left self.old.device self.new.device (Finds D.medium.image self.old) }
-        ensures stopped { D.medium.honest self.old.device → (c : List ℕ) → D.medium.may_have_left self.old.device self.new.device c → Finds D.medium.image self.old c }
+        ensures any_moment { D.medium.honest self.old.device
+            → Passes D.medium.may_have_left self.old.device self.new.device (Finds D.medium.image self.old) }
+        ensures stopped { D.medium.honest self.old.device → (c : List ℕ) → D.medium.may_have_left self.old.device self.new.device c
+            → Finds D.medium.image self.old c }
         ensures stop { D.medium.honest self.old.device → (c : List ℕ) → D.medium.may_leave self.new.device c → Finds D.medium.image self.old c }
     {
         let base = base_of(self.area, self.second);
@@ -215,8 +221,10 @@ impl<D: Device + Drop> VmFile<D> {
         // Nothing is written: a stop meanwhile, and one afterwards, leaves a file in which
         // `open` finds what it would have found.
         ensures reads { ReadsOnly D.medium self.old.device self.new.device }
-        ensures any_moment { D.medium.honest self.old.device → Passes D.medium.may_have_left self.old.device self.new.device (Finds D.medium.image self.old) }
-        ensures stopped { D.medium.honest self.old.device → (c : List ℕ) → D.medium.may_have_left self.old.device self.new.device c → Finds D.medium.image self.old c }
+        ensures any_moment { D.medium.honest self.old.device
+            → Passes D.medium.may_have_left self.old.device self.new.device (Finds D.medium.image self.old) }
+        ensures stopped { D.medium.honest self.old.device → (c : List ℕ) → D.medium.may_have_left self.old.device self.new.device c
+            → Finds D.medium.image self.old c }
         ensures stop { D.medium.honest self.old.device → (c : List ℕ) → D.medium.may_leave self.new.device c → Finds D.medium.image self.old c }
     {
         let base = base_of(self.area, self.second);
@@ -342,7 +350,8 @@ impl<D: Device + Drop> VmFile<D> {
         requires empty { (into.old.items ≡ []) × (vec_len into.old ≡ 0) }
         requires room { length_after how cur.now self.old.saved ≤ vec_capacity into.old }
         ensures len { OnOk result (vec_len into.new ≡ length_after how cur.now self.old.saved) }
-        ensures spelled { D.medium.honest self.old.device → OnOk result (Spells (current_after how cur.now self.old.saved) (saved_after how cur.now self.old.saved)
+        ensures spelled { D.medium.honest self.old.device
+            → OnOk result (Spells (current_after how cur.now self.old.saved) (saved_after how cur.now self.old.saved)
             (kept_after D.medium.image (S.resident_bytes source.now) how cur.now self.old) into.new.items) }
         ensures read { ReadsFile D.medium self.old self.new result }
         ensures cause { D.medium.honest self.old.device → OnErr result (Rose (D.medium.failed self.old.device) (D.medium.failed self.new.device)) }
@@ -376,7 +385,8 @@ impl<D: Device + Drop> VmFile<D> {
         requires sure { self.old.sure ≡ true }
         requires legal { is_directory cur.now ≡ true }
         requires fits { (length bytes.now ≡ length_after how cur.now self.old.saved) × (length bytes.now ≤ self.old.area) }
-        requires spelled { D.medium.honest self.old.device → Spells (current_after how cur.now self.old.saved) (saved_after how cur.now self.old.saved)
+        requires spelled { D.medium.honest self.old.device
+            → Spells (current_after how cur.now self.old.saved) (saved_after how cur.now self.old.saved)
             (pair_in (current_after how cur.now self.old.saved) (saved_after how cur.now self.old.saved) bytes.now) bytes.now }
         ensures done { OnOk result (self.new ≡ record {
           device = self.new.device;
@@ -388,13 +398,18 @@ impl<D: Device + Drop> VmFile<D> {
         }) }
         ensures kept { OnErr result (self.new ≡ record self.old { device = self.new.device; sure = self.new.sure }) }
         ensures pair { D.medium.honest self.old.device → MatchResult result
-            (λ _. pair_of D.medium.image self.new ≡ pair_in (current_after how cur.now self.old.saved) (saved_after how cur.now self.old.saved) bytes.now)
+            (λ _. pair_of D.medium.image self.new
+            ≡ pair_in (current_after how cur.now self.old.saved) (saved_after how cur.now self.old.saved) bytes.now)
             (λ _. pair_of D.medium.image self.new ≡ pair_of D.medium.image self.old) }
-        ensures bytes { D.medium.honest self.old.device → OnOk result (D.medium.image self.new.device ≡ image_after D.medium.image bytes.now self.old) }
-        ensures torn { D.medium.honest self.old.device → OnErr result (MayHaveWritten D.medium.image self.old self.new.sure (D.medium.image self.new.device)) }
+        ensures bytes { D.medium.honest self.old.device
+            → OnOk result (D.medium.image self.new.device ≡ image_after D.medium.image bytes.now self.old) }
+        ensures torn { D.medium.honest self.old.device
+            → OnErr result (MayHaveWritten D.medium.image self.old self.new.sure (D.medium.image self.new.device)) }
         ensures other { D.medium.honest self.old.device → self.new.sure ≡ false
-            → IsOther D.medium.image self.new (pair_in (current_after how cur.now self.old.saved) (saved_after how cur.now self.old.saved) bytes.now) }
-        ensures either { D.medium.honest self.old.device → Passes D.medium.may_have_left self.old.device self.new.device (FindsEither D.medium.image self.old self.new) }
+            → IsOther D.medium.image self.new
+            (pair_in (current_after how cur.now self.old.saved) (saved_after how cur.now self.old.saved) bytes.now) }
+        ensures either { D.medium.honest self.old.device
+            → Passes D.medium.may_have_left self.old.device self.new.device (FindsEither D.medium.image self.old self.new) }
         ensures stop { D.medium.honest self.old.device → (c : List ℕ) → D.medium.may_leave self.new.device c → Finds D.medium.image self.new c }
         ensures honest { D.medium.honest self.old.device → D.medium.honest self.new.device }
         ensures was_honest { D.medium.honest self.new.device → D.medium.honest self.old.device }
