@@ -11,10 +11,10 @@ use geos_image::{Instr, Pointer, Row};
 use geos_opcodes::{Kind, PointerUse, SlotUse};
 
 /// What the row says of a pointer; of one that there is not, nothing is known.
-pub fn pointer_at(row: &Row, p: u8) -> Option<Pointer>
-    ensures { result ≡ pointer_at row.now p }
+pub fn pointer_at(row: &Row, index: u8) -> Option<Pointer>
+    ensures { result ≡ pointer_at row.now index }
 {
-    match row.pointers.get(usize::from(p)) {
+    match row.pointers.get(usize::from(index)) {
         Some(pointer) => *pointer,
         None => None,
     }

@@ -85,11 +85,11 @@ fn points_of(image: &Image, r: u16) -> &[Point]
 
 /// Which counters a routine touches, where the table says it of those that it calls: the ones
 /// that its SETK, SETKW and LOOP name, and those that the routines touch that it calls.
-pub fn touched_in(image: &Image, r: u16, table: &Touched) -> [bool; 4]
-    requires { r < length image.now.routines }
-    ensures { result ≡ noted_by image.now table.now r }
+pub fn touched_in(image: &Image, routine: u16, table: &Touched) -> [bool; 4]
+    requires { routine < length image.now.routines }
+    ensures { result ≡ noted_by image.now table.now routine }
 {
-    let points = points_of(image, r);
+    let points = points_of(image, routine);
     [
         touches(table, 0, points),
         touches(table, 1, points),

@@ -182,11 +182,12 @@ impl<D: Device + Drop> VmFile<D> {
     /// Reads the bytes of a block of the current directory straight into `into`, which is as
     /// long as its entry says. `Disk` where the device fails, and then it is not said what `into`
     /// holds, or where it gives bytes that are no heap with that handle.
-    pub fn block(&mut self, h: u16, into: &mut [u8]) -> Result<(), Disk>
-        requires { HasBlock self.old.current h (length into.old) }
-        ensures bytes { D.medium.honest self.old.device → OnOk result (into.new ≡ bytes_of_block (pair_of D.medium.image self.old).cur.blocks h) }
-        ensures heap { OnOk result (IsHeapUnder h into.new) }
-        ensures no_block { CausesNoBlock D.medium h (block_at self.old h) self.old.device self.new.device into.new result }
+    pub fn block(&mut self, handle: u16, into: &mut [u8]) -> Result<(), Disk>
+        requires { HasBlock self.old.current handle (length into.old) }
+        ensures bytes { D.medium.honest self.old.device
+            → OnOk result (into.new ≡ bytes_of_block (pair_of D.medium.image self.old).cur.blocks handle) }
+        ensures heap { OnOk result (IsHeapUnder handle into.new) }
+        ensures no_block { CausesNoBlock D.medium handle (block_at self.old handle) self.old.device self.new.device into.new result }
         ensures same { self.new ≡ record self.old { device = self.new.device } }
         ensures pair { pair_of D.medium.image self.new ≡ pair_of D.medium.image self.old }
         ensures ok { OnOk result (D.medium.failed self.new.device ≡ D.medium.failed self.old.device) }
@@ -202,17 +203,18 @@ impl<D: Device + Drop> VmFile<D> {
         ensures stop { D.medium.honest self.old.device → (c : List ℕ) → D.medium.may_leave self.new.device c → Finds D.medium.image self.old c }
     {
         let base = base_of(self.area, self.second);
-        let at = base + 2 + u64::from(self.current.place(h));
-        read_block(&mut self.device, at, h, into)
+        let at = base + 2 + u64::from(self.current.place(handle));
+        read_block(&mut self.device, at, handle, into)
     }
 
     /// Reads the bytes of a block of the saved directory, as `block` does those of the current
     /// one.
-    pub fn saved_block(&mut self, h: u16, into: &mut [u8]) -> Result<(), Disk>
-        requires { HasBlock self.old.saved h (length into.old) }
-        ensures bytes { D.medium.honest self.old.device → OnOk result (into.new ≡ bytes_of_block (pair_of D.medium.image self.old).saved.blocks h) }
-        ensures heap { OnOk result (IsHeapUnder h into.new) }
-        ensures no_block { CausesNoBlock D.medium h (saved_block_at self.old h) self.old.device self.new.device into.new result }
+    pub fn saved_block(&mut self, handle: u16, into: &mut [u8]) -> Result<(), Disk>
+        requires { HasBlock self.old.saved handle (length into.old) }
+        ensures bytes { D.medium.honest self.old.device
+            → OnOk result (into.new ≡ bytes_of_block (pair_of D.medium.image self.old).saved.blocks handle) }
+        ensures heap { OnOk result (IsHeapUnder handle into.new) }
+        ensures no_block { CausesNoBlock D.medium handle (saved_block_at self.old handle) self.old.device self.new.device into.new result }
         ensures same { self.new ≡ record self.old { device = self.new.device } }
         ensures pair { pair_of D.medium.image self.new ≡ pair_of D.medium.image self.old }
         ensures ok { OnOk result (D.medium.failed self.new.device ≡ D.medium.failed self.old.device) }
@@ -229,8 +231,8 @@ impl<D: Device + Drop> VmFile<D> {
     {
         let base = base_of(self.area, self.second);
         let first = u64::from(directory_length(self.current.directory()));
-        let at = base + first + 2 + u64::from(place_in(&self.saved.entries, h));
-        read_block(&mut self.device, at, h, into)
+        let at = base + first + 2 + u64::from(place_in(&self.saved.entries, handle));
+        read_block(&mut self.device, at, handle, into)
     }
 
     /// Whether this directory may be committed with these blocks: it is legal, and each of its
