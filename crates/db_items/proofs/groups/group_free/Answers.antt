@@ -57,7 +57,12 @@ returns-in-Ok g c =
 
 pub returns-in-Err : goal.returns-in-Err
 returns-in-Err g c =
-    let d = g.D.Device in let v = c.args.vm.now in let s = c.args.blocks.now in let w = c.vfree.new.self in let t = c.vfree.new.blocks in let h = c.args.group in
+    let d = g.D.Device in
+    let v = c.args.vm.now in
+    let s = c.args.blocks.now in
+    let w = c.vfree.new.self in
+    let t = c.vfree.new.blocks in
+    let h = c.args.group in
     let why = c.in-Err.why in let e = c.in-Err.ensures in let by = locked-why why in
     let group : IsGroup v h = c.if-not-is_group.ensures.0 refl in
     let Locked : Refusal → Type 0 = λ r. (◌≡◌ {A = Result (Unit {0}) Refusal} (Err r) (Err refusal.Locked)) ↔ (0 < locks_of s (vm_slot h)) in

@@ -42,7 +42,13 @@ returns-in-Err-find g c =
 
 pub returns : goal.returns
 returns g c =
-    let d = g.D.Device in let s = c.args.blocks.now in let t = c.bring_group.new.blocks in let u = c.lock.new.self in let h = c.args.group in let b = c.in-Ok.ensures in let e = c.lock.ensures in
+    let d = g.D.Device in
+    let s = c.args.blocks.now in
+    let t = c.bring_group.new.blocks in
+    let u = c.lock.new.self in
+    let h = c.args.group in
+    let b = c.in-Ok.ensures in
+    let e = c.lock.ensures in
     let bytes = c.bytes.ensures ∙ ap (λ n. bytes_of t (slot_of n)) c.vm.ensures in
     let found = c.in-Ok-find.ensures in
     let finds = subst (λ xs. Finds (refer c.args.item c.args.len) xs (Ok c.in-Ok-find.place)) bytes found.finds in
