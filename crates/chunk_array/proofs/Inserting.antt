@@ -117,7 +117,11 @@ pub inserted-fixed : (before old bytes : List ℕ) (a : Array) (i n : ℕ) → R
     → old ≡ with_zeros before (element_at a i) a.element_size → bytes ≡ with_word old 0 (length a.elements + 1)
     → length a.elements + 1 < 65536 → ((k : ℕ) → get_or bytes k 0 < 256) → bytes ≡ spelled (with_element a i n)
 inserted-fixed before old bytes a i n r some fits made counted few small =
-    let count = length a.elements in let at = element_at a i in let b = with_element a i n in let k = a.element_size in let z : List ℕ = replicate (new_length a n) 0 in
+    let count = length a.elements in
+    let at = element_at a i in
+    let b = with_element a i n in
+    let k = a.element_size in
+    let z : List ℕ = replicate (new_length a n) 0 in
     let bounds = element-bounds before a i r in let first = first-fixed a some in let le = first-le a i in
     let more : length b.elements ≡ count + 1 = length-insert a.elements i z fits in let first_b = first-fixed b some in
     let long_old : length old ≡ length before + k = ap length made ∙ length-with_zeros before at k bounds.1 in
@@ -144,8 +148,13 @@ pub length-inserted : (before : List ℕ) (a : Array) (i n : ℕ) → Reads befo
 length-inserted before a i n r fits =
     let z : List ℕ = replicate (new_length a n) 0 in let b = with_element a i n in
     let s = length-spelled b in let j = ap length (join-insert a.elements i z) in
-    let l1 = length-append (join (take i a.elements)) (z ++ join (drop i a.elements)) in let l2 = length-append z (join (drop i a.elements)) in let l3 = length-replicate {A = ℕ} (new_length a n) 0 in
-    let whole = ap length (drop-elements before a i r) in let ld = length-drop (element_at a i) before in let e = element-at a i in let within = element-bounds before a i r in
+    let l1 = length-append (join (take i a.elements)) (z ++ join (drop i a.elements)) in
+    let l2 = length-append z (join (drop i a.elements)) in
+    let l3 = length-replicate {A = ℕ} (new_length a n) 0 in
+    let whole = ap length (drop-elements before a i r) in
+    let ld = length-drop (element_at a i) before in
+    let e = element-at a i in
+    let within = element-bounds before a i r in
     let more = length-insert a.elements i z fits in
     let order : first_at a ≤ first_at b = (elim (cases_eq a.element_size 0) [
       | inl none ↦ omega (arith, first-varying a none, first-varying b none, more)

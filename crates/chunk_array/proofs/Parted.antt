@@ -32,12 +32,15 @@ parts bytes a shape place h =
     let i = place.index in let r = reads bytes a h.small h.is in let index : i < length a.elements = omega (arith, h.count, h.known) in
     let e = element-ends a i index in let long : place.len ≡ length (element a i) = omega (arith, h.begins, h.ends, e) in
     let lo = element-bounds bytes a i r in let hi = element-bounds bytes a (i + 1) r in
-    let within : place.begin + place.len ≤ length bytes = omega (arith, h.ends, hi.1) in let least : 8 ≤ place.begin = omega (arith, h.begins, lo.0) in
+    let within : place.begin + place.len ≤ length bytes = omega (arith, h.ends, hi.1) in
+    let least : 8 ≤ place.begin = omega (arith, h.begins, lo.0) in
     let fits : room_of shape.element_size place.len ≤ place.begin + place.len = (elim (cases_eq shape.element_size 0) [
       | inl none ↦ omega (arith, room-varying shape.element_size place.len none, least)
       | inr some ↦ (let q = room-fixed shape.element_size place.len some in
           let ne : a.element_size ≢ 0 = (λ z. some (sym h.size ∙ z)) in
-          let e1 = r.equal ne i (omega arith) in let e2 = r.equal ne (i + 1) (omega arith) in let m : (i + 1) * a.element_size ≡ i * a.element_size + a.element_size = omega arith in
+          let e1 = r.equal ne i (omega arith) in
+          let e2 = r.equal ne (i + 1) (omega arith) in
+          let m : (i + 1) * a.element_size ≡ i * a.element_size + a.element_size = omega arith in
           omega (arith, q, h.begins, h.ends, e1, e2, m, h.size))
     ]) in
     record { reads = r; index = index; long = long; least = least; within = within; fits = fits }
@@ -51,7 +54,10 @@ pub record Closable (bytes : List ℕ) (count : ℕ) (place : ElementPlace) : Ty
 
 pub closable : (bytes : List ℕ) (a : Array) (shape : Shape) (place : ElementPlace) → HasPart bytes a shape place → shape.element_size ≡ 0 → Closable bytes shape.count place
 closable bytes a shape place h none =
-    let p = parts bytes a shape place h in let none_a : a.element_size ≡ 0 = h.size ∙ none in let first = first-varying a none_a in let le = first-le a place.index in
+    let p = parts bytes a shape place h in
+    let none_a : a.element_size ≡ 0 = h.size ∙ none in
+    let first = first-varying a none_a in
+    let le = first-le a place.index in
     let at : (j : ℕ) → j < shape.count → offset bytes j ≡ element_at a j = (λ j l. p.reads.spells.offsets none_a j (omega (arith, h.count))) in
     record {
       table = omega (arith, first, le, h.begins, h.count);

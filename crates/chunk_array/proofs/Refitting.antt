@@ -68,8 +68,15 @@ refit-behind a i j n z long none fits h =
 pub refitted : (before old bytes : List ℕ) (a : Array) (shape : Shape) (place : ElementPlace) (n : ℕ) → HasRefit old before a shape place n → ShiftsOffsets old bytes (place.index + 1) shape.count place.len n
     → ((k : ℕ) → get_or bytes k 0 < 256) → bytes ≡ spelled (with_refit a place.index n)
 refitted before old bytes a shape place n h o small =
-    let i = place.index in let f = refit old before a shape place n h in let s = f.reads.spells in let at = element_at a i in let z = resized (element a i) n in let b = with_refit a i n in
-    let more : length b.elements ≡ length a.elements = length-set a.elements i z in let first = first-varying a h.varying in let first_b = first-varying b h.varying in
+    let i = place.index in
+    let f = refit old before a shape place n h in
+    let s = f.reads.spells in
+    let at = element_at a i in
+    let z = resized (element a i) n in
+    let b = with_refit a i n in
+    let more : length b.elements ≡ length a.elements = length-set a.elements i z in
+    let first = first-varying a h.varying in
+    let first_b = first-varying b h.varying in
     let lz = length-resized (element a i) n in let le = first-le a i in
     let rear : List ℕ = resized (part before at place.len) n ++ drop (at + place.len) before in
     let low : (k : ℕ) → k < 8 → get_or bytes k 0 ≡ get_or before k 0 = (λ k l. o.rest k (inl (omega arith)) ∙ ap (λ x. get_or x k 0) h.made ∙ front-byte before rear at k (omega arith) (omega arith)) in
@@ -100,7 +107,11 @@ refitted before old bytes a shape place n h o small =
 pub length-refit : (before : List ℕ) (a : Array) (i n : ℕ) → Reads before a → a.element_size ≡ 0 → i < length a.elements → length (spelled (with_refit a i n)) + length (element a i) ≡ length before + n
 length-refit before a i n r none h =
     let xs = a.elements in let z = resized (element a i) n in let b = with_refit a i n in let m = length xs in
-    let s = length-spelled b in let l = length-set xs i z in let f = first-varying a none in let g = first-varying b none in let lz = length-resized (element a i) n in
+    let s = length-spelled b in
+    let l = length-set xs i z in
+    let f = first-varying a none in
+    let g = first-varying b none in
+    let lz = length-resized (element a i) n in
     let e = join-set_behind xs i m z h h in
     let all : length (join (take m (set xs i z))) ≡ length (join (set xs i z)) = ap (λ ys. length (join ys)) (take_all m (set xs i z) (omega (arith, l))) in
     omega (arith, s, l, f, g, lz, e, all, r.end, element-at a m)

@@ -93,7 +93,9 @@ pub length-room : (before : List ℕ) (a : Array) (shape : Shape) (i n : ℕ) �
     → length (spelled (with_element a i n)) ≡ length before + room_of shape.element_size n
 length-room before a shape i n r count size known =
     let fits : i ≤ length a.elements = omega (arith, count, known) in
-    let e = length-inserted before a i n r fits in let b = with_element a i n in let more = length-insert a.elements i (replicate (new_length a n) 0) fits in
+    let e = length-inserted before a i n r fits in
+    let b = with_element a i n in
+    let more = length-insert a.elements i (replicate (new_length a n) 0) fits in
     elim (cases_eq shape.element_size 0) [
       | inl none ↦ (let f = first-varying a (size ∙ none) in let g = first-varying b (size ∙ none) in let new = new-varying a n (size ∙ none) in
           omega (arith, e, f, g, new, room-varying shape.element_size n none, more))

@@ -1,5 +1,5 @@
 //! Changes of an array's bytes where they stand.
-ghost use Rattle.std.specs.Prelude.{◌≡◌, ℕ, ◌≤◌, List, length, Some};
+ghost use Rattle.std.specs.Prelude.{◌≡◌, ℕ, ◌≤◌, List, Some};
 ghost use Rattle.geos_terms.specs.Arrays.{Array, spelled, with_element};
 ghost use Rattle.geos_terms.specs.ArrayEdits.{with_array};
 ghost use Rattle.geos_terms.specs.Block.{chunks, handle_word};

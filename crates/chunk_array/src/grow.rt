@@ -28,7 +28,8 @@ pub fn append(block: &mut [u8], chunk: u16, len: u16) -> Result<(), AppendError>
     requires { IsHeap block.old }
     ensures heap { IsHeap block.new }
     ensures handle { handle_word block.new ≡ handle_word block.old }
-    ensures ok { let e = append_element chunk len (chunks block.old) in OnOk result ((first_refusal e.refusals ≡ None) × (chunks block.new ≡ e.chunks)) }
+    ensures ok { let e = append_element chunk len (chunks block.old) in
+        OnOk result ((first_refusal e.refusals ≡ None) × (chunks block.new ≡ e.chunks)) }
     ensures array { OnOk result (ChangesArray (chunks block.old) (chunks block.new) chunk (λ a. with_element a (length a.elements) len)) }
     ensures fits { OnOk result (need (append_element chunk len (chunks block.old)).chunks ≤ length block.old) }
     ensures refused { let e = append_element chunk len (chunks block.old) in
@@ -56,10 +57,12 @@ pub fn insert(block: &mut [u8], chunk: u16, index: u16, len: u16) -> Result<(), 
     requires { IsHeap block.old }
     ensures heap { IsHeap block.new }
     ensures handle { handle_word block.new ≡ handle_word block.old }
-    ensures ok { let e = insert_element chunk index len (chunks block.old) in OnOk result ((first_refusal e.refusals ≡ None) × (chunks block.new ≡ e.chunks)) }
+    ensures ok { let e = insert_element chunk index len (chunks block.old) in
+        OnOk result ((first_refusal e.refusals ≡ None) × (chunks block.new ≡ e.chunks)) }
     ensures array { OnOk result (ChangesArray (chunks block.old) (chunks block.new) chunk (λ a. with_element a index len)) }
     ensures fits { OnOk result (need (insert_element chunk index len (chunks block.old)).chunks ≤ length block.old) }
-    ensures refused { let e = insert_element chunk index len (chunks block.old) in IfErr result (λ why. IsGrowthError why e.refusals (need e.chunks) (length block.old)) }
+    ensures refused { let e = insert_element chunk index len (chunks block.old) in
+        IfErr result (λ why. IsGrowthError why e.refusals (need e.chunks) (length block.old)) }
     ensures err { OnErr result (block.new ≡ block.old) }
 {
     let found = match find(block, chunk) {
@@ -91,7 +94,8 @@ fn insert_at(
     ensures heap { IsHeap block.new }
     ensures handle { handle_word block.new ≡ handle_word block.old }
     ensures ok { let old = chunks block.old in OnOk result (chunks block.new ≡ with_array old chunk (with_element (array_of old chunk) index len)) }
-    ensures fits { let old = chunks block.old in OnOk result (need (with_array old chunk (with_element (array_of old chunk) index len)) ≤ length block.old) }
+    ensures fits { let old = chunks block.old in
+        OnOk result (need (with_array old chunk (with_element (array_of old chunk) index len)) ≤ length block.old) }
     ensures refused { let old = chunks block.old in
         IfErr result (λ e. IsRoomError e (need (with_array old chunk (with_element (array_of old chunk) index len))) (length block.old)) }
     ensures err { OnErr result (block.new ≡ block.old) }

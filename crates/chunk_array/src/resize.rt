@@ -25,10 +25,13 @@ pub fn resize_element(block: &mut [u8], chunk: u16, index: u16, len: u16) -> Res
     requires { IsHeap block.old }
     ensures heap { IsHeap block.new }
     ensures handle { handle_word block.new ≡ handle_word block.old }
-    ensures ok { let e = resize_element chunk index len (chunks block.old) in OnOk result ((first_refusal e.refusals ≡ None) × (chunks block.new ≡ e.chunks)) }
-    ensures array { OnOk result (ChangesArray (chunks block.old) (chunks block.new) chunk (λ a. with_element_bytes a index (resized (element a index) len))) }
+    ensures ok { let e = resize_element chunk index len (chunks block.old) in
+        OnOk result ((first_refusal e.refusals ≡ None) × (chunks block.new ≡ e.chunks)) }
+    ensures array { OnOk result (ChangesArray (chunks block.old) (chunks block.new) chunk
+        (λ a. with_element_bytes a index (resized (element a index) len))) }
     ensures fits { OnOk result (need (resize_element chunk index len (chunks block.old)).chunks ≤ length block.old) }
-    ensures refused { let e = resize_element chunk index len (chunks block.old) in IfErr result (λ why. IsGrowthError why e.refusals (need e.chunks) (length block.old)) }
+    ensures refused { let e = resize_element chunk index len (chunks block.old) in
+        IfErr result (λ why. IsGrowthError why e.refusals (need e.chunks) (length block.old)) }
     ensures err { OnErr result (block.new ≡ block.old) }
 {
     let found = match find(block, chunk) {
@@ -61,7 +64,8 @@ fn resize_part(block: &mut [u8], c: u16, at: usize, has: usize, n: u16) -> Resul
     ensures heap { IsHeap block.new }
     ensures handle { handle_word block.new ≡ handle_word block.old }
     ensures ok { let old = chunks block.old in OnOk result (chunks block.new ≡ with_bytes old c (with_resized_part (bytes_of old c) at has n)) }
-    ensures fits { let old = chunks block.old in OnOk result (need (with_bytes old c (with_resized_part (bytes_of old c) at has n)) ≤ length block.old) }
+    ensures fits { let old = chunks block.old in
+        OnOk result (need (with_bytes old c (with_resized_part (bytes_of old c) at has n)) ≤ length block.old) }
     ensures refused { let old = chunks block.old in
         IfErr result (λ e. IsRoomError e (need (with_bytes old c (with_resized_part (bytes_of old c) at has n))) (length block.old)) }
     ensures err { OnErr result (block.new ≡ block.old) }

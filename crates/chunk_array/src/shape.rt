@@ -1,5 +1,5 @@
 //! What the bytes of a chunk say of the array that they spell.
-ghost use Rattle.std.specs.Prelude.{◌≡◌, ◌+◌, ◌-◌, ◌*◌, ◌<◌, ◌≤◌, length, MatchOption};
+ghost use Rattle.std.specs.Prelude.{◌≡◌, ◌+◌, ◌*◌, ◌<◌, ◌≤◌, length, MatchOption};
 ghost use Rattle.geos_terms.specs.Arrays.{Array, arr, are_offsets, element_at, words_from};
 
 use crate::table::rising_offsets;

@@ -21,7 +21,8 @@ pub fn remove(block: &mut [u8], chunk: u16, index: u16) -> Result<(), ElementErr
     requires { IsHeap block.old }
     ensures heap { IsHeap block.new }
     ensures handle { handle_word block.new ≡ handle_word block.old }
-    ensures ok { let e = remove_element chunk index (chunks block.old) in OnOk result ((first_refusal e.refusals ≡ None) × (chunks block.new ≡ e.chunks)) }
+    ensures ok { let e = remove_element chunk index (chunks block.old) in
+        OnOk result ((first_refusal e.refusals ≡ None) × (chunks block.new ≡ e.chunks)) }
     ensures array { OnOk result (ChangesArray (chunks block.old) (chunks block.new) chunk (λ a. without_element a index)) }
     ensures refused { IfErr result (λ why. IsElementError why (remove_element chunk index (chunks block.old)).refusals) }
     ensures err { OnErr result (block.new ≡ block.old) }

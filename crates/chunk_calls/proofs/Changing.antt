@@ -7,7 +7,7 @@ use Rattle.geos_terms.specs.Edits.{Edit}
 use Rattle.block_handles.specs.Change.{LockedStay}
 use Rattle.block_handles.specs.Layout.{IsLaidOut}
 use Rattle.block_handles.specs.Names.{slot_of}
-use Rattle.block_handles.specs.Store.{Store, IsBlock, IsThere, block_at, locks_in, locks_of, place_of}
+use Rattle.block_handles.specs.Store.{Store, IsBlock, block_at, locks_in, locks_of, place_of}
 use Rattle.geos_terms.specs.Block.{handle_word}
 use Rattle.geos_terms.specs.Heap.{IsHeap}
 use Rattle.block_handles.specs.Store as store

@@ -1,7 +1,8 @@
 //! What stands in the way of a call on the chunks of a block, as heaps and arrays tell it.
 
 ghost use Rattle.std.specs.Prelude.{◌≡◌};
-ghost use Rattle.chunk_calls.specs.Refused.{why_no_array, why_no_chunk, why_no_element, why_not_appended, why_not_deleted, why_not_grown, why_not_inserted, why_not_resized};
+ghost use Rattle.chunk_calls.specs.Refused.{why_no_array, why_no_chunk, why_no_element, why_not_appended};
+ghost use Rattle.chunk_calls.specs.Refused.{why_not_deleted, why_not_grown, why_not_inserted, why_not_resized};
 
 use chunk_array::{AppendError, ArrayError, ElementError, GrowthError};
 use geos_terms::Refusal;

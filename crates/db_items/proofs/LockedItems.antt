@@ -13,7 +13,7 @@ use Rattle.geos_calls.specs.Effects.{Choice, Reference, bringing, come_to, outco
 use Rattle.geos_calls.specs.Given.{given_memory}
 use Rattle.geos_calls.specs.ItemCalls.{ilock, no_group}
 use Rattle.geos_calls.specs.Memory as memory
-use Rattle.geos_calls.specs.Memory.{Memory, is_group}
+use Rattle.geos_calls.specs.Memory.{Memory}
 use Rattle.geos_calls.specs.VmCalls.{bring, no_listed}
 use Rattle.geos_calls.proofs.Laws.{first_refusal-came}
 use Rattle.block_handles.specs.Change.{with_locks}

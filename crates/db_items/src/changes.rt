@@ -19,24 +19,24 @@ use vm_file::Device;
 pub fn item_change<D: Device + Drop>(
     vm: &mut VmBlocks<D>,
     blocks: &mut Blocks,
-    g: u16,
+    group: u16,
     change: Change,
 ) -> Result<(), Refusal>
     requires { IsTied D.medium vm.old blocks.old }
-    ensures { ChangesItem D.medium (on_group g (change_row (vm_name g) change)) (change_edit change)
-        g result vm.old vm.new blocks.old blocks.new }
+    ensures { ChangesItem D.medium (on_group group (change_row (vm_name group) change)) (change_edit change)
+        group result vm.old vm.new blocks.old blocks.new }
 {
-    match bring_group(vm, blocks, g) {
+    match bring_group(vm, blocks, group) {
         Ok(()) => {}
         Err(refusal) => return Err(refusal),
     }
-    match change_chunks(vm, blocks, Name::vm(g), change) {
+    match change_chunks(vm, blocks, Name::vm(group), change) {
         Ok(()) => {}
         Err(refusal) => return Err(refusal),
     }
     // what lies in the region are bytes, as the group is to spell
     let _ = blocks.region();
-    vm.vdirty_changed(blocks, g);
+    vm.vdirty_changed(blocks, group);
     Ok(())
 }
 
@@ -45,23 +45,23 @@ pub fn item_change<D: Device + Drop>(
 pub fn item_make<D: Device + Drop>(
     vm: &mut VmBlocks<D>,
     blocks: &mut Blocks,
-    g: u16,
+    group: u16,
     make: Make,
 ) -> Result<u16, Refusal>
     requires { IsTied D.medium vm.old blocks.old }
-    ensures { ChangesItem D.medium (on_group g (make_row (vm_name g) make)) (make_edit make)
-        g result vm.old vm.new blocks.old blocks.new }
+    ensures { ChangesItem D.medium (on_group group (make_row (vm_name group) make)) (make_edit make)
+        group result vm.old vm.new blocks.old blocks.new }
 {
-    match bring_group(vm, blocks, g) {
+    match bring_group(vm, blocks, group) {
         Ok(()) => {}
         Err(refusal) => return Err(refusal),
     }
-    let item = match make_chunk(vm, blocks, Name::vm(g), make) {
+    let item = match make_chunk(vm, blocks, Name::vm(group), make) {
         Ok(item) => item,
         Err(refusal) => return Err(refusal),
     };
     // as in `item_change`
     let _ = blocks.region();
-    vm.vdirty_changed(blocks, g);
+    vm.vdirty_changed(blocks, group);
     Ok(item)
 }

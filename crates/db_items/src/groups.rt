@@ -17,10 +17,10 @@ use vm_blocks::VmBlocks;
 use vm_file::{Device, GROUP_UID};
 
 /// Whether a handle names a group.
-pub fn is_group<D: Device + Drop>(vm: &VmBlocks<D>, g: u16) -> bool
-    ensures { IsTrue result ↔ IsGroup vm.now g }
+pub fn is_group<D: Device + Drop>(vm: &VmBlocks<D>, group: u16) -> bool
+    ensures { IsTrue result ↔ IsGroup vm.now group }
 {
-    vm.has_group(g)
+    vm.has_group(group)
 }
 
 /// Makes a group of 64 bytes without an item under the lowest handle of the file that is free, in
@@ -57,23 +57,23 @@ pub fn group_new<D: Device + Drop>(
 pub fn group_free<D: Device + Drop>(
     vm: &mut VmBlocks<D>,
     blocks: &mut Blocks,
-    g: u16,
+    group: u16,
 ) -> Result<(), Refusal>
     requires { IsTied D.medium vm.old blocks.old }
     ensures tied { IsTied D.medium vm.new blocks.new }
     // Its row of the table of calls, in each memory that the model may have before it.
-    ensures row { DoesRow D.medium (gfree g) result vm.old blocks.old vm.new blocks.new }
-    ensures no_group { RefusesNoGroup g result vm.old vm.new blocks.old blocks.new }
-    ensures locked { IsGroup vm.old g → (result ≡ Err Refusal.Locked) ↔ (0 < locks_of blocks.old (vm_slot g)) }
-    ensures state { OnOk result (vm.new ≡ without_held vm.old g) }
-    ensures drops { OnOk result (Drops blocks.old blocks.new g) }
+    ensures row { DoesRow D.medium (gfree group) result vm.old blocks.old vm.new blocks.new }
+    ensures no_group { RefusesNoGroup group result vm.old vm.new blocks.old blocks.new }
+    ensures locked { IsGroup vm.old group → (result ≡ Err Refusal.Locked) ↔ (0 < locks_of blocks.old (vm_slot group)) }
+    ensures state { OnOk result (vm.new ≡ without_held vm.old group) }
+    ensures drops { OnOk result (Drops blocks.old blocks.new group) }
     ensures err { OnErr result ((vm.new ≡ vm.old) × (blocks.new ≡ blocks.old)) }
     ensures file { vm.new.file ≡ vm.old.file }
 {
-    if !is_group(vm, g) {
+    if !is_group(vm, group) {
         return Err(Refusal::BadHandle);
     }
-    match vm.vfree(blocks, g) {
+    match vm.vfree(blocks, group) {
         Ok(()) => Ok(()),
         Err(why) => Err(why.refusal()),
     }

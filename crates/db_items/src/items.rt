@@ -11,20 +11,20 @@ use geos_terms::Refusal;
 use vm_blocks::VmBlocks;
 use vm_file::Device;
 
-/// Makes an item of `n` zero bytes, and answers its handle: the lowest one of the group that is free.
+/// Makes an item of `len` zero bytes, and answers its handle: the lowest one of the group that is free.
 /// `BadHandle` where no group has this handle; `NoRoom` and `Disk` where it does not come into memory;
 /// `TooBig` where it would need more than 65,520 bytes; `NoRoom` where it must grow and no stretch of
 /// the region has room for it. The group is marked where none of these comes.
 pub fn item_new<D: Device + Drop>(
     vm: &mut VmBlocks<D>,
     blocks: &mut Blocks,
-    g: u16,
-    n: u16,
+    group: u16,
+    len: u16,
 ) -> Result<u16, Refusal>
     requires { IsTied D.medium vm.old blocks.old }
-    ensures { ChangesItem D.medium (inew g n) (alloc n) g result vm.old vm.new blocks.old blocks.new }
+    ensures { ChangesItem D.medium (inew group len) (alloc len) group result vm.old vm.new blocks.old blocks.new }
 {
-    item_make(vm, blocks, g, Make::Lalloc { n })
+    item_make(vm, blocks, group, Make::Lalloc { n: len })
 }
 
 /// Frees an item. `BadHandle`, `NoRoom` and `Disk` as `item_new` has them for its group, and `BadChunk`
@@ -32,60 +32,78 @@ pub fn item_new<D: Device + Drop>(
 pub fn item_free<D: Device + Drop>(
     vm: &mut VmBlocks<D>,
     blocks: &mut Blocks,
-    g: u16,
-    i: u16,
+    group: u16,
+    item: u16,
 ) -> Result<(), Refusal>
     requires { IsTied D.medium vm.old blocks.old }
-    ensures { ChangesItem D.medium (ifree g i) (free i) g result vm.old vm.new blocks.old blocks.new }
+    ensures { ChangesItem D.medium (ifree group item) (free item) group result vm.old vm.new blocks.old blocks.new }
 {
-    item_change(vm, blocks, g, Change::Lfree { c: i })
+    item_change(vm, blocks, group, Change::Lfree { c: item })
 }
 
-/// Gives an item `n` bytes: the first ones that fit, and zeros behind them. It is refused as `item_free`
+/// Gives an item `len` bytes: the first ones that fit, and zeros behind them. It is refused as `item_free`
 /// is, and then with `TooBig` and `NoRoom` as `item_new` is.
 pub fn item_realloc<D: Device + Drop>(
     vm: &mut VmBlocks<D>,
     blocks: &mut Blocks,
-    g: u16,
-    i: u16,
-    n: u16,
+    group: u16,
+    item: u16,
+    len: u16,
 ) -> Result<(), Refusal>
     requires { IsTied D.medium vm.old blocks.old }
-    ensures { ChangesItem D.medium (irealloc g i n) (realloc i n) g result vm.old vm.new blocks.old blocks.new }
+    ensures { ChangesItem D.medium (irealloc group item len) (realloc item len) group result vm.old vm.new blocks.old blocks.new }
 {
-    item_change(vm, blocks, g, Change::Lrealloc { c: i, n })
+    item_change(vm, blocks, group, Change::Lrealloc { c: item, n: len })
 }
 
-/// Puts `n` zero bytes into an item at an offset. It is refused as `item_realloc` is, with `Range` behind
+/// Puts `len` zero bytes into an item at an offset. It is refused as `item_realloc` is, with `Range` behind
 /// `BadChunk` where the offset is past the item's end.
 pub fn item_insert<D: Device + Drop>(
     vm: &mut VmBlocks<D>,
     blocks: &mut Blocks,
-    g: u16,
-    i: u16,
+    group: u16,
+    item: u16,
     at: u16,
-    n: u16,
+    len: u16,
 ) -> Result<(), Refusal>
     requires { IsTied D.medium vm.old blocks.old }
-    ensures { ChangesItem D.medium (iins g i at n) (insert_bytes i at n)
-        g result vm.old vm.new blocks.old blocks.new }
+    ensures { ChangesItem D.medium (iins group item at len) (insert_bytes item at len)
+        group result vm.old vm.new blocks.old blocks.new }
 {
-    item_change(vm, blocks, g, Change::Lins { c: i, at, n })
+    item_change(
+        vm,
+        blocks,
+        group,
+        Change::Lins {
+            c: item,
+            at,
+            n: len,
+        },
+    )
 }
 
-/// Takes `n` bytes out of an item at an offset. It is refused as `item_free` is, with `Range` behind
+/// Takes `len` bytes out of an item at an offset. It is refused as `item_free` is, with `Range` behind
 /// `BadChunk` where the bytes go past the item's end.
 pub fn item_delete<D: Device + Drop>(
     vm: &mut VmBlocks<D>,
     blocks: &mut Blocks,
-    g: u16,
-    i: u16,
+    group: u16,
+    item: u16,
     at: u16,
-    n: u16,
+    len: u16,
 ) -> Result<(), Refusal>
     requires { IsTied D.medium vm.old blocks.old }
-    ensures { ChangesItem D.medium (idel g i at n) (delete_bytes i at n)
-        g result vm.old vm.new blocks.old blocks.new }
+    ensures { ChangesItem D.medium (idel group item at len) (delete_bytes item at len)
+        group result vm.old vm.new blocks.old blocks.new }
 {
-    item_change(vm, blocks, g, Change::Ldel { c: i, at, n })
+    item_change(
+        vm,
+        blocks,
+        group,
+        Change::Ldel {
+            c: item,
+            at,
+            n: len,
+        },
+    )
 }

@@ -25,32 +25,35 @@ fn is_full<D: Device + Drop>(vm: &VmBlocks<D>, blocks: &Blocks, g: u16) -> bool
     is_group(vm, g) && blocks.locks(Name::vm(g)) == u16::MAX
 }
 
-/// Locks a group once more, which brings it into memory, for an item of `n` bytes at least: answers
+/// Locks a group once more, which brings it into memory, for an item of `len` bytes at least: answers
 /// the item's offset in the group, and its length. `BadHandle` where no group has this handle, `Locked`
 /// where its count is 65,535, `NoRoom` and `Disk` where it does not come into memory, `BadChunk` where it
 /// has no such item, `Short` where that has fewer bytes. It is locked only where none of these comes.
 pub fn item_lock_part<D: Device + Drop>(
     vm: &mut VmBlocks<D>,
     blocks: &mut Blocks,
-    g: u16,
-    i: u16,
-    n: u16,
+    group: u16,
+    item: u16,
+    len: u16,
 ) -> Result<(usize, u16), Refusal>
     requires { IsTied D.medium vm.old blocks.old }
-    ensures { LocksItem D.medium g i n result vm.old vm.new blocks.old blocks.new }
+    ensures { LocksItem D.medium group item len result vm.old vm.new blocks.old blocks.new }
 {
-    if is_full(vm, blocks, g) {
+    if is_full(vm, blocks, group) {
         return Err(Refusal::Locked);
     }
-    match bring_group(vm, blocks, g) {
+    match bring_group(vm, blocks, group) {
         Ok(()) => {}
         Err(refusal) => return Err(refusal),
     }
-    let place = match find(blocks.bytes(Name::vm(g)), Refer::Deref { c: i, n }) {
+    let place = match find(
+        blocks.bytes(Name::vm(group)),
+        Refer::Deref { c: item, n: len },
+    ) {
         Ok(place) => place,
         Err(why) => return Err(why),
     };
-    let _ = blocks.lock(Name::vm(g));
+    let _ = blocks.lock(Name::vm(group));
     Ok(place)
 }
 
@@ -59,36 +62,36 @@ pub fn item_lock_part<D: Device + Drop>(
 pub fn item_lock<D: Device + Drop>(
     vm: &mut VmBlocks<D>,
     blocks: &mut Blocks,
-    g: u16,
-    i: u16,
+    group: u16,
+    item: u16,
 ) -> Result<(usize, u16), Refusal>
     requires { IsTied D.medium vm.old blocks.old }
     ensures not_short { result ≡ Err Refusal.Short → ⊥ }
-    ensures locks { LocksItem D.medium g i 0 result vm.old vm.new blocks.old blocks.new }
+    ensures locks { LocksItem D.medium group item 0 result vm.old vm.new blocks.old blocks.new }
 {
-    item_lock_part(vm, blocks, g, i, 0)
+    item_lock_part(vm, blocks, group, item, 0)
 }
 
 /// Marks a group that is in memory as changed.
-pub fn item_dirty<D: Device + Drop>(vm: &mut VmBlocks<D>, blocks: &Blocks, g: u16)
+pub fn item_dirty<D: Device + Drop>(vm: &mut VmBlocks<D>, blocks: &Blocks, group: u16)
     requires tied { IsTied D.medium vm.old blocks.now }
-    requires there { IsThere blocks.now (vm_slot g) }
+    requires there { IsThere blocks.now (vm_slot group) }
     ensures tied { IsTied D.medium vm.new blocks.now }
-    ensures marks { vm.new ≡ with_held vm.old g (option_map marked (held_at vm.old g)) }
+    ensures marks { vm.new ≡ with_held vm.old group (option_map marked (held_at vm.old group)) }
     // Its row of the table of calls, in each memory that the model may have before it.
-    ensures row { DoesRow D.medium (idirty g) (Ok tt) vm.old blocks.now vm.new blocks.now }
+    ensures row { DoesRow D.medium (idirty group) (Ok tt) vm.old blocks.now vm.new blocks.now }
 {
-    vm.vdirty(blocks, g);
+    vm.vdirty(blocks, group);
 }
 
 /// Takes back one lock of a group. It stays in memory.
-pub fn item_unlock<D: Device + Drop>(vm: &VmBlocks<D>, blocks: &mut Blocks, g: u16)
+pub fn item_unlock<D: Device + Drop>(vm: &VmBlocks<D>, blocks: &mut Blocks, group: u16)
     requires tied { IsTied D.medium vm.now blocks.old }
-    requires locked { 0 < locks_of blocks.old (vm_slot g) }
+    requires locked { 0 < locks_of blocks.old (vm_slot group) }
     ensures tied { IsTied D.medium vm.now blocks.new }
-    ensures less { blocks.new ≡ with_lock_less blocks.old (vm_slot g) }
+    ensures less { blocks.new ≡ with_lock_less blocks.old (vm_slot group) }
     // Its row of the table of calls, in each memory that the model may have before it.
-    ensures row { DoesRow D.medium (iunlock g) (Ok tt) vm.now blocks.old vm.now blocks.new }
+    ensures row { DoesRow D.medium (iunlock group) (Ok tt) vm.now blocks.old vm.now blocks.new }
 {
-    vm.vunlock(blocks, g);
+    vm.vunlock(blocks, group);
 }

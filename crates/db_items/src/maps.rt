@@ -22,21 +22,25 @@ pub fn map_item<D: Device + Drop>(vm: &VmBlocks<D>) -> (u16, u16)
 
 /// Names the map item: a group, and any number for an item of it; or 0 and 0 for none. `BadHandle` where
 /// the group is neither 0 nor a group, `Range` where it is 0 and the item is not; nothing changes then.
-pub fn set_map_item<D: Device + Drop>(vm: &mut VmBlocks<D>, g: u16, i: u16) -> Result<(), Refusal>
+pub fn set_map_item<D: Device + Drop>(
+    vm: &mut VmBlocks<D>,
+    group: u16,
+    item: u16,
+) -> Result<(), Refusal>
     ensures tied { (s : Store) → IsTied D.medium vm.old s → IsTied D.medium vm.new s }
-    ensures bad_handle { (result ≡ Err Refusal.BadHandle) ↔ (g ≢ 0) × (IsGroup vm.old g → ⊥) }
-    ensures range { (result ≡ Err Refusal.Range) ↔ (g ≡ 0) × (i ≢ 0) }
-    ensures ok { OnOk result (vm.new ≡ record vm.old { map_item = (g, i) }) }
+    ensures bad_handle { (result ≡ Err Refusal.BadHandle) ↔ (group ≢ 0) × (IsGroup vm.old group → ⊥) }
+    ensures range { (result ≡ Err Refusal.Range) ↔ (group ≡ 0) × (item ≢ 0) }
+    ensures ok { OnOk result (vm.new ≡ record vm.old { map_item = (group, item) }) }
     ensures err { OnErr result (vm.new ≡ vm.old) }
     // Its row of the table of calls, in each memory that the model may have before it.
-    ensures row { (s : Store) → IsTied D.medium vm.old s → DoesRow D.medium (isetmap g i) result vm.old s vm.new s }
+    ensures row { (s : Store) → IsTied D.medium vm.old s → DoesRow D.medium (isetmap group item) result vm.old s vm.new s }
 {
-    if g != 0 && !is_group(vm, g) {
+    if group != 0 && !is_group(vm, group) {
         return Err(Refusal::BadHandle);
     }
-    if g == 0 && i != 0 {
+    if group == 0 && item != 0 {
         return Err(Refusal::Range);
     }
-    vm.put_map_item(g, i);
+    vm.put_map_item(group, item);
     Ok(())
 }

@@ -3,7 +3,8 @@
 ghost use Rattle.std.specs.Prelude.{◌≡◌, true, false, IfOk, IfErr, IfSome, IfNone};
 ghost use Rattle.geos_asm.specs.Assembling.{IsWhyNoImage};
 ghost use Rattle.geos_image.specs.Reading.{image_at, Fails};
-ghost use Rattle.geos.specs.Commands.{IsAssembledAs, TakesVersion2, IsImageOf, IsWhyNoneOf, IsListed, IsJudged, IsExplained, IsExplainedText, IsCauseTold, begins_as_image};
+ghost use Rattle.geos.specs.Commands.{IsAssembledAs, TakesVersion2, IsImageOf, IsWhyNoneOf, IsListed};
+ghost use Rattle.geos.specs.Commands.{IsJudged, IsExplained, IsExplainedText, IsCauseTold, begins_as_image};
 
 use geos_asm::{AssembleError, assemble, assemble_all_rows, list, why_no_rows};
 use geos_causes::explain_cause;

@@ -1,6 +1,6 @@
 //! VM files of the system: they are made, opened and shown.
 
-ghost use Rattle.std.specs.Prelude.{◌≡◌, ◌≤◌, IfOk, true};
+ghost use Rattle.std.specs.Prelude.{◌≡◌, IfOk, true};
 ghost use Rattle.geos_shell.specs.Limits.{IsArea, IsWidth};
 
 use crate::request_fault::RequestFault;

@@ -2,7 +2,8 @@
 
 ghost use Rattle.std.specs.Prelude.{◌≡◌, ◌<◌, ◌≤◌, ◌++◌, ◌∷◌, ◌==◌, true, List, ℕ, length, position, IfOk, IfErr, IfSome, OnOk};
 ghost use Rattle.geos_text.specs.Words.{words};
-ghost use Rattle.geos_asm.specs.Budgets.{begins_word, ends_word, whole_lines, is_budget, is_header, IsCutRound, IsLineAlike, HasOtherBudgets, IsBudgeted, IsWhyNoBudgets};
+ghost use Rattle.geos_asm.specs.Budgets.{begins_word, ends_word, whole_lines, is_budget, is_header};
+ghost use Rattle.geos_asm.specs.Budgets.{IsCutRound, IsLineAlike, HasOtherBudgets, IsBudgeted, IsWhyNoBudgets};
 
 use crate::assembler::assemble;
 use crate::error::AssembleError;

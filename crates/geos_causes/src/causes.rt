@@ -1,7 +1,9 @@
 //! Why no rows or no numbers of steps are found, in an author's words.
 
 ghost use Rattle.std.specs.Prelude.{◌≡◌, ◌++◌, OnOk, IfOk};
-ghost use Rattle.geos_causes.specs.Causes.{differing_item, differing_items, is_from, edge_text, coming_from, coming_text, touched_text, touched_before_text, set_in_text, in_turn_text, by_word_text, set_to_text, apart_text, back_text, within_text, cause_words, cause_text};
+ghost use Rattle.geos_causes.specs.Causes.{differing_item, differing_items, is_from, edge_text, coming_from};
+ghost use Rattle.geos_causes.specs.Causes.{coming_text, touched_text, touched_before_text, set_in_text, in_turn_text};
+ghost use Rattle.geos_causes.specs.Causes.{by_word_text, set_to_text, apart_text, back_text, within_text, cause_words, cause_text};
 
 use geos_explain::pc_part;
 use geos_image::SlotState;

@@ -19,7 +19,8 @@ pub struct Areas {
 /// Reads what the header and the selector of a file say of its areas; whether the device holds a
 /// file, `VmFile::open` tells. `Disk` where the device fails, as it does past its length.
 pub fn read_areas<D: Device>(device: &mut D) -> Result<Areas, Disk>
-    ensures size { D.medium.honest device.old → IfOk result (λ areas. areas.size ≡ word (D.medium.image device.old) 8 + 65536 * word (D.medium.image device.old) 10) }
+    ensures size { D.medium.honest device.old
+        → IfOk result (λ areas. areas.size ≡ word (D.medium.image device.old) 8 + 65536 * word (D.medium.image device.old) 10) }
     ensures second { D.medium.honest device.old → IfOk result (λ areas. areas.second ≡ is_second (slice_index (D.medium.image device.old) 512)) }
     ensures reads { ReadsOnly D.medium device.old device.new }
     ensures cause { CausesDisk (D.medium.failed device.old) (D.medium.failed device.new) result }

@@ -1,6 +1,6 @@
 //! Bytes in hexadecimal, as `xxd` prints them.
 
-ghost use Rattle.std.specs.Prelude.{◌≡◌, ◌+◌, ◌*◌, ◌<◌, ◌++◌, OnOk, codes, flat_map, length, map, slice_get};
+ghost use Rattle.std.specs.Prelude.{◌≡◌, ◌+◌, ◌<◌, ◌++◌, OnOk, codes, flat_map, length, map, slice_get};
 ghost use Rattle.std.specs.List.{range_with_len};
 ghost use Rattle.geos_dump.specs.HexLines.{cell_text, column_text, digits_of, hex_line, hex_lines, offset_text, shown};
 

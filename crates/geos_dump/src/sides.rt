@@ -71,7 +71,8 @@ pub(crate) fn read_block<D: Device + Drop>(
     into: &mut [u8],
 ) -> Result<(), Disk>
     requires { HasBlock (directory_on side file.old) h (length into.old) }
-    ensures bytes { D.medium.honest file.old.device → OnOk result (into.new ≡ bytes_of_block (contents_on side (pair_of D.medium.image file.old)).blocks h) }
+    ensures bytes { D.medium.honest file.old.device
+        → OnOk result (into.new ≡ bytes_of_block (contents_on side (pair_of D.medium.image file.old)).blocks h) }
     ensures heap { OnOk result (IsHeap into.new) }
     ensures looks { IsOnlyRead D.medium file.old file.new }
     ensures ok { OnOk result (D.medium.failed file.new.device ≡ D.medium.failed file.old.device) }

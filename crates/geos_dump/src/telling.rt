@@ -33,7 +33,8 @@ fn put_told(
 ) -> Result<(), AllocError>
     requires heap { IsHeap bytes.now }
     requires size { length bytes.now < 65536 }
-    ensures { OnOk result (Writes telling (λ detail. block_text detail (record { h = entry.h; uid = entry.uid; bytes = bytes.now })) out.old.items out.new.items) }
+    ensures { OnOk result (Writes telling
+        (λ detail. block_text detail (record { h = entry.h; uid = entry.uid; bytes = bytes.now })) out.old.items out.new.items) }
 {
     match telling {
         Telling::Text(detail) => put_block_text(out, detail, entry.h, entry.uid, bytes),

@@ -2,7 +2,8 @@
 
 ghost use Rattle.std.specs.Prelude.{◌≡◌, ◌≢◌, ◌<◌, ℕ, true, false, Some, slice_get, slice_index_or};
 ghost use Rattle.geos_explain.specs.Places.{IsPlace, place_of, IsPcOf};
-ghost use Rattle.geos_explain.specs.Arrivals.{no_arrivals, arrival, arrived, behind, no_behind, IsBehind, AreBehind, arrived_along, arrived_from, next_arrivals, arrivals_at_entry, all_arrivals};
+ghost use Rattle.geos_explain.specs.Arrivals.{no_arrivals, arrival, arrived, behind, no_behind, IsBehind, AreBehind};
+ghost use Rattle.geos_explain.specs.Arrivals.{arrived_along, arrived_from, next_arrivals, arrivals_at_entry, all_arrivals};
 ghost use Rattle.geos_verify.specs.Places.{places};
 
 use crate::edges::{Edge, end_of};

@@ -47,7 +47,8 @@ fn put_place(
 ) -> Result<(), AllocError>
     requires within { pc < length within.now.explained.now.image.now.points }
     requires targets { MarksTargets within.now.explained.now.image.now.points targets.now }
-    ensures { OnOk result (out.new.items ≡ out.old.items ++ place_text (explained_of within.now.explained.now) within.now.r within.now.routine.now pc) }
+    ensures { OnOk result (out.new.items
+        ≡ out.old.items ++ place_text (explained_of within.now.explained.now) within.now.r within.now.routine.now pc) }
 {
     put_label_line(out, within.explained.image.image(), targets, pc)?;
     let place = place_at(within, pc);

@@ -57,21 +57,21 @@ impl<'a> Filled<'a> {
     }
 
     /// A routine, by its index.
-    pub fn routine(&self, i: u16) -> &Routine
-        requires { i < length self.now.routines }
-        ensures { slice_get self.now.routines i ≡ Some result.now }
+    pub fn routine(&self, index: u16) -> &Routine
+        requires { index < length self.now.routines }
+        ensures { slice_get self.now.routines index ≡ Some result.now }
     {
-        self.image.routine(i)
+        self.image.routine(index)
     }
 
     /// The pc of a routine's first instruction.
-    pub fn start(&self, i: u16) -> u16
-        requires { i < length self.now.routines }
-        ensures start { result ≡ start_of self.now.routines i }
-        ensures room { IfSome (slice_get self.now.routines i) (λ routine. result + routine.count ≤ length self.now.points) }
+    pub fn start(&self, index: u16) -> u16
+        requires { index < length self.now.routines }
+        ensures start { result ≡ start_of self.now.routines index }
+        ensures room { IfSome (slice_get self.now.routines index) (λ routine. result + routine.count ≤ length self.now.points) }
         ensures short { length self.now.points ≤ 4096 }
     {
-        self.image.start(i)
+        self.image.start(index)
     }
 
     /// How many instructions there are, 1 to 4,096.

@@ -3,7 +3,8 @@
 ghost use Rattle.std.specs.Prelude.{◌≡◌, ◌≤◌, ◌++◌, OnOk, drop, length};
 ghost use Rattle.geos_text.specs.Parts.{part_text};
 ghost use Rattle.geos_explain.specs.Places.{IsPlace, place_of};
-ghost use Rattle.geos_explain.specs.Held.{is_held_at, slot_at, slots_at, since_place, or_another, since_text, since_at, sinces_at, else_wanted, kept_behind, unmet_words, exit_words};
+ghost use Rattle.geos_explain.specs.Held.{is_held_at, slot_at, slots_at, since_place, or_another, since_text};
+ghost use Rattle.geos_explain.specs.Held.{since_at, sinces_at, else_wanted, kept_behind, unmet_words, exit_words};
 
 use crate::lacks::{lacking, put_lacking};
 use crate::numbers::{pc_part, put_also, put_are};

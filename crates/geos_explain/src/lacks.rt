@@ -1,8 +1,9 @@
 //! What a row lacks to fit another.
 
-ghost use Rattle.std.specs.Prelude.{◌≡◌, ◌<◌, ◌++◌, OnOk};
+ghost use Rattle.std.specs.Prelude.{◌≡◌, ◌++◌, OnOk};
 ghost use Rattle.geos_verify.specs.Lists.{zip2};
-ghost use Rattle.geos_explain.specs.Lacks.{lacking_bound, lacking_slot, lacking_pointer, lacking_pair, lacking, held_item, held_items, lacking_items, LacksNothingWhereItFits};
+ghost use Rattle.geos_explain.specs.Lacks.{lacking_bound, lacking_slot, lacking_pointer, lacking_pair};
+ghost use Rattle.geos_explain.specs.Lacks.{lacking, held_item, held_items, lacking_items, LacksNothingWhereItFits};
 
 use geos_image::{Pointer, Row, SlotState};
 use geos_listing::put_items;

@@ -1,7 +1,8 @@
 //! Which instructions control reaches.
 
 ghost use Rattle.std.specs.Prelude.{◌≡◌, length};
-ghost use Rattle.geos_explain.specs.Led.{no_marks, marked, is_marked, end_marked, marked_at, marked_round, starts_marked, reached_within, reached, is_reached, MarksWhatIsReached};
+ghost use Rattle.geos_explain.specs.Led.{no_marks, marked, is_marked, end_marked, marked_at};
+ghost use Rattle.geos_explain.specs.Led.{marked_round, starts_marked, reached, is_reached, MarksWhatIsReached};
 
 use crate::edges::{Edge, are_in_one, end_of};
 use crate::filled::Filled;

@@ -2,7 +2,8 @@
 
 ghost use Rattle.std.specs.Prelude.{◌≡◌, ◌++◌, OnOk};
 ghost use Rattle.geos_explain.specs.Places.{IsPlace, place_of};
-ghost use Rattle.geos_explain.specs.Notes.{coefficient_text, coefficients_text, steps_text, is_one, potential_text, where_text, note_head, known_here, note, budget_words};
+ghost use Rattle.geos_explain.specs.Notes.{coefficient_text, coefficients_text, steps_text, is_one};
+ghost use Rattle.geos_explain.specs.Notes.{potential_text, where_text, note_head, known_here, note, budget_words};
 
 use crate::led::is_reached;
 use crate::numbers::either;

@@ -2,7 +2,9 @@
 
 ghost use Rattle.std.specs.Prelude.{◌≡◌, ◌++◌, ◌&&◌, not, OnOk};
 ghost use Rattle.geos_verify.specs.Rows.{is_empty};
-ghost use Rattle.geos_explain.specs.Public.{own_only, own_slots, marked_only, marked_slots, held_pairs, known_pointers, missing_only, missing_slots, kept_only, kept_slots, entry_faults, missing_words, exit_faults, public_words, NoFaultsWhereItMayEnterAndLeave};
+ghost use Rattle.geos_explain.specs.Public.{own_only, own_slots, marked_only, marked_slots, held_pairs};
+ghost use Rattle.geos_explain.specs.Public.{known_pointers, missing_only, missing_slots, kept_only, kept_slots};
+ghost use Rattle.geos_explain.specs.Public.{entry_faults, missing_words, exit_faults, public_words, NoFaultsWhereItMayEnterAndLeave};
 
 use crate::numbers::put_also;
 use geos_image::{Routine, Row, SlotState};

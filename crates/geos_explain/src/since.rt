@@ -2,7 +2,8 @@
 
 ghost use Rattle.std.specs.Prelude.{◌≡◌, Some, slice_get};
 ghost use Rattle.geos_explain.specs.Places.{IsPlace, place_of};
-ghost use Rattle.geos_explain.specs.Since.{holds, keeps_along, leads_to_marked, leads_on, marked_back_at, back_round, held_from, fills_at, also, since_entry, held_since, WhatIsSaidOfSlotsHolds};
+ghost use Rattle.geos_explain.specs.Since.{holds, keeps_along, leads_to_marked, leads_on, marked_back_at, back_round};
+ghost use Rattle.geos_explain.specs.Since.{held_from, fills_at, also, since_entry, held_since, WhatIsSaidOfSlotsHolds};
 ghost use Rattle.geos_verify.specs.Places.{places};
 
 use crate::edges::{Edge, end_of};

@@ -2,7 +2,8 @@
 
 ghost use Rattle.std.specs.Prelude.{◌≡◌, ◌++◌, OnOk};
 ghost use Rattle.geos_explain.specs.Places.{IsPlace, place_of};
-ghost use Rattle.geos_explain.specs.Steps.{whole_words, asked_words, asks_along, asks_branching, paying_item, paying_items, touched_words, last_words, unpaid_words};
+ghost use Rattle.geos_explain.specs.Steps.{whole_words, asked_words, asks_along, asks_branching};
+ghost use Rattle.geos_explain.specs.Steps.{paying_item, paying_items, touched_words, last_words, unpaid_words};
 
 use crate::notes::put_steps;
 use crate::numbers::either;

@@ -4,7 +4,8 @@ ghost use Rattle.std.specs.Prelude.{◌≡◌, ◌<◌, Some, slice_get};
 ghost use Rattle.geos_explain.specs.Places.{IsPlace, IsPcOf, place_of};
 ghost use Rattle.geos_explain.specs.Ways.{AreFirsts};
 ghost use Rattle.geos_explain.specs.Lost.{WhatIsSaidHolds};
-ghost use Rattle.geos_explain.specs.Trace.{meeting_at, nowhere_or, end_at, passed, hint_at, arrivals_of, AreBacks, back_as, back_along, back_from, next_round, rounds, along_lost, traced};
+ghost use Rattle.geos_explain.specs.Trace.{meeting_at, nowhere_or, end_at, passed, hint_at, arrivals_of, AreBacks};
+ghost use Rattle.geos_explain.specs.Trace.{back_as, back_along, back_from, next_round, rounds, along_lost, traced};
 ghost use Rattle.geos_verify.specs.Places.{places};
 
 use crate::arrivals::{Arrivals, all_arrivals, arrival};

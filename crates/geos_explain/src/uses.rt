@@ -1,10 +1,12 @@
 //! What is wrong with the slots and pointers that an instruction uses.
 
-ghost use Rattle.std.specs.Prelude.{◌≡◌, ◌<◌, ◌++◌, OnOk};
+ghost use Rattle.std.specs.Prelude.{◌≡◌, ◌++◌, OnOk};
 ghost use Rattle.geos_image.specs.Fields.{FieldsFit};
 ghost use Rattle.geos_opcodes.specs.Facts.{uses_of};
 ghost use Rattle.geos_verify.specs.Uses.{OffsetFits};
-ghost use Rattle.geos_explain.specs.Uses.{state_item, nowhere_only, leading_nowhere, nowhere_words, short_words, index_known, index_wanted, known_bytes, index_words, reach_words, past_words, slot_behind, changed_slot, mark_word, unmarked_words, not_empty, held_words, kind_wish, mark_wish, unlock_wish, slot_wish, serving, other_item, slot_words};
+ghost use Rattle.geos_explain.specs.Uses.{state_item, nowhere_only, leading_nowhere, nowhere_words, short_words, index_known, index_wanted};
+ghost use Rattle.geos_explain.specs.Uses.{known_bytes, index_words, reach_words, past_words, slot_behind, changed_slot, mark_word, unmarked_words};
+ghost use Rattle.geos_explain.specs.Uses.{not_empty, held_words, kind_wish, mark_wish, unlock_wish, slot_wish, serving, other_item, slot_words};
 
 use crate::numbers::{either, is_one_item, written_from};
 use geos_image::{Instr, Pointer, Row, SlotState};

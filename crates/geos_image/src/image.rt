@@ -1,8 +1,8 @@
 //! Images.
 
-ghost use Rattle.std.specs.Prelude.{◌≡◌, ◌<◌, ◌≤◌, ◌+◌, ◌↔◌, IsTrue, IsSome, IfSome, true, false, [], replicate, ◌&&◌, nat_le, length, slice_get, Some};
+ghost use Rattle.std.specs.Prelude.{◌≡◌, ◌<◌, ◌≤◌, ◌+◌, ◌↔◌, IsTrue, IsSome, IfSome, true};
+ghost use Rattle.std.specs.Prelude.{false, [], replicate, ◌&&◌, nat_le, length, slice_get, Some};
 ghost use Rattle.std.specs.List.{list_all};
-ghost use Rattle.geos_image.specs.declared.point.Point.{Point};
 ghost use Rattle.geos_image.specs.Parts.{Parts, start_of};
 ghost use Rattle.geos_image.specs.Legal.{is_image, is_formed, are_routines, is_point, rows_stand, row_flags, keyed_parts, is_keyed};
 ghost use Rattle.geos_image.specs.Keys.{gives, is_key, branches, falls_through};
@@ -189,24 +189,24 @@ impl Image {
     }
 
     /// A routine, by its index.
-    pub fn routine(&self, i: u16) -> &Routine
-        requires { i < length self.now.routines }
-        ensures { slice_get self.now.routines i ≡ Some result.now }
+    pub fn routine(&self, index: u16) -> &Routine
+        requires { index < length self.now.routines }
+        ensures { slice_get self.now.routines index ≡ Some result.now }
     {
-        &self.routines[i as usize]
+        &self.routines[index as usize]
     }
 
     /// The pc of a routine's first instruction.
-    pub fn start(&self, i: u16) -> u16
-        requires { i < length self.now.routines }
-        ensures start { result ≡ start_of self.now.routines i }
+    pub fn start(&self, index: u16) -> u16
+        requires { index < length self.now.routines }
+        ensures start { result ≡ start_of self.now.routines index }
         // The routine's instructions are some of the image's.
-        ensures room { IfSome (slice_get self.now.routines i) (λ routine. result + routine.count ≤ length self.now.points) }
+        ensures room { IfSome (slice_get self.now.routines index) (λ routine. result + routine.count ≤ length self.now.points) }
         ensures short { length self.now.points ≤ MOST_INSTRS }
         // A row is given there.
         ensures given { gives self.now result ≡ true }
     {
-        total_count(&self.routines[..usize::from(i)]) as u16
+        total_count(&self.routines[..usize::from(index)]) as u16
     }
 
     /// How many instructions there are, 1 to 4,096.

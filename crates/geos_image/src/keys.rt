@@ -1,8 +1,9 @@
 //! The key places of code.
 
 ghost use Rattle.std.specs.Prelude.{◌≡◌, ◌<◌, ◌≤◌, length, slice_set, true};
-ghost use Rattle.geos_image.specs.Parts.{instrs_of, total_count};
-ghost use Rattle.geos_image.specs.Keys.{falls_through, branches, starts_from, keys_from, target_key, cut_key, flagged, key_flags, flag_count, with_rows, row_for, flag_bit, row_where, kept_rows};
+ghost use Rattle.geos_image.specs.Parts.{instrs_of};
+ghost use Rattle.geos_image.specs.Keys.{falls_through, branches, starts_from, keys_from, target_key, cut_key, flagged};
+ghost use Rattle.geos_image.specs.Keys.{key_flags, flag_count, with_rows, row_for, flag_bit, row_where, kept_rows};
 
 use crate::instr::Instr;
 use crate::legal::{MOST_INSTRS, MOST_ROUTINES};

@@ -1,9 +1,9 @@
 //! The rules that routines and points keep within an image.
 
-ghost use Rattle.std.specs.Prelude.{◌≡◌, ◌<◌, ◌≤◌, ◌^◌, ◌||◌, length, not, ◌==◌, IfSome};
+ghost use Rattle.std.specs.Prelude.{◌≡◌, ◌<◌, ◌≤◌, ◌||◌, length, ◌==◌, IfSome};
 ghost use Rattle.std.specs.List.{list_all};
-ghost use Rattle.geos_image.specs.Legal.{is_name_byte, text_end, is_name, is_own, is_pointer, is_row, is_given, is_instr, is_point, is_named, is_routine};
-ghost use Rattle.geos_image.specs.declared.point.Point.{Point};
+ghost use Rattle.geos_image.specs.Legal.{is_name_byte, text_end, is_name, is_own, is_pointer};
+ghost use Rattle.geos_image.specs.Legal.{is_row, is_given, is_instr, is_point, is_named, is_routine};
 ghost use Rattle.geos_image.specs.Parts.{total_count};
 
 use crate::instr::Instr;

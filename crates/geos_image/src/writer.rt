@@ -2,7 +2,7 @@
 
 ghost use Rattle.std.specs.Prelude.{◌≡◌, ◌++◌, OnOk, IfOk, map};
 ghost use Rattle.std.specs.List.{flat_map, All};
-ghost use Rattle.geos_image.specs.Spelling.{word, long, instr, slot_code, pointer, pairs_byte, row, potential, routine, given, told, rest, version, spelling};
+ghost use Rattle.geos_image.specs.Spelling.{word, long, instr, slot_code, pointer, pairs_byte, row, potential, routine, given, told, rest, spelling};
 ghost use Rattle.geos_image.specs.Ranges.{IsWord, PointerFits, RowFits, GivenFits, PotentialFits, RoutineFits, PointFits};
 ghost use Rattle.geos_image.specs.Reading.{image_at};
 

@@ -1,6 +1,6 @@
 //! The image of a session, in hexadecimal digits.
 
-ghost use Rattle.std.specs.Prelude.{◌≡◌, ◌<◌, ◌≤◌, ◌++◌, ◌∷◌, [], ◌%◌, length, true, None, IfSome, IfNone, IfOk, IfErr, filter_map};
+ghost use Rattle.std.specs.Prelude.{◌≡◌, ◌<◌, ◌≤◌, ◌∷◌, [], ◌%◌, length, true, None, IfSome, IfNone, IfOk, IfErr, filter_map};
 ghost use Rattle.std.specs.Option.{ForSome};
 ghost use Rattle.std.specs.Str.Lines.{lines};
 ghost use Rattle.geos_input.specs.Hex.{digit_of, bytes_of, digits_in, is_hex_line, is_end};

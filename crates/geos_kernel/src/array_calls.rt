@@ -24,7 +24,8 @@ impl<D: Device + Drop> Kernel<D> {
         requires locked { IsLocked self.old.core name }
         requires marked { MayChange self.old.core name }
         ensures calls { Calls (D.medium.honest self.old.device) (table.canew name element_size) result self.old.core self.new.core }
-        ensures no_room { result ≡ Err NoRoom → HasNoRoomFor self.new.core name (create_array element_size (chunks_at self.old.core.blocks name)).chunks }
+        ensures no_room { result ≡ Err NoRoom
+            → HasNoRoomFor self.new.core name (create_array element_size (chunks_at self.old.core.blocks name)).chunks }
         ensures refused { StaysIfRefused result self.old.core.blocks self.new.core.blocks }
         ensures vm { LeavesVm self.old self.new }
     {

@@ -121,7 +121,8 @@ impl<D: Device + Drop> Kernel<D> {
         ensures stands { IfOk result (λ span. IsStanding self.new.core span × (n ≤ span.len)) }
         ensures writable { IfOk result (λ span. IsMarked self.new.core g → IsWritable self.new.core span) }
         ensures no_room { result ≡ Err Refusal.NoRoom → ListedHasNoRoom self.new.core g }
-        ensures locks { IsThere self.old.core.blocks (vm_slot g) → OnOk result (self.new.core.blocks ≡ with_lock_more self.old.core.blocks (vm_slot g)) }
+        ensures locks { IsThere self.old.core.blocks (vm_slot g)
+            → OnOk result (self.new.core.blocks ≡ with_lock_more self.old.core.blocks (vm_slot g)) }
         ensures in_memory { InMemory g result self.old self.new }
         ensures no_group { (IsGroup self.old.core.vm g → ⊥) → self.new ≡ self.old }
         ensures device { ReadsFile D.medium (result ≡ Err Refusal.Disk) self.old self.new }

@@ -1,6 +1,6 @@
 //! The kernel: blocks of global memory, each with a heap of chunks, beside those of a VM file.
 
-ghost use Rattle.std.specs.Prelude.{true, false, ◌≡◌, ◌<◌, ◌≤◌, ◌↔◌, IfOk, IfErr, IsTrue, OnOk, OnErr, Ok, Err};
+ghost use Rattle.std.specs.Prelude.{false, ◌≡◌, ◌≤◌, ◌↔◌, IfOk, IfErr, IsTrue, OnOk, OnErr, Ok, Err};
 ghost use Rattle.block_handles.specs.Names.{IsHandle, slot_of};
 ghost use Rattle.block_handles.specs.Store.{IsThere};
 ghost use Rattle.vm_blocks.specs.Listed.{NoneLocked};
@@ -140,7 +140,8 @@ impl<D: Device + Drop> Kernel<D> {
     pub fn memory_is_legal(&self)
         ensures file { (f : model_file.VmFile) × IsFileOf (D.medium.honest self.now.device) self.now.core f }
         ensures legal { (f : model_file.VmFile) → IsFileOf (D.medium.honest self.now.device) self.now.core f → IsMemory (memory_of self.now.core f) }
-        ensures heaps { (name : Name) → IsThere self.now.core.blocks (slot_of name) → IsHeapUnder name.h (bytes_of self.now.core.blocks (slot_of name)) }
+        ensures heaps { (name : Name) → IsThere self.now.core.blocks (slot_of name)
+            → IsHeapUnder name.h (bytes_of self.now.core.blocks (slot_of name)) }
         ensures sees { SeesDevice D.medium self.now }
         ensures kept { LeavesKept D.medium self.now }
         ensures unlocked { (f : model_file.VmFile) → IsFileOf (D.medium.honest self.now.device) self.now.core f
@@ -214,7 +215,8 @@ impl<D: Device + Drop> Kernel<D> {
         requires locked { IsLocked self.old.core name }
         requires marked { MayChange self.old.core name }
         ensures calls { Calls (D.medium.honest self.old.device) (change_row name change) result self.old.core self.new.core }
-        ensures no_room { result ≡ Err Refusal.NoRoom → HasNoRoomFor self.new.core name (change_edit change (chunks_at self.old.core.blocks name)).chunks }
+        ensures no_room { result ≡ Err Refusal.NoRoom
+            → HasNoRoomFor self.new.core name (change_edit change (chunks_at self.old.core.blocks name)).chunks }
         ensures refused { StaysIfRefused result self.old.core.blocks self.new.core.blocks }
         ensures vm { LeavesVm self.old self.new }
         ensures remain { may_grow change ≡ false → Remain self.old.core.blocks self.new.core.blocks 0 }
@@ -231,7 +233,8 @@ impl<D: Device + Drop> Kernel<D> {
         requires locked { IsLocked self.old.core name }
         requires marked { MayChange self.old.core name }
         ensures calls { Calls (D.medium.honest self.old.device) (make_row name make) result self.old.core self.new.core }
-        ensures no_room { result ≡ Err Refusal.NoRoom → HasNoRoomFor self.new.core name (make_edit make (chunks_at self.old.core.blocks name)).chunks }
+        ensures no_room { result ≡ Err Refusal.NoRoom
+            → HasNoRoomFor self.new.core name (make_edit make (chunks_at self.old.core.blocks name)).chunks }
         ensures refused { StaysIfRefused result self.old.core.blocks self.new.core.blocks }
         ensures vm { LeavesVm self.old self.new }
     {

@@ -26,7 +26,8 @@ impl<D: Device + Drop> Kernel<D> {
     pub fn is_sure(&self) -> bool
         ensures sure { result ≡ self.now.core.vm.file.sure }
         // What `open` would find after a stop now.
-        ensures stop { D.medium.honest self.now.device → (c : List ℕ) → D.medium.may_leave self.now.device c → Finds D.medium.image (vm_file_of self.now) c }
+        ensures stop { D.medium.honest self.now.device → (c : List ℕ) → D.medium.may_leave self.now.device c
+            → Finds D.medium.image (vm_file_of self.now) c }
         // That is what the model has as kept.
         ensures kept { LeavesKept D.medium self.now }
     {
@@ -61,7 +62,8 @@ impl<D: Device + Drop> Kernel<D> {
         ensures no_room { result ≡ Err Refusal.NoRoom → ListedHasNoRoom self.new.core h }
         // A block that is in memory is locked without the device; a refusal but for room or the device changes nothing.
         ensures in_memory { InMemory h result self.old self.new }
-        ensures locks { IsThere self.old.core.blocks (vm_slot h) → OnOk result (self.new.core.blocks ≡ with_lock_more self.old.core.blocks (vm_slot h)) }
+        ensures locks { IsThere self.old.core.blocks (vm_slot h)
+            → OnOk result (self.new.core.blocks ≡ with_lock_more self.old.core.blocks (vm_slot h)) }
         ensures refused { (result ≡ Err Refusal.NoRoom → ⊥) → (result ≡ Err Refusal.Disk → ⊥) → OnErr result (self.new ≡ self.old) }
         ensures device { ReadsFile D.medium (result ≡ Err Refusal.Disk) self.old self.new }
     {

@@ -4,7 +4,8 @@ ghost use Rattle.std.specs.Prelude.{◌≡◌, ◌++◌, OnOk, None, slice_index
 ghost use Rattle.std.specs.List.{All};
 ghost use Rattle.geos_image.specs.declared.row.SlotState.TheVariants.{Empty};
 ghost use Rattle.geos_image.specs.Ranges.{IsWord, PointerFits, RowFits};
-ghost use Rattle.geos_listing.specs.Rows.{texts_below, bound_item, held_item, state_word, slot_item, pointer_item, pair_item, pair_items, row_items, row_line};
+ghost use Rattle.geos_listing.specs.Rows.{texts_below, bound_item, held_item, state_word, slot_item};
+ghost use Rattle.geos_listing.specs.Rows.{pointer_item, pair_item, pair_items, row_items, row_line};
 
 use geos_image::{Pointer, Row, SlotState};
 use geos_text::put_numbered;

@@ -3,7 +3,6 @@ use Rattle.std.proofs.Common.{◌≡◌, ℕ, ◌+◌, Bool, true, false, not, L
 use Rattle.std.specs.Prelude.{◌==◌, IsSome, is_none, option_map}
 use Rattle.std.proofs.lemmas.Bool.{not-false}
 use Rattle.std.proofs.lemmas.List.{get_or-set_same, set-get_or}
-use Rattle.geos_terms.specs.declared.name.Name.{Name}
 use Rattle.geos_terms.specs.declared.name.Owner.{Owner}
 use Rattle.geos_terms.specs.declared.name.Owner.TheVariants as owner
 use Rattle.geos_terms.specs.declared.refusal.Refusal.{Refusal}

@@ -4,7 +4,8 @@ ghost use Rattle.std.specs.Prelude.{◌≡◌, ◌+◌, ◌∷◌, min, IfOk};
 ghost use Rattle.std.specs.Str.Lines.{lines};
 ghost use Rattle.geos_text.specs.Words.{words};
 ghost use Rattle.geos_source.specs.Lines.{parted, IsStatement};
-ghost use Rattle.geos_source.specs.Declarations.{nothing, twice, with_label, with_labels, name_in_front, with_routine_name, is_row_word, with_statement, with_line, declared};
+ghost use Rattle.geos_source.specs.Declarations.{nothing, twice, with_label, with_labels, name_in_front};
+ghost use Rattle.geos_source.specs.Declarations.{with_routine_name, is_row_word, with_statement, with_line, declared};
 ghost use Rattle.geos_source.specs.Views.{declared_of};
 
 use crate::fault::{BadLine, Why, at_line, first};

@@ -2,7 +2,9 @@
 
 ghost use Rattle.std.specs.Prelude.{◌≡◌};
 ghost use Rattle.geos_source.specs.Faults.{least};
-ghost use Rattle.geos_source.specs.Texts.{blank, unfollowed, unfilled, drop_labels, closed, why_of, begun_by, begun, misplaced_in, misplaced_out, with_in, with_out, with_entry, with_exit, take_in, take_out, outside, in_body, counted, with_instr_at, take_labels, without_routine};
+ghost use Rattle.geos_source.specs.Texts.{blank, unfollowed, unfilled, drop_labels, closed, why_of, begun_by, begun};
+ghost use Rattle.geos_source.specs.Texts.{misplaced_in, misplaced_out, with_in, with_out, with_entry, with_exit, take_in};
+ghost use Rattle.geos_source.specs.Texts.{take_out, outside, in_body, counted, with_instr_at, take_labels, without_routine};
 
 use crate::declarations::one_more;
 use crate::fault::{BadLine, Why, at_line, first, least};

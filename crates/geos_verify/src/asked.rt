@@ -28,24 +28,25 @@ fn coefficients_pay(asked: &[u32; 4], left: &[u32; 4]) -> bool
 impl Asked {
     /// What the potential has to pay for the steps with: its constant, and the coefficient of the
     /// counter that helps.
-    pub fn left(&self, p: &Potential) -> u64
-        ensures { result ≡ left_with self.now.counter p.now }
+    pub fn left(&self, potential: &Potential) -> u64
+        ensures { result ≡ left_with self.now.counter potential.now }
     {
         let helps = match self.counter {
-            Some(k) => match p.coefficients.get(usize::from(k)) {
+            Some(k) => match potential.coefficients.get(usize::from(k)) {
                 Some(coefficient) => *coefficient,
                 None => 0,
             },
             None => 0,
         };
-        u64::from(p.constant) + u64::from(helps)
+        u64::from(potential.constant) + u64::from(helps)
     }
 
     /// Whether the potential pays for the edge.
-    pub fn is_paid(&self, p: &Potential) -> bool
-        ensures { result ≡ is_paid self.now p.now }
+    pub fn is_paid(&self, potential: &Potential) -> bool
+        ensures { result ≡ is_paid self.now potential.now }
     {
-        self.steps <= self.left(p) && coefficients_pay(&self.coefficients, &p.coefficients)
+        self.steps <= self.left(potential)
+            && coefficients_pay(&self.coefficients, &potential.coefficients)
     }
 }
 
@@ -105,29 +106,29 @@ fn asks_calling(budget: u32, q: &Potential) -> Asked
     }
 }
 
-/// What the edge to the next instruction asks, where `row` is known before it and q is the
-/// potential there. A call also wants no coefficient there on a counter that the routine touches.
-pub fn asked_along(image: &Image, i: &Instr, row: &Row, q: &Potential) -> Asked
-    requires fields { FieldsFit i.now.opcode i.now }
-    requires callee { CalleeFits (length image.now.routines) i.now }
-    ensures { result ≡ asked_along image.now i.now i.now.opcode row.now q.now }
+/// What the edge to the next instruction asks, where `row` is known before it and `next` is
+/// the potential there. A call also wants no coefficient there on a counter that the routine touches.
+pub fn asked_along(image: &Image, instr: &Instr, row: &Row, next: &Potential) -> Asked
+    requires fields { FieldsFit instr.now.opcode instr.now }
+    requires callee { CalleeFits (length image.now.routines) instr.now }
+    ensures { result ≡ asked_along image.now instr.now instr.now.opcode row.now next.now }
 {
-    match i.opcode {
-        Opcode::Setk => asks_setting(i.a, i.imm, q),
-        Opcode::Setkw => asks_setting(i.a, row.bounds[i.b as usize], q),
-        Opcode::Loop => asks_setting(i.a, 0, q),
-        Opcode::Call => asks_calling(image.routine(i.imm).budget, q),
-        _ => asks(q),
+    match instr.opcode {
+        Opcode::Setk => asks_setting(instr.a, instr.imm, next),
+        Opcode::Setkw => asks_setting(instr.a, row.bounds[instr.b as usize], next),
+        Opcode::Loop => asks_setting(instr.a, 0, next),
+        Opcode::Call => asks_calling(image.routine(instr.imm).budget, next),
+        _ => asks(next),
     }
 }
 
-/// What the edge to the target asks, where q is the potential there.
-pub fn asked_branching(i: &Instr, q: &Potential) -> Asked
-    requires { FieldsFit i.now.opcode i.now }
-    ensures { result ≡ asked_branching i.now i.now.opcode q.now }
+/// What the edge to the target asks, where `next` is the potential there.
+pub fn asked_branching(instr: &Instr, next: &Potential) -> Asked
+    requires { FieldsFit instr.now.opcode instr.now }
+    ensures { result ≡ asked_branching instr.now instr.now.opcode next.now }
 {
-    match i.opcode {
-        Opcode::Loop => asks_taking(i.a, q),
-        _ => asks(q),
+    match instr.opcode {
+        Opcode::Loop => asks_taking(instr.a, next),
+        _ => asks(next),
     }
 }

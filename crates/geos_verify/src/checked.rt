@@ -1,12 +1,8 @@
 //! Images that were checked.
 
-ghost use Rattle.std.specs.Prelude.{◌≡◌, ◌<◌, ◌≤◌, ◌+◌, ℕ, length, true, Some, None, slice_get, IfSome, IfNone, IfOk, IfErr};
-ghost use Rattle.geos_image.specs.declared.routine.Routine.{Routine};
-ghost use Rattle.geos_image.specs.declared.point.Point.{Point};
-ghost use Rattle.geos_image.specs.Parts.{start_of};
+ghost use Rattle.std.specs.Prelude.{◌≡◌, ◌<◌, ◌≤◌, ◌+◌, true, IfSome, IfNone, IfOk, IfErr};
 ghost use Rattle.geos_image.specs.Legal.{is_image};
 ghost use Rattle.geos_verify.specs.Rules.{RefusesNone, Refuses, Accepted, IsChecked, FirstRefusal};
-ghost use Rattle.geos_verify.specs.Touched.{NotesBelow};
 
 use crate::body::Body;
 use crate::place::row_next;
@@ -45,7 +41,8 @@ impl Checked {
 
 /// The first refusal in a routine.
 fn refusal_in(body: &Body) -> Option<Reject>
-    ensures none { IfNone result (RefusesNone body.now.image.now body.now.r body.now.routine.now body.now.start (body.now.start + body.now.routine.now.count)) }
+    ensures none { IfNone result
+        (RefusesNone body.now.image.now body.now.r body.now.routine.now body.now.start (body.now.start + body.now.routine.now.count)) }
     ensures within { IfSome result (λ reject. (body.now.start ≤ reject.pc) × (reject.pc < body.now.start + body.now.routine.now.count)) }
     ensures some { IfSome result (Refuses body.now.image.now body.now.r body.now.routine.now body.now.start) }
     ensures first { IfSome result (λ reject. RefusesNone body.now.image.now body.now.r body.now.routine.now body.now.start reject.pc) }

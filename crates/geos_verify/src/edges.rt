@@ -16,13 +16,13 @@ use geos_opcodes::{SlotUse, Uses};
 
 /// Whether the instruction has the edge: to its target where `branch` says so, else to the next
 /// instruction.
-pub fn has_edge(i: &Instr, branch: bool) -> bool
-    ensures { result ≡ has_edge i.now branch }
+pub fn has_edge(instr: &Instr, branch: bool) -> bool
+    ensures { result ≡ has_edge instr.now branch }
 {
     if branch {
-        branches(i.opcode)
+        branches(instr.opcode)
     } else {
-        falls_through(i.opcode)
+        falls_through(instr.opcode)
     }
 }
 

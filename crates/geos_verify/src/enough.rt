@@ -24,12 +24,12 @@ pub fn within_bounds(words: &[u16; 8], bounds: &[u16; 8]) -> bool
     low & high
 }
 
-/// Whether a slot in state r is as wanted by state s: in that state, or marked where that is not
+/// Whether a slot in this state is as wanted: in the wanted state, or marked where that is not
 /// wanted.
-pub fn slot_fits(r: SlotState, s: SlotState) -> bool
-    ensures { result ≡ slot_fits r s }
+pub fn slot_fits(state: SlotState, wanted_state: SlotState) -> bool
+    ensures { result ≡ slot_fits state wanted_state }
 {
-    match (r, s) {
+    match (state, wanted_state) {
         (SlotState::Empty, SlotState::Empty) | (SlotState::Mem, SlotState::Mem) => true,
         (
             SlotState::Vm { marked, borrowed },
@@ -51,15 +51,16 @@ fn slots_fit(r: &[SlotState; 4], s: &[SlotState; 4]) -> bool
     slot_fits(r0, s0) & slot_fits(r1, s1) & slot_fits(r2, s2) & slot_fits(r3, s3)
 }
 
-/// Whether a pointer of which p is known is as wanted by q: nothing is, or it leads into the same
+/// Whether a pointer of which this is known is as wanted: nothing is, or it leads into the same
 /// slot, with as many bytes.
-pub fn pointer_fits(p: Option<Pointer>, q: Option<Pointer>) -> bool
-    ensures { result ≡ pointer_fits p q }
+pub fn pointer_fits(pointer: Option<Pointer>, wanted: Option<Pointer>) -> bool
+    ensures { result ≡ pointer_fits pointer wanted }
 {
-    match (p, q) {
+    match (pointer, wanted) {
         (_, None) => true,
         (None, Some(_)) => false,
-        (Some(p), Some(q)) => p.slot == q.slot && q.least <= p.least,
+        (Some(pointer), Some(wanted)) => pointer.slot == wanted.slot
+            && wanted.least <= pointer.least,
     }
 }
 
@@ -80,14 +81,14 @@ fn pairs_fit(r: &[bool; 6], s: &[bool; 6]) -> bool
     first & last
 }
 
-/// Whether what row r says of the registers is enough for row s.
-pub fn fits(r: &Row, s: &Row) -> bool
-    ensures { result ≡ fits r.now s.now }
+/// Whether what the row says of the registers is enough for the wanted one.
+pub fn fits(row: &Row, wanted: &Row) -> bool
+    ensures { result ≡ fits row.now wanted.now }
 {
-    within_bounds(&r.bounds, &s.bounds)
-        && slots_fit(&r.slots, &s.slots)
-        && pointers_fit(&r.pointers, &s.pointers)
-        && pairs_fit(&r.pairs, &s.pairs)
+    within_bounds(&row.bounds, &wanted.bounds)
+        && slots_fit(&row.slots, &wanted.slots)
+        && pointers_fit(&row.pointers, &wanted.pointers)
+        && pairs_fit(&row.pairs, &wanted.pairs)
 }
 
 /// Whether nothing is held.

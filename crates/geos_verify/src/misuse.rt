@@ -1,11 +1,12 @@
 //! The rules on what an instruction does with slots and pointers.
 
-ghost use Rattle.std.specs.Prelude.{◌≡◌, ◌<◌};
+ghost use Rattle.std.specs.Prelude.{◌≡◌};
 ghost use Rattle.std.specs.List.{list_any};
 ghost use Rattle.geos_image.specs.Fields.{FieldsFit};
 ghost use Rattle.geos_opcodes.specs.Facts.{uses_of};
 ghost use Rattle.geos_verify.specs.Uses.{bytes_in, OffsetFits, PointerFits};
-ghost use Rattle.geos_verify.specs.Rules.{reach, least_at, pointed_state, is_unmarked, writes_unmarked, moves_unmarked, stale_pointer, passes_end, changes_unmarked, locks_into_held, wrong_slot, is_of_file, commits_with_held, misuses};
+ghost use Rattle.geos_verify.specs.Rules.{reach, least_at, pointed_state, is_unmarked, writes_unmarked, moves_unmarked, stale_pointer};
+ghost use Rattle.geos_verify.specs.Rules.{passes_end, changes_unmarked, locks_into_held, wrong_slot, is_of_file, commits_with_held, misuses};
 
 use crate::enough::{is_empty, is_stale};
 use crate::pointers::pointer_at;
@@ -44,22 +45,22 @@ pub fn bytes_in(width: Width) -> u16
 /// How many bytes must stand behind the pointer of a read or a write: up to the end of what it
 /// reads or writes at the offset, or at the greatest index that the row knows of; 0 where the
 /// index is tested.
-pub fn reach(i: &Instr, width: Width, offset: Offset, row: &Row) -> u32
-    requires { OffsetFits offset i.now }
-    ensures { result ≡ reach i.now width offset row.now }
+pub fn reach(instr: &Instr, width: Width, offset: Offset, row: &Row) -> u32
+    requires { OffsetFits offset instr.now }
+    ensures { result ≡ reach instr.now width offset row.now }
 {
     match offset {
-        Offset::Fixed => u32::from(i.imm) + u32::from(bytes_in(width)),
-        Offset::Indexed => u32::from(row.bounds[i.c as usize]) + u32::from(bytes_in(width)),
+        Offset::Fixed => u32::from(instr.imm) + u32::from(bytes_in(width)),
+        Offset::Indexed => u32::from(row.bounds[instr.c as usize]) + u32::from(bytes_in(width)),
         Offset::Tested => 0,
     }
 }
 
 /// How many bytes the row says that there are behind a pointer, at least.
-pub fn least_at(row: &Row, p: u8) -> u16
-    ensures { result ≡ least_at row.now p }
+pub fn least_at(row: &Row, index: u8) -> u16
+    ensures { result ≡ least_at row.now index }
 {
-    match pointer_at(row, p) {
+    match pointer_at(row, index) {
         Some(pointer) => pointer.least,
         None => 0,
     }
@@ -195,15 +196,15 @@ pub(crate) fn commits_with_held(i: &Instr, slot: SlotUse, row: &Row) -> bool
 /// Whether one of the rules on what the instruction does with slots and pointers refuses it, where
 /// the row is known before it.
 #[tactic(auto, unfolding(crate::specs::Rules::misuses))]
-pub fn misuses(i: &Instr, row: &Row) -> bool
-    requires { FieldsFit i.now.opcode i.now }
-    ensures { result ≡ misuses i.now row.now }
+pub fn misuses(instr: &Instr, row: &Row) -> bool
+    requires { FieldsFit instr.now.opcode instr.now }
+    ensures { result ≡ misuses instr.now row.now }
 {
-    let uses = uses_at(i);
-    stale_pointer(i, uses.pointer, row)
-        | passes_end(i, uses.pointer, row)
-        | changes_unmarked(i, uses, row)
-        | locks_into_held(i, uses.slot, row)
-        | wrong_slot(i, uses.slot, row)
-        | commits_with_held(i, uses.slot, row)
+    let uses = uses_at(instr);
+    stale_pointer(instr, uses.pointer, row)
+        | passes_end(instr, uses.pointer, row)
+        | changes_unmarked(instr, uses, row)
+        | locks_into_held(instr, uses.slot, row)
+        | wrong_slot(instr, uses.slot, row)
+        | commits_with_held(instr, uses.slot, row)
 }

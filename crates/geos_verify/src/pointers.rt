@@ -1,6 +1,6 @@
 //! What a row says of pointers, and what an instruction changes of it.
 
-ghost use Rattle.std.specs.Prelude.{◌≡◌, ◌<◌, ◌==◌, map};
+ghost use Rattle.std.specs.Prelude.{◌≡◌, ◌==◌, map};
 ghost use Rattle.geos_opcodes.specs.declared.uses.Kind.TheVariants as kind;
 ghost use Rattle.geos_verify.specs.Uses.{PointerFits};
 ghost use Rattle.geos_verify.specs.Rows.{pointer_at, slot_state, holds_kind, may_be_same, stale_where, pointers_kept, with_pointer};
@@ -11,10 +11,10 @@ use geos_image::{Instr, Pointer, Row};
 use geos_opcodes::{Kind, PointerUse, SlotUse};
 
 /// What the row says of a pointer; of one that there is not, nothing is known.
-pub fn pointer_at(row: &Row, p: u8) -> Option<Pointer>
-    ensures { result ≡ pointer_at row.now p }
+pub fn pointer_at(row: &Row, index: u8) -> Option<Pointer>
+    ensures { result ≡ pointer_at row.now index }
 {
-    match row.pointers.get(usize::from(p)) {
+    match row.pointers.get(usize::from(index)) {
         Some(pointer) => *pointer,
         None => None,
     }

@@ -11,10 +11,10 @@ use crate::touched::touched_by;
 use geos_image::{Instr, Opcode, Potential, Row};
 
 /// Whether no coefficient is left on a counter that is touched.
-pub fn are_spent(touched: &[bool; 4], q: &Potential) -> bool
-    ensures { result ≡ are_spent touched.now q.now }
+pub fn are_spent(touched: &[bool; 4], potential: &Potential) -> bool
+    ensures { result ≡ are_spent touched.now potential.now }
 {
-    let [k0, k1, k2, k3] = q.coefficients;
+    let [k0, k1, k2, k3] = potential.coefficients;
     (!touched[0] | (k0 == 0))
         & (!touched[1] | (k1 == 0))
         & (!touched[2] | (k2 == 0))

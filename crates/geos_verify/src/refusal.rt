@@ -1,13 +1,12 @@
 //! The rules at one point.
 
-ghost use Rattle.std.specs.Prelude.{◌≡◌, ◌<◌, ◌≤◌, ◌+◌, ◌||◌, ◌&&◌, length, true, false, slice_get, Some, IfSome};
-ghost use Rattle.geos_image.specs.Parts.{start_of};
+ghost use Rattle.std.specs.Prelude.{◌≡◌, ◌<◌, ◌≤◌, ◌+◌, length, true, false, slice_get, IfSome};
 ghost use Rattle.geos_image.specs.Fields.{FieldsFit, TargetFits, CalleeFits};
 ghost use Rattle.geos_image.specs.Keys.{falls_through, branches, gives};
-ghost use Rattle.geos_verify.specs.declared.place.Place.{Place};
 ghost use Rattle.geos_verify.specs.Places.{places, RowAt};
 ghost use Rattle.geos_verify.specs.Rows.{row_along, row_branching};
-ghost use Rattle.geos_verify.specs.Rules.{has_place, returns, leaves_routine, entry_misfits, call_misfits, exit_misfits, misfits_at, edge_misfits, unpaid_along, unpaid_branching, edge_unpaid, over_budget, refusal, GoesWithin};
+ghost use Rattle.geos_verify.specs.Rules.{has_place, returns, leaves_routine, entry_misfits, call_misfits, exit_misfits, misfits_at};
+ghost use Rattle.geos_verify.specs.Rules.{edge_misfits, unpaid_along, unpaid_branching, edge_unpaid, over_budget, refusal, GoesWithin};
 ghost use Rattle.geos_verify.specs.Touched.{calls};
 ghost use Rattle.geos_opcodes.specs.Facts.{uses_of};
 ghost use Rattle.geos_verify.specs.Uses.{UsesFit};
@@ -179,7 +178,8 @@ fn refusal_of(body: &Body, pc: u16, i: &Instr, row: &Row, potential: &Potential)
     requires here { IfSome (slice_get body.now.image.now.points pc) (λ point. i.now ≡ point.instr) }
     requires known { RowAt body.now.image.now pc row.now }
     requires led { branches i.now.opcode ≡ true → gives body.now.image.now i.now.target ≡ true }
-    ensures { result ≡ refusal body.now.image.now body.now.r body.now.routine.now body.now.start pc (record { instr = i.now; row = row.now; potential = potential.now }) }
+    ensures { result ≡ refusal body.now.image.now body.now.r body.now.routine.now body.now.start pc
+        (record { instr = i.now; row = row.now; potential = potential.now }) }
 {
     let routine = body.routine;
     let start = body.start;
@@ -221,7 +221,8 @@ fn refusal_of(body: &Body, pc: u16, i: &Instr, row: &Row, potential: &Potential)
 pub(crate) fn refusal(body: &Body, pc: u16, row: &Row) -> Option<Rule>
     requires there { pc < length body.now.image.now.points }
     requires known { RowAt body.now.image.now pc row.now }
-    ensures { IfSome (slice_get (places body.now.image.now) pc) (λ place. result ≡ refusal body.now.image.now body.now.r body.now.routine.now body.now.start pc place) }
+    ensures { IfSome (slice_get (places body.now.image.now) pc)
+        (λ place. result ≡ refusal body.now.image.now body.now.r body.now.routine.now body.now.start pc place) }
 {
     let image = body.image;
     refusal_of(body, pc, image.instr(pc), row, image.potential(pc))

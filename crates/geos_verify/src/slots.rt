@@ -8,10 +8,10 @@ use geos_image::{Instr, Row, SlotState};
 use geos_opcodes::{Kind, SlotUse};
 
 /// What the row says of a slot; one that there is not is empty.
-pub fn slot_state(row: &Row, a: u8) -> SlotState
-    ensures { result ≡ slot_state row.now a }
+pub fn slot_state(row: &Row, index: u8) -> SlotState
+    ensures { result ≡ slot_state row.now index }
 {
-    match row.slots.get(usize::from(a)) {
+    match row.slots.get(usize::from(index)) {
         Some(state) => *state,
         None => SlotState::Empty,
     }

@@ -1,8 +1,8 @@
 //! Which counters routines touch, by a table that is filled from the lowest routine up.
 
-ghost use Rattle.std.specs.Prelude.{◌≡◌, ◌<◌, length, slice_index_or, []};
+ghost use Rattle.std.specs.Prelude.{◌≡◌, ◌<◌, length};
 ghost use Rattle.std.specs.List.{list_any};
-ghost use Rattle.geos_verify.specs.Touched.{counts, calls, points_of, touches_here, touched_by, noted, noted_by, NotesBelow};
+ghost use Rattle.geos_verify.specs.Touched.{counts, calls, points_of, touches_here, touched_by, noted, noted_by};
 
 use crate::body::Body;
 use geos_image::{Image, Instr, Opcode, Point};
@@ -85,11 +85,11 @@ fn points_of(image: &Image, r: u16) -> &[Point]
 
 /// Which counters a routine touches, where the table says it of those that it calls: the ones
 /// that its SETK, SETKW and LOOP name, and those that the routines touch that it calls.
-pub fn touched_in(image: &Image, r: u16, table: &Touched) -> [bool; 4]
-    requires { r < length image.now.routines }
-    ensures { result ≡ noted_by image.now table.now r }
+pub fn touched_in(image: &Image, routine: u16, table: &Touched) -> [bool; 4]
+    requires { routine < length image.now.routines }
+    ensures { result ≡ noted_by image.now table.now routine }
 {
-    let points = points_of(image, r);
+    let points = points_of(image, routine);
     [
         touches(table, 0, points),
         touches(table, 1, points),

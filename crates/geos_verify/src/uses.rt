@@ -9,10 +9,10 @@ use geos_image::Instr;
 use geos_opcodes::Uses;
 
 /// What an instruction does with slots and pointers: it names ones that there are.
-pub fn uses_at(i: &Instr) -> Uses
-    requires { FieldsFit i.now.opcode i.now }
-    ensures value { result ≡ uses_of i.now.opcode }
-    ensures fit { UsesFit result i.now }
+pub fn uses_at(instr: &Instr) -> Uses
+    requires { FieldsFit instr.now.opcode instr.now }
+    ensures value { result ≡ uses_of instr.now.opcode }
+    ensures fit { UsesFit result instr.now }
 {
-    i.opcode.uses()
+    instr.opcode.uses()
 }

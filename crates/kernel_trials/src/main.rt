@@ -16,9 +16,9 @@
 //! gives the handles of blocks that the runs from then on are lent, s0 first; they have to be locked before, by `vlock`.
 //!
 //! `close` lets the kernel go, and its device stays. `open` makes a kernel on what that holds, `kept` tells it, `kept_bytes` with the bytes
-//! of blocks, and `calls` how many calls the device had since it was made or opened. `power_off PART..` makes of it what a stop leaves: 0 what lasted, 1 what was
-//! written or 2 garbage, in each part of 512 bytes. `fail CALL` and `stop CALL` stand before `kernel` or `open`: of that kernel's device
-//! the call of this number fails, or that and each later one.
+//! of blocks, and `calls` how many calls the device had since it was made or opened. `power_off PART..` makes of it what a stop leaves:
+//! 0 what lasted, 1 what was written or 2 garbage, in each part of 512 bytes. `fail CALL` and `stop CALL` stand before `kernel` or
+//! `open`: of that kernel's device the call of this number fails, or that and each later one.
 //!
 //! `times N CALL` makes a call so often and tells how the answers run, and `fill FROM TO N` makes a block and a chunk of `n` bytes for
 //! each of these handles.

@@ -1,6 +1,5 @@
 //! Lines with calls through spans. Each begins with the `deref` or the `caelt` that gives the span.
 
-ghost use Rattle.std.specs.Prelude.{◌≤◌};
 ghost use Rattle.geos_kernel.specs.Spans.{IsStanding, IsWritable};
 ghost use Rattle.geos_kernel.specs.View.{IsLocked, MayChange};
 

@@ -1,6 +1,6 @@
 //! A device, and the kernel on it.
 
-ghost use Rattle.std.specs.Prelude.{◌≡◌, ◌≤◌, true};
+ghost use Rattle.std.specs.Prelude.{◌≤◌};
 
 use crate::Answer;
 use crate::calls::{answer, fill};

@@ -1,5 +1,5 @@
 //! Whether bytes are a heap.
-ghost use Rattle.std.specs.Prelude.{◌≡◌, ℕ, ◌+◌, ◌*◌, ◌/◌, ◌%◌, ◌<◌, ◌≤◌, true, false, length, MatchOption, IsTrue, ◌↔◌, slice_index_or};
+ghost use Rattle.std.specs.Prelude.{◌≡◌, ℕ, ◌*◌, ◌%◌, ◌<◌, ◌≤◌, false, length, MatchOption, IsTrue, ◌↔◌, slice_index_or};
 ghost use Rattle.geos_terms.specs.Block.{table_end, entries};
 ghost use Rattle.geos_terms.specs.Heap.{IsHeader, IsHeap};
 ghost use Rattle.lmem_block.specs.Check.{CanTile, Goes, IsTiled, Marks, marks_from};

@@ -1,5 +1,5 @@
 //! The header's words and the entries of the table.
-ghost use Rattle.std.specs.Prelude.{◌≡◌, ◌+◌, ◌*◌, ◌<◌, ◌≤◌, length};
+ghost use Rattle.std.specs.Prelude.{◌≡◌, ◌+◌, ◌<◌, ◌≤◌, length};
 ghost use Rattle.geos_terms.specs.Bytes.{with_word};
 ghost use Rattle.geos_terms.specs.Chunks.{handle_of};
 ghost use Rattle.geos_terms.specs.Block.{entries, entry, entry_offset, table_end};

@@ -1,8 +1,7 @@
 //! Calls that look at a heap.
 ghost use Rattle.std.specs.Prelude.{◌≡◌, ◌≢◌, ◌+◌, ◌<◌, ◌≤◌, length, MatchResult, MatchOption, IfOk, IsSomeAnd};
 ghost use Rattle.lmem_raw.specs.Bytes.{part};
-ghost use Rattle.geos_terms.specs.Bytes.{word};
-ghost use Rattle.geos_terms.specs.Chunks.{chunk_of, entry_bytes, handle_of, used_bytes};
+ghost use Rattle.geos_terms.specs.Chunks.{chunk_of, entry_bytes, used_bytes};
 ghost use Rattle.geos_terms.specs.Block.{chunks, entries, entry, place_of, place_at, IsPlaced};
 ghost use Rattle.geos_terms.specs.Heap.{IsHeap};
 ghost use Rattle.lmem_block.specs.Found.{HasEntry, IsLast, IsNext};
@@ -19,7 +18,8 @@ pub struct BadChunk;
 /// The entry of a chunk's handle. `BadChunk` where no chunk has it.
 pub fn find(block: &[u8], chunk: u16) -> Result<usize, BadChunk>
     requires { IsHeap block.now }
-    ensures place { MatchResult result (λ i. place_of block.now chunk ≡ place_at block.now (entry block.now i)) (λ _. place_of block.now chunk ≡ None) }
+    ensures place { MatchResult result (λ i. place_of block.now chunk ≡ place_at block.now (entry block.now i))
+        (λ _. place_of block.now chunk ≡ None) }
     ensures found { MatchResult result (λ i. HasEntry block.now chunk i) (λ _. chunk_of (chunks block.now) chunk ≡ None) }
 {
     // below the table it wraps, and is past the last entry then
@@ -51,7 +51,8 @@ pub fn place_of_entry(block: &[u8], index: usize) -> (usize, u16)
 /// The length of a chunk in bytes. `BadChunk` exactly where no chunk has this handle.
 pub fn size(block: &[u8], chunk: u16) -> Result<u16, BadChunk>
     requires { IsHeap block.now }
-    ensures { MatchResult result (λ n. IsSomeAnd (chunk_of (chunks block.now) chunk) (λ bytes. length bytes ≡ n)) (λ _. chunk_of (chunks block.now) chunk ≡ None) }
+    ensures { MatchResult result (λ n. IsSomeAnd (chunk_of (chunks block.now) chunk) (λ bytes. length bytes ≡ n))
+        (λ _. chunk_of (chunks block.now) chunk ≡ None) }
 {
     let (_, n) = place(block, chunk)?;
     Ok(n)
@@ -64,7 +65,8 @@ pub fn place(block: &[u8], chunk: u16) -> Result<(u16, u16), BadChunk>
     requires { IsHeap block.now }
     ensures within { IfOk result (λ p. p.0 + p.1 ≤ length block.now) }
     ensures place { MatchResult result (λ p. IsPlaced block.now chunk p.0 p.1) (λ _. place_of block.now chunk ≡ None) }
-    ensures bytes { MatchResult result (λ p. chunk_of (chunks block.now) chunk ≡ Some (part block.now p.0 p.1)) (λ _. chunk_of (chunks block.now) chunk ≡ None) }
+    ensures bytes { MatchResult result (λ p. chunk_of (chunks block.now) chunk ≡ Some (part block.now p.0 p.1))
+        (λ _. chunk_of (chunks block.now) chunk ≡ None) }
 {
     let (at, n) = locate(block, chunk)?;
     Ok((at as u16, n))
@@ -77,7 +79,8 @@ pub fn locate(block: &[u8], chunk: u16) -> Result<(usize, u16), BadChunk>
     requires { IsHeap block.now }
     ensures within { IfOk result (λ p. p.0 + p.1 ≤ length block.now) }
     ensures place { MatchResult result (λ p. IsPlaced block.now chunk p.0 p.1) (λ _. place_of block.now chunk ≡ None) }
-    ensures bytes { MatchResult result (λ p. chunk_of (chunks block.now) chunk ≡ Some (part block.now p.0 p.1)) (λ _. chunk_of (chunks block.now) chunk ≡ None) }
+    ensures bytes { MatchResult result (λ p. chunk_of (chunks block.now) chunk ≡ Some (part block.now p.0 p.1))
+        (λ _. chunk_of (chunks block.now) chunk ≡ None) }
 {
     let i = find(block, chunk)?;
     Ok(place_of_entry(block, i))

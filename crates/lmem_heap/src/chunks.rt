@@ -1,11 +1,11 @@
 //! Chunks that come, go and change their length.
-ghost use Rattle.std.specs.Prelude.{◌≡◌, ◌≢◌, ◌+◌, ◌-◌, ◌*◌, ◌^◌, ◌<◌, ◌≤◌, length, replicate, slice_index_or, slice_set, MatchBool};
+ghost use Rattle.std.specs.Prelude.{◌≡◌, ◌≢◌, ◌+◌, ◌^◌, ◌<◌, ◌≤◌, replicate, slice_index_or, slice_set, MatchBool};
 ghost use Rattle.geos_terms.specs.Chunks.{cost, cost_of};
 ghost use Rattle.geos_terms.specs.Block.{chunks, entries, entry, handle_word, total_free};
 ghost use Rattle.geos_terms.specs.Heap.{IsHeap, IsOffset};
 ghost use Rattle.lmem_heap.specs.Holes.{FirstIsSmaller, GivesBack, PlacesChunk, ResizesChunk};
 ghost use Rattle.lmem_heap.specs.Changes.{entry_resized};
-ghost use Rattle.lmem_heap.specs.Packed.{chunks_end, chunk_length, IsPacked};
+ghost use Rattle.lmem_heap.specs.Packed.{chunk_length, IsPacked};
 
 use crate::extents::Extent;
 use crate::holes::Hole;

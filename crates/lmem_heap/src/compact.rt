@@ -1,5 +1,5 @@
 //! Heaps with their free bytes at the end.
-ghost use Rattle.std.specs.Prelude.{◌≡◌, ℕ, ◌+◌, ◌-◌, ◌<◌, ◌≤◌, List, IfSome, IsTrue, ◌↔◌};
+ghost use Rattle.std.specs.Prelude.{◌≡◌, ℕ, ◌+◌, ◌≤◌, List, IfSome, IsTrue, ◌↔◌};
 ghost use Rattle.geos_terms.specs.Block.{chunks, handle_word};
 ghost use Rattle.geos_terms.specs.Heap.{IsHeader, IsHeap, IsCompact};
 ghost use Rattle.lmem_heap.specs.Slides.{IsButForEntries};

@@ -72,7 +72,8 @@ impl Hole {
         ensures handle { handle_word block.new ≡ handle_word block.old }
         ensures count { entries block.new ≡ entries block.old }
         ensures free { entry block.new i ≡ 0 }
-        ensures bytes { part block.new (entry block.old i) (chunk_length block.old i) ≡ part block.old (entry block.old i) (chunk_length block.old i) }
+        ensures bytes { part block.new (entry block.old i) (chunk_length block.old i)
+            ≡ part block.old (entry block.old i) (chunk_length block.old i) }
     {
         let chunk = Extent::of(block, i);
         put_entry(block, i, 0);
@@ -114,7 +115,8 @@ impl Hole {
         requires offset { IsOffset (entry block.old i) }
         ensures hole { IsBeside block.new result.link result.at result.end }
         ensures fours { result.end % 4 ≡ 0 }
-        ensures chunks { chunks block.new ≡ slice_set (chunks block.old) i (Some (resized (part block.old (entry block.old i) (chunk_length block.old i)) n)) }
+        ensures chunks { chunks block.new
+            ≡ slice_set (chunks block.old) i (Some (resized (part block.old (entry block.old i) (chunk_length block.old i)) n)) }
         ensures handle { handle_word block.new ≡ handle_word block.old }
     {
         let chunk = Extent::of(block, i);

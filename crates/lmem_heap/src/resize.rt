@@ -1,5 +1,5 @@
 //! Chunks that get another length.
-ghost use Rattle.std.specs.Prelude.{◌≡◌, ◌≢◌, ◌+◌, ◌-◌, ◌<◌, ◌≤◌, length, slice_set, IfErr, IsSome, OnErr, OnOk};
+ghost use Rattle.std.specs.Prelude.{◌≡◌, ◌≢◌, ◌+◌, ◌<◌, ◌≤◌, length, slice_set, IfErr, IsSome, OnErr, OnOk};
 ghost use Rattle.geos_terms.specs.Chunks.{bytes_of, chunk_of, entry_bytes, need, with_deleted, with_inserted, with_resized};
 ghost use Rattle.geos_terms.specs.Block.{chunks, entries, entry, handle_word};
 ghost use Rattle.geos_terms.specs.Heap.{IsHeap};
@@ -63,7 +63,8 @@ pub fn delete(block: &mut [u8], chunk: u16, at: u16, count: u16) -> Result<(), D
     ensures heap { IsHeap block.new }
     ensures handle { handle_word block.new ≡ handle_word block.old }
     ensures ok { let old = chunks block.old in
-        OnOk result (IsSome (chunk_of old chunk) × (at + count ≤ length (bytes_of old chunk)) × (chunks block.new ≡ with_deleted old chunk at count)) }
+        OnOk result (IsSome (chunk_of old chunk) × (at + count ≤ length (bytes_of old chunk))
+        × (chunks block.new ≡ with_deleted old chunk at count)) }
     ensures refused { IfErr result (λ e. IsDeleteError e (chunks block.old) chunk at count) }
     ensures err { OnErr result (block.new ≡ block.old) }
 {

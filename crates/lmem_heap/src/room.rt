@@ -1,5 +1,5 @@
 //! Whether a block has room.
-ghost use Rattle.std.specs.Prelude.{◌≡◌, ◌≢◌, ℕ, ◌+◌, ◌<◌, ◌≤◌, List, length, slice_set, MatchResult};
+ghost use Rattle.std.specs.Prelude.{◌≡◌, ◌≢◌, ℕ, ◌<◌, ◌≤◌, List, length, slice_set, MatchResult};
 ghost use Rattle.geos_terms.specs.Chunks.{lowest_entry, sixteens, used_bytes, with_new};
 ghost use Rattle.geos_terms.specs.Block.{chunks, entries, entry};
 ghost use Rattle.geos_terms.specs.Heap.{IsBlockSize, IsHeap};

@@ -1,5 +1,5 @@
 //! The table of chunk handles.
-ghost use Rattle.std.specs.Prelude.{◌≡◌, ◌≢◌, ℕ, ◌+◌, ◌*◌, ◌<◌, ◌≤◌, [], ◌∷◌, ◌++◌, length, IsTrue};
+ghost use Rattle.std.specs.Prelude.{◌≡◌, ◌≢◌, ℕ, ◌+◌, ◌<◌, ◌≤◌, [], ◌∷◌, ◌++◌, length, IsTrue};
 ghost use Rattle.geos_terms.specs.Chunks.{lowest_entry};
 ghost use Rattle.geos_terms.specs.Block.{chunks, entries, entry, entry_offset, handle_word, table_end, total_free};
 ghost use Rattle.geos_terms.specs.Heap.{IsHeap};

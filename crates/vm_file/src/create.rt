@@ -1,5 +1,5 @@
 //! What a new file begins with.
-ghost use Rattle.std.specs.Prelude.{◌≡◌, ◌+◌, ◌*◌, ◌<◌, OnOk};
+ghost use Rattle.std.specs.Prelude.{◌≡◌, ◌+◌, ◌*◌, OnOk};
 ghost use Rattle.lmem_raw.specs.Bytes.{with_part};
 ghost use Rattle.vm_file.specs.Device.{Only};
 ghost use Rattle.vm_file.specs.Outcomes.{CausesDisk, WritesOnly};

@@ -49,10 +49,10 @@ impl Directory {
     }
 
     /// The entry of the block with a handle, where there is one.
-    pub fn entry(&self, h: u16) -> Option<Entry>
-        ensures { result ≡ find (λ e. e.h == h) self.now.entries.items }
+    pub fn entry(&self, handle: u16) -> Option<Entry>
+        ensures { result ≡ find (λ e. e.h == handle) self.now.entries.items }
     {
-        self.entries.iter().copied().find(|e| e.h == h)
+        self.entries.iter().copied().find(|e| e.h == handle)
     }
 
     /// Whether handles ascend to 1,024, lengths are legal block sizes, the map block is 0 or a

@@ -158,7 +158,7 @@ fn counted(failures: &mut u64, outcome: io::Result<()>) -> Result<(), Disk>
 }
 
 impl Device for FileDevice {
-    ghost use Rattle.vm_file.specs.DiskFile.{Reads, Syncs, Writes, bytes_of, failures_of, len_of, may_lack, medium};
+    ghost use Rattle.vm_file.specs.DiskFile.{Reads, Syncs, Writes, bytes_of, failures_of, may_lack, medium};
 
     ghost medium = { medium };
 

@@ -87,12 +87,14 @@ impl<D: Device + Drop> Device for FaultDevice<D> {
     /// Reads the bytes from an offset on, as the device below does; a call that fails on order gives nothing.
     fn read_at(&mut self, at: u64, into: &mut [u8]) -> Result<(), Disk>
         ensures within { OnOk result (at + length into.old ≤ length (D.medium.image (inner_of self.old))) }
-        ensures bytes { D.medium.honest (inner_of self.old) → OnOk result (into.new ≡ part (D.medium.image (inner_of self.old)) at (length into.old)) }
+        ensures bytes { D.medium.honest (inner_of self.old)
+            → OnOk result (into.new ≡ part (D.medium.image (inner_of self.old)) at (length into.old)) }
         ensures reads { ReadsOnly (over D.medium) self.old self.new }
         ensures cause { CountsOver D.medium.failed self.old self.new result }
         ensures counted { CountsCall self.old self.new }
         ensures due { is_next_due self.old ≡ true → FailsAlone self.old self.new result × (into.new ≡ into.old) }
-        ensures passed { is_next_due self.old ≡ false → PassesOn D.medium.failed (λ d r e. D.medium.reads d at into.new r e) self.old self.new result }
+        ensures passed { is_next_due self.old ≡ false
+            → PassesOn D.medium.failed (λ d r e. D.medium.reads d at into.new r e) self.old self.new result }
         ensures call { (over D.medium).reads self.old at into.new result self.new }
     {
         if is_due(&mut self.calls, self.call, self.rest) {
@@ -112,7 +114,8 @@ impl<D: Device + Drop> Device for FaultDevice<D> {
         ensures cause { CountsOver D.medium.failed self.old self.new result }
         ensures counted { CountsCall self.old self.new }
         ensures due { is_next_due self.old ≡ true → FailsHalf D.medium at bytes.now self.old self.new result }
-        ensures passed { is_next_due self.old ≡ false → PassesOn D.medium.failed (λ d r e. D.medium.writes d at bytes.now r e) self.old self.new result }
+        ensures passed { is_next_due self.old ≡ false
+            → PassesOn D.medium.failed (λ d r e. D.medium.writes d at bytes.now r e) self.old self.new result }
         ensures call { (over D.medium).writes self.old at bytes.now result self.new }
     {
         if is_due(&mut self.calls, self.call, self.rest) {
@@ -129,7 +132,8 @@ impl<D: Device + Drop> Device for FaultDevice<D> {
     /// Makes last what was written, as the device below does; a call that fails on order does
     /// nothing.
     fn sync(&mut self) -> Result<(), Disk>
-        ensures durable { D.medium.honest (inner_of self.old) → OnOk result (Only (D.medium.image (inner_of self.new)) (D.medium.may_leave (inner_of self.new))) }
+        ensures durable { D.medium.honest (inner_of self.old)
+            → OnOk result (Only (D.medium.image (inner_of self.new)) (D.medium.may_leave (inner_of self.new))) }
         ensures reads { ReadsOnly (over D.medium) self.old self.new }
         ensures cause { CountsOver D.medium.failed self.old self.new result }
         ensures counted { CountsCall self.old self.new }

@@ -1,5 +1,5 @@
 //! The fields of a file, in bytes that were read.
-ghost use Rattle.std.specs.Prelude.{◌≡◌, ◌+◌, ◌<◌, ◌≤◌, ◌^◌, ◌%◌, true, IfOk, length, not, ◌==◌};
+ghost use Rattle.std.specs.Prelude.{◌≡◌, ◌<◌, ◌≤◌, ◌^◌, true, IfOk, length, not, ◌==◌};
 ghost use Rattle.std.specs.List.{position_or_len};
 ghost use Rattle.vm_file.specs.Reading.{area_size_at, count_at, head_at, header_at, is_area, maps_at, word_at, zeros_at};
 

@@ -1,9 +1,10 @@
 //! Files that are open.
-ghost use Rattle.std.specs.Prelude.{◌≡◌, ◌+◌, ◌*◌, ◌≤◌, ◌<◌, ◌↔◌, ◌++◌, ℕ, List, [], Ok, Err, true, false, not, MatchResult, IfOk, OnOk, OnErr, IsTrue, length};
+ghost use Rattle.std.specs.Prelude.{◌≡◌, ◌+◌, ◌*◌, ◌≤◌, ◌↔◌, ◌++◌, ℕ, List, [], Ok, true, false, not, MatchResult, IfOk, OnOk, OnErr, IsTrue, length};
 ghost use Rattle.std.specs.List.{Contains};
 ghost use Rattle.std.specs.Vec.{vec_len, vec_capacity};
 ghost use Rattle.vm_file.specs.Device.{FailedOnce, Only, Passes, Rose};
-ghost use Rattle.vm_file.specs.Outcomes.{BeginsWithSync, CausesDisk, CausesNoBlock, CausesNoBlocks, IsCaused, IsHeapUnder, IsRefused, ReadsOnly, WritesOnly};
+ghost use Rattle.vm_file.specs.Outcomes.{BeginsWithSync, CausesDisk, CausesNoBlock, CausesNoBlocks};
+ghost use Rattle.vm_file.specs.Outcomes.{IsCaused, IsHeapUnder, IsRefused, ReadsOnly, WritesOnly};
 ghost use Rattle.vm_file.specs.Reading.{file_at};
 
 use crate::commit::{How, Nothing, Source, are_there, keep, length_after, selector_of};
@@ -45,13 +46,15 @@ impl<D: Device + Drop> Model for VmFile<D> {
 impl<D: Device + Drop> VmFile<D> {
     ghost use Rattle.geos_terms.specs.Bytes.{AreBytes};
     ghost use Rattle.lmem_raw.specs.Bytes.{with_part};
-    ghost use Rattle.vm_file.specs.Committing.{AreResident, CommitsFile, FindsEither, IsContentsOf, IsKept, MayCommit, MayHaveWritten, NeedsNoRead, Spells};
-    ghost use Rattle.vm_file.specs.Committing.{contents_from, current_after, image_after, kept_after, length_after, saved_after};
+    ghost use Rattle.vm_file.specs.Committing.{AreResident, CommitsFile, FindsEither, IsContentsOf, IsKept};
+    ghost use Rattle.vm_file.specs.Committing.{MayCommit, MayHaveWritten, NeedsNoRead, Spells, contents_from};
+    ghost use Rattle.vm_file.specs.Committing.{current_after, image_after, kept_after, length_after, saved_after};
     ghost use Rattle.vm_file.specs.Contents.{contents_spelling, listed, pair_in};
     ghost use Rattle.vm_file.specs.Directories.{directory_length, is_directory};
     ghost use Rattle.vm_file.specs.Spelling.{empty_contents, empty_pair, new_file};
     ghost use Rattle.vm_file.specs.Reading.{is_area};
-    ghost use Rattle.vm_file.specs.State.{FileState, Finds, HasBlock, IsOther, ListsPair, ReadsFile, Steadily, block_at, bytes_of_block, file_of, pair_of, saved_block_at};
+    ghost use Rattle.vm_file.specs.State.{Finds, HasBlock, IsOther, ListsPair, ReadsFile, Steadily};
+    ghost use Rattle.vm_file.specs.State.{block_at, bytes_of_block, file_of, pair_of, saved_block_at};
 
     /// Makes a file on a device: writes the header, the selector and two empty directories,
     /// and ends with a `sync`. `area` is a legal area size, and the device has room for the file
@@ -68,7 +71,8 @@ impl<D: Device + Drop> VmFile<D> {
           current = listed empty_contents;
           saved = listed empty_contents;
         }) }
-        ensures bytes { D.medium.honest device → IfOk result (λ file. D.medium.image file.device ≡ with_part (D.medium.image device) 0 (new_file area)) }
+        ensures bytes { D.medium.honest device
+            → IfOk result (λ file. D.medium.image file.device ≡ with_part (D.medium.image device) 0 (new_file area)) }
         ensures found { D.medium.honest device → IfOk result
             (λ file. file_at (D.medium.image file.device) ≡ Ok (record { area = area; second = false; pair = empty_pair })) }
         // Whatever it answers, nothing but the first 1,040 bytes was written.
@@ -178,11 +182,12 @@ impl<D: Device + Drop> VmFile<D> {
     /// Reads the bytes of a block of the current directory straight into `into`, which is as
     /// long as its entry says. `Disk` where the device fails, and then it is not said what `into`
     /// holds, or where it gives bytes that are no heap with that handle.
-    pub fn block(&mut self, h: u16, into: &mut [u8]) -> Result<(), Disk>
-        requires { HasBlock self.old.current h (length into.old) }
-        ensures bytes { D.medium.honest self.old.device → OnOk result (into.new ≡ bytes_of_block (pair_of D.medium.image self.old).cur.blocks h) }
-        ensures heap { OnOk result (IsHeapUnder h into.new) }
-        ensures no_block { CausesNoBlock D.medium h (block_at self.old h) self.old.device self.new.device into.new result }
+    pub fn block(&mut self, handle: u16, into: &mut [u8]) -> Result<(), Disk>
+        requires { HasBlock self.old.current handle (length into.old) }
+        ensures bytes { D.medium.honest self.old.device
+            → OnOk result (into.new ≡ bytes_of_block (pair_of D.medium.image self.old).cur.blocks handle) }
+        ensures heap { OnOk result (IsHeapUnder handle into.new) }
+        ensures no_block { CausesNoBlock D.medium handle (block_at self.old handle) self.old.device self.new.device into.new result }
         ensures same { self.new ≡ record self.old { device = self.new.device } }
         ensures pair { pair_of D.medium.image self.new ≡ pair_of D.medium.image self.old }
         ensures ok { OnOk result (D.medium.failed self.new.device ≡ D.medium.failed self.old.device) }
@@ -191,22 +196,25 @@ impl<D: Device + Drop> VmFile<D> {
         // Nothing is written: a stop meanwhile, and one afterwards, leaves a file in which
         // `open` finds what it would have found.
         ensures reads { ReadsOnly D.medium self.old.device self.new.device }
-        ensures any_moment { D.medium.honest self.old.device → Passes D.medium.may_have_left self.old.device self.new.device (Finds D.medium.image self.old) }
-        ensures stopped { D.medium.honest self.old.device → (c : List ℕ) → D.medium.may_have_left self.old.device self.new.device c → Finds D.medium.image self.old c }
+        ensures any_moment { D.medium.honest self.old.device
+            → Passes D.medium.may_have_left self.old.device self.new.device (Finds D.medium.image self.old) }
+        ensures stopped { D.medium.honest self.old.device → (c : List ℕ) → D.medium.may_have_left self.old.device self.new.device c
+            → Finds D.medium.image self.old c }
         ensures stop { D.medium.honest self.old.device → (c : List ℕ) → D.medium.may_leave self.new.device c → Finds D.medium.image self.old c }
     {
         let base = base_of(self.area, self.second);
-        let at = base + 2 + u64::from(self.current.place(h));
-        read_block(&mut self.device, at, h, into)
+        let at = base + 2 + u64::from(self.current.place(handle));
+        read_block(&mut self.device, at, handle, into)
     }
 
     /// Reads the bytes of a block of the saved directory, as `block` does those of the current
     /// one.
-    pub fn saved_block(&mut self, h: u16, into: &mut [u8]) -> Result<(), Disk>
-        requires { HasBlock self.old.saved h (length into.old) }
-        ensures bytes { D.medium.honest self.old.device → OnOk result (into.new ≡ bytes_of_block (pair_of D.medium.image self.old).saved.blocks h) }
-        ensures heap { OnOk result (IsHeapUnder h into.new) }
-        ensures no_block { CausesNoBlock D.medium h (saved_block_at self.old h) self.old.device self.new.device into.new result }
+    pub fn saved_block(&mut self, handle: u16, into: &mut [u8]) -> Result<(), Disk>
+        requires { HasBlock self.old.saved handle (length into.old) }
+        ensures bytes { D.medium.honest self.old.device
+            → OnOk result (into.new ≡ bytes_of_block (pair_of D.medium.image self.old).saved.blocks handle) }
+        ensures heap { OnOk result (IsHeapUnder handle into.new) }
+        ensures no_block { CausesNoBlock D.medium handle (saved_block_at self.old handle) self.old.device self.new.device into.new result }
         ensures same { self.new ≡ record self.old { device = self.new.device } }
         ensures pair { pair_of D.medium.image self.new ≡ pair_of D.medium.image self.old }
         ensures ok { OnOk result (D.medium.failed self.new.device ≡ D.medium.failed self.old.device) }
@@ -215,14 +223,16 @@ impl<D: Device + Drop> VmFile<D> {
         // Nothing is written: a stop meanwhile, and one afterwards, leaves a file in which
         // `open` finds what it would have found.
         ensures reads { ReadsOnly D.medium self.old.device self.new.device }
-        ensures any_moment { D.medium.honest self.old.device → Passes D.medium.may_have_left self.old.device self.new.device (Finds D.medium.image self.old) }
-        ensures stopped { D.medium.honest self.old.device → (c : List ℕ) → D.medium.may_have_left self.old.device self.new.device c → Finds D.medium.image self.old c }
+        ensures any_moment { D.medium.honest self.old.device
+            → Passes D.medium.may_have_left self.old.device self.new.device (Finds D.medium.image self.old) }
+        ensures stopped { D.medium.honest self.old.device → (c : List ℕ) → D.medium.may_have_left self.old.device self.new.device c
+            → Finds D.medium.image self.old c }
         ensures stop { D.medium.honest self.old.device → (c : List ℕ) → D.medium.may_leave self.new.device c → Finds D.medium.image self.old c }
     {
         let base = base_of(self.area, self.second);
         let first = u64::from(directory_length(self.current.directory()));
-        let at = base + first + 2 + u64::from(place_in(&self.saved.entries, h));
-        read_block(&mut self.device, at, h, into)
+        let at = base + first + 2 + u64::from(place_in(&self.saved.entries, handle));
+        read_block(&mut self.device, at, handle, into)
     }
 
     /// Whether this directory may be committed with these blocks: it is legal, and each of its
@@ -342,7 +352,8 @@ impl<D: Device + Drop> VmFile<D> {
         requires empty { (into.old.items ≡ []) × (vec_len into.old ≡ 0) }
         requires room { length_after how cur.now self.old.saved ≤ vec_capacity into.old }
         ensures len { OnOk result (vec_len into.new ≡ length_after how cur.now self.old.saved) }
-        ensures spelled { D.medium.honest self.old.device → OnOk result (Spells (current_after how cur.now self.old.saved) (saved_after how cur.now self.old.saved)
+        ensures spelled { D.medium.honest self.old.device
+            → OnOk result (Spells (current_after how cur.now self.old.saved) (saved_after how cur.now self.old.saved)
             (kept_after D.medium.image (S.resident_bytes source.now) how cur.now self.old) into.new.items) }
         ensures read { ReadsFile D.medium self.old self.new result }
         ensures cause { D.medium.honest self.old.device → OnErr result (Rose (D.medium.failed self.old.device) (D.medium.failed self.new.device)) }
@@ -376,7 +387,8 @@ impl<D: Device + Drop> VmFile<D> {
         requires sure { self.old.sure ≡ true }
         requires legal { is_directory cur.now ≡ true }
         requires fits { (length bytes.now ≡ length_after how cur.now self.old.saved) × (length bytes.now ≤ self.old.area) }
-        requires spelled { D.medium.honest self.old.device → Spells (current_after how cur.now self.old.saved) (saved_after how cur.now self.old.saved)
+        requires spelled { D.medium.honest self.old.device
+            → Spells (current_after how cur.now self.old.saved) (saved_after how cur.now self.old.saved)
             (pair_in (current_after how cur.now self.old.saved) (saved_after how cur.now self.old.saved) bytes.now) bytes.now }
         ensures done { OnOk result (self.new ≡ record {
           device = self.new.device;
@@ -388,13 +400,18 @@ impl<D: Device + Drop> VmFile<D> {
         }) }
         ensures kept { OnErr result (self.new ≡ record self.old { device = self.new.device; sure = self.new.sure }) }
         ensures pair { D.medium.honest self.old.device → MatchResult result
-            (λ _. pair_of D.medium.image self.new ≡ pair_in (current_after how cur.now self.old.saved) (saved_after how cur.now self.old.saved) bytes.now)
+            (λ _. pair_of D.medium.image self.new
+            ≡ pair_in (current_after how cur.now self.old.saved) (saved_after how cur.now self.old.saved) bytes.now)
             (λ _. pair_of D.medium.image self.new ≡ pair_of D.medium.image self.old) }
-        ensures bytes { D.medium.honest self.old.device → OnOk result (D.medium.image self.new.device ≡ image_after D.medium.image bytes.now self.old) }
-        ensures torn { D.medium.honest self.old.device → OnErr result (MayHaveWritten D.medium.image self.old self.new.sure (D.medium.image self.new.device)) }
+        ensures bytes { D.medium.honest self.old.device
+            → OnOk result (D.medium.image self.new.device ≡ image_after D.medium.image bytes.now self.old) }
+        ensures torn { D.medium.honest self.old.device
+            → OnErr result (MayHaveWritten D.medium.image self.old self.new.sure (D.medium.image self.new.device)) }
         ensures other { D.medium.honest self.old.device → self.new.sure ≡ false
-            → IsOther D.medium.image self.new (pair_in (current_after how cur.now self.old.saved) (saved_after how cur.now self.old.saved) bytes.now) }
-        ensures either { D.medium.honest self.old.device → Passes D.medium.may_have_left self.old.device self.new.device (FindsEither D.medium.image self.old self.new) }
+            → IsOther D.medium.image self.new
+            (pair_in (current_after how cur.now self.old.saved) (saved_after how cur.now self.old.saved) bytes.now) }
+        ensures either { D.medium.honest self.old.device
+            → Passes D.medium.may_have_left self.old.device self.new.device (FindsEither D.medium.image self.old self.new) }
         ensures stop { D.medium.honest self.old.device → (c : List ℕ) → D.medium.may_leave self.new.device c → Finds D.medium.image self.new c }
         ensures honest { D.medium.honest self.old.device → D.medium.honest self.new.device }
         ensures was_honest { D.medium.honest self.new.device → D.medium.honest self.old.device }

@@ -1,5 +1,5 @@
 //! What a device holds when a file is opened.
-ghost use Rattle.std.specs.Prelude.{◌≡◌, ◌+◌, ◌-◌, ◌<◌, ◌≤◌, ◌^◌, true, min, length, take, Err, IfOk, OnOk};
+ghost use Rattle.std.specs.Prelude.{◌≡◌, ◌+◌, ◌-◌, ◌<◌, ◌≤◌, ◌^◌, true, length, take, Err, IfOk, OnOk};
 ghost use Rattle.lmem_raw.specs.Bytes.{part};
 ghost use Rattle.vm_file.specs.Device.{Only};
 ghost use Rattle.vm_file.specs.Directories.{directory_length, is_directory};
@@ -80,7 +80,8 @@ fn read_pair<D: Device>(
     requires range { (base ≤ end) × (end < 2 ^ 29) }
     requires within { end ≤ length (D.medium.image device.old) }
     ensures exact { D.medium.honest device.old → Tells listed_pair result (pair_at base (part (D.medium.image device.old) base (end - base))) }
-    ensures legal { IfOk result (λ p. (is_directory p.0 ≡ true) × (is_directory p.1 ≡ true) × (base + (directory_length p.0 + directory_length p.1) ≤ end)) }
+    ensures legal { IfOk result
+        (λ p. (is_directory p.0 ≡ true) × (is_directory p.1 ≡ true) × (base + (directory_length p.0 + directory_length p.1) ≤ end)) }
     ensures reads { ReadsOnly D.medium device.old device.new }
     ensures cause { Causes (D.medium.failed device.old) (D.medium.failed device.new) result }
 {

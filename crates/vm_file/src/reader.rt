@@ -27,7 +27,8 @@ pub(crate) fn fill<D: Device>(
 ) -> Result<usize, Disk>
     requires range { (at ≤ end) × (end < 2 ^ 32) }
     requires within { end ≤ length (D.medium.image device.old) }
-    ensures front { D.medium.honest device.old → IfOk result (λ n. take n into.new ≡ take (length into.old) (part (D.medium.image device.old) at (end - at))) }
+    ensures front { D.medium.honest device.old
+        → IfOk result (λ n. take n into.new ≡ take (length into.old) (part (D.medium.image device.old) at (end - at))) }
     ensures count { IfOk result (λ n. n ≡ min (length into.old) (end - at)) }
     ensures reads { ReadsOnly D.medium device.old device.new }
     ensures cause { CausesDisk (D.medium.failed device.old) (D.medium.failed device.new) result }
@@ -138,7 +139,8 @@ fn read_entries<D: Device>(
     requires within { end ≤ length (D.medium.image device.old) }
     requires room { length buffer.old ≡ most_block_bytes }
     requires few { count ≤ MOST_BLOCKS }
-    ensures exact { D.medium.honest device.old → Tells (map entry_of) (items_of result) (blocks_at count 0 at (part (D.medium.image device.old) at (end - at))) }
+    ensures exact { D.medium.honest device.old
+        → Tells (map entry_of) (items_of result) (blocks_at count 0 at (part (D.medium.image device.old) at (end - at))) }
     ensures legal { IfOk result (λ es. (are_entries 0 es.items ≡ true) × (at + entries_length es.items ≤ end)) }
     ensures reads { ReadsOnly D.medium device.old device.new }
     ensures cause { Causes (D.medium.failed device.old) (D.medium.failed device.new) result }

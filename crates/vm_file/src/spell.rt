@@ -54,7 +54,8 @@ fn read_from<D: Device>(
     requires at { at ≤ length into.old }
     requires within { from + (length into.old - at) ≤ length (D.medium.image device.old) }
     ensures long { length into.new ≡ length into.old }
-    ensures bytes { D.medium.honest device.old → OnOk result (into.new ≡ take at into.old ++ part (D.medium.image device.old) from (length into.old - at)) }
+    ensures bytes { D.medium.honest device.old
+        → OnOk result (into.new ≡ take at into.old ++ part (D.medium.image device.old) from (length into.old - at)) }
     ensures read { ReadsToFailure D.medium device.old device.new result }
     ensures no_block { CausesNoBlocks D.medium (IsOfBlock h (length into.old - at)) device.old device.new result }
     ensures cause { D.medium.honest device.old

@@ -31,7 +31,11 @@ put_element-requires-clause-room c =
 
 pub returns-clause-ok : goal.returns-clause-ok
 returns-clause-ok c =
-    let b = c.args.block.now in let found = c.args.found in let f = c.requires.found in let at = c.start-at.result in let room = room_of found.shape.element_size c.args.len in
+    let b = c.args.block.now in
+    let found = c.args.found in
+    let f = c.requires.found in
+    let at = c.start-at.result in
+    let room = room_of found.shape.element_size c.args.len in
     let is = c.start-at.ensures.start f.shape.array f.shape.is in
     let made = c.in-Ok.ensures.ok.2 ∙ ap (with_inserted (chunks b) c.args.chunk at) c.room-room.ensures.value in
     let r = roomy b c.args.chunk found f c.args.index at c.args.len c.requires.known is c.insert.new.block c.in-Ok.ensures.heap made in

@@ -29,9 +29,18 @@ put_offsets-requires-clause-refit c =
 
 pub returns-clause-ok : goal.returns-clause-ok
 returns-clause-ok c =
-    let b = c.args.block.now in let found = c.in-Ok.found in let f = c.in-Ok.ensures in let a = f.shape.array in let e = c.place-element in let made = c.in-Ok-resize_part.ensures in
+    let b = c.args.block.now in
+    let found = c.in-Ok.found in
+    let f = c.in-Ok.ensures in
+    let a = f.shape.array in
+    let e = c.place-element in
+    let made = c.in-Ok-resize_part.ensures in
     let cs = chunks b in let bytes = part b found.at found.len in
-    let index = e.ensures.index in let from = e.ensures.begin a f.shape.is in let to = e.ensures.end a f.shape.is in let none = c.if-found-ne0.false in let known = c.if-index-found.false in
+    let index = e.ensures.index in
+    let from = e.ensures.begin a f.shape.is in
+    let to = e.ensures.end a f.shape.is in
+    let none = c.if-found-ne0.false in
+    let known = c.if-index-found.false in
     let r = refits b c.args.chunk found f c.args.index c.args.len e.result none known index from to c.resize_part.new.block made.heap made.ok in (
       passes b c.args.chunk found f c.args.index c.args.len e.result none known index from to,
       c.put_offsets.ensures.chunks (with_resized_part bytes e.result.begin e.result.len c.args.len) bytes a r.0 r.1 ∙ ap (λ xs. with_array xs c.args.chunk (with_refit a e.result.index c.args.len)) made.ok

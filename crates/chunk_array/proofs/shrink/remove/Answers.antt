@@ -26,7 +26,11 @@ overflow_sub-end c =
 
 pub unreachable-requires : goal.unreachable-requires
 unreachable-requires c =
-    let b = c.args.block.now in let found = c.in-Ok.found in let f = c.in-Ok.ensures in let a = f.is.shape.array in let bytes = part b found.at found.len in
+    let b = c.args.block.now in
+    let found = c.in-Ok.found in
+    let f = c.in-Ok.ensures in
+    let a = f.is.shape.array in
+    let bytes = part b found.at found.len in
     let e = c.place-element in let end = e.result.begin + e.result.len in let d = c.take_element.new.block in
     let h = parted b c.args.chunk c.args.index found f e.result c.requires e.ensures.index (e.ensures.begin a f.is.shape.is) (e.ensures.end a f.is.shape.is) in
     let p = parts bytes a found.shape e.result h in
@@ -36,7 +40,11 @@ unreachable-requires c =
 
 pub returns-clause-ok : goal.returns-clause-ok
 returns-clause-ok c =
-    let b = c.args.block.now in let found = c.in-Ok.found in let f = c.in-Ok.ensures in let a = f.is.shape.array in let bytes = part b found.at found.len in
+    let b = c.args.block.now in
+    let found = c.in-Ok.found in
+    let f = c.in-Ok.ensures in
+    let a = f.is.shape.array in
+    let bytes = part b found.at found.len in
     let e = c.place-element in let end = e.result.begin + e.result.len in let room = c.room-room.result in let d = c.take_element.new.block in
     let h = parted b c.args.chunk c.args.index found f e.result c.requires e.ensures.index (e.ensures.begin a f.is.shape.is) (e.ensures.end a f.is.shape.is) in
     let x = c.take_element.ensures.chunks bytes a f.is.bytes h in

@@ -14,7 +14,12 @@ use Rattle.chunk_calls.proofs.changes.change.Goals as goal
 
 pub returns-clause-carries : goal.returns-clause-carries
 returns-clause-carries g c =
-    let v = c.args.vm.now in let grows = may_grow c.args.change in let edit = change_edit c.args.change in let old = c.args.blocks.now in let name = c.args.name in let tried = c.try_change.new.blocks in
+    let v = c.args.vm.now in
+    let grows = may_grow c.args.change in
+    let edit = change_edit c.args.change in
+    let old = c.args.blocks.now in
+    let name = c.args.name in
+    let tried = c.try_change.new.blocks in
     elim c.match-try_change.branch [
       | in-Ok w ↦ rw (w.blocks-is, w.done-is) (carries-done v grows edit old tried name c.requires.tied.laid tt w.in-Ok.ensures.tries)
       | in-Err-Refused w ↦ (let i = w.in-Err-Refused in
@@ -26,7 +31,12 @@ returns-clause-carries g c =
 
 pub returns-clause-calls : goal.returns-clause-calls
 returns-clause-calls g c =
-    let d = g.D.Device in let q = c.requires in let v = c.args.vm.now in let edit = change_edit c.args.change in let name = c.args.name in let old = c.args.blocks.now in
+    let d = g.D.Device in
+    let q = c.requires in
+    let v = c.args.vm.now in
+    let edit = change_edit c.args.change in
+    let name = c.args.name in
+    let old = c.args.blocks.now in
     let done = c.match-try_change.done in let new = c.match-try_change.blocks in
     let carries = returns-clause-carries g c in
     let keeps = carries-keeps v edit old new name q.tied.laid q.heap (may_grow c.args.change) done carries in

@@ -14,7 +14,11 @@ use Rattle.chunk_calls.proofs.makes.make.Goals as goal
 
 pub returns-clause-comes : goal.returns-clause-comes
 returns-clause-comes g c =
-    let v = c.args.vm.now in let edit = make_edit c.args.make in let old = c.args.blocks.now in let name = c.args.name in let tried = c.try_make.new.blocks in
+    let v = c.args.vm.now in
+    let edit = make_edit c.args.make in
+    let old = c.args.blocks.now in
+    let name = c.args.name in
+    let tried = c.try_make.new.blocks in
     elim c.match-try_make.branch [
       | in-Ok w ↦ rw (w.blocks-is, w.made-is) (comes-at_once v edit old name c.requires.tied.laid tried w.in-Ok.c w.in-Ok.ensures)
       | in-Err-Refused w ↦ (let i = w.in-Err-Refused in
@@ -25,7 +29,12 @@ returns-clause-comes g c =
 
 pub returns-clause-calls : goal.returns-clause-calls
 returns-clause-calls g c =
-    let d = g.D.Device in let q = c.requires in let v = c.args.vm.now in let edit = make_edit c.args.make in let name = c.args.name in let old = c.args.blocks.now in
+    let d = g.D.Device in
+    let q = c.requires in
+    let v = c.args.vm.now in
+    let edit = make_edit c.args.make in
+    let name = c.args.name in
+    let old = c.args.blocks.now in
     let made = c.match-try_make.made in let new = c.match-try_make.blocks in
     let comes = returns-clause-comes g c in
     let keeps = comes-keeps v edit old new name q.tied.laid q.heap made comes in

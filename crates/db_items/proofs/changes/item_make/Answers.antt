@@ -16,18 +16,25 @@ use Rattle.db_items.proofs.changes.item_make.Goals as goal
 
 pub returns-in-Err : goal.returns-in-Err
 returns-in-Err g c =
-    let d = g.D.Device in let x = c.args.make in let h = c.args.g in
+    let d = g.D.Device in let x = c.args.make in let h = c.args.group in
     item-not_brought d.medium c.args.vm.now h c.bring_group.new.vm c.args.blocks.now c.bring_group.new.blocks (make_row (vm h) x) (enlarges-on_chunks (make_edit x) (vm h)) (make_edit x)
     c.in-Err.refusal c.requires c.in-Err.ensures
 
 pub make-requires : goal.make-requires
 make-requires g c =
     let d = g.D.Device in let t = c.bring_group.new.blocks in let b = c.in-Ok.ensures in
-    record { tied = b.brings.tied; heap = subst (HoldsHeap t) (sym c.vm.ensures) (holds-heap d.medium c.bring_group.new.vm t c.args.g b.brings.tied b.ok.there) }
+    record { tied = b.brings.tied; heap = subst (HoldsHeap t) (sym c.vm.ensures) (holds-heap d.medium c.bring_group.new.vm t c.args.group b.brings.tied b.ok.there) }
 
 pub returns-in-Err-make_chunk : goal.returns-in-Err-make_chunk
 returns-in-Err-make_chunk g c =
-    let d = g.D.Device in let x = c.args.make in let h = c.args.g in let w = c.bring_group.new.vm in let t = c.bring_group.new.blocks in let u = c.make.new.blocks in let b = c.in-Ok.ensures in let e = c.in-Err-make_chunk in
+    let d = g.D.Device in
+    let x = c.args.make in
+    let h = c.args.group in
+    let w = c.bring_group.new.vm in
+    let t = c.bring_group.new.blocks in
+    let u = c.make.new.blocks in
+    let b = c.in-Ok.ensures in
+    let e = c.in-Err-make_chunk in
     let comes = subst (λ (n : Name). DiscardsAndEdits w (make_edit x) t u n (Err e.refusal)) c.vm.ensures e.ensures.comes in
     let keeps = subst (KeepsOthers w t u) c.vm.ensures e.ensures.calls.keeps in
     let row = comes-alone d.medium w (make_edit x) t u (vm h) b.brings.tied (holds-heap d.medium w t h b.brings.tied b.ok.there) (Err e.refusal) comes tt in
@@ -36,13 +43,26 @@ returns-in-Err-make_chunk g c =
 
 pub vdirty_changed-requires : goal.vdirty_changed-requires
 vdirty_changed-requires g c =
-    let d = g.D.Device in let x = c.args.make in let h = c.args.g in let w = c.bring_group.new.vm in let t = c.bring_group.new.blocks in let u = c.make.new.blocks in let b = c.in-Ok.ensures in
+    let d = g.D.Device in
+    let x = c.args.make in
+    let h = c.args.group in
+    let w = c.bring_group.new.vm in
+    let t = c.bring_group.new.blocks in
+    let u = c.make.new.blocks in
+    let b = c.in-Ok.ensures in
     item-unmarked d.medium c.args.vm.now h w c.args.blocks.now t (make_row (vm h) x) (enlarges-on_chunks (make_edit x) (vm h)) (make_edit x) b u
     (subst (KeepsOthers w t u) c.vm.ensures c.in-Ok-make_chunk.ensures.calls.keeps)
 
 pub returns : goal.returns
 returns g c =
-    let d = g.D.Device in let x = c.args.make in let h = c.args.g in let w = c.bring_group.new.vm in let t = c.bring_group.new.blocks in let u = c.make.new.blocks in let b = c.in-Ok.ensures in let e = c.in-Ok-make_chunk in
+    let d = g.D.Device in
+    let x = c.args.make in
+    let h = c.args.group in
+    let w = c.bring_group.new.vm in
+    let t = c.bring_group.new.blocks in
+    let u = c.make.new.blocks in
+    let b = c.in-Ok.ensures in
+    let e = c.in-Ok-make_chunk in
     let comes = subst (λ (n : Name). DiscardsAndEdits w (make_edit x) t u n (Ok e.item)) c.vm.ensures e.ensures.comes in
     let keeps = subst (KeepsOthers w t u) c.vm.ensures e.ensures.calls.keeps in
     let row = comes-alone d.medium w (make_edit x) t u (vm h) b.brings.tied (holds-heap d.medium w t h b.brings.tied b.ok.there) (Ok e.item) comes

@@ -64,7 +64,13 @@ returns-then-not-is_group g c =
 
 pub returns-in-Err : goal.returns-in-Err
 returns-in-Err g c =
-    let d = g.D.Device in let now = c.args.vm.now in let w = c.bring.new.self in let s = c.args.blocks.now in let t = c.bring.new.blocks in let h = c.args.g in let why = c.in-Err.why in
+    let d = g.D.Device in
+    let now = c.args.vm.now in
+    let w = c.bring.new.self in
+    let s = c.args.blocks.now in
+    let t = c.bring.new.blocks in
+    let h = c.args.g in
+    let why = c.in-Err.why in
     let e = c.in-Err.ensures in
     let group : IsGroup now h = c.if-not-is_group.ensures.0 refl in
     let refused : BringsGroup d.medium h (Err (why_not_brought why)) now w s t = record {

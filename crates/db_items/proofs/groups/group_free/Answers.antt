@@ -28,10 +28,10 @@ freed-no why e = absurd cc
 pub returns-then-not-is_group : goal.returns-then-not-is_group
 returns-then-not-is_group g c =
     let d = g.D.Device in
-    let none : IsGroup c.args.vm.now c.args.g → ⊥ = λ group. (let no : false ≡ true = c.if-not-is_group.ensures.1 group in absurd cc) in
+    let none : IsGroup c.args.vm.now c.args.group → ⊥ = λ group. (let no : false ≡ true = c.if-not-is_group.ensures.1 group in absurd cc) in
     record {
       tied = c.requires;
-      row = free_no_group-row d.medium c.args.vm.now c.args.blocks.now c.args.g c.requires none;
+      row = free_no_group-row d.medium c.args.vm.now c.args.blocks.now c.args.group c.requires none;
       no_group = λ other. (refl, refl, refl);
       locked = λ group. absurd (none group);
       state = tt;
@@ -42,7 +42,7 @@ returns-then-not-is_group g c =
 
 pub returns-in-Ok : goal.returns-in-Ok
 returns-in-Ok g c =
-    let d = g.D.Device in let v = c.args.vm.now in let s = c.args.blocks.now in let h = c.args.g in let e = c.in-Ok.ensures in
+    let d = g.D.Device in let v = c.args.vm.now in let s = c.args.blocks.now in let h = c.args.group in let e = c.in-Ok.ensures in
     let group : IsGroup v h = c.if-not-is_group.ensures.0 refl in
     record {
       tied = e.tied;
@@ -57,7 +57,12 @@ returns-in-Ok g c =
 
 pub returns-in-Err : goal.returns-in-Err
 returns-in-Err g c =
-    let d = g.D.Device in let v = c.args.vm.now in let s = c.args.blocks.now in let w = c.vfree.new.self in let t = c.vfree.new.blocks in let h = c.args.g in
+    let d = g.D.Device in
+    let v = c.args.vm.now in
+    let s = c.args.blocks.now in
+    let w = c.vfree.new.self in
+    let t = c.vfree.new.blocks in
+    let h = c.args.group in
     let why = c.in-Err.why in let e = c.in-Err.ensures in let by = locked-why why in
     let group : IsGroup v h = c.if-not-is_group.ensures.0 refl in
     let Locked : Refusal → Type 0 = λ r. (◌≡◌ {A = Result (Unit {0}) Refusal} (Err r) (Err refusal.Locked)) ↔ (0 < locks_of s (vm_slot h)) in

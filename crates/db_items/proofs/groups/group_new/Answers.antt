@@ -58,7 +58,11 @@ returns-in-Ok g c =
 
 pub returns-in-Err : goal.returns-in-Err
 returns-in-Err g c =
-    let d = g.D.Device in let v = c.args.vm.now in let s = c.args.blocks.now in let w = c.vnew_unlocked.new.self in let t = c.vnew_unlocked.new.blocks in
+    let d = g.D.Device in
+    let v = c.args.vm.now in
+    let s = c.args.blocks.now in
+    let w = c.vnew_unlocked.new.self in
+    let t = c.vnew_unlocked.new.blocks in
     let why = c.in-Err.why in let e = c.in-Err.ensures in let by = handle-why why in
     let made : Made d.medium (Err (why_not_made why)) v w s t = record {
       row = e.row;

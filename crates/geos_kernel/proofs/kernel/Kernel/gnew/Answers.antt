@@ -28,5 +28,10 @@ returns-clause-calls g c =
 
 pub returns-clause-no_room : goal.returns-clause-no_room
 returns-clause-no_room g c = λ is.
-    let d = g.D.Device in let v = c.self.inside.vm in let s = c.self.inside.blocks in let w = c.group_new.new.vm in let t = c.group_new.new.blocks in let e = c.group_new.ensures in
+    let d = g.D.Device in
+    let v = c.self.inside.vm in
+    let s = c.self.inside.blocks in
+    let w = c.group_new.new.vm in
+    let t = c.group_new.new.blocks in
+    let e = c.group_new.ensures in
     subst (λ k. NewListedHasNoRoom k.core (core_of d.medium w t)) c.self.view_is (new-lacks d.medium v w s t c.group_new.result refusal.NoRoom is e.err (e.no_room is))

@@ -21,7 +21,11 @@ invariant_of-self g c =
 locked : (g : given.Over) (c : Joined-item_lock_part g) → LocksPart g.D.Device.medium c.args.g c.args.i c.args.n c.match-item_lock_part.result c.args.self.now
     (kernel_of g.D.Device.medium c.item_lock_part.new.vm c.item_lock_part.new.blocks)
 locked g c =
-    let d = g.D.Device in let v = c.self.inside.vm in let s = c.self.inside.blocks in let x = c.item_lock_part.new.vm in let t = c.item_lock_part.new.blocks in
+    let d = g.D.Device in
+    let v = c.self.inside.vm in
+    let s = c.self.inside.blocks in
+    let x = c.item_lock_part.new.vm in
+    let t = c.item_lock_part.new.blocks in
     let known = leaves-kept d.medium v s c.is_sure.ensures.kept in
     elim c.match-item_lock_part.branch [
       | in-Ok w ↦ (

@@ -26,7 +26,13 @@ place-requires g c =
 
 pub returns-in-Ok-clause-gives : goal.returns-in-Ok-clause-gives
 returns-in-Ok-clause-gives g c =
-    let d = g.D.Device in let v = c.self.inside.vm in let s = c.self.inside.blocks in let k = c.args.self.now in let edit = refer_edit c.args.refer in let at = c.in-Ok.at in let len = c.in-Ok.len in
+    let d = g.D.Device in
+    let v = c.self.inside.vm in
+    let s = c.self.inside.blocks in
+    let k = c.args.self.now in
+    let edit = refer_edit c.args.refer in
+    let at = c.in-Ok.at in
+    let len = c.in-Ok.len in
     let holds = seen-heap d.medium v s k c.self.view_is c.args.name c.self.invariant c.requires in
     let locked = subst (λ k. IsLocked k.core c.args.name) (sym c.self.view_is) c.requires in
     let finds = subst (λ bytes. Finds edit bytes (Ok (at, len))) c.bytes.ensures c.in-Ok.ensures.finds in
@@ -50,7 +56,12 @@ returns-in-Ok-clause-writable g c =
 
 pub returns-in-Err-clause-gives : goal.returns-in-Err-clause-gives
 returns-in-Err-clause-gives g c =
-    let d = g.D.Device in let v = c.self.inside.vm in let s = c.self.inside.blocks in let k = c.args.self.now in let edit = refer_edit c.args.refer in let why = c.in-Err.refusal in
+    let d = g.D.Device in
+    let v = c.self.inside.vm in
+    let s = c.self.inside.blocks in
+    let k = c.args.self.now in
+    let edit = refer_edit c.args.refer in
+    let why = c.in-Err.refusal in
     let holds = seen-heap d.medium v s k c.self.view_is c.args.name c.self.invariant c.requires in
     let finds = subst (λ bytes. Finds edit bytes (Err why)) c.bytes.ensures c.in-Err.ensures.finds in
     subst (λ k. GivesSpan (d.medium.honest k.device) (refer_row c.args.name c.args.refer) (Err why) k.core) c.self.view_is (refers-not d.medium v s c.args.name c.self.invariant holds edit why finds)

@@ -48,7 +48,12 @@ returns-clause-in_memory g c =
 pub returns-clause-locks : goal.returns-clause-locks
 returns-clause-locks g c =
     let d = g.D.Device in let v = c.self.inside.vm in let s = c.self.inside.blocks in
-    let done = c.vlock-locked in let w = done.new.self in let t = done.new.blocks in let r = done.result in let h = c.args.h in let e = done.ensures in
+    let done = c.vlock-locked in
+    let w = done.new.self in
+    let t = done.new.blocks in
+    let r = done.result in
+    let h = c.args.h in
+    let e = done.ensures in
     let more = lock-more d.medium v w s t c.args.self.now c.self.view_is h (t ≡ with_lock_more s (vm_slot h)) r (λ was. (e.brings.there was, e.there was)) in
     rw c.of_lock.ensures (subst (λ k. IsThere k.core.blocks (vm_slot h) → OnOk (of_lock r) (t ≡ with_lock_more k.core.blocks (vm_slot h))) c.self.view_is more)
 

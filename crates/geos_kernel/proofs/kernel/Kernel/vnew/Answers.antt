@@ -36,17 +36,32 @@ returns-clause-calls g c =
 
 pub returns-clause-no_room : goal.returns-clause-no_room
 returns-clause-no_room g c = λ is.
-    let d = g.D.Device in let v = c.self.inside.vm in let s = c.self.inside.blocks in let w = c.vnew-made.new.self in let t = c.vnew-made.new.blocks in let e = c.vnew-made.ensures in
+    let d = g.D.Device in
+    let v = c.self.inside.vm in
+    let s = c.self.inside.blocks in
+    let w = c.vnew-made.new.self in
+    let t = c.vnew-made.new.blocks in
+    let e = c.vnew-made.ensures in
     let below = room-below c.vnew-made.result (sym c.of_new.ensures ∙ is) in
     subst (λ k. NewListedHasNoRoom k.core (core_of d.medium w t)) c.self.view_is (new-lacks d.medium v w s t c.vnew-made.result error.NoRoom below e.err (e.no_room below))
 
 pub returns-clause-ready : goal.returns-clause-ready
 returns-clause-ready g c =
-    let d = g.D.Device in let v = c.self.inside.vm in let s = c.self.inside.blocks in let w = c.vnew-made.new.self in let t = c.vnew-made.new.blocks in
+    let d = g.D.Device in
+    let v = c.self.inside.vm in
+    let s = c.self.inside.blocks in
+    let w = c.vnew-made.new.self in
+    let t = c.vnew-made.new.blocks in
     rw c.of_new.ensures (made-ready d.medium v w s t c.args.uid 1 c.self.invariant c.vnew-made.result c.vnew-made.ensures.ok)
 
 pub returns-clause-device : goal.returns-clause-device
 returns-clause-device g c =
-    let d = g.D.Device in let v = c.self.inside.vm in let s = c.self.inside.blocks in let w = c.vnew-made.new.self in let t = c.vnew-made.new.blocks in let uid = c.args.uid in let e = c.vnew-made.ensures in
+    let d = g.D.Device in
+    let v = c.self.inside.vm in
+    let s = c.self.inside.blocks in
+    let w = c.vnew-made.new.self in
+    let t = c.vnew-made.new.blocks in
+    let uid = c.args.uid in
+    let e = c.vnew-made.ensures in
     let made = made-below d.medium v w s t uid 1 c.self.invariant c.vnew-made.result e.ok e.no_room e.stays e.err in
     asks-nothing d.medium v w s t c.args.self.now c.self.view_is (made-file d.medium v w s t uid 1 c.self.invariant made)

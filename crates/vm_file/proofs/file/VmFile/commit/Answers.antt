@@ -16,13 +16,21 @@ select-requires-clause-spelled g c =
 
 pub returns-then-not-self : goal.returns-then-not-self
 returns-then-not-self g c =
-    let d = g.D.Device in let resident = g.S.Source.resident_bytes c.args.source.now in let cur = c.args.cur.now in let how = c.args.how in let old = c.args.self.now in
+    let d = g.D.Device in
+    let resident = g.S.Source.resident_bytes c.args.source.now in
+    let cur = c.args.cur.now in
+    let how = c.args.how in
+    let old = c.args.self.now in
     let T : FileState g.row.D.Denot → Type 0 = λ f. f.sure ≡ false in
     unsure_first d.medium how resident cur old (finds_before d.medium _ _ c.self.view_is c.self.invariant) (subst T c.self.view_is c.if-not-self.true)
 
 pub returns-then-self-length : goal.returns-then-self-length
 returns-then-self-length g c =
-    let d = g.D.Device in let resident = g.S.Source.resident_bytes c.args.source.now in let cur = c.args.cur.now in let how = c.args.how in let old = c.args.self.now in
+    let d = g.D.Device in
+    let resident = g.S.Source.resident_bytes c.args.source.now in
+    let cur = c.args.cur.now in
+    let how = c.args.how in
+    let old = c.args.self.now in
     let T : FileState g.row.D.Denot → Type 0 = λ f. f.sure ≡ true in
     let Big : FileState g.row.D.Denot → Type 0 = λ f. f.area < length_after how cur f.saved in
     too_big_first d.medium how resident cur old (finds_before d.medium _ _ c.self.view_is c.self.invariant) (subst T c.self.view_is c.if-not-self.false)
@@ -30,7 +38,11 @@ returns-then-self-length g c =
 
 pub returns-in-Err : goal.returns-in-Err
 returns-in-Err g c =
-    let d = g.D.Device in let resident = g.S.Source.resident_bytes c.args.source.now in let cur = c.args.cur.now in let how = c.args.how in let old = c.args.self.now in
+    let d = g.D.Device in
+    let resident = g.S.Source.resident_bytes c.args.source.now in
+    let cur = c.args.cur.now in
+    let how = c.args.how in
+    let old = c.args.self.now in
     let T : FileState g.row.D.Denot → Type 0 = λ f. f.sure ≡ true in
     let Fits : FileState g.row.D.Denot → Type 0 = λ f. length_after how cur f.saved ≤ f.area in
     memory_first d.medium how resident cur old (finds_before d.medium _ _ c.self.view_is c.self.invariant) (subst T c.self.view_is c.if-not-self.false)
@@ -38,7 +50,11 @@ returns-in-Err g c =
 
 pub returns-in-Err-spell : goal.returns-in-Err-spell
 returns-in-Err-spell g c =
-    let d = g.D.Device in let resident = g.S.Source.resident_bytes c.args.source.now in let cur = c.args.cur.now in let how = c.args.how in let old = c.args.self.now in
+    let d = g.D.Device in
+    let resident = g.S.Source.resident_bytes c.args.source.now in
+    let cur = c.args.cur.now in
+    let how = c.args.how in
+    let old = c.args.self.now in
     let T : FileState g.row.D.Denot → Type 0 = λ f. f.sure ≡ true in
     let Fits : FileState g.row.D.Denot → Type 0 = λ f. length_after how cur f.saved ≤ f.area in
     let r = c.in-Err-spell.ensures in
@@ -47,7 +63,11 @@ returns-in-Err-spell g c =
 
 pub returns-in-Ok-select : goal.returns-in-Ok-select
 returns-in-Ok-select g c =
-    let d = g.D.Device in let resident = g.S.Source.resident_bytes c.args.source.now in let cur = c.args.cur.now in let how = c.args.how in let old = c.args.self.now in
+    let d = g.D.Device in
+    let resident = g.S.Source.resident_bytes c.args.source.now in
+    let cur = c.args.cur.now in
+    let how = c.args.how in
+    let old = c.args.self.now in
     let T : FileState g.row.D.Denot → Type 0 = λ f. f.sure ≡ true in
     let Fits : FileState g.row.D.Denot → Type 0 = λ f. length_after how cur f.saved ≤ f.area in
     let r = c.in-Ok-spell.ensures in let s = c.in-Ok-select.ensures in
@@ -58,7 +78,11 @@ returns-in-Ok-select g c =
 
 pub returns : goal.returns
 returns g c =
-    let d = g.D.Device in let resident = g.S.Source.resident_bytes c.args.source.now in let cur = c.args.cur.now in let how = c.args.how in let old = c.args.self.now in
+    let d = g.D.Device in
+    let resident = g.S.Source.resident_bytes c.args.source.now in
+    let cur = c.args.cur.now in
+    let how = c.args.how in
+    let old = c.args.self.now in
     let T : FileState g.row.D.Denot → Type 0 = λ f. f.sure ≡ true in
     let Fits : FileState g.row.D.Denot → Type 0 = λ f. length_after how cur f.saved ≤ f.area in
     let r = c.in-Ok-spell.ensures in let s = c.in-Err-select.ensures in

@@ -52,7 +52,11 @@ unsure : (g : Over) (c : goal.After-self-in-Err-write_durably-1 g) → let d = g
     UnsureFile d.medium (let f : FileState g.row.D.Denot = record { device = i.device; area = i.area; second = i.second; sure = i.sure; current = i.current; saved = i.saved } in f) c.self.invariant
     (let S : FileState g.row.D.Denot → Type 0 = λ f. f.sure ≡ true in subst S (sym c.self.view_is) c.requires.sure) c.write_durably-2.new.device (pair_in x y c.args.bytes.now)
 unsure g c =
-    let d = g.D.Device in let i = c.self.inside in let n = length c.args.bytes.now in let x = current_after c.args.how c.args.cur.now i.saved in let y = saved_after c.args.how c.args.cur.now i.saved in
+    let d = g.D.Device in
+    let i = c.self.inside in
+    let n = length c.args.bytes.now in
+    let x = current_after c.args.how c.args.cur.now i.saved in
+    let y = saved_after c.args.how c.args.cur.now i.saved in
     let A : FileState g.row.D.Denot → Type 0 = λ f. n ≤ f.area in
     let S : FileState g.row.D.Denot → Type 0 = λ f. d.medium.honest f.device → Spells (current_after c.args.how c.args.cur.now f.saved) (saved_after c.args.how c.args.cur.now f.saved)
     (pair_in (current_after c.args.how c.args.cur.now f.saved) (saved_after c.args.how c.args.cur.now f.saved) c.args.bytes.now) c.args.bytes.now in
@@ -98,7 +102,11 @@ selected : (g : Over) (c : goal.After-keep g) → let d = g.D.Device in let i = 
     SelectedFile d.medium (let f : FileState g.row.D.Denot = record { device = i.device; area = i.area; second = i.second; sure = i.sure; current = i.current; saved = i.saved } in f) c.self.invariant
     (let S : FileState g.row.D.Denot → Type 0 = λ f. f.sure ≡ true in subst S (sym c.self.view_is) c.requires.sure) c.write_durably-2.new.device x y (pair_in x y c.args.bytes.now)
 selected g c =
-    let d = g.D.Device in let i = c.self.inside in let n = length c.args.bytes.now in let x = current_after c.args.how c.args.cur.now i.saved in let y = saved_after c.args.how c.args.cur.now i.saved in
+    let d = g.D.Device in
+    let i = c.self.inside in
+    let n = length c.args.bytes.now in
+    let x = current_after c.args.how c.args.cur.now i.saved in
+    let y = saved_after c.args.how c.args.cur.now i.saved in
     let A : FileState g.row.D.Denot → Type 0 = λ f. n ≤ f.area in
     let S : FileState g.row.D.Denot → Type 0 = λ f. d.medium.honest f.device → Spells (current_after c.args.how c.args.cur.now f.saved) (saved_after c.args.how c.args.cur.now f.saved)
     (pair_in (current_after c.args.how c.args.cur.now f.saved) (saved_after c.args.how c.args.cur.now f.saved) c.args.bytes.now) c.args.bytes.now in

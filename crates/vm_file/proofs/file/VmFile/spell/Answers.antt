@@ -24,7 +24,9 @@ pub returns-in-Ok-clause-spelled : goal.returns-in-Ok-clause-spelled
 returns-in-Ok-clause-spelled g c = λ h.
     let d = g.D.Device in let resident = g.S.Source.resident_bytes c.args.source.now in let cur = c.args.cur.now in let old = c.args.self.now in
     let one = c.in-Ok.ensures in let two = c.spell_saved.ensures in
-    let first = contents_from resident (pair_of d.medium.image old).cur.blocks cur in let then = (pair_of d.medium.image c.spell_current.new.self).saved in let second = (pair_of d.medium.image old).saved in
+    let first = contents_from resident (pair_of d.medium.image old).cur.blocks cur in
+    let then = (pair_of d.medium.image c.spell_current.new.self).saved in
+    let second = (pair_of d.medium.image old).saved in
     let same : then ≡ second = ap (λ p. p.saved) one.read.pair in
     let legal : IsContentsOf old.saved second = subst (IsContentsOf old.saved) same (subst (λ (x : Directory). IsContentsOf x then) (ap (λ f. f.saved) one.read.same) (two.legal (one.read.read.only.stays h))) in
     let front = one.items h ∙ ap (λ xs. xs ++ contents_spelling first) c.requires.empty.0 in
