@@ -11,7 +11,7 @@ use Rattle.block_handles.proofs.Packs.{size_along}
 use Rattle.block_handles.proofs.Sums.{total-same, total-none, total-both, total-one, in_range, off_range, other-but, other-other, unlocked-other}
 
 -- where each number is at most another
-total-less : (n : ℕ) (f g : ℕ → ℕ) → ((j : ℕ) → j < n → f j ≤ g j) → total n f ≤ total n g
+pub total-less : (n : ℕ) (f g : ℕ → ℕ) → ((j : ℕ) → j < n → f j ≤ g j) → total n f ≤ total n g
 total-less zero f g h = omega arith
 total-less (suc n) f g h = omega (arith, h n (omega arith), total-less n f g (λ j lt. h j (omega (arith, lt))))
 

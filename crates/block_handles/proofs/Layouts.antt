@@ -31,6 +31,13 @@ no_block (Some b) h = absurd (h tt)
 pub size_of_none : (S : Store) (j : ℕ) → (IsThere S j → ⊥) → size_of S j ≡ 0
 size_of_none S j h = no_block (block_at S j) h
 
+no_locks : (b : Option Block) → (IsBlock b → ⊥) → locks_in b ≡ 0
+no_locks None h = refl
+no_locks (Some b) h = absurd (h tt)
+
+pub locks_of_none : (S : Store) (j : ℕ) → (IsThere S j → ⊥) → locks_of S j ≡ 0
+locks_of_none S j h = no_locks (block_at S j) h
+
 -- two stores differ in one slot alone, where the second has n bytes at p
 pub record Differs (S S' : Store) (i n p : ℕ) : Type 0 where
   pub size : size_of S' i ≡ n

@@ -1,6 +1,7 @@
 pub mod Indexing
 pub mod Laws
 pub mod Layouts
+pub mod LockSums
 pub mod Packs
 pub mod Passes
 pub mod Passing

@@ -4,18 +4,19 @@ use Rattle.std.proofs.lemmas.List.{length-replicate, get_or-set_same, get_or-set
 use Rattle.std.proofs.lemmas.Nat.Bits.{bit_at-lt}
 use Rattle.std.proofs.lemmas.Bool.{cases_eq}
 use Rattle.block_handles.specs.declared.room.Gap.{Gap}
-use Rattle.block_handles.specs.Store.{Block, Store, block_at, bytes_in, bytes_of, IsBlock, IsThere, size_of, place_of, end_of}
+use Rattle.block_handles.specs.Store.{Block, Store, block_at, bytes_in, bytes_of, IsBlock, IsThere, locks_in, locks_of, size_of, place_of, end_of}
 use Rattle.block_handles.specs.Change.{LockedStay, with_block, new_block, grown_block, with_locks, after_write, with_bytes}
 use Rattle.block_handles.specs.Calls.{Grows, Makes}
 use Rattle.block_handles.specs.Gap.{IsGap, IsGapBut, IsReady, MakesRoom}
 use Rattle.block_handles.specs.Joined.{Joins, Reaches}
 use Rattle.block_handles.specs.Bits.{bit_of, SetsBit}
-use Rattle.block_handles.specs.Used.{IsUsed, IsFreeCount, IsKept}
+use Rattle.block_handles.specs.Used.{IsUsed, IsFreeCount, IsKept, IsLockSum}
 use Rattle.block_handles.specs.Layout.{Apart, IsEmpty, IsLaidOut, IsFree, IsFreeBut}
 use Rattle.block_handles.specs.Packing.{IsEdge}
 use Rattle.block_handles.specs.Stretch.{all_sizes}
-use Rattle.block_handles.proofs.Layouts.{Differs, with_block-differs, there_small, there_of_size, size_of_none, with_locks-shape, SameShape, laid-same, free-same}
+use Rattle.block_handles.proofs.Layouts.{Differs, with_block-differs, there_small, there_of_size, locks_of_none, size_of_none, with_locks-shape, SameShape, laid-same, free-same}
 use Rattle.block_handles.proofs.Counting.{sizes-fit, sizes-same, sizes-with_block}
+use Rattle.block_handles.proofs.LockSums.{after_write-locks, lock-sum-same, lock-sum-with_block, with_bytes-locks}
 use Rattle.block_handles.proofs.Packs.{size_along}
 use Rattle.block_handles.proofs.Writes.{after_write-shape, with_bytes-shape}
 
@@ -43,18 +44,23 @@ ready-same S S' gap shape r = record {
 pub used-same : (S S' : Store) (words : List ℕ) → ((j : ℕ) → IsThere S' j → IsThere S j) → ((j : ℕ) → IsThere S j → IsThere S' j) → IsUsed S words → IsUsed S' words
 used-same S S' words back on u = record { long = u.long; there = λ j small is. on j (u.there j small is); none = λ j small is h. u.none j small is (back j h) }
 
-pub kept-same : {free : ℕ} (S S' : Store) (gap : Gap) (words : List ℕ) → SameShape S S' → IsKept S gap words free → IsKept S' gap words free
-kept-same S S' gap words shape k = record {
+pub kept-same : {free held now : ℕ} (S S' : Store) (gap : Gap) (words : List ℕ) → SameShape S S' → IsLockSum S' now → IsKept S gap words free held → IsKept S' gap words free now
+kept-same S S' gap words shape locked k = record {
   ready = ready-same S S' gap shape k.ready;
   used = used-same S S' words shape.there (λ j h. there_of_size S' j (omega (arith, shape.sizes j, (k.ready.laid.sized j h).0))) k.used;
   count = record { counted = omega (arith, k.count.counted, sizes-same S S' shape, shape.len); short = omega (arith, k.count.short, shape.len) };
+  locked = locked;
 }
 
-pub kept-after_write : {free : ℕ} (S S' : Store) (gap : Gap) (words : List ℕ) (at : ℕ) (ws : List ℕ) → S' ≡ after_write S at ws → IsKept S gap words free → IsKept S' gap words free
-kept-after_write {free} S S' gap words at ws e k = subst (λ s. IsKept s gap words free) (sym e) (kept-same S (after_write S at ws) gap words (after_write-shape at ws S) k)
+pub kept-after_write : {free held : ℕ} (S S' : Store) (gap : Gap) (words : List ℕ) (at : ℕ) (ws : List ℕ) → S' ≡ after_write S at ws → IsKept S gap words free held → IsKept S' gap words free held
+kept-after_write {free} {held} S S' gap words at ws e k =
+    let W : Store = after_write S at ws in
+    subst (λ s. IsKept s gap words free held) (sym e) (kept-same S W gap words (after_write-shape at ws S) (lock-sum-same S W held (after_write-shape at ws S).slots (after_write-locks S at ws) k.locked) k)
 
-pub kept-bytes : {free : ℕ} (S : Store) (gap : Gap) (words : List ℕ) (slot : ℕ) (ws : List ℕ) → IsKept S gap words free → IsKept (with_bytes S slot ws) gap words free
-kept-bytes S gap words slot ws k = kept-same S (with_bytes S slot ws) gap words (with_bytes-shape S slot ws) k
+pub kept-bytes : {free held : ℕ} (S : Store) (gap : Gap) (words : List ℕ) (slot : ℕ) (ws : List ℕ) → IsKept S gap words free held → IsKept (with_bytes S slot ws) gap words free held
+kept-bytes {free} {held} S gap words slot ws k =
+    let W : Store = with_bytes S slot ws in
+    kept-same S W gap words (with_bytes-shape S slot ws) (lock-sum-same S W held (with_bytes-shape S slot ws).slots (with_bytes-locks S slot ws) k.locked) k
 
 -- a slot gets a block, or loses it, and the bit says so
 pub used-with_block : (S S' : Store) (words words' : List ℕ) (slot : ℕ) (b : Option Block) (p bit : ℕ) → slot < 2048 → IsLaidOut S → S' ≡ with_block S slot b p → SetsBit words words' slot bit → (bit ≡ 1 → IsBlock b) → (bit ≡ 0 → IsBlock b → ⊥) → IsUsed S words → IsUsed S' words'
@@ -173,17 +179,19 @@ module _ (old mid new : Store) (slot size free more : ℕ) (gap : Gap) (m : Make
       let long : length (bytes_in (grown_block mid slot size)) ≡ size = length-grown mid slot size (omega (arith, grows, size_along old mid m.blocks slot)) in
       count-taken old new free more count (omega (arith, by, grows, long, sizes-with_block old mid new slot gap.at (grown_block mid slot size) m.blocks m.laid small e)) (ap (λ s. s.len) e ∙ m.len) laid
 
-  pub kept-grown_block : (words : List ℕ) → IsUsed old words → IsKept new (record { at = gap.at + size; end = gap.end }) words (free - more)
-  kept-grown_block words u =
+  pub kept-grown_block : (words : List ℕ) (held : ℕ) → IsUsed old words → IsLockSum old held → IsKept new (record { at = gap.at + size; end = gap.end }) words (free - more) held
+  kept-grown_block words held u locked =
       let bit : bit_of words slot ≡ 1 = bit-there old words slot small there u in
       record {
         ready = ready-grown_block old mid new slot size gap m there grows e laid;
         used = used-with_block mid new words words slot (grown_block mid slot size) gap.at 1 small m.laid e (record { here = bit; others = λ j ne. refl; long = refl }) (λ _. tt) (λ z. absurd (omega (arith, z))) (used-blocks old mid words m.blocks u);
         count = grown-taken.1;
+        locked = lock-sum-with_block old mid new slot gap.at held (grown_block mid slot size) m.blocks m.laid small e (ap (λ bs. locks_in (slice_index_or bs slot None)) m.blocks) locked;
       }
 
-pub kept-locks : {free : ℕ} (S S' : Store) (gap : Gap) (words : List ℕ) (slot n : ℕ) → IsThere S slot → S' ≡ with_locks S slot n → IsKept S gap words free → IsKept S' gap words free
-kept-locks {free} S S' gap words slot n h e k = subst (λ s. IsKept s gap words free) (sym e) (kept-same S (with_locks S slot n) gap words (with_locks-shape S slot n k.ready.laid h) k)
+pub kept-locks : {free held now : ℕ} (S S' : Store) (gap : Gap) (words : List ℕ) (slot n : ℕ) → IsThere S slot → S' ≡ with_locks S slot n → IsLockSum S' now → IsKept S gap words free held → IsKept S' gap words free now
+kept-locks {free} {held} {now} S S' gap words slot n h e locked k =
+    subst (λ s. IsKept s gap words free now) (sym e) (kept-same S (with_locks S slot n) gap words (with_locks-shape S slot n k.ready.laid h) (subst (λ s. IsLockSum s now) e locked) k)
 
 -- a new block takes its bytes of those that are free
 pub made-taken : (old mid new : Store) (slot size free : ℕ) (gap : Gap) → MakesRoom old mid slot size gap → slot < 2048 → (IsThere old slot → ⊥) → IsFreeCount old free → new ≡ with_block mid slot (new_block size) gap.at → IsLaidOut new → (size ≤ free) × IsFreeCount new (free - size)
@@ -191,14 +199,16 @@ made-taken old mid new slot size free gap m small absent count e laid =
     count-taken old new free size count (omega (arith, size_of_none old slot absent, length-replicate {A = ℕ} size 0, sizes-with_block old mid new slot gap.at (new_block size) m.blocks m.laid small e)) (ap (λ s. s.len) e ∙ m.len) laid
 
 -- the gap beside a block that was made in it
-pub kept-made : (old mid new : Store) (slot size free : ℕ) (gap : Gap) (words words' : List ℕ) → MakesRoom old mid slot size gap → slot < 2048 → IsUsed old words → IsFreeCount new (free - size) → new ≡ with_block mid slot (new_block size) gap.at → IsLaidOut new → SetsBit words words' slot 1 → IsKept new (record { at = gap.at + size; end = gap.end }) words' (free - size)
-kept-made old mid new slot size free gap words words' m small u count e laid set = record {
+pub kept-made : (old mid new : Store) (slot size free held : ℕ) (gap : Gap) (words words' : List ℕ) → MakesRoom old mid slot size gap → slot < 2048 → (IsThere old slot → ⊥) → IsUsed old words → IsLockSum old held → IsFreeCount new (free - size) → new ≡ with_block mid slot (new_block size) gap.at → IsLaidOut new → SetsBit words words' slot 1
+    → IsKept new (record { at = gap.at + size; end = gap.end }) words' (free - size) held
+kept-made old mid new slot size free held gap words words' m small absent u locked count e laid set = record {
   ready = record {
     laid = laid;
     room = record { ordered = m.room; inside = omega (arith, m.inside, ap (λ s. s.len) e); free = λ j. subst (λ s. (end_of s j ≤ gap.at + size) ⊎ (gap.end ≤ place_of s j)) (sym e) (each j) };
   };
   used = used-with_block mid new words words' slot (new_block size) gap.at 1 small m.laid e set (λ _. tt) (λ z. absurd (omega (arith, z))) (used-blocks old mid words m.blocks u);
   count = count;
+  locked = lock-sum-with_block old mid new slot gap.at held (new_block size) m.blocks m.laid small e (sym (locks_of_none old slot absent)) locked;
 }
   where
     d : Differs mid (with_block mid slot (new_block size) gap.at) slot (length (bytes_in (new_block size))) gap.at
@@ -292,9 +302,10 @@ module _ (S : Store) (slot : ℕ) (laid : IsLaidOut S) (there : IsThere S slot) 
     short = omega (arith, count.short, ap (λ s. s.len) e);
   }
 
-  pub kept-freed : (S' : Store) (gap gap' : Gap) (words words' : List ℕ) (free place end : ℕ) → S' ≡ with_block S slot None 0 → IsLaidOut S' → place ≡ place_of S slot → end ≡ end_of S slot → Joins gap place end gap' → SetsBit words words' slot 0 → IsKept S gap words free → IsKept S' gap' words' (free + (end - place))
-  kept-freed S' gap gap' words words' free place end e laid' ep ee joins set k = record {
+  pub kept-freed : (S' : Store) (gap gap' : Gap) (words words' : List ℕ) (free held place end : ℕ) → S' ≡ with_block S slot None 0 → IsLaidOut S' → place ≡ place_of S slot → end ≡ end_of S slot → locks_of S slot ≡ 0 → Joins gap place end gap' → SetsBit words words' slot 0 → IsKept S gap words free held → IsKept S' gap' words' (free + (end - place)) held
+  kept-freed S' gap gap' words words' free held place end e laid' ep ee unlocked joins set k = record {
     ready = record { laid = laid'; room = subst (λ s. IsGap s gap') (sym e) (freed-gap gap gap' place end ep ee k.ready.room joins) };
     used = used-with_block S S' words words' slot None 0 0 (there_small S slot laid there) laid e set (λ z. absurd (omega (arith, z))) (λ _ h. h) k.used;
     count = count-freed S' free place end e ep ee k.count;
+    locked = lock-sum-with_block S S S' slot 0 held None refl laid (there_small S slot laid there) e (sym unlocked) k.locked;
   }

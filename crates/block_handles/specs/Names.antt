@@ -9,6 +9,11 @@ abbrev pub first_slot : Owner → ℕ
 first_slot Mem = 0
 first_slot Vm = 1024
 
+-- 1 for the VM file, and 0 for global memory
+abbrev pub of_file : Owner → ℕ
+of_file Mem = 0
+of_file Vm = 1
+
 -- a handle is from 1 to 1,024
 abbrev pub IsHandle : ℕ → Type 0
 IsHandle h = (1 ≤ h) × (h ≤ 1024)

@@ -62,3 +62,11 @@ IsCrowded store but size = region_len store < (other_locked store but + 1) * siz
 pub record HasNoRoom (store : Store) (but size : ℕ) : Type 0 where
   pub full : IsFull store but size
   pub crowded : IsCrowded store but size
+
+-- the lock count of a block of the VM file, and 0 of one of global memory
+abbrev pub vm_locks_at : Store → ℕ → ℕ
+vm_locks_at store slot = if nat_le 1024 slot then locks_of store slot else 0
+
+-- how often the blocks of the VM file are locked, all together
+abbrev pub vm_locks : Store → ℕ
+vm_locks store = total (slot_count store) (vm_locks_at store)

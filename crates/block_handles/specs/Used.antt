@@ -1,12 +1,12 @@
--- Which slots are in use, which handle is the lowest that is free, and how many bytes are.
-use Rattle.std.specs.Prelude.{◌≡◌, ℕ, ◌+◌, ◌<◌, ◌^◌, List, length}
+-- Which slots are in use, which handle is the lowest that is free, how many bytes are, and how often blocks are locked.
+use Rattle.std.specs.Prelude.{◌≡◌, ℕ, ◌+◌, ◌<◌, ◌≤◌, ◌^◌, List, length}
 use Rattle.geos_terms.specs.declared.name.Owner.{Owner}
 use Rattle.block_handles.specs.declared.room.Gap.{Gap}
 use Rattle.block_handles.specs.Bits.{bit_of}
 use Rattle.block_handles.specs.Gap.{IsReady}
 use Rattle.block_handles.specs.Names.{IsHandle, slot_of}
-use Rattle.block_handles.specs.Store.{Store, IsThere, region_len}
-use Rattle.block_handles.specs.Stretch.{all_sizes}
+use Rattle.block_handles.specs.Store.{Store, IsThere, locks_of, region_len}
+use Rattle.block_handles.specs.Stretch.{all_sizes, vm_locks}
 
 -- the bits say which slots are in use
 pub record IsUsed (store : Store) (words : List ℕ) : Type 0 where
@@ -19,11 +19,17 @@ pub record IsFreeCount (store : Store) (free : ℕ) : Type 0 where
   pub counted : free + all_sizes store ≡ region_len store
   pub short : region_len store < 2 ^ 32
 
+-- the blocks of the VM file are locked so often, all together, and no block more often than it can be
+pub record IsLockSum (store : Store) (held : ℕ) : Type 0 where
+  pub added : held ≡ vm_locks store
+  pub each : (slot : ℕ) → locks_of store slot ≤ 65535
+
 -- what holds of the fields
-pub record IsKept (store : Store) (gap : Gap) (words : List ℕ) (free : ℕ) : Type 0 where
+pub record IsKept (store : Store) (gap : Gap) (words : List ℕ) (free held : ℕ) : Type 0 where
   pub ready : IsReady store gap
   pub used : IsUsed store words
   pub count : IsFreeCount store free
+  pub locked : IsLockSum store held
 
 -- a handle of an owner names no block, and each lower one does
 pub record IsLowest (store : Store) (owner : Owner) (h : ℕ) : Type 0 where

@@ -22,7 +22,7 @@ use arena::Arena;
 pub use error::{HandleError, RoomError};
 use geos_terms::MOST_BLOCK_BYTES;
 pub use geos_terms::{Name, Owner};
-use name::{first_slot, name_of, slot_in_use, slot_of};
+use name::{first_slot, name_of, of_file, slot_in_use, slot_of};
 use room::{Gap, room_for};
 use slots::SlotSet;
 use std::alloc::{AllocError, Global};
@@ -36,6 +36,8 @@ pub struct Blocks {
     used: SlotSet,
     /// How many bytes no block has.
     free: u32,
+    /// How often the blocks of the VM file are locked, all together.
+    vm_locks: u32,
 }
 
 impl Model for Blocks {
@@ -47,7 +49,7 @@ impl Model for Blocks {
 
     ghost view = { λ b. b.arena };
 
-    ghost invariant = { λ b. IsKept b.arena b.gap b.used.words.items b.free };
+    ghost invariant = { λ b. IsKept b.arena b.gap b.used.words.items b.free b.vm_locks };
 }
 
 impl Blocks {
@@ -59,7 +61,7 @@ impl Blocks {
     ghost use Rattle.block_handles.specs.Names.{slot_of, IsHandle};
     ghost use Rattle.block_handles.specs.Offsets.{Copies, CopiesCovered, ReadsByte, ReadsWord, WritesCovered};
     ghost use Rattle.block_handles.specs.Store.{IsThere, bytes_of, size_of, place_of, end_of, locks_of, region_len};
-    ghost use Rattle.block_handles.specs.Stretch.{HasNoRoom, all_sizes};
+    ghost use Rattle.block_handles.specs.Stretch.{HasNoRoom, all_sizes, vm_locks};
     ghost use Rattle.block_handles.specs.Used.{IsLowest, AllInUse};
 
     /// No block, in a region of `region` zero bytes. This is the only call that takes memory:
@@ -73,6 +75,7 @@ impl Blocks {
             gap: Gap { at: 0, end: region },
             used: SlotSet::new(alloc)?,
             free: region,
+            vm_locks: 0,
         })
     }
 
@@ -112,6 +115,15 @@ impl Blocks {
         } else {
             0
         }
+    }
+
+    /// How often the blocks of the VM file are locked, all together: the sum of their counts. It is
+    /// kept, so no block is looked at.
+    pub fn vm_locks(&self) -> u32
+        ensures sum { result ≡ vm_locks self.now }
+        ensures laid { IsLaidOut self.now }
+    {
+        self.vm_locks
     }
 
     /// Whether the region has fewer than `more` bytes that no block has. Then no block of that
@@ -245,6 +257,7 @@ impl Blocks {
             return Err(HandleError::Locked);
         }
         self.arena.set_locks(slot, locks + 1);
+        self.vm_locks += of_file(name.owner);
         Ok(())
     }
 
@@ -257,6 +270,7 @@ impl Blocks {
         let slot = slot_in_use(name);
         let locks = arena.locks(slot);
         arena.set_locks(slot, locks - 1);
+        self.vm_locks -= of_file(name.owner);
     }
 
     /// Frees a block. `BadHandle` where no block has this name, `Locked` where it is locked;

@@ -1,7 +1,7 @@
 //! The slot of each name.
 
 ghost use Rattle.std.specs.Prelude.{◌≡◌, ◌<◌};
-ghost use Rattle.block_handles.specs.Names.{IsHandle, first_slot, slot_of};
+ghost use Rattle.block_handles.specs.Names.{IsHandle, first_slot, of_file, slot_of};
 
 use geos_terms::{Name, Owner};
 
@@ -10,6 +10,13 @@ pub(crate) fn first_slot(owner: Owner) -> usize
     ensures { result ≡ first_slot owner }
 {
     owner as usize * Name::HANDLES as usize
+}
+
+/// 1 for the VM file, and 0 for global memory.
+pub(crate) fn of_file(owner: Owner) -> u32
+    ensures { result ≡ of_file owner }
+{
+    owner as u32
 }
 
 /// The slot of a name; past the last one where the handle can't be in use.

@@ -48,7 +48,8 @@ impl<D: Device + Drop> Model for Kernel<D> {
 
 impl<D: Device + Drop> Kernel<D> {
     ghost use Rattle.std.specs.Prelude.{ℕ, None, replicate};
-    ghost use Rattle.block_handles.specs.Layout.{IsEmpty};
+    ghost use Rattle.block_handles.specs.Layout.{IsEmpty, IsLaidOut};
+    ghost use Rattle.block_handles.specs.Stretch.{vm_locks};
     ghost use Rattle.block_handles.specs.Store.{bytes_of};
     ghost use Rattle.block_handles.specs.Store as store;
     ghost use Rattle.geos_calls.specs.Calls as table;
@@ -111,6 +112,15 @@ impl<D: Device + Drop> Kernel<D> {
             → result ≡ model.locks_of (memory_of self.now.core f) name }
     {
         self.blocks.locks(name)
+    }
+
+    /// How often the blocks of the VM file are locked, all together: the sum of their counts. It is
+    /// kept, so no block is looked at.
+    pub fn vm_locks(&self) -> u32
+        ensures sum { result ≡ vm_locks self.now.core.blocks }
+        ensures laid { IsLaidOut self.now.core.blocks }
+    {
+        self.blocks.vm_locks()
     }
 
     /// Whether a block of the VM file is marked as changed; `false` where there is none.
@@ -290,12 +300,7 @@ impl<D: Device + Drop> Kernel<D> {
 fn none_locked(blocks: &Blocks) -> bool
     ensures { IsTrue result ↔ NoneLocked blocks.now }
 {
-    for h in 1..1025 {
-        if blocks.locks(Name::vm(h)) != 0 {
-            return false;
-        }
-    }
-    true
+    blocks.vm_locks() == 0
 }
 
 /// Makes a block of 64 bytes with no chunk, for which others are discarded, and locks it.

@@ -36,7 +36,7 @@ room_for-requires-clause-size c =
     omega (arith, less _ _ _ _ c.self.view_is c.slot_of-slot.ensures c.args.size c.requires.size.0, (c.self.invariant.ready.laid.sized c.slot_of-slot.result is).0)
 
 pub invariant_of-self : goal.invariant_of-self
-invariant_of-self c = (let i = c.self.inside in subst (λ s. IsKept s i.gap i.used.words.items i.free) (sym c.in_err-gap.ensures.err.1) c.self.invariant)
+invariant_of-self c = (let i = c.self.inside in subst (λ s. IsKept s i.gap i.used.words.items i.free i.vm_locks) (sym c.in_err-gap.ensures.err.1) c.self.invariant)
 
 pub returns-in_err-gap-clause-no_room : goal.returns-in_err-gap-clause-no_room
 returns-in_err-gap-clause-no_room c = λ is.
@@ -64,7 +64,7 @@ pub invariant_of-self-2 : goal.invariant_of-self-2
 invariant_of-self-2 c =
     kept-grown_block c.self.inside.arena c.room_for.new.arena c.relocate.new.self c.slot_of-slot.result c.args.size c.self.inside.free _ c.in_ok-gap.gap c.in_ok-gap.ensures.ok
     (there _ _ _ _ c.self.view_is c.slot_of-slot.ensures c.requires.there) (less _ _ _ _ c.self.view_is c.slot_of-slot.ensures c.args.size c.requires.size.0) (omega (arith, c.place-place.ensures, c.end-end.ensures))
-    c.self.invariant.ready.laid c.self.invariant.count c.relocate.ensures.store c.relocate.ensures.laid c.self.inside.used.words.items c.self.invariant.used
+    c.self.invariant.ready.laid c.self.invariant.count c.relocate.ensures.store c.relocate.ensures.laid c.self.inside.used.words.items c.self.inside.vm_locks c.self.invariant.used c.self.invariant.locked
 
 pub returns-clause-ok : goal.returns-clause-ok
 returns-clause-ok c =

@@ -19,7 +19,7 @@ pub room_for-requires-clause-edge : goal.room_for-requires-clause-edge
 room_for-requires-clause-edge c = edge-gap c.self.inside.arena c.self.inside.gap c.self.invariant.ready.room
 
 pub invariant_of-self : goal.invariant_of-self
-invariant_of-self c = (let i = c.self.inside in subst (λ s. IsKept s i.gap i.used.words.items i.free) (sym c.in_err-gap.ensures.err.1) c.self.invariant)
+invariant_of-self c = (let i = c.self.inside in subst (λ s. IsKept s i.gap i.used.words.items i.free i.vm_locks) (sym c.in_err-gap.ensures.err.1) c.self.invariant)
 
 pub returns-in_err-gap-clause-no_room : goal.returns-in_err-gap-clause-no_room
 returns-in_err-gap-clause-no_room c = λ is.
@@ -50,7 +50,8 @@ invariant_of-self-2 c =
     let small : slot < 2048 = rw c.slot_of-slot.ensures (slot_of-small c.args.name c.requires.name.0) in
     let taken = made-taken S c.room_for.new.arena c.create.new.self slot c.args.size free gap made small
     (absent _ _ _ _ c.self.view_is c.slot_of-slot.ensures c.requires.name.1) c.self.invariant.count c.create.ensures.store c.create.ensures.laid in
-    kept-made S c.room_for.new.arena c.create.new.self slot c.args.size free gap c.self.inside.used.words.items c.insert.new.self.words.items made small c.self.invariant.used taken.1 c.create.ensures.store c.create.ensures.laid c.insert.ensures
+    kept-made S c.room_for.new.arena c.create.new.self slot c.args.size free c.self.inside.vm_locks gap c.self.inside.used.words.items c.insert.new.self.words.items made small
+    (absent _ _ _ _ c.self.view_is c.slot_of-slot.ensures c.requires.name.1) c.self.invariant.used c.self.invariant.locked taken.1 c.create.ensures.store c.create.ensures.laid c.insert.ensures
 
 pub returns-clause-ok : goal.returns-clause-ok
 returns-clause-ok c =

@@ -1,5 +1,6 @@
 use Rattle.std.proofs.Common.{arith}
 use Rattle.block_handles.proofs.Counting.{sizes-none}
+use Rattle.block_handles.proofs.LockSums.{lock-sum-none}
 use Rattle.block_handles.proofs.Readies.{ready-empty, used-empty}
 use Rattle.block_handles.proofs.Blocks.new.Goals as goal
 
@@ -10,4 +11,5 @@ invariant_of-result c =
       ready = ready-empty c.in_ok-new.field-0 _ e;
       used = used-empty c.in_ok-new.field-0 _ _ e c.in_ok-new-2.ensures.0 c.in_ok-new-2.ensures.1;
       count = record { counted = omega (arith, e.long, sizes-none c.in_ok-new.field-0 e.none); short = omega (arith, e.long, c.ranges.region.fits) };
+      locked = lock-sum-none c.in_ok-new.field-0 e.none;
     }
