@@ -1,13 +1,12 @@
 //! The blocks of the VM file that a caller lends a run.
 
-ghost use Rattle.std.specs.Prelude.{◌≡◌, ℕ, ◌↔◌, ◌≤◌, IsTrue, [], ◌∷◌};
+ghost use Rattle.std.specs.Prelude.{◌≡◌, true, ◌↔◌, ◌≤◌, IsTrue, [], ◌∷◌};
+ghost use Rattle.std.specs.List.{list_all};
 ghost use Rattle.geos_terms.specs.Names.{vm};
-ghost use Rattle.block_handles.specs.Store.{locks_of};
-ghost use Rattle.vm_blocks.specs.View.{vm_slot};
 ghost use Rattle.geos_verify.specs.Lists.{all2};
 ghost use Rattle.geos_semantics.specs.Meets.{holds};
 ghost use Rattle.geos_semantics.specs.Lending.{given_slots};
-ghost use Rattle.geos_machine.specs.Lent.{has_block, is_handed, Lends};
+ghost use Rattle.geos_machine.specs.Lent.{borrowed_count, borrowed_once, has_block, is_counted, is_handed, Lends};
 
 use geos_image::SlotState;
 use geos_kernel::Kernel;
@@ -77,20 +76,70 @@ fn named(states: &[SlotState; 4], handles: &[u16; 4], h: u16) -> u16
     names(s0, h0, h) + names(s1, h1, h) + names(s2, h2, h) + names(s3, h3, h)
 }
 
-/// Whether each block of the VM file is locked as often as handles name it, of those that there can be.
+/// Whether the block of a handle is locked as often as handles name it.
+fn is_counted<D: Device + Drop>(
+    states: &[SlotState; 4],
+    handles: &[u16; 4],
+    h: u16,
+    kernel: &Kernel<D>,
+) -> bool
+    ensures { result ≡ is_counted kernel.now.core states.now handles.now h }
+{
+    kernel.locks(Name::vm(h)) == named(states, handles, h)
+}
+
+/// The same of the block of each handle.
+fn are_each_counted<D: Device + Drop>(
+    states: &[SlotState; 4],
+    handles: &[u16; 4],
+    kernel: &Kernel<D>,
+) -> bool
+    ensures { result ≡ list_all (is_counted kernel.now.core states.now handles.now) handles.now }
+{
+    let [h0, h1, h2, h3] = *handles;
+    is_counted(states, handles, h0, kernel)
+        & is_counted(states, handles, h1, kernel)
+        & is_counted(states, handles, h2, kernel)
+        & is_counted(states, handles, h3, kernel)
+}
+
+/// 1 for a slot that is borrowed, else 0.
+fn borrowed_once(state: SlotState) -> u32
+    ensures value { result ≡ borrowed_once state }
+    ensures small { result ≤ 1 }
+{
+    match state {
+        SlotState::Vm {
+            marked: _,
+            borrowed: true,
+        } => 1,
+        _ => 0,
+    }
+}
+
+/// How many slots are borrowed.
+fn borrowed_count(states: &[SlotState; 4]) -> u32
+    ensures { result ≡ borrowed_count states.now }
+{
+    let [s0, s1, s2, s3] = *states;
+    borrowed_once(s0) + borrowed_once(s1) + borrowed_once(s2) + borrowed_once(s3)
+}
+
+/// Whether each block of the VM file is locked as often as handles name it: those that are named are, and no other is
+/// locked, since all counts together are as many as the slots that are borrowed.
 fn are_counted<D: Device + Drop>(
     states: &[SlotState; 4],
     handles: &[u16; 4],
     kernel: &Kernel<D>,
 ) -> bool
-    ensures { IsTrue result ↔ ((h : ℕ) → 1 ≤ h → h ≤ 1024 → locks_of kernel.now.core.blocks (vm_slot h) ≡ holds (given_slots states.now handles.now) (vm h)) }
+    requires { all2 (is_handed kernel.now.core) states.now handles.now ≡ true }
+    ensures { IsTrue result ↔ Lends kernel.now.core states.now handles.now }
 {
-    for h in 1..1025 {
-        if kernel.locks(Name::vm(h)) != named(states, handles, h) {
-            return false;
-        }
+    kernel.memory_is_legal();
+    if kernel.vm_locks() != borrowed_count(states) {
+        return false;
     }
-    true
+    are_each_counted(states, handles, kernel)
 }
 
 /// Whether the handles name blocks for the slots that are borrowed, and each block of the VM file is locked as often as
@@ -102,6 +151,5 @@ pub(crate) fn lends<D: Device + Drop>(
 ) -> bool
     ensures { IsTrue result ↔ Lends kernel.now.core states.now handles.now }
 {
-    kernel.memory_is_legal();
     are_handed(states, handles, kernel) && are_counted(states, handles, kernel)
 }

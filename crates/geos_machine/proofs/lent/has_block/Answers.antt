@@ -1,4 +1,4 @@
-use Rattle.std.proofs.Common.{◌≡◌, sym, ◌∙◌}
+use Rattle.std.proofs.Common.{sym}
 use Rattle.geos_machine.proofs.LentBlocks.{has-told, has-none}
 use Rattle.geos_machine.proofs.lent.has_block.Goals as goal
 
