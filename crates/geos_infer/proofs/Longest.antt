@@ -115,7 +115,7 @@ none-other image r Unknown none tells holds = false≢true tells
 -- The edges of one instruction
 
 -- an edge of an instruction leads to one place
-leads-one : (image : Parts) (pc : ℕ) (branch : Bool) (a b : ℕ) → LeadsTo image pc branch a → LeadsTo image pc branch b → a ≡ b
+pub leads-one : (image : Parts) (pc : ℕ) (branch : Bool) (a b : ℕ) → LeadsTo image pc branch a → LeadsTo image pc branch b → a ≡ b
 leads-one image pc branch a b x y =
     let same : x.point ≡ y.point = same_Some x.point y.point (sym x.there ∙ y.there) in
     sym x.leads ∙ ap (λ (point : Point). edge_end pc point.instr branch) same ∙ y.leads
