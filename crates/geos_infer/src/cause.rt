@@ -5,6 +5,7 @@ ghost use Rattle.geos_infer.specs.Ahead.{OnlyAhead};
 ghost use Rattle.geos_infer.specs.Causes.{LeadsBack, NotesTouched, Holds, NoOtherHolds};
 ghost use Rattle.geos_infer.specs.Code.{TargetAhead};
 ghost use Rattle.geos_infer.specs.Reached.{FitWhereReached};
+ghost use Rattle.geos_infer.specs.Why.{MeetAlike};
 
 use crate::ahead::may_pass;
 use crate::apart::{Apart, find_apart};
@@ -110,7 +111,7 @@ pub enum Cause {
     StepsMayPass,
     /// None of these was found; a way leads back.
     NoSteps(BackWay),
-    /// None of these holds, but perhaps that slots differ.
+    /// None of these holds.
     Unknown,
 }
 
@@ -297,9 +298,10 @@ fn cause_of_steps(
     cause_of_search(alloc, body, touched, known)
 }
 
-/// Why no numbers of steps are found in a routine in which no way leads back.
+/// Why nothing is found for a routine in which no way leads back, and in which slots of rows that meet differ in marks at most.
 fn cause_ahead(alloc: Global, body: &Body) -> Result<Cause, AllocError>
-    requires { OnlyAhead body.now.image.now body.now.r }
+    requires ahead { OnlyAhead body.now.image.now body.now.r }
+    requires alike { MeetAlike body.now.image.now body.now.r }
     ensures { IfOk result (Holds body.now.image.now body.now.r) }
 {
     if may_pass(alloc, body)? {
@@ -335,7 +337,7 @@ pub fn find_cause(alloc: Global, image: &Image, r: u16) -> Result<Cause, AllocEr
     }
 }
 
-/// A law: where the cause is unknown, no other one holds, but perhaps that slots differ.
+/// A law: where the cause is unknown, no other one holds.
 pub fn no_other_cause_holds()
     ensures { NoOtherHolds }
 {}
