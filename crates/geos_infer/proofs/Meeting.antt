@@ -1,6 +1,6 @@
 -- Where all that is known has gone on, no two ways meet with slots that differ in more than marks.
 use Rattle.std.proofs.Common.{◌≡◌, ℕ, zero, suc, ◌<◌, ◌+◌, Bool, true, false, List, [], ◌∷◌, length, Option, Some, None, slice_get, set, refl, sym, ap, ◌∙◌, subst, arith, inl, inr}
-use Rattle.std.specs.Prelude.{◌||◌}
+use Rattle.std.specs.Prelude.{◌||◌, IfNone}
 use Rattle.std.proofs.lemmas.Bool.{cases_eq, cases_lt, false≢true}
 use Rattle.std.proofs.lemmas.List.{get_or-set_same, get_or-set_other}
 use Rattle.std.proofs.lemmas.Option.{same_Some, none-some}
@@ -10,6 +10,7 @@ use Rattle.geos_image.specs.Parts.{Parts, start_of}
 use Rattle.geos_verify.specs.Rows.{after}
 use Rattle.geos_infer.specs.Code.{IsPcOf}
 use Rattle.geos_infer.specs.Joins.{agree}
+use Rattle.geos_infer.specs.declared.apart.Apart.{Apart}
 use Rattle.geos_infer.specs.declared.apart.Coming.{Coming}
 use Rattle.geos_infer.specs.declared.body.Body.{Body}
 use Rattle.geos_infer.specs.Why.{IsWay, MeetAlike}
@@ -52,6 +53,12 @@ nothing-apart body known waits S settled =
     let image = body.image.now in
     let begins = subst (IsPcOf image body.r) body.begins (in-body body body.start (omega arith) body.some) in
     meet-alike image body.r known waits S begins (λ pc within. settled pc within (let below = within.below in omega (arith, body.ends)))
+
+-- where none is found
+pub found-none : (image other : Parts) (r s : ℕ) (found : Option Apart) → found ≡ None → image ≡ other → r ≡ s → IfNone found (MeetAlike image r) → MeetAlike other s
+found-none image other r s found is same_image same_r none =
+    let alike : MeetAlike image r = subst (λ (o : Option Apart). IfNone o (MeetAlike image r)) is none in
+    subst (λ (n : ℕ). MeetAlike other n) same_r (subst (λ (i : Parts). MeetAlike i r) same_image alike)
 
 -- Where the routine begins
 

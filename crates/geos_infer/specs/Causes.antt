@@ -192,6 +192,11 @@ Holds image r StepsMayPass = MayPass image r
 Holds image r (NoSteps back) = LeadsBack image r back
 Holds image r Unknown = IsUnexplained image r
 
+-- the cause is that slots differ
+abbrev pub tells_of_slots : Cause → Bool
+tells_of_slots (SlotsDiffer apart) = true
+tells_of_slots _ = false
+
 -- where the cause is unknown, no other one holds
 abbrev pub NoOtherHolds : Type 0
 NoOtherHolds = (image : Parts) (r : ℕ) (cause : Cause) → Holds image r Unknown → cause ≢ Unknown → Holds image r cause → ⊥

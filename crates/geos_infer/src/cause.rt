@@ -1,8 +1,8 @@
 //! Why no rows or no numbers of steps are found for a routine.
 
-ghost use Rattle.std.specs.Prelude.{◌<◌, ◌≤◌, length, IfSome, IfNone, IfOk};
+ghost use Rattle.std.specs.Prelude.{◌≡◌, ◌<◌, ◌≤◌, false, length, IfSome, IfNone, IfOk};
 ghost use Rattle.geos_infer.specs.Ahead.{OnlyAhead};
-ghost use Rattle.geos_infer.specs.Causes.{LeadsBack, NotesTouched, Holds, NoOtherHolds};
+ghost use Rattle.geos_infer.specs.Causes.{LeadsBack, NotesTouched, Holds, NoOtherHolds, tells_of_slots};
 ghost use Rattle.geos_infer.specs.Code.{TargetAhead};
 ghost use Rattle.geos_infer.specs.Reached.{FitWhereReached};
 ghost use Rattle.geos_infer.specs.Why.{MeetAlike};
@@ -312,11 +312,12 @@ fn cause_ahead(alloc: Global, body: &Body) -> Result<Cause, AllocError>
 }
 
 /// Why `infer` finds no rows or no numbers of steps for routine r, which it names in `NoRows`: of what may be the
-/// cause, the first that is found. What the cause says holds of that routine. `AllocError` where the allocator refuses
-/// memory.
+/// cause, the first that is found. What the cause says holds of that routine; where ways of control meet with slots that
+/// differ in more than marks, it is that. `AllocError` where the allocator refuses memory.
 pub fn find_cause(alloc: Global, image: &Image, r: u16) -> Result<Cause, AllocError>
     requires { r < length image.now.routines }
-    ensures { IfOk result (Holds image.now r) }
+    ensures holds { IfOk result (Holds image.now r) }
+    ensures slots { IfOk result (λ cause. tells_of_slots cause ≡ false → MeetAlike image.now r) }
 {
     let body = body_of(image, r);
     if let Some(apart) = find_apart(alloc, &body)? {
