@@ -41,13 +41,13 @@ slot-right x y h = by_test (slot_fits x y) h
     by_test false h = h
 
 -- of two marks one fits the other
-marks_agree : (a b : Bool) → (mark_fits a b || mark_fits b a) ≡ true
+pub marks_agree : (a b : Bool) → (mark_fits a b || mark_fits b a) ≡ true
 marks_agree true b = refl
 marks_agree false true = refl
 marks_agree false false = refl
 
 -- VM blocks agree that are both borrowed, or neither
-borrowed_alike : (a b m n : Bool) → m ≡ n → slots_agree (Vm a m) (Vm b n) ≡ true
+pub borrowed_alike : (a b m n : Bool) → m ≡ n → slots_agree (Vm a m) (Vm b n) ≡ true
 borrowed_alike true b true true e = refl
 borrowed_alike true b false false e = refl
 borrowed_alike false true true true e = refl

@@ -16,7 +16,9 @@ pub mod Reaching
 pub mod Keyed
 pub mod Fitting
 pub mod Copies
+pub mod Alike
 pub mod Came
+pub mod Meeting
 pub mod Noting
 pub mod Changes
 pub mod Onward

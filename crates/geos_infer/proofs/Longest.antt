@@ -16,6 +16,7 @@ use Rattle.geos_infer.specs.Trails.{IsTrail}
 use Rattle.geos_infer.specs.Why.{LeadsTo}
 use Rattle.geos_infer.specs.declared.cause.BackWay.{BackWay}
 use Rattle.geos_infer.specs.declared.cause.Cause.TheVariants.{SlotsDiffer, NoLoop, SetWithin, TouchedWithin, TouchedBefore, InTurn, StepsPass, WordUnbounded, NumberHigh, GivenUp, StepsMayPass, NoSteps, Unknown}
+use Rattle.geos_infer.proofs.Came.{comes-to}
 use Rattle.geos_infer.proofs.Ends.{code-at}
 
 -- a way begins in its routine
@@ -67,55 +68,57 @@ module _ (image : Parts) (r : ℕ) (ahead : OnlyAhead image r) where
       let again = round-ahead back.to back.from loops.to round in
       omega arith
 
--- Causes that tell of steps
+-- Causes
 
 pub none-other : NoOtherHolds
-none-other image r (SlotsDiffer apart) none tells holds = false≢true tells
-none-other image r (NoLoop back) none tells holds =
-    let less = leads-ahead image r none.ahead back.from back.to true holds.begins holds.leads.stays holds.leads.leads in
+none-other image r (SlotsDiffer apart) none other holds =
+    let alike = none.slots apart.to apart.first.row apart.second.row (comes-to image r apart.to apart.first holds.first) (comes-to image r apart.to apart.second holds.second) in
+    false≢true (sym holds.differ ∙ alike)
+none-other image r (NoLoop back) none other holds =
+    let less = leads-ahead image r none.steps.ahead back.from back.to true holds.begins holds.leads.stays holds.leads.leads in
     let order = holds.order in
     omega arith
-none-other image r (SetWithin within) none tells holds =
-    let less = loop-ahead image r none.ahead within.back within.counter holds.loops in
-    let round = round-ahead image r none.ahead within.back.to within.at holds.loops.to holds.round in
-    let kept = kept-ahead image r none.ahead within.counter within.at within.back.from holds.kept in
+none-other image r (SetWithin within) none other holds =
+    let less = loop-ahead image r none.steps.ahead within.back within.counter holds.loops in
+    let round = round-ahead image r none.steps.ahead within.back.to within.at holds.loops.to holds.round in
+    let kept = kept-ahead image r none.steps.ahead within.counter within.at within.back.from holds.kept in
     omega arith
-none-other image r (TouchedWithin within) none tells holds =
-    let less = loop-ahead image r none.ahead within.back within.counter holds.left.loops in
-    let round = round-ahead image r none.ahead within.back.to within.at holds.left.loops.to holds.round in
-    let kept = kept-ahead image r none.ahead within.counter within.at within.back.from holds.left.kept in
+none-other image r (TouchedWithin within) none other holds =
+    let less = loop-ahead image r none.steps.ahead within.back within.counter holds.left.loops in
+    let round = round-ahead image r none.steps.ahead within.back.to within.at holds.left.loops.to holds.round in
+    let kept = kept-ahead image r none.steps.ahead within.counter within.at within.back.from holds.left.kept in
     omega arith
-none-other image r (TouchedBefore within) none tells holds = none-round image r none.ahead within.back within.counter holds.left.loops holds.round
-none-other image r (InTurn both) none tells holds =
-    let less = loop-ahead image r none.ahead both.back both.counter holds.loops in
-    let round = round-ahead image r none.ahead both.back.to both.at holds.loops.to holds.sets.round in
-    let again = round-ahead image r none.ahead both.at both.back.from holds.sets.here holds.sets.again in
+none-other image r (TouchedBefore within) none other holds = none-round image r none.steps.ahead within.back within.counter holds.left.loops holds.round
+none-other image r (InTurn both) none other holds =
+    let less = loop-ahead image r none.steps.ahead both.back both.counter holds.loops in
+    let round = round-ahead image r none.steps.ahead both.back.to both.at holds.loops.to holds.sets.round in
+    let again = round-ahead image r none.steps.ahead both.at both.back.from holds.sets.here holds.sets.again in
     omega arith
-none-other image r StepsPass none tells holds =
+none-other image r StepsPass none other holds =
     let way = along image r (record { pc = holds.from; counters = zeros }) holds.places holds.end holds.before [] (taken_at image holds.end.pc) holds.way (holds.ends, refl) in
-    let few = none.few holds.from way.0 (holds.before + taken_at image holds.end.pc) way.1 in
+    let few = none.steps.few holds.from way.0 (holds.before + taken_at image holds.end.pc) way.1 in
     let past = holds.past in
     omega arith
-none-other image r (WordUnbounded by_word) none tells holds = none-round image r none.ahead holds.for_loop.back by_word.counter holds.for_loop.loops holds.for_loop.round
-none-other image r (NumberHigh by_number) none tells holds = none-round image r none.ahead holds.for_loop.back by_number.counter holds.for_loop.loops holds.for_loop.round
-none-other image r (GivenUp back) none tells holds =
-    let less = leads-ahead image r none.ahead back.from back.to true holds.from holds.to holds.leads in
+none-other image r (WordUnbounded by_word) none other holds = none-round image r none.steps.ahead holds.for_loop.back by_word.counter holds.for_loop.loops holds.for_loop.round
+none-other image r (NumberHigh by_number) none other holds = none-round image r none.steps.ahead holds.for_loop.back by_number.counter holds.for_loop.loops holds.for_loop.round
+none-other image r (GivenUp back) none other holds =
+    let less = leads-ahead image r none.steps.ahead back.from back.to true holds.from holds.to holds.leads in
     let order = holds.order in
     omega arith
-none-other image r StepsMayPass none tells holds =
-    let few = none.few holds.from holds.branches holds.steps holds.takes in
+none-other image r StepsMayPass none other holds =
+    let few = none.steps.few holds.from holds.branches holds.steps holds.takes in
     let past = holds.past in
     omega arith
-none-other image r (NoSteps back) none tells holds =
-    let less = leads-ahead image r none.ahead back.from back.to true holds.from holds.to holds.leads in
+none-other image r (NoSteps back) none other holds =
+    let less = leads-ahead image r none.steps.ahead back.from back.to true holds.from holds.to holds.leads in
     let order = holds.order in
     omega arith
-none-other image r Unknown none tells holds = false≢true tells
+none-other image r Unknown none other holds = other refl
 
 -- The edges of one instruction
 
 -- an edge of an instruction leads to one place
-leads-one : (image : Parts) (pc : ℕ) (branch : Bool) (a b : ℕ) → LeadsTo image pc branch a → LeadsTo image pc branch b → a ≡ b
+pub leads-one : (image : Parts) (pc : ℕ) (branch : Bool) (a b : ℕ) → LeadsTo image pc branch a → LeadsTo image pc branch b → a ≡ b
 leads-one image pc branch a b x y =
     let same : x.point ≡ y.point = same_Some x.point y.point (sym x.there ∙ y.there) in
     sym x.leads ∙ ap (λ (point : Point). edge_end pc point.instr branch) same ∙ y.leads

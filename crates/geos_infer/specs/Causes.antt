@@ -1,5 +1,5 @@
 -- Causes for which no rows or no numbers of steps are found for a routine, and what each says.
-use Rattle.std.specs.Prelude.{◌≡◌, ◌≤◌, ℕ, Bool, ◌&&◌, List, [], ◌∷◌, ◌+◌, true, false, ◌==◌, Option, None, Some, slice_get}
+use Rattle.std.specs.Prelude.{◌≡◌, ◌≢◌, ◌≤◌, ℕ, Bool, ◌&&◌, List, [], ◌∷◌, ◌+◌, true, false, ◌==◌, Option, None, Some, slice_get}
 use Rattle.geos_opcodes.specs.declared.opcode.Opcode.{Opcode}
 use Rattle.geos_opcodes.specs.declared.opcode.Opcode.TheVariants.{Setk, Setkw, Loop}
 use Rattle.geos_image.specs.declared.instr.Instr.{Instr}
@@ -11,7 +11,7 @@ use Rattle.geos_verify.specs.Touched.{calls, noted, touches}
 use Rattle.geos_infer.specs.Code.{IsPcOf}
 use Rattle.geos_infer.specs.Flow.{row_of, known_at}
 use Rattle.geos_infer.specs.Reached.{FitWhereReached}
-use Rattle.geos_infer.specs.Why.{LeadsTo, AreApart}
+use Rattle.geos_infer.specs.Why.{LeadsTo, AreApart, MeetAlike}
 use Rattle.geos_infer.specs.Trails.{IsTrail}
 use Rattle.geos_infer.specs.Taken as taken
 use Rattle.geos_infer.specs.Ahead.{MayPass, NonePasses}
@@ -171,6 +171,11 @@ pub record SetsByNumber (image : Parts) (r : ℕ) (by_number : ByNumber) : Type 
   pub sets : PassesAt image by_number.at (λ i. sets_to_number by_number.counter by_number.number i i.opcode)
   pub for_loop : PaysForLoop image r by_number.counter by_number.at
 
+-- no way leads back in routine r, on none more steps are taken than a potential can say, and slots of rows that meet differ in marks at most
+pub record IsUnexplained (image : Parts) (r : ℕ) : Type 0 where
+  pub steps : NonePasses image r
+  pub slots : MeetAlike image r
+
 -- the cause holds of the image's routine r
 abbrev pub Holds : Parts → ℕ → Cause → Type 0
 Holds image r (SlotsDiffer apart) = AreApart image r apart
@@ -185,14 +190,13 @@ Holds image r (NumberHigh by_number) = SetsByNumber image r by_number
 Holds image r (GivenUp back) = LeadsBack image r back
 Holds image r StepsMayPass = MayPass image r
 Holds image r (NoSteps back) = LeadsBack image r back
-Holds image r Unknown = NonePasses image r
+Holds image r Unknown = IsUnexplained image r
 
--- the cause is neither that slots differ nor unknown
-abbrev pub tells_of_steps : Cause → Bool
-tells_of_steps (SlotsDiffer apart) = false
-tells_of_steps Unknown = false
-tells_of_steps _ = true
+-- the cause is that slots differ
+abbrev pub tells_of_slots : Cause → Bool
+tells_of_slots (SlotsDiffer apart) = true
+tells_of_slots _ = false
 
--- where the cause is unknown, no other one holds, but perhaps that slots differ
+-- where the cause is unknown, no other one holds
 abbrev pub NoOtherHolds : Type 0
-NoOtherHolds = (image : Parts) (r : ℕ) (cause : Cause) → Holds image r Unknown → tells_of_steps cause ≡ true → Holds image r cause → ⊥
+NoOtherHolds = (image : Parts) (r : ℕ) (cause : Cause) → Holds image r Unknown → cause ≢ Unknown → Holds image r cause → ⊥

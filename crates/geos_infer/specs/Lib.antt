@@ -9,6 +9,7 @@ pub mod Count
 pub mod Points
 pub mod Theorem
 pub mod Why
+pub mod Meeting
 pub mod Taken
 pub mod Turns
 pub mod Trails

@@ -1,12 +1,13 @@
 //! Where ways of control meet with slots that differ.
 
-ghost use Rattle.std.specs.Prelude.{◌<◌, IfSome, IfOk, IfErr};
-ghost use Rattle.geos_infer.specs.Why.{ComesBy, IsUnlike, AreApartIf, AllCome};
+ghost use Rattle.std.specs.Prelude.{◌≡◌, ◌<◌, true, false, slice_set, IfSome, IfNone, IfOk, IfErr};
+ghost use Rattle.geos_infer.specs.Meeting.{AllCome, BringsAlong, GoesFurther, HasGone, IsSpread, NoneWaits, count_unknown};
+ghost use Rattle.geos_infer.specs.Why.{ComesBy, AreApart, MeetAlike};
 
 use crate::body::Body;
 use crate::common::agree;
 use crate::edges::{Edge, edge_in};
-use crate::table::{Known, Table, two_tables};
+use crate::table::{Table, two_tables};
 use geos_image::Row;
 use geos_verify::after;
 use std::alloc::{AllocError, Global};
@@ -29,6 +30,9 @@ pub struct Apart {
     pub second: Coming,
 }
 
+/// How control was first found to come to each place.
+type Comings = Table<Option<Coming>>;
+
 /// An edge, and the row that control brings along it.
 #[derive(Clone, Copy)]
 struct Brought {
@@ -36,146 +40,128 @@ struct Brought {
     row: Row,
 }
 
-/// What control brings along an edge, where something is known at the edge's beginning.
-fn bring(body: &Body, known: &Known, pc: u16, branch: bool) -> Option<Brought>
+/// What control brings along an edge, where it is known to come to the edge's beginning.
+fn bring(body: &Body, known: &Comings, pc: u16, branch: bool) -> Option<Brought>
     requires here { pc < body.now.end }
     requires come { AllCome body.now.image.now body.now.r known.now }
     ensures by { IfSome result (λ brought. ComesBy body.now.image.now body.now.r brought.edge brought.row) }
-    ensures inside { IfSome result (λ brought. brought.edge.to < 4096) }
+    ensures inside { IfSome result (λ brought. brought.edge.to < body.now.end) }
+    ensures some { IfSome result (λ brought. BringsAlong body.now.image.now known.now pc branch brought.edge.to brought.row) }
+    ensures none { IfNone result (HasGone body.now.image.now body.now.r known.now pc branch) }
 {
     let before = known.at(pc)?;
     let edge = edge_in(body, pc, branch)?;
     Some(Brought {
         edge,
-        row: after(body.image, pc, &before, branch),
+        row: after(body.image, pc, &before.row, branch),
     })
 }
 
-/// How an edge brings a row to the same place as another comes to, with slots that differ.
-fn edge_unlike(body: &Body, known: &Known, pc: u16, branch: bool, other: &Brought) -> Option<Coming>
-    requires here { pc < body.now.end }
-    requires come { AllCome body.now.image.now body.now.r known.now }
-    ensures { IfSome result (λ coming. IsUnlike body.now.image.now body.now.r other.now.edge.to other.now.row coming) }
-{
-    match bring(body, known, pc, branch) {
-        Some(brought) if brought.edge.to == other.edge.to && !agree(&brought.row, &other.row) => {
-            Some(Coming {
-                from: Some(brought.edge),
-                row: brought.row,
-            })
-        }
-        _ => None,
-    }
-}
-
-/// The first way on which control comes so: where the routine begins, or along an edge.
-fn first_unlike(body: &Body, known: &Known, other: &Brought) -> Option<Coming>
-    requires { AllCome body.now.image.now body.now.r known.now }
-    ensures { IfSome result (λ coming. IsUnlike body.now.image.now body.now.r other.now.edge.to other.now.row coming) }
-{
-    let entry = body.image.routine(body.r).entry;
-    if other.edge.to == body.start && !agree(&entry, &other.row) {
-        return Some(Coming {
-            from: None,
-            row: entry,
-        });
-    }
-    for pc in body.start..body.end {
-        if let Some(coming) = edge_unlike(body, known, pc, false, other) {
-            return Some(coming);
-        }
-        if let Some(coming) = edge_unlike(body, known, pc, true, other) {
-            return Some(coming);
-        }
-    }
-    None
-}
-
-/// A place where the row that an edge brings has slots that differ from those on another way.
-fn apart_at(body: &Body, known: &Known, edge: Edge) -> Option<Apart>
-    requires here { edge.pc < body.now.end }
-    requires come { AllCome body.now.image.now body.now.r known.now }
-    ensures { AreApartIf body.now.image.now body.now.r result }
-{
-    let second = bring(body, known, edge.pc, edge.branch)?;
-    let first = first_unlike(body, known, &second)?;
-    Some(Apart {
-        to: second.edge.to,
-        first,
-        second: Coming {
-            from: Some(second.edge),
-            row: second.row,
-        },
-    })
-}
-
-/// What is known at a pc goes along an edge: a row is known at the place where that leads now, and waits to go on, unless one
-/// was known there. Whether that is new; `Err` where slots differ.
+/// What is known at a pc goes along an edge: control is known to come to the place where that leads now, and that waits to go on,
+/// unless it was known before. Whether that is new; `Err` where slots differ.
 fn go(
     body: &Body,
-    known: &mut Known,
+    known: &mut Comings,
     waits: &mut Table<bool>,
     pc: u16,
     branch: bool,
-) -> Result<bool, Edge>
+) -> Result<bool, Apart>
     requires here { pc < body.now.end }
     requires come { AllCome body.now.image.now body.now.r known.old }
     ensures come { AllCome body.now.image.now body.now.r known.new }
-    ensures inside { IfErr result (λ edge. edge.pc < body.now.end) }
+    ensures ok { IfOk result (GoesFurther known.old known.new waits.old waits.new) }
+    ensures gone { IfOk result (λ further. HasGone body.now.image.now body.now.r known.new pc branch) }
+    ensures err { IfErr result (AreApart body.now.image.now body.now.r) }
 {
     let Some(brought) = bring(body, known, pc, branch) else {
         return Ok(false);
     };
     let to = brought.edge.to;
+    let coming = Coming {
+        from: Some(brought.edge),
+        row: brought.row,
+    };
+    // For what their law says.
+    known.lengths();
+    waits.lengths();
     match known.at(to) {
         None => {
-            known.set(to, Some(brought.row));
+            known.set(to, Some(coming));
             waits.set(to, true);
             Ok(true)
         }
-        Some(old) if agree(&old, &brought.row) => Ok(false),
-        Some(_) => Err(Edge { pc, branch, to }),
+        Some(first) if agree(&first.row, &coming.row) => Ok(false),
+        Some(first) => Err(Apart {
+            to,
+            first,
+            second: coming,
+        }),
     }
 }
 
-/// All that waits goes on along its edges. Each place does so once, whichever way control takes.
-fn go_all(body: &Body, known: &mut Known, waits: &mut Table<bool>) -> Result<bool, Edge>
-    requires { AllCome body.now.image.now body.now.r known.old }
-    ensures come { AllCome body.now.image.now body.now.r known.new }
-    ensures inside { IfErr result (λ edge. edge.pc < body.now.end) }
+/// What waits at a pc goes on along both edges. Whether something is new.
+fn go_on(body: &Body, known: &mut Comings, waits: &mut Table<bool>, pc: u16) -> Result<bool, Apart>
+    requires here { pc < body.now.end }
+    requires spread { IsSpread body.now.image.now body.now.r known.old waits.old }
+    ensures spread { IfOk result (λ further. IsSpread body.now.image.now body.now.r known.new waits.new) }
+    ensures ok { IfOk result (GoesFurther known.old known.new (slice_set waits.old pc false) waits.new) }
+    ensures err { IfErr result (AreApart body.now.image.now body.now.r) }
+{
+    waits.set(pc, false);
+    let along = go(body, known, waits, pc, false)?;
+    let aside = go(body, known, waits, pc, true)?;
+    Ok(along || aside)
+}
+
+/// All that waits goes on along its edges. Each place does so once, whichever way control takes. Whether something is new.
+fn go_all(body: &Body, known: &mut Comings, waits: &mut Table<bool>) -> Result<bool, Apart>
+    requires { IsSpread body.now.image.now body.now.r known.old waits.old }
+    ensures spread { IfOk result (λ further. IsSpread body.now.image.now body.now.r known.new waits.new) }
+    ensures settled { IfOk result (λ further. further ≡ false → NoneWaits body.now.image.now body.now.r waits.new body.now.end) }
+    ensures fewer { IfOk result (λ further. further ≡ true → count_unknown known.new < count_unknown known.old) }
+    ensures err { IfErr result (AreApart body.now.image.now body.now.r) }
 {
     let mut further = false;
     for pc in body.start..body.end {
         if waits.at(pc) {
-            waits.set(pc, false);
-            further |= go(body, known, waits, pc, false)?;
-            further |= go(body, known, waits, pc, true)?;
+            further |= go_on(body, known, waits, pc)?;
         }
     }
     Ok(further)
 }
 
-/// From what is known at first, rows go along all edges; the first place that is found where slots differ then.
-fn first_apart(body: &Body, known: &mut Known, waits: &mut Table<bool>) -> Option<Apart>
-    requires { AllCome body.now.image.now body.now.r known.old }
-    ensures { AreApartIf body.now.image.now body.now.r result }
+/// What is known at first goes along all edges; the first place that is found where slots differ then.
+fn first_apart(body: &Body, known: &mut Comings, waits: &mut Table<bool>) -> Option<Apart>
+    requires { IsSpread body.now.image.now body.now.r known.old waits.old }
+    ensures some { IfSome result (AreApart body.now.image.now body.now.r) }
+    ensures none { IfNone result (MeetAlike body.now.image.now body.now.r) }
 {
-    for _ in body.start..body.end {
+    loop {
         match go_all(body, known, waits) {
             Ok(true) => {}
             Ok(false) => return None,
-            Err(edge) => return apart_at(body, known, edge),
+            Err(apart) => return Some(apart),
         }
     }
-    None
 }
 
-/// The first place that is found to which control comes on two ways, with slots that differ in more than marks.
+/// The first place that is found to which control comes on two ways, with slots that differ in more than marks. `None` where
+/// there is none.
 pub(crate) fn find_apart(alloc: Global, body: &Body) -> Result<Option<Apart>, AllocError>
-    ensures { IfOk result (AreApartIf body.now.image.now body.now.r) }
+    ensures some { IfOk result (λ found. IfSome found (AreApart body.now.image.now body.now.r)) }
+    ensures none { IfOk result (λ found. IfNone found (MeetAlike body.now.image.now body.now.r)) }
 {
     let (mut known, mut waits) = two_tables(alloc, None, false)?;
-    known.set(body.start, Some(body.image.routine(body.r).entry));
+    // For what their law says.
+    known.lengths();
+    waits.lengths();
+    known.set(
+        body.start,
+        Some(Coming {
+            from: None,
+            row: body.image.routine(body.r).entry,
+        }),
+    );
     waits.set(body.start, true);
     Ok(first_apart(body, &mut known, &mut waits))
 }

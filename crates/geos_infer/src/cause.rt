@@ -1,10 +1,11 @@
 //! Why no rows or no numbers of steps are found for a routine.
 
-ghost use Rattle.std.specs.Prelude.{◌<◌, ◌≤◌, length, IfSome, IfNone, IfOk};
+ghost use Rattle.std.specs.Prelude.{◌≡◌, ◌<◌, ◌≤◌, false, length, IfSome, IfNone, IfOk};
 ghost use Rattle.geos_infer.specs.Ahead.{OnlyAhead};
-ghost use Rattle.geos_infer.specs.Causes.{LeadsBack, NotesTouched, Holds, NoOtherHolds};
+ghost use Rattle.geos_infer.specs.Causes.{LeadsBack, NotesTouched, Holds, NoOtherHolds, tells_of_slots};
 ghost use Rattle.geos_infer.specs.Code.{TargetAhead};
 ghost use Rattle.geos_infer.specs.Reached.{FitWhereReached};
+ghost use Rattle.geos_infer.specs.Why.{MeetAlike};
 
 use crate::ahead::may_pass;
 use crate::apart::{Apart, find_apart};
@@ -110,7 +111,7 @@ pub enum Cause {
     StepsMayPass,
     /// None of these was found; a way leads back.
     NoSteps(BackWay),
-    /// None of these holds, but perhaps that slots differ.
+    /// None of these holds.
     Unknown,
 }
 
@@ -297,9 +298,10 @@ fn cause_of_steps(
     cause_of_search(alloc, body, touched, known)
 }
 
-/// Why no numbers of steps are found in a routine in which no way leads back.
+/// Why nothing is found for a routine in which no way leads back, and in which slots of rows that meet differ in marks at most.
 fn cause_ahead(alloc: Global, body: &Body) -> Result<Cause, AllocError>
-    requires { OnlyAhead body.now.image.now body.now.r }
+    requires ahead { OnlyAhead body.now.image.now body.now.r }
+    requires alike { MeetAlike body.now.image.now body.now.r }
     ensures { IfOk result (Holds body.now.image.now body.now.r) }
 {
     if may_pass(alloc, body)? {
@@ -310,11 +312,12 @@ fn cause_ahead(alloc: Global, body: &Body) -> Result<Cause, AllocError>
 }
 
 /// Why `infer` finds no rows or no numbers of steps for routine r, which it names in `NoRows`: of what may be the
-/// cause, the first that is found. What the cause says holds of that routine. `AllocError` where the allocator refuses
-/// memory.
+/// cause, the first that is found. What the cause says holds of that routine; where ways of control meet with slots that
+/// differ in more than marks, it is that. `AllocError` where the allocator refuses memory.
 pub fn find_cause(alloc: Global, image: &Image, r: u16) -> Result<Cause, AllocError>
     requires { r < length image.now.routines }
-    ensures { IfOk result (Holds image.now r) }
+    ensures holds { IfOk result (Holds image.now r) }
+    ensures slots { IfOk result (λ cause. tells_of_slots cause ≡ false → MeetAlike image.now r) }
 {
     let body = body_of(image, r);
     if let Some(apart) = find_apart(alloc, &body)? {
@@ -335,7 +338,7 @@ pub fn find_cause(alloc: Global, image: &Image, r: u16) -> Result<Cause, AllocEr
     }
 }
 
-/// A law: where the cause is unknown, no other one holds, but perhaps that slots differ.
+/// A law: where the cause is unknown, no other one holds.
 pub fn no_other_cause_holds()
     ensures { NoOtherHolds }
 {}

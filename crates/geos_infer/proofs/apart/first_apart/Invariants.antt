@@ -1,5 +1,8 @@
-use Rattle.geos_infer.specs.Why.{AllCome}
+use Rattle.geos_infer.specs.Meeting.{IsSpread, count_unknown}
 use Rattle.geos_infer.proofs.apart.first_apart.Given as goal
 
-abbrev pub invariant-loop : goal.invariant-loop
-invariant-loop l = AllCome l.body.image.now l.body.r l.known
+abbrev pub invariant-loop-apart : goal.invariant-loop-apart
+invariant-loop-apart l = IsSpread l.body.image.now l.body.r l.known l.waits
+
+abbrev pub decreases-loop-apart : goal.decreases-loop-apart
+decreases-loop-apart l = count_unknown l.known

@@ -1,8 +1,45 @@
-use Rattle.geos_infer.proofs.Came.{all_come-set, comes-by}
+use Rattle.std.proofs.Common.{◌<◌, true, length, Some, None, set, refl, sym, ◌∙◌, arith}
+use Rattle.std.proofs.lemmas.List.{get_or-set_same}
+use Rattle.geos_infer.specs.declared.apart.Coming.{Coming}
+use Rattle.geos_infer.specs.Meeting.{IsMet}
+use Rattle.geos_infer.proofs.Alike.{alike-refl}
+use Rattle.geos_infer.proofs.Came.{all_come-set}
+use Rattle.geos_infer.proofs.Meeting.{goes-new, gone-along}
 use Rattle.geos_infer.proofs.apart.go.Goals as goal
 
 pub returns-in-None-clause-come : goal.returns-in-None-clause-come
 returns-in-None-clause-come c =
     let body = c.args.body.now in
     let brought = c.in-Some.brought in
-    rw c.set.ensures (all_come-set body.image.now body.r c.args.known.now brought.edge.to brought.row c.requires.come (comes-by body.image.now body.r brought.edge brought.row c.in-Some.ensures.by))
+    let coming : Coming = record { from = Some brought.edge; row = brought.row } in
+    rw c.set.ensures (all_come-set body.image.now body.r c.args.known.now brought.edge.to coming c.requires.come (refl, c.in-Some.ensures.by))
+
+pub returns-in-None-clause-ok : goal.returns-in-None-clause-ok
+returns-in-None-clause-ok c =
+    let body = c.args.body.now in
+    let brought = c.in-Some.brought in
+    let coming : Coming = record { from = Some brought.edge; row = brought.row } in
+    let in_known : brought.edge.to < length c.args.known.now = omega (arith, c.in-Some.ensures.inside, c.lengths.ensures, body.room, body.short) in
+    let in_waits : brought.edge.to < length c.args.waits.now = omega (arith, c.in-Some.ensures.inside, c.lengths-2.ensures, body.room, body.short) in
+    rw (c.set.ensures, c.set-in-None.ensures) (goes-new c.args.known.now c.args.waits.now brought.edge.to coming in_known in_waits (sym (c.in-None.ensures None)))
+
+pub returns-in-None-clause-gone : goal.returns-in-None-clause-gone
+returns-in-None-clause-gone c =
+    let body = c.args.body.now in
+    let brought = c.in-Some.brought in
+    let coming : Coming = record { from = Some brought.edge; row = brought.row } in
+    let in_known : brought.edge.to < length c.args.known.now = omega (arith, c.in-Some.ensures.inside, c.lengths.ensures, body.room, body.short) in
+    let in_waits : brought.edge.to < length c.args.waits.now = omega (arith, c.in-Some.ensures.inside, c.lengths-2.ensures, body.room, body.short) in
+    let known = c.args.known.now in
+    let waits = c.args.waits.now in
+    let to = brought.edge.to in
+    let further = goes-new known waits to coming in_known in_waits (sym (c.in-None.ensures None)) in
+    let met : IsMet (set known to (Some coming)) to brought.row = record { first = coming; read = get_or-set_same known to (Some coming) None in_known; alike = alike-refl brought.row } in
+    rw c.set.ensures (gone-along body.image.now body.r known (set known to (Some coming)) waits (set waits to true) true further c.args.pc c.args.branch to brought.row c.in-Some.ensures.some met)
+
+pub returns-in-Some-2-clause-err : goal.returns-in-Some-2-clause-err
+returns-in-Some-2-clause-err c = record {
+  first = c.requires.come c.in-Some.brought.edge.to c.in-Some-at.first (sym (c.in-Some-at.ensures None));
+  second = (refl, c.in-Some.ensures.by);
+  differ = sym c.agree.ensures ∙ c.if-agree.false;
+}
