@@ -23,3 +23,4 @@ pub mod Onward
 pub mod Refused
 pub mod Longest
 pub mod Costs
+pub mod Strong

@@ -45,6 +45,7 @@ mod seeds;
 mod setting;
 mod spent;
 mod spread;
+mod strongest;
 mod table;
 mod trails;
 mod turns;
