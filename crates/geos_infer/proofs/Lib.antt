@@ -24,3 +24,4 @@ pub mod Refused
 pub mod Longest
 pub mod Costs
 pub mod Strong
+pub mod Priced
