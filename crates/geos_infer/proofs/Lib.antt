@@ -25,3 +25,4 @@ pub mod Longest
 pub mod Costs
 pub mod Strong
 pub mod Priced
+pub mod Rising

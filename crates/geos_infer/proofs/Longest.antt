@@ -107,15 +107,15 @@ none-other image r StepsMayPass none tells holds =
     let past = holds.past in
     omega arith
 none-other image r (NoSteps back) none tells holds =
-    let less = leads-ahead image r none.ahead back.from back.to true holds.from holds.to holds.leads in
-    let order = holds.order in
+    let less = leads-ahead image r none.ahead back.from back.to true holds.0.from holds.0.to holds.0.leads in
+    let order = holds.0.order in
     omega arith
 none-other image r Unknown none tells holds = false≢true tells
 
 -- The edges of one instruction
 
 -- an edge of an instruction leads to one place
-leads-one : (image : Parts) (pc : ℕ) (branch : Bool) (a b : ℕ) → LeadsTo image pc branch a → LeadsTo image pc branch b → a ≡ b
+pub leads-one : (image : Parts) (pc : ℕ) (branch : Bool) (a b : ℕ) → LeadsTo image pc branch a → LeadsTo image pc branch b → a ≡ b
 leads-one image pc branch a b x y =
     let same : x.point ≡ y.point = same_Some x.point y.point (sym x.there ∙ y.there) in
     sym x.leads ∙ ap (λ (point : Point). edge_end pc point.instr branch) same ∙ y.leads

@@ -56,6 +56,10 @@ pub record GoesRound (image : Parts) (r from to : ℕ) : Type 0 where
   pub branches : List Bool
   pub way : IsUnpaidWay image r to branches from
 
+-- whichever way control goes round in routine r, it takes a LOOP's way to its target
+abbrev pub OnlyLoopsGoRound : Parts → ℕ → Type 0
+OnlyLoopsGoRound image r = (pc next : ℕ) (branch : Bool) (branches : List Bool) → IsPcOf image r pc → LeadsUnpaid image r pc branch next → IsUnpaidWay image r next branches pc → ⊥
+
 -- the instruction is a LOOP on this counter
 abbrev pub loops_on : ℕ → Instr → Opcode → Bool
 loops_on k i Loop = i.a == k
@@ -195,7 +199,7 @@ Holds image r (WordUnbounded by_word) = SetsByWord image r by_word
 Holds image r (NumberHigh by_number) = SetsByNumber image r by_number
 Holds image r (GivenUp back) = LeadsBack image r back
 Holds image r StepsMayPass = MayPass image r
-Holds image r (NoSteps back) = LeadsBack image r back
+Holds image r (NoSteps back) = LeadsBack image r back × OnlyLoopsGoRound image r
 Holds image r Unknown = NonePasses image r
 
 -- the cause is neither that slots differ nor unknown

@@ -17,3 +17,4 @@ pub mod Arcs
 pub mod Constants
 pub mod Least
 pub mod Causes
+pub mod Ranks

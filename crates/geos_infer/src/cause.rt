@@ -12,6 +12,7 @@ use crate::body::{Body, body_of};
 use crate::edges::edge_in;
 use crate::in_turn::find_in_turn;
 use crate::pieces::Piece;
+use crate::ranks::only_loops_go_round;
 use crate::rows::find_rows;
 use crate::search::Search;
 use crate::setting::find_dear;
@@ -108,7 +109,7 @@ pub enum Cause {
     GivenUp(BackWay),
     /// No way leads back, and on some way more steps are taken than a potential can say, if LOOPs may go either way.
     StepsMayPass,
-    /// None of these was found; a way leads back.
+    /// None of these was found; a way leads back, and control goes round only by LOOPs' ways to their targets.
     NoSteps(BackWay),
     /// None of these holds, but perhaps that slots differ.
     Unknown,
@@ -331,8 +332,22 @@ fn cause_ahead(alloc: Global, body: &Body) -> Result<Cause, AllocError>
     }
 }
 
+/// Why no numbers of steps are found in a routine in which a way leads back, where nothing else is found.
+fn cause_of_loops(alloc: Global, body: &Body, back: BackWay) -> Result<Cause, AllocError>
+    requires { LeadsBack body.now.image.now body.now.r back }
+    ensures { IfOk result (Holds body.now.image.now body.now.r) }
+{
+    if only_loops_go_round(alloc, body)? {
+        Ok(Cause::NoSteps(back))
+    } else {
+        // Else a way round would have been found before: that it would be is not proved.
+        Ok(Cause::GivenUp(back))
+    }
+}
+
 /// Why `infer` finds no rows or no numbers of steps for routine r, which it names in `NoRows`: of what may be the
-/// cause, the first that is found. What the cause says holds of that routine. `AllocError` where the allocator refuses
+/// cause, the first that is found. What the cause says holds of that routine. `GivenUp`, `NoSteps` and `Unknown` say that no reason was
+/// found, and what is not one. `AllocError` where the allocator refuses
 /// memory.
 pub fn find_cause(alloc: Global, image: &Image, r: u16) -> Result<Cause, AllocError>
     requires { r < length image.now.routines }
@@ -352,7 +367,7 @@ pub fn find_cause(alloc: Global, image: &Image, r: u16) -> Result<Cause, AllocEr
         }
     }
     match find_back(&body) {
-        Some(back) => Ok(Cause::NoSteps(back)),
+        Some(back) => cause_of_loops(alloc, &body, back),
         None => cause_ahead(alloc, &body),
     }
 }

@@ -37,6 +37,7 @@ mod paying;
 mod pieces;
 mod pile;
 mod place;
+mod ranks;
 mod reach;
 mod rounds;
 mod rows;
