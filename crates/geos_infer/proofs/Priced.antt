@@ -15,21 +15,22 @@ use Rattle.geos_image.specs.Parts.{Parts, start_of}
 use Rattle.geos_image.specs.Legal.{is_image}
 use Rattle.geos_image.specs.declared.routine.Routine.{Routine}
 use Rattle.geos_verify.specs.declared.asked.Asked.{Asked}
-use Rattle.geos_verify.specs.Potentials.{asked_along, asked_branching, asks_calling}
+use Rattle.geos_verify.specs.Potentials.{asked_along, asked_branching, asks_calling, is_paid}
 use Rattle.geos_verify.proofs.Places.{item_at, if_some}
 use Rattle.std.proofs.lemmas.Option.{same_Some, slice_get_within}
 use Rattle.geos_infer.specs.Arcs.{counting_of, IsArc, IsArcIf, AreArcs, arc_at, price_of, paid_by}
 use Rattle.geos_image.proofs.Starts.{start_of-le}
 use Rattle.geos_infer.specs.Causes.{is_loop}
-use Rattle.geos_infer.specs.Code.{Edge, IsPcOf, TargetAhead, instrs_of}
+use Rattle.geos_infer.specs.Code.{Edge, IsPcOf, TargetAhead, instrs_of, edge_end}
 use Rattle.geos_infer.proofs.Ends.{code-at}
 use Rattle.geos_infer.specs.Why.{LeadsTo}
 use Rattle.geos_infer.specs.Points.{PointsOf}
 use Rattle.geos_infer.specs.Theorem.{with_points}
 use Rattle.geos_infer.proofs.Bodies.{lies}
 use Rattle.geos_infer.proofs.Wanted.{ends-at}
-use Rattle.geos_infer.specs.Count.{StaysFrom}
-use Rattle.geos_infer.specs.Constants.{asked_over, PaysSteps, ConstantsPay, row_known, coefficients_at, HasLoops, AreLeastIn, AreLeastFrom, given_row, coefficients_in, GoesBack, IsLoopAt, HasLeastConstants}
+use Rattle.geos_infer.specs.Count.{StaysFrom, return_steps}
+use Rattle.geos_infer.proofs.Longest.{leads-one}
+use Rattle.geos_infer.specs.Constants.{asked_over, PaysSteps, ConstantsPay, row_known, coefficients_at, HasLoops, AreLeastIn, AreLeastFrom, given_row, coefficients_in, potential_given, GoesBack, IsLoopAt, HasLeastConstants, PaysForLoops, potential_in, IsAsked, IsPaidOver, ArePaidIn, PayLeastIn}
 use Rattle.geos_infer.specs.Flow.{row_of, known_at}
 use Rattle.geos_infer.specs.Least.{steps_at, link_at, PaysLink, PayAll, AtMost, PayEnds, AreLeast, AsksNoMore, AskNoMore, NoneOutside, ArePut}
 use Rattle.geos_infer.specs.Numbers.{Numbers, numbers_of, steps_of, coefficients_of}
@@ -149,6 +150,42 @@ found-least image r known table arcs noted pay links no_more outside old next le
     let is = (put pc within).0 in
     omega (arith, less, is)
 
+-- a potential that has such a constant and such coefficients
+pub potential-at : (numbers : Numbers) (pc : ℕ) (p : Potential) → p.constant ≡ slice_index numbers.steps pc → p.coefficients ≡ slice_index_or numbers.coefficients pc [] → p ≡ potential_in numbers pc
+potential-at numbers pc p constant coefficients =
+    ap (λ (n : ℕ). both n p.coefficients) constant ∙ ap (both (slice_index numbers.steps pc)) coefficients
+  where
+    both : ℕ → List ℕ → Potential
+    both n units = record { constant = n; coefficients = units }
+
+-- What edges ask
+
+-- where the edge of an instruction leads to a place, this is what it asks
+pub asked-one : (image : Parts) (r : ℕ) (known : List (Option Row)) (numbers : Numbers) (pc : ℕ) (branch : Bool) (i : Instr) (end : ℕ) (next : Potential) (asked : Asked) → IfSome (slice_get image.points pc) (λ point. i ≡ point.instr) → LeadsTo image pc branch end
+    → next.constant ≡ slice_index numbers.steps end → next.coefficients ≡ slice_index_or numbers.coefficients end [] → asked ≡ asked_over image i (row_known known pc) branch next → IsAsked image r known numbers pc branch (Some asked)
+asked-one image r known numbers pc branch i end next asked there leads_on constant coefficients is to leads inside =
+    let same : i ≡ leads.point.instr = if_some (λ point. i ≡ point.instr) (slice_get image.points pc) leads.point leads.there there in
+    let ends : end ≡ to = leads-one image pc branch end to leads_on leads in
+    is ∙ ap (λ (x : Instr). asked_over image x (row_known known pc) branch next) same
+    ∙ ap (asked_over image leads.point.instr (row_known known pc) branch) (potential-at numbers end next constant coefficients ∙ ap (potential_in numbers) ends)
+
+-- what is at a pc is paid for
+pub record PaidAt (image : Parts) (r : ℕ) (known : List (Option Row)) (numbers : Numbers) (pc : ℕ) : Type 0 where
+  pub along : IsPaidOver image r known numbers pc false
+  pub branching : IsPaidOver image r known numbers pc true
+  pub returns : IfSome (slice_get image.points pc) (λ point. return_steps point.instr ≤ slice_index numbers.steps pc)
+
+pub all-paid-in : (image : Parts) (r : ℕ) (known : List (Option Row)) (numbers : Numbers) → ((pc : ℕ) → IsPcOf image r pc → PaidAt image r known numbers pc) → ArePaidIn image r known numbers
+all-paid-in image r known numbers paid = record {
+  edges = λ pc to branch within leads inside. over pc to branch (paid pc within) leads inside;
+  returns = λ pc point within there. if_some (λ point. return_steps point.instr ≤ slice_index numbers.steps pc) (slice_get image.points pc) point there (paid pc within).returns;
+}
+  where
+    over : (pc to : ℕ) (branch : Bool) → PaidAt image r known numbers pc → (leads : LeadsTo image pc branch to) → IsPcOf image r to
+        → is_paid (asked_over image leads.point.instr (row_known known pc) branch (potential_in numbers to)) (potential_in numbers pc) ≡ true
+    over pc to true P leads inside = P.branching to leads inside
+    over pc to false P leads inside = P.along to leads inside
+
 -- Routine after routine
 
 -- they are where the numbers of a routine stay
@@ -166,24 +203,39 @@ least-same image r known numbers next same least steps P pc within =
     let is = (same pc within).0 in
     omega (arith, less, is)
 
+-- and they pay where these stay
+paid-same : (image : Parts) (r : ℕ) (known : List (Option Row)) (numbers next : Numbers)
+    → ((pc : ℕ) → IsPcOf image r pc → (slice_index next.steps pc ≡ slice_index numbers.steps pc) × (coefficients_at next.coefficients pc ≡ coefficients_at numbers.coefficients pc)) → ArePaidIn image r known numbers → ArePaidIn image r known next
+paid-same image r known numbers next same P = record {
+  edges = λ pc to branch within leads inside.
+      subst (λ (q : Potential). is_paid (asked_over image leads.point.instr (row_known known pc) branch q) (potential_in next pc) ≡ true) (sym (same-potential to inside))
+      (subst (λ (p : Potential). is_paid (asked_over image leads.point.instr (row_known known pc) branch (potential_in numbers to)) p ≡ true) (sym (same-potential pc within)) (P.edges pc to branch within leads inside));
+  returns = λ pc point within there. (let paid = P.returns pc point within there in let is = (same pc within).0 in omega (arith, paid, is));
+}
+  where
+    same-potential : (pc : ℕ) → IsPcOf image r pc → potential_in next pc ≡ potential_in numbers pc
+    same-potential pc within = potential-at numbers pc (potential_in next pc) ((same pc within).0) ((same pc within).1)
+
 -- so they are in one more routine
 pub least-more : (image : Parts) (r more count : ℕ) (known : List (Option Row)) (numbers next : Numbers) → more ≡ r + 1 → StaysFrom (start_of image.routines (r + 1)) numbers next
-    → AreLeastFrom image more count known numbers → (HasLoops image r → AreLeastIn image r known next) → AreLeastFrom image r count known next
+    → AreLeastFrom image more count known numbers → (HasLoops image r → PayLeastIn image r known next) → AreLeastFrom image r count known next
 least-more image r more count known numbers next one stay before here q from lt loops = elim (cases_eq q r) [
-  | inl same ↦ subst (λ (n : ℕ). AreLeastIn image n known next) (sym same) (here (subst (HasLoops image) same loops))
+  | inl same ↦ subst (λ (n : ℕ). PayLeastIn image n known next) (sym same) (here (subst (HasLoops image) same loops))
   | inr ne ↦
-      least-same image q known numbers next
-      (λ pc within. (let later = start_of-le image.routines (r + 1) q (omega (arith, ne, from)) in let above = within.above in (stay.steps pc (omega (arith, above, later)), stay.coefficients pc (omega (arith, above, later)))))
-      (before q (omega (arith, one, ne, from)) lt loops)
+      let later = start_of-le image.routines (r + 1) q (omega (arith, ne, from)) in
+      let same : (pc : ℕ) → IsPcOf image q pc → (slice_index next.steps pc ≡ slice_index numbers.steps pc) × (coefficients_at next.coefficients pc ≡ coefficients_at numbers.coefficients pc) =
+      (λ pc within. (let above = within.above in (stay.steps pc (omega (arith, above, later)), stay.coefficients pc (omega (arith, above, later))))) in
+      let old = before q (omega (arith, one, ne, from)) lt loops in
+      (paid-same image q known numbers next same old.0, least-same image q known numbers next same old.1)
 ]
 
 -- what is found in a routine, where its body is of it
 pub stays-in : (image here : Parts) (number r : ℕ) (old new : Numbers) → here ≡ image → number ≡ r → StaysFrom (start_of here.routines (number + 1)) old new → StaysFrom (start_of image.routines (r + 1)) old new
 stays-in image here number r old new same_image same_number stay = subst (λ (x : Parts). StaysFrom (start_of x.routines (r + 1)) old new) same_image (subst (λ (n : ℕ). StaysFrom (start_of here.routines (n + 1)) old new) same_number stay)
 
-pub least-in : (image here : Parts) (number r : ℕ) (known : List (Option Row)) (new : Numbers) → here ≡ image → number ≡ r → (HasLoops here number → AreLeastIn here number known new) → HasLoops image r → AreLeastIn image r known new
+pub least-in : (image here : Parts) (number r : ℕ) (known : List (Option Row)) (new : Numbers) → here ≡ image → number ≡ r → (HasLoops here number → PayLeastIn here number known new) → HasLoops image r → PayLeastIn image r known new
 least-in image here number r known new same_image same_number least =
-    subst (λ (x : Parts). HasLoops x r → AreLeastIn x r known new) same_image (subst (λ (n : ℕ). HasLoops here n → AreLeastIn here n known new) same_number least)
+    subst (λ (x : Parts). HasLoops x r → PayLeastIn x r known new) same_image (subst (λ (n : ℕ). HasLoops here n → PayLeastIn here n known new) same_number least)
 
 -- Numbers that are put
 
@@ -241,6 +293,14 @@ module _ (image : Parts) (legal : is_image image ≡ true) (known : List (Option
     ];
   }
 
+  at : (r : ℕ) → r < length image.routines → (pc : ℕ) → IsPcOf image r pc → (point : Point) × (slice_get image.points pc ≡ Some point)
+  at r lt pc within =
+      let routine = item_at image.routines r lt in
+      let room = (lies image legal r routine.0 routine.1).0 in
+      let ends = ends-at image.routines r routine.0 routine.1 in
+      let below = within.below in
+      item_at image.points pc (omega (arith, room, ends, below))
+
   -- constants that pay for what is answered pay for what is counted
   counted-pay : (r : ℕ) (steps : ℕ → ℕ) → r < length image.routines → ConstantsPay made r (given_row made) (coefficients_in made) steps → ConstantsPay image r (row_known known) (coefficients_at numbers.coefficients) steps
   counted-pay r steps lt Q = record {
@@ -260,23 +320,42 @@ module _ (image : Parts) (legal : is_image image ≡ true) (known : List (Option
         (subst (λ (x : List ℕ). PaysSteps (asked_over made leads.point.instr (given_row made pc) branch (record { constant = steps to; coefficients = x })) (record { constant = steps pc; coefficients = coefficients_in made pc })) behind paid)));
     returns = λ pc point within there. Q.returns pc _ (record { above = within.above; below = within.below }) (P.each pc point there);
   }
-    where
-      at : (r : ℕ) → r < length image.routines → (pc : ℕ) → IsPcOf image r pc → (point : Point) × (slice_get image.points pc ≡ Some point)
-      at r lt pc within =
-          let routine = item_at image.routines r lt in
-          let room = (lies image legal r routine.0 routine.1).0 in
-          let ends = ends-at image.routines r routine.0 routine.1 in
-          let below = within.below in
-          item_at image.points pc (omega (arith, room, ends, below))
 
   -- so what is answered has the least constants
   pub least-given : AreLeastFrom image 0 (length image.routines) known numbers → HasLeastConstants made
   least-given least r steps lt loops Q pc point within there =
       let old = item_at image.points pc (let in_points = slice_get_within points pc point there in let len = P.len in omega (arith, in_points, len)) in
-      let less = least r (omega arith) lt (loops-same r loops) steps (counted-pay r steps lt Q) pc (record { above = within.above; below = within.below }) in
+      let less = (least r (omega arith) lt (loops-same r loops)).1 steps (counted-pay r steps lt Q) pc (record { above = within.above; below = within.below }) in
       let is = same_Some point _ (sym there ∙ P.each pc old.0 old.1) in
       let constant : point.potential.constant ≡ slice_index numbers.steps pc = ap (λ (x : Point). x.potential.constant) is in
       omega (arith, less, constant)
+
+  -- and it pays
+  pub paid-given : AreLeastFrom image 0 (length image.routines) known numbers → PaysForLoops made
+  paid-given least r lt loops =
+      let paid = (least r (omega arith) lt (loops-same r loops)).0 in
+      record {
+        edges = λ pc to branch within leads inside.
+            let old = point-at pc leads.point leads.there in
+            let end = at r lt to (record { above = inside.above; below = inside.below }) in
+            let is = same_Some leads.point _ (sym leads.there ∙ P.each pc old.0 old.1) in
+            let instr : leads.point.instr ≡ old.0.instr = ap (λ (x : Point). x.instr) is in
+            let over : LeadsTo image pc branch to = record { point = old.0; there = old.1; has = subst (λ (i : Instr). has_edge i branch ≡ true) instr leads.has; leads = subst (λ (i : Instr). edge_end pc i branch ≡ to) instr leads.leads } in
+            let this = paid.edges pc to branch (record { above = within.above; below = within.below }) over (record { above = inside.above; below = inside.below }) in
+            let row : given_row made pc ≡ row_known known pc = rw (P.each pc old.0 old.1) refl in
+            let here : potential_given made pc ≡ potential_in numbers pc = rw (P.each pc old.0 old.1) refl in
+            let there : potential_given made to ≡ potential_in numbers to = rw (P.each to end.0 end.1) refl in
+            rw (instr, row, here, there, same-over image made refl old.0.instr (row_known known pc) branch (potential_in numbers to)) this;
+        returns = λ pc point within there.
+            let old = point-at pc point there in
+            let is = same_Some point _ (sym there ∙ P.each pc old.0 old.1) in
+            let here : potential_given made pc ≡ potential_in numbers pc = rw (P.each pc old.0 old.1) refl in
+            let this = paid.returns pc old.0 (record { above = within.above; below = within.below }) old.1 in
+            rw here (subst (λ (i : Instr). return_steps i ≤ slice_index numbers.steps pc) (sym (ap (λ (x : Point). x.instr) is)) this);
+      }
+    where
+      point-at : (pc : ℕ) (point : Point) → slice_get points pc ≡ Some point → (old : Point) × (slice_get image.points pc ≡ Some old)
+      point-at pc point there = item_at image.points pc (let in_points = slice_get_within points pc point there in let len = P.len in omega (arith, in_points, len))
 
 -- Routines without loops
 

@@ -9,7 +9,7 @@ use Rattle.geos_image.specs.Open.{open_row}
 use Rattle.geos_image.specs.Parts.{Parts}
 use Rattle.geos_verify.specs.declared.asked.Asked.{Asked}
 use Rattle.geos_verify.specs.Places.{or_row}
-use Rattle.geos_verify.specs.Potentials.{asked_along, asked_branching, left_with}
+use Rattle.geos_verify.specs.Potentials.{asked_along, asked_branching, left_with, is_paid}
 use Rattle.geos_infer.specs.Code.{Edge, IsPcOf, instrs_of}
 use Rattle.geos_infer.specs.Count.{return_steps}
 use Rattle.geos_infer.specs.Flow.{row_of, known_at}
@@ -31,6 +31,12 @@ pub record ConstantsPay (image : Parts) (r : ℕ) (row : ℕ → Row) (coefficie
       → PaysSteps (asked_over image leads.point.instr (row pc) branch (record { constant = steps to; coefficients = coefficients to })) (record { constant = steps pc; coefficients = coefficients pc })
   pub returns : (pc : ℕ) (point : Point) → IsPcOf image r pc → slice_get image.points pc ≡ Some point → return_steps point.instr ≤ steps pc
 
+-- with these rows, each edge of routine r that stays in it is paid for by the potentials at its ends, and its returns are
+pub record PotentialsPay (image : Parts) (r : ℕ) (row : ℕ → Row) (potential : ℕ → Potential) : Type 0 where
+  pub edges : (pc to : ℕ) (branch : Bool) → IsPcOf image r pc → (leads : LeadsTo image pc branch to) → IsPcOf image r to
+      → is_paid (asked_over image leads.point.instr (row pc) branch (potential to)) (potential pc) ≡ true
+  pub returns : (pc : ℕ) (point : Point) → IsPcOf image r pc → slice_get image.points pc ≡ Some point → return_steps point.instr ≤ (potential pc).constant
+
 -- the row that an image gives at a pc
 abbrev pub given_row : Parts → ℕ → Row
 given_row image pc = elim (slice_get image.points pc) [ None ↦ open_row | Some point ↦ or_row point.row open_row ]
@@ -38,6 +44,10 @@ given_row image pc = elim (slice_get image.points pc) [ None ↦ open_row | Some
 -- the coefficients that it has there
 abbrev pub coefficients_in : Parts → ℕ → List ℕ
 coefficients_in image pc = elim (slice_get image.points pc) [ None ↦ zeros | Some point ↦ point.potential.coefficients ]
+
+-- the potential that it has there
+abbrev pub potential_given : Parts → ℕ → Potential
+potential_given image pc = elim (slice_get image.points pc) [ None ↦ record { constant = 0; coefficients = zeros } | Some point ↦ point.potential ]
 
 -- an edge of the instruction at a pc to a target in routine r leads back
 pub record GoesBack (image : Parts) (r pc : ℕ) : Type 0 where
@@ -62,6 +72,10 @@ abbrev pub HasLeastConstants : Parts → Type 0
 HasLeastConstants image = (r : ℕ) (steps : ℕ → ℕ) → r < length image.routines → HasLoops image r → ConstantsPay image r (given_row image) (coefficients_in image) steps
     → (pc : ℕ) (point : Point) → IsPcOf image r pc → slice_get image.points pc ≡ Some point → point.potential.constant ≤ steps pc
 
+-- in routines with loops, the potentials of an image that gives all rows pay for the edges that stay in the routine, and for returns
+abbrev pub PaysForLoops : Parts → Type 0
+PaysForLoops image = (r : ℕ) → r < length image.routines → HasLoops image r → PotentialsPay image r (given_row image) (potential_given image)
+
 -- What is counted
 
 -- the rows that are known
@@ -76,6 +90,28 @@ coefficients_at coefficients pc = slice_index_or coefficients pc []
 abbrev pub AreLeastIn : Parts → ℕ → List (Option Row) → Numbers → Type 0
 AreLeastIn image r known numbers = (steps : ℕ → ℕ) → ConstantsPay image r (row_known known) (coefficients_at numbers.coefficients) steps → (pc : ℕ) → IsPcOf image r pc → slice_index numbers.steps pc ≤ steps pc
 
+-- the potential at a pc that is counted
+abbrev pub potential_in : Numbers → ℕ → Potential
+potential_in numbers pc = record { constant = slice_index numbers.steps pc; coefficients = slice_index_or numbers.coefficients pc [] }
+
+-- this is what the edge of a pc asks, or none stays in routine r
+abbrev pub IsAsked : Parts → ℕ → List (Option Row) → Numbers → ℕ → Bool → Option Asked → Type 0
+IsAsked image r known numbers pc branch None = (to : ℕ) → LeadsTo image pc branch to → IsPcOf image r to → ⊥
+IsAsked image r known numbers pc branch (Some asked) = (to : ℕ) → (leads : LeadsTo image pc branch to) → IsPcOf image r to → asked ≡ asked_over image leads.point.instr (row_known known pc) branch (potential_in numbers to)
+
+-- the edge of a pc is paid for, if one stays in routine r
+abbrev pub IsPaidOver : Parts → ℕ → List (Option Row) → Numbers → ℕ → Bool → Type 0
+IsPaidOver image r known numbers pc branch = (to : ℕ) → (leads : LeadsTo image pc branch to) → IsPcOf image r to
+    → is_paid (asked_over image leads.point.instr (row_known known pc) branch (potential_in numbers to)) (potential_in numbers pc) ≡ true
+
+-- the numbers of routine r pay, with the rows that are known
+abbrev pub ArePaidIn : Parts → ℕ → List (Option Row) → Numbers → Type 0
+ArePaidIn image r known numbers = PotentialsPay image r (row_known known) (potential_in numbers)
+
+-- they pay, and the steps are the least that do
+abbrev pub PayLeastIn : Parts → ℕ → List (Option Row) → Numbers → Type 0
+PayLeastIn image r known numbers = ArePaidIn image r known numbers × AreLeastIn image r known numbers
+
 -- the same of each routine with loops from one on up to another
 abbrev pub AreLeastFrom : Parts → ℕ → ℕ → List (Option Row) → Numbers → Type 0
-AreLeastFrom image from count known numbers = (r : ℕ) → from ≤ r → r < count → HasLoops image r → AreLeastIn image r known numbers
+AreLeastFrom image from count known numbers = (r : ℕ) → from ≤ r → r < count → HasLoops image r → PayLeastIn image r known numbers

@@ -4,7 +4,7 @@ ghost use Rattle.std.specs.Prelude.{◌≡◌, ◌<◌, ◌≤◌, ◌⊎◌, �
 ghost use Rattle.geos_infer.specs.declared.error.InferError.TheVariants.{NoRows};
 ghost use Rattle.geos_image.specs.Parts.{start_of};
 ghost use Rattle.geos_infer.specs.Code.{ForwardIn};
-ghost use Rattle.geos_infer.specs.Constants.{HasLoops, AreLeastIn, AreLeastFrom};
+ghost use Rattle.geos_infer.specs.Constants.{HasLoops, PayLeastIn, AreLeastFrom};
 ghost use Rattle.geos_infer.specs.Solutions.{NoStepsHoldIn};
 ghost use Rattle.geos_infer.specs.Count.{CountsOn, AreCounted, StaysFrom};
 ghost use Rattle.geos_infer.specs.Numbers.{numbers_of};
@@ -77,7 +77,7 @@ impl Tables {
 /// Counts the steps of a routine with loops; `false` where no number of them is found to be enough, or a
 /// counter is wanted behind a call that touches it.
 fn count_loops(body: &Body, known: &Known, tables: &mut Tables, potentials: &mut Potentials) -> bool
-    ensures least { result ≡ true → AreLeastIn body.now.image.now body.now.r known.now (numbers_of potentials.new) }
+    ensures least { result ≡ true → PayLeastIn body.now.image.now body.now.r known.now (numbers_of potentials.new) }
     ensures stays { StaysFrom (start_of body.now.image.now.routines (body.now.r + 1)) (numbers_of potentials.old) (numbers_of potentials.new) }
 {
     if has_unpaid_cycle(body, &mut tables.into, &mut tables.listed) {
@@ -102,7 +102,7 @@ fn count_in(
 ) -> Result<bool, AllocError>
     ensures counts { IfOk result (CountsOn body.now.image.now body.now.r (numbers_of potentials.old) (numbers_of potentials.new)) }
     ensures least { IfOk result (λ counted. counted ≡ true → HasLoops body.now.image.now body.now.r
-        → AreLeastIn body.now.image.now body.now.r known.now (numbers_of potentials.new)) }
+        → PayLeastIn body.now.image.now body.now.r known.now (numbers_of potentials.new)) }
     ensures stays { IfOk result (λ _. StaysFrom (start_of body.now.image.now.routines (body.now.r + 1)) (numbers_of potentials.old) (numbers_of potentials.new)) }
 {
     if !has_loops(body) {
