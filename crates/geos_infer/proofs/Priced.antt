@@ -18,7 +18,7 @@ use Rattle.geos_verify.specs.declared.asked.Asked.{Asked}
 use Rattle.geos_verify.specs.Potentials.{asked_along, asked_branching, asks_calling, is_paid}
 use Rattle.geos_verify.proofs.Places.{item_at, if_some}
 use Rattle.std.proofs.lemmas.Option.{same_Some, slice_get_within}
-use Rattle.geos_infer.specs.Arcs.{counting_of, IsArc, IsArcIf, AreArcs, arc_at, price_of, paid_by}
+use Rattle.geos_infer.specs.Arcs.{counting_of, IsArc, IsArcIf, AreArcs, price_of, paid_by}
 use Rattle.geos_image.proofs.Starts.{start_of-le}
 use Rattle.geos_infer.specs.Causes.{is_loop}
 use Rattle.geos_infer.specs.Code.{Edge, IsPcOf, TargetAhead, instrs_of, edge_end}
@@ -31,8 +31,7 @@ use Rattle.geos_infer.proofs.Wanted.{ends-at}
 use Rattle.geos_infer.specs.Count.{StaysFrom, return_steps}
 use Rattle.geos_infer.proofs.Longest.{leads-one}
 use Rattle.geos_infer.specs.Constants.{asked_over, PaysSteps, ConstantsPay, row_known, coefficients_at, HasLoops, AreLeastIn, AreLeastFrom, given_row, coefficients_in, potential_given, GoesBack, IsLoopAt, HasLeastConstants, PaysForLoops, potential_in, IsAsked, IsPaidOver, ArePaidIn, PayLeastIn}
-use Rattle.geos_infer.specs.Flow.{row_of, known_at}
-use Rattle.geos_infer.specs.Least.{steps_at, link_at, PaysLink, PayAll, AtMost, PayEnds, AreLeast, AsksNoMore, AskNoMore, NoneOutside, ArePut}
+use Rattle.geos_infer.specs.Least.{steps_at, link_at, PaysLink, PayAll, PayEnds, AreLeast, AskNoMore, NoneOutside, ArePut}
 use Rattle.geos_infer.specs.Numbers.{Numbers, numbers_of, steps_of, coefficients_of}
 use Rattle.geos_infer.proofs.Copies.{numbers-set}
 use Rattle.geos_infer.specs.Solutions.{call_steps}

@@ -1,9 +1,9 @@
 -- Where ranks rise along edges, control does not come back by them.
-use Rattle.std.proofs.Common.{◌≡◌, ◌≤◌, ◌<◌, ℕ, Bool, List, [], ◌∷◌, ap, arith}
+use Rattle.std.proofs.Common.{◌≤◌, ℕ, Bool, List, [], ◌∷◌, ap, arith}
 use Rattle.std.specs.Prelude.{slice_index}
 use Rattle.geos_image.specs.Parts.{Parts}
 use Rattle.geos_infer.specs.Code.{IsPcOf}
-use Rattle.geos_infer.specs.Causes.{LeadsUnpaid, IsUnpaidWay, OnlyLoopsGoRound}
+use Rattle.geos_infer.specs.Causes.{IsUnpaidWay, OnlyLoopsGoRound}
 use Rattle.geos_infer.specs.Ranks.{AllRise}
 
 module _ (image : Parts) (r : ℕ) (ranks : List ℕ) (rise : AllRise image r ranks) where

@@ -1,5 +1,5 @@
 -- No rows that hold are stronger than what flows along all edges of a routine and is joined.
-use Rattle.std.proofs.Common.{◌≡◌, ℕ, zero, suc, ◌+◌, ◌<◌, ◌≤◌, Bool, true, false, List, [], ◌∷◌, length, Option, Some, None, slice_get, get_or, set, refl, sym, ap, ◌∙◌, subst, arith, inl, inr}
+use Rattle.std.proofs.Common.{◌≡◌, ℕ, zero, suc, ◌<◌, ◌≤◌, Bool, true, List, [], ◌∷◌, length, Option, Some, None, slice_get, set, refl, sym, ap, ◌∙◌, subst, arith, inl, inr}
 use Rattle.std.specs.Prelude.{nat_le, slice_index}
 use Rattle.std.proofs.lemmas.Bool.{cases_eq, and_parts, leb-true}
 use Rattle.std.proofs.lemmas.List.{get_or-set_same, get_or-set_other}
@@ -15,8 +15,8 @@ use Rattle.geos_infer.specs.Code.{Edge, IsPcOf, instrs_of, edge_row}
 use Rattle.geos_infer.specs.declared.flow.Arrival.{Arrival}
 use Rattle.geos_infer.specs.declared.flow.Arrival.TheVariants.{Same, Weaker, Apart}
 use Rattle.geos_infer.specs.declared.edges.Edge.{Edge as Edge_}
-use Rattle.geos_infer.specs.Flow.{row_of, known_at, KnownAt, HaveNoJoin, Joins, Arrives, Seeded}
-use Rattle.geos_infer.specs.Reached.{LeadWithin, IsReached, FitWhereReached, AreAtMostAny}
+use Rattle.geos_infer.specs.Flow.{row_of, known_at, KnownAt, Joins, Arrives, Seeded}
+use Rattle.geos_infer.specs.Reached.{IsReached, FitWhereReached, AreAtMostAny}
 use Rattle.geos_infer.specs.Why.{LeadsTo}
 use Rattle.geos_infer.proofs.Cleaning.{clean-least}
 use Rattle.geos_infer.proofs.Ends.{edge-mono, after-edge, code-at}

@@ -103,7 +103,8 @@ fn count_in(
     ensures counts { IfOk result (CountsOn body.now.image.now body.now.r (numbers_of potentials.old) (numbers_of potentials.new)) }
     ensures least { IfOk result (λ counted. counted ≡ true → HasLoops body.now.image.now body.now.r
         → PayLeastIn body.now.image.now body.now.r known.now (numbers_of potentials.new)) }
-    ensures stays { IfOk result (λ _. StaysFrom (start_of body.now.image.now.routines (body.now.r + 1)) (numbers_of potentials.old) (numbers_of potentials.new)) }
+    ensures stays { IfOk result (λ _. StaysFrom (start_of body.now.image.now.routines (body.now.r + 1))
+        (numbers_of potentials.old) (numbers_of potentials.new)) }
 {
     if !has_loops(body) {
         return Ok(sweep(body, known, potentials).is_some());

@@ -55,8 +55,8 @@ fn routines_of(alloc: Global, image: &Image) -> Result<Vec<Routine>, AllocError>
 /// The rows hold wherever control reaches, in loops too, so that the verifier's rules on rows pass
 /// there (`rows_that_hold_pass`).
 ///
-/// In a routine with loops, the potentials pay for its edges and returns, and each constant is at most any that pays for the edges and returns of the routine with the rows and coefficients
-/// that are answered.
+/// In a routine with loops, the potentials pay for its edges and returns, and each constant is at most any that does with the rows and
+/// coefficients that are answered.
 ///
 /// Where there is no LOOP, no edge leads back, and each instruction but a routine's first has an
 /// edge into it, the verifier accepts what is answered, in version 2 too, if it accepts any image with that code.

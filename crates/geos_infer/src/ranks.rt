@@ -49,7 +49,8 @@ fn rank_all(body: &Body, ranks: &mut Ranks) {
 /// Whether ranks rise along an edge, if there is one.
 fn rises(body: &Body, ranks: &Ranks, pc: u16, branch: bool) -> bool
     requires { pc < body.now.end }
-    ensures { result ≡ true → (to : ℕ) → LeadsUnpaid body.now.image.now body.now.r pc branch to → slice_index ranks.now pc < slice_index ranks.now to }
+    ensures { result ≡ true → (to : ℕ) → LeadsUnpaid body.now.image.now body.now.r pc branch to
+        → slice_index ranks.now pc < slice_index ranks.now to }
 {
     match lead_unpaid(body, pc, branch) {
         Some(to) => ranks.at(pc) < ranks.at(to),

@@ -1,8 +1,5 @@
-use Rattle.std.proofs.Common.{◌≤◌, ◌<◌, ℕ, true, false}
-use Rattle.std.specs.Prelude.{slice_get, slice_index, IfSome}
+use Rattle.std.proofs.Common.{◌<◌, ℕ}
 use Rattle.geos_infer.specs.Code.{IsPcOf}
-use Rattle.geos_infer.specs.Constants.{IsPaidOver}
-use Rattle.geos_infer.specs.Count.{return_steps}
 use Rattle.geos_infer.specs.Numbers.{numbers_of}
 use Rattle.geos_infer.proofs.Priced.{PaidAt}
 use Rattle.geos_infer.proofs.paid.are_paid.Given as goal

@@ -1,4 +1,4 @@
-use Rattle.std.proofs.Common.{◌≡◌, ◌≤◌, length, subst, arith}
+use Rattle.std.proofs.Common.{◌≡◌, length, subst, arith}
 use Rattle.geos_image.proofs.Instrs.{image_parts}
 use Rattle.geos_infer.proofs.Noting.{IsWhole, notes-whole, notes-full}
 use Rattle.geos_infer.proofs.spent.may_touch.Goals as goal

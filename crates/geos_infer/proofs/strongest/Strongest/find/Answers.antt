@@ -1,4 +1,3 @@
-use Rattle.std.proofs.Common.{Some, sym, subst}
 use Rattle.geos_verify.proofs.Places.{item_at}
 use Rattle.geos_infer.proofs.Strong.{at-first}
 use Rattle.geos_infer.proofs.strongest.Strongest.find.Goals as goal
