@@ -43,7 +43,7 @@ number-not-behind k pc to true false ahead less = λ same. absurd (omega arith)
 number-not-behind k pc to false true ahead less = λ same. absurd (omega arith)
 number-not-behind k pc to false false ahead less = λ same. absurd (omega arith)
 
-some-is : {X : Type 0} (x y : X) → Some x ≡ Some y → x ≡ y
+pub some-is : {X : Type 0} (x y : X) → Some x ≡ Some y → x ≡ y
 some-is x y e = cc
 
 -- What is known at a place stays known, where what comes there is joined with it
@@ -72,11 +72,11 @@ join-upper : (o : Option Row) (row joined : Row) → IsJoin o row joined → fit
 join-upper None row joined is = subst (λ (y : Row). fits row y ≡ true) (sym is) (fits-refl row)
 join-upper (Some x) row joined is = is.right
 
-join-least : (o : Option Row) (row joined u : Row) → IsJoin o row joined → ((old : Row) → o ≡ Some old → fits old u ≡ true) → fits row u ≡ true → fits joined u ≡ true
+pub join-least : (o : Option Row) (row joined u : Row) → IsJoin o row joined → ((old : Row) → o ≡ Some old → fits old u ≡ true) → fits row u ≡ true → fits joined u ≡ true
 join-least None row joined u is below h = subst (λ (y : Row). fits y u ≡ true) (sym is) h
 join-least (Some x) row joined u is below h = is.least u (below x refl) h
 
-no-join : (o : Option Row) (row u : Row) → HaveNoJoin o row → ((old : Row) → o ≡ Some old → fits old u ≡ true) → fits row u ≡ true → ⊥
+pub no-join : (o : Option Row) (row u : Row) → HaveNoJoin o row → ((old : Row) → o ≡ Some old → fits old u ≡ true) → fits row u ≡ true → ⊥
 no-join None row u none below h = none
 no-join (Some x) row u none below h = none u (below x refl) h
 

@@ -25,3 +25,6 @@ pub mod Onward
 pub mod Refused
 pub mod Longest
 pub mod Costs
+pub mod Strong
+pub mod Priced
+pub mod Rising

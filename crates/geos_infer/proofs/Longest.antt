@@ -110,8 +110,8 @@ none-other image r StepsMayPass none other holds =
     let past = holds.past in
     omega arith
 none-other image r (NoSteps back) none other holds =
-    let less = leads-ahead image r none.steps.ahead back.from back.to true holds.from holds.to holds.leads in
-    let order = holds.order in
+    let less = leads-ahead image r none.steps.ahead back.from back.to true holds.0.from holds.0.to holds.0.leads in
+    let order = holds.0.order in
     omega arith
 none-other image r Unknown none other holds = other refl
 

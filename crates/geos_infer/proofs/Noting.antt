@@ -1,12 +1,15 @@
 -- What is noted in a table of touched counters is touched, wherever calls go.
-use Rattle.std.proofs.Common.{◌≡◌, ◌<◌, ℕ, zero, suc, Bool, true, false, List, [], ◌∷◌, length, set, refl, sym, ap, ◌∙◌, inl, inr}
+use Rattle.std.proofs.Common.{◌≡◌, ◌<◌, ℕ, zero, suc, Bool, true, false, List, [], ◌∷◌, length, take, drop, Option, None, Some, slice_get, set, refl, sym, ap, ◌∙◌, inl, inr, arith, ◌≤◌}
 use Rattle.std.specs.Prelude.{◌&&◌, ◌||◌, ◌==◌, slice_index_or}
 use Rattle.std.specs.List.{list_any}
 use Rattle.std.proofs.lemmas.List.{get_or-set_other, get_or-set_same}
-use Rattle.std.proofs.lemmas.Bool.{cases_eq}
+use Rattle.std.proofs.lemmas.Bool.{cases_eq, cases_lt, false≢true}
+use Rattle.std.proofs.lemmas.Option.{slice_get_past}
 use Rattle.geos_image.specs.declared.instr.Instr.{Instr}
-use Rattle.geos_image.specs.Parts.{Parts}
-use Rattle.geos_verify.specs.Touched.{calls, counts, points_of, touches_here, touches_within, noted, touches_by, noted_by}
+use Rattle.geos_image.specs.declared.routine.Routine.{Routine}
+use Rattle.geos_image.specs.Parts.{Parts, start_of}
+use Rattle.geos_verify.specs.Touched.{calls, counts, points_of, touches_here, touches_within, noted, touches, touches_by, noted_by}
+use Rattle.geos_infer.specs.Causes.{NotesAllTouched}
 
 or-implied : (a b c : Bool) → (b ≡ true → c ≡ true) → (a || b) ≡ true → (a || c) ≡ true
 or-implied true b c h e = refl
@@ -77,3 +80,66 @@ blank-at (suc n) k (suc c) = blank-at n k c
 -- so nothing has to be touched
 pub notes-blank : (image : Parts) (n : ℕ) → NotesWithin image (blank_rows n) 0
 notes-blank image n k c e = sym (blank-at n k c) ∙ e
+
+-- Tables that note all that is touched
+
+-- the counters of so many routines are noted as the table itself says what these call
+abbrev pub IsWhole : Parts → List (List Bool) → ℕ → Type 0
+IsWhole image table count = (r : ℕ) → r < count → slice_index_or table r [] ≡ noted_by image table r
+
+-- what is no routine touches nothing
+no-routine : (image : Parts) (depth k r : ℕ) → slice_get image.routines r ≡ None → touches_within depth image k r ≡ false
+no-routine image zero k r none = refl
+no-routine image (suc depth) k r none =
+    ap (λ (o : Option Routine). list_any (λ point. touches_here (touches_within depth image k) k point.instr) (elim o [ None ↦ [] | Some routine ↦ take routine.count (drop (start_of image.routines r) image.points) ])) none
+
+-- so there is a routine that touches something
+pub touching-there : (image : Parts) (k r : ℕ) → touches image k r ≡ true → r < length image.routines
+touching-there image k r e = elim (cases_lt r (length image.routines)) [
+  | inl lt ↦ lt
+  | inr le ↦ absurd (false≢true (sym (no-routine image (length image.routines) k r (slice_get_past image.routines r le)) ∙ e))
+]
+
+noted-own : (image : Parts) (table : List (List Bool)) (r k : ℕ) → k < 4 → touches_by image table k r ≡ true → slice_index_or (noted_by image table r) k false ≡ true
+noted-own image table r zero few e = e
+noted-own image table r (suc zero) few e = e
+noted-own image table r (suc (suc zero)) few e = e
+noted-own image table r (suc (suc (suc zero))) few e = e
+noted-own image table r (suc (suc (suc (suc k)))) few e = absurd (omega (arith, few))
+
+module _ (image : Parts) (table : List (List Bool)) (whole : IsWhole image table (length image.routines)) (k : ℕ) (few : k < 4) where
+  whole-within : (depth r : ℕ) → touches_within depth image k r ≡ true → noted table k r ≡ true
+  whole-within zero r e = absurd cc
+  whole-within (suc depth) r e = elim (cases_lt r (length image.routines)) [
+    | inl lt ↦
+        let by : touches_by image table k r ≡ true =
+        list_any-implied (λ point. touches_here (touches_within depth image k) k point.instr) (λ point. touches_here (noted table k) k point.instr) (points_of image r)
+        (λ point. here-implied (touches_within depth image k) (noted table k) k point.instr (whole-within depth)) e in
+        ap (λ (l : List Bool). slice_index_or l k false) (whole r lt) ∙ noted-own image table r k few by
+    | inr le ↦ absurd (false≢true (sym (no-routine image (suc depth) k r (slice_get_past image.routines r le)) ∙ e))
+  ]
+
+-- such a table notes all that is touched
+pub notes-whole : (image : Parts) (table : List (List Bool)) → IsWhole image table (length image.routines) → NotesAllTouched image table
+notes-whole image table whole k r few e = whole-within image table whole k few (length image.routines) r e
+
+-- a table in which each counter is noted, of so many routines
+abbrev pub full_rows : ℕ → List (List Bool)
+full_rows zero = []
+full_rows (suc n) = (true ∷ true ∷ true ∷ true ∷ []) ∷ full_rows n
+
+full-row : (k : ℕ) → k < 4 → slice_index_or (true ∷ true ∷ true ∷ true ∷ []) k false ≡ true
+full-row zero few = refl
+full-row (suc zero) few = refl
+full-row (suc (suc zero)) few = refl
+full-row (suc (suc (suc zero))) few = refl
+full-row (suc (suc (suc (suc k)))) few = absurd (omega (arith, few))
+
+full-at : (n k r : ℕ) → k < 4 → r < n → noted (full_rows n) k r ≡ true
+full-at zero k r few lt = absurd (omega (arith, lt))
+full-at (suc n) k zero few lt = full-row k few
+full-at (suc n) k (suc r) few lt = full-at n k r few (omega (arith, lt))
+
+-- it notes all that is touched
+pub notes-full : (image : Parts) (n : ℕ) → length image.routines ≤ n → NotesAllTouched image (full_rows n)
+notes-full image n room k r few e = (let lt = touching-there image k r e in full-at n k r few (omega (arith, lt, room)))

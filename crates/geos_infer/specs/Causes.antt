@@ -1,5 +1,5 @@
 -- Causes for which no rows or no numbers of steps are found for a routine, and what each says.
-use Rattle.std.specs.Prelude.{◌≡◌, ◌≢◌, ◌≤◌, ℕ, Bool, ◌&&◌, List, [], ◌∷◌, ◌+◌, true, false, ◌==◌, Option, None, Some, slice_get}
+use Rattle.std.specs.Prelude.{◌≡◌, ◌≢◌, ◌≤◌, ◌<◌, ℕ, Bool, ◌&&◌, List, [], ◌∷◌, ◌+◌, true, false, ◌==◌, Option, None, Some, slice_get}
 use Rattle.geos_opcodes.specs.declared.opcode.Opcode.{Opcode}
 use Rattle.geos_opcodes.specs.declared.opcode.Opcode.TheVariants.{Setk, Setkw, Loop}
 use Rattle.geos_image.specs.declared.instr.Instr.{Instr}
@@ -15,6 +15,7 @@ use Rattle.geos_infer.specs.Why.{LeadsTo, AreApart, MeetAlike}
 use Rattle.geos_infer.specs.Trails.{IsTrail}
 use Rattle.geos_infer.specs.Taken as taken
 use Rattle.geos_infer.specs.Ahead.{MayPass, NonePasses}
+use Rattle.geos_infer.specs.declared.spent.Touching.{Touching}
 use Rattle.geos_infer.specs.declared.cause.BackWay.{BackWay}
 use Rattle.geos_infer.specs.declared.cause.Within.{Within}
 use Rattle.geos_infer.specs.declared.cause.LoopPair.{LoopPair}
@@ -55,6 +56,10 @@ pub record GoesRound (image : Parts) (r from to : ℕ) : Type 0 where
   pub branches : List Bool
   pub way : IsUnpaidWay image r to branches from
 
+-- whichever way control goes round in routine r, it takes a LOOP's way to its target
+abbrev pub OnlyLoopsGoRound : Parts → ℕ → Type 0
+OnlyLoopsGoRound image r = (pc next : ℕ) (branch : Bool) (branches : List Bool) → IsPcOf image r pc → LeadsUnpaid image r pc branch next → IsUnpaidWay image r next branches pc → ⊥
+
 -- the instruction is a LOOP on this counter
 abbrev pub loops_on : ℕ → Instr → Opcode → Bool
 loops_on k i Loop = i.a == k
@@ -74,6 +79,15 @@ PassesAt image pc test = (point : Point) × (slice_get image.points pc ≡ Some 
 abbrev pub NotesTouched : Parts → List (List Bool) → Type 0
 NotesTouched image table = (k r : ℕ) → noted table k r ≡ true → touches image k r ≡ true
 
+-- a table says all that routines touch, and perhaps more
+abbrev pub NotesAllTouched : Parts → List (List Bool) → Type 0
+NotesAllTouched image table = (k r : ℕ) → k < 4 → touches image k r ≡ true → noted table k r ≡ true
+
+-- what is known of the counters that routines touch is so
+pub record KnowsTouched (image : Parts) (touching : Touching) : Type 0 where
+  pub certain : NotesTouched image touching.certain
+  pub possible : NotesAllTouched image touching.possible
+
 -- the instruction calls a routine that touches this counter
 abbrev pub calls_touching : Parts → ℕ → Instr → Bool
 calls_touching image k i = calls i.opcode && touches image k i.imm
@@ -89,7 +103,7 @@ pub record LoopsTo (image : Parts) (r : ℕ) (back : BackWay) (counter : ℕ) : 
 abbrev pub ComesRound : Parts → ℕ → ℕ → ℕ → Type 0
 ComesRound image r from to = (branches : List Bool) × IsTrail image r None from branches to
 
--- behind a pc of routine r control can come to another, and nothing sets the counter on that way
+-- behind a pc of routine r control can come to another, and on that way nothing sets the counter, and no routine is called that touches it
 pub record IsKept (image : Parts) (r counter at to : ℕ) : Type 0 where
   pub behind : IsPcOf image r (at + 1)
   pub branches : List Bool
@@ -147,11 +161,12 @@ abbrev pub sets_to_word : ℕ → ℕ → Instr → Opcode → Bool
 sets_to_word k w i Setkw = (i.a == k) && (i.b == w)
 sets_to_word k w i _ = false
 
--- by rows that hold wherever control reaches in routine r, a word is so much at most at a pc
+-- by rows that hold wherever control reaches in routine r, a word is so much at most at a pc, and by none it is less
 pub record IsAtMost (image : Parts) (r pc word most : ℕ) : Type 0 where
   pub known : List (Option Row)
   pub holds : FitWhereReached image r known
   pub is : most ≡ bound (row_of (known_at known pc)) word
+  pub least : (others : List (Option Row)) → FitWhereReached image r others → most ≤ bound (row_of (known_at others pc)) word
 
 -- an instruction of routine r sets a counter to a word, which is so much at most there, for a loop
 pub record SetsByWord (image : Parts) (r : ℕ) (by_word : ByWord) : Type 0 where
@@ -189,7 +204,7 @@ Holds image r (WordUnbounded by_word) = SetsByWord image r by_word
 Holds image r (NumberHigh by_number) = SetsByNumber image r by_number
 Holds image r (GivenUp back) = LeadsBack image r back
 Holds image r StepsMayPass = MayPass image r
-Holds image r (NoSteps back) = LeadsBack image r back
+Holds image r (NoSteps back) = LeadsBack image r back × OnlyLoopsGoRound image r
 Holds image r Unknown = IsUnexplained image r
 
 -- the cause is that slots differ

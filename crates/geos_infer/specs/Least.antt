@@ -1,9 +1,12 @@
 -- The longest ways that are known, and numbers of steps that pay for each edge.
-use Rattle.std.specs.Prelude.{◌≡◌, ◌≤◌, ◌<◌, ◌+◌, ℕ, Bool, if◌then◌else◌, List, [], Option, Some, None, slice_get, slice_index_or}
+use Rattle.std.specs.Prelude.{◌≡◌, ◌≤◌, ◌+◌, ℕ, Bool, if◌then◌else◌, List, [], Option, Some, None, slice_get, slice_index, slice_index_or}
 use Rattle.geos_image.specs.Parts.{Parts}
 use Rattle.geos_image.specs.declared.point.Point.{Point}
+use Rattle.geos_infer.specs.Arcs.{arc_at, price_of, paid_by}
 use Rattle.geos_infer.specs.Code.{IsPcOf}
 use Rattle.geos_infer.specs.Count.{return_steps}
+use Rattle.geos_infer.specs.Numbers.{Numbers}
+use Rattle.geos_infer.specs.declared.arcs.Arc.{Arc}
 use Rattle.geos_infer.specs.declared.lengths.Link.{Link}
 use Rattle.geos_infer.specs.declared.lengths.Way.{Way}
 
@@ -49,3 +52,25 @@ AreEnds image r ways next = (want : ℕ → ℕ) → PayEnds image r ways want �
 -- that is looked at
 abbrev pub AreLeast : Parts → ℕ → List (List (Option Link)) → List Way → List Way → Type 0
 AreLeast image r links ways next = (want : ℕ → ℕ) → PayAll links want → PayEnds image r ways want → AtMost next want
+
+-- What is made of these
+
+-- the edge of a pc that is looked at asks no more than it costs, where units of counters pay for so much
+pub record AsksNoMore (arcs : List (List (Option Arc))) (pay : List (List ℕ)) (pc : ℕ) (branch : Bool) (link : Link) : Type 0 where
+  pub arc : Arc
+  pub read : arc_at arcs pc branch ≡ Some arc
+  pub to : link.to ≡ arc.to
+  pub costs : link.costs ≤ 1 + arc.called + price_of pay arc.to arc.counting
+  pub paid : paid_by pay pc arc.counting ≤ link.paid
+
+-- the same of each edge of routine r that is looked at
+abbrev pub AskNoMore : Parts → ℕ → List (List (Option Arc)) → List (List ℕ) → List (List (Option Link)) → Type 0
+AskNoMore image r arcs pay links = (pc : ℕ) (branch : Bool) (link : Link) → IsPcOf image r pc → link_at links pc branch ≡ Some link → AsksNoMore arcs pay pc branch link
+
+-- no edge from outside of routine r is looked at
+abbrev pub NoneOutside : Parts → ℕ → List (List (Option Link)) → Type 0
+NoneOutside image r links = (pc : ℕ) (branch : Bool) → (IsPcOf image r pc → ⊥) → link_at links pc branch ≡ None
+
+-- the numbers of routine r are the steps of these ways, and these units
+abbrev pub ArePut : Parts → ℕ → List (List ℕ) → List Way → Numbers → Type 0
+ArePut image r pay ways numbers = (pc : ℕ) → IsPcOf image r pc → (slice_index numbers.steps pc ≡ steps_at ways pc) × (slice_index_or numbers.coefficients pc [] ≡ slice_index_or pay pc [])

@@ -15,5 +15,7 @@ pub mod Turns
 pub mod Trails
 pub mod Ahead
 pub mod Arcs
+pub mod Constants
 pub mod Least
 pub mod Causes
+pub mod Ranks

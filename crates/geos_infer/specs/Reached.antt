@@ -84,6 +84,10 @@ pub record FitWhereReached (image : Parts) (r : ℕ) (known : List (Option Row))
   pub edges : (pc : ℕ) (branch : Bool) → IsReached image r pc → EdgeFits image r known pc branch
   pub there : (pc : ℕ) → IsReached image r pc → (row : Row) × (known_at known pc ≡ Some row)
 
+-- control reaches each pc of routine r where a row is known, and no rows that hold wherever control reaches say more there than that row
+abbrev pub AreAtMostAny : Parts → ℕ → List (Option Row) → Type 0
+AreAtMostAny image r least = (known : List (Option Row)) → FitWhereReached image r known → (pc : ℕ) (row : Row) → IsPcOf image r pc → known_at least pc ≡ Some row → IsReached image r pc × KnownAt known pc row
+
 -- what is known next from a pc up to another is what another table has there, and what was known before the former stays
 pub record Copies (start end : ℕ) (from known next : List (Option Row)) : Type 0 where
   pub len : length next ≡ length known

@@ -2,6 +2,7 @@
 
 ghost use Rattle.std.specs.Prelude.{◌≡◌, ◌<◌, ◌≤◌, max};
 ghost use Rattle.geos_verify.specs.Lists.{zip2};
+ghost use Rattle.geos_infer.specs.Constants.{IsAsked};
 ghost use Rattle.geos_infer.specs.Numbers.{numbers_of, zeros};
 ghost use Rattle.geos_infer.specs.Count.{asked_steps, asked_coefficients, return_steps, AsksSteps, IsFound};
 
@@ -22,7 +23,8 @@ pub(crate) fn asked_over(
 ) -> Option<Asked>
     requires above { body.now.start ≤ pc }
     requires below { pc < body.now.end }
-    ensures { AsksSteps body.now.image.now body.now.r body.now.end pc branch (numbers_of potentials.now) result }
+    ensures steps { AsksSteps body.now.image.now body.now.r body.now.end pc branch (numbers_of potentials.now) result }
+    ensures asks { IsAsked body.now.image.now body.now.r known.now (numbers_of potentials.now) pc branch result }
 {
     let edge = edge_in(body, pc, branch)?;
     let i = body.image.instr(pc);

@@ -2,7 +2,7 @@
 
 ghost use Rattle.std.specs.Prelude.{◌≡◌, ◌<◌, ◌≤◌, false, length, IfSome, IfNone, IfOk};
 ghost use Rattle.geos_infer.specs.Ahead.{OnlyAhead};
-ghost use Rattle.geos_infer.specs.Causes.{LeadsBack, NotesTouched, Holds, NoOtherHolds, tells_of_slots};
+ghost use Rattle.geos_infer.specs.Causes.{LeadsBack, KnowsTouched, Holds, NoOtherHolds, tells_of_slots};
 ghost use Rattle.geos_infer.specs.Code.{TargetAhead};
 ghost use Rattle.geos_infer.specs.Reached.{FitWhereReached};
 ghost use Rattle.geos_infer.specs.Why.{MeetAlike};
@@ -13,10 +13,12 @@ use crate::body::{Body, body_of};
 use crate::edges::edge_in;
 use crate::in_turn::find_in_turn;
 use crate::pieces::Piece;
+use crate::ranks::only_loops_go_round;
 use crate::rows::find_rows;
 use crate::search::Search;
 use crate::setting::find_dear;
-use crate::spent::find_touched;
+use crate::spent::{Touching, find_touching};
+use crate::strongest::Strongest;
 use crate::table::{Known, Potentials, Table};
 use crate::trails::Trails;
 use crate::turns::steps_pass;
@@ -24,7 +26,6 @@ use crate::units::Lack;
 use crate::unpaid::find_round;
 use crate::within::{find_set_within, find_touched_before, find_touched_within};
 use geos_image::{Image, Potential};
-use geos_verify::Touched;
 use std::alloc::{AllocError, Global};
 
 /// An edge to a target by which control goes round: one that leads back, or that of a LOOP.
@@ -109,7 +110,7 @@ pub enum Cause {
     GivenUp(BackWay),
     /// No way leads back, and on some way more steps are taken than a potential can say, if LOOPs may go either way.
     StepsMayPass,
-    /// None of these was found; a way leads back.
+    /// None of these was found; a way leads back, and control goes round only by LOOPs' ways to their targets.
     NoSteps(BackWay),
     /// None of these holds.
     Unknown,
@@ -144,25 +145,25 @@ fn find_back(body: &Body) -> Option<BackWay>
 /// Why the LOOP at a pc of a component may not pay there.
 fn cause_at(
     body: &Body,
-    touched: &Touched,
+    touching: &Touching,
     search: &Search,
     piece: &Piece,
     from: u16,
     trails: &mut Trails,
 ) -> Option<Cause>
     requires here { from < body.now.end }
-    requires touched { NotesTouched body.now.image.now touched.now }
+    requires touched { KnowsTouched body.now.image.now touching.now }
     ensures { IfSome result (Holds body.now.image.now body.now.r) }
 {
     let graph = &search.graph;
     let order = &search.splitting.order;
-    if let Some(within) = find_set_within(body, graph, order, piece, from, trails) {
+    if let Some(within) = find_set_within(body, touching, graph, order, piece, from, trails) {
         return Some(Cause::SetWithin(within));
     }
-    if let Some(within) = find_touched_within(body, touched, graph, order, piece, from, trails) {
+    if let Some(within) = find_touched_within(body, touching, graph, order, piece, from, trails) {
         return Some(Cause::TouchedWithin(within));
     }
-    match find_touched_before(body, touched, graph, order, from, trails) {
+    match find_touched_before(body, touching, graph, order, from, trails) {
         Some(before) => Some(Cause::TouchedBefore(before)),
         None => None,
     }
@@ -171,17 +172,17 @@ fn cause_at(
 /// Why no LOOP may pay in a component.
 fn cause_of_stuck(
     body: &Body,
-    touched: &Touched,
+    touching: &Touching,
     search: &Search,
     piece: &Piece,
     trails: &mut Trails,
 ) -> Option<Cause>
-    requires { NotesTouched body.now.image.now touched.now }
+    requires { KnowsTouched body.now.image.now touching.now }
     ensures { IfSome result (Holds body.now.image.now body.now.r) }
 {
     for pc in body.start..body.end {
         if search.splitting.order.has(piece, pc) {
-            if let Some(cause) = cause_at(body, touched, search, piece, pc, trails) {
+            if let Some(cause) = cause_at(body, touching, search, piece, pc, trails) {
                 return Some(cause);
             }
         }
@@ -192,27 +193,40 @@ fn cause_of_stuck(
 /// Why no numbers of steps are found, from what was in the way.
 fn cause_of_lack(
     body: &Body,
-    touched: &Touched,
+    touching: &Touching,
     known: &Known,
     search: &Search,
     lack: Lack,
     trails: &mut Trails,
+    strongest: &mut Strongest,
 ) -> Option<Cause>
-    requires touched { NotesTouched body.now.image.now touched.now }
+    requires touched { KnowsTouched body.now.image.now touching.now }
     requires rows { FitWhereReached body.now.image.now body.now.r known.now }
     ensures { IfSome result (Holds body.now.image.now body.now.r) }
 {
     match lack {
         Lack::Stuck(piece) | Lack::SetWithin(piece) => {
-            cause_of_stuck(body, touched, search, &piece, trails)
+            cause_of_stuck(body, touching, search, &piece, trails)
         }
         Lack::Passes => {
-            if let Some(pair) = find_in_turn(body, &search.graph, &search.splitting, trails) {
+            if let Some(pair) = find_in_turn(
+                body,
+                touching,
+                &search.graph,
+                &search.splitting,
+                trails,
+            ) {
                 return Some(Cause::InTurn(pair));
             }
-            find_dear(body, known, search, trails)
+            find_dear(body, touching, known, search, trails, strongest)
         }
-        Lack::InTurn => match find_in_turn(body, &search.graph, &search.splitting, trails) {
+        Lack::InTurn => match find_in_turn(
+            body,
+            touching,
+            &search.graph,
+            &search.splitting,
+            trails,
+        ) {
             Some(pair) => Some(Cause::InTurn(pair)),
             None => None,
         },
@@ -235,29 +249,38 @@ struct Tables {
     search: Search,
     potentials: Potentials,
     trails: Trails,
+    strongest: Strongest,
 }
 
 impl Tables {
     fn new(alloc: Global) -> Result<Tables, AllocError> {
         let potentials = Table::new(alloc, NOTHING)?;
         let trails = Trails::new(alloc)?;
+        let strongest = Strongest::new(alloc)?;
         let search = Search::new(alloc)?;
         Ok(Tables {
             search,
             potentials,
             trails,
+            strongest,
         })
     }
 
     /// What was in the way of the search, in an author's terms.
-    fn cause(&mut self, body: &Body, touched: &Touched, known: &Known) -> Option<Cause>
-        requires touched { NotesTouched body.now.image.now touched.now }
+    fn cause(&mut self, body: &Body, touching: &Touching, known: &Known) -> Option<Cause>
+        requires touched { KnowsTouched body.now.image.now touching.now }
         requires rows { FitWhereReached body.now.image.now body.now.r known.now }
         ensures { IfSome result (Holds body.now.image.now body.now.r) }
     {
-        match self.search.find(body, known, touched, &mut self.potentials) {
+        let Tables {
+            search,
+            potentials,
+            trails,
+            strongest,
+        } = self;
+        match search.find(body, known, &touching.certain, potentials) {
             Ok(()) => None,
-            Err(lack) => cause_of_lack(body, touched, known, &self.search, lack, &mut self.trails),
+            Err(lack) => { cause_of_lack(body, touching, known, search, lack, trails, strongest) }
         }
     }
 }
@@ -266,15 +289,15 @@ impl Tables {
 fn cause_of_search(
     alloc: Global,
     body: &Body,
-    touched: &Touched,
+    touching: &Touching,
     known: &Known,
 ) -> Result<Option<Cause>, AllocError>
-    requires touched { NotesTouched body.now.image.now touched.now }
+    requires touched { KnowsTouched body.now.image.now touching.now }
     requires rows { FitWhereReached body.now.image.now body.now.r known.now }
     ensures { IfOk result (λ cause. IfSome cause (Holds body.now.image.now body.now.r)) }
 {
     let mut tables = Tables::new(alloc)?;
-    let cause = tables.cause(body, touched, known);
+    let cause = tables.cause(body, touching, known);
     // By a call, so that the check does not go over each table where this function ends.
     drop(tables);
     Ok(cause)
@@ -285,17 +308,17 @@ fn cause_of_search(
 fn cause_of_steps(
     alloc: Global,
     body: &Body,
-    touched: &Touched,
+    touching: &Touching,
     known: &Known,
 ) -> Result<Option<Cause>, AllocError>
-    requires touched { NotesTouched body.now.image.now touched.now }
+    requires touched { KnowsTouched body.now.image.now touching.now }
     requires rows { FitWhereReached body.now.image.now body.now.r known.now }
     ensures { IfOk result (λ cause. IfSome cause (Holds body.now.image.now body.now.r)) }
 {
-    if steps_pass(alloc, body, touched)? {
+    if steps_pass(alloc, body, &touching.certain)? {
         return Ok(Some(Cause::StepsPass));
     }
-    cause_of_search(alloc, body, touched, known)
+    cause_of_search(alloc, body, touching, known)
 }
 
 /// Why nothing is found for a routine in which no way leads back, and in which slots of rows that meet differ in marks at most.
@@ -311,9 +334,23 @@ fn cause_ahead(alloc: Global, body: &Body) -> Result<Cause, AllocError>
     }
 }
 
+/// Why no numbers of steps are found in a routine in which a way leads back, where nothing else is found.
+fn cause_of_loops(alloc: Global, body: &Body, back: BackWay) -> Result<Cause, AllocError>
+    requires { LeadsBack body.now.image.now body.now.r back }
+    ensures { IfOk result (Holds body.now.image.now body.now.r) }
+{
+    if only_loops_go_round(alloc, body)? {
+        Ok(Cause::NoSteps(back))
+    } else {
+        // Else a way round would have been found before: that it would be is not proved.
+        Ok(Cause::GivenUp(back))
+    }
+}
+
 /// Why `infer` finds no rows or no numbers of steps for routine r, which it names in `NoRows`: of what may be the
 /// cause, the first that is found. What the cause says holds of that routine; where ways of control meet with slots that
-/// differ in more than marks, it is that. `AllocError` where the allocator refuses memory.
+/// differ in more than marks, it is that. `GivenUp`, `NoSteps` and `Unknown` say that no reason was found, and what is not
+/// one. `AllocError` where the allocator refuses memory.
 pub fn find_cause(alloc: Global, image: &Image, r: u16) -> Result<Cause, AllocError>
     requires { r < length image.now.routines }
     ensures holds { IfOk result (Holds image.now r) }
@@ -328,12 +365,12 @@ pub fn find_cause(alloc: Global, image: &Image, r: u16) -> Result<Cause, AllocEr
     }
     let (known, routines) = find_rows(alloc, image)?;
     if r < routines {
-        if let Some(cause) = cause_of_steps(alloc, &body, &find_touched(image), &known)? {
+        if let Some(cause) = cause_of_steps(alloc, &body, &find_touching(image), &known)? {
             return Ok(cause);
         }
     }
     match find_back(&body) {
-        Some(back) => Ok(Cause::NoSteps(back)),
+        Some(back) => cause_of_loops(alloc, &body, back),
         None => cause_ahead(alloc, &body),
     }
 }

@@ -1,7 +1,11 @@
 //! Constants: the longest ways from each place, where units of counters pay for so much.
 
-ghost use Rattle.std.specs.Prelude.{◌≡◌, ◌<◌};
-ghost use Rattle.geos_infer.specs.Least.{AreEnds, AreLeast, StayAtMost};
+ghost use Rattle.std.specs.Prelude.{◌≡◌, ◌<◌, ◌≤◌, ◌+◌, Some, true, IfOk};
+ghost use Rattle.geos_image.specs.Parts.{start_of};
+ghost use Rattle.geos_infer.specs.Count.{StaysFrom};
+ghost use Rattle.geos_infer.specs.Least.{link_at, AreEnds, AreLeast, StayAtMost, AsksNoMore, AskNoMore, NoneOutside, ArePut};
+ghost use Rattle.geos_infer.specs.Numbers.{numbers_of};
+ghost use Rattle.geos_infer.specs.declared.lengths.Link.{Link};
 
 use crate::asked::return_steps;
 use crate::body::Body;
@@ -36,8 +40,10 @@ fn link_at(
 
 /// Notes what the edges of a routine cost, and that a way from a place takes what a return does there, if anything.
 fn begin(body: &Body, graph: &Graph, splitting: &Splitting, units: &mut Units)
-    ensures { AreEnds body.now.image.now body.now.r units.old.lengths.ways units.new.lengths.ways }
+    ensures ends { AreEnds body.now.image.now body.now.r units.old.lengths.ways units.new.lengths.ways }
+    ensures outside { NoneOutside body.now.image.now body.now.r units.new.lengths.links }
 {
+    units.lengths.clear_links();
     for pc in body.start..body.end {
         let along = link_at(graph, splitting, units, pc, false);
         let branching = link_at(graph, splitting, units, pc, true);
@@ -71,7 +77,8 @@ pub(crate) fn find_constants(
     splitting: &Splitting,
     units: &mut Units,
 ) -> Result<(), Lack>
-    ensures { AreLeast body.now.image.now body.now.r units.new.lengths.links units.old.lengths.ways units.new.lengths.ways }
+    ensures least { AreLeast body.now.image.now body.now.r units.new.lengths.links units.old.lengths.ways units.new.lengths.ways }
+    ensures outside { NoneOutside body.now.image.now body.now.r units.new.lengths.links }
 {
     begin(body, graph, splitting, units);
     let all = Piece {
@@ -84,6 +91,7 @@ pub(crate) fn find_constants(
 /// Sets what a unit has to pay for at the LOOP at a pc, whose counter is 0.
 fn free_loop(graph: &Graph, units: &mut Units, pc: u16) -> Result<(), Lack>
     requires { pc < 4096 }
+    ensures { units.new.lengths ≡ units.old.lengths }
 {
     let Some(arc) = graph.arc(pc, true) else {
         return Ok(());
@@ -107,7 +115,9 @@ pub(crate) fn free_loops(
     graph: &Graph,
     splitting: &Splitting,
     units: &mut Units,
-) -> Result<(), Lack> {
+) -> Result<(), Lack>
+    ensures { units.new.lengths ≡ units.old.lengths }
+{
     for pc in body.start..body.end {
         if let Jump::Free = splitting.jumps.at(pc) {
             free_loop(graph, units, pc)?;
@@ -117,12 +127,57 @@ pub(crate) fn free_loops(
     Ok(())
 }
 
+/// Whether an edge asks no more than with other units.
+fn asks_at_most(link: &Link, other: &Link) -> bool
+    ensures { result ≡ true → (link.now.to ≡ other.now.to) × (link.now.costs ≤ other.now.costs) × (other.now.paid ≤ link.now.paid) }
+{
+    if link.to != other.to {
+        return false;
+    }
+    if other.costs < link.costs {
+        return false;
+    }
+    other.paid <= link.paid
+}
+
+/// Whether an edge that is looked at asks no more than it costs with the units as they are now.
+fn asks_no_more(graph: &Graph, units: &Units, pc: u16, branch: bool) -> bool
+    requires { pc < 4096 }
+    ensures { result ≡ true → (link : Link) → link_at units.now.lengths.links pc branch ≡ Some link
+        → AsksNoMore graph.now.arcs units.now.pay pc branch link }
+{
+    let Some(link) = units.lengths.link(pc, branch) else {
+        return true;
+    };
+    let Some(arc) = graph.arc(pc, branch) else {
+        return false;
+    };
+    asks_at_most(&link, &units.link(pc, &arc))
+}
+
+/// Whether no edge that is looked at asks more: units have grown since the LOOPs whose counter is 0 pay, and are not wanted at others.
+pub(crate) fn all_ask_no_more(body: &Body, graph: &Graph, units: &Units) -> bool
+    ensures { result ≡ true → AskNoMore body.now.image.now body.now.r graph.now.arcs units.now.pay units.now.lengths.links }
+{
+    for pc in body.start..body.end {
+        if !asks_no_more(graph, units, pc, false) || !asks_no_more(graph, units, pc, true) {
+            return false;
+        }
+    }
+    true
+}
+
 /// The potentials of a routine are what was found.
 pub(crate) fn put_potentials(
     body: &Body,
     units: &Units,
     potentials: &mut Potentials,
-) -> Result<(), Lack> {
+) -> Result<(), Lack>
+    ensures put { IfOk result (λ _. ArePut body.now.image.now body.now.r units.now.pay units.now.lengths.ways (numbers_of potentials.new)) }
+    ensures stays { StaysFrom (start_of body.now.image.now.routines (body.now.r + 1)) (numbers_of potentials.old) (numbers_of potentials.new) }
+{
+    // For what its law says.
+    potentials.lengths();
     for pc in body.start..body.end {
         let Ok(constant) = u32::try_from(units.lengths.steps(pc)) else {
             return Err(Lack::Passes);

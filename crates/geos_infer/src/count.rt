@@ -1,10 +1,12 @@
 //! How many steps are left at most, and what units of counters pay for, routine by routine.
 
-ghost use Rattle.std.specs.Prelude.{◌≡◌, ◌<◌, ◌≤◌, ◌⊎◌, ℕ, false, is_some, length, IfOk, IfErr, IfSome};
+ghost use Rattle.std.specs.Prelude.{◌≡◌, ◌<◌, ◌≤◌, ◌⊎◌, ◌+◌, ℕ, None, true, false, is_some, length, IfOk, IfErr, IfSome};
 ghost use Rattle.geos_infer.specs.declared.error.InferError.TheVariants.{NoRows};
+ghost use Rattle.geos_image.specs.Parts.{start_of};
 ghost use Rattle.geos_infer.specs.Code.{ForwardIn};
+ghost use Rattle.geos_infer.specs.Constants.{HasLoops, PayLeastIn, AreLeastFrom};
 ghost use Rattle.geos_infer.specs.Solutions.{NoStepsHoldIn};
-ghost use Rattle.geos_infer.specs.Count.{CountsOn, AreCounted};
+ghost use Rattle.geos_infer.specs.Count.{CountsOn, AreCounted, StaysFrom};
 ghost use Rattle.geos_infer.specs.Numbers.{numbers_of};
 ghost use Rattle.geos_infer.specs.Theorem.{NamesRoutine};
 
@@ -25,7 +27,8 @@ use std::alloc::{AllocError, Global};
 /// Steps of a routine are counted from its last instruction to its first; `None` where a number is
 /// past what a potential can say.
 fn sweep(body: &Body, known: &Known, potentials: &mut Potentials) -> Option<()>
-    ensures { CountsOn body.now.image.now body.now.r (numbers_of potentials.old) (numbers_of potentials.new) (is_some result) }
+    ensures counts { CountsOn body.now.image.now body.now.r (numbers_of potentials.old) (numbers_of potentials.new) (is_some result) }
+    ensures stays { StaysFrom (start_of body.now.image.now.routines (body.now.r + 1)) (numbers_of potentials.old) (numbers_of potentials.new) }
 {
     // For what its law says.
     potentials.lengths();
@@ -38,7 +41,8 @@ fn sweep(body: &Body, known: &Known, potentials: &mut Potentials) -> Option<()>
 
 /// Whether some instruction of a routine is a LOOP, or leads back.
 fn has_loops(body: &Body) -> bool
-    ensures { ForwardIn body.now.image.now body.now.r → result ≡ false }
+    ensures forward { ForwardIn body.now.image.now body.now.r → result ≡ false }
+    ensures none { result ≡ false → HasLoops body.now.image.now body.now.r → ⊥ }
 {
     for pc in body.start..body.end {
         if is_loop(body.image.instr(pc).opcode) || leads_back(body, pc) {
@@ -72,12 +76,10 @@ impl Tables {
 
 /// Counts the steps of a routine with loops; `false` where no number of them is found to be enough, or a
 /// counter is wanted behind a call that touches it.
-fn count_loops(
-    body: &Body,
-    known: &Known,
-    tables: &mut Tables,
-    potentials: &mut Potentials,
-) -> bool {
+fn count_loops(body: &Body, known: &Known, tables: &mut Tables, potentials: &mut Potentials) -> bool
+    ensures least { result ≡ true → PayLeastIn body.now.image.now body.now.r known.now (numbers_of potentials.new) }
+    ensures stays { StaysFrom (start_of body.now.image.now.routines (body.now.r + 1)) (numbers_of potentials.old) (numbers_of potentials.new) }
+{
     if has_unpaid_cycle(body, &mut tables.into, &mut tables.listed) {
         return false;
     }
@@ -98,7 +100,11 @@ fn count_in(
     made: &mut Option<Tables>,
     potentials: &mut Potentials,
 ) -> Result<bool, AllocError>
-    ensures { IfOk result (CountsOn body.now.image.now body.now.r (numbers_of potentials.old) (numbers_of potentials.new)) }
+    ensures counts { IfOk result (CountsOn body.now.image.now body.now.r (numbers_of potentials.old) (numbers_of potentials.new)) }
+    ensures least { IfOk result (λ counted. counted ≡ true → HasLoops body.now.image.now body.now.r
+        → PayLeastIn body.now.image.now body.now.r known.now (numbers_of potentials.new)) }
+    ensures stays { IfOk result (λ _. StaysFrom (start_of body.now.image.now.routines (body.now.r + 1))
+        (numbers_of potentials.old) (numbers_of potentials.new)) }
 {
     if !has_loops(body) {
         return Ok(sweep(body, known, potentials).is_some());
@@ -127,6 +133,7 @@ fn count_each(
 ) -> Result<Option<u16>, AllocError>
     requires { routines ≤ length image.now.routines }
     ensures counted { IfOk result (λ _. AreCounted image.now 0 routines (numbers_of potentials.new)) }
+    ensures least { IfOk result (λ left. left ≡ None → AreLeastFrom image.now 0 routines known.now (numbers_of potentials.new)) }
     ensures within { IfOk result (λ left. IfSome left (λ r. r < routines)) }
     ensures none { IfOk result (λ left. IfSome left (NoStepsHoldIn image.now)) }
 {
@@ -150,6 +157,7 @@ fn count_all(
 ) -> Result<Option<u16>, AllocError>
     requires { routines ≤ length image.now.routines }
     ensures counted { IfOk result (λ _. AreCounted image.now 0 routines (numbers_of potentials.new)) }
+    ensures least { IfOk result (λ left. left ≡ None → AreLeastFrom image.now 0 routines known.now (numbers_of potentials.new)) }
     ensures within { IfOk result (λ left. IfSome left (λ r. r < routines)) }
     ensures none { IfOk result (λ left. IfSome left (NoStepsHoldIn image.now)) }
 {
@@ -172,6 +180,7 @@ pub(crate) fn count(
     requires { routines ≤ length image.now.routines }
     ensures all { IfOk result (λ _. routines ≡ length image.now.routines) }
     ensures counted { IfOk result (λ potentials. AreCounted image.now 0 routines (numbers_of potentials)) }
+    ensures least { IfOk result (λ potentials. AreLeastFrom image.now 0 routines known.now (numbers_of potentials)) }
     ensures within { IfErr result (NamesRoutine image.now) }
     ensures none { IfErr result (λ error. (r : ℕ) → error ≡ NoRows r → (r ≡ routines) ⊎ NoStepsHoldIn image.now r) }
 {

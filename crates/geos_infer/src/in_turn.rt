@@ -2,7 +2,7 @@
 //! other.
 
 ghost use Rattle.std.specs.Prelude.{◌<◌, IfSome};
-ghost use Rattle.geos_infer.specs.Causes.{WaitInTurn, SetsFor};
+ghost use Rattle.geos_infer.specs.Causes.{KnowsTouched, WaitInTurn, SetsFor};
 
 use crate::body::Body;
 use crate::cause::{BackWay, LoopPair};
@@ -10,6 +10,7 @@ use crate::graph::Graph;
 use crate::jumps::Jump;
 use crate::nests::Splitting;
 use crate::pieces::Piece;
+use crate::spent::Touching;
 use crate::trails::Trails;
 use crate::within::{comes_round, kept_from, loop_at, note_set, sets_at};
 use geos_image::MOST_INSTRS;
@@ -20,6 +21,7 @@ const PAIRS: u16 = 256;
 /// The place of a piece, in the loop that a LOOP closes, where the counter of another is set and kept from there to it.
 fn set_for(
     body: &Body,
+    touching: &Touching,
     graph: &Graph,
     splitting: &Splitting,
     piece: &Piece,
@@ -31,13 +33,14 @@ fn set_for(
     requires from { back.now.from < 4096 }
     requires to { back.now.to < 4096 }
     requires other { other.now.from < 4096 }
+    requires touched { KnowsTouched body.now.image.now touching.now }
     ensures { IfSome result (SetsFor body.now.image.now body.now.r back.now other.now counter) }
 {
     note_set(body, graph, &splitting.order, piece, counter, trails);
-    let at = kept_from(body, trails, counter, other.from)?;
+    let at = kept_from(body, touching, trails, counter, other.from)?;
     if sets_at(body, counter, at)
-        && comes_round(body, graph, trails, back.to, at)
-        && comes_round(body, graph, trails, at, back.from)
+        && comes_round(body, touching, graph, trails, back.to, at)
+        && comes_round(body, touching, graph, trails, at, back.from)
     {
         Some(at)
     } else {
@@ -59,6 +62,7 @@ fn nest_of(splitting: &Splitting, pc: u16) -> Option<u16>
 /// Whether the loops of two LOOPs that pay wait on each other.
 fn find_pair(
     body: &Body,
+    touching: &Touching,
     graph: &Graph,
     splitting: &Splitting,
     one: u16,
@@ -67,6 +71,7 @@ fn find_pair(
 ) -> Option<LoopPair>
     requires first { one < body.now.end }
     requires second { two < body.now.end }
+    requires touched { KnowsTouched body.now.image.now touching.now }
     ensures { IfSome result (WaitInTurn body.now.image.now body.now.r) }
 {
     let piece = splitting.nests.at(nest_of(splitting, one)?).piece;
@@ -75,6 +80,7 @@ fn find_pair(
     let (other, other_counter) = loop_at(body, two)?;
     let at = set_for(
         body,
+        touching,
         graph,
         splitting,
         &piece,
@@ -85,6 +91,7 @@ fn find_pair(
     )?;
     let other_at = set_for(
         body,
+        touching,
         graph,
         splitting,
         &other_piece,
@@ -116,10 +123,12 @@ fn was_paid_again(splitting: &Splitting, pc: u16) -> bool
 /// Two loops that wait on each other, among those that were paid for again and again.
 pub(crate) fn find_in_turn(
     body: &Body,
+    touching: &Touching,
     graph: &Graph,
     splitting: &Splitting,
     trails: &mut Trails,
 ) -> Option<LoopPair>
+    requires { KnowsTouched body.now.image.now touching.now }
     ensures { IfSome result (WaitInTurn body.now.image.now body.now.r) }
 {
     let mut pairs: u16 = 0;
@@ -128,7 +137,9 @@ pub(crate) fn find_in_turn(
             for two in body.start..body.end {
                 if two != one && was_paid_again(splitting, two) && pairs < PAIRS {
                     pairs += 1;
-                    if let Some(found) = find_pair(body, graph, splitting, one, two, trails) {
+                    if let Some(found) = find_pair(
+                        body, touching, graph, splitting, one, two, trails,
+                    ) {
                         return Some(found);
                     }
                 }

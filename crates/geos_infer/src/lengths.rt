@@ -57,8 +57,8 @@ pub(crate) struct Lengths {
 }
 
 impl Lengths {
-    ghost use Rattle.std.specs.Prelude.{◌≡◌, ◌≤◌, ℕ, None, slice_set};
-    ghost use Rattle.geos_infer.specs.Least.{steps_at, PaysLink, AtMost, StayAtMost};
+    ghost use Rattle.std.specs.Prelude.{◌≡◌, ◌≤◌, ℕ, Bool, None, slice_set};
+    ghost use Rattle.geos_infer.specs.Least.{steps_at, link_at, PaysLink, AtMost, StayAtMost};
 
     pub(crate) fn new(alloc: Global) -> Result<Lengths, AllocError> {
         let (links, ways) = two_tables(alloc, [None, None], Way::NOTHING)?;
@@ -67,6 +67,25 @@ impl Lengths {
             ways,
             mark: 0,
         })
+    }
+
+    /// No edge is looked at.
+    pub(crate) fn clear_links(&mut self)
+        ensures links { (pc : ℕ) (branch : Bool) → link_at self.new.links pc branch ≡ None }
+        ensures ways { self.new.ways ≡ self.old.ways }
+    {
+        self.links.fill_from(0, [None, None]);
+        // For what its law says.
+        self.links.lengths();
+    }
+
+    /// The edge of a place that is looked at, to its target where `branch` says so.
+    pub(crate) fn link(&self, pc: u16, branch: bool) -> Option<Link>
+        requires { pc < 4096 }
+        ensures { result ≡ link_at self.now.links pc branch }
+    {
+        let [along, branching] = self.links.get(pc);
+        if branch { *branching } else { *along }
     }
 
     /// The edges from a place that are looked at.
@@ -113,8 +132,7 @@ impl Lengths {
         requires { pc < 4096 }
     {
         let branch = self.ways.get(pc).first?;
-        let [along, branching] = self.links.get(pc);
-        if branch { *branching } else { *along }
+        self.link(pc, branch)
     }
 
     /// How many steps a way takes that begins with an edge; 0 where there is none.

@@ -1,8 +1,14 @@
 //! The search for potentials of a routine with loops.
 
+ghost use Rattle.std.specs.Prelude.{◌+◌, IfOk};
+ghost use Rattle.geos_image.specs.Parts.{start_of};
+ghost use Rattle.geos_infer.specs.Constants.{AreLeastIn};
+ghost use Rattle.geos_infer.specs.Count.{StaysFrom};
+ghost use Rattle.geos_infer.specs.Numbers.{numbers_of};
+
 use crate::body::Body;
 use crate::classes::Classes;
-use crate::constants::{find_constants, free_loops, put_potentials};
+use crate::constants::{all_ask_no_more, find_constants, free_loops, put_potentials};
 use crate::graph::Graph;
 use crate::nests::Splitting;
 use crate::table::{Known, Potentials};
@@ -33,14 +39,17 @@ impl Search {
         })
     }
 
-    /// Finds potentials of a routine, or what is in the way.
+    /// Finds potentials of a routine, or what is in the way. The constants are the least that pay with the coefficients.
     pub(crate) fn find(
         &mut self,
         body: &Body,
         known: &Known,
         touched: &Touched,
         potentials: &mut Potentials,
-    ) -> Result<(), Lack> {
+    ) -> Result<(), Lack>
+        ensures least { IfOk result (λ _. AreLeastIn body.now.image.now body.now.r known.now (numbers_of potentials.new)) }
+        ensures stays { StaysFrom (start_of body.now.image.now.routines (body.now.r + 1)) (numbers_of potentials.old) (numbers_of potentials.new) }
+    {
         self.graph.note(body, known, touched);
         self.classes.note(body, &self.graph);
         match self.splitting.find(body, &self.graph, &mut self.classes) {
@@ -51,6 +60,10 @@ impl Search {
             .pay_all(body.start, &self.graph, &mut self.splitting)?;
         find_constants(body, &self.graph, &self.splitting, &mut self.units)?;
         free_loops(body, &self.graph, &self.splitting, &mut self.units)?;
-        put_potentials(body, &self.units, potentials)
+        if !all_ask_no_more(body, &self.graph, &self.units) {
+            return Err(Lack::InTurn);
+        }
+        put_potentials(body, &self.units, potentials)?;
+        Ok(())
     }
 }

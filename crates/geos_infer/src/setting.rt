@@ -1,7 +1,7 @@
 //! Counters that are set for loops at a price past what a potential can say.
 
 ghost use Rattle.std.specs.Prelude.{◌≡◌, ◌<◌, ◌≤◌, true, IfSome};
-ghost use Rattle.geos_infer.specs.Causes.{LoopsTo, IsKept, PaysForLoop, Holds};
+ghost use Rattle.geos_infer.specs.Causes.{KnowsTouched, LoopsTo, IsKept, PaysForLoop, IsAtMost, Holds};
 ghost use Rattle.geos_infer.specs.Reached.{FitWhereReached};
 
 use crate::body::Body;
@@ -12,23 +12,33 @@ use crate::graph::Graph;
 use crate::jumps::Jump;
 use crate::nests::Splitting;
 use crate::search::Search;
+use crate::spent::Touching;
+use crate::strongest::Strongest;
 use crate::table::Known;
 use crate::trails::Trails;
 use crate::within::{comes_round, is_kept, loop_at};
 use geos_image::Opcode;
 
 /// The LOOP at a pc, if it takes from the counter, and the counter is kept up to it from behind a place from where control goes on.
-fn kept_at(body: &Body, trails: &Trails, counter: u8, at: u16, from: u16) -> Option<BackWay>
+fn kept_at(
+    body: &Body,
+    touching: &Touching,
+    trails: &Trails,
+    counter: u8,
+    at: u16,
+    from: u16,
+) -> Option<BackWay>
     requires above { body.now.start ≤ at }
     requires below { at < body.now.end }
     requires from { from < body.now.end }
+    requires touched { KnowsTouched body.now.image.now touching.now }
     ensures loops { IfSome result (λ back. LoopsTo body.now.image.now body.now.r back counter) }
     ensures kept { IfSome result (λ back. IsKept body.now.image.now body.now.r counter at back.from) }
     ensures begins { IfSome result (λ back. back.from < 4096) }
     ensures ends { IfSome result (λ back. back.to < 4096) }
 {
     let (back, other) = loop_at(body, from)?;
-    if other == counter && is_kept(body, trails, counter, at, from) {
+    if other == counter && is_kept(body, touching, trails, counter, at, from) {
         Some(back)
     } else {
         None
@@ -38,6 +48,7 @@ fn kept_at(body: &Body, trails: &Trails, counter: u8, at: u16, from: u16) -> Opt
 /// The first LOOP that pays in a nest, and up to which a counter is kept from behind a place.
 fn find_kept(
     body: &Body,
+    touching: &Touching,
     graph: &Graph,
     splitting: &Splitting,
     counter: u8,
@@ -46,6 +57,7 @@ fn find_kept(
 ) -> Option<BackWay>
     requires above { body.now.start ≤ at }
     requires below { at < body.now.end }
+    requires touched { KnowsTouched body.now.image.now touching.now }
     ensures loops { IfSome result (λ back. LoopsTo body.now.image.now body.now.r back counter) }
     ensures kept { IfSome result (λ back. IsKept body.now.image.now body.now.r counter at back.from) }
     ensures begins { IfSome result (λ back. back.from < 4096) }
@@ -57,7 +69,7 @@ fn find_kept(
     trails.go(graph, Some(counter));
     for from in body.start..body.end {
         if let Jump::Pays(_) = splitting.jumps.at(from) {
-            if let Some(back) = kept_at(body, trails, counter, at, from) {
+            if let Some(back) = kept_at(body, touching, trails, counter, at, from) {
                 return Some(back);
             }
         }
@@ -68,6 +80,7 @@ fn find_kept(
 /// Whether a counter is kept from behind a place to a LOOP that takes from it, by which control goes round.
 fn pays_for_loop(
     body: &Body,
+    touching: &Touching,
     graph: &Graph,
     splitting: &Splitting,
     counter: u8,
@@ -76,10 +89,11 @@ fn pays_for_loop(
 ) -> bool
     requires above { body.now.start ≤ at }
     requires below { at < body.now.end }
+    requires touched { KnowsTouched body.now.image.now touching.now }
     ensures { result ≡ true → PaysForLoop body.now.image.now body.now.r counter at }
 {
-    match find_kept(body, graph, splitting, counter, at, trails) {
-        Some(back) => comes_round(body, graph, trails, back.to, back.from),
+    match find_kept(body, touching, graph, splitting, counter, at, trails) {
+        Some(back) => comes_round(body, touching, graph, trails, back.to, back.from),
         None => false,
     }
 }
@@ -113,8 +127,32 @@ fn find_dearest(body: &Body, search: &Search) -> Option<u16>
     dearest
 }
 
+/// How much a word is at a place at most by the rows that are known, if no rows that hold are found to say less.
+fn most_at(body: &Body, known: &Known, strongest: &mut Strongest, word: u8, at: u16) -> Option<u16>
+    requires above { body.now.start ≤ at }
+    requires below { at < body.now.end }
+    requires word { word < 8 }
+    requires rows { FitWhereReached body.now.image.now body.now.r known.now }
+    ensures { IfSome result (IsAtMost body.now.image.now body.now.r at word) }
+{
+    strongest.find(body);
+    let row = strongest.at(at)?;
+    let most = bound_of(&row_of(&known.at(at)), word);
+    if bound_of(&row, word) == most {
+        Some(most)
+    } else {
+        None
+    }
+}
+
 /// How the instruction at a pc sets a counter, which pays for a loop.
-fn setting_at(body: &Body, known: &Known, counter: u8, at: u16) -> Option<Cause>
+fn setting_at(
+    body: &Body,
+    known: &Known,
+    strongest: &mut Strongest,
+    counter: u8,
+    at: u16,
+) -> Option<Cause>
     requires above { body.now.start ≤ at }
     requires below { at < body.now.end }
     requires rows { FitWhereReached body.now.image.now body.now.r known.now }
@@ -123,12 +161,15 @@ fn setting_at(body: &Body, known: &Known, counter: u8, at: u16) -> Option<Cause>
 {
     let i = body.image.instr(at);
     match i.opcode {
-        Opcode::Setkw if i.a == counter => Some(Cause::WordUnbounded(ByWord {
-            at,
-            counter,
-            word: i.b,
-            most: bound_of(&row_of(&known.at(at)), i.b),
-        })),
+        Opcode::Setkw if i.a == counter => {
+            let most = most_at(body, known, strongest, i.b, at)?;
+            Some(Cause::WordUnbounded(ByWord {
+                at,
+                counter,
+                word: i.b,
+                most,
+            }))
+        }
         Opcode::Setk if i.a == counter => Some(Cause::NumberHigh(ByNumber {
             at,
             counter,
@@ -141,19 +182,25 @@ fn setting_at(body: &Body, known: &Known, counter: u8, at: u16) -> Option<Cause>
 /// How a counter is set for a loop at the greatest price.
 pub(crate) fn find_dear(
     body: &Body,
+    touching: &Touching,
     known: &Known,
     search: &Search,
     trails: &mut Trails,
+    strongest: &mut Strongest,
 ) -> Option<Cause>
-    requires { FitWhereReached body.now.image.now body.now.r known.now }
+    requires touched { KnowsTouched body.now.image.now touching.now }
+    requires rows { FitWhereReached body.now.image.now body.now.r known.now }
     ensures { IfSome result (Holds body.now.image.now body.now.r) }
 {
     let at = find_dearest(body, search)?;
     let counter = body.image.instr(at).a;
-    if body.start <= at
-        && pays_for_loop(body, &search.graph, &search.splitting, counter, at, trails)
-    {
-        setting_at(body, known, counter, at)
+    let Search {
+        graph,
+        splitting,
+        ..
+    } = search;
+    if body.start <= at && pays_for_loop(body, touching, graph, splitting, counter, at, trails) {
+        setting_at(body, known, strongest, counter, at)
     } else {
         None
     }

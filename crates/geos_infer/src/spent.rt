@@ -1,10 +1,10 @@
 //! Behind a call nothing is known of the counters that the routine touches, so that no coefficient
 //! may be left on them.
 
-ghost use Rattle.std.specs.Prelude.{◌≡◌};
+ghost use Rattle.std.specs.Prelude.{◌≡◌, ◌<◌};
 ghost use Rattle.geos_verify.specs.Touched.{noted};
 ghost use Rattle.geos_infer.specs.Arcs.{touched_by};
-ghost use Rattle.geos_infer.specs.Causes.{NotesTouched};
+ghost use Rattle.geos_infer.specs.Causes.{NotesTouched, NotesAllTouched, KnowsTouched};
 
 use crate::body::Body;
 use crate::table::Potentials;
@@ -20,6 +20,37 @@ pub(crate) fn find_touched(image: &Image) -> Touched
         table[usize::from(r)] = touched_in(image, r, &table);
     }
     table
+}
+
+/// Which counters each routine may touch: those that the table says, or all, where it says too little, since a routine calls one
+/// behind it.
+fn may_touch(image: &Image, table: &Touched) -> Touched
+    ensures { NotesAllTouched image.now result }
+{
+    for r in 0..image.count() {
+        if touched_in(image, r, table) != table[usize::from(r)] {
+            return [[true; 4]; 32];
+        }
+    }
+    *table
+}
+
+/// Which counters routines touch.
+#[derive(Clone, Copy)]
+pub(crate) struct Touching {
+    /// They do touch these.
+    pub(crate) certain: Touched,
+    /// They touch no others.
+    pub(crate) possible: Touched,
+}
+
+/// Which counters the routines of an image touch.
+pub(crate) fn find_touching(image: &Image) -> Touching
+    ensures { KnowsTouched image.now result }
+{
+    let certain = find_touched(image);
+    let possible = may_touch(image, &certain);
+    Touching { certain, possible }
 }
 
 /// Which counters a routine touches, as the table says it.

@@ -1,14 +1,18 @@
 //! Ways of control within a routine: noted by an edge into each place, and followed back.
 
 ghost use Rattle.std.specs.Prelude.{◌≡◌, ◌<◌, true, List, Bool, Option, IfSome};
+ghost use Rattle.geos_image.specs.Parts.{Parts};
+ghost use Rattle.geos_infer.specs.Causes.{KnowsTouched, NotesAllTouched};
 ghost use Rattle.geos_infer.specs.Trails.{LeadsKeeping, IsTrail, keeps};
 
 use crate::body::Body;
 use crate::edges::edge_in;
 use crate::graph::Graph;
 use crate::pile::Pile;
+use crate::spent::{Touching, touches};
 use crate::table::{Table, two_tables};
 use geos_image::{Instr, MOST_INSTRS, Opcode};
+use geos_verify::Touched;
 use std::alloc::{AllocError, Global};
 
 /// An edge by which control comes to a place.
@@ -29,26 +33,34 @@ pub(crate) struct Trails {
     waits: Pile,
 }
 
-/// Whether an edge of the instruction leaves the counter as it is, if one is asked for, but for what a call does to it.
-fn keeps(counter: Option<u8>, i: &Instr, branch: bool) -> bool
-    ensures { result ≡ keeps counter i.now i.now.opcode branch }
+/// Whether an edge of the instruction leaves the counter as it is, if one is asked for, where routines touch these counters at most.
+fn keeps(possible: &Touched, counter: Option<u8>, i: &Instr, branch: bool) -> bool
+    ensures { (image : Parts) → NotesAllTouched image possible.now → result ≡ true → keeps image counter i.now i.now.opcode branch ≡ true }
 {
     match counter {
         None => true,
         Some(counter) => match i.opcode {
             Opcode::Setk | Opcode::Setkw => i.a != counter,
             Opcode::Loop => branch || i.a != counter,
+            Opcode::Call => counter < 4 && !touches(possible, i.imm, counter),
             _ => true,
         },
     }
 }
 
 /// Where an edge leads, if the instruction has it, it stays in the routine, and it keeps the counter.
-fn lead_keeping(body: &Body, counter: Option<u8>, pc: u16, branch: bool) -> Option<u16>
-    requires { pc < body.now.end }
+fn lead_keeping(
+    body: &Body,
+    touching: &Touching,
+    counter: Option<u8>,
+    pc: u16,
+    branch: bool,
+) -> Option<u16>
+    requires here { pc < body.now.end }
+    requires touched { KnowsTouched body.now.image.now touching.now }
     ensures { IfSome result (LeadsKeeping body.now.image.now body.now.r counter pc branch) }
 {
-    if !keeps(counter, body.image.instr(pc), branch) {
+    if !keeps(&touching.possible, counter, body.image.instr(pc), branch) {
         return None;
     }
     match edge_in(body, pc, branch) {
@@ -58,13 +70,14 @@ fn lead_keeping(body: &Body, counter: Option<u8>, pc: u16, branch: bool) -> Opti
 }
 
 /// Whether an edge that keeps the counter leads to a place.
-fn came_to(body: &Body, counter: Option<u8>, came: Came, to: u16) -> bool
+fn came_to(body: &Body, touching: &Touching, counter: Option<u8>, came: Came, to: u16) -> bool
+    requires { KnowsTouched body.now.image.now touching.now }
     ensures { result ≡ true → LeadsKeeping body.now.image.now body.now.r counter came.from came.branch to }
 {
     if body.end <= came.from {
         return false;
     }
-    match lead_keeping(body, counter, came.from, came.branch) {
+    match lead_keeping(body, touching, counter, came.from, came.branch) {
         Some(there) => there == to,
         None => false,
     }
@@ -152,8 +165,16 @@ impl Trails {
     }
 
     /// Whether the edges that are noted lead from one place to another, and each keeps the counter.
-    pub(crate) fn lead(&self, body: &Body, counter: Option<u8>, from: u16, to: u16) -> bool
-        requires { to < 4096 }
+    pub(crate) fn lead(
+        &self,
+        body: &Body,
+        touching: &Touching,
+        counter: Option<u8>,
+        from: u16,
+        to: u16,
+    ) -> bool
+        requires inside { to < 4096 }
+        requires touched { KnowsTouched body.now.image.now touching.now }
         ensures { result ≡ true → (branches : List Bool) × IsTrail body.now.image.now body.now.r counter from branches to }
     {
         let mut at = to;
@@ -164,7 +185,7 @@ impl Trails {
             let Some(edge) = self.came.at(at) else {
                 return false;
             };
-            if !came_to(body, counter, edge, at) {
+            if !came_to(body, touching, counter, edge, at) {
                 return false;
             }
             at = edge.from;

@@ -82,12 +82,15 @@ impl Units {
     /// The units at a place are at least these.
     pub(crate) fn raise(&mut self, pc: u16, units: &[u32; 4])
         requires { pc < 4096 }
+        ensures { self.new.lengths ≡ self.old.lengths }
     {
         raise(&mut self.pay, &mut self.waits, pc, units);
     }
 
     /// Units that have grown at the places that wait are there where they are asked for.
-    pub(crate) fn carry_all(&mut self, graph: &Graph) {
+    pub(crate) fn carry_all(&mut self, graph: &Graph)
+        ensures { self.new.lengths ≡ self.old.lengths }
+    {
         go_back(graph, &mut self.pay, &mut self.waits);
     }
 

@@ -1,6 +1,6 @@
 //! Ways round that no counter pays for.
 
-ghost use Rattle.std.specs.Prelude.{◌≡◌, ◌<◌, true, List, Bool, IfSome, IfOk};
+ghost use Rattle.std.specs.Prelude.{◌≡◌, ◌<◌, ℕ, true, Some, List, Bool, IfSome, IfOk};
 ghost use Rattle.geos_infer.specs.Causes.{LeadsUnpaid, IsUnpaidWay, GoesRound};
 
 use crate::body::Body;
@@ -38,6 +38,7 @@ impl WaysIn {
 pub(crate) fn lead_unpaid(body: &Body, pc: u16, branch: bool) -> Option<u16>
     requires { pc < body.now.end }
     ensures leads { IfSome result (LeadsUnpaid body.now.image.now body.now.r pc branch) }
+    ensures all { (to : ℕ) → LeadsUnpaid body.now.image.now body.now.r pc branch to → result ≡ Some to }
     ensures inside { IfSome result (λ to. to < 4096) }
 {
     if branch && is_loop(body.image.instr(pc).opcode) {

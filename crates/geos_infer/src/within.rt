@@ -1,7 +1,7 @@
 //! Counters that are set, or that a call touches, where their own loops go round.
 
 ghost use Rattle.std.specs.Prelude.{◌≡◌, ◌<◌, ◌≤◌, true, List, Bool, None, IfSome};
-ghost use Rattle.geos_infer.specs.Causes.{NotesTouched, LoopsTo, IsKept, SetsWithin, TouchesWithin, TouchesBefore, PassesAt, sets_counter, calls_touching};
+ghost use Rattle.geos_infer.specs.Causes.{KnowsTouched, LoopsTo, IsKept, SetsWithin, TouchesWithin, TouchesBefore, PassesAt, sets_counter, calls_touching};
 ghost use Rattle.geos_infer.specs.Code.{IsPcOf};
 ghost use Rattle.geos_infer.specs.Trails.{IsTrail};
 
@@ -10,10 +10,9 @@ use crate::cause::{BackWay, Within};
 use crate::edges::{edge_in, is_loop};
 use crate::graph::Graph;
 use crate::pieces::{Order, Piece};
-use crate::spent::touches;
+use crate::spent::{Touching, touches};
 use crate::trails::{Came, Trails};
 use geos_image::{Instr, Opcode};
-use geos_verify::Touched;
 
 /// The way of the LOOP at a pc to its target, and its counter.
 pub(crate) fn loop_at(body: &Body, from: u16) -> Option<(BackWay, u8)>
@@ -52,14 +51,14 @@ pub(crate) fn sets_at(body: &Body, counter: u8, pc: u16) -> bool
 }
 
 /// Whether the instruction at a pc calls a routine that touches the counter.
-fn calls_touching(body: &Body, touched: &Touched, counter: u8, pc: u16) -> bool
+fn calls_touching(body: &Body, touching: &Touching, counter: u8, pc: u16) -> bool
     requires here { pc < body.now.end }
-    requires touched { NotesTouched body.now.image.now touched.now }
+    requires touched { KnowsTouched body.now.image.now touching.now }
     ensures { result ≡ true → PassesAt body.now.image.now pc (calls_touching body.now.image.now counter) }
 {
     let i = body.image.instr(pc);
     match i.opcode {
-        Opcode::Call => touches(touched, i.imm, counter),
+        Opcode::Call => touches(&touching.certain, i.imm, counter),
         _ => false,
     }
 }
@@ -67,6 +66,7 @@ fn calls_touching(body: &Body, touched: &Touched, counter: u8, pc: u16) -> bool
 /// Whether control can come from one place to another.
 pub(crate) fn comes_round(
     body: &Body,
+    touching: &Touching,
     graph: &Graph,
     trails: &mut Trails,
     from: u16,
@@ -74,33 +74,49 @@ pub(crate) fn comes_round(
 ) -> bool
     requires first { from < 4096 }
     requires second { to < 4096 }
+    requires touched { KnowsTouched body.now.image.now touching.now }
     ensures { result ≡ true → (branches : List Bool) × IsTrail body.now.image.now body.now.r None from branches to }
 {
     trails.clear(body);
     trails.note(from, None);
     trails.go(graph, None);
-    trails.lead(body, None, from, to)
+    trails.lead(body, touching, None, from, to)
 }
 
 /// Whether the counter is kept behind a place on the way to another that is noted.
-pub(crate) fn is_kept(body: &Body, trails: &Trails, counter: u8, at: u16, to: u16) -> bool
+pub(crate) fn is_kept(
+    body: &Body,
+    touching: &Touching,
+    trails: &Trails,
+    counter: u8,
+    at: u16,
+    to: u16,
+) -> bool
     requires above { body.now.start ≤ at }
     requires below { at < body.now.end }
     requires inside { to < 4096 }
+    requires touched { KnowsTouched body.now.image.now touching.now }
     ensures { result ≡ true → IsKept body.now.image.now body.now.r counter at to }
 {
-    at + 1 < body.end && trails.lead(body, Some(counter), at + 1, to)
+    at + 1 < body.end && trails.lead(body, touching, Some(counter), at + 1, to)
 }
 
 /// A place that the way to another comes from that is noted, on which the counter is kept behind that place.
-pub(crate) fn kept_from(body: &Body, trails: &Trails, counter: u8, to: u16) -> Option<u16>
-    requires { to < 4096 }
+pub(crate) fn kept_from(
+    body: &Body,
+    touching: &Touching,
+    trails: &Trails,
+    counter: u8,
+    to: u16,
+) -> Option<u16>
+    requires here { to < 4096 }
+    requires touched { KnowsTouched body.now.image.now touching.now }
     ensures inside { IfSome result (λ at. at < body.now.end) }
     ensures within { IfSome result (λ at. IsPcOf body.now.image.now body.now.r at) }
     ensures kept { IfSome result (λ at. IsKept body.now.image.now body.now.r counter at to) }
 {
     let at = trails.origin(body, to)?;
-    if body.start <= at && is_kept(body, trails, counter, at, to) {
+    if body.start <= at && is_kept(body, touching, trails, counter, at, to) {
         Some(at)
     } else {
         None
@@ -168,19 +184,21 @@ fn note_touched(
 /// A place of a piece where the counter of a LOOP is set, and kept from there to the LOOP, and control comes from the LOOP's target.
 pub(crate) fn find_set_within(
     body: &Body,
+    touching: &Touching,
     graph: &Graph,
     order: &Order,
     piece: &Piece,
     from: u16,
     trails: &mut Trails,
 ) -> Option<Within>
-    requires { from < body.now.end }
+    requires here { from < body.now.end }
+    requires touched { KnowsTouched body.now.image.now touching.now }
     ensures { IfSome result (SetsWithin body.now.image.now body.now.r) }
 {
     let (back, counter) = loop_at(body, from)?;
     note_set(body, graph, order, piece, counter, trails);
-    let at = kept_from(body, trails, counter, from)?;
-    if sets_at(body, counter, at) && comes_round(body, graph, trails, back.to, at) {
+    let at = kept_from(body, touching, trails, counter, from)?;
+    if sets_at(body, counter, at) && comes_round(body, touching, graph, trails, back.to, at) {
         Some(Within { back, counter, at })
     } else {
         None
@@ -191,7 +209,7 @@ pub(crate) fn find_set_within(
 /// target.
 pub(crate) fn find_touched_within(
     body: &Body,
-    touched: &Touched,
+    touching: &Touching,
     graph: &Graph,
     order: &Order,
     piece: &Piece,
@@ -199,13 +217,15 @@ pub(crate) fn find_touched_within(
     trails: &mut Trails,
 ) -> Option<Within>
     requires here { from < body.now.end }
-    requires touched { NotesTouched body.now.image.now touched.now }
+    requires touched { KnowsTouched body.now.image.now touching.now }
     ensures { IfSome result (TouchesWithin body.now.image.now body.now.r) }
 {
     let (back, counter) = loop_at(body, from)?;
     note_touched(body, graph, order, Some(*piece), counter, trails);
-    let at = kept_from(body, trails, counter, from)?;
-    if calls_touching(body, touched, counter, at) && comes_round(body, graph, trails, back.to, at) {
+    let at = kept_from(body, touching, trails, counter, from)?;
+    if calls_touching(body, touching, counter, at)
+        && comes_round(body, touching, graph, trails, back.to, at)
+    {
         Some(Within { back, counter, at })
     } else {
         None
@@ -215,21 +235,21 @@ pub(crate) fn find_touched_within(
 /// A call that touches the counter of a LOOP by which control goes round, and it is not set from there to the LOOP.
 pub(crate) fn find_touched_before(
     body: &Body,
-    touched: &Touched,
+    touching: &Touching,
     graph: &Graph,
     order: &Order,
     from: u16,
     trails: &mut Trails,
 ) -> Option<Within>
     requires here { from < body.now.end }
-    requires touched { NotesTouched body.now.image.now touched.now }
+    requires touched { KnowsTouched body.now.image.now touching.now }
     ensures { IfSome result (TouchesBefore body.now.image.now body.now.r) }
 {
     let (back, counter) = loop_at(body, from)?;
     note_touched(body, graph, order, None, counter, trails);
-    let at = kept_from(body, trails, counter, from)?;
-    if calls_touching(body, touched, counter, at)
-        && comes_round(body, graph, trails, back.to, from)
+    let at = kept_from(body, touching, trails, counter, from)?;
+    if calls_touching(body, touching, counter, at)
+        && comes_round(body, touching, graph, trails, back.to, from)
     {
         Some(Within { back, counter, at })
     } else {

@@ -11,3 +11,6 @@ returns-in-Some-clause-none c = λ r e.
 
 pub returns-in-None-clause-none : goal.returns-in-None-clause-none
 returns-in-None-clause-none c = λ r e. (let same : c.args.routines ≡ r = cc in inl (sym same))
+
+pub returns-in-None-2-clause-least : goal.returns-in-None-2-clause-least
+returns-in-None-2-clause-least c = c.in_ok-left.ensures.least c.in-None-2.is

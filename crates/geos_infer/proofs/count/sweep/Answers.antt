@@ -13,16 +13,16 @@ loop-pc-init c =
     let body = c.args.body.now in
     (omega (arith, body.some), stays-refl body.end (numbers_of c.args.potentials.now), λ want forward holds. counts-begin body.image.now body.end want (numbers_of c.args.potentials.now) body.short (length-map c.args.potentials.now steps_of ∙ c.lengths.ensures) (length-map c.args.potentials.now coefficients_of ∙ c.lengths.ensures))
 
-pub returns : goal.returns
-returns c = λ want forward holds.
+pub returns-clause-counts : goal.returns-clause-counts
+returns-clause-counts c = λ want forward holds.
     let body = c.args.body.now in
     let image = body.image.now in
     let at : c.loop-pc.pc ≡ body.start = omega (arith, c.loop-pc-test.false, c.loop-pc.invariant.0) in
     let C = subst (λ (n : ℕ). Counted image body.end want (numbers_of c.loop-pc.potentials) n) (at ∙ body.begins) (c.loop-pc.invariant.2 want forward holds) in
     (refl, subst (λ (n : ℕ). Counted image n want (numbers_of c.loop-pc.potentials) (start_of image.routines body.r)) body.ends C, subst (λ (n : ℕ). StaysFrom n (numbers_of c.args.potentials.now) (numbers_of c.loop-pc.potentials)) body.ends c.loop-pc.invariant.1)
 
-pub returns-in_err-next : goal.returns-in_err-next
-returns-in_err-next c = λ want forward holds.
+pub returns-in_err-next-clause-counts : goal.returns-in_err-next-clause-counts
+returns-in_err-next-clause-counts c = λ want forward holds.
     let body = c.args.body.now in
     let one_more : c.loop-pc.pc ≡ c.loop-pc.pc - 1 + 1 = omega (arith, c.loop-pc-test.true) in
     let C = c.loop-pc.invariant.2 want forward holds in
@@ -44,3 +44,9 @@ loop-pc-preserved c =
           let none = subst (λ (n : ℕ). ZerosFrom body.image.now body.end n (numbers_of c.loop-pc.potentials).coefficients) one_more C.zero in
           rw (c.set.ensures, set) (counted-more body.image.now body.r forward want holds (numbers_of c.loop-pc.potentials) body.end (c.loop-pc.pc - 1) c.loop-pc.pc next body.ends body.room within one_more (c.in_ok-next.ensures forward none) C),
     )
+
+pub returns-clause-stays : goal.returns-clause-stays
+returns-clause-stays c = (let body = c.args.body.now in subst (λ (n : ℕ). StaysFrom n (numbers_of c.args.potentials.now) (numbers_of c.loop-pc.potentials)) body.ends c.loop-pc.invariant.1)
+
+pub returns-in_err-next-clause-stays : goal.returns-in_err-next-clause-stays
+returns-in_err-next-clause-stays c = (let body = c.args.body.now in subst (λ (n : ℕ). StaysFrom n (numbers_of c.args.potentials.now) (numbers_of c.loop-pc.potentials)) body.ends c.loop-pc.invariant.1)

@@ -1,6 +1,6 @@
-use Rattle.std.proofs.Common.{◌≡◌, ◌≤◌, ℕ, true, false, [], List, Option, None, get_or, sym, ap, ◌∙◌, subst, arith}
+use Rattle.std.proofs.Common.{◌≡◌, ◌≤◌, true, false, [], List, Option, None, get_or, sym, ap, ◌∙◌, subst, arith}
 use Rattle.std.proofs.lemmas.List.{get_or_default}
-use Rattle.geos_infer.specs.Least.{AtMost, PaysLink, link_at}
+use Rattle.geos_infer.specs.Least.{PaysLink, link_at}
 use Rattle.geos_infer.specs.declared.lengths.Link.{Link}
 use Rattle.geos_infer.proofs.Costs.{at_most-set}
 use Rattle.geos_infer.proofs.lengths.Lengths.lengthen.Goals as goal

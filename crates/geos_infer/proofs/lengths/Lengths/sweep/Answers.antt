@@ -1,4 +1,4 @@
-use Rattle.std.proofs.Common.{ℕ, List, Option, sym, ◌∙◌, subst}
+use Rattle.std.proofs.Common.{List, Option, sym, ◌∙◌, subst}
 use Rattle.geos_infer.specs.Least.{PayAll}
 use Rattle.geos_infer.specs.declared.lengths.Link.{Link}
 use Rattle.geos_infer.proofs.lengths.Lengths.sweep.Goals as goal
