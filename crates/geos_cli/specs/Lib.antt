@@ -5,3 +5,4 @@ pub mod Forms
 pub mod InForm
 pub mod Script
 pub mod Session
+pub mod Traced
