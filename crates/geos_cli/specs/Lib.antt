@@ -6,3 +6,4 @@ pub mod InForm
 pub mod Script
 pub mod Session
 pub mod Stages
+pub mod Traced

@@ -14,6 +14,7 @@
 //! | bytes | `put_bytes`, `get_bytes`: write and read a chunk or an item |
 //! | form | `Form`: how an output is written, and its text |
 //! | in_form | `run_script_in_form`, `run_call_in_form`: the same, printed in a form |
+//! | traced | `trace_call`: one call, of whose steps notes are taken |
 #![tactic(auto)]
 
 mod asked;
@@ -28,6 +29,7 @@ mod lines;
 mod output;
 mod script;
 mod session;
+mod traced;
 
 pub use crate::bytes::{Place, get_bytes, put_bytes};
 pub use crate::call::run_call;
@@ -37,4 +39,5 @@ pub use crate::in_form::{run_call_in_form, run_script_in_form};
 pub use crate::law::other_calls_keep;
 pub use crate::script::{RefusedCommand, run_script, run_script_strictly};
 pub use crate::session::run_session;
+pub use crate::traced::{TraceFault, TracedCall, trace_call};
 pub use geos_input::{Counted, MOST_BYTES, ScriptFault};

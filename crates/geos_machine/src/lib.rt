@@ -12,6 +12,9 @@ mod lent;
 mod machine;
 mod outcome;
 mod step;
+mod trace;
+mod traced;
 
 pub use machine::{Machine, admits, admits_words};
 pub use outcome::Outcome;
+pub use trace::{Left, Noted, Trace};

@@ -1,0 +1,144 @@
+//! One call, of whose steps notes are taken.
+
+ghost use Rattle.std.specs.Prelude.{◌≡◌, ◌↔◌, [], true, option_map, IfOk, IfErr};
+ghost use Rattle.geos_calls.specs.VmFile.{VmFile};
+ghost use Rattle.vm_file.specs.State.{Steadily};
+ghost use Rattle.vm_blocks.specs.Listed.{NoneLocked};
+ghost use Rattle.geos_kernel.specs.Files.{vm_file_of};
+ghost use Rattle.geos_kernel.specs.View.{IsFileOf, SeesDevice};
+ghost use Rattle.geos_machine.specs.Runs.{Throughout};
+ghost use Rattle.geos_machine.specs.Traces.{IsEmpty, Traced};
+ghost use Rattle.geos_cli.specs.Calls.{texts};
+ghost use Rattle.geos_cli.specs.Script.{lent_by, may_ask};
+ghost use Rattle.geos_cli.specs.Traced.{stretch_of, IsTracedCall, WhyNotTraced};
+
+use crate::call::{call_on, first_wrong};
+use crate::call_fault::CallFault;
+use crate::lines::routine_named;
+use crate::script::{Call, load};
+use geos_input::ScriptFault;
+use geos_kernel::Kernel;
+use geos_machine::{Machine, Outcome, Trace};
+use geos_verify::Checked;
+use std::alloc::Global;
+use vm_file::Device;
+
+/// A call that was carried out, and what was noted of it.
+#[derive(Drop)]
+pub struct TracedCall {
+    /// The image of the routine.
+    pub checked: Checked,
+    /// The routine that was called.
+    pub routine: u16,
+    /// What the run gave.
+    pub outcome: Outcome,
+    /// What was noted of it.
+    pub trace: Trace,
+}
+
+/// Why a call of whose steps notes are to be taken was not carried out.
+#[derive(Drop)]
+pub enum TraceFault {
+    /// It would end so without notes too.
+    Call(CallFault),
+    /// There is no routine of the name whose steps are to be noted.
+    NoRoutine,
+}
+
+/// The pcs of the routine of that name, or of all: the first one, and the end behind the last.
+fn stretch_of(checked: &Checked, only: Option<&str>) -> Option<(u16, u16)>
+    ensures { result ≡ stretch_of checked.now (option_map (λ word. word.now) only.entry) }
+{
+    let image = checked.image();
+    match only {
+        None => Some((0, image.len())),
+        Some(name) => {
+            let routine = routine_named(image, name.as_bytes())?;
+            let start = image.start(routine);
+            Some((start, start + image.routine(routine).count))
+        }
+    }
+}
+
+/// Runs the routine of a call, which lends it no block, and notes its steps.
+fn trace<D: Device + Drop>(
+    checked: &Checked,
+    call: &Call,
+    kernel: &mut Kernel<D>,
+    trace: &mut Trace,
+) -> Outcome
+    requires admitted { may_ask checked.now call.now ≡ true }
+    requires lends_none { lent_by checked.now call.now ≡ [] }
+    requires unlocked { NoneLocked kernel.old.core.blocks }
+    requires empty { IsEmpty trace.old }
+    ensures ran { (f : VmFile) → IsFileOf (D.medium.honest kernel.old.device) kernel.old.core f
+        → Traced (D.medium.honest kernel.old.device) (Throughout D.medium kernel.old.device kernel.new.device)
+        checked.now call.now.routine call.now.words call.now.handles kernel.old.core kernel.new.core result trace.old trace.new f }
+    ensures honest { D.medium.honest kernel.new.device ↔ D.medium.honest kernel.old.device }
+    ensures unlocked { NoneLocked kernel.new.core.blocks }
+    ensures sees { SeesDevice D.medium kernel.old × SeesDevice D.medium kernel.new }
+    ensures steadily { Steadily D.medium (vm_file_of kernel.old) (vm_file_of kernel.new) }
+{
+    // for how often blocks are locked
+    kernel.memory_is_legal();
+    Machine::new().trace(
+        checked,
+        call.routine,
+        &call.words,
+        &call.handles,
+        kernel,
+        trace,
+    )
+}
+
+/// Checks an image and runs one routine of it, as `run_call` does, but prints nothing: it gives what the run put out, and notes of its steps, at
+/// most so many, of all routines or of the one that is named `only`. All memory is taken before the routine is run.
+///
+/// Of the faults, the first that is due is answered, and nothing has run then: those of `run_call`, but for `Write`; `NoRoutine` where no
+/// routine has the name `only`.
+pub fn trace_call<D: Device + Drop>(
+    alloc: Global,
+    image: &[u8],
+    name: &str,
+    numbers: &[&str],
+    only: Option<&str>,
+    most: usize,
+    kernel: &mut Kernel<D>,
+) -> Result<TracedCall, TraceFault>
+    // No block of the file is locked by others: `Kernel::vm_unlocked` tells it.
+    requires unlocked { NoneLocked kernel.old.core.blocks }
+    // The model's run of the routine, and what was noted of its steps.
+    ensures ran { IfOk result (λ traced. (f : VmFile) → IsFileOf (D.medium.honest kernel.old.device) kernel.old.core f
+        → IsTracedCall (D.medium.honest kernel.old.device) (Throughout D.medium kernel.old.device kernel.new.device)
+        image.now name.now (texts numbers.now) (option_map (λ word. word.now) only.entry) most kernel.old.core kernel.new.core traced f) }
+    ensures due { IfErr result (WhyNotTraced image.now name.now (texts numbers.now) (option_map (λ word. word.now) only.entry)) }
+    // Nothing runs before a fault.
+    ensures kept { IfErr result (λ _. kernel.new ≡ kernel.old) }
+    ensures honest { D.medium.honest kernel.new.device ↔ D.medium.honest kernel.old.device }
+    ensures unlocked { NoneLocked kernel.new.core.blocks }
+    ensures sees { SeesDevice D.medium kernel.old × SeesDevice D.medium kernel.new }
+    ensures steadily { Steadily D.medium (vm_file_of kernel.old) (vm_file_of kernel.new) }
+{
+    kernel.memory_is_legal();
+    let checked = match load(alloc, image) {
+        Ok(checked) => checked,
+        Err(fault) => return Err(TraceFault::Call(CallFault::Script(fault))),
+    };
+    let Some(call) = call_on(&checked, name, numbers) else {
+        let word = first_wrong(&checked, name, numbers);
+        return Err(TraceFault::Call(CallFault::BadWord(word)));
+    };
+    let Some((first, end)) = stretch_of(&checked, only) else {
+        return Err(TraceFault::NoRoutine);
+    };
+    let Ok(mut notes) = Trace::new(alloc, first, end, most) else {
+        return Err(TraceFault::Call(CallFault::Script(ScriptFault::Memory)));
+    };
+    let outcome = trace(&checked, &call, kernel, &mut notes);
+    Ok(TracedCall {
+        checked,
+        routine: call.routine,
+        outcome,
+        trace: notes,
+    })
+}

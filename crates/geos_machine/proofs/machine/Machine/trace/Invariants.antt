@@ -1,0 +1,20 @@
+use Rattle.std.specs.Prelude.{◌↔◌}
+use Rattle.geos_calls.specs.VmFile.{VmFile}
+use Rattle.vm_file.specs.State.{Steadily}
+use Rattle.geos_kernel.specs.Files.{vm_file_of}
+use Rattle.geos_kernel.specs.View.{IsFileOf}
+use Rattle.geos_machine.specs.Runs.{Throughout}
+use Rattle.geos_machine.proofs.Traces.{TracedSoFar}
+use Rattle.geos_machine.proofs.machine.Machine.trace.Given as goal
+
+abbrev pub invariant-run : goal.invariant-run
+invariant-run g l =
+    let honest = g.D.Device.medium.honest l.fn.kernel.device in
+    (g.D.Device.medium.honest l.kernel.device ↔ honest)
+    × ((f : VmFile) → IsFileOf honest l.fn.kernel.core f
+    → TracedSoFar honest (Throughout g.D.Device.medium l.fn.kernel.device l.kernel.device) l.checked l.routine l.words l.handles l.fn.kernel.core f l.kernel.core l.self l.returns.items l.pc l.left l.fn.trace l.trace)
+    × Steadily g.D.Device.medium (vm_file_of l.fn.kernel) (vm_file_of l.kernel)
+
+-- what is left of the budget falls with each step
+abbrev pub decreases-run : goal.decreases-run
+decreases-run g l = l.left

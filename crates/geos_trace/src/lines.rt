@@ -1,0 +1,59 @@
+//! The lines of instructions with how often each ran, and the line at the end.
+
+ghost use Rattle.std.specs.Prelude.{◌<◌, length};
+
+use geos_image::Image;
+use geos_listing::put_code;
+use geos_machine::{Outcome, Trace};
+use geos_text::put_numbered;
+use std::alloc::AllocError;
+
+/// Where an instruction stands: the number of its line in a text, where lines are given, or else its pc.
+fn place_of(lines: Option<&[usize]>, pc: u16) -> usize {
+    match lines {
+        Some(lines) => lines.get(usize::from(pc)).copied().unwrap_or(0),
+        None => usize::from(pc),
+    }
+}
+
+/// Appends where an instruction stands, and the instruction as the listing has it.
+pub(crate) fn put_placed(
+    out: &mut Vec<u8>,
+    image: &Image,
+    lines: Option<&[usize]>,
+    pc: u16,
+) -> Result<(), AllocError>
+    requires { pc < length image.now.points }
+{
+    // for what it says of the image
+    image.len();
+    put_numbered(out, "", place_of(lines, pc) as u64)?;
+    put_code(out, image, image.instr(pc))
+}
+
+/// Appends a line for each instruction of the image: how often it ran, where it stands, and the instruction.
+pub fn put_counts(
+    out: &mut Vec<u8>,
+    image: &Image,
+    lines: Option<&[usize]>,
+    trace: &Trace,
+) -> Result<(), AllocError> {
+    for pc in 0..image.len() {
+        put_numbered(out, "", u64::from(trace.count(pc)))?;
+        out.extend_from_slice(b"  ")?;
+        put_placed(out, image, lines, pc)?;
+        out.extend_from_slice(b"\n")?;
+    }
+    Ok(())
+}
+
+/// Appends the last line: how many steps the run took, and how many are left of the budget.
+pub fn put_end(out: &mut Vec<u8>, outcome: &Outcome, budget: u32) -> Result<(), AllocError> {
+    put_numbered(out, "steps ", u64::from(outcome.steps))?;
+    put_numbered(
+        out,
+        ", left ",
+        u64::from(budget.saturating_sub(outcome.steps)),
+    )?;
+    out.extend_from_slice(b"\n")
+}
