@@ -1,5 +1,5 @@
 -- What is found for the skeleton of a text's code is found for the text.
-use Rattle.std.proofs.Common.{◌≡◌, ◌<◌, ◌∙◌, ℕ, true, List, Some, length, Ok, refl, ap, subst, slice_get}
+use Rattle.std.proofs.Common.{◌≡◌, ◌<◌, ◌∙◌, ℕ, true, false, List, Some, length, Ok, refl, ap, subst, slice_get}
 use Rattle.std.proofs.Math.ListN.{get_or}
 use Rattle.std.proofs.lemmas.List.{length-map}
 use Rattle.std.proofs.lemmas.Option.{slice_get_read}
@@ -13,7 +13,8 @@ use Rattle.geos_source.proofs.SkeletonLaws.{skeleton-code}
 use Rattle.geos_infer.specs.Code.{SameCode}
 use Rattle.geos_infer.specs.Reached.{AllHoldWhereReached}
 use Rattle.geos_infer.specs.Theorem.{FindsWhatThereIs, NoneIsAccepted, NothingHoldsIn}
-use Rattle.geos_infer.specs.Causes.{Holds}
+use Rattle.geos_infer.specs.Causes.{Holds, tells_of_slots}
+use Rattle.geos_infer.specs.Why.{MeetAlike}
 use Rattle.geos_infer.proofs.Keyed.{keyed-code, found-keyed, all-hold-keyed}
 use Rattle.geos_infer.specs.declared.cause.Cause.{Cause}
 use Rattle.geos_asm.specs.Assembling.{IsAssembled, RunsIfAnyDoes, HasNoRows, IsCauseOf}
@@ -46,8 +47,15 @@ no_rows text code blank r at routine read is within same here none stuck =
     record { code = code; read = read; begins = record { r = r; routine = routine; there = there; line_is = refl }; none = subst NoneIsAccepted is none; stuck = subst (λ (b : Parts). NothingHoldsIn b r) is stuck }
 
 -- a cause that holds of a routine of the skeleton holds of the text's routine that begins at its line
-pub caused : (text : List ℕ) (code : Code) (blank : Parts) (r at line : ℕ) (items : List TextRoutine) (routine : TextRoutine) (cause : Cause) → code_of text ≡ Ok code → blank ≡ skeleton code → items ≡ code.routines → at ≡ r → at < length items → routine ≡ get_or items at routine → routine.line ≡ line → Holds blank r cause → IsCauseOf text line cause
-caused text code blank r at line items routine cause read is same_items same within here line_is holds =
+pub caused : (text : List ℕ) (code : Code) (blank : Parts) (r at line : ℕ) (items : List TextRoutine) (routine : TextRoutine) (cause : Cause) → code_of text ≡ Ok code → blank ≡ skeleton code → items ≡ code.routines → at ≡ r → at < length items → routine ≡ get_or items at routine → routine.line ≡ line
+    → Holds blank r cause → (tells_of_slots cause ≡ false → MeetAlike blank r) → IsCauseOf text line cause
+caused text code blank r at line items routine cause read is same_items same within here line_is holds slots =
     let there = slice_get_read items (length items) at routine refl within here in
     let there_in_code = subst (λ (l : List TextRoutine). slice_get l r ≡ Some routine) same_items (subst (λ (k : ℕ). slice_get items k ≡ Some routine) same there) in
-    record { code = code; read = read; begins = record { r = r; routine = routine; there = there_in_code; line_is = line_is }; holds = subst (λ (b : Parts). Holds b r cause) is holds }
+    record {
+      code = code;
+      read = read;
+      begins = record { r = r; routine = routine; there = there_in_code; line_is = line_is };
+      holds = subst (λ (b : Parts). Holds b r cause) is holds;
+      slots = λ e. subst (λ (b : Parts). MeetAlike b r) is (slots e);
+    }

@@ -1,5 +1,5 @@
 -- What an assembler answers.
-use Rattle.std.specs.Prelude.{◌≡◌, ℕ, List, map, Some, Ok, Err, slice_get}
+use Rattle.std.specs.Prelude.{◌≡◌, ℕ, false, List, map, Some, Ok, Err, slice_get}
 use Rattle.geos_image.specs.Parts.{Parts}
 use Rattle.geos_source.specs.declared.parser.ParseError.{ParseError}
 use Rattle.geos_source.specs.declared.parser.ParseError.TheVariants as parse_error
@@ -10,7 +10,8 @@ use Rattle.geos_verify.specs.Rules.{IsChecked}
 use Rattle.geos_infer.specs.Code.{Forward, instrs_of}
 use Rattle.geos_infer.specs.Reached.{AllHoldWhereReached}
 use Rattle.geos_infer.specs.Theorem.{HasAccepted, FindsWhatThereIs, NoneIsAccepted, NothingHoldsIn}
-use Rattle.geos_infer.specs.Causes.{Holds}
+use Rattle.geos_infer.specs.Causes.{Holds, tells_of_slots}
+use Rattle.geos_infer.specs.Why.{MeetAlike}
 use Rattle.geos_infer.specs.declared.cause.Cause.{Cause}
 use Rattle.geos_asm.specs.declared.error.AssembleError.{AssembleError}
 use Rattle.geos_asm.specs.declared.error.AssembleError.TheVariants.{BadLine, NoRows, Memory}
@@ -68,9 +69,11 @@ IsWhyNoImage text (BadLine fault) = code_of text ≡ Err fault
 IsWhyNoImage text (NoRows line) = HasNoRows text line
 IsWhyNoImage text Memory = Unit {0}
 
--- the cause holds of a routine of the text's code that begins at the line
+-- the cause holds of a routine of the text's code that begins at the line, and is that slots differ wherever
+-- ways of control meet so
 pub record IsCauseOf (text : List ℕ) (line : ℕ) (cause : Cause) : Type 0 where
   pub code : Code
   pub read : code_of text ≡ Ok code
   pub begins : BeginsAt code line
   pub holds : Holds (skeleton code) begins.r cause
+  pub slots : tells_of_slots cause ≡ false → MeetAlike (skeleton code) begins.r

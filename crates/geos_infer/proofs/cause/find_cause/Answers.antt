@@ -1,4 +1,4 @@
-use Rattle.std.proofs.Common.{◌≡◌, false, None, subst}
+use Rattle.std.proofs.Common.{◌≡◌, false}
 use Rattle.std.proofs.lemmas.Result.{IfOk-weaker}
 use Rattle.geos_infer.specs.Causes.{Holds, tells_of_slots}
 use Rattle.geos_infer.specs.Why.{MeetAlike}
