@@ -10,6 +10,7 @@ mod manner;
 mod request_fault;
 mod requests;
 mod running;
+mod tracing;
 
 use geos_shell::{Answer, keep_stream_numbers, requested, words};
 use requests::carry_out;

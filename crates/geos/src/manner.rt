@@ -109,7 +109,7 @@ fn run_call_in<W: Write, D: Device + Drop>(
 }
 
 /// The fault of a call, by what is wrong.
-fn call_fault<'a>(call: &CallWords<'a>, fault: CallFault) -> RequestFault<'a> {
+pub(crate) fn call_fault<'a>(call: &CallWords<'a>, fault: CallFault) -> RequestFault<'a> {
     match fault {
         CallFault::Script(fault) => RequestFault::Session(fault),
         CallFault::BadWord(0) => RequestFault::NoRoutine(call.name),

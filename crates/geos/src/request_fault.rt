@@ -27,6 +27,9 @@ pub(crate) enum RequestFault<'a> {
     /// No public routine has the name that a call gives.
     #[error("bad call: no public routine {}", Printable(.0))]
     NoRoutine(&'a str),
+    /// No routine has the name whose steps are asked for.
+    #[error("no routine {}", Printable(.0))]
+    NoSuchRoutine(&'a str),
     /// What a call gives as this word is no number that the word may be.
     #[error("bad call: w{} can't be {}", .0, Printable(.1))]
     BadNumber(usize, &'a str),

@@ -9,6 +9,7 @@ use crate::images::{assemble, budget, check, explain, list};
 use crate::manner::Manner;
 use crate::request_fault::RequestFault;
 use crate::running::{run, session};
+use crate::tracing::trace;
 use geos_dump::Detail;
 use geos_shell::Request;
 
@@ -44,6 +45,12 @@ pub(crate) fn carry_out<'a>(rt: &HostRuntime, request: Request<'a>) -> Result<()
             strict,
             form,
         } => run(rt, &Manner { strict, form }, image, file, script, region),
+        Request::Trace {
+            image,
+            words,
+            file,
+            region,
+        } => trace(rt, image, &words, file, region),
         Request::Put { chunk, at, region } => put(rt, &chunk, at, region),
         Request::Get { chunk, region } => get(rt, &chunk, region),
         Request::Dump {

@@ -2,7 +2,7 @@
 use Rattle.std.specs.Prelude.{◌≡◌, ℕ, ◌≤◌, ◌%◌}
 use Rattle.geos_shell.specs.declared.numbers.Number.{Number}
 use Rattle.geos_shell.specs.declared.request.Request.{Request}
-use Rattle.geos_shell.specs.declared.request.Request.TheVariants.{Session, Call, Assemble, Budget, List, Check, Explain, New, Run, Put, Get, Dump, Map}
+use Rattle.geos_shell.specs.declared.request.Request.TheVariants.{Session, Call, Trace, Assemble, Budget, List, Check, Explain, New, Run, Put, Get, Dump, Map}
 
 -- a number is within the limits of its kind
 abbrev pub IsWithin : Number → ℕ → Type 0
@@ -24,6 +24,7 @@ IsWidth n = (60 ≤ n) × (n ≤ 1000)
 abbrev pub KeepsLimits : Request → Type 0
 KeepsLimits (New file area) = IsArea area
 KeepsLimits (Call image call file region strict form) = IsRegion region
+KeepsLimits (Trace image words file region) = IsRegion region
 KeepsLimits (Run image file script region strict form) = IsRegion region
 KeepsLimits (Put chunk at region) = IsRegion region
 KeepsLimits (Get chunk region) = IsRegion region

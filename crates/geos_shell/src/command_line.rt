@@ -2,7 +2,7 @@
 
 use crate::answer::Answer;
 use crate::help::{ABOUT, More, SESSION, USAGES};
-use crate::numbers::{AREA, Number, REGION, WIDTH};
+use crate::numbers::{AREA, Number, REGION, STEPS, WIDTH};
 use clap::{Arg, ArgAction, ArgMatches, Command, Error};
 use std::alloc::{AllocError, Global};
 use std::{env, io};
@@ -21,6 +21,8 @@ enum ArgText {
     Words(&'static str, &'static str),
     /// A path behind a name that it may be given: that name, and what the path is.
     Path(&'static str, &'static str),
+    /// A routine behind a name that it may be given: that name, and which routine it is.
+    Routine(&'static str, &'static str),
 }
 
 /// A number that a command may be given: its name and limits, what it is, and what it is where it is not given.
@@ -57,6 +59,15 @@ const NUMBERS: ArgText = ArgText::Words(
 const ON_FILE: ArgText = ArgText::Path(
     "file",
     "The VM file that it works on, as `new` makes it; with none, one in memory",
+);
+
+const TRACED_NAME: ArgText = ArgText::Word("NAME", "The public routine that is run");
+
+const ONLY: ArgText = ArgText::Routine("only", "The routine whose steps are printed");
+
+const COUNT: ArgText = ArgText::Flag(
+    "count",
+    "Prints how often each instruction ran, in place of the steps",
 );
 
 const TEXT: ArgText = ArgText::Word(
@@ -152,13 +163,19 @@ const REGION_SIZE: ArgText = ArgText::Number(NumberText {
     default: "1048576",
 });
 
+const MOST_STEPS: ArgText = ArgText::Number(NumberText {
+    number: STEPS,
+    about: "How many steps are printed at most, 0 to 1000000",
+    default: "10000",
+});
+
 const LINE_WIDTH: ArgText = ArgText::Number(NumberText {
     number: WIDTH,
     about: "How many columns a line has, 60 to 1000",
     default: "80",
 });
 
-static COMMANDS: [CommandText; 12] = [
+static COMMANDS: [CommandText; 13] = [
     CommandText {
         name: "call",
         about: "Checks a text or an image, and runs one routine of it, or a script",
@@ -175,6 +192,21 @@ static COMMANDS: [CommandText; 12] = [
             LABEL,
         ],
         more: More::Called,
+    },
+    CommandText {
+        name: "trace",
+        about: "Runs one routine, and prints each step, or how often each line ran",
+        args: &[
+            TEXT_OR_IMAGE,
+            TRACED_NAME,
+            NUMBERS,
+            ON_FILE,
+            REGION_SIZE,
+            MOST_STEPS,
+            ONLY,
+            COUNT,
+        ],
+        more: More::Traced,
     },
     CommandText {
         name: "asm",
@@ -300,6 +332,14 @@ fn path_of<'a>(alloc: Global, name: &'a str, about: &'a str) -> Arg<'a> {
         .help(about)
 }
 
+/// A routine behind `--name` that a command may be given.
+fn routine_of<'a>(alloc: Global, name: &'a str, about: &'a str) -> Arg<'a> {
+    Arg::new(alloc, name)
+        .long(name)
+        .value_name("ROUTINE")
+        .help(about)
+}
+
 /// What stands behind the name of a command.
 fn arg_of<'a>(alloc: Global, text: &ArgText) -> Arg<'a> {
     match text {
@@ -309,6 +349,7 @@ fn arg_of<'a>(alloc: Global, text: &ArgText) -> Arg<'a> {
         ArgText::MayBe(name, about) => may_be(alloc, *name, *about),
         ArgText::Words(name, about) => words_of(alloc, *name, *about),
         ArgText::Path(name, about) => path_of(alloc, *name, *about),
+        ArgText::Routine(name, about) => routine_of(alloc, *name, *about),
     }
 }
 

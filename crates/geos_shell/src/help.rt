@@ -6,6 +6,7 @@ pub(crate) const ABOUT: &str =
 
 pub(crate) const USAGES: &str = "\
 geos call IN [NAME [N..]] [--file FILE] [--region N] [--strict] [FORM]
+       geos trace IN NAME [N..] [--steps N] [--only ROUTINE] [--count] [--file FILE] [--region N]
        geos asm IN OUT [--all-rows]
        geos budget TEXT [OUT]
        geos list IMAGE
@@ -24,6 +25,7 @@ geos call IN [NAME [N..]] [--file FILE] [--region N] [--strict] [FORM]
 #[derive(Clone, Copy)]
 pub(crate) enum Usage {
     Call,
+    Trace,
     Asm,
     New,
     Run,
@@ -36,6 +38,8 @@ impl Usage {
     pub(crate) fn text(self) -> &'static str {
         match self {
             Usage::Call => "geos call IN [NAME [N..]] [--file FILE] [--region N] [--strict] [FORM]",
+            Usage::Trace =>
+                "geos trace IN NAME [N..] [--steps N] [--only ROUTINE] [--count] [--file FILE] [--region N]",
             Usage::Asm => "geos asm IN OUT [--all-rows]",
             Usage::New => "geos new FILE [--area N]",
             Usage::Run => "geos run IMAGE FILE SCRIPT [--region N] [--strict] [FORM]",
@@ -61,11 +65,11 @@ Example:
 docs/AUTHORS.md says how to write a routine, docs/FORMATS.md has the form of texts, docs/INSTRUCTIONS.md
 the instructions, examples/README.md the routines of that folder in words.
 
-IN and TEXT are files of assembly text, IN of `call` also of an image; OUT and IMAGE are files of an image's
-bytes, but OUT of `budget` is a text, and IMAGE of `explain` and `run` may be one; SCRIPT is a file of
-commands as of a session. `-` is the standard input, or for OUT the standard output, and `./-` a file of
-that name. FILE is a VM file, and never a stream; H is the handle of a block there, C of a chunk in it, and
-AT counts its bytes from 0. FORM is --label, and one of --hex, --signed and --text.
+IN and TEXT are files of assembly text, IN of `call` and `trace` also of an image; OUT and IMAGE are files
+of an image's bytes, but OUT of `budget` is a text, and IMAGE of `explain` and `run` may be one; SCRIPT is
+a file of commands as of a session. `-` is the standard input, or for OUT the standard output, and `./-` a
+file of that name. FILE is a VM file, and never a stream; H is the handle of a block there, C of a chunk
+in it, and AT counts its bytes from 0. FORM is --label, and one of --hex, --signed and --text.
 
 Without words a session is read from standard input, at most 1,048,576 bytes of it. It is
   1. an image, a set of routines in hexadecimal digits;
@@ -108,6 +112,26 @@ Example:
   printf 'call add 2 3\\ncall add 4 5\\n' | geos call add.asm
   geos new counter.vm
   geos call examples/counter.asm --file counter.vm < examples/counter.script";
+
+/// What is printed of the steps of a run.
+const TRACED: &str = "\
+The routine runs as by `geos call`, and its faults are those. A line is printed for each step: the number of
+the line of the text, or of an image the pc, the instruction, and behind a `;` what the step wrote:
+  w0=5 k1=3            words and counters
+  s0=mem 2             slot s0 holds the memory block 2; also `vm 2`, `group 2`; `s0=empty` behind an unlock
+  p1=chunk 16 of s0    where a pointer leads: also `element 2 of chunk 16`, `item 16`, and `p2` for that of p2
+  p1+4=7               a byte or word at offset 4 of p1; of COPY `p1=8 bytes of p2`
+  out 5                a word that is put out
+  jumps                control goes to the label: of a test, or of LOOP
+  refused 2            nothing is done but w7=2, and control goes to the label
+L and a number is the label of the instruction with that pc, counted from 0.
+
+The last line has the steps of the whole run, and what is left of the budget. At most 10,000 steps are
+printed, or as many as --steps says; with --only those in ROUTINE alone. The run goes to its end all the
+same. With --count a line is printed for each instruction: how often it ran, its line or pc, and what it is.
+
+Example:
+  geos trace add.asm add 2 3        where add.asm is the text of `geos help`";
 
 /// Why a text is not assembled.
 const FAULTS: &str = "\
@@ -242,6 +266,7 @@ bytes, those of the heap's header and table too; a group has `group` in the plac
 pub(crate) enum More {
     Nothing,
     Called,
+    Traced,
     Faults,
     Budgeted,
     Explained,
@@ -259,6 +284,7 @@ impl More {
         match self {
             More::Nothing => "",
             More::Called => CALLED,
+            More::Traced => TRACED,
             More::Faults => FAULTS,
             More::Budgeted => BUDGETED,
             More::Explained => EXPLAINED,

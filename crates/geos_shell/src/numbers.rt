@@ -47,6 +47,24 @@ pub(crate) const CALL_REGION: Number = Number {
     usage: Usage::Call,
 };
 
+/// The same for `trace`.
+pub(crate) const TRACE_REGION: Number = Number {
+    name: "region",
+    least: 65_536,
+    most: 16_777_216,
+    unit: 1,
+    usage: Usage::Trace,
+};
+
+/// The steps that are printed of a run.
+pub(crate) const STEPS: Number = Number {
+    name: "steps",
+    least: 0,
+    most: 1_000_000,
+    unit: 1,
+    usage: Usage::Trace,
+};
+
 /// The same for `put` and `get`.
 pub(crate) const PUT_REGION: Number = Number {
     name: "region",

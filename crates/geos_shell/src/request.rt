@@ -8,7 +8,9 @@ use crate::command_line::matches_of;
 use crate::forms::OutputForm;
 use crate::help::Usage;
 use crate::misuse::Misuse;
-use crate::numbers::{AREA, CALL_REGION, GET_REGION, PUT_REGION, REGION, WIDTH, word_of};
+use crate::numbers::{
+    AREA, CALL_REGION, GET_REGION, PUT_REGION, REGION, STEPS, TRACE_REGION, WIDTH, word_of,
+};
 use crate::printable::{Printable, has_control};
 use crate::streams::{STANDARD, is_stream};
 use clap::{ArgMatches, Error};
@@ -19,6 +21,18 @@ use std::alloc::{AllocError, Global};
 pub struct CallWords<'a> {
     pub name: &'a str,
     pub numbers: Vec<&'a str>,
+}
+
+/// A call of which notes are taken, and what is printed of it.
+#[derive(Drop)]
+pub struct TraceWords<'a> {
+    pub call: CallWords<'a>,
+    /// The routine whose steps are printed; with none, those of all are.
+    pub only: Option<&'a str>,
+    /// How many steps are printed at most.
+    pub steps: u32,
+    /// Whether it is printed how often each line ran, in place of steps.
+    pub count: bool,
 }
 
 /// A chunk of a block of a VM file, or an item of a group.
@@ -48,6 +62,14 @@ pub enum Request<'a> {
         region: u32,
         strict: bool,
         form: OutputForm,
+    },
+    /// To run one call, and to print its steps, or how often each line ran; on a VM file, or with none on one in memory, with so many
+    /// bytes for blocks in memory.
+    Trace {
+        image: &'a str,
+        words: TraceWords<'a>,
+        file: Option<&'a str>,
+        region: u32,
     },
     /// To make the image of a text, with all rows or with those at its key places.
     Assemble {
@@ -149,6 +171,29 @@ fn call_of<'a>(alloc: Global, words: &ArgMatches<'a>) -> Result<Request<'a>, Mis
         region,
         strict,
         form: OutputForm::of(words, Usage::Call)?,
+    })
+}
+
+/// What a `trace` asks for. A wrong number is said first.
+fn trace_of<'a>(alloc: Global, words: &ArgMatches<'a>) -> Result<Request<'a>, Misuse>
+    ensures { IfOk result KeepsLimits }
+{
+    let region = TRACE_REGION.of(words)?;
+    let steps = STEPS.of(words)?;
+    let call = CallWords {
+        name: word(words, "NAME"),
+        numbers: words_of(alloc, words, "N")?,
+    };
+    Ok(Request::Trace {
+        image: word(words, "IN"),
+        words: TraceWords {
+            call,
+            only: words.get_str("only"),
+            steps,
+            count: words.get_flag("count"),
+        },
+        file: words.get_str("file"),
+        region,
     })
 }
 
@@ -281,6 +326,7 @@ fn request_of<'a>(alloc: Global, matches: &ArgMatches<'a>) -> Result<Request<'a>
     };
     match name {
         "call" => call_of(alloc, words),
+        "trace" => trace_of(alloc, words),
         "asm" => asm_of(words),
         "new" => new_of(words),
         "run" => run_of(words),
