@@ -85,7 +85,10 @@ pub(crate) fn run_script_on<'a, D: Device + Drop>(
     out.flush().map_err(|_| ScriptFault::Write)?;
     match refused {
         None => Ok(()),
-        Some(RefusedCommand { line, refusal }) => Err(RequestFault::Refused(line, refusal.number())),
+        Some(RefusedCommand { line, refusal }) => Err(RequestFault::Refused(
+            line,
+            refusal.number(),
+        )),
     }
 }
 
