@@ -1,0 +1,5 @@
+pub mod Calling
+pub mod Numbers
+pub mod Shapes
+pub mod Steps
+pub mod Values

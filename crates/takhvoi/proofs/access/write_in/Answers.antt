@@ -1,0 +1,18 @@
+-- The span leads into a block that may be changed, and the bytes are stored at the reference for which it stands.
+use Rattle.std.proofs.Common.{◌≡◌, ◌≤◌, refl, length, arith}
+use Rattle.takhvoi.specs.Bytes.{AreStored}
+use Rattle.takhvoi.proofs.Steps.{given-span, given-no-refusal}
+use Rattle.takhvoi.proofs.access.write_in.Goals as goal
+
+pub store_bytes-requires-clause-stands : goal.store_bytes-requires-clause-stands
+store_bytes-requires-clause-stands c = c.in-Ok.ensures.writable (c.if-not-may_change.ensures refl)
+
+pub returns-in-Ok : goal.returns-in-Ok
+returns-in-Ok c =
+    let s = c.args.system.now.kernel.core in
+    let gives = c.in-Ok.ensures.gives in
+    let told = given-span s c.in-Ok.span gives.0 (λ ref. AreStored ref c.args.at (length c.args.from.now) c.args.from.now s c.store_bytes.new.kernel.core) gives.2 c.store_bytes.ensures in
+    (refl, (λ _. (gives.0, gives.1, told.0, given-no-refusal s c.in-Ok.span gives.0 _ gives.2, told.1)), λ past. absurd (past-none past))
+  where
+    past-none : 100 ≤ 0 → ⊥
+    past-none h = omega arith

@@ -1,0 +1,6 @@
+pub mod Answers
+pub mod Bytes
+pub mod Held
+pub mod Images
+pub mod Names
+pub mod Texts
