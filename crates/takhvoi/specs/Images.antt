@@ -1,5 +1,5 @@
 -- What loading and running images come to.
-use Rattle.std.specs.Prelude.{◌≡◌, ◌≤◌, ℕ, Option, Some, None, IfSome, List, length, take, unwrap_or, slice_get, Ok, Err}
+use Rattle.std.specs.Prelude.{◌≡◌, ◌≤◌, ℕ, Some, IfSome, List, length, take, unwrap_or, slice_get, Ok}
 use Rattle.geos_image.specs.Legal.{text_end}
 use Rattle.geos_image.specs.Parts.{Parts}
 use Rattle.geos_image.specs.Reading.{image_at}

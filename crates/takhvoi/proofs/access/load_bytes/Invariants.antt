@@ -1,4 +1,4 @@
-use Rattle.std.proofs.Common.{◌≡◌, ℕ, length}
+use Rattle.std.proofs.Common.{◌≡◌, length}
 use Rattle.geos_calls.specs.Effects.{Reference}
 use Rattle.geos_kernel.specs.Spans.{Stands}
 use Rattle.takhvoi.specs.Bytes.{AreLoaded}

@@ -1,5 +1,5 @@
 -- The span is as long as the reference for which it stands.
-use Rattle.std.proofs.Common.{◌≡◌, refl, arith}
+use Rattle.std.proofs.Common.{◌≡◌, refl}
 use Rattle.takhvoi.proofs.Steps.{given-span}
 use Rattle.takhvoi.proofs.access.measure.Goals as goal
 

@@ -1,6 +1,5 @@
 -- A store makes no span stale, and marks stay.
 use Rattle.std.proofs.Common.{◌≡◌, true, sym, subst}
-use Rattle.geos_kernel.specs.Spans.{Stands}
 use Rattle.vm_blocks.specs.Blocks.{is_marked_in}
 use Rattle.vm_blocks.specs.View.{held_at}
 use Rattle.takhvoi.proofs.access.store_byte.Goals as goal

@@ -1,4 +1,3 @@
-use Rattle.std.proofs.Common.{◌≡◌, ℕ, length}
 use Rattle.geos_calls.specs.Effects.{Reference}
 use Rattle.geos_kernel.specs.Spans.{IsWritable, Stands}
 use Rattle.takhvoi.specs.Bytes.{AreStored}

@@ -1,5 +1,5 @@
 -- The span leads into a block that may be changed, and the bytes are stored at the reference for which it stands.
-use Rattle.std.proofs.Common.{◌≡◌, ◌≤◌, refl, length, arith}
+use Rattle.std.proofs.Common.{◌≤◌, refl, length, arith}
 use Rattle.takhvoi.specs.Bytes.{AreStored}
 use Rattle.takhvoi.proofs.Steps.{given-span, given-no-refusal}
 use Rattle.takhvoi.proofs.access.write_in.Goals as goal
