@@ -17,8 +17,11 @@ sed -n 's/^\(TAKHVOI_CALL \)*uint32_t \(takhvoi_[a-z0-9_]*\)(.*/\2/p' "$folder/t
 nm -g --defined-only "$folder/libtakhvoi.a" | sed -n 's/.* T //p' | sort | cmp - "$folder/declared"
 
 cc -std=c99 -Wall -Wextra -Werror -O2 -I"$folder" -o "$folder/book" "$top/library/book.c" "$folder/libtakhvoi.a" || exit
+cc -std=c99 -D_POSIX_C_SOURCE=200809L -Wall -Wextra -Werror -O2 -I"$folder" -Wl,--wrap=malloc,--wrap=realloc -o "$folder/refused" \
+    "$top/tests/refused_allocations.c" "$folder/libtakhvoi.a" || exit
 cd "$folder" || exit
 
+./refused refused.vm
 ./book b.vm add Bohr 17 && ./book b.vm add Curie 29 && ./book b.vm add Cantor 31 && ./book b.vm list
 echo "from B to B: $(./book b.vm run "$top/library/starting.asm" 66 66)"
 echo "from C to Z: $(./book b.vm run "$top/library/starting.asm" 67 90)"
@@ -31,4 +34,4 @@ echo 'routine f public budget x' >fault.asm
 ./book b.vm run fault.asm 2>&1
 ./book b.vm run "$top/examples/rejected.asm" 2>&1
 ./book b.vm run "$top/examples/add.asm" 1 2 2>&1
-ls
+echo "status $?"
