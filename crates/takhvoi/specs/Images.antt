@@ -4,6 +4,9 @@ use Rattle.geos_image.specs.Legal.{text_end}
 use Rattle.geos_image.specs.Parts.{Parts}
 use Rattle.geos_image.specs.Reading.{image_at}
 use Rattle.geos_image.specs.declared.routine.Routine.{Routine}
+use Rattle.geos_verify.specs.declared.rule.Reject.{Reject}
+use Rattle.geos_verify.specs.Rules.{FirstRefusal}
+use Rattle.geos_verify.specs.RuleText.{rule_number}
 use Rattle.geos_calls.specs.VmFile.{VmFile}
 use Rattle.geos_kernel.specs.View.{IsFileOf}
 use Rattle.geos_machine.specs.declared.outcome.Outcome.{Outcome}
@@ -24,6 +27,11 @@ pub record Keeps (old new : System) : Type 0 where
 abbrev pub IsLoaded : List ℕ → ℕ → ℕ → System → System → Type 0
 IsLoaded bytes n status old new =
     (status ≡ 0 → (image : Parts) × (image_at bytes ≡ Ok image) × StandsFor new n image) × Keeps old new
+
+-- the bytes spell an image, and this is the first instruction that a rule refuses, with the lowest such rule
+abbrev pub IsRejected : List ℕ → ℕ → ℕ → Type 0
+IsRejected bytes place rule =
+    (image : Parts) × (reject : Reject) × (image_at bytes ≡ Ok image) × FirstRefusal image reject × (place ≡ reject.pc) × (rule ≡ rule_number reject.rule)
 
 -- the number stands for a checked image, of which the model's run, on these words and with these blocks lent, met no fault and came to
 -- such words, such an output in front of the buffer, so long, and so many steps; images stay

@@ -1,10 +1,11 @@
 //! Images are loaded, and their routines run.
 
-ghost use Rattle.std.specs.Prelude.{◌≡◌, ℕ, Err, Some, IfSome, length, slice_get, take};
+ghost use Rattle.std.specs.Prelude.{◌≡◌, ◌≤◌, ℕ, Err, Some, IfSome, length, slice_get, take};
 ghost use Rattle.geos_image.specs.Parts.{Parts};
 ghost use Rattle.geos_image.specs.Reading.{image_at};
 ghost use Rattle.takhvoi.specs.Answers.{Done, Looks, On, Served};
-ghost use Rattle.takhvoi.specs.Images.{HasRoutine, HasRun, IsLoaded, IsNamed};
+ghost use Rattle.geos_verify.specs.RuleText.{rule_number};
+ghost use Rattle.takhvoi.specs.Images.{HasRoutine, HasRun, IsLoaded, IsNamed, IsRejected};
 
 use crate::handle::Handle;
 use crate::held::{put, take};
@@ -12,7 +13,7 @@ use crate::status::{BAD_IMAGE, DONE, NO_KERNEL, NO_MEMORY, NOT_ADMITTED, REFUSED
 use crate::system::System;
 use geos_image::{Image, ReadError};
 use geos_machine::admits;
-use geos_verify::{Checked, check};
+use geos_verify::{Checked, Rule, check};
 use std::alloc::Global;
 
 /// The most numbers that were given to images.
@@ -23,7 +24,7 @@ const MOST_IMAGES: usize = 65_536;
 fn keep(images: &mut Vec<Option<Checked>>, checked: Checked, number: &mut u32) -> u32
     ensures stands { result ≡ 0 → slice_get images.new.items number.new ≡ Some (Some checked) }
     ensures stay { (n : ℕ) (image : Parts) → slice_get images.old.items n ≡ Some (Some image) → slice_get images.new.items n ≡ Some (Some image) }
-    ensures own { result ≡ 112 → ⊥ }
+    ensures own { result ≤ 111 }
 {
     let next = images.len();
     if next >= MOST_IMAGES {
@@ -36,6 +37,13 @@ fn keep(images: &mut Vec<Option<Checked>>, checked: Checked, number: &mut u32) -
     DONE
 }
 
+/// The number of a rule.
+fn number_of(rule: Rule) -> u32
+    ensures { result ≡ rule_number rule }
+{
+    rule as u32
+}
+
 fn load_in(
     alloc: Global,
     system: &mut System,
@@ -46,6 +54,7 @@ fn load_in(
 ) -> u32
     ensures loaded { IsLoaded bytes.now number.new result system.old system.new }
     ensures bad { result ≡ 112 → image_at bytes.now ≡ Err place.new }
+    ensures refused { result ≡ 113 → IsRejected bytes.now place.new rule.new }
 {
     let image = match geos_image::read(alloc, bytes) {
         Ok(image) => image,
@@ -59,7 +68,7 @@ fn load_in(
         Ok(checked) => keep(&mut system.images, checked, number),
         Err((_image, reject)) => {
             *place = u64::from(reject.pc);
-            *rule = reject.rule as u32;
+            *rule = number_of(reject.rule);
             REFUSED
         }
     }
@@ -78,6 +87,7 @@ pub extern "C" fn takhvoi_load(
 ) -> u32
     ensures loaded { On (IsLoaded bytes.now number.new result) result handle.old handle.new }
     ensures bad { result ≡ 112 → image_at bytes.now ≡ Err place.new }
+    ensures refused { result ≡ 113 → IsRejected bytes.now place.new rule.new }
 {
     let Some(mut system) = take(alloc, handle) else {
         return NO_KERNEL;

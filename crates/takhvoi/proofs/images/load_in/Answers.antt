@@ -1,5 +1,5 @@
 -- The number stands for what the bytes spell.
-use Rattle.std.proofs.Common.{◌≡◌, Some, slice_get, refl, subst}
+use Rattle.std.proofs.Common.{◌≡◌, Some, slice_get, refl, subst, arith}
 use Rattle.takhvoi.proofs.images.load_in.Goals as goal
 
 pub returns-in-Ok-check-clause-loaded : goal.returns-in-Ok-check-clause-loaded
@@ -13,4 +13,7 @@ returns-in-Ok-check-clause-loaded c = (
 )
 
 pub returns-in-Ok-check-clause-bad : goal.returns-in-Ok-check-clause-bad
-returns-in-Ok-check-clause-bad c = λ bad. absurd (c.keep.ensures.own bad)
+returns-in-Ok-check-clause-bad c = λ bad. absurd (omega (arith, bad, c.keep.ensures.own))
+
+pub returns-in-Ok-check-clause-refused : goal.returns-in-Ok-check-clause-refused
+returns-in-Ok-check-clause-refused c = λ refused. absurd (omega (arith, refused, c.keep.ensures.own))
