@@ -192,9 +192,11 @@ TAKHVOI_CALL uint32_t takhvoi_update(takhvoi_kernel *kernel);
 TAKHVOI_CALL uint32_t takhvoi_save(takhvoi_kernel *kernel);
 TAKHVOI_CALL uint32_t takhvoi_revert(takhvoi_kernel *kernel);
 
-/* Images, by numbers that are good until the kernel is closed. `place` is the offset of the first faulty byte (BAD_IMAGE), or the first
+/* Images, by numbers that are good until they are unloaded, or the kernel is closed. `place` is the offset of the first faulty byte (BAD_IMAGE), or the first
  * instruction that rule `rule` refuses (REFUSED). */
 TAKHVOI_CALL uint32_t takhvoi_load(takhvoi_kernel *kernel, const uint8_t *bytes, size_t len, uint32_t *image, uint64_t *place, uint32_t *rule);
+/* Frees an image: its number is given again. */
+TAKHVOI_CALL uint32_t takhvoi_unload(takhvoi_kernel *kernel, uint32_t image);
 /* The number of the first routine with a name. */
 TAKHVOI_CALL uint32_t takhvoi_routine(takhvoi_kernel *kernel, uint32_t image, const uint8_t *name, size_t name_len, uint16_t *routine);
 /* Runs a public routine: `words` are w0 to w7, before and after. `lent` has the handle of a locked block of the VM file for each slot that the

@@ -40,6 +40,7 @@ static uint32_t fill(takhvoi_kernel *k) {
     TRY(takhvoi_assemble((const uint8_t *)text, strlen(text), image, sizeof image, &told));
     TRY(takhvoi_load(k, image, (size_t)told, &number, &place, &rule));
     TRY(takhvoi_run(k, number, 0, words, lent, output, 1, &count, &steps));
+    TRY(takhvoi_unload(k, number));
     return words[0] == 7 ? TAKHVOI_DONE : TAKHVOI_FULL;
 }
 

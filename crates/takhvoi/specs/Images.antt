@@ -1,5 +1,5 @@
 -- What loading and running images come to.
-use Rattle.std.specs.Prelude.{◌≡◌, ◌≤◌, ℕ, Some, IfSome, List, length, take, unwrap_or, slice_get, Ok}
+use Rattle.std.specs.Prelude.{◌≡◌, ◌≤◌, ℕ, Some, None, IfSome, List, length, take, unwrap_or, slice_get, Ok}
 use Rattle.geos_image.specs.Legal.{text_end}
 use Rattle.geos_image.specs.Parts.{Parts}
 use Rattle.geos_image.specs.Reading.{image_at}
@@ -27,6 +27,13 @@ pub record Keeps (old new : System) : Type 0 where
 abbrev pub IsLoaded : List ℕ → ℕ → ℕ → System → System → Type 0
 IsLoaded bytes n status old new =
     (status ≡ 0 → (image : Parts) × (image_at bytes ≡ Ok image) × StandsFor new n image) × Keeps old new
+
+-- where it is done, the number stands for nothing from then on; the kernel and the other images stay
+abbrev pub IsUnloaded : ℕ → ℕ → System → System → Type 0
+IsUnloaded n status old new =
+    (new.kernel ≡ old.kernel)
+    × (status ≡ 0 → slice_get new.images.items n ≡ Some None)
+    × ((m : ℕ) (image : Parts) → (m ≡ n → ⊥) → StandsFor old m image → StandsFor new m image)
 
 -- the bytes spell an image, and this is the first instruction that a rule refuses, with the lowest such rule
 abbrev pub IsRejected : List ℕ → ℕ → ℕ → Type 0

@@ -5,7 +5,7 @@ ghost use Rattle.geos_image.specs.Parts.{Parts};
 ghost use Rattle.geos_image.specs.Reading.{image_at};
 ghost use Rattle.takhvoi.specs.Answers.{Done, Looks, On, Served};
 ghost use Rattle.geos_verify.specs.RuleText.{rule_number};
-ghost use Rattle.takhvoi.specs.Images.{HasRoutine, HasRun, IsLoaded, IsNamed, IsRejected};
+ghost use Rattle.takhvoi.specs.Images.{HasRoutine, HasRun, IsLoaded, IsNamed, IsRejected, IsUnloaded};
 
 use crate::handle::Handle;
 use crate::held::{put, take};
@@ -16,12 +16,26 @@ use geos_machine::admits;
 use geos_verify::{Checked, Rule, check};
 use std::alloc::Global;
 
-/// The most numbers that were given to images.
+/// The most images that are kept at once.
 const MOST_IMAGES: usize = 65_536;
 
-/// Gives an image the next number.
+/// The lowest number that stands for no image.
+#[tactic(auto, using(crate::proofs::Numbers::none_past, crate::proofs::Numbers::none_there))]
+fn lowest_free(images: &Vec<Option<Checked>>) -> usize
+    ensures free { (image : Parts) → slice_get images.now.items result ≡ Some (Some image) → ⊥ }
+    ensures within { result ≤ length images.now.items }
+{
+    for n in 0..images.len() {
+        if images[n].is_none() {
+            return n;
+        }
+    }
+    images.len()
+}
+
+/// Puts an image behind the others.
 #[tactic(auto, using(crate::proofs::Numbers::stays_behind, crate::proofs::Numbers::is_last))]
-fn keep(images: &mut Vec<Option<Checked>>, checked: Checked, number: &mut u32) -> u32
+fn append(images: &mut Vec<Option<Checked>>, checked: Checked, number: &mut u32) -> u32
     ensures stands { result ≡ 0 → slice_get images.new.items number.new ≡ Some (Some checked) }
     ensures stay { (n : ℕ) (image : Parts) → slice_get images.old.items n ≡ Some (Some image) → slice_get images.new.items n ≡ Some (Some image) }
     ensures own { result ≤ 111 }
@@ -34,6 +48,25 @@ fn keep(images: &mut Vec<Option<Checked>>, checked: Checked, number: &mut u32) -
         return NO_MEMORY;
     }
     *number = next as u32;
+    DONE
+}
+
+/// Gives an image the lowest number that is free.
+#[tactic(auto, using(crate::proofs::Numbers::set_stays, crate::proofs::Numbers::set_is))]
+fn keep(images: &mut Vec<Option<Checked>>, checked: Checked, number: &mut u32) -> u32
+    ensures stands { result ≡ 0 → slice_get images.new.items number.new ≡ Some (Some checked) }
+    ensures stay { (n : ℕ) (image : Parts) → slice_get images.old.items n ≡ Some (Some image) → slice_get images.new.items n ≡ Some (Some image) }
+    ensures own { result ≤ 111 }
+{
+    let free = lowest_free(images);
+    if free >= images.len() {
+        return append(images, checked, number);
+    }
+    if free >= MOST_IMAGES {
+        return NO_MEMORY;
+    }
+    images[free] = Some(checked);
+    *number = free as u32;
     DONE
 }
 
@@ -93,6 +126,31 @@ pub extern "C" fn takhvoi_load(
         return NO_KERNEL;
     };
     let status = load_in(alloc, &mut system, bytes, number, place, rule);
+    put(handle, system);
+    status
+}
+
+#[tactic(auto, using(crate::proofs::Numbers::set_is, crate::proofs::Numbers::others_stay))]
+fn unload_in(system: &mut System, number: u32) -> u32
+    ensures { IsUnloaded number result system.old system.new }
+{
+    let n = number as usize;
+    if n >= system.images.len() {
+        return NOT_ADMITTED;
+    }
+    system.images[n] = None;
+    DONE
+}
+
+/// Frees an image, whose number is given again.
+#[unsafe(no_mangle)]
+pub extern "C" fn takhvoi_unload(alloc: Global, handle: &mut Handle, number: u32) -> u32
+    ensures { On (IsUnloaded number result) result handle.old handle.new }
+{
+    let Some(mut system) = take(alloc, handle) else {
+        return NO_KERNEL;
+    };
+    let status = unload_in(&mut system, number);
     put(handle, system);
     status
 }
