@@ -192,8 +192,8 @@ TAKHVOI_CALL uint32_t takhvoi_update(takhvoi_kernel *kernel);
 TAKHVOI_CALL uint32_t takhvoi_save(takhvoi_kernel *kernel);
 TAKHVOI_CALL uint32_t takhvoi_revert(takhvoi_kernel *kernel);
 
-/* Images, by numbers that are good until they are unloaded, or the kernel is closed. `place` is the offset of the first faulty byte (BAD_IMAGE), or the first
- * instruction that rule `rule` refuses (REFUSED). */
+/* Images, by numbers that are good until they are unloaded, or the kernel is closed. `place` is the offset of the first faulty byte
+ * (BAD_IMAGE), or the first instruction that rule `rule` refuses (REFUSED). */
 TAKHVOI_CALL uint32_t takhvoi_load(takhvoi_kernel *kernel, const uint8_t *bytes, size_t len, uint32_t *image, uint64_t *place, uint32_t *rule);
 /* Frees an image: its number is given again. */
 TAKHVOI_CALL uint32_t takhvoi_unload(takhvoi_kernel *kernel, uint32_t image);
