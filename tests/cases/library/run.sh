@@ -4,9 +4,9 @@ export LC_ALL=C
 folder=$(mktemp -d)
 trap 'rm -rf "$folder"' EXIT
 
-if ! timeout 480 "$top/library/make.sh" "$folder" >"$folder/log" 2>&1; then
+if ! timeout 360 "$top/library/make.sh" "$folder" >"$folder/log" 2>&1; then
     tail -n 3 "$folder/log" >&2
-    echo "the library was not made within 8 minutes" >&2
+    echo "the library was not made within 6 minutes" >&2
     exit 77
 fi
 
