@@ -47,7 +47,8 @@ fn of_fault(fault: FileFault) -> u32
 /// Has a handle hold a kernel on an open VM file.
 fn start(alloc: Global, handle: &mut Handle, region: u32, file: VmFile<OpenDevice>) -> u32
     requires { (65536 ≤ region) × (region ≤ 16777216) }
-    ensures { result ≡ 0 → (handle.old.live ≡ 0) × (handle.new.live ≡ 1) }
+    ensures made { result ≡ 0 → (handle.old.live ≡ 0) × (handle.new.live ≡ 1) }
+    ensures kept { handle.old.live ≢ 0 → (handle.new.live ≢ 0) × (handle.new.value ≡ handle.old.value) }
 {
     if let Some(system) = take(alloc, handle) {
         put(handle, system);
@@ -70,7 +71,8 @@ fn start_new(alloc: Global, handle: &mut Handle, region: u32, device: OpenDevice
     requires region { (65536 ≤ region) × (region ≤ 16777216) }
     requires area { is_area area ≡ true }
     requires room { len_of device ≡ 1024 + 2 * area }
-    ensures { result ≡ 0 → (handle.old.live ≡ 0) × (handle.new.live ≡ 1) }
+    ensures made { result ≡ 0 → (handle.old.live ≡ 0) × (handle.new.live ≡ 1) }
+    ensures kept { handle.old.live ≢ 0 → (handle.new.live ≢ 0) × (handle.new.value ≡ handle.old.value) }
 {
     match VmFile::create(alloc, device, area) {
         Ok(file) => start(alloc, handle, region, file),
@@ -84,7 +86,8 @@ fn start_new(alloc: Global, handle: &mut Handle, region: u32, device: OpenDevice
 /// Has a handle hold a kernel with no block, in a region of so many bytes, on a new VM file in memory with areas of so many.
 #[unsafe(no_mangle)]
 pub extern "C" fn takhvoi_new(alloc: Global, handle: &mut Handle, area: u32, region: u32) -> u32
-    ensures { result ≡ 0 → (handle.old.live ≡ 0) × (handle.new.live ≡ 1) }
+    ensures made { result ≡ 0 → (handle.old.live ≡ 0) × (handle.new.live ≡ 1) }
+    ensures kept { handle.old.live ≢ 0 → (handle.new.live ≢ 0) × (handle.new.value ≡ handle.old.value) }
 {
     if !is_region(region) {
         return BAD_SIZE;
@@ -107,7 +110,8 @@ pub extern "C" fn takhvoi_create(
     area: u32,
     region: u32,
 ) -> u32
-    ensures { result ≡ 0 → (handle.old.live ≡ 0) × (handle.new.live ≡ 1) }
+    ensures made { result ≡ 0 → (handle.old.live ≡ 0) × (handle.new.live ≡ 1) }
+    ensures kept { handle.old.live ≢ 0 → (handle.new.live ≢ 0) × (handle.new.value ≡ handle.old.value) }
 {
     if !is_region(region) {
         return BAD_SIZE;
@@ -136,7 +140,8 @@ pub extern "C" fn takhvoi_open(
     region: u32,
     fault: &mut u64,
 ) -> u32
-    ensures { result ≡ 0 → (handle.old.live ≡ 0) × (handle.new.live ≡ 1) }
+    ensures made { result ≡ 0 → (handle.old.live ≡ 0) × (handle.new.live ≡ 1) }
+    ensures kept { handle.old.live ≢ 0 → (handle.new.live ≢ 0) × (handle.new.value ≡ handle.old.value) }
 {
     if !is_region(region) {
         return BAD_SIZE;
