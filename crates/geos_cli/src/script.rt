@@ -237,17 +237,17 @@ fn keep<D: Device + Drop>(kernel: &mut Kernel<D>, how: How) -> Result<(), Refusa
 }
 
 /// Runs the routine of a call, which lends it no block.
-fn run<D: Device + Drop>(
-    machine: &mut Machine,
+fn run<'m, D: Device + Drop>(
+    machine: &'m mut Machine,
     checked: &Checked,
     call: &Call,
     kernel: &mut Kernel<D>,
-) -> Outcome
+) -> &'m Outcome
     requires admitted { may_ask checked.now call.now ≡ true }
     requires unlocked { NoneLocked kernel.old.core.blocks }
     ensures ran { (f : VmFile) → IsFileOf (D.medium.honest kernel.old.device) kernel.old.core f
         → RanWith (D.medium.honest kernel.old.device) (Throughout D.medium kernel.old.device kernel.new.device)
-        checked.now call.now.routine call.now.words no_handles kernel.old.core kernel.new.core result f }
+        checked.now call.now.routine call.now.words no_handles kernel.old.core kernel.new.core result.now f }
     ensures honest { D.medium.honest kernel.new.device ↔ D.medium.honest kernel.old.device }
     ensures unlocked { NoneLocked kernel.new.core.blocks }
     ensures sees { SeesDevice D.medium kernel.old × SeesDevice D.medium kernel.new }

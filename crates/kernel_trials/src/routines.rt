@@ -95,8 +95,9 @@ impl Routines {
         if !admits(checked, routine, &words, &self.lent, kernel) {
             return Ok(Answer::NotAsked("not admitted"));
         }
-        let outcome = Machine::new().run(checked, routine, &words, &self.lent, kernel);
-        Ok(Answer::Text(text_of(alloc, &outcome)?))
+        let mut machine = Machine::new();
+        let outcome = machine.run(checked, routine, &words, &self.lent, kernel);
+        Ok(Answer::Text(text_of(alloc, outcome)?))
     }
 }
 

@@ -142,8 +142,9 @@ impl Trial {
         if !admits(checked, self.routine, &words, &[0; 4], &kernel) {
             return Ok(Answer::Said("not admitted"));
         }
-        let outcome = Machine::new().run(checked, self.routine, &words, &[0; 4], &mut kernel);
-        Ok(Answer::Text(text_of(alloc, &outcome)?))
+        let mut machine = Machine::new();
+        let outcome = machine.run(checked, self.routine, &words, &[0; 4], &mut kernel);
+        Ok(Answer::Text(text_of(alloc, outcome)?))
     }
 }
 

@@ -22,5 +22,11 @@ run-requires-clause-admitted g c =
     let call = c.args.call.now in
     (and_parts (admits image call.routine call.words) (borrows_none image call.routine) c.requires.admitted).0
 
-pub returns-clause-unlocked : goal.returns-clause-unlocked
-returns-clause-unlocked g c = λ h handle. c.run.ensures.locks (vm h) ∙ c.requires.unlocked h handle
+pub returns : goal.returns
+returns g c = record {
+  ran = c.run.ensures.ran;
+  honest = c.run.ensures.honest;
+  unlocked = λ h handle. c.run.ensures.locks (vm h) ∙ c.requires.unlocked h handle;
+  sees = c.run.ensures.sees;
+  steadily = c.run.ensures.steadily;
+}
