@@ -13,4 +13,4 @@ mod obstacle;
 
 pub use changes::{change, contract};
 pub use looks::{find, tell};
-pub use makes::make;
+pub use makes::make_chunk;

@@ -21,7 +21,7 @@ use vm_file::Device;
 /// `NoRoom` too. A block of the file is not marked by it.
 // Made in place, as a change is.
 #[inline(always)]
-pub fn make<D: Device + Drop>(
+pub fn make_chunk<D: Device + Drop>(
     vm: &VmBlocks<D>,
     blocks: &mut Blocks,
     name: Name,

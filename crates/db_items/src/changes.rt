@@ -7,7 +7,7 @@ ghost use Rattle.db_items.specs.Items.{ChangesItem};
 
 use crate::groups::bring_group;
 use block_handles::Blocks;
-use chunk_calls::{change as change_chunks, make as make_chunk};
+use chunk_calls::{change as change_chunks, make_chunk};
 use geos_calls::{Change, Make};
 use geos_terms::{Name, Refusal};
 use vm_blocks::VmBlocks;

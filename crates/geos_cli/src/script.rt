@@ -113,7 +113,7 @@ pub(crate) fn may_commit(checked: &Checked, first: Option<usize>, command: &Comm
 }
 
 /// The VM file keeps one of its pairs of directories; no block of it is locked then, as before.
-fn keep<D: Device + Drop>(kernel: &mut Kernel<D>, how: How) -> Result<(), Refusal>
+fn commit_kernel<D: Device + Drop>(kernel: &mut Kernel<D>, how: How) -> Result<(), Refusal>
     requires { NoneLocked kernel.old.core.blocks }
     ensures calls { Calls (D.medium.honest kernel.old.device) (commit (keeper_of how)) result kernel.old.core kernel.new.core }
     ensures honest { D.medium.honest kernel.new.device ↔ D.medium.honest kernel.old.device }
@@ -165,7 +165,7 @@ pub(crate) fn carry_out<W: Write, D: Device + Drop>(
                 Ok(Err(refusal))
             }
         },
-        Command::Commit(how) => match keep(kernel, *how) {
+        Command::Commit(how) => match commit_kernel(kernel, *how) {
             Ok(()) => Ok(Ok(())),
             Err(refusal) => {
                 print_refusal(refusal, out)?;

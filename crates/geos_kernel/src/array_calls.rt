@@ -29,7 +29,7 @@ impl<D: Device + Drop> Kernel<D> {
         ensures refused { StaysIfRefused result self.old.core.blocks self.new.core.blocks }
         ensures vm { LeavesVm self.old self.new }
     {
-        self.make(name, Make::Canew { element_size })
+        self.make_chunk(name, Make::Canew { element_size })
     }
 
     /// Puts an element of zeros behind the others, of `n` bytes where sizes vary. `BadChunk`

@@ -239,7 +239,7 @@ impl<D: Device + Drop> Kernel<D> {
     /// one of the block that is free. A block of the VM file is marked. `TooBig` and `NoRoom` as
     /// `change`. Spans into the block are stale after it, also where it is refused.
     #[inline(always)]
-    pub fn make(&mut self, name: Name, make: Make) -> Result<u16, Refusal>
+    pub fn make_chunk(&mut self, name: Name, make: Make) -> Result<u16, Refusal>
         requires locked { IsLocked self.old.core name }
         requires marked { MayChange self.old.core name }
         ensures calls { Calls (D.medium.honest self.old.device) (make_row name make) result self.old.core self.new.core }
@@ -248,7 +248,7 @@ impl<D: Device + Drop> Kernel<D> {
         ensures refused { StaysIfRefused result self.old.core.blocks self.new.core.blocks }
         ensures vm { LeavesVm self.old self.new }
     {
-        chunk_calls::make(&self.vm, &mut self.blocks, name, make)
+        chunk_calls::make_chunk(&self.vm, &mut self.blocks, name, make)
     }
 
     /// Tells a number of the chunks of a locked block, as the value says. `BadChunk` where no

@@ -28,7 +28,7 @@ impl<D: Device + Drop> Kernel<D> {
         ensures refused { StaysIfRefused result self.old.core.blocks self.new.core.blocks }
         ensures vm { LeavesVm self.old self.new }
     {
-        self.make(name, Make::Lalloc { n })
+        self.make_chunk(name, Make::Lalloc { n })
     }
 
     /// Frees a chunk of a locked block. `BadChunk` where no chunk of the block has this

@@ -126,7 +126,7 @@ pub(crate) fn change<D: Device + Drop>(
 
 /// Makes a chunk.
 #[inline(never)]
-pub(crate) fn make<D: Device + Drop>(
+pub(crate) fn make_chunk<D: Device + Drop>(
     m: &mut Machine,
     kernel: &mut Kernel<D>,
     i: &Instr,
@@ -140,7 +140,7 @@ pub(crate) fn make<D: Device + Drop>(
     ensures vm { LeavesVm kernel.old kernel.new }
 {
     let make = make_at(m, i);
-    match kernel.make(m.slots[a], make) {
+    match kernel.make_chunk(m.slots[a], make) {
         Ok(c) => {
             m.words[i.b as usize] = c;
             Goes::Along

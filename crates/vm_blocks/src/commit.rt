@@ -32,7 +32,7 @@ fn len_now(blocks: &Blocks, h: u16, held: Held) -> u16
 }
 
 /// Keeps a pair on the device: the blocks that are in memory are taken from there.
-fn keep<D: Device + Drop>(
+fn commit_file<D: Device + Drop>(
     file: &mut VmFile<D>,
     blocks: &Blocks,
     how: How,
@@ -111,45 +111,6 @@ impl<D: Device + Drop> VmBlocks<D> {
         self.map_item = current.map_item;
     }
 
-    /// Keeps the current directory, of the blocks as they are now, beside the saved one: no block is
-    /// marked any more. It is refused as `commit` is.
-    pub fn update(&mut self, blocks: &mut Blocks) -> Result<(), CommitError>
-        requires tied { IsTied D.medium self.old blocks.old }
-        requires free { NoneLocked blocks.old }
-        ensures tied { IsTied D.medium self.new blocks.new }
-        ensures commits { CommitsBlocks D.medium How.Update self.old self.new blocks.old blocks.new result }
-        // Its row of the table of calls, in each memory that the model may have before it.
-        ensures row { DoesRow D.medium vupdate (of_commit result) self.old blocks.old self.new blocks.new }
-    {
-        self.commit(blocks, How::Update)
-    }
-
-    /// Keeps the current directory, of the blocks as they are now, which is the saved one too from
-    /// then on. It is refused as `commit` is.
-    pub fn save(&mut self, blocks: &mut Blocks) -> Result<(), CommitError>
-        requires tied { IsTied D.medium self.old blocks.old }
-        requires free { NoneLocked blocks.old }
-        ensures tied { IsTied D.medium self.new blocks.new }
-        ensures commits { CommitsBlocks D.medium How.Save self.old self.new blocks.old blocks.new result }
-        // Its row of the table of calls, in each memory that the model may have before it.
-        ensures row { DoesRow D.medium vsave (of_commit result) self.old blocks.old self.new blocks.new }
-    {
-        self.commit(blocks, How::Save)
-    }
-
-    /// Goes back to the saved directory, and keeps it: what was not saved is lost, and no block of
-    /// the file stays in memory. It is refused as `commit` is.
-    pub fn revert(&mut self, blocks: &mut Blocks) -> Result<(), CommitError>
-        requires tied { IsTied D.medium self.old blocks.old }
-        requires free { NoneLocked blocks.old }
-        ensures tied { IsTied D.medium self.new blocks.new }
-        ensures commits { CommitsBlocks D.medium How.Revert self.old self.new blocks.old blocks.new result }
-        // Its row of the table of calls, in each memory that the model may have before it.
-        ensures row { DoesRow D.medium vrevert (of_commit result) self.old blocks.old self.new blocks.new }
-    {
-        self.commit(blocks, How::Revert)
-    }
-
     /// Keeps one of the pairs that `How` names, of the blocks as they are now and of the saved
     /// directory, and goes on with it: no block is marked any more. Where it reverts, no block of
     /// the file stays in memory.
@@ -167,7 +128,7 @@ impl<D: Device + Drop> VmBlocks<D> {
         ensures row { DoesRow D.medium (commit (keeper_of how)) (of_commit result) self.old blocks.old self.new blocks.new }
     {
         let cur = self.listed(blocks);
-        match keep(&mut self.file, blocks, how, &cur) {
+        match commit_file(&mut self.file, blocks, how, &cur) {
             Ok(()) => {}
             Err(error) => return Err(error),
         }

@@ -56,7 +56,7 @@ pub(crate) fn length_after(how: How, cur: &Directory, saved: &Directory) -> u32
 }
 
 /// Turns a current and a saved directory into those that a commit keeps.
-pub(crate) fn keep(current: &mut PlacedDirectory, saved: &mut Directory, how: How, cur: &Directory)
+pub(crate) fn go_on(current: &mut PlacedDirectory, saved: &mut Directory, how: How, cur: &Directory)
     requires given { is_directory cur.now ≡ true }
     requires kept { is_directory saved.old ≡ true }
     ensures current { current.new ≡ current_after how cur.now saved.old }

@@ -7,7 +7,7 @@ ghost use Rattle.vm_file.specs.Outcomes.{BeginsWithSync, CausesDisk, CausesNoBlo
 ghost use Rattle.vm_file.specs.Outcomes.{IsCaused, IsHeapUnder, IsRefused, ReadsOnly, WritesOnly};
 ghost use Rattle.vm_file.specs.Reading.{file_at};
 
-use crate::commit::{How, Nothing, Source, are_there, keep, length_after, selector_of};
+use crate::commit::{How, Nothing, Source, are_there, go_on, length_after, selector_of};
 use crate::create::write_new;
 use crate::device::{Device, Disk, write_durably};
 use crate::directory::Directory;
@@ -428,7 +428,7 @@ impl<D: Device + Drop> VmFile<D> {
         match write_durably(&mut self.device, 512, &selector) {
             Ok(()) => {
                 self.second = !self.second;
-                keep(&mut self.current, &mut self.saved, how, cur);
+                go_on(&mut self.current, &mut self.saved, how, cur);
                 Ok(())
             }
             Err(Disk) => {

@@ -20,8 +20,8 @@ returns-in-Err g c =
     item-not_brought d.medium c.args.vm.now h c.bring_group.new.vm c.args.blocks.now c.bring_group.new.blocks (make_row (vm h) x) (enlarges-on_chunks (make_edit x) (vm h)) (make_edit x)
     c.in-Err.refusal c.requires c.in-Err.ensures
 
-pub make-requires : goal.make-requires
-make-requires g c =
+pub make_chunk-requires : goal.make_chunk-requires
+make_chunk-requires g c =
     let d = g.D.Device in let t = c.bring_group.new.blocks in let b = c.in-Ok.ensures in
     record { tied = b.brings.tied; heap = subst (HoldsHeap t) (sym c.vm.ensures) (holds-heap d.medium c.bring_group.new.vm t c.args.group b.brings.tied b.ok.there) }
 
@@ -32,7 +32,7 @@ returns-in-Err-make_chunk g c =
     let h = c.args.group in
     let w = c.bring_group.new.vm in
     let t = c.bring_group.new.blocks in
-    let u = c.make.new.blocks in
+    let u = c.make_chunk.new.blocks in
     let b = c.in-Ok.ensures in
     let e = c.in-Err-make_chunk in
     let comes = subst (λ (n : Name). DiscardsAndEdits w (make_edit x) t u n (Err e.refusal)) c.vm.ensures e.ensures.comes in
@@ -48,7 +48,7 @@ vdirty_changed-requires g c =
     let h = c.args.group in
     let w = c.bring_group.new.vm in
     let t = c.bring_group.new.blocks in
-    let u = c.make.new.blocks in
+    let u = c.make_chunk.new.blocks in
     let b = c.in-Ok.ensures in
     item-unmarked d.medium c.args.vm.now h w c.args.blocks.now t (make_row (vm h) x) (enlarges-on_chunks (make_edit x) (vm h)) (make_edit x) b u
     (subst (KeepsOthers w t u) c.vm.ensures c.in-Ok-make_chunk.ensures.calls.keeps)
@@ -60,7 +60,7 @@ returns g c =
     let h = c.args.group in
     let w = c.bring_group.new.vm in
     let t = c.bring_group.new.blocks in
-    let u = c.make.new.blocks in
+    let u = c.make_chunk.new.blocks in
     let b = c.in-Ok.ensures in
     let e = c.in-Ok-make_chunk in
     let comes = subst (λ (n : Name). DiscardsAndEdits w (make_edit x) t u n (Ok e.item)) c.vm.ensures e.ensures.comes in

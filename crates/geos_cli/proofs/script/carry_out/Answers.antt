@@ -31,18 +31,18 @@ returns-in_err-print_refusal-in-Err-clause-stopped g c =
     (IfErr-any _ (not-lent-stopped
     (g.D.Device.medium.honest c.args.kernel.now.device) _ c.args.checked.now c.args.kernel.now.core c.run_lent.new.kernel.core _ _ c.in-Call.call c.in-Err.refusal c.in-Err.ensures.refused c.in_err-print_refusal-in-Err.ensures.part))
 
-pub returns-in-Ok-keep-clause-ok : goal.returns-in-Ok-keep-clause-ok
-returns-in-Ok-keep-clause-ok g c =
+pub returns-in-Ok-commit_kernel-clause-ok : goal.returns-in-Ok-commit_kernel-clause-ok
+returns-in-Ok-commit_kernel-clause-ok g c =
     rw c.in-Commit.is
-    (commit-ran (g.D.Device.medium.honest c.args.kernel.now.device) _ c.args.checked.now c.args.kernel.now.core c.keep.new.kernel.core _ _ c.in-Ok-keep.ensures.stops c.in-Commit.how _ c.in-Ok-keep.ensures.calls (Appends-nil _))
+    (commit-ran (g.D.Device.medium.honest c.args.kernel.now.device) _ c.args.checked.now c.args.kernel.now.core c.commit_kernel.new.kernel.core _ _ c.in-Ok-commit_kernel.ensures.stops c.in-Commit.how _ c.in-Ok-commit_kernel.ensures.calls (Appends-nil _))
 
-pub returns-in_ok-print_refusal-in-Err-keep-clause-ok : goal.returns-in_ok-print_refusal-in-Err-keep-clause-ok
-returns-in_ok-print_refusal-in-Err-keep-clause-ok g c =
+pub returns-in_ok-print_refusal-in-Err-commit_kernel-clause-ok : goal.returns-in_ok-print_refusal-in-Err-commit_kernel-clause-ok
+returns-in_ok-print_refusal-in-Err-commit_kernel-clause-ok g c =
     rw c.in-Commit.is
-    (commit-ran (g.D.Device.medium.honest c.args.kernel.now.device) _ c.args.checked.now c.args.kernel.now.core c.keep.new.kernel.core _ _ c.in-Err-keep.ensures.stops c.in-Commit.how _ c.in-Err-keep.ensures.calls c.in_ok-print_refusal-in-Err-keep.ensures.ok)
+    (commit-ran (g.D.Device.medium.honest c.args.kernel.now.device) _ c.args.checked.now c.args.kernel.now.core c.commit_kernel.new.kernel.core _ _ c.in-Err-commit_kernel.ensures.stops c.in-Commit.how _ c.in-Err-commit_kernel.ensures.calls c.in_ok-print_refusal-in-Err-commit_kernel.ensures.ok)
 
-pub returns-in_err-print_refusal-in-Err-keep-clause-stopped : goal.returns-in_err-print_refusal-in-Err-keep-clause-stopped
-returns-in_err-print_refusal-in-Err-keep-clause-stopped g c =
+pub returns-in_err-print_refusal-in-Err-commit_kernel-clause-stopped : goal.returns-in_err-print_refusal-in-Err-commit_kernel-clause-stopped
+returns-in_err-print_refusal-in-Err-commit_kernel-clause-stopped g c =
     rw c.in-Commit.is
     (IfErr-any _ (commit-stopped
-    (g.D.Device.medium.honest c.args.kernel.now.device) _ c.args.checked.now c.args.kernel.now.core c.keep.new.kernel.core _ _ c.in-Err-keep.ensures.stops c.in-Commit.how _ c.in-Err-keep.ensures.calls c.in_err-print_refusal-in-Err-keep.ensures.part))
+    (g.D.Device.medium.honest c.args.kernel.now.device) _ c.args.checked.now c.args.kernel.now.core c.commit_kernel.new.kernel.core _ _ c.in-Err-commit_kernel.ensures.stops c.in-Commit.how _ c.in-Err-commit_kernel.ensures.calls c.in_err-print_refusal-in-Err-commit_kernel.ensures.part))

@@ -20,8 +20,8 @@ use Rattle.vm_blocks.proofs.Updating.{committed-tied, recommits}
 use Rattle.vm_blocks.proofs.Whole.{whole-pair}
 use Rattle.vm_blocks.proofs.blocks.VmBlocks.commit.Goals as goal
 
-pub keep-requires : goal.keep-requires
-keep-requires g c =
+pub commit_file-requires : goal.commit_file-requires
+commit_file-requires g c =
     let d = g.D.Device in let now = c.args.self.now in let s = c.args.blocks.now in
     let file : c.self.inside.file ≡ now.file = ap (λ (w : VmState g.row.D.Denot). w.file) c.self.view_is in
     let may : MayCommit (resident_of s) now.file.current (directory_of now s) = may-commit d.medium now s c.requires.tied (listed-legal now s d.medium c.requires.tied) in
@@ -29,7 +29,7 @@ keep-requires g c =
 
 pub returns-in-Err-clause-tied : goal.returns-in-Err-clause-tied
 returns-in-Err-clause-tied g c =
-    let d = g.D.Device in let now = c.args.self.now in let s = c.args.blocks.now in let k = c.keep.new.file in
+    let d = g.D.Device in let now = c.args.self.now in let s = c.args.blocks.now in let k = c.commit_file.new.file in
     let file : c.self.inside.file ≡ now.file = ap (λ (w : VmState g.row.D.Denot). w.file) c.self.view_is in
     let r = recommits c.listed-cur.result (directory_of now s) c.self.inside.file now.file k k c.listed-cur.ensures file refl c.in-Err.ensures.commits in
     subst (λ (w : VmState g.row.D.Denot). IsTied d.medium (record w { file = k }) s) (sym c.self.view_is)
@@ -40,7 +40,7 @@ returns-clause-commits g c =
     let now = c.args.self.now in let w = c.relist.new.self in
     let file : c.self.inside.file ≡ now.file = ap (λ (w : VmState g.row.D.Denot). w.file) c.self.view_is in
     record {
-      file = recommits c.listed-cur.result (directory_of now c.args.blocks.now) c.self.inside.file now.file c.keep.new.file w.file c.listed-cur.ensures file (sym c.relist.ensures.file) c.in-Ok.ensures.commits;
+      file = recommits c.listed-cur.result (directory_of now c.args.blocks.now) c.self.inside.file now.file c.commit_file.new.file w.file c.listed-cur.ensures file (sym c.relist.ensures.file) c.in-Ok.ensures.commits;
       lists = subst (λ (f : FileState g.row.D.Denot). IsListOf w f.current) (sym c.relist.ensures.file) c.relist.ensures.lists;
       store = c.leave.ensures;
       refused = tt;
@@ -53,15 +53,15 @@ returns-clause-tied g c =
 
 pub returns-in-Err-clause-row : goal.returns-in-Err-clause-row
 returns-in-Err-clause-row g c =
-    let d = g.D.Device in let now = c.args.self.now in let s = c.args.blocks.now in let k = c.keep.new.file in let how = c.args.how in let e = c.in-Err.error in
+    let d = g.D.Device in let now = c.args.self.now in let s = c.args.blocks.now in let k = c.commit_file.new.file in let how = c.args.how in let e = c.in-Err.error in
     let file : c.self.inside.file ≡ now.file = ap (λ (w : VmState g.row.D.Denot). w.file) c.self.view_is in
     let r = recommits c.listed-cur.result (directory_of now s) c.self.inside.file now.file k k c.listed-cur.ensures file refl c.in-Err.ensures.commits in
     let after : VmState g.row.D.Denot = record now { file = k } in
     let tied : IsTied d.medium after s = tied-file d.medium now s k (after_current e now.file k r.refused) r.was r.pair c.requires.tied in
     let cur_legal = listed-legal now s d.medium c.requires.tied in
     let may : MayCommit (resident_of s) now.file.current (directory_of now s) = may-commit d.medium now s c.requires.tied cur_legal in
-    let lists : Lists d.medium.image now.file = subst (Lists d.medium.image) file c.keep.ensures.lists in
-    let old_legal : is_directory now.file.saved ≡ true = subst (λ (f : FileState g.row.D.Denot). is_directory f.saved ≡ true) file c.keep.ensures.legal in
+    let lists : Lists d.medium.image now.file = subst (Lists d.medium.image) file c.commit_file.ensures.lists in
+    let old_legal : is_directory now.file.saved ≡ true = subst (λ (f : FileState g.row.D.Denot). is_directory f.saved ≡ true) file c.commit_file.ensures.legal in
     subst (λ (w : VmState g.row.D.Denot). DoesRow d.medium (commit (keeper_of how)) (of_commit (Err e)) now s (record w { file = k }) s) (sym c.self.view_is)
     (commit-does d.medium now after s s how c.requires.tied tied c.requires.free cur_legal old_legal
     (λ good. whole-pair d.medium.image now.file lists (resident_of s) (directory_of now s) may how) (Err e) r tt tt (refl, refl))
@@ -73,7 +73,7 @@ returns-clause-row g c =
     let r = returns-clause-commits g c in
     let cur_legal = listed-legal now s d.medium c.requires.tied in
     let may : MayCommit (resident_of s) now.file.current (directory_of now s) = may-commit d.medium now s c.requires.tied cur_legal in
-    let lists : Lists d.medium.image now.file = subst (Lists d.medium.image) file c.keep.ensures.lists in
-    let old_legal : is_directory now.file.saved ≡ true = subst (λ (f : FileState g.row.D.Denot). is_directory f.saved ≡ true) file c.keep.ensures.legal in
+    let lists : Lists d.medium.image now.file = subst (Lists d.medium.image) file c.commit_file.ensures.lists in
+    let old_legal : is_directory now.file.saved ≡ true = subst (λ (f : FileState g.row.D.Denot). is_directory f.saved ≡ true) file c.commit_file.ensures.legal in
     commit-does d.medium now w s t how c.requires.tied (returns-clause-tied g c) c.requires.free cur_legal old_legal
     (λ good. whole-pair d.medium.image now.file lists (resident_of s) (directory_of now s) may how) (Ok tt) r.file r.lists r.store tt

@@ -98,7 +98,7 @@ returns-in-Err-write_durably-clause-stop g c =
     subst G c.self.view_is (unsure g c).finds
 
 -- both were written
-selected : (g : Over) (c : goal.After-keep g) → let d = g.D.Device in let i = c.self.inside in let x = current_after c.args.how c.args.cur.now i.saved in let y = saved_after c.args.how c.args.cur.now i.saved in
+selected : (g : Over) (c : goal.After-go_on g) → let d = g.D.Device in let i = c.self.inside in let x = current_after c.args.how c.args.cur.now i.saved in let y = saved_after c.args.how c.args.cur.now i.saved in
     SelectedFile d.medium (let f : FileState g.row.D.Denot = record { device = i.device; area = i.area; second = i.second; sure = i.sure; current = i.current; saved = i.saved } in f) c.self.invariant
     (let S : FileState g.row.D.Denot → Type 0 = λ f. f.sure ≡ true in subst S (sym c.self.view_is) c.requires.sure) c.write_durably-2.new.device x y (pair_in x y c.args.bytes.now)
 selected g c =
@@ -129,31 +129,31 @@ pub invariant_of-self-in-Ok-write_durably : goal.invariant_of-self-in-Ok-write_d
 invariant_of-self-in-Ok-write_durably g c =
     let d = g.D.Device in let i = c.self.inside in
     let now : Directory → Directory → FileState g.row.D.Denot = λ a b. record { device = c.write_durably-2.new.device; area = i.area; second = not i.second; sure = i.sure; current = a; saved = b } in
-    kept _ _ (λ a b. IsSound d.medium (now a b)) c.keep.new.current c.keep.new.saved c.keep.ensures.current c.keep.ensures.saved (selected g c).legal
+    kept _ _ (λ a b. IsSound d.medium (now a b)) c.go_on.new.current c.go_on.new.saved c.go_on.ensures.current c.go_on.ensures.saved (selected g c).legal
 
 pub returns-in-Ok-write_durably-clause-pair : goal.returns-in-Ok-write_durably-clause-pair
 returns-in-Ok-write_durably-clause-pair g c =
     let d = g.D.Device in let i = c.self.inside in
     let now : Directory → Directory → FileState g.row.D.Denot = λ a b. record { device = c.write_durably-2.new.device; area = i.area; second = not i.second; sure = i.sure; current = a; saved = b } in
-    let G : FileState g.row.D.Denot → Type 0 = λ f. d.medium.honest f.device → pair_of d.medium.image (now c.keep.new.current c.keep.new.saved) ≡ (pair_in (current_after c.args.how c.args.cur.now f.saved) (saved_after c.args.how c.args.cur.now f.saved) c.args.bytes.now) in
+    let G : FileState g.row.D.Denot → Type 0 = λ f. d.medium.honest f.device → pair_of d.medium.image (now c.go_on.new.current c.go_on.new.saved) ≡ (pair_in (current_after c.args.how c.args.cur.now f.saved) (saved_after c.args.how c.args.cur.now f.saved) c.args.bytes.now) in
     let q = pair_in (current_after c.args.how c.args.cur.now i.saved) (saved_after c.args.how c.args.cur.now i.saved) c.args.bytes.now in
-    subst G c.self.view_is (λ h. kept _ _ (λ a b. pair_of d.medium.image (now a b) ≡ q) c.keep.new.current c.keep.new.saved c.keep.ensures.current c.keep.ensures.saved ((selected g c).pair h))
+    subst G c.self.view_is (λ h. kept _ _ (λ a b. pair_of d.medium.image (now a b) ≡ q) c.go_on.new.current c.go_on.new.saved c.go_on.ensures.current c.go_on.ensures.saved ((selected g c).pair h))
 
 pub returns-in-Ok-write_durably-clause-either : goal.returns-in-Ok-write_durably-clause-either
 returns-in-Ok-write_durably-clause-either g c =
     let d = g.D.Device in let i = c.self.inside in
     let now : Directory → Directory → FileState g.row.D.Denot = λ a b. record { device = c.write_durably-2.new.device; area = i.area; second = not i.second; sure = i.sure; current = a; saved = b } in
-    let G : FileState g.row.D.Denot → Type 0 = λ f. d.medium.honest f.device → Passes d.medium.may_have_left f.device c.write_durably-2.new.device (FindsEither d.medium.image f (now c.keep.new.current c.keep.new.saved)) in
+    let G : FileState g.row.D.Denot → Type 0 = λ f. d.medium.honest f.device → Passes d.medium.may_have_left f.device c.write_durably-2.new.device (FindsEither d.medium.image f (now c.go_on.new.current c.go_on.new.saved)) in
     subst G c.self.view_is
     (λ h. kept _ _ (λ a b. Passes d.medium.may_have_left i.device c.write_durably-2.new.device
-    (FindsEither d.medium.image (let f : FileState g.row.D.Denot = record { device = i.device; area = i.area; second = i.second; sure = i.sure; current = i.current; saved = i.saved } in f) (now a b))) c.keep.new.current c.keep.new.saved c.keep.ensures.current c.keep.ensures.saved ((selected g c).either h))
+    (FindsEither d.medium.image (let f : FileState g.row.D.Denot = record { device = i.device; area = i.area; second = i.second; sure = i.sure; current = i.current; saved = i.saved } in f) (now a b))) c.go_on.new.current c.go_on.new.saved c.go_on.ensures.current c.go_on.ensures.saved ((selected g c).either h))
 
 pub returns-in-Ok-write_durably-clause-stop : goal.returns-in-Ok-write_durably-clause-stop
 returns-in-Ok-write_durably-clause-stop g c =
     let d = g.D.Device in let i = c.self.inside in
     let now : Directory → Directory → FileState g.row.D.Denot = λ a b. record { device = c.write_durably-2.new.device; area = i.area; second = not i.second; sure = i.sure; current = a; saved = b } in
-    let G : FileState g.row.D.Denot → Type 0 = λ f. d.medium.honest f.device → (z : List ℕ) → d.medium.may_leave c.write_durably-2.new.device z → Finds d.medium.image (now c.keep.new.current c.keep.new.saved) z in
-    subst G c.self.view_is (λ h z l. kept _ _ (λ a b. Finds d.medium.image (now a b) z) c.keep.new.current c.keep.new.saved c.keep.ensures.current c.keep.ensures.saved ((selected g c).finds h z l))
+    let G : FileState g.row.D.Denot → Type 0 = λ f. d.medium.honest f.device → (z : List ℕ) → d.medium.may_leave c.write_durably-2.new.device z → Finds d.medium.image (now c.go_on.new.current c.go_on.new.saved) z in
+    subst G c.self.view_is (λ h z l. kept _ _ (λ a b. Finds d.medium.image (now a b) z) c.go_on.new.current c.go_on.new.saved c.go_on.ensures.current c.go_on.ensures.saved ((selected g c).finds h z l))
 
 pub returns-in-Ok-write_durably-clause-bytes : goal.returns-in-Ok-write_durably-clause-bytes
 returns-in-Ok-write_durably-clause-bytes g c =
@@ -233,9 +233,9 @@ returns-in-Ok-write_durably-clause-done g c =
     let i = c.self.inside in let w = c.write_durably-2.new.device in
     let S : FileState g.row.D.Denot → Type 0 = λ f. f.sure ≡ true in
     let sure : i.sure ≡ true = subst S (sym c.self.view_is) c.requires.sure in
-    let made : FileState g.row.D.Denot = record { device = w; area = i.area; second = not i.second; sure = i.sure; current = c.keep.new.current; saved = c.keep.new.saved } in
+    let made : FileState g.row.D.Denot = record { device = w; area = i.area; second = not i.second; sure = i.sure; current = c.go_on.new.current; saved = c.go_on.new.saved } in
     let G : FileState g.row.D.Denot → Type 0 = λ f. made ≡ record { device = w; area = f.area; second = not f.second; sure = true; current = current_after c.args.how c.args.cur.now f.saved; saved = saved_after c.args.how c.args.cur.now f.saved } in
-    subst G c.self.view_is (λ k. record { device = w; area = i.area; second = not i.second; sure = sure k; current = c.keep.ensures.current k; saved = c.keep.ensures.saved k })
+    subst G c.self.view_is (λ k. record { device = w; area = i.area; second = not i.second; sure = sure k; current = c.go_on.ensures.current k; saved = c.go_on.ensures.saved k })
 
 pub returns-in-Err-clause-steadily : goal.returns-in-Err-clause-steadily
 returns-in-Err-clause-steadily g c =
@@ -263,7 +263,7 @@ pub returns-in-Ok-write_durably-clause-steadily : goal.returns-in-Ok-write_durab
 returns-in-Ok-write_durably-clause-steadily g c =
     let d = g.D.Device in let i = c.self.inside in
     let f : FileState g.row.D.Denot = record { device = i.device; area = i.area; second = i.second; sure = i.sure; current = i.current; saved = i.saved } in
-    let now : FileState g.row.D.Denot = record { device = c.write_durably-2.new.device; area = i.area; second = not i.second; sure = i.sure; current = c.keep.new.current; saved = c.keep.new.saved } in
+    let now : FileState g.row.D.Denot = record { device = c.write_durably-2.new.device; area = i.area; second = not i.second; sure = i.sure; current = c.go_on.new.current; saved = c.go_on.new.saved } in
     let A : FileState g.row.D.Denot → Type 0 = λ x. length c.args.bytes.now ≤ x.area in
     let G : FileState g.row.D.Denot → Type 0 = λ x. Steadily d.medium x now in
     subst G c.self.view_is

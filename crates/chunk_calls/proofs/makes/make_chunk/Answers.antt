@@ -9,8 +9,8 @@ use Rattle.chunk_calls.proofs.Coming.{comes-at_once, comes-refused}
 use Rattle.chunk_calls.proofs.Kept.{named-tied}
 use Rattle.chunk_calls.proofs.Rows.{comes-row}
 use Rattle.chunk_calls.proofs.Values.{values-of, where_ok}
-use Rattle.chunk_calls.proofs.makes.make.Goals.{in-Ok, in-Err-Refused, in-Err-Room}
-use Rattle.chunk_calls.proofs.makes.make.Goals as goal
+use Rattle.chunk_calls.proofs.makes.make_chunk.Goals.{in-Ok, in-Err-Refused, in-Err-Room}
+use Rattle.chunk_calls.proofs.makes.make_chunk.Goals as goal
 
 pub returns-clause-comes : goal.returns-clause-comes
 returns-clause-comes g c =

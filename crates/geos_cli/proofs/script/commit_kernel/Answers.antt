@@ -3,7 +3,7 @@ use Rattle.geos_kernel.specs.View.{memory_of}
 use Rattle.geos_kernel.proofs.Seen.{file-on}
 use Rattle.geos_cli.proofs.Commits.{commit-unlocked}
 use Rattle.geos_cli.proofs.LentRuns.{stops-between}
-use Rattle.geos_cli.proofs.script.keep.Goals as goal
+use Rattle.geos_cli.proofs.script.commit_kernel.Goals as goal
 
 pub returns-clause-unlocked : goal.returns-clause-unlocked
 returns-clause-unlocked g c =
