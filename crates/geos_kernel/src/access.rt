@@ -18,70 +18,70 @@ impl<D: Device + Drop> Kernel<D> {
     ghost use Rattle.geos_kernel.specs.Spans.{Stands, IsStanding, IsWritable, SpansStay};
     ghost use Rattle.geos_kernel.specs.View.{IsFileOf};
 
-    /// The byte at the offset `i` of a span, which has one there.
-    pub fn load8(&self, span: Span, i: u16) -> u8
+    /// The byte at the offset `at` of a span, which has one there.
+    pub fn load8(&self, span: Span, at: u16) -> u8
         requires stands { IsStanding self.now.core span }
-        requires within { i < span.len }
+        requires within { at < span.len }
         ensures { (ref : Reference) → Stands self.now.core span ref
-            → Calls (D.medium.honest self.now.device) (table.load8 ref i) (Ok result) self.now.core self.now.core }
+            → Calls (D.medium.honest self.now.device) (table.load8 ref at) (Ok result) self.now.core self.now.core }
     {
-        self.blocks.read8(span.at + u32::from(i))
+        self.blocks.read8(span.at + u32::from(at))
     }
 
-    /// The word at the offset `i` of a span, little end first. The span has both bytes.
-    pub fn load16(&self, span: Span, i: u16) -> u16
+    /// The word at the offset `at` of a span, little end first. The span has both bytes.
+    pub fn load16(&self, span: Span, at: u16) -> u16
         requires stands { IsStanding self.now.core span }
-        requires within { i + 2 ≤ span.len }
+        requires within { at + 2 ≤ span.len }
         ensures { (ref : Reference) → Stands self.now.core span ref
-            → Calls (D.medium.honest self.now.device) (table.load16 ref i) (Ok result) self.now.core self.now.core }
+            → Calls (D.medium.honest self.now.device) (table.load16 ref at) (Ok result) self.now.core self.now.core }
     {
-        self.blocks.read16(span.at + u32::from(i))
+        self.blocks.read16(span.at + u32::from(at))
     }
 
-    /// Writes a byte at the offset `i` of a span, which has one there. A block of the VM file that it
+    /// Writes a byte at the offset `at` of a span, which has one there. A block of the VM file that it
     /// lies in is marked. All spans stay.
-    pub fn store8(&mut self, span: Span, i: u16, byte: u8)
+    pub fn store8(&mut self, span: Span, at: u16, byte: u8)
         requires stands { IsWritable self.old.core span }
-        requires within { i < span.len }
-        ensures row { Stores (D.medium.honest self.old.device) span i (byte ∷ []) self.old.core self.new.core }
+        requires within { at < span.len }
+        ensures row { Stores (D.medium.honest self.old.device) span at (byte ∷ []) self.old.core self.new.core }
         ensures spans { (f : VmFile) → IsFileOf (D.medium.honest self.old.device) self.old.core f → SpansStay self.old.core self.new.core f Nothing }
         ensures vm { LeavesVm self.old self.new }
         ensures remain { Remain self.old.core.blocks self.new.core.blocks 0 }
     {
-        self.blocks.write8(span.at + u32::from(i), byte);
+        self.blocks.write8(span.at + u32::from(at), byte);
     }
 
-    /// Writes a word at the offset `i` of a span, little end first. The span has both bytes, and a
+    /// Writes a word at the offset `at` of a span, little end first. The span has both bytes, and a
     /// block of the VM file that it lies in is marked. All spans stay.
-    pub fn store16(&mut self, span: Span, i: u16, word: u16)
+    pub fn store16(&mut self, span: Span, at: u16, word: u16)
         requires stands { IsWritable self.old.core span }
-        requires within { i + 2 ≤ span.len }
-        ensures row { Stores (D.medium.honest self.old.device) span i (word_bytes word) self.old.core self.new.core }
+        requires within { at + 2 ≤ span.len }
+        ensures row { Stores (D.medium.honest self.old.device) span at (word_bytes word) self.old.core self.new.core }
         ensures spans { (f : VmFile) → IsFileOf (D.medium.honest self.old.device) self.old.core f → SpansStay self.old.core self.new.core f Nothing }
         ensures vm { LeavesVm self.old self.new }
         ensures remain { Remain self.old.core.blocks self.new.core.blocks 0 }
     {
-        self.blocks.write16(span.at + u32::from(i), word);
+        self.blocks.write16(span.at + u32::from(at), word);
     }
 
-    /// Copies the first `n` bytes of `from`, as they were before, to the beginning of `to`,
+    /// Copies the first `len` bytes of `from`, as they were before, to the beginning of `to`,
     /// also where both overlap. Both spans have so many bytes, and a block of the VM file that `to`
     /// lies in is marked. All spans stay.
-    pub fn copy(&mut self, to: Span, from: Span, n: u16)
-        requires to { IsWritable self.old.core to × (n ≤ to.len) }
-        requires from { IsStanding self.old.core from × (n ≤ from.len) }
+    pub fn copy(&mut self, to: Span, from: Span, len: u16)
+        requires to { IsWritable self.old.core to × (len ≤ to.len) }
+        requires from { IsStanding self.old.core from × (len ≤ from.len) }
         ensures row { (target source : Reference) → Stands self.old.core to target → Stands self.old.core from source →
-            Calls (D.medium.honest self.old.device) (table.copy target source n) (Ok tt) self.old.core self.new.core }
+            Calls (D.medium.honest self.old.device) (table.copy target source len) (Ok tt) self.old.core self.new.core }
         ensures spans { (f : VmFile) → IsFileOf (D.medium.honest self.old.device) self.old.core f → SpansStay self.old.core self.new.core f Nothing }
         ensures vm { LeavesVm self.old self.new }
         ensures remain { Remain self.old.core.blocks self.new.core.blocks 0 }
     {
         let blocks = &mut self.blocks;
-        if n == 0 {
+        if len == 0 {
             return;
         }
         // what lies in the region are bytes, as a block that is copied to is to spell
         let _ = blocks.region();
-        blocks.copy(from.at, to.at, u32::from(n));
+        blocks.copy(from.at, to.at, u32::from(len));
     }
 }

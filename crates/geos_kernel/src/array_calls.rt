@@ -32,95 +32,95 @@ impl<D: Device + Drop> Kernel<D> {
         self.make_chunk(name, Make::Canew { element_size })
     }
 
-    /// Puts an element of zeros behind the others, of `n` bytes where sizes vary. `BadChunk`
+    /// Puts an element of zeros behind the others, of `len` bytes where sizes vary. `BadChunk`
     /// where no chunk of the block has this handle, `BadArray` where its bytes are no array;
     /// else refused as `lalloc` is, by the room that the larger array needs, and makes stale
     /// what `canew` does.
-    pub fn caadd(&mut self, name: Name, c: u16, n: u16) -> Result<(), Refusal>
+    pub fn caadd(&mut self, name: Name, chunk: u16, len: u16) -> Result<(), Refusal>
         requires locked { IsLocked self.old.core name }
         requires marked { MayChange self.old.core name }
-        ensures calls { Calls (D.medium.honest self.old.device) (table.caadd name c n) result self.old.core self.new.core }
-        ensures no_room { result ≡ Err NoRoom → HasNoRoomFor self.new.core name (append_element c n (chunks_at self.old.core.blocks name)).chunks }
+        ensures calls { Calls (D.medium.honest self.old.device) (table.caadd name chunk len) result self.old.core self.new.core }
+        ensures no_room { result ≡ Err NoRoom → HasNoRoomFor self.new.core name (append_element chunk len (chunks_at self.old.core.blocks name)).chunks }
         ensures refused { StaysIfRefused result self.old.core.blocks self.new.core.blocks }
         ensures vm { LeavesVm self.old self.new }
     {
-        self.change(name, Change::Caadd { c, n })
+        self.change(name, Change::Caadd { c: chunk, n: len })
     }
 
-    /// Puts an element of zeros at an index, which may be the count, of `n` bytes where sizes
+    /// Puts an element of zeros at an index, which may be the count, of `len` bytes where sizes
     /// vary. `BadChunk` and `BadArray` as `caadd`, `BadElement` where the index is above the
     /// count; else refused, and makes stale, as `caadd`.
-    pub fn cains(&mut self, name: Name, c: u16, i: u16, n: u16) -> Result<(), Refusal>
+    pub fn cains(&mut self, name: Name, chunk: u16, index: u16, len: u16) -> Result<(), Refusal>
         requires locked { IsLocked self.old.core name }
         requires marked { MayChange self.old.core name }
-        ensures calls { Calls (D.medium.honest self.old.device) (table.cains name c i n) result self.old.core self.new.core }
-        ensures no_room { result ≡ Err NoRoom → HasNoRoomFor self.new.core name (insert_element c i n (chunks_at self.old.core.blocks name)).chunks }
+        ensures calls { Calls (D.medium.honest self.old.device) (table.cains name chunk index len) result self.old.core self.new.core }
+        ensures no_room { result ≡ Err NoRoom → HasNoRoomFor self.new.core name (insert_element chunk index len (chunks_at self.old.core.blocks name)).chunks }
         ensures refused { StaysIfRefused result self.old.core.blocks self.new.core.blocks }
         ensures vm { LeavesVm self.old self.new }
     {
-        self.change(name, Change::Cains { c, i, n })
+        self.change(name, Change::Cains { c: chunk, i: index, n: len })
     }
 
     /// Takes an element out. `BadChunk` and `BadArray` as `caadd`, `BadElement` where no
     /// element has this index. Makes stale what `canew` does.
-    pub fn cadel(&mut self, name: Name, c: u16, i: u16) -> Result<(), Refusal>
+    pub fn cadel(&mut self, name: Name, chunk: u16, index: u16) -> Result<(), Refusal>
         requires locked { IsLocked self.old.core name }
         requires marked { MayChange self.old.core name }
-        ensures calls { Calls (D.medium.honest self.old.device) (table.cadel name c i) result self.old.core self.new.core }
+        ensures calls { Calls (D.medium.honest self.old.device) (table.cadel name chunk index) result self.old.core self.new.core }
         ensures refused { StaysIfRefused result self.old.core.blocks self.new.core.blocks }
         ensures vm { LeavesVm self.old self.new }
         ensures remain { Remain self.old.core.blocks self.new.core.blocks 0 }
     {
-        self.change(name, Change::Cadel { c, i })
+        self.change(name, Change::Cadel { c: chunk, i: index })
     }
 
     /// The count of an array's elements. `BadChunk` where no chunk of the block has this
     /// handle, `BadArray` where its bytes are no array.
-    pub fn cacount(&self, name: Name, c: u16) -> Result<u16, Refusal>
+    pub fn cacount(&self, name: Name, chunk: u16) -> Result<u16, Refusal>
         requires { IsLocked self.now.core name }
-        ensures { Calls (D.medium.honest self.now.device) (table.cacount name c) result self.now.core self.now.core }
+        ensures { Calls (D.medium.honest self.now.device) (table.cacount name chunk) result self.now.core self.now.core }
     {
-        self.ask(name, Ask::Cacount { c })
+        self.ask(name, Ask::Cacount { c: chunk })
     }
 
-    /// Where an element's bytes lie, which must be `n` at least. `BadChunk` where no chunk of
+    /// Where an element's bytes lie, which must be `least` at least. `BadChunk` where no chunk of
     /// the block has this handle, `BadArray` where its bytes are no array, `BadElement` where
     /// it has no element of this index, `Short` where the element has fewer bytes. The span
     /// stands until a call makes the chunk's references stale.
-    pub fn caelt(&self, name: Name, c: u16, i: u16, n: u16) -> Result<Span, Refusal>
+    pub fn caelt(&self, name: Name, chunk: u16, index: u16, least: u16) -> Result<Span, Refusal>
         requires { IsLocked self.now.core name }
-        ensures gives { GivesSpan (D.medium.honest self.now.device) (table.caelt name c i n) result self.now.core }
-        ensures stands { IfOk result (λ span. IsStanding self.now.core span × (n ≤ span.len)) }
+        ensures gives { GivesSpan (D.medium.honest self.now.device) (table.caelt name chunk index least) result self.now.core }
+        ensures stands { IfOk result (λ span. IsStanding self.now.core span × (least ≤ span.len)) }
         ensures writable { IfOk result (λ span. MayChange self.now.core name → IsWritable self.now.core span) }
     {
-        self.refer(name, Refer::Caelt { c, i, n })
+        self.refer(name, Refer::Caelt { c: chunk, i: index, n: least })
     }
 
     /// Takes all elements out; their size stays. `BadChunk` and `BadArray` as `caadd`. Makes
     /// stale what `canew` does.
-    pub fn cazero(&mut self, name: Name, c: u16) -> Result<(), Refusal>
+    pub fn cazero(&mut self, name: Name, chunk: u16) -> Result<(), Refusal>
         requires locked { IsLocked self.old.core name }
         requires marked { MayChange self.old.core name }
-        ensures calls { Calls (D.medium.honest self.old.device) (table.cazero name c) result self.old.core self.new.core }
+        ensures calls { Calls (D.medium.honest self.old.device) (table.cazero name chunk) result self.old.core self.new.core }
         ensures refused { StaysIfRefused result self.old.core.blocks self.new.core.blocks }
         ensures vm { LeavesVm self.old self.new }
         ensures remain { Remain self.old.core.blocks self.new.core.blocks 0 }
     {
-        self.change(name, Change::Cazero { c })
+        self.change(name, Change::Cazero { c: chunk })
     }
 
-    /// Gives an element of an array whose sizes vary `n` bytes: its first ones that fit, and
+    /// Gives an element of an array whose sizes vary `len` bytes: its first ones that fit, and
     /// zeros behind them. `BadChunk` as `caadd`, `BadArray` where the chunk's bytes are no
     /// array or its elements have one size, `BadElement` as `cadel`; else refused, and makes
     /// stale, as `caadd`.
-    pub fn caresize(&mut self, name: Name, c: u16, i: u16, n: u16) -> Result<(), Refusal>
+    pub fn caresize(&mut self, name: Name, chunk: u16, index: u16, len: u16) -> Result<(), Refusal>
         requires locked { IsLocked self.old.core name }
         requires marked { MayChange self.old.core name }
-        ensures calls { Calls (D.medium.honest self.old.device) (table.caresize name c i n) result self.old.core self.new.core }
-        ensures no_room { result ≡ Err NoRoom → HasNoRoomFor self.new.core name (resize_element c i n (chunks_at self.old.core.blocks name)).chunks }
+        ensures calls { Calls (D.medium.honest self.old.device) (table.caresize name chunk index len) result self.old.core self.new.core }
+        ensures no_room { result ≡ Err NoRoom → HasNoRoomFor self.new.core name (resize_element chunk index len (chunks_at self.old.core.blocks name)).chunks }
         ensures refused { StaysIfRefused result self.old.core.blocks self.new.core.blocks }
         ensures vm { LeavesVm self.old self.new }
     {
-        self.change(name, Change::Caresize { c, i, n })
+        self.change(name, Change::Caresize { c: chunk, i: index, n: len })
     }
 }

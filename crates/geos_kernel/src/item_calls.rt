@@ -39,99 +39,99 @@ impl<D: Device + Drop> Kernel<D> {
 
     /// Frees a group, and its items with it; the map item is none then if it was of this group.
     /// `BadHandle` where there is no such group, `Locked` where it is locked.
-    pub fn gfree(&mut self, g: u16) -> Result<(), Refusal>
-        ensures calls { Calls (D.medium.honest self.old.device) (table.gfree g) result self.old.core self.new.core }
+    pub fn gfree(&mut self, group: u16) -> Result<(), Refusal>
+        ensures calls { Calls (D.medium.honest self.old.device) (table.gfree group) result self.old.core self.new.core }
         ensures device { AsksNothing self.old self.new }
-        ensures remain { Remain self.old.core.blocks self.new.core.blocks g }
+        ensures remain { Remain self.old.core.blocks self.new.core.blocks group }
     {
-        group_free(&mut self.vm, &mut self.blocks, g)
+        group_free(&mut self.vm, &mut self.blocks, group)
     }
 
     /// Changes the items of a group, as the value says, and marks it; it is brought into memory first.
     /// `BadHandle` where there is no such group, `NoRoom` and `Disk` where it does not come into
     /// memory, as `vlock` says; then refused as `change` is, an item being a chunk of the group. Spans
     /// into the group are stale after it, also where it is refused.
-    pub fn item_change(&mut self, g: u16, change: Change) -> Result<(), Refusal>
-        ensures { CallsItem D.medium (table.on_group g (change_row (vm g) change)) (change_edit change) g result self.old self.new }
+    pub fn item_change(&mut self, group: u16, change: Change) -> Result<(), Refusal>
+        ensures { CallsItem D.medium (table.on_group group (change_row (vm group) change)) (change_edit change) group result self.old self.new }
     {
         // as in `vlock`
         self.vm.is_sure();
-        item_change(&mut self.vm, &mut self.blocks, g, change)
+        item_change(&mut self.vm, &mut self.blocks, group, change)
     }
 
     /// Makes an item of a group, as the value says, marks the group, and answers the item's handle: the
     /// lowest one of the group that is free. It is refused, and makes stale, as `item_change`.
-    pub fn item_make(&mut self, g: u16, make: Make) -> Result<u16, Refusal>
-        ensures { CallsItem D.medium (table.on_group g (make_row (vm g) make)) (make_edit make) g result self.old self.new }
+    pub fn item_make(&mut self, group: u16, make: Make) -> Result<u16, Refusal>
+        ensures { CallsItem D.medium (table.on_group group (make_row (vm group) make)) (make_edit make) group result self.old self.new }
     {
         // as in `vlock`
         self.vm.is_sure();
-        item_make(&mut self.vm, &mut self.blocks, g, make)
+        item_make(&mut self.vm, &mut self.blocks, group, make)
     }
 
-    /// Makes an item of `n` zero bytes, and answers its handle. It is refused, and makes stale, as
+    /// Makes an item of `len` zero bytes, and answers its handle. It is refused, and makes stale, as
     /// `item_make`.
-    pub fn inew(&mut self, g: u16, n: u16) -> Result<u16, Refusal>
-        ensures { CallsItem D.medium (table.inew g n) (alloc n) g result self.old self.new }
+    pub fn inew(&mut self, group: u16, len: u16) -> Result<u16, Refusal>
+        ensures { CallsItem D.medium (table.inew group len) (alloc len) group result self.old self.new }
     {
-        self.item_make(g, Make::Lalloc { n })
+        self.item_make(group, Make::Lalloc { n: len })
     }
 
     /// Frees an item. `BadHandle`, `NoRoom` and `Disk` as `item_change`, `BadChunk` where the group
     /// has no such item.
-    pub fn ifree(&mut self, g: u16, i: u16) -> Result<(), Refusal>
-        ensures { CallsItem D.medium (table.ifree g i) (free i) g result self.old self.new }
+    pub fn ifree(&mut self, group: u16, item: u16) -> Result<(), Refusal>
+        ensures { CallsItem D.medium (table.ifree group item) (free item) group result self.old self.new }
     {
-        self.item_change(g, Change::Lfree { c: i })
+        self.item_change(group, Change::Lfree { c: item })
     }
 
-    /// Gives an item `n` bytes: its first ones that fit, and zeros behind them. It is refused as
+    /// Gives an item `len` bytes: its first ones that fit, and zeros behind them. It is refused as
     /// `ifree` is; then `TooBig` where the group would need more than 65,520 bytes, `NoRoom` where it
     /// must grow and no stretch of the region has room for it.
-    pub fn irealloc(&mut self, g: u16, i: u16, n: u16) -> Result<(), Refusal>
-        ensures { CallsItem D.medium (table.irealloc g i n) (realloc i n) g result self.old self.new }
+    pub fn irealloc(&mut self, group: u16, item: u16, len: u16) -> Result<(), Refusal>
+        ensures { CallsItem D.medium (table.irealloc group item len) (realloc item len) group result self.old self.new }
     {
-        self.item_change(g, Change::Lrealloc { c: i, n })
+        self.item_change(group, Change::Lrealloc { c: item, n: len })
     }
 
-    /// Inserts `n` zero bytes at an offset of an item. It is refused as `irealloc` is, with `Range`
+    /// Inserts `len` zero bytes at an offset of an item. It is refused as `irealloc` is, with `Range`
     /// behind `BadChunk` where the offset is past the item's length.
-    pub fn iins(&mut self, g: u16, i: u16, at: u16, n: u16) -> Result<(), Refusal>
-        ensures { CallsItem D.medium (table.iins g i at n) (insert_bytes i at n) g result self.old self.new }
+    pub fn iins(&mut self, group: u16, item: u16, at: u16, len: u16) -> Result<(), Refusal>
+        ensures { CallsItem D.medium (table.iins group item at len) (insert_bytes item at len) group result self.old self.new }
     {
-        self.item_change(g, Change::Lins { c: i, at, n })
+        self.item_change(group, Change::Lins { c: item, at, n: len })
     }
 
-    /// Deletes `n` bytes at an offset of an item. It is refused as `ifree` is, with `Range` behind
+    /// Deletes `len` bytes at an offset of an item. It is refused as `ifree` is, with `Range` behind
     /// `BadChunk` where they reach past the item's length.
-    pub fn idel(&mut self, g: u16, i: u16, at: u16, n: u16) -> Result<(), Refusal>
-        ensures { CallsItem D.medium (table.idel g i at n) (delete_bytes i at n) g result self.old self.new }
+    pub fn idel(&mut self, group: u16, item: u16, at: u16, len: u16) -> Result<(), Refusal>
+        ensures { CallsItem D.medium (table.idel group item at len) (delete_bytes item at len) group result self.old self.new }
     {
-        self.item_change(g, Change::Ldel { c: i, at, n })
+        self.item_change(group, Change::Ldel { c: item, at, n: len })
     }
 
     /// Locks a group once more, which brings it into memory, and answers where the bytes of an item
-    /// lie, which must be `n` at least. `BadHandle` where there is no such group, `Locked` where its
+    /// lie, which must be `least` at least. `BadHandle` where there is no such group, `Locked` where its
     /// count is 65,535, `NoRoom` and `Disk` where it does not come into memory, as `vlock` says;
     /// `BadChunk` where it has no such item, `Short` where that has fewer bytes. It is locked only
     /// where none of these comes. The span stands until a call on an item of the group makes it stale, or
     /// the last lock is given back.
-    pub fn ilock(&mut self, g: u16, i: u16, n: u16) -> Result<Span, Refusal>
-        ensures gives { LeadsToSpan (D.medium.honest self.old.device) (table.ilock g i n) result self.old.core self.new.core }
-        ensures stands { IfOk result (λ span. IsStanding self.new.core span × (n ≤ span.len)) }
-        ensures writable { IfOk result (λ span. IsMarked self.new.core g → IsWritable self.new.core span) }
-        ensures no_room { result ≡ Err Refusal.NoRoom → ListedHasNoRoom self.new.core g }
-        ensures locks { IsThere self.old.core.blocks (vm_slot g)
-            → OnOk result (self.new.core.blocks ≡ with_lock_more self.old.core.blocks (vm_slot g)) }
-        ensures in_memory { InMemory g result self.old self.new }
-        ensures no_group { (IsGroup self.old.core.vm g → ⊥) → self.new ≡ self.old }
+    pub fn ilock(&mut self, group: u16, item: u16, least: u16) -> Result<Span, Refusal>
+        ensures gives { LeadsToSpan (D.medium.honest self.old.device) (table.ilock group item least) result self.old.core self.new.core }
+        ensures stands { IfOk result (λ span. IsStanding self.new.core span × (least ≤ span.len)) }
+        ensures writable { IfOk result (λ span. IsMarked self.new.core group → IsWritable self.new.core span) }
+        ensures no_room { result ≡ Err Refusal.NoRoom → ListedHasNoRoom self.new.core group }
+        ensures locks { IsThere self.old.core.blocks (vm_slot group)
+            → OnOk result (self.new.core.blocks ≡ with_lock_more self.old.core.blocks (vm_slot group)) }
+        ensures in_memory { InMemory group result self.old self.new }
+        ensures no_group { (IsGroup self.old.core.vm group → ⊥) → self.new ≡ self.old }
         ensures device { ReadsFile D.medium (result ≡ Err Refusal.Disk) self.old self.new }
     {
         // as in `vlock`
         self.vm.is_sure();
-        match item_lock_part(&mut self.vm, &mut self.blocks, g, i, n) {
+        match item_lock_part(&mut self.vm, &mut self.blocks, group, item, least) {
             Ok((at, len)) => Ok(Span {
-                at: self.blocks.place(Name::vm(g)) + at as u32,
+                at: self.blocks.place(Name::vm(group)) + at as u32,
                 len,
             }),
             Err(refusal) => Err(refusal),
@@ -170,11 +170,11 @@ impl<D: Device + Drop> Kernel<D> {
 
     /// Names the map item: a group, and any number for an item of it; or 0 and 0 for none. `BadHandle`
     /// where the group is neither 0 nor a group, `Range` where it is 0 and the item is not.
-    pub fn isetmap(&mut self, g: u16, i: u16) -> Result<(), Refusal>
-        ensures calls { Calls (D.medium.honest self.old.device) (table.isetmap g i) result self.old.core self.new.core }
+    pub fn isetmap(&mut self, group: u16, item: u16) -> Result<(), Refusal>
+        ensures calls { Calls (D.medium.honest self.old.device) (table.isetmap group item) result self.old.core self.new.core }
         ensures device { AsksNothing self.old self.new }
         ensures remain { Remain self.old.core.blocks self.new.core.blocks 0 }
     {
-        set_map_item(&mut self.vm, g, i)
+        set_map_item(&mut self.vm, group, item)
     }
 }

@@ -124,12 +124,12 @@ impl<D: Device + Drop> Kernel<D> {
     }
 
     /// Whether a block of the VM file is marked as changed; `false` where there is none.
-    pub fn marked(&self, h: u16) -> bool
-        ensures mark { result ≡ is_marked_in (held_at self.now.core.vm h) }
+    pub fn marked(&self, handle: u16) -> bool
+        ensures mark { result ≡ is_marked_in (held_at self.now.core.vm handle) }
         ensures model { (f : model_file.VmFile) → IsFileOf (D.medium.honest self.now.device) self.now.core f
-            → result ≡ model.is_marked (memory_of self.now.core f) h }
+            → result ≡ model.is_marked (memory_of self.now.core f) handle }
     {
-        self.vm.marked(h)
+        self.vm.marked(handle)
     }
 
     /// Whether no block of the VM file is locked.
@@ -185,12 +185,12 @@ impl<D: Device + Drop> Kernel<D> {
 
     /// Locks a block of global memory once more. `BadHandle` where there is none, `Locked` where
     /// its count is 65,535.
-    pub fn mlock(&mut self, h: u16) -> Result<(), Refusal>
-        ensures calls { Calls (D.medium.honest self.old.device) (table.mlock h) result self.old.core self.new.core }
+    pub fn mlock(&mut self, handle: u16) -> Result<(), Refusal>
+        ensures calls { Calls (D.medium.honest self.old.device) (table.mlock handle) result self.old.core self.new.core }
         ensures vm { LeavesVm self.old self.new }
         ensures remain { Remain self.old.core.blocks self.new.core.blocks 0 }
     {
-        let locked = self.blocks.lock(Name::mem(h));
+        let locked = self.blocks.lock(Name::mem(handle));
         of_handle(locked)
     }
 
@@ -205,12 +205,12 @@ impl<D: Device + Drop> Kernel<D> {
     }
 
     /// Frees a block of global memory. `BadHandle` where there is none, `Locked` where it is locked.
-    pub fn mfree(&mut self, h: u16) -> Result<(), Refusal>
-        ensures calls { Calls (D.medium.honest self.old.device) (table.mfree h) result self.old.core self.new.core }
+    pub fn mfree(&mut self, handle: u16) -> Result<(), Refusal>
+        ensures calls { Calls (D.medium.honest self.old.device) (table.mfree handle) result self.old.core self.new.core }
         ensures vm { LeavesVm self.old self.new }
         ensures remain { Remain self.old.core.blocks self.new.core.blocks 0 }
     {
-        let freed = self.blocks.free(Name::mem(h));
+        let freed = self.blocks.free(Name::mem(handle));
         of_handle(freed)
     }
 

@@ -57,22 +57,22 @@ impl<D: Device + Drop> Kernel<D> {
     /// none, `Reserved` where it is a group, `Locked` where its count is 65,535, `NoRoom` where no
     /// stretch of the region has room for it, though no other block is left that could be discarded,
     /// `Disk` where the device fails, or gives bytes that are no heap under the handle.
-    pub fn vlock(&mut self, h: u16) -> Result<(), Refusal>
-        ensures calls { Calls (D.medium.honest self.old.device) (table.vlock h) result self.old.core self.new.core }
-        ensures no_room { result ≡ Err Refusal.NoRoom → ListedHasNoRoom self.new.core h }
+    pub fn vlock(&mut self, handle: u16) -> Result<(), Refusal>
+        ensures calls { Calls (D.medium.honest self.old.device) (table.vlock handle) result self.old.core self.new.core }
+        ensures no_room { result ≡ Err Refusal.NoRoom → ListedHasNoRoom self.new.core handle }
         // A block that is in memory is locked without the device; a refusal but for room or the device changes nothing.
-        ensures in_memory { InMemory h result self.old self.new }
-        ensures locks { IsThere self.old.core.blocks (vm_slot h)
-            → OnOk result (self.new.core.blocks ≡ with_lock_more self.old.core.blocks (vm_slot h)) }
+        ensures in_memory { InMemory handle result self.old self.new }
+        ensures locks { IsThere self.old.core.blocks (vm_slot handle)
+            → OnOk result (self.new.core.blocks ≡ with_lock_more self.old.core.blocks (vm_slot handle)) }
         ensures refused { (result ≡ Err Refusal.NoRoom → ⊥) → (result ≡ Err Refusal.Disk → ⊥) → OnErr result (self.new ≡ self.old) }
         ensures device { ReadsFile D.medium (result ≡ Err Refusal.Disk) self.old self.new }
     {
         // what a stop leaves before it
         self.vm.is_sure();
-        if is_group(&self.vm, h) {
+        if is_group(&self.vm, handle) {
             return Err(Refusal::Reserved);
         }
-        let locked = self.vm.vlock(&mut self.blocks, h);
+        let locked = self.vm.vlock(&mut self.blocks, handle);
         of_lock(locked)
     }
 
@@ -101,15 +101,15 @@ impl<D: Device + Drop> Kernel<D> {
 
     /// Frees a block of the file: it is mapped no more. `BadHandle` where there is none, `Reserved`
     /// where it is a group, `Locked` where it is locked.
-    pub fn vfree(&mut self, h: u16) -> Result<(), Refusal>
-        ensures calls { Calls (D.medium.honest self.old.device) (table.vfree h) result self.old.core self.new.core }
+    pub fn vfree(&mut self, handle: u16) -> Result<(), Refusal>
+        ensures calls { Calls (D.medium.honest self.old.device) (table.vfree handle) result self.old.core self.new.core }
         ensures device { AsksNothing self.old self.new }
-        ensures remain { Remain self.old.core.blocks self.new.core.blocks h }
+        ensures remain { Remain self.old.core.blocks self.new.core.blocks handle }
     {
-        if is_group(&self.vm, h) {
+        if is_group(&self.vm, handle) {
             return Err(Refusal::Reserved);
         }
-        let freed = self.vm.vfree(&mut self.blocks, h);
+        let freed = self.vm.vfree(&mut self.blocks, handle);
         of_free(freed)
     }
 
@@ -127,10 +127,10 @@ impl<D: Device + Drop> Kernel<D> {
     }
 
     /// The user ID of a block or group. `BadHandle` where there is none.
-    pub fn vuid(&self, h: u16) -> Result<u16, Refusal>
-        ensures { Calls (D.medium.honest self.now.device) (table.vuid h) result self.now.core self.now.core }
+    pub fn vuid(&self, handle: u16) -> Result<u16, Refusal>
+        ensures { Calls (D.medium.honest self.now.device) (table.vuid handle) result self.now.core self.now.core }
     {
-        of_uid(self.vm.uid(h))
+        of_uid(self.vm.uid(handle))
     }
 
     /// The map block; 0 for none.
@@ -142,18 +142,18 @@ impl<D: Device + Drop> Kernel<D> {
 
     /// Names the map block; 0 is for none. `BadHandle` where there is no such block, `Reserved` where
     /// it is a group.
-    pub fn vsetmap(&mut self, h: u16) -> Result<(), Refusal>
-        ensures calls { Calls (D.medium.honest self.old.device) (table.vsetmap h) result self.old.core self.new.core }
+    pub fn vsetmap(&mut self, handle: u16) -> Result<(), Refusal>
+        ensures calls { Calls (D.medium.honest self.old.device) (table.vsetmap handle) result self.old.core self.new.core }
         ensures device { AsksNothing self.old self.new }
         ensures remain { Remain self.old.core.blocks self.new.core.blocks 0 }
     {
-        if h != 0 && !self.vm.has(h) {
+        if handle != 0 && !self.vm.has(handle) {
             return Err(Refusal::BadHandle);
         }
-        if is_group(&self.vm, h) {
+        if is_group(&self.vm, handle) {
             return Err(Refusal::Reserved);
         }
-        self.vm.set_map(h);
+        self.vm.set_map(handle);
         Ok(())
     }
 

@@ -27,22 +27,22 @@ impl Name {
     pub const HANDLES: u16 = 1024;
 
     /// The name of a block of global memory.
-    pub fn mem(h: u16) -> Name
-        ensures { result ≡ mem h }
+    pub fn mem(handle: u16) -> Name
+        ensures { result ≡ mem handle }
     {
         Name {
             owner: Owner::Mem,
-            h,
+            h: handle,
         }
     }
 
     /// The name of a block of a VM file.
-    pub fn vm(h: u16) -> Name
-        ensures { result ≡ vm h }
+    pub fn vm(handle: u16) -> Name
+        ensures { result ≡ vm handle }
     {
         Name {
             owner: Owner::Vm,
-            h,
+            h: handle,
         }
     }
 }

@@ -102,53 +102,53 @@ impl<D: Device + Drop> VmBlocks<D> {
     }
 
     /// What is listed under a handle.
-    pub fn held(&self, h: u16) -> Option<Held>
-        ensures held { result ≡ held_at self.now h }
-        ensures handle { IfSome result (λ _. IsHandle h) }
+    pub fn held(&self, handle: u16) -> Option<Held>
+        ensures held { result ≡ held_at self.now handle }
+        ensures handle { IfSome result (λ _. IsHandle handle) }
     {
         let entries = &self.entries;
-        if h == 0 || h > Name::HANDLES {
+        if handle == 0 || handle > Name::HANDLES {
             return None;
         }
-        entries.at(h as usize - 1)
+        entries.at(handle as usize - 1)
     }
 
     /// Whether a group has this handle.
-    pub fn has_group(&self, h: u16) -> bool
-        ensures { IsTrue result ↔ IsSomeAnd (held_at self.now h) (λ held. held.uid ≡ group_uid) }
+    pub fn has_group(&self, handle: u16) -> bool
+        ensures { IsTrue result ↔ IsSomeAnd (held_at self.now handle) (λ held. held.uid ≡ group_uid) }
     {
         let entries = &self.entries;
-        if h == 0 || h > Name::HANDLES {
+        if handle == 0 || handle > Name::HANDLES {
             return false;
         }
-        entries.has_group(h as usize - 1)
+        entries.has_group(handle as usize - 1)
     }
 
     /// Whether a block has this handle.
-    pub fn has(&self, h: u16) -> bool
-        ensures { result ≡ is_some (held_at self.now h) }
+    pub fn has(&self, handle: u16) -> bool
+        ensures { result ≡ is_some (held_at self.now handle) }
     {
-        self.held(h).is_some()
+        self.held(handle).is_some()
     }
 
     /// The user ID of a block.
-    pub fn uid(&self, h: u16) -> Option<u16>
-        ensures uid { result ≡ option_map uid_of (held_at self.now h) }
-        ensures row { (s : Store) → IsTied D.medium self.now s → DoesRow D.medium (vuid h) (of_uid result) self.now s self.now s }
+    pub fn uid(&self, handle: u16) -> Option<u16>
+        ensures uid { result ≡ option_map uid_of (held_at self.now handle) }
+        ensures row { (s : Store) → IsTied D.medium self.now s → DoesRow D.medium (vuid handle) (of_uid result) self.now s self.now s }
     {
-        match self.held(h) {
+        match self.held(handle) {
             Some(held) => Some(held.uid),
             None => None,
         }
     }
 
     /// Whether a block is marked as changed; `false` where none has this handle.
-    pub fn marked(&self, h: u16) -> bool
-        ensures mark { result ≡ is_marked_in (held_at self.now h) }
+    pub fn marked(&self, handle: u16) -> bool
+        ensures mark { result ≡ is_marked_in (held_at self.now handle) }
         // The model's mark of it, in each memory that it may have.
-        ensures told { (s : Store) (m : Memory) → IsTied D.medium self.now s → IsMemoryOf D.medium self.now s m → is_marked m h ≡ result }
+        ensures told { (s : Store) (m : Memory) → IsTied D.medium self.now s → IsMemoryOf D.medium self.now s m → is_marked m handle ≡ result }
     {
-        match self.held(h) {
+        match self.held(handle) {
             Some(held) => held.marked,
             None => false,
         }

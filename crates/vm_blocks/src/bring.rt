@@ -74,21 +74,21 @@ impl<D: Device + Drop> VmBlocks<D> {
     /// though every other block of the file that is neither marked nor locked was discarded;
     /// `Disk` where the device fails, or gives bytes that are no heap under this handle. Then the
     /// block is not in memory, and others may have been discarded.
-    pub fn bring(&mut self, blocks: &mut Blocks, h: u16) -> Result<(), BringError>
+    pub fn bring(&mut self, blocks: &mut Blocks, handle: u16) -> Result<(), BringError>
         requires { IsTied D.medium self.old blocks.old }
-        ensures brings { BringsBlock D.medium BringError.NoRoom BringError.Disk h result self.old self.new blocks.old blocks.new }
-        ensures bad_handle { (result ≡ Err BringError.BadHandle) ↔ (held_at self.old h ≡ None) }
-        ensures known { IsThere blocks.old (vm_slot h) → result ≡ Ok tt }
-        ensures ok { OnOk result (Brought blocks.old blocks.new h) }
+        ensures brings { BringsBlock D.medium BringError.NoRoom BringError.Disk handle result self.old self.new blocks.old blocks.new }
+        ensures bad_handle { (result ≡ Err BringError.BadHandle) ↔ (held_at self.old handle ≡ None) }
+        ensures known { IsThere blocks.old (vm_slot handle) → result ≡ Ok tt }
+        ensures ok { OnOk result (Brought blocks.old blocks.new handle) }
         // Its row of the table of calls, in each memory that the model may have before it.
-        ensures row { DoesRow D.medium (bring h) (of_bring result) self.old blocks.old self.new blocks.new }
+        ensures row { DoesRow D.medium (bring handle) (of_bring result) self.old blocks.old self.new blocks.new }
     {
-        let Some(held) = self.held(h) else {
+        let Some(held) = self.held(handle) else {
             return Err(BringError::BadHandle);
         };
-        if blocks.has(Name::vm(h)) {
+        if blocks.has(Name::vm(handle)) {
             return Ok(());
         }
-        self.fetch(blocks, h, held)
+        self.fetch(blocks, handle, held)
     }
 }

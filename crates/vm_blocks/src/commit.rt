@@ -1,6 +1,6 @@
 //! Commits of the blocks of a file.
 ghost use Rattle.std.specs.Prelude.{◌≡◌, length, true};
-ghost use Rattle.geos_calls.specs.VmCalls.{commit, vrevert, vsave, vupdate};
+ghost use Rattle.geos_calls.specs.VmCalls.{commit};
 ghost use Rattle.vm_file.specs.Committing.{CommitsFile, MayCommit};
 ghost use Rattle.vm_file.specs.Directories.{is_directory};
 ghost use Rattle.vm_blocks.specs.Commit.{CommitsBlocks, Lists};

@@ -121,25 +121,25 @@ impl<D: Device + Drop> VmBlocks<D> {
 
     /// Frees a block: it is listed and mapped no more, and leaves the memory. `BadHandle` where
     /// none has this handle, `Locked` where it is locked; nothing changes then.
-    pub fn vfree(&mut self, blocks: &mut Blocks, h: u16) -> Result<(), FreeError>
+    pub fn vfree(&mut self, blocks: &mut Blocks, handle: u16) -> Result<(), FreeError>
         requires { IsTied D.medium self.old blocks.old }
         ensures tied { IsTied D.medium self.new blocks.new }
-        ensures bad_handle { (result ≡ Err FreeError.BadHandle) ↔ (held_at self.old h ≡ None) }
-        ensures locked { (result ≡ Err FreeError.Locked) ↔ (0 < locks_of blocks.old (vm_slot h)) }
-        ensures state { OnOk result (self.new ≡ without_held self.old h) }
-        ensures drops { OnOk result (Drops blocks.old blocks.new h) }
+        ensures bad_handle { (result ≡ Err FreeError.BadHandle) ↔ (held_at self.old handle ≡ None) }
+        ensures locked { (result ≡ Err FreeError.Locked) ↔ (0 < locks_of blocks.old (vm_slot handle)) }
+        ensures state { OnOk result (self.new ≡ without_held self.old handle) }
+        ensures drops { OnOk result (Drops blocks.old blocks.new handle) }
         ensures err { OnErr result ((self.new ≡ self.old) × (blocks.new ≡ blocks.old)) }
         // Its row of the table of calls, in each memory that the model may have before it.
-        ensures row { DoesRow D.medium (free_listed h) (of_free result) self.old blocks.old self.new blocks.new }
+        ensures row { DoesRow D.medium (free_listed handle) (of_free result) self.old blocks.old self.new blocks.new }
     {
-        let Some(_held) = self.held(h) else {
+        let Some(_held) = self.held(handle) else {
             return Err(FreeError::BadHandle);
         };
-        if blocks.locks(Name::vm(h)) > 0 {
+        if blocks.locks(Name::vm(handle)) > 0 {
             return Err(FreeError::Locked);
         }
-        let _ = blocks.free(Name::vm(h));
-        self.unlist(h);
+        let _ = blocks.free(Name::vm(handle));
+        self.unlist(handle);
         Ok(())
     }
 }

@@ -65,14 +65,14 @@ impl<D: Device + Drop> VmBlocks<D> {
     }
 
     /// Names the map block: 0 for none, or a block that is no group.
-    pub fn set_map(&mut self, h: u16)
-        requires { h ≢ 0 → IsSomeAnd (held_at self.old h) (λ e. e.uid ≢ group_uid) }
-        ensures state { self.new ≡ record self.old { map_block = h } }
+    pub fn set_map(&mut self, handle: u16)
+        requires { handle ≢ 0 → IsSomeAnd (held_at self.old handle) (λ e. e.uid ≢ group_uid) }
+        ensures state { self.new ≡ record self.old { map_block = handle } }
         ensures tied { (s : Store) → IsTied D.medium self.old s → IsTied D.medium self.new s }
         // Its row of the table of calls, in each memory that the model may have before it.
-        ensures row { (s : Store) → IsTied D.medium self.old s → DoesRow D.medium (vsetmap h) (Ok tt) self.old s self.new s }
+        ensures row { (s : Store) → IsTied D.medium self.old s → DoesRow D.medium (vsetmap handle) (Ok tt) self.old s self.new s }
     {
-        self.map_block = h;
+        self.map_block = handle;
     }
 
     /// The map item: a group, 0 for none, and an item of it.

@@ -12,14 +12,14 @@ pub invariant_of-self : goal.invariant_of-self
 invariant_of-self g c =
     let d = g.D.Device in let v = c.self.inside.vm in let s = c.self.inside.blocks in
     let e = c.set_map_item.ensures in
-    spared-kernel d.medium v c.set_map_item.new.vm s s c.self.invariant (same-spares s s refl).beside (isetmap c.args.g c.args.i) c.set_map_item.result (e.tied s c.self.invariant.tied) (e.row s c.self.invariant.tied)
+    spared-kernel d.medium v c.set_map_item.new.vm s s c.self.invariant (same-spares s s refl).beside (isetmap c.args.group c.args.item) c.set_map_item.result (e.tied s c.self.invariant.tied) (e.row s c.self.invariant.tied)
 
 pub returns-clause-calls : goal.returns-clause-calls
 returns-clause-calls g c =
     let d = g.D.Device in let v = c.self.inside.vm in let s = c.self.inside.blocks in
-    let w = c.set_map_item.new.vm in let r = c.set_map_item.result in let call = isetmap c.args.g c.args.i in
+    let w = c.set_map_item.new.vm in let r = c.set_map_item.result in let call = isetmap c.args.group c.args.item in
     let e = c.set_map_item.ensures in
-    let file = mapped-file v w (c.args.g, c.args.i) r e.ok e.err in
+    let file = mapped-file v w (c.args.group, c.args.item) r e.ok e.err in
     calls-seen d.medium v s c.args.self.now c.self.view_is (quiet-calls d.medium v w s s file (e.row s c.self.invariant.tied) (same-spares s s refl))
 
 pub returns-clause-remain : goal.returns-clause-remain

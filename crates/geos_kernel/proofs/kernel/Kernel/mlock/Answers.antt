@@ -11,14 +11,14 @@ invariant_of-self g c =
     let d = g.D.Device in let old = c.self.inside.blocks in
     let new = c.lock-locked.new.self in let r = c.lock-locked.result in let e = c.lock-locked.ensures in
     let facts = subst (λ name. LocksSlot old new (slot_of name) r) c.mem.ensures (e.there, e.ok, e.bad_handle, e.locked, e.err) in
-    (lock-done d.medium c.self.inside.vm old c.args.h c.self.invariant new r facts).0
+    (lock-done d.medium c.self.inside.vm old c.args.handle c.self.invariant new r facts).0
 
 pub returns-clause-calls : goal.returns-clause-calls
 returns-clause-calls g c =
     let d = g.D.Device in let v = c.self.inside.vm in let old = c.self.inside.blocks in
     let new = c.lock-locked.new.self in let r = c.lock-locked.result in let e = c.lock-locked.ensures in
     let facts = subst (λ name. LocksSlot old new (slot_of name) r) c.mem.ensures (e.there, e.ok, e.bad_handle, e.locked, e.err) in
-    rw c.of_handle.ensures (calls-seen d.medium v old c.args.self.now c.self.view_is (lock-done d.medium v old c.args.h c.self.invariant new r facts).1)
+    rw c.of_handle.ensures (calls-seen d.medium v old c.args.self.now c.self.view_is (lock-done d.medium v old c.args.handle c.self.invariant new r facts).1)
 
 pub returns-clause-vm : goal.returns-clause-vm
 returns-clause-vm g c = blocks-alone g.D.Device.medium c.self.inside.vm c.self.inside.blocks c.lock-locked.new.self c.args.self.now c.self.view_is
