@@ -17,7 +17,8 @@ use Rattle.chunk_array.proofs.Rewritten.{chunk-small}
 use Rattle.chunk_array.proofs.Roomy.{length-room}
 use Rattle.chunk_array.proofs.Shaped.{Holds, holds}
 
-module _ (b : List ℕ) (c : ℕ) (found : Found) (f : IsFound b c found) (i at n : ℕ) (known : i ≤ found.shape.count) (is : at ≡ element_at f.shape.array i) where
+module _ (b : List ℕ) (c : ℕ) (found : Found) (f : IsFound b c found) (i at n : ℕ) (known : i ≤ found.shape.count)
+    (is : at ≡ element_at f.shape.array i) where
   abbrev pub bytes : List ℕ
   bytes = part b found.at found.len
 
@@ -41,18 +42,32 @@ module _ (b : List ℕ) (c : ℕ) (found : Found) (f : IsFound b c found) (i at 
   pub grown-need : need (with_inserted (chunks b) c at room) ≡ need (with_array (chunks b) c (with_element (array_of (chunks b) c) i n))
   grown-need =
       ap (λ x. need (with_bytes (chunks b) c (with_zeros x at room))) (known-bytes (chunks b) c bytes h.there)
-      ∙ need-length (chunks b) c bytes (with_zeros bytes at room) (spelled (with_element f.shape.array i n)) h.there (length-with_zeros bytes at room within ∙ sym long)
+      ∙ need-length (chunks b) c bytes (with_zeros bytes at room) (spelled (with_element f.shape.array i n)) h.there
+      (length-with_zeros bytes at room within ∙ sym long)
       ∙ sym (ap need grown)
 
   -- and at least the room
   pub grown-big : 65535 < room → 65520 < need (with_array (chunks b) c (with_element (array_of (chunks b) c) i n))
-  grown-big big = let e = ap need grown in omega (arith, e, need-least (chunks b) c bytes (spelled (with_element f.shape.array i n)) h.there, long, big)
+  grown-big big = let e = ap need grown in
+      omega (arith, e, need-least (chunks b) c bytes (spelled (with_element f.shape.array i n)) h.there, long, big)
 
   -- the bytes with room, after they are made
   pub roomy : (d : List ℕ) → IsHeap d → chunks d ≡ with_inserted (chunks b) c at room
-      → (chunk_of (chunks d) c ≡ Some (with_zeros bytes at room)) × HasRoom (with_zeros bytes at room) bytes f.shape.array found.shape (record { index = i; begin = at; len = n })
+      → (chunk_of (chunks d) c ≡ Some (with_zeros bytes at room)) × HasRoom (with_zeros bytes at room) bytes
+      f.shape.array found.shape (record { index = i; begin = at; len = n })
   roomy d heap made =
-      let there = ap (λ xs. chunk_of xs c) made ∙ chunk-written (chunks b) c bytes (with_zeros (bytes_of (chunks b) c) at room) h.there ∙ ap (λ x. Some (with_zeros x at room)) (known-bytes (chunks b) c bytes h.there) in (
+      let there = ap (λ xs. chunk_of xs c) made ∙ chunk-written (chunks b) c bytes (with_zeros (bytes_of (chunks b) c) at room) h.there
+      ∙ ap (λ x. Some (with_zeros x at room)) (known-bytes (chunks b) c bytes h.there) in (
         there,
-        record { is = h.is; small = f.small; count = h.shaped.count; size = h.shaped.size; known = known; begins = is; made = refl; few = chunk-small d c (with_zeros bytes at room) heap there },
+        record {
+          is = h.is;
+          small = f.small;
+          count = h.shaped.count;
+          size = h.shaped.size;
+          known = known;
+          begins =
+              is;
+          made = refl;
+          few = chunk-small d c (with_zeros bytes at room) heap there;
+        },
       )

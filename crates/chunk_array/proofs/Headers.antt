@@ -18,14 +18,22 @@ first-empty k = elim (cases_eq k 0) [
   | inr ne ↦ first-fixed (empty k) ne
 ]
 
-pub header-spells : (bytes : List ℕ) (k : ℕ) → length bytes ≡ 8 → k < 65536 → ((i : ℕ) → get_or (with_header bytes k) i 0 < 256) → with_header bytes k ≡ spelled (empty k)
+pub header-spells : (bytes : List ℕ) (k : ℕ) → length bytes ≡ 8 → k < 65536 → ((i : ℕ) → get_or (with_header bytes k) i 0 < 256)
+    → with_header bytes k ≡ spelled (empty k)
 header-spells bytes k long small are =
-    let b1 = with_word bytes 0 0 in let b2 = with_word b1 2 k in let b3 = with_word b2 4 0 in let b4 = with_word b3 6 8 in
-    let l1 = length-with_word bytes 0 0 in let l2 = length-with_word b1 2 k in let l3 = length-with_word b2 4 0 in let l4 = length-with_word b3 6 8 in
+    let b1 = with_word bytes 0 0 in
+    let b2 = with_word b1 2 k in
+    let b3 = with_word b2 4 0 in
+    let b4 = with_word b3 6 8 in
+    let l1 = length-with_word bytes 0 0 in
+    let l2 = length-with_word b1 2 k in
+    let l3 = length-with_word b2 4 0 in
+    let l4 = length-with_word b3 6 8 in
     let f = first-empty k in
     spells b4 (empty k) (record {
       small = are;
-      count = word-other b3 6 8 0 (inl (omega arith)) ∙ word-other b2 4 0 0 (inl (omega arith)) ∙ word-other b1 2 k 0 (inl (omega arith)) ∙ word-same bytes 0 0 (omega arith) (omega arith);
+      count = word-other b3 6 8 0 (inl (omega arith)) ∙ word-other b2 4 0 0 (inl (omega arith))
+          ∙ word-other b1 2 k 0 (inl (omega arith)) ∙ word-same bytes 0 0 (omega arith) (omega arith);
       size = word-other b3 6 8 2 (inl (omega arith)) ∙ word-other b2 4 0 2 (inl (omega arith)) ∙ word-same b1 2 k small (omega arith);
       zero = word-other b3 6 8 4 (inl (omega arith)) ∙ word-same b2 4 0 (omega arith) (omega arith);
       eight = word-same b3 6 8 (omega arith) (omega arith);

@@ -10,7 +10,8 @@ use Rattle.chunk_array.specs.Removals.{HasPart}
 use Rattle.chunk_array.proofs.Rewritten.{chunk-small}
 use Rattle.chunk_array.proofs.Shaped.{holds}
 
-pub parted : (b : List ℕ) (c i : ℕ) (found : Found) (f : HasIndex b c i found) (place : ElementPlace) → IsHeap b → place.index ≡ i → place.begin ≡ element_at f.is.shape.array i
+pub parted : (b : List ℕ) (c i : ℕ) (found : Found) (f : HasIndex b c i found) (place : ElementPlace) → IsHeap b
+    → place.index ≡ i → place.begin ≡ element_at f.is.shape.array i
     → place.begin + place.len ≡ element_at f.is.shape.array (i + 1) → HasPart (part b found.at found.len) f.is.shape.array found.shape place
 parted b c i found f place heap same begins ends =
     let h = holds b c found f.is in

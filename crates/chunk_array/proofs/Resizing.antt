@@ -19,8 +19,10 @@ use Rattle.chunk_array.proofs.Rewritten.{chunk-small}
 use Rattle.chunk_array.proofs.Refitting.{length-refit}
 use Rattle.chunk_array.proofs.Shaped.{Holds, holds}
 
-module _ (b : List ℕ) (c : ℕ) (found : Found) (f : IsFound b c found) (i n : ℕ) (place : ElementPlace) (none : found.shape.element_size ≡ 0) (known : i < found.shape.count)
-    (at_index : place.index ≡ i) (begins : place.begin ≡ element_at f.shape.array i) (ends : place.begin + place.len ≡ element_at f.shape.array (i + 1)) where
+module _ (b : List ℕ) (c : ℕ) (found : Found) (f : IsFound b c found) (i n : ℕ) (place : ElementPlace)
+    (none : found.shape.element_size ≡ 0) (known : i < found.shape.count)
+    (at_index : place.index ≡ i) (begins : place.begin ≡ element_at f.shape.array i)
+    (ends : place.begin + place.len ≡ element_at f.shape.array (i + 1)) where
   abbrev pub bytes : List ℕ
   bytes = part b found.at found.len
 
@@ -53,13 +55,15 @@ module _ (b : List ℕ) (c : ℕ) (found : Found) (f : IsFound b c found) (i n :
   changed-need =
       let m = length-refit bytes f.shape.array i n h.shaped.reads (h.shaped.size ∙ none) index in
       ap (λ x. need (with_bytes (chunks b) c (changed x))) (known-bytes (chunks b) c bytes h.there)
-      ∙ need-length (chunks b) c bytes (changed bytes) (spelled (with_refit f.shape.array i n)) h.there (omega (arith, length-resized_part bytes place.begin place.len n within, m, size)) ∙ sym (ap need same)
+      ∙ need-length (chunks b) c bytes (changed bytes) (spelled (with_refit f.shape.array i n)) h.there
+      (omega (arith, length-resized_part bytes place.begin place.len n within, m, size)) ∙ sym (ap need same)
 
   -- those bytes, once they are made
   pub refits : (d : List ℕ) → IsHeap d → chunks d ≡ with_bytes (chunks b) c (changed (bytes_of (chunks b) c))
       → (chunk_of (chunks d) c ≡ Some (changed bytes)) × HasRefit (changed bytes) bytes f.shape.array found.shape place n
   refits d heap made =
-      let there = ap (λ xs. chunk_of xs c) made ∙ chunk-written (chunks b) c bytes (changed (bytes_of (chunks b) c)) h.there ∙ ap (λ x. Some (changed x)) (known-bytes (chunks b) c bytes h.there) in (
+      let there = ap (λ xs. chunk_of xs c) made ∙ chunk-written (chunks b) c bytes (changed (bytes_of (chunks b) c)) h.there
+      ∙ ap (λ x. Some (changed x)) (known-bytes (chunks b) c bytes h.there) in (
         there,
         record {
           is = h.is;

@@ -29,7 +29,8 @@ range-bytes b at len bytes is =
     same ∙ ap (part b at) long
 
 -- the whole place of a chunk is written over, as a range of the block
-pub rewritten : (b : List ℕ) (c at len : ℕ) (xs : List ℕ) → IsHeap b → IsPlaced b c at len → at + len ≤ length b → length xs ≡ length (part b at (at + len - at)) → Rewrites b (take at b ++ (xs ++ drop (at + len - at) (drop at b))) c xs
+pub rewritten : (b : List ℕ) (c at len : ℕ) (xs : List ℕ) → IsHeap b → IsPlaced b c at len → at + len ≤ length b
+    → length xs ≡ length (part b at (at + len - at)) → Rewrites b (take at b ++ (xs ++ drop (at + len - at) (drop at b))) c xs
 rewritten b c at len xs heap placed within same_length =
     let p : Place = record { at = at; len = len } in
     let is : at + len - at ≡ len = omega arith in
@@ -37,7 +38,8 @@ rewritten b c at len xs heap placed within same_length =
     let long : length xs ≡ len = same_length ∙ ap (λ n. length (part b at n)) is ∙ length-part b at len within in
     let d = subst (λ (m : ℕ). ChangesChunk b (with_part b m xs) c p 0 xs) start (writes-stay b c p 0 xs heap placed (omega arith)) in
     let whole : with_part (bytes_at b p) 0 xs ≡ xs = with_whole (bytes_at b p) xs (long ∙ sym (length-part b at len within)) in
-    subst (λ (x : List ℕ). Rewrites b x c xs) (sym (put_over b at (at + len - at) len xs within is long)) (record { heap = d.heap; handle = d.handle; chunks = d.chunks ∙ ap (with_bytes (chunks b) c) whole })
+    subst (λ (x : List ℕ). Rewrites b x c xs) (sym (put_over b at (at + len - at) len xs within is long))
+    (record { heap = d.heap; handle = d.handle; chunks = d.chunks ∙ ap (with_bytes (chunks b) c) whole })
 
 -- bytes of a block are bytes
 pub part-small : (b : List ℕ) (at len : ℕ) → ((k : ℕ) → get_or b k 0 < 256) → (k : ℕ) → get_or (part b at len) k 0 < 256
@@ -52,4 +54,5 @@ chunk-small b c bytes heap h = placed (place_of b c) (sym (chunk-place b c) ∙ 
   where
     placed : (p : Option Place) → option_map (bytes_at b) p ≡ Some bytes → length bytes ≤ 65520
     placed None e = absurd (cc)
-    placed (Some p) e = let same : part b p.at p.len ≡ bytes = cc in let l = ap length same in omega (arith, l, heap.0.most, length-take p.len (drop p.at b), length-drop p.at b)
+    placed (Some p) e = let same : part b p.at p.len ≡ bytes = cc in let l = ap length same in
+        omega (arith, l, heap.0.most, length-take p.len (drop p.at b), length-drop p.at b)

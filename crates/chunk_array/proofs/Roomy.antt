@@ -41,9 +41,11 @@ pub record Room (bytes before : List ℕ) (a : Array) (shape : Shape) (place : E
   pub long : length bytes ≡ length before + room_of shape.element_size place.len
   pub count : shape.count + 1 < 65536
 
-pub room : (bytes before : List ℕ) (a : Array) (shape : Shape) (place : ElementPlace) → HasRoom bytes before a shape place → Room bytes before a shape place
+pub room : (bytes before : List ℕ) (a : Array) (shape : Shape) (place : ElementPlace) → HasRoom bytes before a shape place
+    → Room bytes before a shape place
 room bytes before a shape place h =
-    let r = reads before a h.small h.is in let b = element-bounds before a place.index r in
+    let r = reads before a h.small h.is in
+    let b = element-bounds before a place.index r in
     let w : place.begin ≤ length before = omega (arith, h.begins, b.1) in
     let long = ap length h.made ∙ length-with_zeros before place.begin (room_of shape.element_size place.len) w in
     let few = few-elements before a r in
@@ -56,40 +58,53 @@ pub record Openable (bytes : List ℕ) (count at n : ℕ) : Type 0 where
   pub small : length bytes ≤ 65535
   pub offsets : (j : ℕ) → j < count → offset bytes j + (n + 2) ≤ 65535
 
-pub openable : (bytes before : List ℕ) (a : Array) (shape : Shape) (place : ElementPlace) → HasRoom bytes before a shape place → shape.element_size ≡ 0 → Openable bytes shape.count place.begin place.len
+pub openable : (bytes before : List ℕ) (a : Array) (shape : Shape) (place : ElementPlace) → HasRoom bytes before a shape place
+    → shape.element_size ≡ 0 → Openable bytes shape.count place.begin place.len
 openable bytes before a shape place h none =
-    let m = room bytes before a shape place h in let none_a : a.element_size ≡ 0 = h.size ∙ none in
-    let first = first-varying a none_a in let le = first-le a place.index in
+    let m = room bytes before a shape place h in
+    let none_a : a.element_size ≡ 0 = h.size ∙ none in
+    let first = first-varying a none_a in
+    let le = first-le a place.index in
     let more = room-varying shape.element_size place.len none in
     record {
       table = omega (arith, first, le, h.begins, h.count);
       room = omega (arith, m.long, more, m.within);
       small = omega (arith, h.few);
       offsets = (λ j l.
-          let e : offset bytes j ≡ offset before j = ap (λ x. offset x j) h.made ∙ front-word before (replicate (room_of shape.element_size place.len) 0 ++ drop place.begin before) place.begin (8 + 2 * j) (omega (arith, first, le, h.begins, h.count)) m.within in
+          let e : offset bytes j ≡ offset before j = ap (λ x. offset x j) h.made
+          ∙ front-word before (replicate (room_of shape.element_size place.len) 0 ++ drop place.begin before) place.begin
+          (8 + 2 * j) (omega (arith, first, le, h.begins, h.count)) m.within in
           let o = m.reads.spells.offsets none_a j (omega (arith, h.count)) in
           omega (arith, e, o, (element-bounds before a j m.reads).1, m.long, more, h.few));
     }
 
 -- and the new array is spelled
-pub spelled-varying : (bytes new done before : List ℕ) (a : Array) (shape : Shape) (place : ElementPlace) (w : ℕ) → HasRoom bytes before a shape place → shape.element_size ≡ 0
-    → OpensTable bytes new shape.count place.index place.begin place.len → w ≡ shape.count + 1 → done ≡ with_word new 0 w → ((k : ℕ) → get_or done k 0 < 256) → done ≡ spelled (with_element a place.index place.len)
+pub spelled-varying : (bytes new done before : List ℕ) (a : Array) (shape : Shape) (place : ElementPlace) (w : ℕ)
+    → HasRoom bytes before a shape place → shape.element_size ≡ 0
+    → OpensTable bytes new shape.count place.index place.begin place.len → w ≡ shape.count + 1 → done ≡ with_word new 0 w
+    → ((k : ℕ) → get_or done k 0 < 256) → done ≡ spelled (with_element a place.index place.len)
 spelled-varying bytes new done before a shape place w h none o counts made small =
     let m = room bytes before a shape place h in
     inserted-varying before bytes new done a place.index place.len m.reads (h.size ∙ none) (omega (arith, h.known, h.count))
-    (h.made ∙ ap (λ x. with_zeros before x (room_of shape.element_size place.len)) h.begins ∙ ap (with_zeros before (element_at a place.index)) (room-varying shape.element_size place.len none))
-    (subst (λ (x : ℕ). OpensTable bytes new (length a.elements) place.index x place.len) h.begins (subst (λ (x : ℕ). OpensTable bytes new x place.index place.begin place.len) (sym h.count) o)) (made ∙ ap (with_word new 0) (counts ∙ ap (λ x. x + 1) (sym h.count))) (omega (arith, h.count, m.count)) small
+    (h.made ∙ ap (λ x. with_zeros before x (room_of shape.element_size place.len)) h.begins
+    ∙ ap (with_zeros before (element_at a place.index)) (room-varying shape.element_size place.len none))
+    (subst (λ (x : ℕ). OpensTable bytes new (length a.elements) place.index x place.len) h.begins
+    (subst (λ (x : ℕ). OpensTable bytes new x place.index place.begin place.len) (sym h.count) o))
+    (made ∙ ap (with_word new 0) (counts ∙ ap (λ x. x + 1) (sym h.count))) (omega (arith, h.count, m.count)) small
 
-pub spelled-fixed : (bytes done before : List ℕ) (a : Array) (shape : Shape) (place : ElementPlace) (w : ℕ) → HasRoom bytes before a shape place → shape.element_size ≢ 0
+pub spelled-fixed : (bytes done before : List ℕ) (a : Array) (shape : Shape) (place : ElementPlace) (w : ℕ)
+    → HasRoom bytes before a shape place → shape.element_size ≢ 0
     → w ≡ shape.count + 1 → done ≡ with_word bytes 0 w → ((k : ℕ) → get_or done k 0 < 256) → done ≡ spelled (with_element a place.index place.len)
 spelled-fixed bytes done before a shape place w h some counts made small =
     let m = room bytes before a shape place h in
     inserted-fixed before bytes done a place.index place.len m.reads (λ e. some (sym h.size ∙ e)) (omega (arith, h.known, h.count))
-    (h.made ∙ ap (λ x. with_zeros before x (room_of shape.element_size place.len)) h.begins ∙ ap (with_zeros before (element_at a place.index)) (room-fixed shape.element_size place.len some ∙ sym h.size))
+    (h.made ∙ ap (λ x. with_zeros before x (room_of shape.element_size place.len)) h.begins
+    ∙ ap (with_zeros before (element_at a place.index)) (room-fixed shape.element_size place.len some ∙ sym h.size))
     (made ∙ ap (with_word bytes 0) (counts ∙ ap (λ x. x + 1) (sym h.count))) (omega (arith, h.count, m.count)) small
 
 -- the new array takes the room
-pub length-room : (before : List ℕ) (a : Array) (shape : Shape) (i n : ℕ) → Reads before a → length a.elements ≡ shape.count → a.element_size ≡ shape.element_size → i ≤ shape.count
+pub length-room : (before : List ℕ) (a : Array) (shape : Shape) (i n : ℕ) → Reads before a → length a.elements ≡ shape.count
+    → a.element_size ≡ shape.element_size → i ≤ shape.count
     → length (spelled (with_element a i n)) ≡ length before + room_of shape.element_size n
 length-room before a shape i n r count size known =
     let fits : i ≤ length a.elements = omega (arith, count, known) in

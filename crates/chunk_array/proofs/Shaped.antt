@@ -20,18 +20,21 @@ pub record Shaped (bytes : List ℕ) (shape : Shape) (a : Array) : Type 0 where
   pub count : length a.elements ≡ shape.count
   pub size : a.element_size ≡ shape.element_size
 
-pub shaped : (bytes : List ℕ) (shape : Shape) (a : Array) → ((k : ℕ) → get_or bytes k 0 < 256) → HasShape bytes shape → arr bytes ≡ Some a → Shaped bytes shape a
+pub shaped : (bytes : List ℕ) (shape : Shape) (a : Array) → ((k : ℕ) → get_or bytes k 0 < 256) → HasShape bytes shape
+    → arr bytes ≡ Some a → Shaped bytes shape a
 shaped bytes shape a small h is =
     let same = same-array bytes h.array a h.is is in
     subst (λ (x : Array). Shaped bytes shape x) same (record { reads = reads bytes h.array small h.is; count = h.count; size = h.size })
 
 -- where an element begins: by its index where elements have one size
-pub start-fixed : (bytes : List ℕ) (shape : Shape) (a : Array) (i : ℕ) → Shaped bytes shape a → shape.element_size ≢ 0 → i ≤ shape.count → 8 + i * shape.element_size ≡ element_at a i
+pub start-fixed : (bytes : List ℕ) (shape : Shape) (a : Array) (i : ℕ) → Shaped bytes shape a → shape.element_size ≢ 0
+    → i ≤ shape.count → 8 + i * shape.element_size ≡ element_at a i
 start-fixed bytes shape a i s ne h =
     let e = s.reads.equal (λ z. ne (sym s.size ∙ z)) i (omega (arith, s.count)) in ap (λ k. 8 + i * k) (sym s.size) ∙ sym e
 
 -- by its offset where sizes vary
-pub start-varying : (bytes : List ℕ) (shape : Shape) (a : Array) (i : ℕ) → Shaped bytes shape a → shape.element_size ≡ 0 → i < shape.count → word bytes (8 + 2 * i) ≡ element_at a i
+pub start-varying : (bytes : List ℕ) (shape : Shape) (a : Array) (i : ℕ) → Shaped bytes shape a → shape.element_size ≡ 0
+    → i < shape.count → word bytes (8 + 2 * i) ≡ element_at a i
 start-varying bytes shape a i s none h = s.reads.spells.offsets (s.size ∙ none) i (omega (arith, s.count))
 
 -- and at the count at the end
@@ -47,7 +50,8 @@ pub record Starts (bytes : List ℕ) (i at : ℕ) : Type 0 where
   pub start : (a : Array) → arr bytes ≡ Some a → at ≡ element_at a i
   pub within : (8 ≤ at) × (at ≤ length bytes)
 
-pub starts : (bytes : List ℕ) (shape : Shape) (i at : ℕ) → ((k : ℕ) → get_or bytes k 0 < 256) → HasShape bytes shape → ((a : Array) → Shaped bytes shape a → at ≡ element_at a i) → Starts bytes i at
+pub starts : (bytes : List ℕ) (shape : Shape) (i at : ℕ) → ((k : ℕ) → get_or bytes k 0 < 256) → HasShape bytes shape
+    → ((a : Array) → Shaped bytes shape a → at ≡ element_at a i) → Starts bytes i at
 starts bytes shape i at small h begins =
     let s = shaped bytes shape h.array small h h.is in
     let l = element-bounds bytes h.array i s.reads in
@@ -64,10 +68,18 @@ pub record Holds (b : List ℕ) (c : ℕ) (found : Found) (a : Array) : Type 0 w
 pub holds : (b : List ℕ) (c : ℕ) (found : Found) → (f : IsFound b c found) → Holds b c found f.shape.array
 holds b c found f =
     let bytes = part b found.at found.len in
-    record { shaped = shaped bytes found.shape f.shape.array f.small f.shape f.shape.is; is = f.shape.is; there = f.bytes; long = length-part b found.at found.len f.within }
+    record {
+      shaped = shaped bytes found.shape f.shape.array f.small f.shape f.shape.is;
+      is = f.shape.is;
+      there =
+          f.bytes;
+      long = length-part b found.at found.len f.within;
+    }
 
 -- an array has its header's bytes at least
-pub least : (b : List ℕ) (at len : ℕ) (shape : Shape) → ((k : ℕ) → get_or (part b at len) k 0 < 256) → at + len ≤ length b → HasShape (part b at len) shape → 8 ≤ len
+pub least : (b : List ℕ) (at len : ℕ) (shape : Shape) → ((k : ℕ) → get_or (part b at len) k 0 < 256) → at + len ≤ length b
+    → HasShape (part b at len) shape → 8 ≤ len
 least b at len shape small within h =
-    let bytes = part b at len in let s = shaped bytes shape h.array small h h.is in
+    let bytes = part b at len in
+    let s = shaped bytes shape h.array small h h.is in
     let l = element-bounds bytes h.array 0 s.reads in omega (arith, l.0, l.1, length-part b at len within)

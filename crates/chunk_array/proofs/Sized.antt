@@ -14,13 +14,15 @@ equal-sized : (k n : ℕ) (bytes : List ℕ) → length bytes ≡ n * k → All 
 equal-sized k zero bytes h = All-nil (λ x. length x ≡ k)
 equal-sized k (suc n) bytes h =
     let e : suc n * k ≡ k + n * k = omega arith in
-    All-cons (λ x. length x ≡ k) (take k bytes) (equal_parts k n (drop k bytes)) (omega (arith, length-take k bytes, e, h)) (equal-sized k n (drop k bytes) (omega (arith, length-drop k bytes, e, h)))
+    All-cons (λ x. length x ≡ k) (take k bytes) (equal_parts k n (drop k bytes)) (omega (arith, length-take k bytes, e, h))
+    (equal-sized k n (drop k bytes) (omega (arith, length-drop k bytes, e, h)))
 
 -- an array that bytes spell
 pub read-sized : (bytes : List ℕ) (a : Array) → arr bytes ≡ Some a → IsSized a
 unfolding arr
 read-sized bytes a is = elim (cases_Bool (is_array bytes)) [
-  | inl right ↦ (let same : array_in bytes ≡ a = (let e : Some (array_in bytes) ≡ Some a = rw right at is in cc) in subst IsSized same (here bytes right))
+  | inl right ↦ (let same : array_in bytes ≡ a = (let e : Some (array_in bytes) ≡ Some a = rw right at is in cc) in
+      subst IsSized same (here bytes right))
   | inr wrong ↦ absurd (let e : None ≡ Some a = rw wrong at is in cc)
 ]
   where
@@ -38,13 +40,18 @@ empty-sized k some = All-nil (λ x. length x ≡ k)
 
 pub with-sized : (a : Array) (i n : ℕ) → IsSized a → IsSized (with_element a i n)
 with-sized a i n h some =
-    let P : List ℕ → Type 0 = λ x. length x ≡ a.element_size in let z : List ℕ = replicate (new_length a n) 0 in let xs = a.elements in
-    All-append P (take i xs) (z ∷ drop i xs) (All-take P i xs (h some)) (All-cons P z (drop i xs) (length-replicate (new_length a n) 0 ∙ new-fixed a n some) (All-drop P i xs (h some)))
+    let P : List ℕ → Type 0 = λ x. length x ≡ a.element_size in
+    let z : List ℕ = replicate (new_length a n) 0 in
+    let xs = a.elements in
+    All-append P (take i xs) (z ∷ drop i xs) (All-take P i xs (h some))
+    (All-cons P z (drop i xs) (length-replicate (new_length a n) 0 ∙ new-fixed a n some) (All-drop P i xs (h some)))
 
 pub without-sized : (a : Array) (i : ℕ) → IsSized a → IsSized (without_element a i)
 without-sized a i h some =
-    let P : List ℕ → Type 0 = λ x. length x ≡ a.element_size in let xs = a.elements in
+    let P : List ℕ → Type 0 = λ x. length x ≡ a.element_size in
+    let xs = a.elements in
     All-append P (take i xs) (drop (suc i) xs) (All-take P i xs (h some)) (All-drop P (suc i) xs (h some))
 
-pub with-bytes-sized : (a : Array) (i : ℕ) (bytes : List ℕ) → (a.element_size ≢ 0 → length bytes ≡ a.element_size) → IsSized a → IsSized (with_element_bytes a i bytes)
+pub with-bytes-sized : (a : Array) (i : ℕ) (bytes : List ℕ) → (a.element_size ≢ 0 → length bytes ≡ a.element_size)
+    → IsSized a → IsSized (with_element_bytes a i bytes)
 with-bytes-sized a i bytes right h some = All-set (λ x. length x ≡ a.element_size) a.elements i bytes (right some) (h some)

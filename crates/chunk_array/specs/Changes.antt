@@ -18,7 +18,8 @@ pub record ChangesArray (old new : List (Option (List ℕ))) (c : ℕ) (change :
 
 -- an edit of chunks does so, where no refusal comes
 abbrev pub EditsArray : (List (Option (List ℕ)) → Edit (Unit {0})) → ℕ → (Array → Array) → Type 0
-EditsArray edit c change = (chunks : List (Option (List ℕ))) → first_refusal (edit chunks).refusals ≡ None → ChangesArray chunks (edit chunks).chunks c change
+EditsArray edit c change = (chunks : List (Option (List ℕ))) → first_refusal (edit chunks).refusals ≡ None
+    → ChangesArray chunks (edit chunks).chunks c change
 
 -- the edits of the model do what their names say to the array that a chunk spells
 pub record EditsChangeArrays : Type 0 where

@@ -21,7 +21,8 @@ use Rattle.chunk_calls.specs.Others.{KeepsBut, KeepsOthers}
 use Rattle.chunk_calls.proofs.Regrown.{rechunked-other, rechunked-there, rechunked-locks, rechunked-heap, rechunked-handle}
 
 -- a block that is locked is no one that goes
-pub goes-free : {D : Type 0} (v : VmState D) (s t : Store) (but slot : ℕ) → 0 < locks_of s slot → KeptOrGoes v s t but slot → (block_at t slot ≡ block_at s slot) × (place_of t slot ≡ place_of s slot)
+pub goes-free : {D : Type 0} (v : VmState D) (s t : Store) (but slot : ℕ) → 0 < locks_of s slot → KeptOrGoes v s t but slot
+    → (block_at t slot ≡ block_at s slot) × (place_of t slot ≡ place_of s slot)
 goes-free v s t but slot some (inl u) = (u.0, u.1 some)
 goes-free v s t but slot some (inr g) =
     let i = idle (held_at v g.h) (block_at s (vm_slot g.h)) g.idle in
@@ -30,7 +31,8 @@ goes-free v s t but slot some (inr g) =
 
 module _ {D : Type 0} (v : VmState D) where
   -- every other block that is locked is as it was, where it was
-  pub others-locked : (s t : Store) (name : Name) → KeepsBut v s t name → (slot : ℕ) → slot ≢ slot_of name → 0 < locks_of s slot → (block_at t slot ≡ block_at s slot) × (place_of t slot ≡ place_of s slot)
+  pub others-locked : (s t : Store) (name : Name) → KeepsBut v s t name → (slot : ℕ) → slot ≢ slot_of name
+      → 0 < locks_of s slot → (block_at t slot ≡ block_at s slot) × (place_of t slot ≡ place_of s slot)
   others-locked s t name keeps slot ne some = goes-free v s t (own_handle name) slot some (keeps.each slot ne)
 
   pub others-stay : (s t : Store) (name : Name) → KeepsBut v s t name → LockedStay s t (slot_of name)
@@ -44,9 +46,18 @@ module _ {D : Type 0} (v : VmState D) where
     kept-later (inr g) (inr n) = inr (record { h = g.h; handle = g.handle; slot_is = g.slot_is; other = g.other; idle = g.idle; gone = n.gone })
     kept-later (inl p) (inr g) =
         let same : block_at mid (vm_slot g.h) ≡ block_at s (vm_slot g.h) = subst (λ i. block_at mid i ≡ block_at s i) g.slot_is p.0 in
-        inr (record { h = g.h; handle = g.handle; slot_is = g.slot_is; other = g.other; idle = subst (λ o. is_idle_in (held_at v g.h) o ≡ true) same g.idle; gone = g.gone })
+        inr (record {
+          h = g.h;
+          handle = g.handle;
+          slot_is = g.slot_is;
+          other = g.other;
+          idle =
+              subst (λ o. is_idle_in (held_at v g.h) o ≡ true) same g.idle;
+          gone = g.gone;
+        })
 
-  pub keeps-later : (s mid t : Store) (name : Name) → Thins v s mid (own_handle name) → block_at mid (slot_of name) ≡ block_at s (slot_of name) → KeepsOthers v mid t name → KeepsOthers v s t name
+  pub keeps-later : (s mid t : Store) (name : Name) → Thins v s mid (own_handle name) → block_at mid (slot_of name) ≡ block_at s (slot_of name)
+      → KeepsOthers v mid t name → KeepsOthers v s t name
   keeps-later s mid t name thins own keeps = record {
     others = record {
       each = λ slot ne. kept-later s mid t (own_handle name) slot (thins.each slot) (keeps.others.each slot ne);
@@ -73,7 +84,12 @@ module _ {D : Type 0} (v : VmState D) where
     -- the block has other chunks
     pub rechunked-keeps : (cs : List (Option (List ℕ))) (n : ℕ) → Rechunks s t (slot_of name) cs n → KeepsOthers v s t name
     rechunked-keeps cs n r = record {
-      others = record { each = λ slot ne. inl (rechunked-other s t (slot_of name) holds.there cs n r slot ne, λ some. r.stay slot ne some); laid = r.laid laid; len = r.len };
+      others = record {
+        each = λ slot ne. inl (rechunked-other s t (slot_of name) holds.there cs n r slot ne, λ some. r.stay slot ne some);
+        laid =
+            r.laid laid;
+        len = r.len;
+      };
       there = rechunked-there s t (slot_of name) holds.there cs n r;
       locks = rechunked-locks s t (slot_of name) holds.there cs n r;
       heap = rechunked-heap s t (slot_of name) holds.there cs n r;
@@ -92,7 +108,11 @@ module _ {D : Type 0} (v : VmState D) where
   module _ {A : Type 0} (edit : List (Option (List ℕ)) → Edit A) (s t : Store) (name : Name) (laid : IsLaidOut s) (holds : HoldsHeap s name) where
     pub comes-keeps : (r : Result A Refusal) → DiscardsAndEdits v edit s t name r → KeepsOthers v s t name
     comes-keeps r c =
-        let still : HoldsHeap c.mid name = record { there = subst IsBlock (sym c.own) holds.there; heap = subst (λ o. IsHeap (store.bytes_in o)) (sym c.own) holds.heap } in
+        let still : HoldsHeap c.mid name = record {
+          there = subst IsBlock (sym c.own) holds.there;
+          heap =
+              subst (λ o. IsHeap (store.bytes_in o)) (sym c.own) holds.heap;
+        } in
         keeps-later s c.mid t name c.thins c.own (grows-keeps edit c.mid t name c.thins.laid still r c.grows)
 
     pub carries-keeps : (grows : Bool) (r : Result A Refusal) → Carries grows v edit s t name r → KeepsOthers v s t name

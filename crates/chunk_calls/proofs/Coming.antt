@@ -45,14 +45,16 @@ module _ {D A : Type 0} (v : VmState D) (edit : List (Option (List ℕ)) → Edi
     none = λ e. absurd (not-both answer refusal.NoRoom e);
   }
 
-  pub comes-refused : AsksNoRoom edit → (new : Store) (why : Refusal) → Tries edit old new name (Err (Refused why)) → DiscardsAndEdits v edit old new name (Err why)
+  pub comes-refused : AsksNoRoom edit → (new : Store) (why : Refusal) → Tries edit old new name (Err (Refused why))
+      → DiscardsAndEdits v edit old new name (Err why)
   comes-refused never new why t = record {
     mid = old;
     thins = thins-none v old (own_handle name) laid;
     wanted = inl refl;
     own = refl;
     grows = (inl t.0, t.1);
-    none = λ e. absurd (never (chunks_at old name) (subst (λ w. first_refusal (edit (chunks_at old name)).refusals ≡ Some w) (same-error {A = A} why refusal.NoRoom e) t.0));
+    none = λ e. absurd (never (chunks_at old name) (subst (λ w. first_refusal (edit (chunks_at old name)).refusals ≡ Some w)
+        (same-error {A = A} why refusal.NoRoom e) t.0));
   }
 
   -- the room that an edit wants was made: others were discarded, and the block has grown
@@ -69,7 +71,8 @@ module _ {D A : Type 0} (v : VmState D) (edit : List (Option (List ℕ)) → Edi
   -- it wanted room
   module _ (r : RoomError) (grown : Store) (first : Tries edit old old name (Err (Room r))) where
     -- what it asks for is asked of any block with the same bytes
-    asked-on : (mid : Store) → block_at mid (slot_of name) ≡ block_at old (slot_of name) → (x : RoomError) → IsObstacle (Room x) (edit (chunks_at old name)) (size_at old name)
+    asked-on : (mid : Store) → block_at mid (slot_of name) ≡ block_at old (slot_of name) → (x : RoomError)
+        → IsObstacle (Room x) (edit (chunks_at old name)) (size_at old name)
         → IsObstacle (Room x) (edit (chunks_at mid name)) (size_at mid name)
     asked-on mid own x asked = subst (λ o. IsObstacle (Room x) (edit (block.chunks (bytes_in o))) (length (bytes_in o))) (sym own) asked
 
@@ -77,7 +80,8 @@ module _ {D A : Type 0} (v : VmState D) (edit : List (Option (List ℕ)) → Edi
     pub comes-lacking : (why : Refusal) → GivesRoom v r (Err why) old grown name → DiscardsAndEdits v edit old grown name (Err why)
     comes-lacking why m = lacks r first.0 m
       where
-        lacks : (x : RoomError) → IsObstacle (Room x) (edit (chunks_at old name)) (size_at old name) → GivesRoom v x (Err why) old grown name → DiscardsAndEdits v edit old grown name (Err why)
+        lacks : (x : RoomError) → IsObstacle (Room x) (edit (chunks_at old name)) (size_at old name)
+            → GivesRoom v x (Err why) old grown name → DiscardsAndEdits v edit old grown name (Err why)
         lacks room.TooBig asked n =
             let is = same-error {A = Unit {0}} why refusal.TooBig n.0 in
             record {
@@ -91,7 +95,8 @@ module _ {D A : Type 0} (v : VmState D) (edit : List (Option (List ℕ)) → Edi
         lacks (room.NeedMore k) asked n =
             let now = asked-on n.mid n.own (room.NeedMore k) asked in
             let finds = n.no_room.0 in
-            let lack : CannotHold refusal.NoRoom n.mid name (edit (chunks_at n.mid name)).chunks = (now.1.1, now.1.2, subst (HasNoRoom n.mid (slot_of name)) now.1.0 finds.1) in
+            let lack : CannotHold refusal.NoRoom n.mid name (edit (chunks_at n.mid name)).chunks =
+            (now.1.1, now.1.2, subst (HasNoRoom n.mid (slot_of name)) now.1.0 finds.1) in
             record {
               mid = n.mid;
               thins = n.thins;
@@ -106,7 +111,8 @@ module _ {D A : Type 0} (v : VmState D) (edit : List (Option (List ℕ)) → Edi
       made : Made grown
       made = got r first.0 m
         where
-          got : (x : RoomError) → IsObstacle (Room x) (edit (chunks_at old name)) (size_at old name) → GivesRoom v x (Ok done) old grown name → Made grown
+          got : (x : RoomError) → IsObstacle (Room x) (edit (chunks_at old name)) (size_at old name)
+              → GivesRoom v x (Ok done) old grown name → Made grown
           got room.TooBig asked n = absurd (not-both {A = Unit {0}} done refusal.TooBig n.0)
           got (room.NeedMore k) asked n =
               let now = asked-on n.mid n.own (room.NeedMore k) asked in
@@ -148,12 +154,14 @@ module _ {D A : Type 0} (v : VmState D) (edit : List (Option (List ℕ)) → Edi
       comes-once new (Room again) t = asks-once f made.mid grown name still made.less made.small made.made again t.0.1
 
 -- room that was refused for another reason than that there is none left all as it was
-pub lacking-stays : {D A : Type 0} (v : VmState D) (old new : Store) (name : Name) (r : RoomError) (why : Refusal) → GivesRoom v r (Err why) old new name → (◌≡◌ {A = Result A Refusal} (Err why) (Err refusal.NoRoom) → ⊥) → new ≡ old
+pub lacking-stays : {D A : Type 0} (v : VmState D) (old new : Store) (name : Name) (r : RoomError) (why : Refusal)
+    → GivesRoom v r (Err why) old new name → (◌≡◌ {A = Result A Refusal} (Err why) (Err refusal.NoRoom) → ⊥) → new ≡ old
 lacking-stays v old new name room.TooBig why m other = m.1
 lacking-stays v old new name (room.NeedMore k) why m other = absurd (other (ap Err m.no_room.0.0))
 
 -- An edit that was tried once, of a block that may grow or not
-module _ {D A : Type 0} (v : VmState D) (grows : Bool) (edit : List (Option (List ℕ)) → Edit A) (old new : Store) (name : Name) (laid : IsLaidOut old) where
+module _ {D A : Type 0} (v : VmState D) (grows : Bool) (edit : List (Option (List ℕ)) → Edit A) (old new : Store)
+    (name : Name) (laid : IsLaidOut old) where
   pub carries-done : (answer : A) → Tries edit old new name (Ok answer) → Carries grows v edit old new name (Ok answer)
   carries-done answer t = done grows
     where

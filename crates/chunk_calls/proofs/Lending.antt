@@ -48,7 +48,8 @@ chunk-there cs c some = known (chunk_of cs c) some
     known None s = absurd cc
     known (Some bytes) s = refl
 
-pub chunk-absent : (cs : List (Option (List ℕ))) (c : ℕ) (others : List (Bool × Refusal)) → chunk_of cs c ≡ None → first_refusal (edits.no_chunk cs c ∷ others) ≡ Some refusal.BadChunk
+pub chunk-absent : (cs : List (Option (List ℕ))) (c : ℕ) (others : List (Bool × Refusal)) → chunk_of cs c ≡ None
+    → first_refusal (edits.no_chunk cs c ∷ others) ≡ Some refusal.BadChunk
 chunk-absent cs c others none = rw none refl
 
 -- one whose second test is for an offset passes where it lies in the chunk, and is refused
@@ -69,7 +70,8 @@ offset-past cs c at some past = rw (below (edits.length_of cs c) at past) (known
     known None s = absurd cc
     known (Some bytes) s = refl
 
-module _ {A : Type 0} (edit : List (Option (List ℕ)) → Edit A) (old : Store) (name : Name) (there : IsThere old (slot_of name)) (ws was : List ℕ) (value : was ≡ bytes_of old (slot_of name)) where
+module _ {A : Type 0} (edit : List (Option (List ℕ)) → Edit A) (old : Store) (name : Name) (there : IsThere old (slot_of name))
+    (ws was : List ℕ) (value : was ≡ bytes_of old (slot_of name)) where
   abbrev new : Store
   new = with_bytes old (slot_of name) ws
 
@@ -78,19 +80,27 @@ module _ {A : Type 0} (edit : List (Option (List ℕ)) → Edit A) (old : Store)
   made = edit (block.chunks was)
 
   module _ (long : length ws ≡ length was) (heap : IsHeap ws) (handle : block.handle_word ws ≡ block.handle_word was) where
-    pub lent-tried : (answer : A) → answer ≡ made.answer → first_refusal made.refusals ≡ None → block.chunks ws ≡ made.chunks → Tries edit old new name (Ok answer)
+    pub lent-tried : (answer : A) → answer ≡ made.answer → first_refusal made.refusals ≡ None → block.chunks ws ≡ made.chunks
+        → Tries edit old new name (Ok answer)
     lent-tried answer told passed spells = (
-      (told ∙ ap (λ bytes. (edit (block.chunks bytes)).answer) value, subst (λ bytes. first_refusal (edit (block.chunks bytes)).refusals ≡ None) value passed),
+      (
+        told ∙ ap (λ bytes. (edit (block.chunks bytes)).answer) value,
+        subst (λ bytes. first_refusal (edit (block.chunks bytes)).refusals ≡ None) value passed,
+      ),
       lent-heap old (slot_of name) there ws was _ value long heap handle (spells ∙ ap (λ bytes. (edit (block.chunks bytes)).chunks) value),
     )
 
   pub lent-map_err : (o : Obstacle) → IsObstacle o made (length was) → ws ≡ was → Tries edit old new name (Err o)
-  lent-map_err o h same = (subst (λ bytes. IsObstacle o (edit (block.chunks bytes)) (length bytes)) value h, lent-same old (slot_of name) there ws was value same)
+  lent-map_err o h same = (
+    subst (λ bytes. IsObstacle o (edit (block.chunks bytes)) (length bytes)) value h,
+    lent-same old (slot_of name) there ws was value same,
+  )
 
 -- What heaps and arrays tell
 
 -- what the method makes of a result
-pub mapped : {A E F : Type 0} (why : E → F) (r : Result A E) (s : Result A F) → MatchResult r (λ x. s ≡ Ok x) (λ e. IsErrAnd s (λ o. o ≡ why e)) → s ≡ map_err why r
+pub mapped : {A E F : Type 0} (why : E → F) (r : Result A E) (s : Result A F) → MatchResult r (λ x. s ≡ Ok x) (λ e. IsErrAnd s (λ o. o ≡ why e))
+    → s ≡ map_err why r
 mapped why (Ok x) s h = h
 mapped why (Err e) (Ok x) h = absurd h
 mapped why (Err e) (Err o) h = ap Err h
@@ -100,7 +110,8 @@ map_err-twice why later (Ok x) = refl
 map_err-twice why later (Err e) = refl
 
 -- and where it is called twice
-pub mapped-twice : {A E F G : Type 0} (why : E → F) (later : F → G) (r : Result A E) (m : Result A F) (s : Result A G) → MatchResult r (λ x. m ≡ Ok x) (λ e. IsErrAnd m (λ o. o ≡ why e))
+pub mapped-twice : {A E F G : Type 0} (why : E → F) (later : F → G) (r : Result A E) (m : Result A F) (s : Result A G)
+    → MatchResult r (λ x. m ≡ Ok x) (λ e. IsErrAnd m (λ o. o ≡ why e))
     → MatchResult m (λ x. s ≡ Ok x) (λ e. IsErrAnd s (λ o. o ≡ later e)) → s ≡ map_err (λ e. later (why e)) r
 mapped-twice why later r m s h k = mapped later m s k ∙ ap (map_err later) (mapped why r m h) ∙ map_err-twice why later r
 
@@ -113,52 +124,65 @@ pub if_err-map : {A E : Type 0} {P Q : E → Type 0} (r : Result A E) → ((e : 
 if_err-map (Ok x) f p = tt
 if_err-map (Err e) f p = f e p
 
-module _ {E : Type 0} (edit : List (Option (List ℕ)) → Edit (Unit {0})) (old : Store) (name : Name) (there : IsThere old (slot_of name)) (ws was : List ℕ) (value : was ≡ bytes_of old (slot_of name))
+module _ {E : Type 0} (edit : List (Option (List ℕ)) → Edit (Unit {0})) (old : Store) (name : Name)
+    (there : IsThere old (slot_of name)) (ws was : List ℕ) (value : was ≡ bytes_of old (slot_of name))
     (long : length ws ≡ length was) (heap : IsHeap ws) (handle : block.handle_word ws ≡ block.handle_word was) (why : E → Obstacle) where
   abbrev e : Edit (Unit {0})
   e = edit (block.chunks was)
 
   -- a change of what they hold, which answers nothing
-  pub lent : (r : Result (Unit {0}) E) → OnOk r ((first_refusal e.refusals ≡ None) × (block.chunks ws ≡ e.chunks)) → IfErr r (λ error. IsObstacle (why error) e (length was)) → OnErr r (ws ≡ was)
+  pub lent : (r : Result (Unit {0}) E) → OnOk r ((first_refusal e.refusals ≡ None) × (block.chunks ws ≡ e.chunks))
+      → IfErr r (λ error. IsObstacle (why error) e (length was)) → OnErr r (ws ≡ was)
       → Tries edit old (with_bytes old (slot_of name) ws) name (map_err why r)
   lent (Ok done) ok refused same = lent-tried edit old name there ws was value long heap handle tt refl ok.0 ok.1
   lent (Err error) ok refused same = lent-map_err edit old name there ws was value (why error) refused same
 
 -- one that makes a chunk, which is refused room alone
-pub lent-made : (edit : List (Option (List ℕ)) → Edit ℕ) (old : Store) (name : Name) → IsThere old (slot_of name) → (ws was : List ℕ) → was ≡ bytes_of old (slot_of name) → length ws ≡ length was → IsHeap ws
-    → block.handle_word ws ≡ block.handle_word was → (edit (block.chunks was)).refusals ≡ [] → (r : Result ℕ RoomError) → IfOk r (λ c. (c ≡ (edit (block.chunks was)).answer) × (block.chunks ws ≡ (edit (block.chunks was)).chunks))
-    → IfErr r (λ room. IsRoomError room (need (edit (block.chunks was)).chunks) (length was)) → OnErr r (ws ≡ was) → Tries edit old (with_bytes old (slot_of name) ws) name (map_err Room r)
-lent-made edit old name there ws was value long heap handle none (Ok c) ok refused same = lent-tried edit old name there ws was value long heap handle c ok.0 (ap first_refusal none) ok.1
-lent-made edit old name there ws was value long heap handle none (Err room) ok refused same = lent-map_err edit old name there ws was value (Room room) (ap first_refusal none, refused) same
+pub lent-made : (edit : List (Option (List ℕ)) → Edit ℕ) (old : Store) (name : Name) → IsThere old (slot_of name)
+    → (ws was : List ℕ) → was ≡ bytes_of old (slot_of name) → length ws ≡ length was → IsHeap ws
+    → block.handle_word ws ≡ block.handle_word was → (edit (block.chunks was)).refusals ≡ [] → (r : Result ℕ RoomError)
+    → IfOk r (λ c. (c ≡ (edit (block.chunks was)).answer) × (block.chunks ws ≡ (edit (block.chunks was)).chunks))
+    → IfErr r (λ room. IsRoomError room (need (edit (block.chunks was)).chunks) (length was)) → OnErr r (ws ≡ was)
+    → Tries edit old (with_bytes old (slot_of name) ws) name (map_err Room r)
+lent-made edit old name there ws was value long heap handle none (Ok c) ok refused same =
+    lent-tried edit old name there ws was value long heap handle c ok.0 (ap first_refusal none) ok.1
+lent-made edit old name there ws was value long heap handle none (Err room) ok refused same =
+    lent-map_err edit old name there ws was value (Room room) (ap first_refusal none, refused) same
 
 -- Their errors are the obstacles of the edits
 
-pub append-hinders : (e : Edit (Unit {0})) (size : ℕ) (error : AppendError) → IsGrowthError (as_growth_error error) e.refusals (need e.chunks) size → IsObstacle (why_not_appended error) e size
+pub append-hinders : (e : Edit (Unit {0})) (size : ℕ) (error : AppendError) → IsGrowthError (as_growth_error error) e.refusals (need e.chunks) size
+    → IsObstacle (why_not_appended error) e size
 append-hinders e size append.BadChunk h = h
 append-hinders e size append.BadArray h = h
 append-hinders e size (append.Room r) h = h
 
-pub growth-hinders : (e : Edit (Unit {0})) (size : ℕ) (error : GrowthError) → IsGrowthError error e.refusals (need e.chunks) size → IsObstacle (why_not_grown error) e size
+pub growth-hinders : (e : Edit (Unit {0})) (size : ℕ) (error : GrowthError) → IsGrowthError error e.refusals (need e.chunks) size
+    → IsObstacle (why_not_grown error) e size
 growth-hinders e size growth.BadChunk h = h
 growth-hinders e size growth.BadArray h = h
 growth-hinders e size growth.BadElement h = h
 growth-hinders e size (growth.Room r) h = h
 
 module _ (cs : List (Option (List ℕ))) (size c : ℕ) where
-  pub bad-hinders : {E : Type 0} (r : Result (Unit {0}) E) → OnErr r (chunk_of cs c ≡ None) → IfErr r (λ error. IsObstacle (Refused refusal.BadChunk) (edits.free c cs) size)
+  pub bad-hinders : {E : Type 0} (r : Result (Unit {0}) E) → OnErr r (chunk_of cs c ≡ None)
+      → IfErr r (λ error. IsObstacle (Refused refusal.BadChunk) (edits.free c cs) size)
   bad-hinders (Ok done) bad = tt
   bad-hinders (Err error) bad = chunk-absent cs c [] bad
 
-  pub realloc-hinders : (n : ℕ) (error : ReallocError) → IsReallocError error cs size c n → IsObstacle (why_not_resized error) (edits.realloc c n cs) size
+  pub realloc-hinders : (n : ℕ) (error : ReallocError) → IsReallocError error cs size c n
+      → IsObstacle (why_not_resized error) (edits.realloc c n cs) size
   realloc-hinders n realloc.BadChunk h = chunk-absent cs c [] h
   realloc-hinders n (realloc.Room r) h = (chunk-there cs c h.0, h.1)
 
-  pub insert-hinders : (at n : ℕ) (error : InsertError) → IsInsertError error cs size c at n → IsObstacle (why_not_inserted error) (edits.insert_bytes c at n cs) size
+  pub insert-hinders : (at n : ℕ) (error : InsertError) → IsInsertError error cs size c at n
+      → IsObstacle (why_not_inserted error) (edits.insert_bytes c at n cs) size
   insert-hinders at n insert.BadChunk h = chunk-absent cs c ((nat_lt (edits.length_of cs c) at, refusal.Range) ∷ []) h
   insert-hinders at n insert.Range h = offset-past cs c at h.0 h.1
   insert-hinders at n (insert.Room r) h = (offset-within cs c at h.0 h.1, h.2)
 
-  pub delete-hinders : (at n : ℕ) (error : DeleteError) → IsDeleteError error cs c at n → IsObstacle (Refused (why_not_deleted error)) (edits.delete_bytes c at n cs) size
+  pub delete-hinders : (at n : ℕ) (error : DeleteError) → IsDeleteError error cs c at n
+      → IsObstacle (Refused (why_not_deleted error)) (edits.delete_bytes c at n cs) size
   delete-hinders at n delete.BadChunk h = chunk-absent cs c ((nat_lt (edits.length_of cs c) (at + n), refusal.Range) ∷ []) h
   delete-hinders at n delete.Range h = offset-past cs c (at + n) h.0 h.1
 

@@ -12,7 +12,8 @@ use Rattle.chunk_calls.specs.Heaps.{Rechunks}
 
 -- a slot with a block is one of the list
 pub inside : (s : Store) (slot : ℕ) → IsThere s slot → slot < length s.blocks
-inside s slot there = elim (cases_lt slot (length s.blocks)) [ inl lt ↦ lt | inr past ↦ absurd (subst IsBlock (get_or_past s.blocks slot None past) there) ]
+inside s slot there = elim (cases_lt slot (length s.blocks))
+    [ inl lt ↦ lt | inr past ↦ absurd (subst IsBlock (get_or_past s.blocks slot None past) there) ]
 
 -- bytes of the same length, put into a block, set its slot
 pub with_bytes-set : (bs : List (Option Block)) (i : ℕ) (ws : List ℕ) → IsBlock (get_or bs i None) → length ws ≡ length (bytes_in (get_or bs i None))
@@ -25,7 +26,8 @@ with_bytes-set (Some b ∷ bs) (suc i) ws there long = ap (λ l. Some b ∷ l) (
 
 module _ (old : Store) (slot : ℕ) (there : IsThere old slot) (ws : List ℕ) where
   -- a heap that was left in the bytes of a block
-  pub lent-heap : (was : List ℕ) (cs : List (Option (List ℕ))) → was ≡ bytes_of old slot → length ws ≡ length was → IsHeap ws → block.handle_word ws ≡ block.handle_word was → block.chunks ws ≡ cs
+  pub lent-heap : (was : List ℕ) (cs : List (Option (List ℕ))) → was ≡ bytes_of old slot → length ws ≡ length was
+      → IsHeap ws → block.handle_word ws ≡ block.handle_word was → block.chunks ws ≡ cs
       → Rechunks old (with_bytes old slot ws) slot cs (size_of old slot)
   lent-heap was cs value long heap handle spells = record {
     bytes = ws;

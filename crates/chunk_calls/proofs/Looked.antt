@@ -27,13 +27,15 @@ pub array-refuses : (why : ArrayError) (tests : List (Bool × Refusal)) → IsAr
 array-refuses array.BadChunk tests h = h
 array-refuses array.BadArray tests h = h
 
-pub element-refuses : (why : ElementError) (tests : List (Bool × Refusal)) → IsElementError why tests → first_refusal tests ≡ Some (why_no_element why)
+pub element-refuses : (why : ElementError) (tests : List (Bool × Refusal)) → IsElementError why tests
+    → first_refusal tests ≡ Some (why_no_element why)
 element-refuses element.BadChunk tests h = h
 element-refuses element.BadArray tests h = h
 element-refuses element.BadElement tests h = h
 
 -- a place that has enough bytes, or not, is what an edit refers to or refuses
-enough-finds : (edit : List (Option (List ℕ)) → Edit Part) (bytes : List ℕ) (place : ℕ × ℕ) (n : ℕ) → (nat_lt place.1 n ≡ true → first_refusal (edit (block.chunks bytes)).refusals ≡ Some Short)
+enough-finds : (edit : List (Option (List ℕ)) → Edit Part) (bytes : List ℕ) (place : ℕ × ℕ) (n : ℕ)
+    → (nat_lt place.1 n ≡ true → first_refusal (edit (block.chunks bytes)).refusals ≡ Some Short)
     → (nat_lt place.1 n ≡ false → Finds edit bytes (Ok place)) → Finds edit bytes (enough place n)
 enough-finds edit bytes place n few many = told (nat_lt place.1 n) refl
   where
@@ -49,31 +51,47 @@ enough-within k n place inside = told (nat_lt place.1 n) refl
     told true is = tt
     told false is = (inside, grind (arith, nat_tests))
 
-pub deref-finds : (bytes : List ℕ) (c n at len : ℕ) → block.IsPlaced bytes c at len → chunk_of (block.chunks bytes) c ≡ Some (part bytes at len) → at + len ≤ length bytes → Finds (refer c n) bytes (enough (at, len) n)
+pub deref-finds : (bytes : List ℕ) (c n at len : ℕ) → block.IsPlaced bytes c at len → chunk_of (block.chunks bytes) c ≡ Some (part bytes at len)
+    → at + len ≤ length bytes → Finds (refer c n) bytes (enough (at, len) n)
 deref-finds bytes c n at len placed chunk within =
     let cs = block.chunks bytes in
     let whole : length (part bytes at len) ≡ len = omega (arith, within, length-take len (drop at bytes), length-drop at bytes) in
     let same : length_of cs c ≡ len = rw chunk whole in
     let there : is_none (chunk_of cs c) ≡ false = ap is_none chunk in
     let tests : Bool → Bool → List (Bool × Refusal) = λ a b. (a, BadChunk) ∷ (b, Short) ∷ [] in
-    let told : (b : Bool) → nat_lt len n ≡ b → first_refusal (tests (is_none (chunk_of cs c)) (nat_lt (length_of cs c) n)) ≡ first_refusal (tests false b) =
-    λ b is. ap (λ a. first_refusal (tests a (nat_lt (length_of cs c) n))) there ∙ ap (λ k. first_refusal (tests false (nat_lt k n))) same ∙ ap (λ x. first_refusal (tests false x)) is in
+    let told : (b : Bool) → nat_lt len n ≡ b → first_refusal (tests (is_none (chunk_of cs c)) (nat_lt (length_of cs c) n)) ≡ first_refusal
+    (tests false b) =
+    λ b is. ap (λ a. first_refusal (tests a (nat_lt (length_of cs c) n))) there ∙ ap (λ k. first_refusal (tests false (nat_lt k n))) same
+    ∙ ap (λ x. first_refusal (tests false x)) is in
     enough-finds (refer c n) bytes (at, len) n (told true)
-    (λ fits. (told false fits, sym same, record { whole = part bytes at len; chunk = chunk; fits = omega (arith, same, whole); place = λ some. rw placed (omega arith) }))
+    (λ fits. (
+      told false fits,
+      sym same,
+      record {
+        whole = part bytes at len;
+        chunk = chunk;
+        fits =
+            omega (arith, same, whole);
+        place = λ some. rw placed (omega arith);
+      },
+    ))
 
 -- an element is refused, and so is what refers to it
-pub element-refused : (bytes : List ℕ) (c i n : ℕ) (why : ElementError) → IsElementError why (no_element (block.chunks bytes) c i) → first_refusal (refer_element c i n (block.chunks bytes)).refusals ≡ Some (why_no_element why)
+pub element-refused : (bytes : List ℕ) (c i n : ℕ) (why : ElementError) → IsElementError why (no_element (block.chunks bytes) c i)
+    → first_refusal (refer_element c i n (block.chunks bytes)).refusals ≡ Some (why_no_element why)
 element-refused bytes c i n why h =
     let tests : List (Bool × Refusal) = (nat_lt (length (element_of (block.chunks bytes) c i)) n, Short) ∷ [] in
     first_refusal-came (no_element (block.chunks bytes) c i) tests (why_no_element why) (element-refuses why (no_element (block.chunks bytes) c i) h)
 
-pub element-finds : (bytes : List ℕ) (c i n at len : ℕ) → first_refusal (no_element (block.chunks bytes) c i) ≡ None → HasElement bytes c i at len → Finds (refer_element c i n) bytes (enough (at, len) n)
+pub element-finds : (bytes : List ℕ) (c i n at len : ℕ) → first_refusal (no_element (block.chunks bytes) c i) ≡ None
+    → HasElement bytes c i at len → Finds (refer_element c i n) bytes (enough (at, len) n)
 element-finds bytes c i n at len passed h =
     let cs = block.chunks bytes in
     let same : length (element_of cs c i) ≡ len = sym h.long in
     let tests : (b : Bool) → List (Bool × Refusal) = λ b. (b, Short) ∷ [] in
     enough-finds (refer_element c i n) bytes (at, len) n
-    (λ less. first_refusal-passed (no_element cs c i) (tests (nat_lt (length (element_of cs c i)) n)) passed ∙ ap (λ b. first_refusal (tests b)) (ap (λ m. nat_lt m n) same ∙ less))
+    (λ less. first_refusal-passed (no_element cs c i) (tests (nat_lt (length (element_of cs c i)) n)) passed
+    ∙ ap (λ b. first_refusal (tests b)) (ap (λ m. nat_lt m n) same ∙ less))
     (λ fits. (
     let chunk = part bytes h.begin h.whole in
     let inside = h.inside in
@@ -86,6 +104,10 @@ element-finds bytes c i n at len passed h =
       chunk = chunk-place bytes c ∙ ap (option_map (block.bytes_at bytes)) h.chunk;
       fits = omega (arith, whole, from, within, long);
       place = λ some. rw h.chunk (omega (arith, from));
-    } in
-    (first_refusal-passed (no_element cs c i) (tests (nat_lt (length (element_of cs c i)) n)) passed ∙ ap (λ b. first_refusal (tests b)) (ap (λ m. nat_lt m n) same ∙ fits), long, lies)
+    } in (
+      first_refusal-passed (no_element cs c i) (tests (nat_lt (length (element_of cs c i)) n)) passed
+          ∙ ap (λ b. first_refusal (tests b)) (ap (λ m. nat_lt m n) same ∙ fits),
+      long,
+      lies,
+    )
     ))

@@ -42,8 +42,13 @@ pub slotless : (s : Store) → IsLaidOut s → (owner : Owner) (h : ℕ) → (h 
 slotless s laid owner h past = ap (block_at s) (slot_of-past owner h past) ∙ get_or_past s.blocks 2048 None (omega (arith, laid.slots))
 
 -- the slots of global memory spell, under each handle, what its slot has
-pub slots-told : (s : Store) → IsLaidOut s → (h : ℕ) → model.at_handle None (map block_in (take 1024 s.blocks)) h ≡ block_in (block_at s (slot_of (mem h)))
-slots-told s laid h = elim (handle-or {X = ℕ} 0 h) [ inl p ↦ in_slot h p | inr past ↦ table-past None (map block_in (take 1024 s.blocks)) h long past ∙ sym (ap block_in (slotless s laid Mem h past)) ]
+pub slots-told : (s : Store) → IsLaidOut s → (h : ℕ) → model.at_handle None (map block_in (take 1024 s.blocks)) h ≡ block_in
+    (block_at s (slot_of (mem h)))
+slots-told s laid h = elim (handle-or {X = ℕ} 0 h) [
+  | inl p ↦ in_slot h p
+  | inr past ↦ table-past None (map block_in (take 1024 s.blocks)) h long past
+      ∙ sym (ap block_in (slotless s laid Mem h past))
+]
   where
     long : length (map block_in (take 1024 s.blocks)) ≡ 1024
     long = omega (arith, length-map (take 1024 s.blocks) block_in, length-take 1024 s.blocks, laid.slots)
@@ -53,7 +58,8 @@ slots-told s laid h = elim (handle-or {X = ℕ} 0 h) [ inl p ↦ in_slot h p | i
     in_slot (suc k) p =
         let i : slot_of (mem (suc k)) ≡ k = slot_of-mem (suc k) p ∙ omega arith in
         let less : k < length (take 1024 s.blocks) = omega (arith, p.1, length-take 1024 s.blocks, laid.slots) in
-        get_or-map block_in (take 1024 s.blocks) k None None less ∙ ap block_in (get_or-take 1024 s.blocks k None (omega (arith, p.1))) ∙ sym (ap (λ j. block_in (block_at s j)) i)
+        get_or-map block_in (take 1024 s.blocks) k None None less ∙ ap block_in (get_or-take 1024 s.blocks k None (omega (arith, p.1)))
+        ∙ sym (ap (λ j. block_in (block_at s j)) i)
 
 -- how often a block of a slot is locked
 pub locks-spelled : (o : Option Block) → model.locks_in (block_in o) ≡ store.locks_in o

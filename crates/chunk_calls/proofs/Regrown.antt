@@ -49,7 +49,8 @@ module _ (old mid : Store) (slot : ℕ) (there : IsThere old slot) (cs : List (O
   pub rechunked-again : (new : Store) (ds : List (Option (List ℕ))) (n : ℕ) → Rechunks mid new slot ds n → Rechunks old new slot ds n
   rechunked-again new ds n s = record {
     bytes = s.bytes;
-    blocks = s.blocks ∙ ap (λ bs. set bs slot (Some (record { locks = locks_of mid slot; bytes = s.bytes }))) r.blocks ∙ set-set old.blocks slot own (Some (record { locks = locks_of mid slot; bytes = s.bytes }))
+    blocks = s.blocks ∙ ap (λ bs. set bs slot (Some (record { locks = locks_of mid slot; bytes = s.bytes }))) r.blocks
+        ∙ set-set old.blocks slot own (Some (record { locks = locks_of mid slot; bytes = s.bytes }))
         ∙ ap (λ l. set old.blocks slot (Some (record { locks = l; bytes = s.bytes }))) rechunked-locks;
     stay = λ j ne locked. s.stay j ne (subst (λ o. 0 < locks_in o) (sym (rechunked-other j ne)) locked) ∙ r.stay j ne locked;
     len = s.len ∙ r.len;
@@ -71,21 +72,26 @@ module _ (old mid : Store) (slot size : ℕ) (there : IsThere old slot) (g : Gro
   grown-bytes = ap bytes_in grown
 
   pub grown-size : size_of old slot < size → size_of mid slot ≡ size
-  grown-size less = ap length grown-bytes ∙ length-append (bytes_of old slot) (replicate (size - size_of old slot) 0) ∙ omega (arith, length-replicate {A = ℕ} (size - size_of old slot) 0, less)
+  grown-size less = ap length grown-bytes ∙ length-append (bytes_of old slot) (replicate (size - size_of old slot) 0)
+      ∙ omega (arith, length-replicate {A = ℕ} (size - size_of old slot) 0, less)
 
   -- in front stand its own bytes
   pub grown-front : (was : List ℕ) (old_size : ℕ) → old_size ≡ size_of old slot → was ≡ bytes_of mid slot → take old_size was ≡ bytes_of old slot
   grown-front was old_size same value =
-      ap (take old_size) (value ∙ grown-bytes) ∙ ap (λ n. take n (bytes_of old slot ++ replicate (size - size_of old slot) 0)) same ∙ take-append_seam (bytes_of old slot) (replicate (size - size_of old slot) 0)
+      ap (take old_size) (value ∙ grown-bytes) ∙ ap (λ n. take n (bytes_of old slot ++ replicate (size - size_of old slot) 0)) same
+      ∙ take-append_seam (bytes_of old slot) (replicate (size - size_of old slot) 0)
 
   -- the heap of a block that has grown
-  pub grown-heap : (was ws : List ℕ) (old_size : ℕ) → size_of old slot < size → old_size ≡ size_of old slot → was ≡ bytes_of mid slot → length ws ≡ length was → IsHeap ws → 2 ≤ old_size → block.handle_word ws ≡ block.handle_word was
+  pub grown-heap : (was ws : List ℕ) (old_size : ℕ) → size_of old slot < size → old_size ≡ size_of old slot
+      → was ≡ bytes_of mid slot → length ws ≡ length was → IsHeap ws → 2 ≤ old_size → block.handle_word ws ≡ block.handle_word was
       → block.chunks ws ≡ block.chunks (take old_size was) → Rechunks old (with_bytes mid slot ws) slot (block.chunks (bytes_of old slot)) size
   grown-heap was ws old_size less same value long heap some handle spells =
       let first = grown-front was old_size same value in
       record {
         bytes = ws;
-        blocks = with_bytes-set mid.blocks slot ws grown-there (long ∙ ap length value) ∙ ap (λ bs. set bs slot (Some (record { locks = locks_of mid slot; bytes = ws }))) g.blocks ∙ set-set old.blocks slot (grown_block old slot size) (Some (record { locks = locks_of mid slot; bytes = ws }))
+        blocks = with_bytes-set mid.blocks slot ws grown-there (long ∙ ap length value)
+            ∙ ap (λ bs. set bs slot (Some (record { locks = locks_of mid slot; bytes = ws }))) g.blocks
+            ∙ set-set old.blocks slot (grown_block old slot size) (Some (record { locks = locks_of mid slot; bytes = ws }))
             ∙ ap (λ o. set old.blocks slot (Some (record { locks = locks_in o; bytes = ws }))) grown;
         stay = g.stay;
         len = g.len;

@@ -34,7 +34,8 @@ pub record LiesIn (bytes : List ℕ) (p : Part) (at : ℕ) : Type 0 where
 
 -- finds where the bytes lie that an edit refers to, and how many they are; or refuses it
 abbrev pub Finds : (List (Option (List ℕ)) → Edit Part) → List ℕ → Result (ℕ × ℕ) Refusal → Type 0
-Finds edit bytes (Ok place) = let e = edit (chunks bytes) in (first_refusal e.refusals ≡ None) × (place.1 ≡ e.answer.len) × LiesIn bytes e.answer place.0
+Finds edit bytes (Ok place) = let e = edit (chunks bytes) in (first_refusal e.refusals ≡ None) × (place.1 ≡ e.answer.len)
+    × LiesIn bytes e.answer place.0
 Finds edit bytes (Err why) = first_refusal (edit (chunks bytes)).refusals ≡ Some why
 
 -- a place, which must have n bytes at least
@@ -68,7 +69,8 @@ Grows edit old new name (Err why) =
 -- makes an edit, for which the block may grow, and blocks that can be read again be discarded
 -- where there is no room for what its chunks need; or refuses it, or the room, where none of those
 -- is left
-pub record DiscardsAndEdits {D A : Type 0} (v : VmState D) (edit : List (Option (List ℕ)) → Edit A) (old new : Store) (name : Name) (result : Result A Refusal) : Type 0 where
+pub record DiscardsAndEdits {D A : Type 0} (v : VmState D) (edit : List (Option (List ℕ)) → Edit A) (old new : Store)
+    (name : Name) (result : Result A Refusal) : Type 0 where
   pub mid : Store
   pub thins : Thins v old mid (own_handle name)
   pub wanted : DiscardsForRoom v old mid (own_handle name) (slot_of name) (need (edit (chunks_at old name)).chunks)

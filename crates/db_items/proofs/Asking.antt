@@ -68,10 +68,12 @@ pub refer-inside : (i n : ℕ) → AsksInside (refer i n)
 refer-inside i n cs = never (refer i n cs).refusals (refer-clean i n cs)
 
 -- a call that carries an edit out does not refuse for the device
-pub carries-no_disk : {D A : Type 0} (edit : List (Option (List ℕ)) → Edit A) (v : VmState D) (s t : Store) (name : Name) (grows : Bool) (why : Refusal) → AsksInside edit → Carries grows v edit s t name (Err why) → why ≡ Disk → ⊥
+pub carries-no_disk : {D A : Type 0} (edit : List (Option (List ℕ)) → Edit A) (v : VmState D) (s t : Store) (name : Name)
+    (grows : Bool) (why : Refusal) → AsksInside edit → Carries grows v edit s t name (Err why) → why ≡ Disk → ⊥
 carries-no_disk edit v s t name true why asks c is = on c.grows.0
   where
-    on : (first_refusal (edit (chunks_at c.mid name)).refusals ≡ Some why) ⊎ ((first_refusal (edit (chunks_at c.mid name)).refusals ≡ None) × CannotHold why c.mid name (edit (chunks_at c.mid name)).chunks) → ⊥
+    on : (first_refusal (edit (chunks_at c.mid name)).refusals ≡ Some why) ⊎
+        ((first_refusal (edit (chunks_at c.mid name)).refusals ≡ None) × CannotHold why c.mid name (edit (chunks_at c.mid name)).chunks) → ⊥
     on (inl first) = asks (chunks_at c.mid name) Disk refl (first ∙ ap Some is)
     on (inr room) = subst (λ r. CannotHold r c.mid name (edit (chunks_at c.mid name)).chunks) is room.1
 carries-no_disk edit v s t name false why asks c is = asks (chunks_at s name) Disk refl (c.0 ∙ ap Some is)

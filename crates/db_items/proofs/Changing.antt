@@ -46,7 +46,8 @@ use Rattle.db_items.proofs.OnGroups.{IsOnChunks, no_group-row, not_brought-row, 
 
 -- Refusals of calls that answer something, and of those that answer nothing
 
-pub refused-so : {A B : Type 0} (why other : Refusal) → ◌≡◌ {A = Result A Refusal} (Err why) (Err other) → ◌≡◌ {A = Result B Refusal} (Err why) (Err other)
+pub refused-so : {A B : Type 0} (why other : Refusal) → ◌≡◌ {A = Result A Refusal} (Err why) (Err other)
+    → ◌≡◌ {A = Result B Refusal} (Err why) (Err other)
 refused-so why other e = let same : why ≡ other = cc in ap Err same
 
 -- Groups, or not
@@ -59,11 +60,15 @@ pub group-or : {D : Type 0} (v : VmState D) (g : ℕ) → IsGroup v g ⊎ (IsGro
 group-or v g = group-or-not (held_at v g)
 
 -- Over a change of a block in memory the others stay there, or it had no room
-carries-remain : {D A : Type 0} (w : VmState D) (edit : List (Option (List ℕ)) → Edit A) (t u : Store) (g : ℕ) → IsHandle g → IsThere t (vm_slot g) → (grows : Bool) (r : Result A Refusal) → Carries grows w edit t u (vm g) r
+carries-remain : {D A : Type 0} (w : VmState D) (edit : List (Option (List ℕ)) → Edit A) (t u : Store) (g : ℕ)
+    → IsHandle g → IsThere t (vm_slot g) → (grows : Bool) (r : Result A Refusal) → Carries grows w edit t u (vm g) r
     → RemainOrNoRoom t u g (need (edit (chunks (bytes_of t (vm_slot g)))).chunks)
-carries-remain w edit t u g q there true (Ok a) c = remain-more t c.mid g _ u q (rechunked-other c.mid u (vm_slot g) (subst IsBlock (sym c.own) there) _ _ c.grows.1) (discards-remain t c.mid g _ w c.wanted)
-carries-remain w edit t u g q there true (Err why) c = subst (λ x. RemainOrNoRoom t x g (need (edit (chunks (bytes_of t (vm_slot g)))).chunks)) (sym c.grows.1) (discards-remain t c.mid g _ w c.wanted)
-carries-remain w edit t u g q there false (Ok a) c = remain-more t t g _ u q (rechunked-other t u (vm_slot g) there _ _ c.1) (same-remain t t g _ refl)
+carries-remain w edit t u g q there true (Ok a) c = remain-more t c.mid g _ u q
+    (rechunked-other c.mid u (vm_slot g) (subst IsBlock (sym c.own) there) _ _ c.grows.1) (discards-remain t c.mid g _ w c.wanted)
+carries-remain w edit t u g q there true (Err why) c = subst (λ x. RemainOrNoRoom t x g (need (edit (chunks (bytes_of t (vm_slot g)))).chunks))
+    (sym c.grows.1) (discards-remain t c.mid g _ w c.wanted)
+carries-remain w edit t u g q there false (Ok a) c = remain-more t t g _ u q (rechunked-other t u (vm_slot g) there _ _ c.1)
+    (same-remain t t g _ refl)
 carries-remain w edit t u g q there false (Err why) c = same-remain t u g _ c.1
 
 -- A group that was not brought
@@ -86,11 +91,13 @@ not_brought-locks s t g not = elim (no-block (block_at s (vm_slot g))) [
 -- What room is wanted
 
 module _ {A : Type 0} (edit : List (Option (List ℕ)) → Edit A) where
-  wanted-away : (P : ℕ → Type 0) (o : Option Held) (b : Option Block) → b ≡ None → IsSomeAnd o (λ e. e.uid ≡ group_uid) → IfSome o (λ e. P e.len) → P (room_wanted edit o b)
+  wanted-away : (P : ℕ → Type 0) (o : Option Held) (b : Option Block) → b ≡ None → IsSomeAnd o (λ e. e.uid ≡ group_uid)
+      → IfSome o (λ e. P e.len) → P (room_wanted edit o b)
   wanted-away P None b away group has = absurd group
   wanted-away P (Some e) b away group has = subst (λ x. P (room_wanted edit (Some e) x)) (sym away) has
 
-  wanted-there : (o : Option Held) (b : Option Block) → IsBlock b → IsSomeAnd o (λ e. e.uid ≡ group_uid) → room_wanted edit o b ≡ need (edit (chunks (bytes_in b))).chunks
+  wanted-there : (o : Option Held) (b : Option Block) → IsBlock b → IsSomeAnd o (λ e. e.uid ≡ group_uid)
+      → room_wanted edit o b ≡ need (edit (chunks (bytes_in b))).chunks
   wanted-there None b there group = absurd group
   wanted-there (Some e) None there group = absurd there
   wanted-there (Some e) (Some b) there group = refl
@@ -99,7 +106,8 @@ module _ {A : Type 0} (edit : List (Option (List ℕ)) → Edit A) where
 
 module _ {D : Type 0} (medium : Medium D) (v : VmState D) where
   -- it did not fail, and the file went on as it was
-  pub reads-on : {P Q : Type 0} (w x : VmState D) → x.file ≡ w.file → (P → ⊥) → (Q → ⊥) → ReadsDevice medium P v.file w.file → ReadsDevice medium Q v.file x.file
+  pub reads-on : {P Q : Type 0} (w x : VmState D) → x.file ≡ w.file → (P → ⊥) → (Q → ⊥) → ReadsDevice medium P v.file w.file
+      → ReadsDevice medium Q v.file x.file
   reads-on w x same passed never r = record {
     pair = ap (pair_of medium.image) same ∙ r.pair;
     reads = subst (λ (f : FileState D). ReadsOnly medium v.file.device f.device) (sym same) r.reads;
@@ -144,8 +152,14 @@ module _ {D : Type 0} (medium : Medium D) (v : VmState D) where
               (subst (λ x. DoesRow medium (on_group g call) (Err refusal.BadHandle) v s x t) (sym n.1)
               (subst (DoesRow medium (on_group g call) (Err refusal.BadHandle) v s v) (sym n.2) (no_group-row medium v s g tied none call on)))
 
-          room : (IsThere s (vm_slot g) → ⊥) → IfSome (held_at v g) (λ e. LacksRoom v s t (vm g) e.len) → IsGroup v g ⊎ (IsGroup v g → ⊥) → ◌≡◌ {A = Result A Refusal} (Err why) (Err refusal.NoRoom) → LacksItemRoom v t g edit
-          room away lacking (inl group) e = record { none = none (held_at v g) group lacking; no_room = wanted-away edit (HasNoRoom t (vm_slot g)) (held_at v g) (block_at t (vm_slot g)) (b.brings.err.absent away) group (lacks (held_at v g) lacking) }
+          room : (IsThere s (vm_slot g) → ⊥) → IfSome (held_at v g) (λ e. LacksRoom v s t (vm g) e.len)
+              → IsGroup v g ⊎ (IsGroup v g → ⊥) → ◌≡◌ {A = Result A Refusal} (Err why) (Err refusal.NoRoom) → LacksItemRoom v t g edit
+          room away lacking (inl group) e = record {
+            none = none (held_at v g) group lacking;
+            no_room =
+                wanted-away edit (HasNoRoom t (vm_slot g)) (held_at v g) (block_at t (vm_slot g)) (b.brings.err.absent away) group
+                (lacks (held_at v g) lacking);
+          }
             where
               none : (o : Option Held) → IsSomeAnd o (λ e. e.uid ≡ group_uid) → IfSome o (λ e. LacksRoom v s t (vm g) e.len) → NoneIdle v t g
               none None group l = absurd group
@@ -164,7 +178,8 @@ module _ {D : Type 0} (medium : Medium D) (v : VmState D) where
         others : (k : ℕ) → k ≢ g → held_at w k ≡ held_at v k
         others k ne = ap (λ (x : VmState D). held_at x k) b.brings.same
 
-        remain : (grows : Bool) (r : Result A Refusal) → Carries grows w edit t u (vm g) r → IsThere s (vm_slot g) → RemainOrNoRoom s u g (need (edit (chunks (bytes_of s (vm_slot g)))).chunks)
+        remain : (grows : Bool) (r : Result A Refusal) → Carries grows w edit t u (vm g) r → IsThere s (vm_slot g)
+            → RemainOrNoRoom s u g (need (edit (chunks (bytes_of s (vm_slot g)))).chunks)
         remain grows r carries there =
             subst (λ x. RemainOrNoRoom x u g (need (edit (chunks (bytes_of x (vm_slot g)))).chunks)) (b.ok.stays there)
             (carries-remain w edit t u g (handle_of_there t t (vm g) refl b.brings.tied.laid b.ok.there) b.ok.there grows r carries)
@@ -173,13 +188,16 @@ module _ {D : Type 0} (medium : Medium D) (v : VmState D) where
         same-file there = ap (λ (x : VmState D). x.file) (b.brings.there there)
 
         -- its chunks have changed, and it is marked
-        pub item-changed : (grows : Bool) (x : VmState D) (a : A) → Carries grows w edit t u (vm g) (Ok a) → IsTied medium x u → x ≡ with_held w g (option_map marked (held_at w g)) → ((n : Memory) → IsMemoryOf medium w u n → IsMemoryOf medium x u (with_mark n g true))
+        pub item-changed : (grows : Bool) (x : VmState D) (a : A) → Carries grows w edit t u (vm g) (Ok a)
+            → IsTied medium x u → x ≡ with_held w g (option_map marked (held_at w g))
+            → ((n : Memory) → IsMemoryOf medium w u n → IsMemoryOf medium x u (with_mark n g true))
             → DoesRowAlone medium call (Ok a) w t w u → ChangesItem medium (on_group g call) edit g (Ok a) v x s u
         item-changed grows x a carries tied marks memory row =
             let file : x.file ≡ w.file = ap (λ (y : VmState D). y.file) marks in
             let device : x.file.device ≡ w.file.device = ap (λ (f : FileState D). f.device) file in
             let now : VmState D = with_held v g (option_map marked (held_at v g)) in
-            let was : x ≡ with_device now w.file.device = marks ∙ ap (λ (y : VmState D). with_held y g (option_map marked (held_at y g))) b.brings.same in
+            let was : x ≡ with_device now w.file.device = marks
+            ∙ ap (λ (y : VmState D). with_held y g (option_map marked (held_at y g))) b.brings.same in
             record {
               tied = tied;
               row = on_group-ok medium v w s t g b.brings.tied (still-group b.brings.same group) call on (b.row group) u x a device row memory;
@@ -197,7 +215,8 @@ module _ {D : Type 0} (medium : Medium D) (v : VmState D) where
             }
 
         -- they have not
-        pub item-refused : (grows : Bool) (why : Refusal) → AsksInside edit → Carries grows w edit t u (vm g) (Err why) → ((◌≡◌ {A = Result A Refusal} (Err why) (Err refusal.NoRoom) → ⊥) → u ≡ t)
+        pub item-refused : (grows : Bool) (why : Refusal) → AsksInside edit → Carries grows w edit t u (vm g) (Err why)
+            → ((◌≡◌ {A = Result A Refusal} (Err why) (Err refusal.NoRoom) → ⊥) → u ≡ t)
             → DoesRowAlone medium call (Err why) w t w u
             → ChangesItem medium (on_group g call) edit g (Err why) v w s u
         item-refused grows why asks carries stays row = record {
@@ -227,12 +246,16 @@ module _ {D : Type 0} (medium : Medium D) (v : VmState D) where
             own true c = ap (λ x. block_at x (vm_slot g)) c.grows.1 ∙ c.own
             own false c = ap (λ x. block_at x (vm_slot g)) c.1
 
-            lacks : (c : DiscardsAndEdits w edit t u (vm g) (Err why)) → why ≡ refusal.NoRoom → (first_refusal (edit (heaps.chunks_at c.mid (vm g))).refusals ≡ Some why) ⊎ ((first_refusal (edit (heaps.chunks_at c.mid (vm g))).refusals ≡ None) × heaps.CannotHold why c.mid (vm g) (edit (heaps.chunks_at c.mid (vm g))).chunks)
+            lacks : (c : DiscardsAndEdits w edit t u (vm g) (Err why)) → why ≡ refusal.NoRoom
+                → (first_refusal (edit (heaps.chunks_at c.mid (vm g))).refusals ≡ Some why) ⊎
+                ((first_refusal (edit (heaps.chunks_at c.mid (vm g))).refusals ≡ None)
+                × heaps.CannotHold why c.mid (vm g) (edit (heaps.chunks_at c.mid (vm g))).chunks)
                 → HasNoRoom c.mid (vm_slot g) (need (edit (heaps.chunks_at c.mid (vm g))).chunks)
             lacks c is (inl first) = absurd (asks (heaps.chunks_at c.mid (vm g)) refusal.NoRoom refl (first ∙ ap Some is))
             lacks c is (inr room) = (subst (λ r. heaps.CannotHold r c.mid (vm g) (edit (heaps.chunks_at c.mid (vm g))).chunks) is room.1).2
 
-            room : (x : Bool) → Carries x w edit t u (vm g) (Err why) → ◌≡◌ {A = Result A Refusal} (Err why) (Err refusal.NoRoom) → LacksItemRoom v u g edit
+            room : (x : Bool) → Carries x w edit t u (vm g) (Err why) → ◌≡◌ {A = Result A Refusal} (Err why) (Err refusal.NoRoom)
+                → LacksItemRoom v u g edit
             room true c e =
                 let is : why ≡ refusal.NoRoom = cc in
                 let none : NoneIdle w u g = c.none e in
@@ -256,5 +279,6 @@ module _ {D : Type 0} (medium : Medium D) (v : VmState D) where
         }
 
 -- a group that was brought holds a heap
-pub holds-heap : {D : Type 0} (medium : Medium D) (w : VmState D) (t : Store) (g : ℕ) → IsTied medium w t → IsThere t (vm_slot g) → heaps.HoldsHeap t (vm g)
+pub holds-heap : {D : Type 0} (medium : Medium D) (w : VmState D) (t : Store) (g : ℕ) → IsTied medium w t
+    → IsThere t (vm_slot g) → heaps.HoldsHeap t (vm g)
 holds-heap medium w t g tied there = record { there = there; heap = (stays-changed medium w t g tied there).heap }

@@ -9,14 +9,16 @@ use Rattle.geos_calls.proofs.Laws.{first_refusal-passed}
 
 module _ {A : Type 0} where
   -- nothing was refused
-  pub came-ok : (o : Option Refusal) (left : Refusal → Memory) (answer a : A) (after n : Memory) → come_to o left answer after ≡ (Ok a, n) → (o ≡ None) × (answer ≡ a) × (after ≡ n)
+  pub came-ok : (o : Option Refusal) (left : Refusal → Memory) (answer a : A) (after n : Memory)
+      → come_to o left answer after ≡ (Ok a, n) → (o ≡ None) × (answer ≡ a) × (after ≡ n)
   came-ok None left answer a after n e =
       let first : ◌≡◌ {A = Result A Refusal} (Ok answer) (Ok a) = ap (λ p. p.0) e in
       let same : answer ≡ a = cc in (refl, same, ap (λ p. p.1) e)
   came-ok (Some r) left answer a after n e = let first : ◌≡◌ {A = Result A Refusal} (Err r) (Ok a) = ap (λ p. p.0) e in absurd cc
 
   -- this was
-  pub came-err : (o : Option Refusal) (left : Refusal → Memory) (answer : A) (why : Refusal) (after n : Memory) → come_to o left answer after ≡ (Err why, n) → (o ≡ Some why) × (left why ≡ n)
+  pub came-err : (o : Option Refusal) (left : Refusal → Memory) (answer : A) (why : Refusal) (after n : Memory)
+      → come_to o left answer after ≡ (Err why, n) → (o ≡ Some why) × (left why ≡ n)
   came-err None left answer why after n e = let first : ◌≡◌ {A = Result A Refusal} (Ok answer) (Err why) = ap (λ p. p.0) e in absurd cc
   came-err (Some r) left answer why after n e =
       let first : ◌≡◌ {A = Result A Refusal} (Err r) (Err why) = ap (λ p. p.0) e in

@@ -23,12 +23,14 @@ use Rattle.db_items.proofs.Told.{group-listed, group-told, is_group-given, no_gr
 
 module _ {D : Type 0} (medium : Medium D) (v : VmState D) (s : Store) (g : ℕ) (tied : IsTied medium v s) where
   -- to free a group is to free it as a block
-  pub free-row : IsGroup v g → (w : VmState D) (t : Store) (r : Result (Unit {0}) Refusal) → DoesRow medium (free_listed g) r v s w t → DoesRow medium (gfree g) r v s w t
+  pub free-row : IsGroup v g → (w : VmState D) (t : Store) (r : Result (Unit {0}) Refusal) → DoesRow medium (free_listed g) r v s w t
+      → DoesRow medium (gfree g) r v s w t
   free-row group w t r row m is =
       let b = row m is in
       let n = given_memory b.0.given m in
       let one : is_group n g ≡ true = is_group-given b.0.given m g ∙ group-told medium v s tied m is g group in
-      let tests : first_refusal (no_group n g ∷ is_in_use n (vm g) ∷ []) ≡ first_refusal (no_listed n g ∷ is_in_use n (vm g) ∷ []) = (let listed = group-listed n g one in rw (one, listed) refl) in
+      let tests : first_refusal (no_group n g ∷ is_in_use n (vm g) ∷ []) ≡ first_refusal (no_listed n g ∷ is_in_use n (vm g) ∷ []) =
+      (let listed = group-listed n g one in rw (one, listed) refl) in
       (b.0, b.1, b.2, b.3, ap (λ o. come_to {A = Unit {0}} o (unchanged n) tt (without_listed n g)) tests ∙ b.4)
 
   pub free_no_group-row : (IsGroup v g → ⊥) → DoesRow medium (gfree g) (Err refusal.BadHandle) v s v s
@@ -44,7 +46,8 @@ no-zero g ne = grind (arith, nat_tests, ne)
 module _ {D : Type 0} (medium : Medium D) (v : VmState D) (s : Store) (g i : ℕ) (tied : IsTied medium v s) where
   pub map_no_group-row : g ≢ 0 → (IsGroup v g → ⊥) → DoesRow medium (isetmap g i) (Err refusal.BadHandle) v s v s
   map_no_group-row some none m is =
-      let test = no_group-told medium v s tied m is g none in let other = no-zero g some in
+      let test = no_group-told medium v s tied m is g none in
+      let other = no-zero g some in
       (chosen false false [], record { given = λ good. refl; device = λ good fails. absurd cc }, m, is, rw (other, test) refl)
 
   pub map_range-row : g ≡ 0 → i ≢ 0 → DoesRow medium (isetmap g i) (Err refusal.Range) v s v s

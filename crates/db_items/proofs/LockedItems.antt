@@ -61,21 +61,26 @@ module _ {D : Type 0} (medium : Medium D) (v : VmState D) (s : Store) (g i n : �
       let count : (memory.locks_of m (vm g) == 65535) ≡ true = full (memory.locks_of m (vm g)) (locks-told medium v s g tied m is ∙ many) in
       (chosen false false [], record { given = λ good. refl; device = λ good fails. absurd cc }, m, is, rw (test, count) refl)
 
-module _ {D : Type 0} (medium : Medium D) (v w : VmState D) (s t : Store) (g i n : ℕ) (tied : IsTied medium w t) (group : IsGroup w g) (few : locks_of t (vm_slot g) ≢ 65535) where
+module _ {D : Type 0} (medium : Medium D) (v w : VmState D) (s t : Store) (g i n : ℕ) (tied : IsTied medium w t)
+    (group : IsGroup w g) (few : locks_of t (vm_slot g) ≢ 65535) where
   -- the count is not full in the model
   not-full-told : (m : Memory) → IsMemoryOf medium w t m → (memory.locks_of m (vm g) == 65535) ≡ false
   not-full-told m is = not-full (memory.locks_of m (vm g)) (λ e. few (sym (locks-told medium w t g tied m is) ∙ e))
 
   -- then the tests are those of bringing it
-  tests-listed : (choice : Choice) (m : Memory) → IsMemoryOf medium w t m → first_refusal (lock_tests g choice m) ≡ first_refusal (no_listed m g ∷ bringing choice m g)
+  tests-listed : (choice : Choice) (m : Memory) → IsMemoryOf medium w t m
+      → first_refusal (lock_tests g choice m) ≡ first_refusal (no_listed m g ∷ bringing choice m g)
   tests-listed choice m is =
       let one = group-told medium w t tied m is g group in
-      let listed = group-listed m g one in let count = not-full-told m is in
+      let listed = group-listed m g one in
+      let count = not-full-told m is in
       rw (one, listed, count) refl
 
-  tests-group : (choice : Choice) (m : Memory) → IsMemoryOf medium w t m → first_refusal (lock_tests g choice m) ≡ first_refusal (no_group m g ∷ bringing choice m g)
+  tests-group : (choice : Choice) (m : Memory) → IsMemoryOf medium w t m
+      → first_refusal (lock_tests g choice m) ≡ first_refusal (no_group m g ∷ bringing choice m g)
   tests-group choice m is =
-      let one = group-told medium w t tied m is g group in let count = not-full-told m is in
+      let one = group-told medium w t tied m is g group in
+      let count = not-full-told m is in
       rw (one, count) refl
 
   -- it was not brought
@@ -86,7 +91,8 @@ module _ {D : Type 0} (medium : Medium D) (v w : VmState D) (s t : Store) (g i n
       let c = came-err (first_refusal (no_listed k g ∷ bringing b.0 k g)) (unchanged k) tt why k b.2 b.4 in
       let now : IsMemoryOf medium w t k = subst (IsMemoryOf medium w t) (sym c.1) b.3 in
       let own = deref (vm g) i n b.0 k in
-      let came : first_refusal (lock_tests g b.0 k ++ own.refusals) ≡ Some why = first_refusal-came (lock_tests g b.0 k) own.refusals why (tests-listed b.0 k now ∙ c.0) in
+      let came : first_refusal (lock_tests g b.0 k ++ own.refusals) ≡ Some why = first_refusal-came (lock_tests g b.0 k)
+      own.refusals why (tests-listed b.0 k now ∙ c.0) in
       (b.0, b.1, k, now, ap (λ o. come_to o own.left own.answer (once_more g own.after)) came)
 
   module _ (brought : DoesRow medium (bring g) (Ok tt) v s w t) (there : IsThere t (vm_slot g)) where
@@ -105,7 +111,8 @@ module _ {D : Type 0} (medium : Medium D) (v w : VmState D) (s t : Store) (g i n
         (b.choice, b.chosen, k, b.is, fronted-err (lock_tests g b.choice k) passed (once_more g) own why k comes)
 
     -- it is locked
-    pub lock_found-row : (u : Store) (place : ℕ × ℕ) → u ≡ with_locks t (vm_slot g) (locks_of t (vm_slot g) + 1) → Finds (refer i n) (bytes_of t (vm_slot g)) (Ok place) → DoesRow medium (ilock g i n) (refers_to g i (Ok place)) v s w u
+    pub lock_found-row : (u : Store) (place : ℕ × ℕ) → u ≡ with_locks t (vm_slot g) (locks_of t (vm_slot g) + 1)
+        → Finds (refer i n) (bytes_of t (vm_slot g)) (Ok place) → DoesRow medium (ilock g i n) (refers_to g i (Ok place)) v s w u
     lock_found-row u place is_u finds m is =
         let b = brings medium v w s t g tied group brought m is in
         let k = given_memory b.choice.given m in
@@ -114,14 +121,17 @@ module _ {D : Type 0} (medium : Medium D) (v w : VmState D) (s t : Store) (g i n
         let none : first_refusal own.refusals ≡ None = subst (λ (e : Edit Part). first_refusal e.refusals ≡ None) (known k b.is) finds.0 in
         let comes : outcome own ≡ (Ok own.answer, k) = ap (λ o. come_to o own.left own.answer own.after) none in
         let len : own.answer.len ≡ place.1 = sym (finds.1 ∙ ap (λ (e : Edit Part). e.answer.len) (known k b.is)) in
-        let answer : ◌≡◌ {A = Result Reference Refusal} (Ok own.answer) (refers_to g i (Ok place)) = ap (λ x. Ok (in_block (vm g) (record { chunk = i; start = 0; len = x }))) len in
+        let answer : ◌≡◌ {A = Result Reference Refusal} (Ok own.answer) (refers_to g i (Ok place)) =
+        ap (λ x. Ok (in_block (vm g) (record { chunk = i; start = 0; len = x }))) len in
         let most = few-locks medium w t g tied k b.is there 0 (omega arith) in
         let more : locks_of t (vm_slot g) + 1 ≤ 65535 = omega (arith, most, few) in
         let after = memory-locked medium w t g tied k b.is there (locks_of t (vm_slot g) + 1) more in
-        let count : memory.with_locks k (vm g) (locks_of t (vm_slot g) + 1) ≡ once_more g k = ap (λ x. memory.with_locks k (vm g) (x + 1)) (sym (locks-told medium w t g tied k b.is)) in (
+        let count : memory.with_locks k (vm g) (locks_of t (vm_slot g) + 1) ≡ once_more g k =
+        ap (λ x. memory.with_locks k (vm g) (x + 1)) (sym (locks-told medium w t g tied k b.is)) in (
           b.choice,
           b.chosen,
           once_more g k,
-          subst (λ x. IsMemoryOf medium w x (once_more g k)) (sym is_u) (subst (IsMemoryOf medium w (with_locks t (vm_slot g) (locks_of t (vm_slot g) + 1))) count after),
+          subst (λ x. IsMemoryOf medium w x (once_more g k)) (sym is_u)
+              (subst (IsMemoryOf medium w (with_locks t (vm_slot g) (locks_of t (vm_slot g) + 1))) count after),
           fronted-ok (lock_tests g b.choice k) passed (once_more g) own own.answer k comes ∙ ap (λ r. (r, once_more g k)) answer,
         )

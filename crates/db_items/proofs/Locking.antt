@@ -94,7 +94,8 @@ module _ {D : Type 0} (medium : Medium D) (v : VmState D) (g i n : ℕ) (s : Sto
     }
       where
         row : IsGroup v g ⊎ (IsGroup v g → ⊥) → DoesRow medium (ilock g i n) (Err why) v s w t
-        row (inl group) = lock_not_brought-row medium v w s t g i n b.brings.tied (still-group b.brings.same group) (not-brought-few s t g b.brings.err (few group)) why (b.row group)
+        row (inl group) = lock_not_brought-row medium v w s t g i n b.brings.tied (still-group b.brings.same group)
+            (not-brought-few s t g b.brings.err (few group)) why (b.row group)
         row (inr none) =
             let x = b.no_group none in
             let is : why ≡ refusal.BadHandle = (let first = x.0 in cc) in
@@ -127,7 +128,8 @@ module _ {D : Type 0} (medium : Medium D) (v : VmState D) (g i n : ℕ) (s : Sto
         short = λ e. (let is : why ≡ refusal.Short = cc in short-wanted i n (chunks (bytes_of t (vm_slot g))) (finds ∙ ap Some is));
         finds = tt;
         within = tt;
-        no_room = λ e. absurd (let is : why ≡ refusal.NoRoom = cc in refer-inside i n (chunks (bytes_of t (vm_slot g))) refusal.NoRoom refl (finds ∙ ap Some is));
+        no_room = λ e. absurd (let is : why ≡ refusal.NoRoom = cc in refer-inside i n (chunks (bytes_of t (vm_slot g)))
+            refusal.NoRoom refl (finds ∙ ap Some is));
         device = reads-on medium v w w refl (λ e. absurd cc) no_disk b.brings.device;
       }
         where
@@ -135,23 +137,37 @@ module _ {D : Type 0} (medium : Medium D) (v : VmState D) (g i n : ℕ) (s : Sto
           no_disk e = let is : why ≡ refusal.Disk = cc in refer-inside i n (chunks (bytes_of t (vm_slot g))) refusal.Disk refl (finds ∙ ap Some is)
 
       -- and has it
-      pub lock-found : (u : Store) (place : ℕ × ℕ) → u ≡ with_locks t (vm_slot g) (locks_of t (vm_slot g) + 1) → Finds (refer i n) (bytes_of t (vm_slot g)) (Ok place) → (place.0 + place.1 ≤ length (bytes_of t (vm_slot g))) × (n ≤ place.1) → Locks (Ok place) w u
+      pub lock-found : (u : Store) (place : ℕ × ℕ) → u ≡ with_locks t (vm_slot g) (locks_of t (vm_slot g) + 1)
+          → Finds (refer i n) (bytes_of t (vm_slot g)) (Ok place) → (place.0 + place.1 ≤ length (bytes_of t (vm_slot g)))
+          × (n ≤ place.1) → Locks (Ok place) w u
       lock-found u place is_u finds within =
           let count : ℕ = locks_of t (vm_slot g) + 1 in
           let p : IsHandle g = handle_of_there t t (vm g) refl b.brings.tied.laid b.ok.there in
-          let small : vm_slot g < length t.blocks = omega (arith, there_small t (vm_slot g) b.brings.tied.laid b.ok.there, b.brings.tied.laid.slots) in
-          let bytes : bytes_of u (vm_slot g) ≡ bytes_of t (vm_slot g) = ap (λ x. bytes_of x (vm_slot g)) is_u ∙ ap bytes_in (with_locks-same t (vm_slot g) count small) in
+          let small : vm_slot g < length t.blocks = omega (
+            arith,
+            there_small t (vm_slot g) b.brings.tied.laid b.ok.there,
+            b.brings.tied.laid.slots,
+          ) in
+          let bytes : bytes_of u (vm_slot g) ≡ bytes_of t (vm_slot g) = ap (λ x. bytes_of x (vm_slot g)) is_u
+          ∙ ap bytes_in (with_locks-same t (vm_slot g) count small) in
           record {
             tied = locked-tied medium w t u g count p b.brings.tied b.ok.there is_u;
-            row = lock_found-row medium v w s t g i n b.brings.tied (still-group b.brings.same group) still-few (b.row group) b.ok.there u place is_u finds;
+            row = lock_found-row medium v w s t g i n b.brings.tied (still-group b.brings.same group) still-few
+                (b.row group) b.ok.there u place is_u finds;
             same = b.brings.same;
             no_group = λ none. absurd (none group);
             keeps = keeps-locked v s t u g count b.brings.keeps b.ok.there is_u;
-            wanted = listed-more (λ e. RemainOrNoRoom s t g e.len) (λ e. RemainOrNoRoom s u g e.len) (held_at v g) (λ e. locked-remain s t u g e.len count p is_u) b.brings.wanted;
+            wanted = listed-more (λ e. RemainOrNoRoom s t g e.len) (λ e. RemainOrNoRoom s u g e.len) (held_at v g)
+                (λ e. locked-remain s t u g e.len count p is_u) b.brings.wanted;
             ok = locks-more s t u g b.brings.tied.laid b.ok is_u;
             locks = tt;
             refused = tt;
-            there = λ there. (b.brings.there there, is_u ∙ ap (λ x. with_locks x (vm_slot g) (locks_of x (vm_slot g) + 1)) (b.ok.stays there), λ e. absurd cc);
+            there = λ there. (
+              b.brings.there there,
+              is_u ∙ ap (λ x. with_locks x (vm_slot g) (locks_of x (vm_slot g) + 1))
+                  (b.ok.stays there),
+              λ e. absurd cc,
+            );
             absent = λ e. absurd cc;
             short = λ e. absurd cc;
             finds = subst (λ xs. Finds (refer i n) xs (Ok place)) (sym bytes) finds;

@@ -28,7 +28,15 @@ use Rattle.db_items.proofs.Told.{group-listed, group-told, no_group-told}
 -- What comes from outside while a group is brought, and then at the call on its chunks
 
 abbrev pub both : Choice → Choice → Choice
-both first then = record { first_room = first.first_room; last_room = then.last_room; device = first.device; unsure = false; memory = false; given = first.given }
+both first then = record {
+  first_room = first.first_room;
+  last_room = then.last_room;
+  device = first.device;
+  unsure =
+      false;
+  memory = false;
+  given = first.given;
+}
 
 -- a call on chunks goes by the last room alone, and a refusal leaves memory as it was
 pub record IsOnChunks {A : Type 0} (call : Call A) : Type 0 where
@@ -77,12 +85,14 @@ module _ {D : Type 0} (medium : Medium D) (v w : VmState D) (s t : Store) (g : �
         let now : IsMemoryOf medium w t n = subst (IsMemoryOf medium w t) (sym c.1) b.3 in
         let is_one = group-told medium w t tied n now g group in
         let own = call b.0 n in
-        let came : first_refusal ((no_group n g ∷ bringing b.0 n g) ++ own.refusals) ≡ Some why = first_refusal-came (no_group n g ∷ bringing b.0 n g) own.refusals why (same-tests b.0 n g is_one ∙ c.0) in
+        let came : first_refusal ((no_group n g ∷ bringing b.0 n g) ++ own.refusals) ≡ Some why =
+        first_refusal-came (no_group n g ∷ bringing b.0 n g) own.refusals why (same-tests b.0 n g is_one ∙ c.0) in
         (b.0, b.1, n, now, ap (λ o. come_to o own.left own.answer (with_mark own.after g true)) came ∙ ap (λ k. (Err why, k)) (on.left b.0 n why))
 
     -- it came, and its chunks changed, or did not
     module _ (brought : DoesRow medium (bring g) (Ok tt) v s w t) (u : Store) where
-      pub on_group-ok : (x : VmState D) (a : A) → x.file.device ≡ w.file.device → DoesRowAlone medium call (Ok a) w t w u → ((n : Memory) → IsMemoryOf medium w u n → IsMemoryOf medium x u (with_mark n g true))
+      pub on_group-ok : (x : VmState D) (a : A) → x.file.device ≡ w.file.device → DoesRowAlone medium call (Ok a) w t w u
+          → ((n : Memory) → IsMemoryOf medium w u n → IsMemoryOf medium x u (with_mark n g true))
           → DoesRow medium (on_group g call) (Ok a) v s x u
       on_group-ok x a device row marks m is =
           let b = brings brought m is in
@@ -94,7 +104,8 @@ module _ {D : Type 0} (medium : Medium D) (v w : VmState D) (s t : Store) (g : �
             subst (λ d. IsChosen medium v.file.device d e) (sym device) (record { given = b.chosen.given; device = b.chosen.device }),
             with_mark c.2 g true,
             marks c.2 c.3,
-            ap (λ own. come_to (first_refusal ((no_group n g ∷ bringing b.choice n g) ++ own.refusals)) own.left own.answer (with_mark own.after g true)) (on.by_room b.choice c.0 n) ∙ came,
+            ap (λ own. come_to (first_refusal ((no_group n g ∷ bringing b.choice n g) ++ own.refusals)) own.left own.answer
+                (with_mark own.after g true)) (on.by_room b.choice c.0 n) ∙ came,
           )
 
       pub on_group-err : (why : Refusal) → DoesRowAlone medium call (Err why) w t w u → DoesRow medium (on_group g call) (Err why) v s w u
@@ -108,7 +119,8 @@ module _ {D : Type 0} (medium : Medium D) (v w : VmState D) (s t : Store) (g : �
             record { given = b.chosen.given; device = b.chosen.device },
             c.2,
             c.3,
-            ap (λ own. come_to (first_refusal ((no_group n g ∷ bringing b.choice n g) ++ own.refusals)) own.left own.answer (with_mark own.after g true)) (on.by_room b.choice c.0 n) ∙ came,
+            ap (λ own. come_to (first_refusal ((no_group n g ∷ bringing b.choice n g) ++ own.refusals)) own.left own.answer
+                (with_mark own.after g true)) (on.by_room b.choice c.0 n) ∙ came,
           )
 
 -- No group has the handle
@@ -117,5 +129,10 @@ module _ {D : Type 0} (medium : Medium D) (v : VmState D) (s : Store) (g : ℕ) 
   pub no_group-row : {A : Type 0} (call : Call A) → IsOnChunks call → DoesRow medium (on_group g call) (Err refusal.BadHandle) v s v s
   no_group-row call on m is =
       let c = chosen false false [] in
-      let test = no_group-told medium v s tied m is g none in
-      (c, record { given = λ good. refl; device = λ good fails. absurd cc }, m, is, rw test (ap (λ k. (Err refusal.BadHandle, k)) (on.left c m refusal.BadHandle)))
+      let test = no_group-told medium v s tied m is g none in (
+        c,
+        record { given = λ good. refl; device = λ good fails. absurd cc },
+        m,
+        is,
+        rw test (ap (λ k. (Err refusal.BadHandle, k)) (on.left c m refusal.BadHandle)),
+      )

@@ -20,7 +20,8 @@ has-group_uid : (l : Option VmBlock) → IsSomeAnd (option_map (λ (x : VmBlock)
 has-group_uid None some = absurd some
 has-group_uid (Some l) same = grind (arith, nat_tests, same)
 
-hasnt-group_uid : (l : Option VmBlock) → (IsSomeAnd (option_map (λ (x : VmBlock). x.uid) l) (λ u. u ≡ group_uid) → ⊥) → (uid_in l == group_uid) ≡ false
+hasnt-group_uid : (l : Option VmBlock) → (IsSomeAnd (option_map (λ (x : VmBlock). x.uid) l) (λ u. u ≡ group_uid) → ⊥)
+    → (uid_in l == group_uid) ≡ false
 hasnt-group_uid None none = refl
 hasnt-group_uid (Some l) none = let ne : l.uid ≢ group_uid = none in grind (arith, nat_tests, ne)
 
@@ -32,7 +33,8 @@ some-listed (Some l) is = refl
 pub group-listed : (m : Memory) (g : ℕ) → is_group m g ≡ true → is_none (listed_at m g) ≡ false
 group-listed m g is = some-listed (listed_at m g) is
 
-module _ {D : Type 0} (medium : Medium D) (v : VmState D) (s : Store) (tied : IsTied medium v s) (m : Memory) (is : IsMemoryOf medium v s m) (g : ℕ) where
+module _ {D : Type 0} (medium : Medium D) (v : VmState D) (s : Store) (tied : IsTied medium v s) (m : Memory)
+    (is : IsMemoryOf medium v s m) (g : ℕ) where
   pub group-told : IsGroup v g → is_group m g ≡ true
   group-told group = has-group_uid (listed_at m g) (uid-some medium v s tied m is (λ u. u ≡ group_uid) g group)
 

@@ -34,24 +34,45 @@ pub runs_if_any : (text : List ℕ) (image : Parts) → IsAssembled text image �
 runs_if_any text image A = record { code = A.code; read = A.read; found = found-keyed (skeleton A.code) image A.found }
 
 -- what has the skeleton's code has the code of the text
-pub assembled : (text : List ℕ) (code : Code) (blank image : Parts) → code_of text ≡ Ok code → blank ≡ skeleton code → SameCode blank image → AllHoldWhereReached image → FindsWhatThereIs blank image → IsAssembled text image
+pub assembled : (text : List ℕ) (code : Code) (blank image : Parts) → code_of text ≡ Ok code → blank ≡ skeleton code
+    → SameCode blank image → AllHoldWhereReached image → FindsWhatThereIs blank image → IsAssembled text image
 assembled text code blank image read is same rows found =
     let same_code = subst (λ (b : Parts). SameCode b image) is same in
-    record { code = code; read = read; has = record { routines = same_code.routines; instrs = same_code.instrs ∙ skeleton-code code }; rows = rows; found = subst (λ (b : Parts). FindsWhatThereIs b image) is found }
+    record {
+      code = code;
+      read = read;
+      has = record { routines = same_code.routines; instrs = same_code.instrs ∙ skeleton-code code };
+      rows =
+          rows;
+      found = subst (λ (b : Parts). FindsWhatThereIs b image) is found;
+    }
 
 -- a routine of the code begins at its line
-pub no_rows : (text : List ℕ) (code : Code) (blank : Parts) (r at : ℕ) (routine : TextRoutine) → code_of text ≡ Ok code → blank ≡ skeleton code → r < length blank.routines → at ≡ r → routine ≡ get_or code.routines at routine → NoneIsAccepted blank → NothingHoldsIn blank r → HasNoRows text routine.line
+pub no_rows : (text : List ℕ) (code : Code) (blank : Parts) (r at : ℕ) (routine : TextRoutine) → code_of text ≡ Ok code
+    → blank ≡ skeleton code → r < length blank.routines → at ≡ r → routine ≡ get_or code.routines at routine
+    → NoneIsAccepted blank → NothingHoldsIn blank r → HasNoRows text routine.line
 no_rows text code blank r at routine read is within same here none stuck =
     let count = ap (λ (b : Parts). length b.routines) is ∙ length-map code.routines routine_of in
-    let there = slice_get_read code.routines (length blank.routines) r routine count within (subst (λ (k : ℕ). routine ≡ get_or code.routines k routine) same here) in
-    record { code = code; read = read; begins = record { r = r; routine = routine; there = there; line_is = refl }; none = subst NoneIsAccepted is none; stuck = subst (λ (b : Parts). NothingHoldsIn b r) is stuck }
+    let there = slice_get_read code.routines (length blank.routines) r routine count within
+    (subst (λ (k : ℕ). routine ≡ get_or code.routines k routine) same here) in
+    record {
+      code = code;
+      read = read;
+      begins = record { r = r; routine = routine; there = there; line_is = refl };
+      none =
+          subst NoneIsAccepted is none;
+      stuck = subst (λ (b : Parts). NothingHoldsIn b r) is stuck;
+    }
 
 -- a cause that holds of a routine of the skeleton holds of the text's routine that begins at its line
-pub caused : (text : List ℕ) (code : Code) (blank : Parts) (r at line : ℕ) (items : List TextRoutine) (routine : TextRoutine) (cause : Cause) → code_of text ≡ Ok code → blank ≡ skeleton code → items ≡ code.routines → at ≡ r → at < length items → routine ≡ get_or items at routine → routine.line ≡ line
+pub caused : (text : List ℕ) (code : Code) (blank : Parts) (r at line : ℕ) (items : List TextRoutine) (routine : TextRoutine) (cause : Cause)
+    → code_of text ≡ Ok code → blank ≡ skeleton code → items ≡ code.routines → at ≡ r → at < length items
+    → routine ≡ get_or items at routine → routine.line ≡ line
     → Holds blank r cause → (tells_of_slots cause ≡ false → MeetAlike blank r) → IsCauseOf text line cause
 caused text code blank r at line items routine cause read is same_items same within here line_is holds slots =
     let there = slice_get_read items (length items) at routine refl within here in
-    let there_in_code = subst (λ (l : List TextRoutine). slice_get l r ≡ Some routine) same_items (subst (λ (k : ℕ). slice_get items k ≡ Some routine) same there) in
+    let there_in_code = subst (λ (l : List TextRoutine). slice_get l r ≡ Some routine) same_items
+    (subst (λ (k : ℕ). slice_get items k ≡ Some routine) same there) in
     record {
       code = code;
       read = read;

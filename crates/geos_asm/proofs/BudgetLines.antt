@@ -22,12 +22,14 @@ from-on (b ∷ bytes) k j e = go (feeds b) e (from-on bytes (k + 1) j)
     go true e later = let same : k ≡ j = cc in omega (arith, same)
     go false e later = omega (arith, later e)
 
-feed-from : (bytes : List ℕ) (k i : ℕ) → position_from feeds k bytes ≡ Some (k + i) → whole_lines bytes ≡ take (suc i) bytes ∷ whole_lines (drop (suc i) bytes)
+feed-from : (bytes : List ℕ) (k i : ℕ) → position_from feeds k bytes ≡ Some (k + i)
+    → whole_lines bytes ≡ take (suc i) bytes ∷ whole_lines (drop (suc i) bytes)
 feed-from [] k i e = absurd cc
 feed-from (b ∷ bytes) k i e = go (feeds b) refl i e (feed-from bytes (k + 1))
   where
     go : (t : Bool) → feeds b ≡ t → (i : ℕ) → cond t (Some k) (position_from feeds (k + 1) bytes) ≡ Some (k + i)
-        → ((i : ℕ) → position_from feeds (k + 1) bytes ≡ Some ((k + 1) + i) → whole_lines bytes ≡ take (suc i) bytes ∷ whole_lines (drop (suc i) bytes))
+        → ((i : ℕ) → position_from feeds (k + 1) bytes ≡ Some ((k + 1) + i)
+        → whole_lines bytes ≡ take (suc i) bytes ∷ whole_lines (drop (suc i) bytes))
         → whole_lines (b ∷ bytes) ≡ take (suc i) (b ∷ bytes) ∷ whole_lines (drop (suc i) (b ∷ bytes))
     go true is zero e later = rw is refl
     go true is (suc i) e later = let same : k ≡ k + suc i = cc in absurd (omega (arith, same))
@@ -45,7 +47,8 @@ no-feed-from [] b k e = go (feeds b) refl
 no-feed-from (c ∷ bytes) b k e = go (feeds b) refl e (no-feed-from bytes c (k + 1))
   where
     go : (t : Bool) → feeds b ≡ t → cond t (Some k) (position_from feeds (k + 1) (c ∷ bytes)) ≡ None
-        → (position_from feeds (k + 1) (c ∷ bytes) ≡ None → whole_lines (c ∷ bytes) ≡ (c ∷ bytes) ∷ []) → whole_lines (b ∷ c ∷ bytes) ≡ (b ∷ c ∷ bytes) ∷ []
+        → (position_from feeds (k + 1) (c ∷ bytes) ≡ None → whole_lines (c ∷ bytes) ≡ (c ∷ bytes) ∷ [])
+        → whole_lines (b ∷ c ∷ bytes) ≡ (b ∷ c ∷ bytes) ∷ []
     go true is e later = absurd cc
     go false is e later = rw is (ap (in_front b) (later e))
 
@@ -71,8 +74,10 @@ pub some-alike : (text : List ℕ) → (new : List ℕ) × HasOtherBudgets text 
 some-alike text = same-lines (whole_lines text)
 
 -- one more line was written
-pub one-more : (text out here rest line behind tail : List ℕ) → ((tail : List ℕ) → AreLinesAlike (whole_lines rest) tail → HasOtherBudgets text (out ++ tail))
-    → whole_lines rest ≡ line ∷ whole_lines behind → IsLineAlike line here → AreLinesAlike (whole_lines behind) tail → HasOtherBudgets text ((out ++ here) ++ tail)
+pub one-more : (text out here rest line behind tail : List ℕ)
+    → ((tail : List ℕ) → AreLinesAlike (whole_lines rest) tail → HasOtherBudgets text (out ++ tail))
+    → whole_lines rest ≡ line ∷ whole_lines behind → IsLineAlike line here → AreLinesAlike (whole_lines behind) tail
+    → HasOtherBudgets text ((out ++ here) ++ tail)
 one-more text out here rest line behind tail so_far split alike others =
     let all = subst (λ ls. AreLinesAlike ls (here ++ tail)) (sym split) (here, tail, alike, others, refl) in
     subst (HasOtherBudgets text) (sym (append_assoc out here tail)) (so_far (here ++ tail) all)
@@ -85,12 +90,14 @@ cut-whole line s e le =
     sym (ap (λ b. (take s line ++ take (e - s) (drop s line)) ++ b) (take_rest line e) ∙ ap (λ f. f ++ drop e line) front ∙ take-append-drop e line)
 
 -- want of memory is a fault of some text alike
-pub memory-fault : {A : Type 0} (text : List ℕ) (result : Result A AssembleError) → IsErrAnd result (λ x. x ≡ Memory) → IfErr result (IsWhyNoBudgets text)
+pub memory-fault : {A : Type 0} (text : List ℕ) (result : Result A AssembleError) → IsErrAnd result (λ x. x ≡ Memory)
+    → IfErr result (IsWhyNoBudgets text)
 memory-fault text (Ok x) h = tt
 memory-fault text (Err e) h = let some = some-alike text in subst (IsWhyNoBudgets text) (sym h) (some.0, some.1, tt)
 
 -- a fault of a text with other budgets
-pub draft-fault : {A : Type 0} (text new : List ℕ) (result : Result A AssembleError) (fault : AssembleError) → HasOtherBudgets text new → IsWhyNoImage new fault
+pub draft-fault : {A : Type 0} (text new : List ℕ) (result : Result A AssembleError) (fault : AssembleError)
+    → HasOtherBudgets text new → IsWhyNoImage new fault
     → IsErrAnd result (λ x. x ≡ fault) → IfErr result (IsWhyNoBudgets text)
 draft-fault text new (Ok x) fault alike why h = tt
 draft-fault text new (Err e) fault alike why h = subst (IsWhyNoBudgets text) (sym h) (new, alike, why)

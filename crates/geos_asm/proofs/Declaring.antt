@@ -39,11 +39,21 @@ each_one n = true
 -- what so many routines and places of the image declare
 abbrev pub state : Parts → ℕ → ℕ → Declared
 state image n pc =
-    record { routines = n; instrs = pc; names = record { labels = table_below label_name (is_target image.points) pc; routines = table_below (name_at image) each_one n }; fault = None }
+    record {
+      routines = n;
+      instrs = pc;
+      names = record {
+        labels = table_below label_name (is_target image.points) pc;
+        routines =
+            table_below (name_at image) each_one n;
+      };
+      fault = None;
+    }
 
 -- ---- one line
 
-lines-both : (n : ℕ) (front back : List (List ℕ)) (d : Declared) → with_lines n (front ++ back) d ≡ with_lines (n + length front) back (with_lines n front d)
+lines-both : (n : ℕ) (front back : List (List ℕ)) (d : Declared) → with_lines n (front ++ back) d ≡ with_lines
+    (n + length front) back (with_lines n front d)
 lines-both n [] back d = let same : n ≡ n + 0 = omega arith in ap (λ m. with_lines m back d) same
 lines-both n (line ∷ front) back d =
     let same : n + 1 + length front ≡ n + length (line ∷ front) = omega arith in
@@ -76,7 +86,8 @@ instr-line n image pc point d facts e =
     let word = word_of point.instr.opcode in
     let words = operand_words image.routines point.instr in
     let is = word_of-is point.instr.opcode in
-    ap (λ p. with_statement n p.statement (with_labels n p.labels d)) (instr-said (length image.points) image.routines point.instr facts.named facts.short (facts.instr pc point e))
+    ap (λ p. with_statement n p.statement (with_labels n p.labels d))
+    (instr-said (length image.points) image.routines point.instr facts.named facts.short (facts.instr pc point e))
     ∙ ap (λ b. declared_by b (bytes_eq word (codes "in")) (bytes_eq word (codes "out")) n words d) is.no_routine
     ∙ ap (λ b. declared_by false b (bytes_eq word (codes "out")) n words d) is.no_in
     ∙ ap (λ b. declared_by false false b n words d) is.no_out
@@ -90,9 +101,19 @@ label-line n pc d lt = ap (λ p. with_statement n p.statement (with_labels n p.l
 -- the state with an instruction's label, if it has one
 abbrev labelled : Parts → Bool → ℕ → ℕ → Table → Declared
 labelled image is n pc table =
-    record { routines = n; instrs = pc; names = record { labels = cond is (with_name table (label_name pc) pc) table; routines = table_below (name_at image) each_one n }; fault = None }
+    record {
+      routines = n;
+      instrs = pc;
+      names = record {
+        labels = cond is (with_name table (label_name pc) pc) table;
+        routines =
+            table_below (name_at image) each_one n;
+      };
+      fault = None;
+    }
 
-label-makes : (image : Parts) (is : Bool) (n pc : ℕ) (table : Table) → pc < 4096 → table (label_name pc) ≡ None → Makes (label_lines is pc) (labelled image false n pc table) (labelled image is n pc table)
+label-makes : (image : Parts) (is : Bool) (n pc : ℕ) (table : Table) → pc < 4096 → table (label_name pc) ≡ None
+    → Makes (label_lines is pc) (labelled image false n pc table) (labelled image is n pc table)
 label-makes image false n pc table lt new k = refl
 label-makes image true n pc table lt new k =
     label-line k pc (labelled image false n pc table) lt
@@ -108,11 +129,13 @@ instr-makes image is n pc table facts lt k =
     ∙ instr-line k image pc at.0 before facts at.1
     ∙ ap (λ m. record before { instrs = m }) more
 
-place-makes : (image : Parts) (n pc : ℕ) → Facts image → pc < length image.points → Makes (place_lines image pc) (state image n pc) (state image n (suc pc))
+place-makes : (image : Parts) (n pc : ℕ) → Facts image → pc < length image.points
+    → Makes (place_lines image pc) (state image n pc) (state image n (suc pc))
 place-makes image n pc facts lt =
     let is = is_target image.points pc in
     let table = table_below label_name (is_target image.points) pc in
-    let new = unknown label_name (is_target image.points) (length image.points) pc pc (labels-apart (length image.points) facts.short) (omega arith) lt in
+    let new = unknown label_name (is_target image.points) (length image.points) pc pc (labels-apart (length image.points) facts.short)
+    (omega arith) lt in
     both (label_lines is pc) (instr_lines image pc) (state image n pc) (labelled image is n pc table) (state image n (suc pc))
     (label-makes image is n pc table (omega (arith, lt, facts.short)) new) (instr-makes image is n pc table facts lt)
 
@@ -121,13 +144,15 @@ places-make : (image : Parts) (n start count : ℕ) → Facts image → start + 
 places-make image n start zero facts room k = let same : start ≡ start + 0 = omega arith in ap (state image n) same
 places-make image n start (suc count) facts room k =
     let same : suc (start + count) ≡ start + suc count = omega arith in
-    both (lines_below count (λ j. place_lines image (start + j))) (place_lines image (start + count)) (state image n start) (state image n (start + count)) (state image n (suc (start + count)))
+    both (lines_below count (λ j. place_lines image (start + j))) (place_lines image (start + count)) (state image n start)
+    (state image n (start + count)) (state image n (suc (start + count)))
     (places-make image n start count facts (omega (arith, room))) (place-makes image n (start + count) facts (omega (arith, room))) k
     ∙ ap (state image n) same
 
 -- ---- routines
 
-apart_by : (image : Parts) (i j : ℕ) (x y : Routine) (less : Bool) → nat_lt i j ≡ less → (i ≡ j → ⊥) → Facts image → slice_get image.routines i ≡ Some x → slice_get image.routines j ≡ Some y
+apart_by : (image : Parts) (i j : ℕ) (x y : Routine) (less : Bool) → nat_lt i j ≡ less → (i ≡ j → ⊥) → Facts image
+    → slice_get image.routines i ≡ Some x → slice_get image.routines j ≡ Some y
     → bytes_eq x.name y.name ≡ false
 apart_by image i j x y true e differ facts f g = facts.apart i j x y (ltb-true i j e) f g
 apart_by image i j x y false e differ facts f g =
@@ -154,7 +179,13 @@ row-makes false word row d is no_routine is_row sound k = row-line k word row d 
 -- the name that a routine's line declares
 abbrev begun : Parts → ℕ → ℕ → List ℕ → Declared
 begun image n pc name =
-    record { routines = suc n; instrs = pc; names = record { labels = table_below label_name (is_target image.points) pc; routines = with_name (table_below (name_at image) each_one n) name n }; fault = None }
+    record {
+      routines = suc n;
+      instrs = pc;
+      names =
+          record { labels = table_below label_name (is_target image.points) pc; routines = with_name (table_below (name_at image) each_one n) name n };
+      fault = None;
+    }
 
 head-makes : (image : Parts) (n pc : ℕ) (r : Routine) → Facts image → slice_get image.routines n ≡ Some r → n < length image.routines
     → Makes (head_text r ∷ []) (state image n pc) (state image (suc n) pc)
@@ -162,14 +193,16 @@ head-makes image n pc r facts e lt k =
     let before = state image n pc in
     let table = table_below (name_at image) each_one n in
     let name : name_at image n ≡ r.name = name_at-is image n r e in
-    let new : table r.name ≡ None = ap table (sym name) ∙ unknown (name_at image) each_one (length image.routines) n n (names-apart image facts) (omega arith) lt in
+    let new : table r.name ≡ None = ap table (sym name) ∙ unknown (name_at image) each_one (length image.routines) n n
+    (names-apart image facts) (omega arith) lt in
     let more : min (n + 1) 32 ≡ suc n = omega (arith, lt, facts.few) in
     head-line k r before (facts.routine n r e)
     ∙ ap (λ old. record (begun image n pc r.name) { routines = min (n + 1) 32; fault = first None (at_line k (twice old)) }) new
     ∙ ap (λ m. record (begun image n pc r.name) { routines = m }) more
     ∙ ap (begun image n pc) (sym name)
 
-routine-makes : (image : Parts) (n start : ℕ) (r : Routine) → Facts image → slice_get image.routines n ≡ Some r → n < length image.routines → start + r.count ≤ length image.points
+routine-makes : (image : Parts) (n start : ℕ) (r : Routine) → Facts image → slice_get image.routines n ≡ Some r
+    → n < length image.routines → start + r.count ≤ length image.points
     → Makes (routine_lines image start r) (state image n start) (state image (suc n) (start + r.count))
 routine-makes image n start r facts e lt within =
     let is = facts.routine n r e in
@@ -185,7 +218,8 @@ routine-makes image n start r facts e lt within =
     (both (head ++ entry) exit before begins begins (both head entry before begins begins a b) c)
     (places-make image (suc n) start r.count facts within)
 
-routines-make : (image : Parts) (n : ℕ) → Facts image → n ≤ length image.routines → Makes (lines_below n (lines_at image)) nothing (state image n (start_of image.routines n))
+routines-make : (image : Parts) (n : ℕ) → Facts image → n ≤ length image.routines
+    → Makes (lines_below n (lines_at image)) nothing (state image n (start_of image.routines n))
 routines-make image zero facts le k = refl
 routines-make image (suc n) facts le k =
     let at = item_at image.routines n (omega (arith, le)) in
@@ -194,7 +228,8 @@ routines-make image (suc n) facts le k =
     λ k. ap (λ o. with_lines k (option_map_or (routine_lines image start) o []) (state image n start)) at.1
     ∙ routine-makes image n start at.0 facts at.1 (omega (arith, le)) (room image facts n at.0 at.1) k
     ∙ ap (state image (suc n)) (sym (start_of-next image.routines n at.0 at.1)) in
-    both (lines_below n (lines_at image)) (lines_at image n) nothing (state image n start) (state image (suc n) (start_of image.routines (suc n))) (routines-make image n facts (omega (arith, le))) here k
+    both (lines_below n (lines_at image)) (lines_at image n) nothing (state image n start)
+    (state image (suc n) (start_of image.routines (suc n))) (routines-make image n facts (omega (arith, le))) here k
 
 -- the listing declares its labels and its routines' names, each once
 pub listing-declared : (image : Parts) → Facts image → declared (listing_lines image) ≡ state image (length image.routines) (length image.points)

@@ -32,27 +32,40 @@ use Rattle.geos_asm.proofs.Declaring.{IsLabel, names_in, names-stand, has_label}
 -- a routine has begun, no label waits, and there is no fault
 abbrev pub drafted : List TextRoutine → List Instr → TextPart → ℕ → Routine → Draft
 drafted routines code part line r =
-    record { routines = routines; code = code; progress = record { part = part; current = Some (record { line = line; routine = r }); waiting = None; fault = None } }
+    record {
+      routines = routines;
+      code = code;
+      progress =
+          record { part = part; current = Some (record { line = line; routine = r }); waiting = None; fault = None };
+    }
 
 -- the same where a label may wait
 abbrev awaited : List TextRoutine → List Instr → TextPart → ℕ → Routine → Option ℕ → Draft
 awaited routines code part line r waiting =
-    record { routines = routines; code = code; progress = record { part = part; current = Some (record { line = line; routine = r }); waiting = waiting; fault = None } }
+    record {
+      routines = routines;
+      code = code;
+      progress =
+          record { part = part; current = Some (record { line = line; routine = r }); waiting = waiting; fault = None };
+    }
 
 module _ (image : Parts) (facts : Facts image) where
-  pub takes-both : (n : ℕ) (front back : List (List ℕ)) (t : Draft) → take_lines (names_in image) n (front ++ back) t ≡ take_lines (names_in image) (n + length front) back (take_lines (names_in image) n front t)
+  pub takes-both : (n : ℕ) (front back : List (List ℕ)) (t : Draft) → take_lines (names_in image) n (front ++ back)
+      t ≡ take_lines (names_in image) (n + length front) back (take_lines (names_in image) n front t)
   takes-both n [] back t = let same : n ≡ n + 0 = omega arith in ap (λ m. take_lines (names_in image) m back t) same
   takes-both n (line ∷ front) back t =
       let names = names_in image in
       let same : n + 1 + length front ≡ n + length (line ∷ front) = omega arith in
-      takes-both (n + 1) front back (take_line names n line t) ∙ ap (λ m. take_lines names m back (take_lines names (n + 1) front (take_line names n line t))) same
+      takes-both (n + 1) front back (take_line names n line t)
+      ∙ ap (λ m. take_lines names m back (take_lines names (n + 1) front (take_line names n line t))) same
 
   -- lines make one draft of another, whatever their numbers
   abbrev pub Takes : List (List ℕ) → Draft → Draft → Type 0
   Takes ls t u = (n : ℕ) → take_lines (names_in image) n ls t ≡ u
 
   pub one_by_one : (front back : List (List ℕ)) (t u v : Draft) → Takes front t u → Takes back u v → Takes (front ++ back) t v
-  one_by_one front back t u v one two n = takes-both n front back t ∙ ap (take_lines (names_in image) (n + length front) back) (one n) ∙ two (n + length front)
+  one_by_one front back t u v one two n = takes-both n front back t ∙ ap (take_lines (names_in image) (n + length front) back) (one n)
+      ∙ two (n + length front)
 
   -- ---- instructions
 
@@ -60,7 +73,8 @@ module _ (image : Parts) (facts : Facts image) where
   not_full code false e lt = refl
   not_full code true e lt = let more = leb-true 4096 (length code) e in absurd (omega (arith, more, lt))
 
-  instr-taken : (n pc : ℕ) (point : Point) (routines : List TextRoutine) (code : List Instr) (part : TextPart) (line : ℕ) (r : Routine) (waiting : Option ℕ)
+  instr-taken : (n pc : ℕ) (point : Point) (routines : List TextRoutine) (code : List Instr) (part : TextPart)
+      (line : ℕ) (r : Routine) (waiting : Option ℕ)
       → slice_get image.points pc ≡ Some point → outside part ≡ None → length code < 4096
       → take_line (names_in image) n (instr_text image.routines point.instr) (awaited routines code part line r waiting)
       ≡ drafted routines (code ++ point.instr ∷ []) (in_body part) line (record r { count = min (r.count + 1) 4096 })
@@ -74,12 +88,19 @@ module _ (image : Parts) (facts : Facts image) where
       let is = word_of-is i.opcode in
       let legal = facts.instr pc point e in
       let full : is_full code ≡ None = not_full code (nat_le 4096 (length code)) refl room in
-      ap (λ p. take_statement names n p.statement (record t { progress = take_labels n (not (is_empty p.labels)) t.progress })) (instr-said (length image.points) image.routines i facts.named facts.short legal)
+      ap (λ p. take_statement names n p.statement (record t { progress = take_labels n (not (is_empty p.labels)) t.progress }))
+      (instr-said (length image.points) image.routines i facts.named facts.short legal)
       ∙ ap (λ b. taken_by b (bytes_eq word (codes "in")) (bytes_eq word (codes "out")) names n word words t) is.no_routine
       ∙ ap (λ b. taken_by false b (bytes_eq word (codes "out")) names n word words t) is.no_in
       ∙ ap (λ b. taken_by false false b names n word words t) is.no_out
-      ∙ ap (λ read. take_instr n read t) (instruction-again (length image.points) image.routines (IsLabel image) names i (names-stand image facts) legal (has_label image pc point facts e))
-      ∙ ap (λ why. record { routines = routines; code = with_instr (Ok i) (least why (outside part)) code; progress = with_instr_at n (least why (outside part)) t.progress }) full
+      ∙ ap (λ read. take_instr n read t) (instruction-again (length image.points) image.routines (IsLabel image) names i
+      (names-stand image facts) legal (has_label image pc point facts e))
+      ∙ ap (λ why. record {
+        routines = routines;
+        code = with_instr (Ok i) (least why (outside part)) code;
+        progress =
+            with_instr_at n (least why (outside part)) t.progress;
+      }) full
       ∙ ap (λ why. record { routines = routines; code = with_instr (Ok i) why code; progress = with_instr_at n why t.progress }) inside
 
   label-taken : (n pc : ℕ) (routines : List TextRoutine) (code : List Instr) (part : TextPart) (line : ℕ) (r : Routine) → pc < 4096
@@ -87,13 +108,18 @@ module _ (image : Parts) (facts : Facts image) where
   unfolding take_line
   label-taken n pc routines code part line r lt =
       let t = drafted routines code part line r in
-      ap (λ p. take_statement (names_in image) n p.statement (record t { progress = take_labels n (not (is_empty p.labels)) t.progress })) (label-said pc lt)
+      ap (λ p. take_statement (names_in image) n p.statement (record t { progress = take_labels n (not (is_empty p.labels)) t.progress }))
+      (label-said pc lt)
 
-  instr-there : (n pc : ℕ) (point : Point) (t : Draft) → slice_get image.points pc ≡ Some point → take_lines (names_in image) n (instr_lines image pc) t ≡ take_line (names_in image) n (instr_text image.routines point.instr) t
-  instr-there n pc point t e = ap (λ o. take_lines (names_in image) n (option_map_or (λ (p : Point). instr_text image.routines p.instr ∷ []) o []) t) e
+  instr-there : (n pc : ℕ) (point : Point) (t : Draft) → slice_get image.points pc ≡ Some point
+      → take_lines (names_in image) n (instr_lines image pc) t ≡ take_line (names_in image) n (instr_text image.routines point.instr) t
+  instr-there n pc point t e = ap (λ o. take_lines (names_in image) n (option_map_or (λ (p : Point). instr_text image.routines p.instr ∷ []) o []) t)
+      e
 
-  place-taken : (is : Bool) (pc : ℕ) (point : Point) (routines : List TextRoutine) (code : List Instr) (part : TextPart) (line : ℕ) (r : Routine) → slice_get image.points pc ≡ Some point → pc < 4096 → outside part ≡ None → length code < 4096
-      → Takes (label_lines is pc ++ instr_lines image pc) (drafted routines code part line r) (drafted routines (code ++ point.instr ∷ []) (in_body part) line (record r { count = min (r.count + 1) 4096 }))
+  place-taken : (is : Bool) (pc : ℕ) (point : Point) (routines : List TextRoutine) (code : List Instr) (part : TextPart) (line : ℕ) (r : Routine)
+      → slice_get image.points pc ≡ Some point → pc < 4096 → outside part ≡ None → length code < 4096
+      → Takes (label_lines is pc ++ instr_lines image pc) (drafted routines code part line r)
+      (drafted routines (code ++ point.instr ∷ []) (in_body part) line (record r { count = min (r.count + 1) 4096 }))
   place-taken false pc point routines code part line r e lt inside room n =
       instr-there n pc point (drafted routines code part line r) e ∙ instr-taken n pc point routines code part line r None e inside room
   place-taken true pc point routines code part line r e lt inside room n =
@@ -110,7 +136,8 @@ module _ (image : Parts) (facts : Facts image) where
   inside_behind part zero e = e
   inside_behind part (suc k) e = refl
 
-  one_more : (xs : List Point) (k : ℕ) (x : Point) → slice_get xs k ≡ Some x → take k (map instr_of xs) ++ x.instr ∷ [] ≡ take (suc k) (map instr_of xs)
+  one_more : (xs : List Point) (k : ℕ) (x : Point) → slice_get xs k ≡ Some x
+      → take k (map instr_of xs) ++ x.instr ∷ [] ≡ take (suc k) (map instr_of xs)
   one_more [] k x e = absurd cc
   one_more (y ∷ xs) zero x e = let same : x ≡ y = cc in ap (λ (p : Point). p.instr ∷ []) same
   one_more (y ∷ xs) (suc k) x e = ap (λ (is : List Instr). y.instr ∷ is) (one_more xs k x e)
@@ -124,7 +151,8 @@ module _ (image : Parts) (facts : Facts image) where
   abbrev pub behind : List TextRoutine → TextPart → ℕ → Routine → ℕ → ℕ → Draft
   behind routines part line r start k = drafted routines (take (start + k) (instrs_of image)) (part_behind part k) line (record r { count = k })
 
-  pub places-taken : (routines : List TextRoutine) (part : TextPart) (line : ℕ) (r : Routine) (start count : ℕ) → outside part ≡ None → start + count ≤ length image.points
+  pub places-taken : (routines : List TextRoutine) (part : TextPart) (line : ℕ) (r : Routine) (start count : ℕ)
+      → outside part ≡ None → start + count ≤ length image.points
       → Takes (lines_below count (λ k. place_lines image (start + k))) (behind routines part line r start 0) (behind routines part line r start count)
   places-taken routines part line r start zero inside within n = refl
   places-taken routines part line r start (suc count) inside within n =
@@ -137,12 +165,16 @@ module _ (image : Parts) (facts : Facts image) where
       let next : suc pc ≡ start + suc count = omega arith in
       let more : min (count + 1) 4096 ≡ suc count = omega (arith, within, short) in
       let before = behind routines part line r start count in
-      let made = drafted routines (take pc (instrs_of image) ++ at.0.instr ∷ []) (in_body (part_behind part count)) line (record r { count = min (count + 1) 4096 }) in
+      let made = drafted routines (take pc (instrs_of image) ++ at.0.instr ∷ []) (in_body (part_behind part count)) line
+      (record r { count = min (count + 1) 4096 }) in
       one_by_one (lines_below count (λ k. place_lines image (start + k))) (place_lines image pc) (behind routines part line r start 0) before made
       (places-taken routines part line r start count inside (omega (arith, within)))
-      (place-taken is pc at.0 routines (take pc (instrs_of image)) (part_behind part count) line (record r { count = count }) at.1 (omega (arith, within, short)) there (omega (arith, long, within, short))) n
-      ∙ ap (λ code. drafted routines code (in_body (part_behind part count)) line (record r { count = min (count + 1) 4096 })) (one_more image.points pc at.0 at.1 ∙ ap (λ m. take m (instrs_of image)) next)
-      ∙ ap (λ p. drafted routines (take (start + suc count) (instrs_of image)) p line (record r { count = min (count + 1) 4096 })) (in_body-is (part_behind part count) there)
+      (place-taken is pc at.0 routines (take pc (instrs_of image)) (part_behind part count) line (record r { count = count }) at.1
+      (omega (arith, within, short)) there (omega (arith, long, within, short))) n
+      ∙ ap (λ code. drafted routines code (in_body (part_behind part count)) line (record r { count = min (count + 1) 4096 }))
+      (one_more image.points pc at.0 at.1 ∙ ap (λ m. take m (instrs_of image)) next)
+      ∙ ap (λ p. drafted routines (take (start + suc count) (instrs_of image)) p line (record r { count = min (count + 1) 4096 }))
+      (in_body-is (part_behind part count) there)
       ∙ ap (λ m. drafted routines (take (start + suc count) (instrs_of image)) body line (record r { count = m })) more
 
   -- ---- rows
@@ -167,16 +199,20 @@ module _ (image : Parts) (facts : Facts image) where
   no_words [] e = refl
   no_words (word ∷ words) e = absurd cc
 
-  pub entry-taken : (none : Bool) (row : Row) (routines : List TextRoutine) (code : List Instr) (begun : ℕ) (has_out : Bool) (line : ℕ) (r : Routine) → is_empty (row_words row) ≡ none → IsSound row → r.entry ≡ open_row
+  pub entry-taken : (none : Bool) (row : Row) (routines : List TextRoutine) (code : List Instr) (begun : ℕ) (has_out : Bool) (line : ℕ) (r : Routine)
+      → is_empty (row_words row) ≡ none → IsSound row → r.entry ≡ open_row
       → Takes (cond none [] (row_text (codes "in") row ∷ [])) (drafted routines code (head begun false has_out) line r) (drafted routines code (head begun (not none) has_out) line (record r { entry = row }))
   entry-taken true row routines code begun has_out line r e sound blank n =
-      ap (λ entry. drafted routines code (head begun false has_out) line (record r { entry = entry })) (blank ∙ open-again row sound (no_words (row_words row) e))
+      ap (λ entry. drafted routines code (head begun false has_out) line (record r { entry = entry }))
+      (blank ∙ open-again row sound (no_words (row_words row) e))
   entry-taken false row routines code begun has_out line r e sound blank n = in-taken n row routines code begun has_out line r sound
 
-  pub exit-taken : (none : Bool) (row : Row) (routines : List TextRoutine) (code : List Instr) (begun : ℕ) (has_in : Bool) (line : ℕ) (r : Routine) → is_empty (row_words row) ≡ none → IsSound row → r.exit ≡ open_row
+  pub exit-taken : (none : Bool) (row : Row) (routines : List TextRoutine) (code : List Instr) (begun : ℕ) (has_in : Bool) (line : ℕ) (r : Routine)
+      → is_empty (row_words row) ≡ none → IsSound row → r.exit ≡ open_row
       → Takes (cond none [] (row_text (codes "out") row ∷ [])) (drafted routines code (head begun has_in false) line r) (drafted routines code (head begun has_in (not none)) line (record r { exit = row }))
   exit-taken true row routines code begun has_in line r e sound blank n =
-      ap (λ exit. drafted routines code (head begun has_in false) line (record r { exit = exit })) (blank ∙ open-again row sound (no_words (row_words row) e))
+      ap (λ exit. drafted routines code (head begun has_in false) line (record r { exit = exit }))
+      (blank ∙ open-again row sound (no_words (row_words row) e))
   exit-taken false row routines code begun has_in line r e sound blank n = out-taken n row routines code begun has_in line r sound
 
   -- ---- the line of a routine
@@ -184,5 +220,6 @@ module _ (image : Parts) (facts : Facts image) where
   pub head-taken : (n : ℕ) (r : Routine) (t : Draft) → IsListed r → take_line (names_in image) n (head_text r) t ≡ begin n (Ok (begun_as r)) (close t)
   unfolding take_line
   head-taken n r t is =
-      ap (λ p. take_statement (names_in image) n p.statement (record t { progress = take_labels n (not (is_empty p.labels)) t.progress })) (head-said r is.name is.long is.budget)
+      ap (λ p. take_statement (names_in image) n p.statement (record t { progress = take_labels n (not (is_empty p.labels)) t.progress }))
+      (head-said r is.name is.long is.budget)
       ∙ ap (λ read. begin n read (close t)) (header-again r is.name is.long is.budget)

@@ -33,7 +33,8 @@ pub one_ended : (line : List ℕ) → line ++ codes "\n" ≡ ended (line ∷ [])
 one_ended line = sym (append-nil (line ++ codes "\n"))
 
 -- texts of which each is lines with their ends are lines with their ends
-pub texts-ended : (n : ℕ) (text : ℕ → List ℕ) (ls : ℕ → List (List ℕ)) → ((k : ℕ) → k < n → text k ≡ ended (ls k)) → texts_below n text ≡ ended (lines_below n ls)
+pub texts-ended : (n : ℕ) (text : ℕ → List ℕ) (ls : ℕ → List (List ℕ)) → ((k : ℕ) → k < n → text k ≡ ended (ls k))
+    → texts_below n text ≡ ended (lines_below n ls)
 unfolding texts_below
 texts-ended zero text ls each = refl
 texts-ended (suc n) text ls each =
@@ -42,8 +43,10 @@ texts-ended (suc n) text ls each =
     ∙ sym (ended-append (lines_below n ls) (ls n))
 
 -- what passes for the lines of each number below n passes for all of them
-pub all_below : (n : ℕ) (ls : ℕ → List (List ℕ)) → ((k : ℕ) → k < n → list_all (list_all is_said) (ls k) ≡ true) → list_all (list_all is_said) (lines_below n ls) ≡ true
+pub all_below : (n : ℕ) (ls : ℕ → List (List ℕ)) → ((k : ℕ) → k < n → list_all (list_all is_said) (ls k) ≡ true)
+    → list_all (list_all is_said) (lines_below n ls) ≡ true
 all_below zero ls each = refl
 all_below (suc n) ls each =
     list_all-append (list_all is_said) (lines_below n ls) (ls n)
-    ∙ and_from (list_all (list_all is_said) (lines_below n ls)) (list_all (list_all is_said) (ls n)) (all_below n ls (λ k lt. each k (omega (arith, lt)))) (each n (omega arith))
+    ∙ and_from (list_all (list_all is_said) (lines_below n ls)) (list_all (list_all is_said) (ls n))
+    (all_below n ls (λ k lt. each k (omega (arith, lt)))) (each n (omega arith))

@@ -53,7 +53,8 @@ budget-words true budget long = and_from (is_word (decimal budget)) true (decima
 -- the words behind `routine` are words
 pub head-words : (r : Routine) → is_name r.name ≡ true → length r.name ≡ 16 → r.budget < 2 ^ 32 → list_all is_word (head_words r) ≡ true
 head-words r legal long budget =
-    and_from (is_word (name_text r)) (list_all is_word (budget_words r.public r.budget)) (name-word r.name legal long) (budget-words r.public r.budget budget)
+    and_from (is_word (name_text r)) (list_all is_word (budget_words r.public r.budget)) (name-word r.name legal long)
+    (budget-words r.public r.budget budget)
 
 routine-no_label : label_of (codes "routine") ≡ None
 unfolding label_of

@@ -27,13 +27,15 @@ use Rattle.geos_asm.proofs.OperandsAgain.{operand_word, in_front, operand_words,
 abbrev pub IsNamed : routine.Routine → Type 0
 IsNamed r = (is_name r.name ≡ true) × (length r.name ≡ 16)
 
-routine-word : (routines : List routine.Routine) (n : ℕ) → All IsNamed routines → n < length routines → is_word (option_map_or name_text (slice_get routines n) []) ≡ true
+routine-word : (routines : List routine.Routine) (n : ℕ) → All IsNamed routines → n < length routines
+    → is_word (option_map_or name_text (slice_get routines n) []) ≡ true
 routine-word routines n named lt =
     let at = item_at routines n lt in
     let here : IsNamed at.0 = subst IsNamed (get_or-at routines n at.0 at.0 at.1) (named n at.0 lt) in
     ap (λ o. is_word (option_map_or name_text o [])) at.1 ∙ name-word at.0.name here.0 here.1
 
-operand-word : (instrs : ℕ) (routines : List routine.Routine) (kind : Operand) (n : ℕ) → All IsNamed routines → instrs ≤ 4096 → n < limit (length routines) instrs kind → is_written kind ≡ true
+operand-word : (instrs : ℕ) (routines : List routine.Routine) (kind : Operand) (n : ℕ) → All IsNamed routines
+    → instrs ≤ 4096 → n < limit (length routines) instrs kind → is_written kind ≡ true
     → is_word (operand_word routines kind n) ≡ true
 operand-word instrs routines Unused n named short below written = absurd cc
 operand-word instrs routines Word n named short below written = decimal-inner n (omega (arith, below))
@@ -51,14 +53,18 @@ front-words true word words h all = and_from (is_word word) (list_all is_word wo
 front-words false word words h all = all
 
 -- the words of an instruction's operands are words
-pub operands-words : (instrs : ℕ) (routines : List routine.Routine) (i : Instr) → All IsNamed routines → instrs ≤ 4096 → is_instr (length routines) instrs i ≡ true
+pub operands-words : (instrs : ℕ) (routines : List routine.Routine) (i : Instr) → All IsNamed routines → instrs ≤ 4096
+    → is_instr (length routines) instrs i ≡ true
     → list_all is_word (operand_words routines i) ≡ true
 operands-words instrs routines i named short legal =
     let kinds = operands_of i.opcode in
     let below = is_below (length routines) instrs i legal in
-    let put : (kind : Operand) (n : ℕ) (words : List (List ℕ)) → n < limit (length routines) instrs kind → list_all is_word words ≡ true → list_all is_word (in_front routines kind n words) ≡ true =
-    λ kind n words lt all. front-words (is_written kind) (operand_word routines kind n) words (operand-word instrs routines kind n named short lt) all in
-    put kinds.a i.a _ below.a (put kinds.b i.b _ below.b (put kinds.c i.c _ below.c (put kinds.d i.d _ below.d (put kinds.imm i.imm _ below.imm (put kinds.target i.target [] below.target refl)))))
+    let put : (kind : Operand) (n : ℕ) (words : List (List ℕ)) → n < limit (length routines) instrs kind
+    → list_all is_word words ≡ true → list_all is_word (in_front routines kind n words) ≡ true =
+    λ kind n words lt all. front-words (is_written kind) (operand_word routines kind n) words
+    (operand-word instrs routines kind n named short lt) all in
+    put kinds.a i.a _ below.a (put kinds.b i.b _ below.b
+    (put kinds.c i.c _ below.c (put kinds.d i.d _ below.d (put kinds.imm i.imm _ below.imm (put kinds.target i.target [] below.target refl)))))
 
 -- an opcode's word is a word, and none that means something else in front of a line
 pub record IsInstrWord (text : List ℕ) : Type 0 where
@@ -81,11 +87,13 @@ pub instr_line-text : (routines : List routine.Routine) (i : Instr) → instr_li
 instr_line-text routines i = ap (λ (t : List ℕ). (codes "    " ++ (word_of i.opcode ++ t)) ++ codes "\n") (operands-spaced routines i)
 
 -- words of which the first is no label are a statement
-pub parted-statement : (word : List ℕ) (words : List (List ℕ)) → label_of word ≡ None → parted (word ∷ words) ≡ record { labels = []; statement = word ∷ words }
+pub parted-statement : (word : List ℕ) (words : List (List ℕ)) → label_of word ≡ None
+    → parted (word ∷ words) ≡ record { labels = []; statement = word ∷ words }
 parted-statement word words none = ap (λ found. behind_label found word words (parted words)) none
 
 -- it says the instruction's word and its operands
-pub instr-said : (instrs : ℕ) (routines : List routine.Routine) (i : Instr) → All IsNamed routines → instrs ≤ 4096 → is_instr (length routines) instrs i ≡ true
+pub instr-said : (instrs : ℕ) (routines : List routine.Routine) (i : Instr) → All IsNamed routines → instrs ≤ 4096
+    → is_instr (length routines) instrs i ≡ true
     → parted (said (instr_text routines i)) ≡ record { labels = []; statement = word_of i.opcode ∷ operand_words routines i }
 instr-said instrs routines i named short legal =
     let is = word_of-is i.opcode in

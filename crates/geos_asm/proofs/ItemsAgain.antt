@@ -44,7 +44,8 @@ pointer-written i p lt in_slot =
 
 -- ---- how they are read
 
-pub bound-read : (row : Row) (i bound : ℕ) → i < 8 → bound < 2 ^ 16 → item row (bound_word i bound) ≡ Ok (record row { bounds = slice_set row.bounds i bound })
+pub bound-read : (row : Row) (i bound : ℕ) → i < 8 → bound < 2 ^ 16 → item row (bound_word i bound) ≡ Ok
+    (record row { bounds = slice_set row.bounds i bound })
 unfolding item
 bound-read row i bound lt word =
     let front = 119 ∷ (48 + i) ∷ [] in

@@ -39,7 +39,8 @@ record Between (image : Parts) (n : ℕ) (t : Draft) : Type 0 where
   fault : (close t).progress.fault ≡ None
   placed : 0 < n → without_routine t.progress.part ≡ None
 
-room_left : (routines : List TextRoutine) (full : Bool) → nat_le 32 (length routines) ≡ full → length routines < 32 → cond full (Some TooMany) None ≡ None
+room_left : (routines : List TextRoutine) (full : Bool) → nat_le 32 (length routines) ≡ full → length routines < 32
+    → cond full (Some TooMany) None ≡ None
 room_left routines false e lt = refl
 room_left routines true e lt = let more = leb-true 32 (length routines) e in absurd (omega (arith, more, lt))
 
@@ -58,7 +59,8 @@ module _ (image : Parts) (known : Facts image) where
 
   -- a routine begins behind those
   begins : (m n : ℕ) (r : Routine) (t : Draft) → Between image n t → n < length image.routines
-      → begin m (Ok (begun_as r)) (close t) ≡ drafted (close t).routines (take (start_of image.routines n + 0) (instrs_of image)) (head m false false) m (begun_as r)
+      → begin m (Ok (begun_as r)) (close t) ≡ drafted (close t).routines (take (start_of image.routines n + 0) (instrs_of image))
+      (head m false false) m (begun_as r)
   begins m n r t b lt =
       let rs = (close t).routines in
       let F = (close t).progress.fault in
@@ -67,8 +69,19 @@ module _ (image : Parts) (known : Facts image) where
       let left : no_room rs ≡ None = room_left rs (nat_le 32 (length rs)) refl (omega (arith, done, lt, few)) in
       let start = start_of image.routines n in
       let same : start ≡ start + 0 = omega arith in
-      ap (λ why. record { routines = rs; code = t.code; progress = record { part = head m false false; current = begun_by m (Ok (begun_as r)) why; waiting = None; fault = first F (at_line m why) } }) left
-      ∙ ap (λ f. record { routines = rs; code = t.code; progress = record { part = head m false false; current = Some (record { line = m; routine = begun_as r }); waiting = None; fault = first f None } }) b.fault
+      ap (λ why. record {
+        routines = rs;
+        code = t.code;
+        progress =
+            record { part = head m false false; current = begun_by m (Ok (begun_as r)) why; waiting = None; fault = first F (at_line m why) };
+      }) left
+      ∙ ap (λ f. record {
+        routines = rs;
+        code = t.code;
+        progress =
+            record { part = head m false false; current = Some (record { line = m; routine = begun_as r }); waiting = None; fault = first f None };
+      })
+      b.fault
       ∙ ap (λ code. drafted rs code (head m false false) m (begun_as r)) (b.code ∙ ap (λ k. take k (instrs_of image)) same)
 
   filled : (part : TextPart) (count : ℕ) → 0 < count → part_behind image known part count ≡ body
@@ -76,12 +89,14 @@ module _ (image : Parts) (known : Facts image) where
   filled part (suc count) some = refl
 
   -- the routine is complete behind its lines
-  ends : (n m : ℕ) (r : Routine) (routines : List TextRoutine) (part : TextPart) → slice_get image.routines n ≡ Some r → 0 < r.count → map routine_of routines ≡ take n image.routines
+  ends : (n m : ℕ) (r : Routine) (routines : List TextRoutine) (part : TextPart) → slice_get image.routines n ≡ Some r
+      → 0 < r.count → map routine_of routines ≡ take n image.routines
       → Between image (suc n) (behind image known routines part m r (start_of image.routines n) r.count)
   ends n m r routines part e some before =
       let full = filled part r.count some in
       record {
-        routines = routines-push routines (record { line = m; routine = r }) ∙ ap (λ (front : List Routine). front ++ r ∷ []) before ∙ next_taken image.routines n r e;
+        routines = routines-push routines (record { line = m; routine = r }) ∙ ap (λ (front : List Routine). front ++ r ∷ []) before
+            ∙ next_taken image.routines n r e;
         code = ap (λ k. take k (instrs_of image)) (sym (start_of-next image.routines n r e));
         fault = ap unfilled full;
         placed = λ lt. ap without_routine full;
@@ -106,10 +121,13 @@ module _ (image : Parts) (known : Facts image) where
       let two = drafted rs code (head m (not none_in) false) m with_in in
       let three = drafted rs code part m with_out in
       let last = behind image known rs part m r start r.count in
-      let rows = one_by_one image known entry exit one two three (entry-taken image known none_in r.entry rs code m false m (begun_as r) refl is.entry refl)
+      let rows = one_by_one image known entry exit one two three
+      (entry-taken image known none_in r.entry rs code m false m (begun_as r) refl is.entry refl)
       (exit-taken image known none_out r.exit rs code m (not none_in) m with_in refl is.exit refl) in
-      let all = one_by_one image known (entry ++ exit) places one three last rows (places-taken image known rs part m r start r.count refl (room image known n r e)) in
-      let made = ap (take_lines (names_in image) (m + 1) (entry ++ exit ++ places)) (head-taken image known m r t is ∙ begins m n r t b lt) ∙ all (m + 1) in
+      let all = one_by_one image known (entry ++ exit) places one three last rows
+      (places-taken image known rs part m r start r.count refl (room image known n r e)) in
+      let made = ap (take_lines (names_in image) (m + 1) (entry ++ exit ++ places)) (head-taken image known m r t is ∙ begins m n r t b lt)
+      ∙ all (m + 1) in
       subst (Between image (suc n)) (sym made) (ends n m r rs part e is.some b.routines)
 
   routines-taken : (n : ℕ) → n ≤ length image.routines → Between image n (take_lines (names_in image) 1 (lines_below n (lines_at image)) blank)
@@ -125,7 +143,8 @@ module _ (image : Parts) (known : Facts image) where
 
   all_instrs : take (start_of image.routines (length image.routines)) (instrs_of image) ≡ instrs_of image
   all_instrs =
-      let end : start_of image.routines (length image.routines) ≡ length image.points = start_of-all image.routines (length image.routines) (omega arith) ∙ known.sums in
+      let end : start_of image.routines (length image.routines) ≡ length image.points = start_of-all image.routines
+      (length image.routines) (omega arith) ∙ known.sums in
       let many = length-map image.points instr_of in
       take_all (start_of image.routines (length image.routines)) (instrs_of image) (omega (arith, end, many))
 
@@ -140,7 +159,8 @@ list-again image legal fits =
     let d = state image n (length image.points) in
     let draft = draft_of names (listing_lines image) in
     let are = listing-lines image known in
-    let fits_text : too_long text ≡ None = ap (λ t. cond t (Some (record { line = 1; why = TooMany })) None) (le-ltb 1048576 (length text) (listing-short image known)) in
+    let fits_text : too_long text ≡ None = ap (λ t. cond t (Some (record { line = 1; why = TooMany })) None)
+    (le-ltb 1048576 (length text) (listing-short image known)) in
     let rest = first draft.progress.fault (without_routine draft.progress.part) in
     let no_fault : fault_by text d draft ≡ None =
     ap (λ o. first (first o None) rest) fits_text ∙ ap (λ o. first o (without_routine draft.progress.part)) b.fault ∙ b.placed known.some in
@@ -154,7 +174,8 @@ list-again image legal fits =
     }
 
 -- so it is where a text is answered
-pub listed-again : {A E : Type 0} (image : Parts) (answer : Result (Vec ℕ A) E) → is_image image ≡ true → IfOk answer (λ text. text.items ≡ listing image)
+pub listed-again : {A E : Type 0} (image : Parts) (answer : Result (Vec ℕ A) E) → is_image image ≡ true
+    → IfOk answer (λ text. text.items ≡ listing image)
     → OnOk answer (All RoutineFits image.routines) → IfOk answer (λ text. IsTextOf image text.items)
 listed-again image (Ok text) legal is fits = subst (IsTextOf image) (sym is) (list-again image legal fits)
 listed-again image (Err e) legal is fits = tt

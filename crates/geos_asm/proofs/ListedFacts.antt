@@ -42,14 +42,16 @@ legal_parts borrows earlier r h =
     record { name = t.0; new = t.1; some = ltb-true 0 r.count s.1; entry = q.1; exit = p.1 }
 
 -- what the rule says of one of the routines
-legal_at : (borrows : Bool) (earlier routines : List Routine) (n : ℕ) (r : Routine) → are_routines borrows earlier routines ≡ true → slice_get routines n ≡ Some r → (before : List Routine) × Legal borrows before r
+legal_at : (borrows : Bool) (earlier routines : List Routine) (n : ℕ) (r : Routine) → are_routines borrows earlier routines ≡ true
+    → slice_get routines n ≡ Some r → (before : List Routine) × Legal borrows before r
 legal_at borrows earlier [] n r h e = absurd cc
 legal_at borrows earlier (x ∷ routines) zero r h e =
     let same : x ≡ r = cc in
     let here = legal_parts borrows earlier x (and_parts (is_routine borrows earlier x) (are_routines borrows (earlier ++ x ∷ []) routines) h).0 in
     (earlier, subst (Legal borrows earlier) same here)
 legal_at borrows earlier (x ∷ routines) (suc n) r h e =
-    legal_at borrows (earlier ++ x ∷ []) routines n r (and_parts (is_routine borrows earlier x) (are_routines borrows (earlier ++ x ∷ []) routines) h).1 e
+    legal_at borrows (earlier ++ x ∷ []) routines n r
+    (and_parts (is_routine borrows earlier x) (are_routines borrows (earlier ++ x ∷ []) routines) h).1 e
 
 listed : (image : Parts) (n : ℕ) (r : Routine) → is_image image ≡ true → RoutineFits r → slice_get image.routines n ≡ Some r → IsListed r
 listed image n r legal fits e =
@@ -71,14 +73,16 @@ not_named false true h = absurd cc
 not_named true c h = absurd cc
 
 -- a routine whose name those before it lack
-not_first : (name : List ℕ) (earlier later : List Routine) (x : Routine) → not (is_named name (earlier ++ (x ∷ later))) ≡ true → bytes_eq x.name name ≡ false
+not_first : (name : List ℕ) (earlier later : List Routine) (x : Routine) → not (is_named name (earlier ++ (x ∷ later))) ≡ true
+    → bytes_eq x.name name ≡ false
 not_first name [] later x h = (not_named (bytes_eq x.name name) (is_named name later) h).0
 not_first name (y ∷ earlier) later x h =
     let p = not_named (bytes_eq y.name name) (is_named name (earlier ++ (x ∷ later))) h in
     not_first name earlier later x (ap not p.1)
 
 -- routines behind one lack its name
-later_lack : (borrows : Bool) (earlier between routines : List Routine) (x r : Routine) (n : ℕ) → are_routines borrows (earlier ++ (x ∷ between)) routines ≡ true → slice_get routines n ≡ Some r → bytes_eq x.name r.name ≡ false
+later_lack : (borrows : Bool) (earlier between routines : List Routine) (x r : Routine) (n : ℕ)
+    → are_routines borrows (earlier ++ (x ∷ between)) routines ≡ true → slice_get routines n ≡ Some r → bytes_eq x.name r.name ≡ false
 later_lack borrows earlier between [] x r n h e = absurd cc
 later_lack borrows earlier between (y ∷ routines) x r zero h e =
     let all = earlier ++ (x ∷ between) in
@@ -100,7 +104,8 @@ lack_at borrows earlier (y ∷ routines) zero (suc j) x r h lt e f =
     let rest = (and_parts (is_routine borrows earlier y) (are_routines borrows (earlier ++ y ∷ []) routines) h).1 in
     subst (λ (s : Routine). bytes_eq s.name r.name ≡ false) same (later_lack borrows earlier [] routines y r j rest f)
 lack_at borrows earlier (y ∷ routines) (suc i) (suc j) x r h lt e f =
-    lack_at borrows (earlier ++ y ∷ []) routines i j x r (and_parts (is_routine borrows earlier y) (are_routines borrows (earlier ++ y ∷ []) routines) h).1 (omega (arith, lt)) e f
+    lack_at borrows (earlier ++ y ∷ []) routines i j x r
+    (and_parts (is_routine borrows earlier y) (are_routines borrows (earlier ++ y ∷ []) routines) h).1 (omega (arith, lt)) e f
 
 -- ---- points
 
@@ -117,8 +122,10 @@ pub record Facts (image : Parts) : Type 0 where
   pub sums : total_count image.routines ≡ length image.points
   pub named : All IsNamed image.routines
   pub routine : (n : ℕ) (r : Routine) → slice_get image.routines n ≡ Some r → IsListed r
-  pub apart : (i j : ℕ) (x r : Routine) → i < j → slice_get image.routines i ≡ Some x → slice_get image.routines j ≡ Some r → bytes_eq x.name r.name ≡ false
-  pub instr : (pc : ℕ) (point : Point) → slice_get image.points pc ≡ Some point → is_instr (length image.routines) (length image.points) point.instr ≡ true
+  pub apart : (i j : ℕ) (x r : Routine) → i < j → slice_get image.routines i ≡ Some x → slice_get image.routines j ≡ Some r
+      → bytes_eq x.name r.name ≡ false
+  pub instr : (pc : ℕ) (point : Point) → slice_get image.points pc ≡ Some point
+      → is_instr (length image.routines) (length image.points) point.instr ≡ true
 
 within : {A : Type 0} (xs : List A) (k : ℕ) (x : A) → slice_get xs k ≡ Some x → k < length xs
 within [] k x e = absurd cc
@@ -146,5 +153,6 @@ facts image legal fits =
           subst IsNamed (sym (get_or-at image.routines k at.0 d at.1)) (is.name, is.long);
       routine = here;
       apart = λ i j x s lt e f. lack_at image.keyed [] image.routines i j x s parts.routines lt e f;
-      instr = λ pc point e. (and_parts (is_instr r n point.instr) (is_given image.keyed point.row) (test_at (is_point image.keyed r n) image.points pc point parts.points e)).0;
+      instr = λ pc point e. (and_parts (is_instr r n point.instr) (is_given image.keyed point.row)
+          (test_at (is_point image.keyed r n) image.points pc point parts.points e)).0;
     }

@@ -30,7 +30,8 @@ name-short r long =
     let some = length-take (unwrap_or (text_end r.name) 16) r.name in
     omega (arith, some, long)
 
-operand-short : (image : Parts) → Facts image → (kind : Operand) (n : ℕ) → n < limit (length image.routines) (length image.points) kind → length (operand_word image.routines kind n) ≤ 16
+operand-short : (image : Parts) → Facts image → (kind : Operand) (n : ℕ) → n < limit (length image.routines) (length image.points) kind
+    → length (operand_word image.routines kind n) ≤ 16
 operand-short image facts Unused n lt = omega arith
 operand-short image facts Word n lt = let d = length-decimal-le 1 n (omega arith) (omega (arith, lt)) (omega (arith, lt)) in omega (arith, d)
 operand-short image facts Counter n lt = let d = length-decimal-le 1 n (omega arith) (omega (arith, lt)) (omega (arith, lt)) in omega (arith, d)
@@ -46,25 +47,33 @@ operand-short image facts Label n lt =
     let d = length-decimal-le 4 n (omega arith) (omega (arith, lt, short)) (omega (arith, lt, short)) in
     omega (arith, d)
 
-front-short : (written : Bool) (word : List ℕ) (words : List (List ℕ)) (n : ℕ) → length word ≤ 16 → length (spaced words) ≤ n → length (spaced (cond written (word ∷ words) words)) ≤ n + 17
+front-short : (written : Bool) (word : List ℕ) (words : List (List ℕ)) (n : ℕ) → length word ≤ 16 → length (spaced words) ≤ n
+    → length (spaced (cond written (word ∷ words) words)) ≤ n + 17
 front-short false word words n h rest = omega (arith, rest)
 front-short true word words n h rest = let sum = length-append word (spaced words) in omega (arith, sum, h, rest)
 
 -- a point's operands have at most 102 bytes
-operands-short : (image : Parts) → Facts image → (i : Instr) → is_instr (length image.routines) (length image.points) i ≡ true → length (spaced (operand_words image.routines i)) ≤ 102
+operands-short : (image : Parts) → Facts image → (i : Instr) → is_instr (length image.routines) (length image.points) i ≡ true
+    → length (spaced (operand_words image.routines i)) ≤ 102
 operands-short image facts i legal =
     let kinds = operands_of i.opcode in
     let below = is_below (length image.routines) (length image.points) i legal in
-    let put : (kind : Operand) (n : ℕ) (words : List (List ℕ)) (most : ℕ) → n < limit (length image.routines) (length image.points) kind → length (spaced words) ≤ most → length (spaced (in_front image.routines kind n words)) ≤ most + 17 =
-    λ kind n words most lt rest. front-short (is_written kind) (operand_word image.routines kind n) words most (operand-short image facts kind n lt) rest in
-    put kinds.a i.a _ 85 below.a (put kinds.b i.b _ 68 below.b (put kinds.c i.c _ 51 below.c (put kinds.d i.d _ 34 below.d (put kinds.imm i.imm _ 17 below.imm (put kinds.target i.target [] 0 below.target (omega arith))))))
+    let put : (kind : Operand) (n : ℕ) (words : List (List ℕ)) (most : ℕ) → n < limit (length image.routines) (length image.points) kind
+    → length (spaced words) ≤ most → length (spaced (in_front image.routines kind n words)) ≤ most + 17 =
+    λ kind n words most lt rest. front-short (is_written kind) (operand_word image.routines kind n) words most
+    (operand-short image facts kind n lt) rest in
+    put kinds.a i.a _ 85 below.a
+    (put kinds.b i.b _ 68 below.b
+    (put kinds.c i.c _ 51 below.c
+    (put kinds.d i.d _ 34 below.d (put kinds.imm i.imm _ 17 below.imm (put kinds.target i.target [] 0 below.target (omega arith))))))
 
 word-short : (opcode : Opcode) → length (word_of opcode) ≤ 9
 word-short Ldi = omega arith
 word-short _ = omega arith
 
 -- an instruction's line has at most 115 bytes
-pub instr-short : (image : Parts) → Facts image → (pc : ℕ) (point : Point) → slice_get image.points pc ≡ Some point → length (instr_text image.routines point.instr) ≤ 115
+pub instr-short : (image : Parts) → Facts image → (pc : ℕ) (point : Point) → slice_get image.points pc ≡ Some point
+    → length (instr_text image.routines point.instr) ≤ 115
 instr-short image facts pc point e =
     let i = point.instr in
     let words = operands-short image facts i (facts.instr pc point e) in

@@ -81,7 +81,8 @@ place-ended image pc lt =
     ∙ sym (ended-append front (instr_text image.routines point.instr ∷ []))
     ∙ ap (λ o. ended (front ++ option_map_or (λ (p : Point). instr_text image.routines p.instr ∷ []) o [])) (sym at.1)
 
-routine-ended : (image : Parts) (start : ℕ) (r : Routine) → IsListed r → start + r.count ≤ length image.points → routine_text image start r ≡ ended (routine_lines image start r)
+routine-ended : (image : Parts) (start : ℕ) (r : Routine) → IsListed r → start + r.count ≤ length image.points
+    → routine_text image start r ≡ ended (routine_lines image start r)
 routine-ended image start r is room =
     let head = head_text r ∷ [] in
     let entry = row_lines (codes "in") r.entry in
@@ -93,19 +94,22 @@ routine-ended image start r is room =
     ∙ ap (λ (t : List ℕ). ended head ++ t ++ exit_text ++ place_texts) (row_line-ended (codes "in") r.entry is.entry)
     ∙ ap (λ (t : List ℕ). ended head ++ ended entry ++ t ++ place_texts) (row_line-ended (codes "out") r.exit is.exit)
     ∙ ap (λ (t : List ℕ). ended head ++ ended entry ++ ended exit ++ t)
-    (texts-ended r.count (λ k. place_text image (start + k)) (λ k. place_lines image (start + k)) (λ k lt. place-ended image (start + k) (omega (arith, lt, room))))
+    (texts-ended r.count (λ k. place_text image (start + k)) (λ k. place_lines image (start + k))
+    (λ k lt. place-ended image (start + k) (omega (arith, lt, room))))
     ∙ ap (λ (t : List ℕ). t ++ ended exit ++ ended places) (sym (ended-append head entry))
     ∙ ap (λ (t : List ℕ). t ++ ended places) (sym (ended-append (head ++ entry) exit))
     ∙ sym (ended-append (head ++ entry ++ exit) places)
 
 -- a routine's instructions are among those of the image
-pub room : (image : Parts) → Facts image → (n : ℕ) (r : Routine) → slice_get image.routines n ≡ Some r → start_of image.routines n + r.count ≤ length image.points
+pub room : (image : Parts) → Facts image → (n : ℕ) (r : Routine) → slice_get image.routines n ≡ Some r
+    → start_of image.routines n + r.count ≤ length image.points
 room image known n r e = omega (arith, start_of-end image.routines n r e, known.sums)
 
 -- the listing is those lines, each with its end
 pub listing-ended : (image : Parts) → Facts image → listing image ≡ ended (listing_lines image)
 listing-ended image known =
-    texts-ended (length image.routines) (λ n. option_map_or (routine_text image (start_of image.routines n)) (slice_get image.routines n) []) (lines_at image) (λ n lt.
+    texts-ended (length image.routines) (λ n. option_map_or (routine_text image (start_of image.routines n)) (slice_get image.routines n) [])
+    (lines_at image) (λ n lt.
     let at = item_at image.routines n lt in
     let start = start_of image.routines n in
     ap (λ o. option_map_or (routine_text image start) o []) at.1
@@ -136,12 +140,15 @@ said-place image pc known lt =
     let at = item_at image.points pc lt in
     let i = at.0.instr in
     let words = operands-words (length image.points) image.routines i known.named known.short (known.instr pc at.0 at.1) in
-    let line : list_all is_said (instr_text image.routines i) ≡ true = line-said (word_of i.opcode) (operand_words image.routines i) (word_of-is i.opcode).word words in
+    let line : list_all is_said (instr_text image.routines i) ≡ true = line-said (word_of i.opcode)
+    (operand_words image.routines i) (word_of-is i.opcode).word words in
     let front = label_lines (is_target image.points pc) pc in
     ap (λ o. are_said (front ++ option_map_or (λ (p : Point). instr_text image.routines p.instr ∷ []) o [])) at.1
-    ∙ said-both front (instr_text image.routines i ∷ []) (said-label (is_target image.points pc) pc (omega (arith, lt, known.short))) (said-one (instr_text image.routines i) line)
+    ∙ said-both front (instr_text image.routines i ∷ []) (said-label (is_target image.points pc) pc (omega (arith, lt, known.short)))
+    (said-one (instr_text image.routines i) line)
 
-said-routine : (image : Parts) (start : ℕ) (r : Routine) → Facts image → IsListed r → start + r.count ≤ length image.points → are_said (routine_lines image start r) ≡ true
+said-routine : (image : Parts) (start : ℕ) (r : Routine) → Facts image → IsListed r → start + r.count ≤ length image.points
+    → are_said (routine_lines image start r) ≡ true
 said-routine image start r known is within =
     let head = head_text r ∷ [] in
     let entry = row_lines (codes "in") r.entry in

@@ -32,7 +32,8 @@ use Rattle.geos_asm.proofs.ListingLength.{name-short, instr-short, label-short}
 
 -- ---- rows
 
-words-short : (n : ℕ) (words : ℕ → List (List ℕ)) → ((k : ℕ) → k < n → length (spaced (words k)) ≤ 16) → length (spaced (lines_below n words)) ≤ n * 16
+words-short : (n : ℕ) (words : ℕ → List (List ℕ)) → ((k : ℕ) → k < n → length (spaced (words k)) ≤ 16)
+    → length (spaced (lines_below n words)) ≤ n * 16
 words-short zero words each = omega arith
 words-short (suc n) words each =
     let ih = words-short n words (λ k lt. each k (omega (arith, lt))) in
@@ -75,7 +76,8 @@ row-short row sound =
     let b = lines_below 4 (slots_of row) in
     let c = lines_below 4 (pointers_of row) in
     let d = lines_below 6 (pairs_of row) in
-    let sa = words-short 8 (bounds_of row) (λ i lt. bound-short i (slice_index row.bounds i) (slice_index row.bounds i == 65535) (sound.bound i lt)) in
+    let sa = words-short 8 (bounds_of row) (λ i lt. bound-short i (slice_index row.bounds i) (slice_index row.bounds i == 65535)
+    (sound.bound i lt)) in
     let sb = words-short 4 (slots_of row) (λ i lt. slot-short i (slice_index_or row.slots i Empty)) in
     let sc = words-short 4 (pointers_of row) (λ i lt. pointer-short i (slice_index_or row.pointers i None) (sound.least i lt)) in
     let sd = words-short 6 (pairs_of row) (λ k lt. pair-short (slice_index_or pair_slots k (0, 0)) (slice_index_or row.pairs k false)) in
@@ -95,7 +97,8 @@ one-short line =
 both-short : (front back : List (List ℕ)) → length (ended (front ++ back)) ≡ length (ended front) + length (ended back)
 both-short front back = ap length (ended-append front back) ∙ length-append (ended front) (ended back)
 
-row_lines-short : (none : Bool) (word : List ℕ) (row : Row) → length word ≤ 3 → IsSound row → length (ended (cond none [] (row_text word row ∷ []))) ≤ 356
+row_lines-short : (none : Bool) (word : List ℕ) (row : Row) → length word ≤ 3 → IsSound row
+    → length (ended (cond none [] (row_text word row ∷ []))) ≤ 356
 row_lines-short true word row short sound = omega arith
 row_lines-short false word row short sound =
     let words = row-short row sound in
@@ -122,7 +125,8 @@ place-short image pc facts lt =
     let all : length (ended (front ++ instr_text image.routines at.0.instr ∷ [])) ≤ 128 = omega (arith, label, line, short, sum) in
     subst (λ o. length (ended (front ++ option_map_or (λ (p : Point). instr_text image.routines p.instr ∷ []) o [])) ≤ 128) (sym at.1) all
 
-places-short : (image : Parts) (start count : ℕ) → Facts image → start + count ≤ length image.points → length (ended (lines_below count (λ k. place_lines image (start + k)))) ≤ count * 128
+places-short : (image : Parts) (start count : ℕ) → Facts image → start + count ≤ length image.points
+    → length (ended (lines_below count (λ k. place_lines image (start + k)))) ≤ count * 128
 places-short image start zero facts within = omega arith
 places-short image start (suc count) facts within =
     let ih = places-short image start count facts (omega (arith, within)) in
@@ -140,7 +144,8 @@ budget-short true budget lt =
     let sum = length-append (decimal budget) [] in
     omega (arith, d, sum)
 
-routine-short : (image : Parts) (start : ℕ) (r : Routine) → Facts image → IsListed r → start + r.count ≤ length image.points → length (ended (routine_lines image start r)) ≤ 1024 + r.count * 128
+routine-short : (image : Parts) (start : ℕ) (r : Routine) → Facts image → IsListed r → start + r.count ≤ length image.points
+    → length (ended (routine_lines image start r)) ≤ 1024 + r.count * 128
 routine-short image start r facts is within =
     let head = head_text r ∷ [] in
     let entry = row_lines (codes "in") r.entry in
@@ -158,13 +163,15 @@ routine-short image start r facts is within =
     let e3 = both-short head entry in
     omega (arith, name, budget, words, line, a, b, c, e1, e2, e3)
 
-routines-short : (image : Parts) (n : ℕ) → Facts image → n ≤ length image.routines → length (ended (lines_below n (lines_at image))) ≤ n * 1024 + start_of image.routines n * 128
+routines-short : (image : Parts) (n : ℕ) → Facts image → n ≤ length image.routines
+    → length (ended (lines_below n (lines_at image))) ≤ n * 1024 + start_of image.routines n * 128
 routines-short image zero facts le = omega arith
 routines-short image (suc n) facts le =
     let at = item_at image.routines n (omega (arith, le)) in
     let start = start_of image.routines n in
     let ih = routines-short image n facts (omega (arith, le)) in
-    let here = subst (λ o. length (ended (option_map_or (routine_lines image start) o [])) ≤ 1024 + at.0.count * 128) (sym at.1) (routine-short image start at.0 facts (facts.routine n at.0 at.1) (room image facts n at.0 at.1)) in
+    let here = subst (λ o. length (ended (option_map_or (routine_lines image start) o [])) ≤ 1024 + at.0.count * 128)
+    (sym at.1) (routine-short image start at.0 facts (facts.routine n at.0 at.1) (room image facts n at.0 at.1)) in
     let next = start_of-next image.routines n at.0 at.1 in
     let sum = both-short (lines_below n (lines_at image)) (lines_at image n) in
     omega (arith, ih, here, next, sum)

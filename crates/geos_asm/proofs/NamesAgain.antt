@@ -15,7 +15,8 @@ use Rattle.geos_asm.proofs.Spaced.{is_inner, is_word}
 use Rattle.geos_asm.proofs.NumbersAgain.{TellsInner, all_inner, some_word, decimal-digits, decimal-inner}
 
 -- a word that passes the tests is a name
-is_name-from : (word : List ℕ) → length word ≤ 16 → is_ascii_alphabetic (slice_index word 0) ≡ true → list_all is_name_byte word ≡ true → is_name word ≡ true
+is_name-from : (word : List ℕ) → length word ≤ 16 → is_ascii_alphabetic (slice_index word 0) ≡ true
+    → list_all is_name_byte word ≡ true → is_name word ≡ true
 is_name-from word short first bytes =
     let a = nat_le (length word) 16 in
     let b = is_ascii_alphabetic (slice_index word 0) in
@@ -56,7 +57,8 @@ first_of (suc len) (b ∷ name) h zeros = h
 
 text_end-within : (name : List ℕ) → length name ≡ 16 → unwrap_or (text_end name) 16 ≤ 16
 text_end-within name long =
-    let at : unwrap_or (text_end name) 16 ≡ position_or_len (λ b. b == 0) name = ap (λ n. unwrap_or (text_end name) n) (sym long) ∙ position_or_else (λ b. b == 0) name in
+    let at : unwrap_or (text_end name) 16 ≡ position_or_len (λ b. b == 0) name = ap (λ n. unwrap_or (text_end name) n) (sym long)
+    ∙ position_or_else (λ b. b == 0) name in
     omega (arith, at, prefix_len-le-length (λ b. not (b == 0)) name)
 
 -- the parts of a padded name

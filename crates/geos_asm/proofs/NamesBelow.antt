@@ -40,7 +40,8 @@ table_below key is (suc n) = cond (is n) (with_name (table_below key is n) (key 
 abbrev pub Apart : (ℕ → List ℕ) → ℕ → Type 0
 Apart key most = (i j : ℕ) → i < most → j < most → (i ≡ j → ⊥) → bytes_eq (key i) (key j) ≡ false
 
-other_name : (b : Bool) (table : Table) (name other : List ℕ) (value : ℕ) (found : Option ℕ) → bytes_eq name other ≡ false → table other ≡ found → cond b (with_name table name value) table other ≡ found
+other_name : (b : Bool) (table : Table) (name other : List ℕ) (value : ℕ) (found : Option ℕ) → bytes_eq name other ≡ false
+    → table other ≡ found → cond b (with_name table name value) table other ≡ found
 other_name true table name other value found e f = ap (λ c. cond c (Some value) (table other)) e ∙ f
 other_name false table name other value found e f = f
 
@@ -48,7 +49,8 @@ other_name false table name other value found e f = f
 pub unknown : (key : ℕ → List ℕ) (is : ℕ → Bool) (most n j : ℕ) → Apart key most → n ≤ j → j < most → table_below key is n (key j) ≡ None
 unknown key is most zero j differ le lt = refl
 unknown key is most (suc n) j differ le lt =
-    other_name (is n) (table_below key is n) (key n) (key j) n None (differ n j (omega (arith, le, lt)) lt (λ same. omega (arith, same, le))) (unknown key is most n j differ (omega (arith, le)) lt)
+    other_name (is n) (table_below key is n) (key n) (key j) n None (differ n j (omega (arith, le, lt)) lt (λ same. omega (arith, same, le)))
+    (unknown key is most n j differ (omega (arith, le)) lt)
 
 -- what the names of n numbers say of one more, by whether it is the last
 known_by : (key : ℕ → List ℕ) (is : ℕ → Bool) (most n j : ℕ) (same : Bool) → (n == j) ≡ same → Apart key most → j < suc n → suc n ≤ most → is j ≡ true
@@ -61,10 +63,12 @@ known_by key is most n j true e differ lt le passes before =
     ∙ ap (λ (k : ℕ). Some k) (sym here)
 known_by key is most n j false e differ lt le passes before =
     let not_here : n ≡ j → ⊥ = eqb-false n j e in
-    other_name (is n) (table_below key is n) (key n) (key j) n (Some j) (differ n j (omega (arith, le)) (omega (arith, lt, le)) not_here) (before (omega (arith, lt, not_here)))
+    other_name (is n) (table_below key is n) (key n) (key j) n (Some j) (differ n j (omega (arith, le)) (omega (arith, lt, le)) not_here)
+    (before (omega (arith, lt, not_here)))
 
 -- an earlier number's name stands for it, if it passes
-pub known : (key : ℕ → List ℕ) (is : ℕ → Bool) (most n j : ℕ) → Apart key most → j < n → n ≤ most → is j ≡ true → table_below key is n (key j) ≡ Some j
+pub known : (key : ℕ → List ℕ) (is : ℕ → Bool) (most n j : ℕ) → Apart key most → j < n → n ≤ most → is j ≡ true
+    → table_below key is n (key j) ≡ Some j
 known key is most zero j differ lt le passes = absurd (omega (arith, lt))
 known key is most (suc n) j differ lt le passes =
     known_by key is most n j (n == j) refl differ lt le passes (λ before. known key is most n j differ before (omega (arith, le)) passes)
@@ -84,7 +88,8 @@ unpadded-digits : (word : List ℕ) (n : ℕ) → list_all is_ascii_digit word �
 unpadded-digits [] n h = unpadded-zeros n
 unpadded-digits (b ∷ word) n h =
     let p = and_parts (is_ascii_digit b) (list_all is_ascii_digit word) h in
-    ap (λ c. cond c [] (b ∷ unpadded (word ++ replicate n 0))) (apart is_ascii_digit b 0 refl p.0) ∙ ap (λ (bytes : List ℕ). b ∷ bytes) (unpadded-digits word n p.1)
+    ap (λ c. cond c [] (b ∷ unpadded (word ++ replicate n 0))) (apart is_ascii_digit b 0 refl p.0)
+    ∙ ap (λ (bytes : List ℕ). b ∷ bytes) (unpadded-digits word n p.1)
 
 label-unpadded : (pc : ℕ) → pc < 4096 → unpadded (label_name pc) ≡ label_text pc
 label-unpadded pc lt = ap (λ (bytes : List ℕ). 76 ∷ bytes) (unpadded-digits (decimal pc) _ (decimal-digits pc (omega (arith, lt))))
@@ -96,4 +101,5 @@ label-same i j lt below e =
 
 -- labels have different names
 pub labels-apart : (most : ℕ) → most ≤ 4096 → Apart label_name most
-labels-apart most short i j lt below differ = told_apart (label_name i) (label_name j) (λ e. differ (label-same i j (omega (arith, lt, short)) (omega (arith, below, short)) e))
+labels-apart most short i j lt below differ = told_apart (label_name i) (label_name j)
+    (λ e. differ (label-same i j (omega (arith, lt, short)) (omega (arith, below, short)) e))

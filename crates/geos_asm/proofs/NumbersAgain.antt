@@ -28,7 +28,13 @@ pub record TellsInner (test : ℕ → Bool) : Type 0 where
 
 inner_by : (test : ℕ → Bool) → TellsInner test → (b : ℕ) → test b ≡ true → is_inner b ≡ true
 inner_by test tells b h =
-    rw (apart test b 9 tells.tab h, apart test b 10 tells.feed h, apart test b 13 tells.return h, apart test b 32 tells.space h, apart test b 59 tells.comment h) refl
+    rw (
+      apart test b 9 tells.tab h,
+      apart test b 10 tells.feed h,
+      apart test b 13 tells.return h,
+      apart test b 32 tells.space h,
+      apart test b 59 tells.comment h,
+    ) refl
 
 pub all_inner : (test : ℕ → Bool) → TellsInner test → (text : List ℕ) → list_all test text ≡ true → list_all is_inner text ≡ true
 all_inner test tells [] h = refl
@@ -47,7 +53,8 @@ tells_digits : IsDigitsTest (λ ds. list_all is_ascii_digit ds ≡ true)
 tells_digits =
     record {
       empty = refl;
-      parts = λ c cs h. let p = and_parts (is_ascii_digit c) (list_all is_ascii_digit cs) h in let q = and_parts _ _ p.0 in ((leb-true 48 c q.0, leb-true c 57 q.1), p.1);
+      parts = λ c cs h. let p = and_parts (is_ascii_digit c) (list_all is_ascii_digit cs) h in let q = and_parts _ _ p.0 in
+          ((leb-true 48 c q.0, leb-true c 57 q.1), p.1);
       more = λ c cs r h. and_from (is_ascii_digit c) (list_all is_ascii_digit cs) (and_from _ _ (le-leb 48 c r.0) (le-leb c 57 r.1)) h;
     }
 
@@ -73,7 +80,8 @@ not_empty (b ∷ text) some = refl
 pub numbered-again : (greatest n : ℕ) → n < 2 ^ 64 → n ≤ greatest → numbered greatest (decimal n) ≡ Ok n
 numbered-again greatest n small within =
     let word = decimal n in
-    let is : is_number word ≡ true = and_from (not (is_empty word)) (list_all is_ascii_digit word) (not_empty word (decimal-some n small)) (decimal-digits n small) in
+    let is : is_number word ≡ true = and_from (not (is_empty word)) (list_all is_ascii_digit word)
+    (not_empty word (decimal-some n small)) (decimal-digits n small) in
     ap (λ b. or_why (cond b (if_within greatest (digits_value 10 word)) (Err Malformed))) is
     ∙ ap (λ m. or_why (if_within greatest m)) ((decimal_is_IsNumeral n small).1)
     ∙ ap (λ b. or_why (cond b (Ok n) (Err TooLarge))) (le-leb n greatest within)
@@ -87,4 +95,5 @@ register-digit letter count n below =
 
 -- a register's letter and digit are that register
 pub register_of-again : (letter count n : ℕ) → n < count → n < 10 → register_of letter count (letter ∷ decimal n) ≡ Some n
-register_of-again letter count n below small = ap (λ ds. register_of letter count (letter ∷ ds)) (decimal_digit n small) ∙ register-digit letter count n below
+register_of-again letter count n below small = ap (λ ds. register_of letter count (letter ∷ ds)) (decimal_digit n small)
+    ∙ register-digit letter count n below

@@ -63,7 +63,8 @@ pub operands-spaced : (routines : List routine.Routine) (i : Instr) → operands
 operands-spaced routines i =
     let kinds = operands_of i.opcode in
     let put = operand-spaced routines in
-    put kinds.a i.a _ _ (put kinds.b i.b _ _ (put kinds.c i.c _ _ (put kinds.d i.d _ _ (put kinds.imm i.imm _ _ (put kinds.target i.target [] [] refl)))))
+    put kinds.a i.a _ _ (put kinds.b i.b _ _
+    (put kinds.c i.c _ _ (put kinds.d i.d _ _ (put kinds.imm i.imm _ _ (put kinds.target i.target [] [] refl)))))
 
 -- the names stand for what the image has: each routine's for its index, each label's for its pc
 pub record StandsFor (routines : List routine.Routine) (is_label : ℕ → Type 0) (names : Names) : Type 0 where
@@ -111,7 +112,8 @@ value_read value n words e = ap (λ v. taken v words None) e
 register_read : (found : Option ℕ) (n : ℕ) (words : List (List ℕ)) → found ≡ Some n → taken (ok_or found WrongOperands) words None ≡ read n words
 register_read found n words e = ap (λ f. taken (ok_or f WrongOperands) words None) e
 
-register-again : (instrs : ℕ) (routines : List routine.Routine) (kind : Operand) (n : ℕ) (words : List (List ℕ)) → is_register kind ≡ true → n < limit (length routines) instrs kind
+register-again : (instrs : ℕ) (routines : List routine.Routine) (kind : Operand) (n : ℕ) (words : List (List ℕ))
+    → is_register kind ≡ true → n < limit (length routines) instrs kind
     → register kind (reading (in_front routines kind n words)) ≡ read n words
 unfolding register
 register-again instrs routines Unused n words is below = unused n words below
@@ -137,8 +139,10 @@ constant-again instrs routines is_label names stands Word n words is below label
 constant-again instrs routines is_label names stands Counter n words is below label = absurd cc
 constant-again instrs routines is_label names stands Slot n words is below label = absurd cc
 constant-again instrs routines is_label names stands Pointer n words is below label = absurd cc
-constant-again instrs routines is_label names stands Number n words is below label = value_read _ n words (numbered-again 65535 n (omega (arith, below)) (omega (arith, below)))
-constant-again instrs routines is_label names stands Shift n words is below label = value_read _ n words (numbered-again 15 n (omega (arith, below)) (omega (arith, below)))
+constant-again instrs routines is_label names stands Number n words is below label = value_read _ n words
+    (numbered-again 65535 n (omega (arith, below)) (omega (arith, below)))
+constant-again instrs routines is_label names stands Shift n words is below label = value_read _ n words
+    (numbered-again 15 n (omega (arith, below)) (omega (arith, below)))
 constant-again instrs routines is_label names stands Routine n words is below label = value_read _ n words (stands.routine n below)
 constant-again instrs routines is_label names stands Label n words is below label = value_read _ n words (stands.label n (label refl))
 
@@ -188,7 +192,8 @@ abbrev pub HasLabel : (ℕ → Type 0) → Instr → Type 0
 HasLabel is_label i = LabelIn is_label (operands_of i.opcode).target i.target
 
 -- an instruction's operands say that instruction
-instr_of-again : (instrs : ℕ) (routines : List routine.Routine) (is_label : ℕ → Type 0) (names : Names) (i : Instr) → StandsFor routines is_label names
+instr_of-again : (instrs : ℕ) (routines : List routine.Routine) (is_label : ℕ → Type 0) (names : Names) (i : Instr)
+    → StandsFor routines is_label names
     → is_instr (length routines) instrs i ≡ true → HasLabel is_label i → instr_of names i.opcode (operand_words routines i) ≡ Ok i
 instr_of-again instrs routines is_label names i stands legal label =
     let opcode = i.opcode in
@@ -211,11 +216,14 @@ instr_of-again instrs routines is_label names i stands legal label =
     ∙ ap (from_b names opcode a) (register-again instrs routines kinds.b i.b c-words has.b below.b)
     ∙ ap (from_c names opcode a b) (register-again instrs routines kinds.c i.c d-words has.c below.c)
     ∙ ap (from_d names opcode a b c) (register-again instrs routines kinds.d i.d imm-words has.d below.d)
-    ∙ ap (from_imm names opcode a b c d) (constant-again instrs routines is_label names stands kinds.imm i.imm target-words has.imm below.imm no_label)
-    ∙ ap (from_target opcode a b c d imm) (constant-again instrs routines is_label names stands kinds.target i.target [] has.target below.target label)
+    ∙ ap (from_imm names opcode a b c d) (constant-again instrs routines is_label names stands kinds.imm i.imm
+    target-words has.imm below.imm no_label)
+    ∙ ap (from_target opcode a b c d imm) (constant-again instrs routines is_label names stands kinds.target i.target
+    [] has.target below.target label)
 
 -- an instruction's word and operands say that instruction
-pub instruction-again : (instrs : ℕ) (routines : List routine.Routine) (is_label : ℕ → Type 0) (names : Names) (i : Instr) → StandsFor routines is_label names
+pub instruction-again : (instrs : ℕ) (routines : List routine.Routine) (is_label : ℕ → Type 0) (names : Names) (i : Instr)
+    → StandsFor routines is_label names
     → is_instr (length routines) instrs i ≡ true → HasLabel is_label i → instruction names (word_of i.opcode) (operand_words routines i) ≡ Ok i
 unfolding instruction
 instruction-again instrs routines is_label names i stands legal label =

@@ -43,9 +43,11 @@ slots-words : (i : ℕ) (state : SlotState) → i < 4 → list_all is_word (slot
 slots-words i Empty lt = refl
 slots-words i state lt = one (held_word i (state_word state)) (held-word i (state_word state) (omega (arith, lt)) (state_word-inner state))
 
-pointers-words : (i : ℕ) (pointer : Option Pointer) → i < 4 → is_pointer pointer ≡ true → PointerFits pointer → list_all is_word (pointer_words i pointer) ≡ true
+pointers-words : (i : ℕ) (pointer : Option Pointer) → i < 4 → is_pointer pointer ≡ true → PointerFits pointer
+    → list_all is_word (pointer_words i pointer) ≡ true
 pointers-words i None lt leads least = refl
-pointers-words i (Some p) lt leads least = one (pointer_word i p.slot p.least) (pointer-word i p.slot p.least (omega (arith, lt)) (omega (arith, ltb-true p.slot 4 leads)) least)
+pointers-words i (Some p) lt leads least = one (pointer_word i p.slot p.least)
+    (pointer-word i p.slot p.least (omega (arith, lt)) (omega (arith, ltb-true p.slot 4 leads)) least)
 
 pairs-words : (pair : ℕ × ℕ) (known : Bool) → one_digit pair ≡ true → list_all is_word (pair_words pair known) ≡ true
 pairs-words pair false digits = refl
@@ -59,10 +61,12 @@ joined front back p q = list_all-append is_word front back ∙ and_from (list_al
 -- the words of a row's items are words
 pub row-words : (row : Row) → IsSound row → list_all is_word (row_words row) ≡ true
 row-words row sound =
-    let a = are_words 8 (bounds_of row) (λ i lt. bounds-words i (slice_index row.bounds i) (slice_index row.bounds i == 65535) lt (sound.bound i lt)) in
+    let a = are_words 8 (bounds_of row) (λ i lt. bounds-words i (slice_index row.bounds i) (slice_index row.bounds i == 65535) lt
+    (sound.bound i lt)) in
     let b = are_words 4 (slots_of row) (λ i lt. slots-words i (slice_index_or row.slots i Empty) lt) in
     let c = are_words 4 (pointers_of row) (λ i lt. pointers-words i (slice_index_or row.pointers i None) lt (sound.leads i lt) (sound.least i lt)) in
-    let d = are_words 6 (pairs_of row) (λ k lt. pairs-words (slice_index_or pair_slots k (0, 0)) (slice_index_or row.pairs k false) (passes_at one_digit pair_slots k (0, 0) refl refl)) in
+    let d = are_words 6 (pairs_of row) (λ k lt. pairs-words (slice_index_or pair_slots k (0, 0)) (slice_index_or row.pairs k false)
+    (passes_at one_digit pair_slots k (0, 0) refl refl)) in
     let bounds = words_below 8 (bounds_of row) in
     let slots = words_below 4 (slots_of row) in
     let pointers = words_below 4 (pointers_of row) in
@@ -92,8 +96,10 @@ abbrev pub row_text : List ℕ → Row → List ℕ
 row_text word row = word ++ spaced (row_words row)
 
 -- it says its word and the words of the row's items
-pub row-said : (word : List ℕ) (row : Row) → IsRowWord word → IsSound row → parted (said (row_text word row)) ≡ record { labels = []; statement = word ∷ row_words row }
-row-said word row is sound = ap parted (said-spaced word (row_words row) is.word (row-words row sound)) ∙ parted-statement word (row_words row) is.no_label
+pub row-said : (word : List ℕ) (row : Row) → IsRowWord word → IsSound row
+    → parted (said (row_text word row)) ≡ record { labels = []; statement = word ∷ row_words row }
+row-said word row is sound = ap parted (said-spaced word (row_words row) is.word (row-words row sound))
+    ∙ parted-statement word (row_words row) is.no_label
 
 line_unless : (word : List ℕ) (words : List (List ℕ)) → cond (length (spaced words) == 0) [] (word ++ spaced words ++ codes "\n")
     ≡ cond (is_empty words) [] (word ++ spaced words ++ codes "\n")

@@ -28,9 +28,11 @@ words_below (suc n) words = words_below n words ++ words n
 
 pub spaced-append : (front back : List (List ℕ)) → spaced (front ++ back) ≡ spaced front ++ spaced back
 spaced-append [] back = refl
-spaced-append (word ∷ front) back = ap (λ (t : List ℕ). 32 ∷ (word ++ t)) (spaced-append front back) ∙ ap (λ (t : List ℕ). 32 ∷ t) (sym (append_assoc word (spaced front) (spaced back)))
+spaced-append (word ∷ front) back = ap (λ (t : List ℕ). 32 ∷ (word ++ t)) (spaced-append front back)
+    ∙ ap (λ (t : List ℕ). 32 ∷ t) (sym (append_assoc word (spaced front) (spaced back)))
 
-texts-spaced : (n : ℕ) (text : ℕ → List ℕ) (words : ℕ → List (List ℕ)) → ((k : ℕ) → k < n → text k ≡ spaced (words k)) → texts_below n text ≡ spaced (words_below n words)
+texts-spaced : (n : ℕ) (text : ℕ → List ℕ) (words : ℕ → List (List ℕ)) → ((k : ℕ) → k < n → text k ≡ spaced (words k))
+    → texts_below n text ≡ spaced (words_below n words)
 unfolding texts_below
 texts-spaced zero text words each = refl
 texts-spaced (suc n) text words each =
@@ -38,11 +40,13 @@ texts-spaced (suc n) text words each =
     ∙ ap (λ (t : List ℕ). spaced (words_below n words) ++ t) (each n (omega arith))
     ∙ sym (spaced-append (words_below n words) (words n))
 
-pub are_words : (n : ℕ) (words : ℕ → List (List ℕ)) → ((k : ℕ) → k < n → list_all is_word (words k) ≡ true) → list_all is_word (words_below n words) ≡ true
+pub are_words : (n : ℕ) (words : ℕ → List (List ℕ)) → ((k : ℕ) → k < n → list_all is_word (words k) ≡ true)
+    → list_all is_word (words_below n words) ≡ true
 are_words zero words each = refl
 are_words (suc n) words each =
     list_all-append is_word (words_below n words) (words n)
-    ∙ and_from (list_all is_word (words_below n words)) (list_all is_word (words n)) (are_words n words (λ k lt. each k (omega (arith, lt)))) (each n (omega arith))
+    ∙ and_from (list_all is_word (words_below n words)) (list_all is_word (words n)) (are_words n words (λ k lt. each k (omega (arith, lt))))
+    (each n (omega arith))
 
 -- ---- the words of a row
 
@@ -159,10 +163,15 @@ row_items-spaced row sound =
     let slot_texts = texts_below 4 (λ i. slot_item i (slice_index_or row.slots i Empty)) in
     let pointer_texts = texts_below 4 (λ i. pointer_item i (slice_index_or row.pointers i None)) in
     let pair_texts = texts_below 6 (λ k. pair_item (slice_index_or pair_slots k (0, 0)) (slice_index_or row.pairs k false)) in
-    ap (λ (t : List ℕ). t ++ slot_texts ++ pointer_texts ++ pair_texts) (texts-spaced 8 _ (bounds_of row) (λ i lt. bounds-written i (slice_index row.bounds i) (slice_index row.bounds i == 65535) lt))
-    ∙ ap (λ (t : List ℕ). spaced a ++ t ++ pointer_texts ++ pair_texts) (texts-spaced 4 _ (slots_of row) (λ i lt. slots-written i (slice_index_or row.slots i Empty) lt))
-    ∙ ap (λ (t : List ℕ). spaced a ++ spaced b ++ t ++ pair_texts) (texts-spaced 4 _ (pointers_of row) (λ i lt. pointers-written i (slice_index_or row.pointers i None) lt (sound.leads i lt)))
-    ∙ ap (λ (t : List ℕ). spaced a ++ spaced b ++ spaced c ++ t) (texts-spaced 6 _ (pairs_of row) (λ k lt. pairs-written (slice_index_or pair_slots k (0, 0)) (slice_index_or row.pairs k false) (passes_at one_digit pair_slots k (0, 0) refl refl)))
+    ap (λ (t : List ℕ). t ++ slot_texts ++ pointer_texts ++ pair_texts)
+    (texts-spaced 8 _ (bounds_of row) (λ i lt. bounds-written i (slice_index row.bounds i) (slice_index row.bounds i == 65535) lt))
+    ∙ ap (λ (t : List ℕ). spaced a ++ t ++ pointer_texts ++ pair_texts)
+    (texts-spaced 4 _ (slots_of row) (λ i lt. slots-written i (slice_index_or row.slots i Empty) lt))
+    ∙ ap (λ (t : List ℕ). spaced a ++ spaced b ++ t ++ pair_texts)
+    (texts-spaced 4 _ (pointers_of row) (λ i lt. pointers-written i (slice_index_or row.pointers i None) lt (sound.leads i lt)))
+    ∙ ap (λ (t : List ℕ). spaced a ++ spaced b ++ spaced c ++ t)
+    (texts-spaced 6 _ (pairs_of row) (λ k lt. pairs-written (slice_index_or pair_slots k (0, 0))
+    (slice_index_or row.pairs k false) (passes_at one_digit pair_slots k (0, 0) refl refl)))
     ∙ ap (λ (t : List ℕ). t ++ spaced c ++ spaced d) (sym (spaced-append a b))
     ∙ ap (λ (t : List ℕ). t ++ spaced d) (sym (spaced-append (a ++ b) c))
     ∙ sym (spaced-append (a ++ b ++ c) d)
@@ -196,7 +205,8 @@ set_below value (suc n) xs = slice_set (set_below value n xs) n (value n)
 
 later : {A : Type 0} (value : ℕ → A) (n k : ℕ) (xs : List A) (d : A) → n ≤ k → get_or (set_below value n xs) k d ≡ get_or xs k d
 later value zero k xs d le = refl
-later value (suc n) k xs d le = get_or-set_other (set_below value n xs) n k (value n) d (λ same. omega (arith, le, same)) ∙ later value n k xs d (omega (arith, le))
+later value (suc n) k xs d le = get_or-set_other (set_below value n xs) n k (value n) d (λ same. omega (arith, le, same))
+    ∙ later value n k xs d (omega (arith, le))
 
 fresh : {A : Type 0} (value : ℕ → A) (n k : ℕ) (x : A) → k < n → get_or (set_below value k (replicate n x)) k x ≡ x
 fresh value n k x lt = later value k k (replicate n x) x (omega arith) ∙ get_or-replicate n k x x lt
@@ -209,8 +219,10 @@ set_same (y ∷ xs) (suc k) x e = ap (λ vs. y ∷ vs) (set_same xs k x e)
 bounds-read : (row : Row) (i bound : ℕ) (greatest : Bool) → (bound == 65535) ≡ greatest → i < 8 → bound < 2 ^ 16 → get_or row.bounds i 65535 ≡ 65535
     → with_items (cond greatest [] (bound_word i bound ∷ [])) (reading row) ≡ reading (record row { bounds = slice_set row.bounds i bound })
 bounds-read row i bound true e lt word unset =
-    ap (λ (bs : List ℕ). reading (record row { bounds = bs })) (set_same row.bounds i 65535 unset ∙ ap (slice_set row.bounds i) (sym (eqb-true bound 65535 e)))
-bounds-read row i bound false e lt word unset = one_item row (record row { bounds = slice_set row.bounds i bound }) (bound_word i bound) (bound-read row i bound lt word)
+    ap (λ (bs : List ℕ). reading (record row { bounds = bs })) (set_same row.bounds i 65535 unset
+    ∙ ap (slice_set row.bounds i) (sym (eqb-true bound 65535 e)))
+bounds-read row i bound false e lt word unset = one_item row (record row { bounds = slice_set row.bounds i bound })
+    (bound_word i bound) (bound-read row i bound lt word)
 
 abbrev is_held : SlotState → Bool
 is_held Empty = false
@@ -229,13 +241,17 @@ state_word-read (Db false) h = refl
 slots-read : (row : Row) (i : ℕ) (state : SlotState) → i < 4 → get_or row.slots i Empty ≡ Empty
     → with_items (slot_words i state) (reading row) ≡ reading (record row { slots = slice_set row.slots i state })
 slots-read row i Empty lt unset = ap (λ (ss : List SlotState). reading (record row { slots = ss })) (set_same row.slots i Empty unset)
-slots-read row i state lt unset = one_item row (record row { slots = slice_set row.slots i state }) (held_word i (state_word state)) (held-read row i (state_word state) state lt (state_word-read state refl))
+slots-read row i state lt unset = one_item row (record row { slots = slice_set row.slots i state })
+    (held_word i (state_word state)) (held-read row i (state_word state) state lt (state_word-read state refl))
 
-pointers-read : (row : Row) (i : ℕ) (pointer : Option Pointer) → i < 4 → is_pointer pointer ≡ true → PointerFits pointer → get_or row.pointers i None ≡ None
+pointers-read : (row : Row) (i : ℕ) (pointer : Option Pointer) → i < 4 → is_pointer pointer ≡ true → PointerFits pointer
+    → get_or row.pointers i None ≡ None
     → with_items (pointer_words i pointer) (reading row) ≡ reading (record row { pointers = slice_set row.pointers i pointer })
-pointers-read row i None lt leads least unset = ap (λ (ps : List (Option Pointer)). reading (record row { pointers = ps })) (set_same row.pointers i None unset)
+pointers-read row i None lt leads least unset = ap (λ (ps : List (Option Pointer)). reading (record row { pointers = ps }))
+    (set_same row.pointers i None unset)
 pointers-read row i (Some p) lt leads least unset =
-    one_item row (record row { pointers = slice_set row.pointers i (Some p) }) (pointer_word i p.slot p.least) (pointer-read row i p.slot p.least lt (ltb-true p.slot 4 leads) least)
+    one_item row (record row { pointers = slice_set row.pointers i (Some p) }) (pointer_word i p.slot p.least)
+    (pointer-read row i p.slot p.least lt (ltb-true p.slot 4 leads) least)
 
 pair-read : (row : Row) (k : ℕ) (known : Bool) → k < 6 → get_or row.pairs k false ≡ false
     → with_items (pair_words (slice_index_or pair_slots k (0, 0)) known) (reading row) ≡ reading (record row { pairs = slice_set row.pairs k known })
@@ -288,7 +304,12 @@ abbrev with_slots : Row → ℕ → Row
 with_slots row n = record open_row { bounds = row.bounds; slots = set_below (λ i. slice_index_or row.slots i Empty) n (replicate 4 Empty) }
 
 abbrev with_pointers : Row → ℕ → Row
-with_pointers row n = record open_row { bounds = row.bounds; slots = row.slots; pointers = set_below (λ i. slice_index_or row.pointers i None) n (replicate 4 None) }
+with_pointers row n = record open_row {
+  bounds = row.bounds;
+  slots = row.slots;
+  pointers =
+      set_below (λ i. slice_index_or row.pointers i None) n (replicate 4 None);
+}
 
 abbrev with_pairs : Row → ℕ → Row
 with_pairs row n = record row { pairs = set_below (λ k. slice_index_or row.pairs k false) n (replicate 6 false) }
@@ -301,8 +322,10 @@ items-read row sound =
     let d = words_below 6 (pairs_of row) in
     let bounds : with_items a (reading open_row) ≡ reading (with_bounds row (8)) =
     steps 8 (bounds_of row) (with_bounds row)
-    (λ i lt. bounds-read (with_bounds row i) i (slice_index row.bounds i) (slice_index row.bounds i == 65535) refl lt (sound.bound i lt) (fresh (slice_index row.bounds) 8 i 65535 lt)) in
-    let all_bounds : reading (with_bounds row (8)) ≡ reading (with_slots row (0)) = ap (λ (bs : List ℕ). reading (record open_row { bounds = bs })) (all_eight row.bounds 0 65535 sound.eight) in
+    (λ i lt. bounds-read (with_bounds row i) i (slice_index row.bounds i) (slice_index row.bounds i == 65535) refl lt
+    (sound.bound i lt) (fresh (slice_index row.bounds) 8 i 65535 lt)) in
+    let all_bounds : reading (with_bounds row (8)) ≡ reading (with_slots row (0)) =
+    ap (λ (bs : List ℕ). reading (record open_row { bounds = bs })) (all_eight row.bounds 0 65535 sound.eight) in
     let slots : with_items b (reading (with_slots row (0))) ≡ reading (with_slots row (4)) =
     steps 4 (slots_of row) (with_slots row)
     (λ i lt. slots-read (with_slots row i) i (slice_index_or row.slots i Empty) lt (fresh (λ j. slice_index_or row.slots j Empty) 4 i Empty lt)) in
@@ -310,13 +333,16 @@ items-read row sound =
     ap (λ (ss : List SlotState). reading (record open_row { bounds = row.bounds; slots = ss })) (all_four row.slots Empty Empty sound.slots) in
     let pointers : with_items c (reading (with_pointers row (0))) ≡ reading (with_pointers row (4)) =
     steps 4 (pointers_of row) (with_pointers row)
-    (λ i lt. pointers-read (with_pointers row i) i (slice_index_or row.pointers i None) lt (sound.leads i lt) (sound.least i lt) (fresh (λ j. slice_index_or row.pointers j None) 4 i None lt)) in
+    (λ i lt. pointers-read (with_pointers row i) i (slice_index_or row.pointers i None) lt (sound.leads i lt)
+    (sound.least i lt) (fresh (λ j. slice_index_or row.pointers j None) 4 i None lt)) in
     let all_pointers : reading (with_pointers row (4)) ≡ reading (with_pairs row (0)) =
-    ap (λ (ps : List (Option Pointer)). reading (record row { pointers = ps; pairs = replicate 6 false })) (all_four row.pointers None None sound.pointers) in
+    ap (λ (ps : List (Option Pointer)). reading (record row { pointers = ps; pairs = replicate 6 false }))
+    (all_four row.pointers None None sound.pointers) in
     let pairs : with_items d (reading (with_pairs row (0))) ≡ reading (with_pairs row (6)) =
     steps 6 (pairs_of row) (with_pairs row)
     (λ k lt. pair-read (with_pairs row k) k (slice_index_or row.pairs k false) lt (fresh (λ j. slice_index_or row.pairs j false) 6 k false lt)) in
-    let all_pairs : reading (with_pairs row (6)) ≡ reading row = ap (λ (ps : List Bool). reading (record row { pairs = ps })) (all_six row.pairs false false sound.pairs) in
+    let all_pairs : reading (with_pairs row (6)) ≡ reading row = ap (λ (ps : List Bool). reading (record row { pairs = ps }))
+    (all_six row.pairs false false sound.pairs) in
     with_items-append (a ++ b ++ c) d (reading open_row)
     ∙ ap (with_items d) (with_items-append (a ++ b) c (reading open_row))
     ∙ ap (λ read. with_items d (with_items c read)) (with_items-append a b (reading open_row))

@@ -60,7 +60,8 @@ said-feed b h =
 -- where no element passes, all stand before the first that does
 pub before_none : (p : ℕ → Bool) (text : List ℕ) → All (λ b. p b ≡ false) text → before_first p text ≡ text
 before_none p text none =
-    let end : position_or_len p text ≡ length text = position_or_len_is p text (length text) 0 (omega arith) (λ k lt. none k 0 lt) (λ lt. absurd (omega (arith, lt))) in
+    let end : position_or_len p text ≡ length text = position_or_len_is p text (length text) 0 (omega arith)
+    (λ k lt. none k 0 lt) (λ lt. absurd (omega (arith, lt))) in
     rw end (take_all (length text) text (omega arith))
 
 -- a line without comment is taken whole
@@ -68,12 +69,14 @@ pub said-whole : (line : List ℕ) → list_all is_said line ≡ true → said l
 said-whole line h = ap words (before_none (λ b. b == 59) line (none_of is_said (λ b. b == 59) said-comment line h))
 
 -- a part that is not empty is a word
-kept : (word : List ℕ) (parts : List (List ℕ)) → is_word word ≡ true → filter (λ part. not (is_empty part)) (word ∷ parts) ≡ word ∷ filter (λ part. not (is_empty part)) parts
+kept : (word : List ℕ) (parts : List (List ℕ)) → is_word word ≡ true → filter (λ part. not (is_empty part))
+    (word ∷ parts) ≡ word ∷ filter (λ part. not (is_empty part)) parts
 kept [] parts h = absurd cc
 kept (b ∷ word) parts h = refl
 
 -- words with a blank in front of each but the first are those words
-pub words-spaced : (word : List ℕ) (others : List (List ℕ)) → is_word word ≡ true → list_all is_word others ≡ true → words (word ++ spaced others) ≡ word ∷ others
+pub words-spaced : (word : List ℕ) (others : List (List ℕ)) → is_word word ≡ true → list_all is_word others ≡ true
+    → words (word ++ spaced others) ≡ word ∷ others
 words-spaced word [] h all =
     let none = none_of is_inner is_blank inner-blank word ((and_parts (not (is_empty word)) (list_all is_inner word) h).1) in
     ap words (append-nil word) ∙ ap (filter (λ part. not (is_empty part))) (slice_split_none is_blank word none) ∙ kept word [] h
@@ -81,7 +84,8 @@ words-spaced word (next ∷ others) h all =
     let none = none_of is_inner is_blank inner-blank word ((and_parts (not (is_empty word)) (list_all is_inner word) h).1) in
     let p = and_parts (is_word next) (list_all is_word others) all in
     let rest = next ++ spaced others in
-    ap (filter (λ part. not (is_empty part))) (slice_split_at is_blank word 32 rest none refl) ∙ kept word (slice_split is_blank rest) h ∙ ap (λ ws. word ∷ ws) (words-spaced next others p.0 p.1)
+    ap (filter (λ part. not (is_empty part))) (slice_split_at is_blank word 32 rest none refl)
+    ∙ kept word (slice_split is_blank rest) h ∙ ap (λ ws. word ∷ ws) (words-spaced next others p.0 p.1)
 
 word_said : (text : List ℕ) → list_all is_inner text ≡ true → list_all is_said text ≡ true
 word_said [] h = refl
@@ -100,12 +104,14 @@ spaced-said (word ∷ others) h =
     let inner = (and_parts (not (is_empty word)) (list_all is_inner word) p.0).1 in
     said-append word (spaced others) (word_said word inner) (spaced-said others p.1)
 
-pub line-said : (word : List ℕ) (others : List (List ℕ)) → is_word word ≡ true → list_all is_word others ≡ true → list_all is_said (word ++ spaced others) ≡ true
+pub line-said : (word : List ℕ) (others : List (List ℕ)) → is_word word ≡ true → list_all is_word others ≡ true
+    → list_all is_said (word ++ spaced others) ≡ true
 line-said word others h all =
     said-append word (spaced others) (word_said word ((and_parts (not (is_empty word)) (list_all is_inner word) h).1)) (spaced-said others all)
 
 -- a line says the words that it is written of
-pub said-spaced : (word : List ℕ) (others : List (List ℕ)) → is_word word ≡ true → list_all is_word others ≡ true → said (word ++ spaced others) ≡ word ∷ others
+pub said-spaced : (word : List ℕ) (others : List (List ℕ)) → is_word word ≡ true → list_all is_word others ≡ true
+    → said (word ++ spaced others) ≡ word ∷ others
 said-spaced word others h all = said-whole (word ++ spaced others) (line-said word others h all) ∙ words-spaced word others h all
 
 -- and so does such a line that is indented

@@ -27,7 +27,8 @@ unstripped line h =
     let back : not (last == 13) ≡ true = (and_parts front (not (last == 13)) (passes_at is_said line (length line - 1) 0 refl h)).1 in
     ap (λ b. cond b (take (length line - 1) line) line) (false_of (last == 13) back)
 
-parts-first : (line : List ℕ) (parts : List (List ℕ)) → 0 < length parts → lines_of_parts (line ∷ parts) ≡ strip_carriage_return line ∷ lines_of_parts parts
+parts-first : (line : List ℕ) (parts : List (List ℕ)) → 0 < length parts
+    → lines_of_parts (line ∷ parts) ≡ strip_carriage_return line ∷ lines_of_parts parts
 parts-first line [] some = absurd (omega (arith, some))
 parts-first line (part ∷ parts) some = refl
 

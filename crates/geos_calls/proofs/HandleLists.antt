@@ -12,7 +12,8 @@ set-kept P (y ∷ ys) zero (suc k) x d new old = old
 set-kept P (y ∷ ys) (suc i) zero x d new old = old
 set-kept P (y ∷ ys) (suc i) (suc k) x d new old = set-kept P ys i k x d new old
 
-pub entry-kept : {X : Type 0} (P : X → Type 0) (xs : List X) (h k : ℕ) (x d : X) → P x → P (at_handle d xs k) → P (at_handle d (with_entry_at xs h x) k)
+pub entry-kept : {X : Type 0} (P : X → Type 0) (xs : List X) (h k : ℕ) (x d : X) → P x → P (at_handle d xs k)
+    → P (at_handle d (with_entry_at xs h x) k)
 entry-kept P xs zero k x d new old = old
 entry-kept P xs (suc h) zero x d new old = old
 entry-kept P xs (suc h) (suc k) x d new old = set-kept P xs h k x d new old
@@ -30,7 +31,8 @@ set-told g (y ∷ ys) zero (suc k) x d e = refl
 set-told g (y ∷ ys) (suc i) zero x d e = refl
 set-told g (y ∷ ys) (suc i) (suc k) x d e = set-told g ys i k x d e
 
-pub entry-told : {X Y : Type 0} (g : X → Y) (xs : List X) (h k : ℕ) (x d : X) → g x ≡ g (at_handle d xs h) → g (at_handle d (with_entry_at xs h x) k) ≡ g (at_handle d xs k)
+pub entry-told : {X Y : Type 0} (g : X → Y) (xs : List X) (h k : ℕ) (x d : X) → g x ≡ g (at_handle d xs h)
+    → g (at_handle d (with_entry_at xs h x) k) ≡ g (at_handle d xs k)
 entry-told g xs zero k x d e = refl
 entry-told g xs (suc h) zero x d e = refl
 entry-told g xs (suc h) (suc k) x d e = set-told g xs h k x d e
@@ -41,7 +43,8 @@ get-each f [] k = refl
 get-each f (x ∷ xs) zero = refl
 get-each f (x ∷ xs) (suc k) = get-each f xs k
 
-pub entry-each : {A B : Type 0} (f : A → B) (xs : List (Option A)) (h : ℕ) → at_handle None (map (option_map f) xs) h ≡ option_map f (at_handle None xs h)
+pub entry-each : {A B : Type 0} (f : A → B) (xs : List (Option A)) (h : ℕ)
+    → at_handle None (map (option_map f) xs) h ≡ option_map f (at_handle None xs h)
 entry-each f xs zero = refl
 entry-each f xs (suc h) = get-each f xs h
 

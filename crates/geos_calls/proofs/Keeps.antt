@@ -41,20 +41,24 @@ pub grown-small : (choice : Choice) (memory : Memory) (name : Name) (front : Lis
     first_refusal (front ++ growing choice memory name chunks) ≡ None → need chunks ≤ most_block_bytes
 grown-small choice memory name front chunks h =
     let behind = none-behind front (growing choice memory name chunks) h in
-    ltb-false most_block_bytes (need chunks) (none-here (nat_lt most_block_bytes (need chunks)) TooBig (first_refusal ((cannot_grow choice memory name chunks, NoRoom) ∷ [])) behind).0
+    ltb-false most_block_bytes (need chunks) (none-here (nat_lt most_block_bytes (need chunks)) TooBig
+    (first_refusal ((cannot_grow choice memory name chunks, NoRoom) ∷ [])) behind).0
 
 -- Calls on the chunks of one block
 
-pub changes-kept : {A : Type 0} (edit : List (Option (List ℕ)) → Edit A) (name : Name) → KeepsChunks edit → NeedsNoMore edit → Keeps (changes edit name)
+pub changes-kept : {A : Type 0} (edit : List (Option (List ℕ)) → Edit A) (name : Name) → KeepsChunks edit → NeedsNoMore edit
+    → Keeps (changes edit name)
 changes-kept edit name keep less choice memory legal =
     let cs = chunks_at memory name in
     outcome-kept (changes edit name choice memory) (λ r. legal) (λ fine.
-    let small : need (edit cs).chunks ≤ most_block_bytes = (let most = chunks-need memory name legal in let l = less cs (chunks-bytes memory name legal) fine in omega (arith, most, l)) in
+    let small : need (edit cs).chunks ≤ most_block_bytes = (let most = chunks-need memory name legal in
+    let l = less cs (chunks-bytes memory name legal) fine in omega (arith, most, l)) in
     with_chunks-legal (λ cs. (edit cs).chunks) memory name (λ are. keep cs are fine small) small legal)
 
 pub enlarges-kept : {A : Type 0} (edit : List (Option (List ℕ)) → Edit A) (name : Name) → KeepsChunks edit → Keeps (enlarges edit name)
 enlarges-kept edit name keep choice memory legal =
-    let cs = chunks_at memory name in let e = edit cs in
+    let cs = chunks_at memory name in
+    let e = edit cs in
     outcome-kept (enlarges edit name choice memory) (λ r. legal) (λ fine.
     let small = grown-small choice memory name e.refusals e.chunks fine in
     let passed = none-before e.refusals (growing choice memory name e.chunks) fine in
@@ -67,10 +71,12 @@ pub refers-kept : (edit : List (Option (List ℕ)) → Edit Part) (name : Name) 
 refers-kept edit name choice memory legal = outcome-kept (refers edit name choice memory) (λ r. legal) (λ fine. legal)
 
 change-kept : (name : Name) (change : Change) → Keeps (change_row name change)
-change-kept name (change.Lfree c) = changes-kept (free c) name (λ cs legal passed small. without-legal cs c legal) (λ cs bytes passed. need-without cs c)
+change-kept name (change.Lfree c) = changes-kept (free c) name (λ cs legal passed small. without-legal cs c legal)
+    (λ cs bytes passed. need-without cs c)
 change-kept name (change.Lrealloc c n) = enlarges-kept (realloc c n) name (λ cs legal passed small. with_resized-legal cs c n legal)
 change-kept name (change.Lins c at n) = enlarges-kept (insert_bytes c at n) name (λ cs legal passed small. with_inserted-legal cs c at n legal)
-change-kept name (change.Ldel c at n) = changes-kept (delete_bytes c at n) name (λ cs legal passed small. with_deleted-legal cs c at n legal) (λ cs bytes passed. need-with_deleted cs c at n)
+change-kept name (change.Ldel c at n) = changes-kept (delete_bytes c at n) name (λ cs legal passed small. with_deleted-legal cs c at n legal)
+    (λ cs bytes passed. need-with_deleted cs c at n)
 change-kept name change.Lcontract = changes-kept contract name (λ cs legal passed small. legal) (λ cs bytes passed. omega arith)
 change-kept name (change.Caadd c n) = enlarges-kept (append_element c n) name (append-kept c n)
 change-kept name (change.Cains c i n) = enlarges-kept (insert_element c i n) name (insert-kept c i n)
@@ -87,7 +93,8 @@ make-kept name (Canew k) word = enlarges-kept (create_array k) name (create-kept
 mnew-kept : Keeps mnew
 mnew-kept choice memory legal =
     outcome-kept (mnew choice memory) (λ r. legal)
-    (λ fine. mem_block-legal memory (unwrap_or (lowest_handle memory Mem) 0) (Some (record { locks = 1; heap = new_heap })) (record { heap = new_heap-legal; few = omega arith }) legal)
+    (λ fine. mem_block-legal memory (unwrap_or (lowest_handle memory Mem) 0) (Some (record { locks = 1; heap = new_heap }))
+    (record { heap = new_heap-legal; few = omega arith }) legal)
 
 mlock-kept : (h : ℕ) → Keeps (mlock h)
 mlock-kept h choice memory legal =
@@ -99,7 +106,8 @@ mlock-kept h choice memory legal =
 unlock-kept : (name : Name) → Keeps (unlock name)
 unlock-kept name choice memory legal =
     let most = locks-most memory name legal in
-    outcome-kept (unlock name choice memory) (λ r. legal) (λ fine. with_locks-legal memory name (locks_of memory name - 1) (omega (arith, most)) legal)
+    outcome-kept (unlock name choice memory) (λ r. legal) (λ fine. with_locks-legal memory name (locks_of memory name - 1)
+    (omega (arith, most)) legal)
 
 mfree-kept : (h : ℕ) → Keeps (mfree h)
 mfree-kept h choice memory legal = outcome-kept (mfree h choice memory) (λ r. legal) (λ fine. mem_block-legal memory h None tt legal)
@@ -108,14 +116,16 @@ mfree-kept h choice memory legal = outcome-kept (mfree h choice memory) (λ r. l
 
 store-kept : (ref : Reference) (i : ℕ) (ws : List ℕ) → AreBytes ws → Keeps (store ref i ws)
 store-kept ref i ws are choice memory legal =
-    let most = chunks-need memory ref.name legal in let less = need-with_written (chunks_at memory ref.name) ref.chunk (ref.start + i) ws in
+    let most = chunks-need memory ref.name legal in
+    let less = need-with_written (chunks_at memory ref.name) ref.chunk (ref.start + i) ws in
     outcome-kept (store ref i ws choice memory) (λ r. legal) (λ fine.
     with_chunks-legal (λ cs. with_bytes cs ref.chunk (with_part (bytes_of cs ref.chunk) (ref.start + i) ws)) memory ref.name
     (with_written-legal (chunks_at memory ref.name) ref.chunk (ref.start + i) ws are) (omega (arith, most, less)) legal)
 
 pub named_bytes-legal : (memory : Memory) (ref : Reference) → IsMemory memory → AreBytes (named_bytes memory ref)
 named_bytes-legal memory ref legal =
-    bytes-part (bytes_of (chunks_at memory ref.name) ref.chunk) ref.start ref.len (bytes_of-legal (chunks_at memory ref.name) ref.chunk (chunks-bytes memory ref.name legal))
+    bytes-part (bytes_of (chunks_at memory ref.name) ref.chunk) ref.start ref.len
+    (bytes_of-legal (chunks_at memory ref.name) ref.chunk (chunks-bytes memory ref.name legal))
 
 copy-kept : (to from : Reference) (n : ℕ) → Keeps (copy to from n)
 copy-kept to from n choice memory legal =
@@ -152,7 +162,8 @@ rows_keep_memory = record {
   by_vrevert = vrevert-kept;
   by_gnew = gnew-kept;
   by_gfree = gfree-kept;
-  by_item_change = λ g change. on_group-kept g (change_row (vm g) change) (λ choice memory why. (change-shape (vm g) change memory choice).2 why) (change-kept (vm g) change);
+  by_item_change = λ g change. on_group-kept g (change_row (vm g) change) (λ choice memory why. (change-shape (vm g) change memory choice).2 why)
+      (change-kept (vm g) change);
   by_item_make = λ g make word. on_group-kept g (make_row (vm g) make) (λ choice memory why. refl) (make-kept (vm g) make word);
   by_ilock = ilock-kept;
   by_igetmap = λ choice memory legal. legal;

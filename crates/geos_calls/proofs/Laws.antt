@@ -60,7 +60,8 @@ module _ {A : Type 0} (edit : List (Option (List ℕ)) → Edit A) (name : Name)
 
   -- a call that may make a block larger succeeds where its own tests pass and the block is not
   -- too big
-  pub enlarges-ok : first_refusal made.refusals ≡ None → need made.chunks ≤ 65520 → outcome (effect_of (enlarges edit name) willing before) ≡ (Ok made.answer, with_chunks before name made.chunks)
+  pub enlarges-ok : first_refusal made.refusals ≡ None → need made.chunks ≤ 65520
+      → outcome (effect_of (enlarges edit name) willing before) ≡ (Ok made.answer, with_chunks before name made.chunks)
   enlarges-ok passed small = rw none refl
     where
       grows : (b : Bool) → first_refusal ((false, TooBig) ∷ ((◌&&◌ (◌&&◌ b false) (is_tight before name (need made.chunks))), NoRoom) ∷ []) ≡ None
@@ -68,14 +69,17 @@ module _ {A : Type 0} (edit : List (Option (List ℕ)) → Edit A) (name : Name)
       grows false = refl
 
       none : first_refusal (made.refusals ++ growing willing before name made.chunks) ≡ None
-      none = first_refusal-passed made.refusals (growing willing before name made.chunks) passed ∙ rw (fits (need made.chunks) small) (grows (nat_lt (size_of before name) (need made.chunks)))
+      none = first_refusal-passed made.refusals (growing willing before name made.chunks) passed
+          ∙ rw (fits (need made.chunks) small) (grows (nat_lt (size_of before name) (need made.chunks)))
 
   -- it refuses by its own tests first
-  pub enlarges-refused : (why : Refusal) → first_refusal made.refusals ≡ Some why → outcome (effect_of (enlarges edit name) willing before) ≡ (Err why, before)
+  pub enlarges-refused : (why : Refusal) → first_refusal made.refusals ≡ Some why
+      → outcome (effect_of (enlarges edit name) willing before) ≡ (Err why, before)
   enlarges-refused why came = rw (first_refusal-came made.refusals (growing willing before name made.chunks) why came) refl
 
   -- then where the block would be too big
-  pub enlarges-big : first_refusal made.refusals ≡ None → 65520 < need made.chunks → outcome (effect_of (enlarges edit name) willing before) ≡ (Err TooBig, before)
+  pub enlarges-big : first_refusal made.refusals ≡ None → 65520 < need made.chunks
+      → outcome (effect_of (enlarges edit name) willing before) ≡ (Err TooBig, before)
   enlarges-big passed big = rw came refl
     where
       came : first_refusal (made.refusals ++ growing willing before name made.chunks) ≡ Some TooBig
@@ -91,16 +95,19 @@ module _ {A : Type 0} (edit : List (Option (List ℕ)) → Edit A) (name : Name)
           ∙ rw (fits (need made.chunks) small, over (size_of before name) (need made.chunks) grows, tight) refl
 
   -- a call that changes chunks, or tells something of them, goes by its own tests alone
-  pub changes-ok : first_refusal made.refusals ≡ None → outcome (effect_of (changes edit name) willing before) ≡ (Ok made.answer, with_chunks before name made.chunks)
+  pub changes-ok : first_refusal made.refusals ≡ None
+      → outcome (effect_of (changes edit name) willing before) ≡ (Ok made.answer, with_chunks before name made.chunks)
   changes-ok passed = rw passed refl
 
-  pub changes-refused : (why : Refusal) → first_refusal made.refusals ≡ Some why → outcome (effect_of (changes edit name) willing before) ≡ (Err why, before)
+  pub changes-refused : (why : Refusal) → first_refusal made.refusals ≡ Some why
+      → outcome (effect_of (changes edit name) willing before) ≡ (Err why, before)
   changes-refused why came = rw came refl
 
   pub reads-ok : first_refusal made.refusals ≡ None → outcome (effect_of (reads edit name) willing before) ≡ (Ok made.answer, before)
   reads-ok passed = rw passed refl
 
-  pub reads-refused : (why : Refusal) → first_refusal made.refusals ≡ Some why → outcome (effect_of (reads edit name) willing before) ≡ (Err why, before)
+  pub reads-refused : (why : Refusal) → first_refusal made.refusals ≡ Some why
+      → outcome (effect_of (reads edit name) willing before) ≡ (Err why, before)
   reads-refused why came = rw came refl
 
 module _ (edit : List (Option (List ℕ)) → Edit Part) (name : Name) (before : Memory) where
@@ -108,7 +115,8 @@ module _ (edit : List (Option (List ℕ)) → Edit Part) (name : Name) (before :
       → outcome (effect_of (refers edit name) willing before) ≡ (Ok (in_block name (edit (chunks_at before name)).answer), before)
   refers-ok passed = rw passed refl
 
-  pub refers-refused : (why : Refusal) → first_refusal (edit (chunks_at before name)).refusals ≡ Some why → outcome (effect_of (refers edit name) willing before) ≡ (Err why, before)
+  pub refers-refused : (why : Refusal) → first_refusal (edit (chunks_at before name)).refusals ≡ Some why
+      → outcome (effect_of (refers edit name) willing before) ≡ (Err why, before)
   refers-refused why came = rw came refl
 
 -- a change gives the block the edit's chunks, makes stale what leads into it, and changes nothing
@@ -119,7 +127,8 @@ pub change-shape : (name : Name) (change : Change) (memory : Memory) (choice : C
     × ((r : Refusal) → (change_row name change choice memory).left r ≡ memory)
 change-shape name change memory choice = shape (may_grow change)
   where
-    shape : (b : Bool) → ((row_in b (change_edit change) name choice memory).after ≡ with_chunks memory name (change_edit change (chunks_at memory name)).chunks)
+    shape : (b : Bool) → ((row_in b (change_edit change) name choice memory).after ≡ with_chunks memory name
+        (change_edit change (chunks_at memory name)).chunks)
         × ((row_in b (change_edit change) name choice memory).stale ≡ InBlock name)
         × ((r : Refusal) → (row_in b (change_edit change) name choice memory).left r ≡ memory)
     shape true = (refl, refl, λ r. refl)

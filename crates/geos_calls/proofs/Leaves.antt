@@ -59,7 +59,8 @@ left-as : (call : KernelCall) (choice : Choice) (memory : Memory) (why : Refusal
 left-as call choice memory why new (inl same) = inl same
 left-as call choice memory why new (inr (device, late, is)) = inr (by (keeper_of call) is)
   where
-    by : (o : Option Keeper) → IsSomeAnd o (λ k. new ≡ in_doubt memory (pair_to_keep k memory)) → (keeper : Keeper) × (o ≡ Some keeper) × (new ≡ in_doubt memory (pair_to_keep keeper memory))
+    by : (o : Option Keeper) → IsSomeAnd o (λ k. new ≡ in_doubt memory (pair_to_keep k memory)) → (keeper : Keeper)
+        × (o ≡ Some keeper) × (new ≡ in_doubt memory (pair_to_keep keeper memory))
     by None h = absurd h
     by (Some keeper) h = (keeper, refl, h)
 
@@ -75,10 +76,21 @@ same-others : (scope : Scope) (m : Memory) → LeavesOthers scope m m
 same-others scope m = record { blocks = λ h out. refl; listed = λ h out. refl; region = refl }
 
 then-others : (scope : Scope) (a b c : Memory) → LeavesOthers scope a b → LeavesOthers scope b c → LeavesOthers scope a c
-then-others scope a b c x y = record { blocks = λ h out. y.blocks h out ∙ x.blocks h out; listed = λ h out. y.listed h out ∙ x.listed h out; region = y.region ∙ x.region }
+then-others scope a b c x y = record {
+  blocks = λ h out. y.blocks h out ∙ x.blocks h out;
+  listed = λ h out. y.listed h out
+      ∙ x.listed h out;
+  region = y.region ∙ x.region;
+}
 
-owned-others : (m : Memory) (owner : Owner) (h : ℕ) (block : Option Block) → LeavesOthers (OneBlock (named owner h)) m (with_owned_block m owner h block)
-owned-others m Mem h block = record { blocks = λ k out. entry-other None block m.blocks h k (λ e. out (ap mem (sym e))); listed = λ k out. refl; region = refl }
+owned-others : (m : Memory) (owner : Owner) (h : ℕ) (block : Option Block) → LeavesOthers (OneBlock (named owner h)) m
+    (with_owned_block m owner h block)
+owned-others m Mem h block = record {
+  blocks = λ k out. entry-other None block m.blocks h k (λ e. out (ap mem (sym e)));
+  listed =
+      λ k out. refl;
+  region = refl;
+}
 owned-others m Vm h block = record {
   blocks = λ k out. refl;
   listed = λ k out. entry-other None _ m.file.cur.blocks h k (λ e. out (ap vm (sym e)));
@@ -91,10 +103,20 @@ block-others m name block = owned-others m name.owner name.h block
 
 -- what is listed under a handle is
 listed-others : (m : Memory) (h : ℕ) (listed : Option VmBlock) → LeavesOthers (OneBlock (vm h)) m (with_listed m h listed)
-listed-others m h listed = record { blocks = λ k out. refl; listed = λ k out. entry-other None listed m.file.cur.blocks h k (λ e. out (ap vm (sym e))); region = refl }
+listed-others m h listed = record {
+  blocks = λ k out. refl;
+  listed = λ k out. entry-other None listed m.file.cur.blocks h k
+      (λ e. out (ap vm (sym e)));
+  region = refl;
+}
 
 without-others : (m : Memory) (h : ℕ) → LeavesOthers (OneBlock (vm h)) m (without_listed m h)
-without-others m h = record { blocks = λ k out. refl; listed = λ k out. entry-other None None m.file.cur.blocks h k (λ e. out (ap vm (sym e))); region = refl }
+without-others m h = record {
+  blocks = λ k out. refl;
+  listed = λ k out. entry-other None None m.file.cur.blocks h k
+      (λ e. out (ap vm (sym e)));
+  region = refl;
+}
 
 chunks-others : (m : Memory) (name : Name) (chunks : List (Option (List ℕ))) → LeavesOthers (OneBlock name) m (with_chunks m name chunks)
 chunks-others m name chunks = block-others m name (option_map (rechunked_block chunks) (block_of m name))
@@ -103,10 +125,12 @@ locks-others : (m : Memory) (name : Name) (n : ℕ) → LeavesOthers (OneBlock n
 locks-others m name n = block-others m name (option_map (locked_block n) (block_of m name))
 
 -- chunks of a group are changed, and it is marked
-item-others : (m : Memory) (g : ℕ) (chunks : List (Option (List ℕ))) → LeavesOthers (OneBlock (vm g)) m (with_mark (with_chunks m (vm g) chunks) g true)
+item-others : (m : Memory) (g : ℕ) (chunks : List (Option (List ℕ)))
+    → LeavesOthers (OneBlock (vm g)) m (with_mark (with_chunks m (vm g) chunks) g true)
 item-others m g chunks =
     let n = with_chunks m (vm g) chunks in
-    then-others (OneBlock (vm g)) m n (with_mark n g true) (chunks-others m (vm g) chunks) (listed-others n g (option_map (marked_block true) (listed_at n g)))
+    then-others (OneBlock (vm g)) m n (with_mark n g true) (chunks-others m (vm g) chunks)
+    (listed-others n g (option_map (marked_block true) (listed_at n g)))
 
 commit-others : (m : Memory) (pair : Pair) → LeavesOthers WholeFile m (committed m pair)
 commit-others m pair = record { blocks = λ h out. refl; listed = λ h out. absurd (out refl); region = refl }
@@ -117,7 +141,8 @@ done-others (Mlock h) choice m = locks-others m (mem h) (locks_of m (mem h) + 1)
 done-others (Mfree h) choice m = block-others m (mem h) None
 done-others (Unlock name) choice m = locks-others m name (locks_of m name - 1)
 done-others (Changes name change) choice m =
-    subst (LeavesOthers (OneBlock name) m) (sym (change-shape name change m choice).0) (chunks-others m name (change_edit change (chunks_at m name)).chunks)
+    subst (LeavesOthers (OneBlock name) m) (sym (change-shape name change m choice).0)
+    (chunks-others m name (change_edit change (chunks_at m name)).chunks)
 done-others (Makes name make) choice m = chunks-others m name (make_edit make (chunks_at m name)).chunks
 done-others (Store ref i bytes) choice m = chunks-others m ref.name _
 done-others (Copy to from n) choice m = chunks-others m to.name _
@@ -134,22 +159,26 @@ done-others Vrevert choice m = commit-others m (pair_to_keep keep_reverted m)
 done-others Gnew choice m = listed-others m (new_vm m).h (Some (new_listed group_uid 0))
 done-others (Gfree g) choice m = without-others m g
 done-others (ChangesItem g change) choice m =
-    subst (λ n. LeavesOthers (OneBlock (vm g)) m (with_mark n g true)) (sym (change-shape (vm g) change m choice).0) (item-others m g (change_edit change (chunks_at m (vm g))).chunks)
+    subst (λ n. LeavesOthers (OneBlock (vm g)) m (with_mark n g true)) (sym (change-shape (vm g) change m choice).0)
+    (item-others m g (change_edit change (chunks_at m (vm g))).chunks)
 done-others (MakesItem g make) choice m = item-others m g (make_edit make (chunks_at m (vm g))).chunks
 done-others (Ilock g i n) choice m = locks-others m (vm g) (locks_of m (vm g) + 1)
 done-others (Isetmap g i) choice m = record { blocks = λ k out. refl; listed = λ k out. refl; region = refl }
 done-others call choice m = same-others NoBlock m
 
-left-others : (call : KernelCall) (choice : Choice) (why : Refusal) (old new : Memory) → IsLeft call choice why old new → LeavesOthers (scope_of call old) old new
+left-others : (call : KernelCall) (choice : Choice) (why : Refusal) (old new : Memory) → IsLeft call choice why old new
+    → LeavesOthers (scope_of call old) old new
 left-others call choice why old new is = elim (left-as call choice old why new is) [
   | inl same ↦ subst (LeavesOthers (scope_of call old) old) (sym same) (same-others (scope_of call old) old)
-  | inr (keeper, of, doubt) ↦ subst (LeavesOthers (scope_of call old) old) (sym doubt) (record { blocks = λ h out. refl; listed = λ h out. refl; region = refl })
+  | inr (keeper, of, doubt) ↦ subst (LeavesOthers (scope_of call old) old) (sym doubt)
+      (record { blocks = λ h out. refl; listed = λ h out. refl; region = refl })
 ]
 
 others : (call : KernelCall) (choice : Choice) (memory : Memory) → LeavesOthers (scope_of call memory) memory (outcome (row call choice memory)).1
 others call choice m = by (first_refusal (row call choice m).refusals)
   where
-    by : (o : Option Refusal) → LeavesOthers (scope_of call m) m (come_to o (row call choice m).left (row call choice m).answer (row call choice m).after).1
+    by : (o : Option Refusal) → LeavesOthers (scope_of call m) m
+        (come_to o (row call choice m).left (row call choice m).answer (row call choice m).after).1
     by None = done-others call choice m
     by (Some why) = left-others call choice why m ((row call choice m).left why) (refused call choice m why)
 
@@ -189,7 +218,8 @@ item-file m g chunks = record { map_block = refl; map_group = refl; map_item = r
 stays-mapped : (n h k : ℕ) → (n ≡ h → ⊥) → (if n == h then 0 else k) ≡ k
 stays-mapped n h k other = rw (ne_eqb n h other) refl
 
-freed-file : (call : KernelCall) (m : Memory) (h : ℕ) → ((MapsBlock call m → ⊥) → m.file.cur.map_block ≡ h → ⊥) → ((MapsItem call m → ⊥) → m.file.cur.map_group ≡ h → ⊥)
+freed-file : (call : KernelCall) (m : Memory) (h : ℕ) → ((MapsBlock call m → ⊥) → m.file.cur.map_block ≡ h → ⊥)
+    → ((MapsItem call m → ⊥) → m.file.cur.map_group ≡ h → ⊥)
     → LeavesFile call m (without_listed m h)
 freed-file call m h block item = record {
   map_block = λ no. stays-mapped m.file.cur.map_block h m.file.cur.map_block (block no);
@@ -214,15 +244,64 @@ done-file (Copy to from n) choice m = same-leaves (Copy to from n) m _ (chunks-f
 done-file (FreeListed h) choice m = freed-file (FreeListed h) m h (λ no. no) (λ no. no)
 done-file (Vfree h) choice m = freed-file (Vfree h) m h (λ no. no) (λ no. no)
 done-file (Gfree g) choice m = freed-file (Gfree g) m g (λ no. no) (λ no. no)
-done-file (Vsetmap h) choice m = record { map_block = λ no. absurd (no tt); map_group = λ no. refl; map_item = λ no. refl; saved = λ no. refl; kept = λ no. refl; area = refl }
-done-file (Isetmap g i) choice m = record { map_block = λ no. refl; map_group = λ no. absurd (no tt); map_item = λ no. absurd (no tt); saved = λ no. refl; kept = λ no. refl; area = refl }
-done-file Vupdate choice m = record { map_block = λ no. refl; map_group = λ no. refl; map_item = λ no. refl; saved = λ no. refl; kept = no-keeper; area = refl }
-done-file Vsave choice m = record { map_block = λ no. refl; map_group = λ no. refl; map_item = λ no. refl; saved = λ no. absurd (no tt); kept = no-keeper; area = refl }
-done-file Vrevert choice m = record { map_block = λ no. absurd (no tt); map_group = λ no. absurd (no tt); map_item = λ no. absurd (no tt); saved = λ no. refl; kept = no-keeper; area = refl }
+done-file (Vsetmap h) choice m = record {
+  map_block = λ no. absurd (no tt);
+  map_group = λ no. refl;
+  map_item =
+      λ no. refl;
+  saved = λ no. refl;
+  kept = λ no. refl;
+  area = refl;
+}
+done-file (Isetmap g i) choice m = record {
+  map_block = λ no. refl;
+  map_group = λ no. absurd (no tt);
+  map_item =
+      λ no. absurd (no tt);
+  saved = λ no. refl;
+  kept = λ no. refl;
+  area = refl;
+}
+done-file Vupdate choice m = record {
+  map_block = λ no. refl;
+  map_group = λ no. refl;
+  map_item = λ no. refl;
+  saved =
+      λ no. refl;
+  kept = no-keeper;
+  area = refl;
+}
+done-file Vsave choice m = record {
+  map_block = λ no. refl;
+  map_group = λ no. refl;
+  map_item = λ no. refl;
+  saved =
+      λ no. absurd (no tt);
+  kept = no-keeper;
+  area = refl;
+}
+done-file Vrevert choice m = record {
+  map_block = λ no. absurd (no tt);
+  map_group = λ no. absurd (no tt);
+  map_item =
+      λ no. absurd (no tt);
+  saved = λ no. refl;
+  kept = no-keeper;
+  area = refl;
+}
 done-file (ChangesItem g change) choice m =
     same-leaves (ChangesItem g change) m (row (ChangesItem g change) choice m).after
-    (subst (λ n. SameFile m (with_mark n g true)) (sym (change-shape (vm g) change m choice).0) (item-file m g (change_edit change (chunks_at m (vm g))).chunks))
-done-file call choice m = record { map_block = λ no. refl; map_group = λ no. refl; map_item = λ no. refl; saved = λ no. refl; kept = λ no. refl; area = refl }
+    (subst (λ n. SameFile m (with_mark n g true)) (sym (change-shape (vm g) change m choice).0)
+    (item-file m g (change_edit change (chunks_at m (vm g))).chunks))
+done-file call choice m = record {
+  map_block = λ no. refl;
+  map_group = λ no. refl;
+  map_item = λ no. refl;
+  saved =
+      λ no. refl;
+  kept = λ no. refl;
+  area = refl;
+}
 
 left-file : (call : KernelCall) (choice : Choice) (why : Refusal) (old new : Memory) → IsLeft call choice why old new → LeavesFile call old new
 left-file call choice why old new is = elim (left-as call choice old why new is) [
@@ -255,10 +334,12 @@ unlocked : (m : Memory) (name : Name) → locks_of (with_locks m name (locks_of 
 unlocked m name = ap locks_in (block_of-mapped m (locked_block (locks_of m name - 1)) name) ∙ lock-less (block_of m name)
 
 -- what is put under the lowest handle for which there is nothing is there
-lowest-put : {X : Type 0} (xs : List (Option X)) (x : X) → is_none (lowest_of xs) ≡ false → at_handle None (with_entry_at xs (unwrap_or (lowest_of xs) 0) (Some x)) (unwrap_or (lowest_of xs) 0) ≡ Some x
+lowest-put : {X : Type 0} (xs : List (Option X)) (x : X) → is_none (lowest_of xs) ≡ false
+    → at_handle None (with_entry_at xs (unwrap_or (lowest_of xs) 0) (Some x)) (unwrap_or (lowest_of xs) 0) ≡ Some x
 lowest-put xs x some = go (position is_none xs) refl some
   where
-    go : (o : Option ℕ) → position is_none xs ≡ o → is_none (option_map suc o) ≡ false → at_handle None (with_entry_at xs (unwrap_or (option_map suc o) 0) (Some x)) (unwrap_or (option_map suc o) 0) ≡ Some x
+    go : (o : Option ℕ) → position is_none xs ≡ o → is_none (option_map suc o) ≡ false
+        → at_handle None (with_entry_at xs (unwrap_or (option_map suc o) 0) (Some x)) (unwrap_or (option_map suc o) 0) ≡ Some x
     go None p h = absurd (let y : true ≡ false = h in cc)
     go (Some k) p h = get_or-set_same xs k (Some x) None (position-Some is_none xs k None p).0
 
@@ -272,11 +353,13 @@ listed-there : (listed : Option VmBlock) → is_none listed ≡ false → is_non
 listed-there None h = absurd (let y : true ≡ false = h in cc)
 listed-there (Some l) h = refl
 
-item-counts : (m : Memory) (g : ℕ) (chunks : List (Option (List ℕ))) (name : Name) → locks_of (with_mark (with_chunks m (vm g) chunks) g true) name ≡ locks_of m name
+item-counts : (m : Memory) (g : ℕ) (chunks : List (Option (List ℕ))) (name : Name)
+    → locks_of (with_mark (with_chunks m (vm g) chunks) g true) name ≡ locks_of m name
 item-counts m g chunks name = locks_of-mark (with_chunks m (vm g) chunks) g true name ∙ locks_of-chunks m (vm g) name chunks
 
 idle-count : (m : Memory) (pair : Pair) (h : ℕ) → locks_of (committed m pair) (vm h) ≡ 0
-idle-count m pair h = ap (λ e. locks_in (option_map block_in_file e)) (entry-each idle_block pair.cur.blocks h) ∙ idle (at_handle None pair.cur.blocks h)
+idle-count m pair h = ap (λ e. locks_in (option_map block_in_file e)) (entry-each idle_block pair.cur.blocks h)
+    ∙ idle (at_handle None pair.cur.blocks h)
   where
     idle : (kept : Option KeptBlock) → locks_in (option_map block_in_file (option_map idle_block kept)) ≡ 0
     idle None = refl
@@ -300,8 +383,10 @@ passed : (tests : List (Bool × Refusal)) → first_refusal tests ≡ None → A
 passed [] fine = tt
 passed (test ∷ tests) fine = let here = none-here test.0 test.1 (first_refusal tests) fine in (here.0, passed tests here.1)
 
-counts : (call : KernelCall) (choice : Choice) (memory : Memory) → IsAskable call memory → first_refusal (row call choice memory).refusals ≡ None → HasCounts (counts_of call memory) memory (row call choice memory).after
-counts Mnew choice m asked fine = ap locks_in (lowest-put m.blocks (record { locks = 1; heap = new_heap }) (passed (row Mnew choice m).refusals fine).0)
+counts : (call : KernelCall) (choice : Choice) (memory : Memory) → IsAskable call memory
+    → first_refusal (row call choice memory).refusals ≡ None → HasCounts (counts_of call memory) memory (row call choice memory).after
+counts Mnew choice m asked fine = ap locks_in (lowest-put m.blocks (record { locks = 1; heap = new_heap })
+    (passed (row Mnew choice m).refusals fine).0)
 counts (Mlock h) choice m asked fine = locks_of-set m (mem h) (locks_of m (mem h) + 1) (passed (row (Mlock h) choice m).refusals fine).0
 counts (Mfree h) choice m asked fine = ap locks_in (block_of-gone m (mem h))
 counts (Unlock name) choice m asked fine = unlocked m name
@@ -314,8 +399,10 @@ counts (Vnew uid) choice m asked fine = made (passed (row (Vnew uid) choice m).r
   where
     made : is_none (lowest_handle m Vm) ≡ false → locks_of (with_listed m (new_vm m).h (Some (new_listed uid 1))) (new_vm m) ≡ 1
     made some = ap (λ e. locks_in (option_map block_in_file e)) (lowest-put m.file.cur.blocks (new_listed uid 1) some)
-counts (LockListed h) choice m asked fine = locks_of-set m (vm h) (locks_of m (vm h) + 1) (listed-there (listed_at m h) (passed (row (LockListed h) choice m).refusals fine).0)
-counts (Vlock h) choice m asked fine = locks_of-set m (vm h) (locks_of m (vm h) + 1) (listed-there (listed_at m h) (passed (row (Vlock h) choice m).refusals fine).0)
+counts (LockListed h) choice m asked fine = locks_of-set m (vm h) (locks_of m (vm h) + 1)
+    (listed-there (listed_at m h) (passed (row (LockListed h) choice m).refusals fine).0)
+counts (Vlock h) choice m asked fine = locks_of-set m (vm h) (locks_of m (vm h) + 1)
+    (listed-there (listed_at m h) (passed (row (Vlock h) choice m).refusals fine).0)
 counts (Vdirty h) choice m asked fine = λ name. locks_of-mark m h true name
 counts (FreeListed h) choice m asked fine = ap (λ e. locks_in (option_map block_in_file e)) (entry-gone m.file.cur.blocks h)
 counts (Vfree h) choice m asked fine = ap (λ e. locks_in (option_map block_in_file e)) (entry-gone m.file.cur.blocks h)
@@ -328,15 +415,18 @@ counts Gnew choice m asked fine = made (passed (row Gnew choice m).refusals fine
     made some = ap (λ e. locks_in (option_map block_in_file e)) (lowest-put m.file.cur.blocks (new_listed group_uid 0) some)
 counts (Gfree g) choice m asked fine = ap (λ e. locks_in (option_map block_in_file e)) (entry-gone m.file.cur.blocks g)
 counts (ChangesItem g change) choice m asked fine = λ name.
-    ap (λ n. locks_of (with_mark n g true) name) (change-shape (vm g) change m choice).0 ∙ item-counts m g (change_edit change (chunks_at m (vm g))).chunks name
+    ap (λ n. locks_of (with_mark n g true) name) (change-shape (vm g) change m choice).0
+    ∙ item-counts m g (change_edit change (chunks_at m (vm g))).chunks name
 counts (MakesItem g make) choice m asked fine = λ name. item-counts m g (make_edit make (chunks_at m (vm g))).chunks name
-counts (Ilock g i n) choice m asked fine = locks_of-set m (vm g) (locks_of m (vm g) + 1) (listed-there (listed_at m g) (group-listed (listed_at m g) (passed (row (Ilock g i n) choice m).refusals fine).0))
+counts (Ilock g i n) choice m asked fine = locks_of-set m (vm g) (locks_of m (vm g) + 1)
+    (listed-there (listed_at m g) (group-listed (listed_at m g) (passed (row (Ilock g i n) choice m).refusals fine).0))
 counts call choice m asked fine = λ name. refl
 
 -- Marks
 
 -- chunks of a group are changed, and it is marked
-item-marked : (m : Memory) (g : ℕ) (chunks : List (Option (List ℕ))) → is_none (listed_at m g) ≡ false → is_marked (with_mark (with_chunks m (vm g) chunks) g true) g ≡ true
+item-marked : (m : Memory) (g : ℕ) (chunks : List (Option (List ℕ))) → is_none (listed_at m g) ≡ false
+    → is_marked (with_mark (with_chunks m (vm g) chunks) g true) g ≡ true
 item-marked m g chunks there = marked-set (with_chunks m (vm g) chunks) g true (still-listed m g (rechunked_block chunks) there)
 
 idle-mark : (m : Memory) (pair : Pair) (h : ℕ) → is_marked (committed m pair) h ≡ false
@@ -346,15 +436,18 @@ idle-mark m pair h = ap is_marked_in (entry-each idle_block pair.cur.blocks h) �
     idle None = refl
     idle (Some kept) = refl
 
-marks : (call : KernelCall) (choice : Choice) (memory : Memory) → IsAskable call memory → first_refusal (row call choice memory).refusals ≡ None → HasMarks (marks_of call memory) memory (row call choice memory).after
+marks : (call : KernelCall) (choice : Choice) (memory : Memory) → IsAskable call memory
+    → first_refusal (row call choice memory).refusals ≡ None → HasMarks (marks_of call memory) memory (row call choice memory).after
 marks (Mlock h) choice m asked fine = λ k. marks-mapped m (locked_block (locks_of m (mem h) + 1)) (mem h) k
 marks (Unlock name) choice m asked fine = λ k. marks-mapped m (locked_block (locks_of m name - 1)) name k
 marks (Changes name change) choice m asked fine = λ k.
-    ap (λ n. is_marked n k) (change-shape name change m choice).0 ∙ marks-mapped m (rechunked_block (change_edit change (chunks_at m name)).chunks) name k
+    ap (λ n. is_marked n k) (change-shape name change m choice).0
+    ∙ marks-mapped m (rechunked_block (change_edit change (chunks_at m name)).chunks) name k
 marks (Makes name make) choice m asked fine = λ k. marks-mapped m (rechunked_block (make_edit make (chunks_at m name)).chunks) name k
 marks (Store ref i bytes) choice m asked fine = λ k. marks-mapped m (rechunked_block _) ref.name k
 marks (Copy to from n) choice m asked fine = λ k. marks-mapped m (rechunked_block _) to.name k
-marks (Vnew uid) choice m asked fine = ap is_marked_in (lowest-put m.file.cur.blocks (new_listed uid 1) (passed (row (Vnew uid) choice m).refusals fine).1.0)
+marks (Vnew uid) choice m asked fine =
+    ap is_marked_in (lowest-put m.file.cur.blocks (new_listed uid 1) (passed (row (Vnew uid) choice m).refusals fine).1.0)
 marks (LockListed h) choice m asked fine = λ k. marks-mapped m (locked_block (locks_of m (vm h) + 1)) (vm h) k
 marks (Vlock h) choice m asked fine = λ k. marks-mapped m (locked_block (locks_of m (vm h) + 1)) (vm h) k
 marks (Vdirty h) choice m asked fine = marked-set m h true asked
@@ -367,27 +460,33 @@ marks Gnew choice m asked fine = ap is_marked_in (lowest-put m.file.cur.blocks (
 marks (Gfree g) choice m asked fine = ap is_marked_in (entry-gone m.file.cur.blocks g)
 marks (ChangesItem g change) choice m asked fine =
     ap (λ n. is_marked (with_mark n g true) g) (change-shape (vm g) change m choice).0
-    ∙ item-marked m g (change_edit change (chunks_at m (vm g))).chunks (group-listed (listed_at m g) (passed (row (ChangesItem g change) choice m).refusals fine).0)
-marks (MakesItem g make) choice m asked fine = item-marked m g (make_edit make (chunks_at m (vm g))).chunks (group-listed (listed_at m g) (passed (row (MakesItem g make) choice m).refusals fine).0)
+    ∙ item-marked m g (change_edit change (chunks_at m (vm g))).chunks
+    (group-listed (listed_at m g) (passed (row (ChangesItem g change) choice m).refusals fine).0)
+marks (MakesItem g make) choice m asked fine = item-marked m g (make_edit make (chunks_at m (vm g))).chunks
+    (group-listed (listed_at m g) (passed (row (MakesItem g make) choice m).refusals fine).0)
 marks (Ilock g i n) choice m asked fine = λ k. marks-mapped m (locked_block (locks_of m (vm g) + 1)) (vm g) k
 marks call choice m asked fine = λ k. refl
 
 -- What is written
 
 -- a block that is written and not locked is as it was, but its mark
-clean : (listed : Option VmBlock) → locks_in (option_map block_in_file listed) ≡ 0 → option_map idle_block (option_map kept_block listed) ≡ option_map (marked_block false) listed
+clean : (listed : Option VmBlock) → locks_in (option_map block_in_file listed) ≡ 0
+    → option_map idle_block (option_map kept_block listed) ≡ option_map (marked_block false) listed
 clean None none = refl
 clean (Some l) none = ap as_counted (sym none)
   where
     as_counted : ℕ → Option VmBlock
     as_counted n = Some (record { uid = l.uid; marked = false; block = record { locks = n; heap = l.block.heap } })
 
-written-clean : (m : Memory) (saved : Directory KeptBlock) (h : ℕ) → NoneLocked m → listed_at (committed m (record { cur = written_directory m; saved = saved })) h ≡ option_map (marked_block false) (listed_at m h)
+written-clean : (m : Memory) (saved : Directory KeptBlock) (h : ℕ) → NoneLocked m
+    → listed_at (committed m (record { cur = written_directory m; saved = saved })) h ≡ option_map (marked_block false) (listed_at m h)
 written-clean m saved h none =
     let entries = m.file.cur.blocks in
-    entry-each idle_block (written_directory m).blocks h ∙ ap (option_map idle_block) (entry-each kept_block entries h) ∙ clean (listed_at m h) (none h)
+    entry-each idle_block (written_directory m).blocks h ∙ ap (option_map idle_block) (entry-each kept_block entries h)
+    ∙ clean (listed_at m h) (none h)
 
-written : (call : KernelCall) (choice : Choice) (memory : Memory) → Writes call → IsAskable call memory → (h : ℕ) → listed_at (row call choice memory).after h ≡ option_map (marked_block false) (listed_at memory h)
+written : (call : KernelCall) (choice : Choice) (memory : Memory) → Writes call → IsAskable call memory → (h : ℕ)
+    → listed_at (row call choice memory).after h ≡ option_map (marked_block false) (listed_at memory h)
 written Vupdate choice m is asked h = written-clean m m.file.saved h asked
 written Vsave choice m is asked h = written-clean m (written_directory m) h asked
 written call choice m is asked h = absurd is
@@ -399,7 +498,8 @@ came-back None m = refl
 came-back (Some why) m = refl
 
 brought : (h : ℕ) (choice : Choice) (memory : Memory) → choice.given ≡ [] → (outcome (effect_of (bring h) choice memory)).1 ≡ memory
-brought h choice m nothing = came-back (first_refusal (effect_of (bring h) choice m).refusals) (given_memory choice.given m) ∙ ap (λ given. given_memory given m) nothing
+brought h choice m nothing = came-back (first_refusal (effect_of (bring h) choice m).refusals) (given_memory choice.given m)
+    ∙ ap (λ given. given_memory given m) nothing
 
 pub rows_leave : RowsLeave
 rows_leave = record {

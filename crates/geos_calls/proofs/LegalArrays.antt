@@ -53,31 +53,38 @@ table-small a small = elim (cases_eq a.element_size 0) [
 ]
 
 -- an array that is small enough spells bytes
-pub bytes-spelled : (a : Array) → AreBytes (join a.elements) → length (spelled a) < 65536 → a.element_size < 65536 → length a.elements < 65536 → AreBytes (spelled a)
+pub bytes-spelled : (a : Array) → AreBytes (join a.elements) → length (spelled a) < 65536 → a.element_size < 65536
+    → length a.elements < 65536 → AreBytes (spelled a)
 unfolding spelled
 bytes-spelled a are small size count =
     let zeros = All-cons IsWord 0 (8 ∷ table a) (omega arith) (All-cons IsWord 8 (table a) (omega arith) (table-small a small)) in
-    let head = All-cons IsWord (length a.elements) (a.element_size ∷ (0 ∷ (8 ∷ table a))) count (All-cons IsWord a.element_size (0 ∷ (8 ∷ table a)) size zeros) in
+    let head = All-cons IsWord (length a.elements) (a.element_size ∷ (0 ∷ (8 ∷ table a))) count
+    (All-cons IsWord a.element_size (0 ∷ (8 ∷ table a)) size zeros) in
     All-append (λ b. b < 256) (flat_map word_bytes (head_words a)) (join a.elements) (bytes-words (head_words a) head) are
 
 -- Elements joined end to end
 
 bytes-first : (xs : List (List ℕ)) (i : ℕ) → AreBytes (join xs) → AreBytes (join (take i xs))
-bytes-first xs i h = subst AreBytes (take-join xs i (length (join (take i xs))) refl) (All-take (λ b. b < 256) (length (join (take i xs))) (join xs) h)
+bytes-first xs i h = subst AreBytes (take-join xs i (length (join (take i xs))) refl)
+    (All-take (λ b. b < 256) (length (join (take i xs))) (join xs) h)
 
 bytes-behind : (xs : List (List ℕ)) (i : ℕ) → AreBytes (join xs) → AreBytes (join (drop i xs))
-bytes-behind xs i h = subst AreBytes (drop-join xs i (length (join (take i xs))) refl) (All-drop (λ b. b < 256) (length (join (take i xs))) (join xs) h)
+bytes-behind xs i h = subst AreBytes (drop-join xs i (length (join (take i xs))) refl)
+    (All-drop (λ b. b < 256) (length (join (take i xs))) (join xs) h)
 
 bytes-insert : (xs : List (List ℕ)) (i : ℕ) (z : List ℕ) → AreBytes z → AreBytes (join xs) → AreBytes (join (insert xs i z))
 bytes-insert xs i z new h =
-    rw (join-insert xs i z) (All-append (λ b. b < 256) (join (take i xs)) (z ++ join (drop i xs)) (bytes-first xs i h) (All-append (λ b. b < 256) z (join (drop i xs)) new (bytes-behind xs i h)))
+    rw (join-insert xs i z) (All-append (λ b. b < 256) (join (take i xs)) (z ++ join (drop i xs)) (bytes-first xs i h)
+    (All-append (λ b. b < 256) z (join (drop i xs)) new (bytes-behind xs i h)))
 
 bytes-remove : (xs : List (List ℕ)) (i : ℕ) → AreBytes (join xs) → AreBytes (join (remove xs i))
-bytes-remove xs i h = rw (join-remove xs i) (All-append (λ b. b < 256) (join (take i xs)) (join (drop (suc i) xs)) (bytes-first xs i h) (bytes-behind xs (suc i) h))
+bytes-remove xs i h = rw (join-remove xs i) (All-append (λ b. b < 256) (join (take i xs)) (join (drop (suc i) xs))
+    (bytes-first xs i h) (bytes-behind xs (suc i) h))
 
 bytes-set : (xs : List (List ℕ)) (i : ℕ) (z : List ℕ) → i < length xs → AreBytes z → AreBytes (join xs) → AreBytes (join (set xs i z))
 bytes-set xs i z lt new h =
-    rw (join-set xs i z lt) (All-append (λ b. b < 256) (join (take i xs)) (z ++ join (drop (suc i) xs)) (bytes-first xs i h) (All-append (λ b. b < 256) z (join (drop (suc i) xs)) new (bytes-behind xs (suc i) h)))
+    rw (join-set xs i z lt) (All-append (λ b. b < 256) (join (take i xs)) (z ++ join (drop (suc i) xs)) (bytes-first xs i h)
+    (All-append (λ b. b < 256) z (join (drop (suc i) xs)) new (bytes-behind xs (suc i) h)))
 
 length-joined : (xs : List (List ℕ)) (i : ℕ) → length (join xs) ≡ length (join (take i xs)) + length (join (drop i xs))
 length-joined xs i = ap length (join-split xs i) ∙ length-append (join (take i xs)) (join (drop i xs))
@@ -89,7 +96,10 @@ length-join_insert xs i z =
 
 length-join_remove : (xs : List (List ℕ)) (i : ℕ) → length (join (remove xs i)) ≤ length (join xs)
 length-join_remove xs i =
-    let e = ap length (join-remove xs i) in let l = join-le xs i in let m = length-joined xs i in let n = length-joined xs (suc i) in
+    let e = ap length (join-remove xs i) in
+    let l = join-le xs i in
+    let m = length-joined xs i in
+    let n = length-joined xs (suc i) in
     let rest = behind-less xs i in omega (arith, e, m, rest, length-append (join (take i xs)) (join (drop (suc i) xs)))
   where
     behind-less : (ys : List (List ℕ)) (j : ℕ) → length (join (drop (suc j) ys)) ≤ length (join (drop j ys))
@@ -104,7 +114,11 @@ removed-count xs i = omega (arith, length-append (take i xs) (drop (suc i) xs), 
 length-empty : (k : ℕ) → length (spelled (empty k)) ≡ 8
 length-empty k =
     let l = length-spelled (empty k) in
-    elim (cases_eq k 0) [ inl e ↦ (let f = first-varying (empty k) e in omega (arith, l, f)) | inr ne ↦ (let f = first-fixed (empty k) ne in omega (arith, l, f)) ]
+    elim (cases_eq k 0) [
+      | inl e ↦ (let f = first-varying (empty k) e in omega (arith, l, f))
+      | inr ne ↦
+          (let f = first-fixed (empty k) ne in omega (arith, l, f))
+    ]
 
 -- Arrays in legal chunks
 
@@ -116,11 +130,13 @@ record IsArray (cs : List (Option (List ℕ))) (c : ℕ) : Type 0 where
   is : arr bytes ≡ Some array
 
 -- where a call on an array is not refused, there is one
-found : (cs : List (Option (List ℕ))) (c : ℕ) (more : List (Bool × Refusal)) → first_refusal (no_array cs c ++ more) ≡ None → IsArray cs c × (first_refusal more ≡ None)
+found : (cs : List (Option (List ℕ))) (c : ℕ) (more : List (Bool × Refusal)) → first_refusal (no_array cs c ++ more) ≡ None
+    → IsArray cs c × (first_refusal more ≡ None)
 found cs c more h =
     let first = none-here (is_none (chunk_of cs c)) BadChunk (first_refusal ((is_none (arr (bytes_of cs c)), BadArray) ∷ more)) h in
     let second = none-here (is_none (arr (bytes_of cs c))) BadArray (first_refusal more) first.1 in
-    let chunk = some-known (chunk_of cs c) first.0 in let array = some-known (arr (bytes_of cs c)) second.0 in
+    let chunk = some-known (chunk_of cs c) first.0 in
+    let array = some-known (arr (bytes_of cs c)) second.0 in
     (record { bytes = chunk.0; array = array.0; there = chunk.1; is = ap arr (sym (known-bytes cs c chunk.0 chunk.1)) ∙ array.1 }, second.1)
 
 module _ (cs : List (Option (List ℕ))) (c : ℕ) (h : IsArray cs c) (bytes_all : All IsChunk cs) where
@@ -152,18 +168,24 @@ module _ (cs : List (Option (List ℕ))) (c : ℕ) (h : IsArray cs c) (bytes_all
   -- what is behind the header is long enough for the elements, where they have one size
   few : h.array.element_size ≢ 0 → length h.array.elements ≤ length (join h.array.elements)
   few some =
-      let n = length h.array.elements in let k = h.array.element_size in
-      let e = read.equal some n (omega arith) in let f = first-fixed h.array some in let at = element-at h.array n in
-      let whole = join-le h.array.elements n in let m : n ≤ n * k = mul-some n k some in omega (arith, e, f, at, whole, m)
+      let n = length h.array.elements in
+      let k = h.array.element_size in
+      let e = read.equal some n (omega arith) in
+      let f = first-fixed h.array some in
+      let at = element-at h.array n in
+      let whole = join-le h.array.elements n in
+      let m : n ≤ n * k = mul-some n k some in omega (arith, e, f, at, whole, m)
     where
       mul-some : (n k : ℕ) → k ≢ 0 → n ≤ n * k
       mul-some zero k some = omega arith
       mul-some (suc n) k some = let r = mul-some n k some in let s : suc n * k ≡ k + n * k = omega arith in omega (arith, r, s, some)
 
   -- with another array in the place of one
-  put : (b : Array) → AreBytes (join b.elements) → b.element_size < 65536 → (length (spelled b) ≤ 65520 → length b.elements < 65536) → need (with_array cs c b) ≤ 65520 → AreChunks cs → AreChunks (with_array cs c b)
+  put : (b : Array) → AreBytes (join b.elements) → b.element_size < 65536 → (length (spelled b) ≤ 65520 → length b.elements < 65536)
+      → need (with_array cs c b) ≤ 65520 → AreChunks cs → AreChunks (with_array cs c b)
   put b bytes size count fits legal =
-      let l = need-least cs c h.bytes (spelled b) h.there in let short : length (spelled b) ≤ 65520 = omega (arith, l, fits) in
+      let l = need-least cs c h.bytes (spelled b) h.there in
+      let short : length (spelled b) ≤ 65520 = omega (arith, l, fits) in
       with_bytes-legal cs c (spelled b) (bytes-spelled b bytes (omega (arith, short)) size (count short)) legal
 
   put-less : (b : Array) → length (spelled b) ≤ length h.bytes → need (with_array cs c b) ≤ need cs
@@ -172,23 +194,30 @@ module _ (cs : List (Option (List ℕ))) (c : ℕ) (h : IsArray cs c) (bytes_all
   same : array_of cs c ≡ h.array
   same = array-of cs c h.bytes h.array h.there h.is
 
-  inserted : (i n : ℕ) → i ≤ length (array_of cs c).elements → need (with_array cs c (with_element (array_of cs c) i n)) ≤ 65520 → AreChunks cs → AreChunks (with_array cs c (with_element (array_of cs c) i n))
+  inserted : (i n : ℕ) → i ≤ length (array_of cs c).elements → need (with_array cs c (with_element (array_of cs c) i n)) ≤ 65520
+      → AreChunks cs → AreChunks (with_array cs c (with_element (array_of cs c) i n))
   inserted i n = rw same (λ fits small legal.
       let z : List ℕ = replicate (new_length h.array n) 0 in
-      put (with_element h.array i n) (bytes-insert h.array.elements i z (bytes-zeros (new_length h.array n)) joined) size-small (λ short. count fits short) small legal)
+      put (with_element h.array i n) (bytes-insert h.array.elements i z (bytes-zeros (new_length h.array n)) joined)
+      size-small (λ short. count fits short) small legal)
     where
-      count : i ≤ length h.array.elements → length (spelled (with_element h.array i n)) ≤ 65520 → length (insert h.array.elements i (replicate (new_length h.array n) 0)) < 65536
+      count : i ≤ length h.array.elements → length (spelled (with_element h.array i n)) ≤ 65520
+          → length (insert h.array.elements i (replicate (new_length h.array n) 0)) < 65536
       count fits short =
-          let b = with_element h.array i n in let long = length-insert h.array.elements i (replicate (new_length h.array n) 0) fits in
-          let l = length-spelled b in let j = length-join_insert h.array.elements i (replicate (new_length h.array n) 0) in
+          let b = with_element h.array i n in
+          let long = length-insert h.array.elements i (replicate (new_length h.array n) 0) fits in
+          let l = length-spelled b in
+          let j = length-join_insert h.array.elements i (replicate (new_length h.array n) 0) in
           elim (cases_eq h.array.element_size 0) [
             | inl e ↦ (let f = first-varying b e in omega (arith, long, l, f, short))
             | inr ne ↦ (let f = first-fixed b ne in let m = few ne in omega (arith, long, l, f, j, m, short))
           ]
 
-  removed : (i : ℕ) → AreChunks cs → need (with_array cs c (without_element (array_of cs c) i)) ≤ 65520 → AreChunks (with_array cs c (without_element (array_of cs c) i))
+  removed : (i : ℕ) → AreChunks cs → need (with_array cs c (without_element (array_of cs c) i)) ≤ 65520
+      → AreChunks (with_array cs c (without_element (array_of cs c) i))
   removed i = rw same (λ legal fits.
-      let l = removed-count h.array.elements i in let n = count-small in
+      let l = removed-count h.array.elements i in
+      let n = count-small in
       put (without_element h.array i) (bytes-remove h.array.elements i joined) size-small (λ short. omega (arith, l, n)) fits legal)
 
   removed-less : (i : ℕ) → need (with_array cs c (without_element (array_of cs c) i)) ≤ need cs
@@ -196,31 +225,43 @@ module _ (cs : List (Option (List ℕ))) (c : ℕ) (h : IsArray cs c) (bytes_all
     where
       less : (i : ℕ) → length (spelled (without_element h.array i)) ≤ length h.bytes
       less i =
-          let b = without_element h.array i in let l = length-spelled b in let j = length-join_remove h.array.elements i in let n = removed-count h.array.elements i in
-          let whole = ap length read.spells.rest in let fits = read.spells.fits in let d = length-drop (first_at h.array) h.bytes in
+          let b = without_element h.array i in
+          let l = length-spelled b in
+          let j = length-join_remove h.array.elements i in
+          let n = removed-count h.array.elements i in
+          let whole = ap length read.spells.rest in
+          let fits = read.spells.fits in
+          let d = length-drop (first_at h.array) h.bytes in
           elim (cases_eq h.array.element_size 0) [
             | inl e ↦ (let f = first-varying b e in let g = first-varying h.array e in omega (arith, l, j, n, whole, fits, d, f, g))
             | inr ne ↦ (let f = first-fixed b ne in let g = first-fixed h.array ne in omega (arith, l, j, whole, fits, d, f, g))
           ]
 
-  cleared : AreChunks cs → need (with_array cs c (empty (array_of cs c).element_size)) ≤ 65520 → AreChunks (with_array cs c (empty (array_of cs c).element_size))
+  cleared : AreChunks cs → need (with_array cs c (empty (array_of cs c).element_size)) ≤ 65520
+      → AreChunks (with_array cs c (empty (array_of cs c).element_size))
   cleared = rw same (λ legal fits. put (empty h.array.element_size) (All-nil (λ b. b < 256)) size-small (λ short. omega arith) fits legal)
 
   cleared-less : need (with_array cs c (empty (array_of cs c).element_size)) ≤ need cs
-  cleared-less = rw same (put-less (empty h.array.element_size) (let l = length-empty h.array.element_size in let fits = read.spells.fits in let f = length-head h.array in omega (arith, l, fits, f)))
+  cleared-less = rw same (put-less (empty h.array.element_size) (let l = length-empty h.array.element_size in
+      let fits = read.spells.fits in let f = length-head h.array in omega (arith, l, fits, f)))
 
-  resized-array : (i n : ℕ) → (array_of cs c).element_size ≡ 0 → i < length (array_of cs c).elements → need (with_array cs c (with_element_bytes (array_of cs c) i (resized (element (array_of cs c) i) n))) ≤ 65520 → AreChunks cs
+  resized-array : (i n : ℕ) → (array_of cs c).element_size ≡ 0 → i < length (array_of cs c).elements
+      → need (with_array cs c (with_element_bytes (array_of cs c) i (resized (element (array_of cs c) i) n))) ≤ 65520 → AreChunks cs
       → AreChunks (with_array cs c (with_element_bytes (array_of cs c) i (resized (element (array_of cs c) i) n)))
   resized-array i n = rw same (λ varying lt fits legal.
-      let x = element h.array i in let l = length-set h.array.elements i (resized x n) in let m = count-small in
+      let x = element h.array i in
+      let l = length-set h.array.elements i (resized x n) in
+      let m = count-small in
       let x_bytes : AreBytes x = subst AreBytes (part-element h.bytes h.array i read lt) (bytes-part h.bytes (element_at h.array i) (length x) are) in
-      put (with_element_bytes h.array i (resized x n)) (bytes-set h.array.elements i (resized x n) lt (bytes-resized x n x_bytes) joined) size-small (λ short. omega (arith, l, m)) fits legal)
+      put (with_element_bytes h.array i (resized x n)) (bytes-set h.array.elements i (resized x n) lt (bytes-resized x n x_bytes) joined)
+      size-small (λ short. omega (arith, l, m)) fits legal)
 
 -- The edits
 
 pub create-kept : (k : ℕ) → k < 65536 → KeepsChunks (create_array k)
 create-kept k word cs legal passed fits =
-    with_bytes-legal (with_new cs 8) (new_handle cs) (spelled (empty k)) (bytes-spelled (empty k) (All-nil (λ b. b < 256)) (let l = length-empty k in omega (arith, l)) word (omega arith)) (with_new-legal cs 8 legal)
+    with_bytes-legal (with_new cs 8) (new_handle cs) (spelled (empty k))
+    (bytes-spelled (empty k) (All-nil (λ b. b < 256)) (let l = length-empty k in omega (arith, l)) word (omega arith)) (with_new-legal cs 8 legal)
 
 pub append-kept : (c n : ℕ) → KeepsChunks (append_element c n)
 append-kept c n cs legal passed fits =
@@ -229,7 +270,8 @@ append-kept c n cs legal passed fits =
 pub insert-kept : (c i n : ℕ) → KeepsChunks (insert_element c i n)
 insert-kept c i n cs legal passed fits =
     let f = found cs c ((nat_lt (count_of cs c) i, BadElement) ∷ []) passed in
-    let past = ltb-false (count_of cs c) i (none-here (nat_lt (count_of cs c) i) BadElement None f.1).0 in inserted cs c f.0 legal.bytes i n past fits legal
+    let past = ltb-false (count_of cs c) i (none-here (nat_lt (count_of cs c) i) BadElement None f.1).0 in
+    inserted cs c f.0 legal.bytes i n past fits legal
 
 pub remove-kept : (c i : ℕ) → KeepsChunks (remove_element c i)
 remove-kept c i cs legal passed fits = let f = found cs c (is_past cs c i ∷ []) passed in removed cs c f.0 legal.bytes i legal fits
@@ -246,8 +288,10 @@ clear-less c cs bytes passed = let f = found cs c [] passed in cleared-less cs c
 pub resize-kept : (c i n : ℕ) → KeepsChunks (resize_element c i n)
 resize-kept c i n cs legal passed fits =
     let f = found cs c (is_fixed cs c ∷ (is_past cs c i ∷ [])) passed in
-    let size = (array_of cs c).element_size in let m = count_of cs c in
-    let first = none-here (not (size == 0)) BadArray (first_refusal (is_past cs c i ∷ [])) f.1 in let second = none-here (nat_le m i) BadElement None first.1 in
+    let size = (array_of cs c).element_size in
+    let m = count_of cs c in
+    let first = none-here (not (size == 0)) BadArray (first_refusal (is_past cs c i ∷ [])) f.1 in
+    let second = none-here (nat_le m i) BadElement None first.1 in
     resized-array cs c f.0 legal.bytes i n (varies size first.0) (within m i second.0) fits legal
   where
     varies : (k : ℕ) → not (k == 0) ≡ false → k ≡ 0

@@ -38,9 +38,12 @@ pub locked-legal : (block : Block) (n : ℕ) → n ≤ most_locks → IsLegalBlo
 locked-legal block n h legal = record { heap = legal.heap; few = h }
 
 -- a legal block that grows for legal chunks which need no more than a block can have
-pub rechunked-legal : (chunks : List (Option (List ℕ))) (block : Block) → AreChunks chunks → need chunks ≤ most_block_bytes → IsLegalBlock block → IsLegalBlock (rechunked_block chunks block)
+pub rechunked-legal : (chunks : List (Option (List ℕ))) (block : Block) → AreChunks chunks → need chunks ≤ most_block_bytes
+    → IsLegalBlock block → IsLegalBlock (rechunked_block chunks block)
 rechunked-legal chunks block are small legal =
-    let size = block.heap.size in let n = need chunks in let rest = need-sixteens chunks in
+    let size = block.heap.size in
+    let n = need chunks in
+    let rest = need-sixteens chunks in
     let heap : IsLegalHeap (record { chunks = chunks; size = max size n }) = record {
       chunks = are;
       least = sized-least size n legal.heap.least;
@@ -68,8 +71,10 @@ pub if-locked : (block : Option Block) (n : ℕ) → n ≤ most_locks → IfSome
 if-locked None n h legal = tt
 if-locked (Some block) n h legal = locked-legal block n h legal
 
-pub if-rechunked : (f : List (Option (List ℕ)) → List (Option (List ℕ))) (block : Option Block) → (AreChunks (chunks_in block) → AreChunks (f (chunks_in block))) →
-    need (f (chunks_in block)) ≤ most_block_bytes → IfSome block IsLegalBlock → IfSome (option_map (rechunked_block (f (chunks_in block))) block) IsLegalBlock
+pub if-rechunked : (f : List (Option (List ℕ)) → List (Option (List ℕ))) (block : Option Block)
+    → (AreChunks (chunks_in block) → AreChunks (f (chunks_in block))) →
+    need (f (chunks_in block)) ≤ most_block_bytes → IfSome block IsLegalBlock
+    → IfSome (option_map (rechunked_block (f (chunks_in block))) block) IsLegalBlock
 if-rechunked f None keep small legal = tt
 if-rechunked f (Some block) keep small legal = rechunked-legal (f block.heap.chunks) block (keep legal.heap.chunks) small legal
 
@@ -100,7 +105,8 @@ named-legal memory name legal = owned name.owner name.h
     owned Vm h = listed-block (listed_at memory h) (legal.file.cur.blocks h)
 
 -- where each entry has a legal block or none, and the file is legal
-pub memory-legal : (memory : Memory) → length memory.blocks ≡ 1024 → All (λ b. IfSome b IsLegalBlock) memory.blocks → IsFile memory.file → IsMemory memory
+pub memory-legal : (memory : Memory) → length memory.blocks ≡ 1024 → All (λ b. IfSome b IsLegalBlock) memory.blocks
+    → IsFile memory.file → IsMemory memory
 memory-legal memory handles all file = record { handles = handles; blocks = at; file = file }
   where
     entry-legal : (i : ℕ) → IfSome (get_or memory.blocks i None) IsLegalBlock
@@ -116,10 +122,12 @@ memory-legal memory handles all file = record { handles = handles; blocks = at; 
 -- memory without a block
 pub empty-legal : (region : ℕ) → IsMemory (record { blocks = replicate 1024 None; file = empty_file 0; region = region })
 empty-legal region =
-    memory-legal (record { blocks = replicate 1024 None; file = empty_file 0; region = region }) (length-replicate {A = Option Block} 1024 None) (All-replicate (λ b. IfSome b IsLegalBlock) 1024 None tt) (empty_file-legal 0)
+    memory-legal (record { blocks = replicate 1024 None; file = empty_file 0; region = region })
+    (length-replicate {A = Option Block} 1024 None) (All-replicate (λ b. IfSome b IsLegalBlock) 1024 None tt) (empty_file-legal 0)
 
 -- a legal block, or none, put under a handle of global memory
-pub mem_block-legal : (memory : Memory) (h : ℕ) (block : Option Block) → IfSome block IsLegalBlock → IsMemory memory → IsMemory (with_block memory (mem h) block)
+pub mem_block-legal : (memory : Memory) (h : ℕ) (block : Option Block) → IfSome block IsLegalBlock → IsMemory memory
+    → IsMemory (with_block memory (mem h) block)
 mem_block-legal memory h block new legal = record {
   handles = length-with_entry_at memory.blocks h block ∙ legal.handles;
   blocks = λ k. entry-kept (λ b. IfSome b IsLegalBlock) memory.blocks h k block None new (legal.blocks k);
@@ -128,47 +136,60 @@ mem_block-legal memory h block new legal = record {
 
 -- another legal current directory
 pub cur-legal : (memory : Memory) (cur : Directory VmBlock) → IsCurrent cur → IsMemory memory → IsMemory (with_cur memory cur)
-cur-legal memory cur new legal = record { handles = legal.handles; blocks = legal.blocks; file = record { cur = new; saved = legal.file.saved; kept = legal.file.kept } }
+cur-legal memory cur new legal = record {
+  handles = legal.handles;
+  blocks = legal.blocks;
+  file =
+      record { cur = new; saved = legal.file.saved; kept = legal.file.kept };
+}
 
 -- what is listed under a handle, with the same user ID
 pub listed-legal : (memory : Memory) (h : ℕ) (listed : Option VmBlock) → IfSome listed IsLegalListed →
-    option_map (λ (l : VmBlock). l.uid) listed ≡ option_map (λ (l : VmBlock). l.uid) (listed_at memory h) → IsMemory memory → IsMemory (with_listed memory h listed)
+    option_map (λ (l : VmBlock). l.uid) listed ≡ option_map (λ (l : VmBlock). l.uid) (listed_at memory h) → IsMemory memory
+    → IsMemory (with_listed memory h listed)
 listed-legal memory h listed new same legal =
     cur-legal memory (record memory.file.cur { blocks = with_entry_at memory.file.cur.blocks h listed })
     (entry-legal IsLegalListed (λ (l : VmBlock). l.uid) memory.file.cur legal.file.cur h listed new same) legal
 
 -- a block that is listed anew, under a handle where none is
-pub added_listed-legal : (memory : Memory) (h : ℕ) (listed : VmBlock) → IsLegalListed listed → listed_at memory h ≡ None → IsMemory memory → IsMemory (with_listed memory h (Some listed))
+pub added_listed-legal : (memory : Memory) (h : ℕ) (listed : VmBlock) → IsLegalListed listed → listed_at memory h ≡ None
+    → IsMemory memory → IsMemory (with_listed memory h (Some listed))
 added_listed-legal memory h listed new none legal =
     cur-legal memory (record memory.file.cur { blocks = with_entry_at memory.file.cur.blocks h (Some listed) })
     (added-legal IsLegalListed (λ (l : VmBlock). l.uid) memory.file.cur legal.file.cur h listed new none) legal
 
 -- a block in the place of a listed one keeps its user ID
-relisted-legal : (listed : Option VmBlock) (f : Block → Block) → IfSome listed IsLegalListed → IfSome (option_map f (option_map (λ (l : VmBlock). l.block) listed)) IsLegalBlock →
+relisted-legal : (listed : Option VmBlock) (f : Block → Block) → IfSome listed IsLegalListed
+    → IfSome (option_map f (option_map (λ (l : VmBlock). l.block) listed)) IsLegalBlock →
     IfSome (option_map (relisted listed) (option_map f (option_map (λ (l : VmBlock). l.block) listed))) IsLegalListed
 relisted-legal None f legal new = tt
 relisted-legal (Some l) f legal new = record { uid = legal.uid; block = new }
 
 relisted-uid : (listed : Option VmBlock) (f : Block → Block) →
-    option_map (λ (l : VmBlock). l.uid) (option_map (relisted listed) (option_map f (option_map (λ (l : VmBlock). l.block) listed))) ≡ option_map (λ (l : VmBlock). l.uid) listed
+    option_map (λ (l : VmBlock). l.uid) (option_map (relisted listed) (option_map f (option_map (λ (l : VmBlock). l.block) listed))) ≡ option_map
+    (λ (l : VmBlock). l.uid) listed
 relisted-uid None f = refl
 relisted-uid (Some l) f = refl
 
 -- a named block, where there is one, becomes a legal one
-pub mapped-legal : (memory : Memory) (name : Name) (f : Block → Block) → IfSome (option_map f (block_of memory name)) IsLegalBlock → IsMemory memory → IsMemory (with_block memory name (option_map f (block_of memory name)))
+pub mapped-legal : (memory : Memory) (name : Name) (f : Block → Block) → IfSome (option_map f (block_of memory name)) IsLegalBlock
+    → IsMemory memory → IsMemory (with_block memory name (option_map f (block_of memory name)))
 mapped-legal memory name f new legal = owned name.owner name.h new
   where
-    owned : (owner : Owner) (h : ℕ) → IfSome (option_map f (owned_block memory owner h)) IsLegalBlock → IsMemory (with_owned_block memory owner h (option_map f (owned_block memory owner h)))
+    owned : (owner : Owner) (h : ℕ) → IfSome (option_map f (owned_block memory owner h)) IsLegalBlock
+        → IsMemory (with_owned_block memory owner h (option_map f (owned_block memory owner h)))
     owned Mem h new = mem_block-legal memory h (option_map f (at_handle None memory.blocks h)) new legal
     owned Vm h new = listed-legal memory h (option_map (relisted (listed_at memory h)) (option_map f (owned_block memory Vm h)))
         (relisted-legal (listed_at memory h) f (legal.file.cur.blocks h) new) (relisted-uid (listed_at memory h) f) legal
 
 -- another count of locks, which can be
 pub with_locks-legal : (memory : Memory) (name : Name) (n : ℕ) → n ≤ most_locks → IsMemory memory → IsMemory (with_locks memory name n)
-with_locks-legal memory name n h legal = mapped-legal memory name (locked_block n) (if-locked (block_of memory name) n h (named-legal memory name legal)) legal
+with_locks-legal memory name n h legal = mapped-legal memory name (locked_block n)
+    (if-locked (block_of memory name) n h (named-legal memory name legal)) legal
 
 -- other legal chunks, which need no more than a block can have
-pub with_chunks-legal : (f : List (Option (List ℕ)) → List (Option (List ℕ))) (memory : Memory) (name : Name) → (AreChunks (chunks_at memory name) → AreChunks (f (chunks_at memory name))) →
+pub with_chunks-legal : (f : List (Option (List ℕ)) → List (Option (List ℕ))) (memory : Memory) (name : Name)
+    → (AreChunks (chunks_at memory name) → AreChunks (f (chunks_at memory name))) →
     need (f (chunks_at memory name)) ≤ most_block_bytes → IsMemory memory → IsMemory (with_chunks memory name (f (chunks_at memory name)))
 with_chunks-legal f memory name keep small legal =
     let block = block_of memory name in

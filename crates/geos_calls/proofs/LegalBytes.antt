@@ -20,14 +20,16 @@ bytes-with_part [] at ws h w = h
 bytes-with_part (b ∷ bs) zero [] h w = h
 bytes-with_part (b ∷ bs) zero (x ∷ ws) h w =
     All-cons IsByte x (with_part bs zero ws) (All-head IsByte x ws w) (bytes-with_part bs zero ws (All-tail IsByte b bs h) (All-tail IsByte x ws w))
-bytes-with_part (b ∷ bs) (suc at) ws h w = All-cons IsByte b (with_part bs at ws) (All-head IsByte b bs h) (bytes-with_part bs at ws (All-tail IsByte b bs h) w)
+bytes-with_part (b ∷ bs) (suc at) ws h w = All-cons IsByte b (with_part bs at ws) (All-head IsByte b bs h)
+    (bytes-with_part bs at ws (All-tail IsByte b bs h) w)
 
 pub bytes-resized : (bs : List ℕ) (n : ℕ) → AreBytes bs → AreBytes (resized bs n)
 bytes-resized bs n h = All-append IsByte (take n bs) (replicate (n - length bs) 0) (All-take IsByte n bs h) (bytes-zeros (n - length bs))
 
 pub bytes-with_zeros : (bs : List ℕ) (at n : ℕ) → AreBytes bs → AreBytes (with_zeros bs at n)
 bytes-with_zeros bs at n h =
-    All-append IsByte (take at bs) (replicate n 0 ++ drop at bs) (All-take IsByte at bs h) (All-append IsByte (replicate n 0) (drop at bs) (bytes-zeros n) (All-drop IsByte at bs h))
+    All-append IsByte (take at bs) (replicate n 0 ++ drop at bs) (All-take IsByte at bs h)
+    (All-append IsByte (replicate n 0) (drop at bs) (bytes-zeros n) (All-drop IsByte at bs h))
 
 pub bytes-without_part : (bs : List ℕ) (at n : ℕ) → AreBytes bs → AreBytes (without_part bs at n)
 bytes-without_part bs at n h = All-append IsByte (take at bs) (drop (at + n) bs) (All-take IsByte at bs h) (All-drop IsByte (at + n) bs h)

@@ -29,19 +29,24 @@ entry-legal cs i h = elim (cases_lt i (length cs)) [
 
 -- the chunk of a handle has bytes
 pub bytes_of-legal : (cs : List (Option (List ℕ))) (c : ℕ) → All IsChunk cs → AreBytes (bytes_of cs c)
-bytes_of-legal cs c h = chunk-bytes (chunk_of cs c) (chunk-if (nat_le 16 c && (c % 2 == 0)) (get_or cs (entry_of c) None) (entry-legal cs (entry_of c) h))
+bytes_of-legal cs c h = chunk-bytes (chunk_of cs c) (chunk-if (nat_le 16 c && (c % 2 == 0)) (get_or cs (entry_of c) None)
+    (entry-legal cs (entry_of c) h))
 
 -- two entries more
 more-legal : (cs : List (Option (List ℕ))) → AreChunks cs → AreChunks (cs ++ (None ∷ (None ∷ [])))
 more-legal cs h =
     let two : All IsChunk (None ∷ (None ∷ [])) = All-cons IsChunk None (None ∷ []) tt (All-cons IsChunk None [] tt (All-nil IsChunk)) in
-    let pairs = h.pairs in let some = h.some in let len : length (cs ++ (None ∷ (None ∷ []))) ≡ length cs + 2 = length-append cs (None ∷ (None ∷ [])) in
+    let pairs = h.pairs in
+    let some = h.some in
+    let len : length (cs ++ (None ∷ (None ∷ []))) ≡ length cs + 2 = length-append cs (None ∷ (None ∷ [])) in
     record { bytes = All-append IsChunk cs (None ∷ (None ∷ [])) h.bytes two; pairs = omega arith; some = omega arith }
 
 -- something else in an entry
 set-legal : (cs : List (Option (List ℕ))) (i : ℕ) (x : Option (List ℕ)) → IsChunk x → AreChunks cs → AreChunks (set cs i x)
 set-legal cs i x is h =
-    let pairs = h.pairs in let some = h.some in let len = length-set cs i x in
+    let pairs = h.pairs in
+    let some = h.some in
+    let len = length-set cs i x in
     record { bytes = All-set IsChunk cs i x is h.bytes; pairs = omega arith; some = omega arith }
 
 legal-if : (b : Bool) (cs ds : List (Option (List ℕ))) → AreChunks cs → AreChunks ds → AreChunks (if b then cs else ds)
@@ -64,19 +69,24 @@ pub with_resized-legal : (cs : List (Option (List ℕ))) (c n : ℕ) → AreChun
 with_resized-legal cs c n h = with_bytes-legal cs c (resized (bytes_of cs c) n) (bytes-resized (bytes_of cs c) n (bytes_of-legal cs c h.bytes)) h
 
 pub with_inserted-legal : (cs : List (Option (List ℕ))) (c at n : ℕ) → AreChunks cs → AreChunks (with_inserted cs c at n)
-with_inserted-legal cs c at n h = with_bytes-legal cs c (with_zeros (bytes_of cs c) at n) (bytes-with_zeros (bytes_of cs c) at n (bytes_of-legal cs c h.bytes)) h
+with_inserted-legal cs c at n h = with_bytes-legal cs c (with_zeros (bytes_of cs c) at n)
+    (bytes-with_zeros (bytes_of cs c) at n (bytes_of-legal cs c h.bytes)) h
 
 pub with_deleted-legal : (cs : List (Option (List ℕ))) (c at n : ℕ) → AreChunks cs → AreChunks (with_deleted cs c at n)
-with_deleted-legal cs c at n h = with_bytes-legal cs c (without_part (bytes_of cs c) at n) (bytes-without_part (bytes_of cs c) at n (bytes_of-legal cs c h.bytes)) h
+with_deleted-legal cs c at n h = with_bytes-legal cs c (without_part (bytes_of cs c) at n)
+    (bytes-without_part (bytes_of cs c) at n (bytes_of-legal cs c h.bytes)) h
 
-pub with_written-legal : (cs : List (Option (List ℕ))) (c at : ℕ) (ws : List ℕ) → AreBytes ws → AreChunks cs → AreChunks (with_bytes cs c (with_part (bytes_of cs c) at ws))
-with_written-legal cs c at ws are h = with_bytes-legal cs c (with_part (bytes_of cs c) at ws) (bytes-with_part (bytes_of cs c) at ws (bytes_of-legal cs c h.bytes) are) h
+pub with_written-legal : (cs : List (Option (List ℕ))) (c at : ℕ) (ws : List ℕ) → AreBytes ws → AreChunks cs
+    → AreChunks (with_bytes cs c (with_part (bytes_of cs c) at ws))
+with_written-legal cs c at ws are h = with_bytes-legal cs c (with_part (bytes_of cs c) at ws)
+    (bytes-with_part (bytes_of cs c) at ws (bytes_of-legal cs c h.bytes) are) h
 
 -- Edits of chunks
 
 -- an edit that is not refused gives legal chunks, where a block can have room for them
 abbrev pub KeepsChunks : {A : Type 0} → (List (Option (List ℕ)) → Edit A) → Type 0
-KeepsChunks edit = (cs : List (Option (List ℕ))) → AreChunks cs → first_refusal (edit cs).refusals ≡ None → need (edit cs).chunks ≤ 65520 → AreChunks (edit cs).chunks
+KeepsChunks edit = (cs : List (Option (List ℕ))) → AreChunks cs → first_refusal (edit cs).refusals ≡ None
+    → need (edit cs).chunks ≤ 65520 → AreChunks (edit cs).chunks
 
 -- and it needs no more
 abbrev pub NeedsNoMore : {A : Type 0} → (List (Option (List ℕ)) → Edit A) → Type 0

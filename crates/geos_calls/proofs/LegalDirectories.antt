@@ -53,7 +53,8 @@ module _ {B : Type 0} (legal : B → Type 0) (uid : B → ℕ) (directory : Dire
 
   -- nothing is mapped that is not listed
   apart : (P : ℕ → Type 0) (h k : ℕ) → at_handle None directory.blocks h ≡ None → IsSomeAnd (uid_at uid directory k) P → k ≢ h
-  apart P h k none there e = let gone : uid_at uid directory k ≡ None = ap (uid_at uid directory) e ∙ ap (option_map uid) none in subst (λ o. IsSomeAnd o P) gone there
+  apart P h k none there e = let gone : uid_at uid directory k ≡ None = ap (uid_at uid directory) e ∙ ap (option_map uid) none in
+      subst (λ o. IsSomeAnd o P) gone there
 
   -- an entry where there is none
   pub added-legal : (h : ℕ) (b : B) → legal b → at_handle None directory.blocks h ≡ None
@@ -88,12 +89,14 @@ module _ {B : Type 0} (legal : B → Type 0) (uid : B → ℕ) (directory : Dire
       else-where k ne e = absurd (let yes_is = eq-eqb k h e in let both : false ≡ true = sym ne ∙ yes_is in cc)
 
       block : (b : Bool) → (directory.map_block == h) ≡ b → (if b then 0 else directory.map_block) ≢ 0
-          → IsSomeAnd (option_map uid (at_handle None (with_entry_at directory.blocks h None) (if b then 0 else directory.map_block))) (λ u. u ≢ group_uid)
+          → IsSomeAnd (option_map uid (at_handle None (with_entry_at directory.blocks h None) (if b then 0 else directory.map_block)))
+          (λ u. u ≢ group_uid)
       block true e some = absurd (some refl)
       block false e some = listed-else (λ u. u ≢ group_uid) h directory.map_block None (else-where directory.map_block e) (is.maps.map_block some)
 
       group : (b : Bool) → (directory.map_group == h) ≡ b → (if b then 0 else directory.map_group) ≢ 0
-          → IsSomeAnd (option_map uid (at_handle None (with_entry_at directory.blocks h None) (if b then 0 else directory.map_group))) (λ u. u ≡ group_uid)
+          → IsSomeAnd (option_map uid (at_handle None (with_entry_at directory.blocks h None) (if b then 0 else directory.map_group)))
+          (λ u. u ≡ group_uid)
       group true e some = absurd (some refl)
       group false e some = listed-else (λ u. u ≡ group_uid) h directory.map_group None (else-where directory.map_group e) (is.maps.map_group some)
 
@@ -133,10 +136,12 @@ each-legal {A} {B} f of_a of_b uid_a uid_b keeps same directory is = record {
 
 -- the current directory as a commit writes it, and one of the device as it becomes current
 pub written-legal : (directory : Directory VmBlock) → IsCurrent directory → IsStored (with_each kept_block directory)
-written-legal = each-legal kept_block IsLegalListed IsLegalKept (λ (b : VmBlock). b.uid) (λ (b : KeptBlock). b.uid) (λ a legal. record { uid = legal.uid; heap = legal.block.heap }) (λ a. refl)
+written-legal = each-legal kept_block IsLegalListed IsLegalKept (λ (b : VmBlock). b.uid) (λ (b : KeptBlock). b.uid)
+    (λ a legal. record { uid = legal.uid; heap = legal.block.heap }) (λ a. refl)
 
 pub loaded-legal : (directory : Directory KeptBlock) → IsStored directory → IsCurrent (with_each idle_block directory)
-loaded-legal = each-legal idle_block IsLegalKept IsLegalListed (λ (b : KeptBlock). b.uid) (λ (b : VmBlock). b.uid) (λ a legal. record { uid = legal.uid; block = record { heap = legal.heap; few = omega arith } }) (λ a. refl)
+loaded-legal = each-legal idle_block IsLegalKept IsLegalListed (λ (b : KeptBlock). b.uid) (λ (b : VmBlock). b.uid)
+    (λ a legal. record { uid = legal.uid; block = record { heap = legal.heap; few = omega arith } }) (λ a. refl)
 
 -- it may be another legal pair that the device holds
 pub doubted-legal : (kept : Kept) (new : Pair) → ArePairs kept → IsPair new → ArePairs (doubted kept new)

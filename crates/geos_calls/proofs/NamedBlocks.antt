@@ -14,12 +14,15 @@ use Rattle.geos_calls.proofs.HandleLists.{entry-told}
 -- Entries
 
 -- an entry that was changed, where there is one
-pub entry-mapped : {X : Type 0} (f : X → X) (xs : List (Option X)) (h : ℕ) → at_handle None (with_entry_at xs h (option_map f (at_handle None xs h))) h ≡ option_map f (at_handle None xs h)
+pub entry-mapped : {X : Type 0} (f : X → X) (xs : List (Option X)) (h : ℕ)
+    → at_handle None (with_entry_at xs h (option_map f (at_handle None xs h))) h ≡ option_map f (at_handle None xs h)
 entry-mapped f xs zero = refl
 entry-mapped f xs (suc h) = elim (cases_lt h (length xs)) [
   | inl l ↦ get_or-set_same xs h (option_map f (get_or xs h None)) None l
   | inr l ↦ (
-      let past : get_or (set xs h (option_map f (get_or xs h None))) h None ≡ None = get_or_past (set xs h (option_map f (get_or xs h None))) h None (let long = length-set xs h (option_map f (get_or xs h None)) in omega (arith, l, long)) in
+      let past : get_or (set xs h (option_map f (get_or xs h None))) h None ≡ None =
+      get_or_past (set xs h (option_map f (get_or xs h None))) h None (let long = length-set xs h (option_map f (get_or xs h None)) in
+      omega (arith, l, long)) in
       let none : option_map f (get_or xs h None) ≡ None = rw (get_or_past xs h None l) refl in
       past ∙ sym none
       )
@@ -41,25 +44,30 @@ block_in_file listed = listed.block
 abbrev pub changed_in : (Block → Block) → VmBlock → VmBlock
 changed_in f listed = record listed { block = f listed.block }
 
-pub relisted-changed : (f : Block → Block) (listed : Option VmBlock) → option_map (relisted listed) (option_map f (option_map block_in_file listed)) ≡ option_map (changed_in f) listed
+pub relisted-changed : (f : Block → Block) (listed : Option VmBlock)
+    → option_map (relisted listed) (option_map f (option_map block_in_file listed)) ≡ option_map (changed_in f) listed
 relisted-changed f None = refl
 relisted-changed f (Some l) = refl
 
-block-changed : (f : Block → Block) (listed : Option VmBlock) → option_map block_in_file (option_map (changed_in f) listed) ≡ option_map f (option_map block_in_file listed)
+block-changed : (f : Block → Block) (listed : Option VmBlock)
+    → option_map block_in_file (option_map (changed_in f) listed) ≡ option_map f (option_map block_in_file listed)
 block-changed f None = refl
 block-changed f (Some l) = refl
 
 -- Blocks of names
 
-owned-mapped : (m : Memory) (f : Block → Block) (o : Owner) (h : ℕ) → owned_block (with_owned_block m o h (option_map f (owned_block m o h))) o h ≡ option_map f (owned_block m o h)
+owned-mapped : (m : Memory) (f : Block → Block) (o : Owner) (h : ℕ)
+    → owned_block (with_owned_block m o h (option_map f (owned_block m o h))) o h ≡ option_map f (owned_block m o h)
 owned-mapped m f Mem h = entry-mapped f m.blocks h
 owned-mapped m f Vm h =
     let entries = m.file.cur.blocks in
-    ap (λ e. option_map block_in_file (at_handle None (with_entry_at entries h e) h)) (relisted-changed f (listed_at m h)) ∙ ap (option_map block_in_file) (entry-mapped (changed_in f) entries h)
+    ap (λ e. option_map block_in_file (at_handle None (with_entry_at entries h e) h)) (relisted-changed f (listed_at m h))
+    ∙ ap (option_map block_in_file) (entry-mapped (changed_in f) entries h)
     ∙ block-changed f (listed_at m h)
 
 -- a block that was changed, where there is one
-pub block_of-mapped : (m : Memory) (f : Block → Block) (name : Name) → block_of (with_block m name (option_map f (block_of m name))) name ≡ option_map f (block_of m name)
+pub block_of-mapped : (m : Memory) (f : Block → Block) (name : Name)
+    → block_of (with_block m name (option_map f (block_of m name))) name ≡ option_map f (block_of m name)
 block_of-mapped m f name = owned-mapped m f name.owner name.h
 
 owned-gone : (m : Memory) (o : Owner) (h : ℕ) → owned_block (with_owned_block m o h None) o h ≡ None
@@ -72,14 +80,18 @@ block_of-gone m name = owned-gone m name.owner name.h
 
 -- what is told of every block is told after one was changed of which the same is told
 module _ {X : Type 0} (g : Option Block → X) (m : Memory) (f : Block → Block) (same : (b : Option Block) → g (option_map f b) ≡ g b) where
-  listed-told : (listed : Option VmBlock) → g (option_map block_in_file (option_map (relisted listed) (option_map f (option_map block_in_file listed)))) ≡ g (option_map block_in_file listed)
-  listed-told listed = ap (λ e. g (option_map block_in_file e)) (relisted-changed f listed) ∙ ap g (block-changed f listed) ∙ same (option_map block_in_file listed)
+  listed-told : (listed : Option VmBlock)
+      → g (option_map block_in_file (option_map (relisted listed) (option_map f (option_map block_in_file listed)))) ≡ g
+      (option_map block_in_file listed)
+  listed-told listed = ap (λ e. g (option_map block_in_file e)) (relisted-changed f listed) ∙ ap g (block-changed f listed)
+      ∙ same (option_map block_in_file listed)
 
   owned-told : (o q : Owner) (h k : ℕ) → g (owned_block (with_owned_block m o h (option_map f (owned_block m o h))) q k) ≡ g (owned_block m q k)
   owned-told Mem Mem h k = entry-told g m.blocks h k (option_map f (at_handle None m.blocks h)) None (same (at_handle None m.blocks h))
   owned-told Mem Vm h k = refl
   owned-told Vm Mem h k = refl
-  owned-told Vm Vm h k = entry-told (λ e. g (option_map block_in_file e)) m.file.cur.blocks h k (option_map (relisted (listed_at m h)) (option_map f (owned_block m Vm h))) None (listed-told (listed_at m h))
+  owned-told Vm Vm h k = entry-told (λ e. g (option_map block_in_file e)) m.file.cur.blocks h k
+      (option_map (relisted (listed_at m h)) (option_map f (owned_block m Vm h))) None (listed-told (listed_at m h))
 
   pub told-mapped : (name other : Name) → g (block_of (with_block m name (option_map f (block_of m name))) other) ≡ g (block_of m other)
   told-mapped name other = owned-told name.owner other.owner name.h other.h
@@ -105,17 +117,20 @@ marked-relisted : (f : Block → Block) (listed : Option VmBlock) → is_marked_
 marked-relisted f None = refl
 marked-relisted f (Some l) = refl
 
-owned-marks : (m : Memory) (f : Block → Block) (o : Owner) (h k : ℕ) → is_marked (with_owned_block m o h (option_map f (owned_block m o h))) k ≡ is_marked m k
+owned-marks : (m : Memory) (f : Block → Block) (o : Owner) (h k : ℕ)
+    → is_marked (with_owned_block m o h (option_map f (owned_block m o h))) k ≡ is_marked m k
 owned-marks m f Mem h k = refl
 owned-marks m f Vm h k =
     entry-told is_marked_in m.file.cur.blocks h k (option_map (relisted (listed_at m h)) (option_map f (owned_block m Vm h))) None
     (ap is_marked_in (relisted-changed f (listed_at m h)) ∙ marked-relisted f (listed_at m h))
 
 -- a block that is changed keeps its mark
-pub marks-mapped : (m : Memory) (f : Block → Block) (name : Name) (k : ℕ) → is_marked (with_block m name (option_map f (block_of m name))) k ≡ is_marked m k
+pub marks-mapped : (m : Memory) (f : Block → Block) (name : Name) (k : ℕ)
+    → is_marked (with_block m name (option_map f (block_of m name))) k ≡ is_marked m k
 marks-mapped m f name k = owned-marks m f name.owner name.h k
 
-locks-marked : (marked : Bool) (listed : Option VmBlock) → locks_in (option_map block_in_file (option_map (marked_block marked) listed)) ≡ locks_in (option_map block_in_file listed)
+locks-marked : (marked : Bool) (listed : Option VmBlock)
+    → locks_in (option_map block_in_file (option_map (marked_block marked) listed)) ≡ locks_in (option_map block_in_file listed)
 locks-marked marked None = refl
 locks-marked marked (Some l) = refl
 
@@ -125,7 +140,8 @@ locks_of-mark m h marked other = owned other.owner other.h
   where
     owned : (q : Owner) (k : ℕ) → locks_in (owned_block (with_mark m h marked) q k) ≡ locks_in (owned_block m q k)
     owned Mem k = refl
-    owned Vm k = entry-told (λ e. locks_in (option_map block_in_file e)) m.file.cur.blocks h k (option_map (marked_block marked) (listed_at m h)) None (locks-marked marked (listed_at m h))
+    owned Vm k = entry-told (λ e. locks_in (option_map block_in_file e)) m.file.cur.blocks h k
+        (option_map (marked_block marked) (listed_at m h)) None (locks-marked marked (listed_at m h))
 
 is-marked : (marked : Bool) (listed : Option VmBlock) → is_none listed ≡ false → is_marked_in (option_map (marked_block marked) listed) ≡ marked
 is-marked marked None h = absurd (let x : true ≡ false = h in cc)
@@ -140,7 +156,9 @@ some-relisted : (f : Block → Block) (listed : Option VmBlock) → is_none (opt
 some-relisted f None = refl
 some-relisted f (Some l) = refl
 
-pub still-listed : (m : Memory) (h : ℕ) (f : Block → Block) → is_none (listed_at m h) ≡ false → is_none (listed_at (with_block m (vm h) (option_map f (block_of m (vm h)))) h) ≡ false
+pub still-listed : (m : Memory) (h : ℕ) (f : Block → Block) → is_none (listed_at m h) ≡ false
+    → is_none (listed_at (with_block m (vm h) (option_map f (block_of m (vm h)))) h) ≡ false
 still-listed m h f there =
     let entries = m.file.cur.blocks in
-    entry-told is_none entries h h (option_map (relisted (listed_at m h)) (option_map f (option_map block_in_file (listed_at m h)))) None (ap is_none (relisted-changed f (listed_at m h)) ∙ some-relisted f (listed_at m h)) ∙ there
+    entry-told is_none entries h h (option_map (relisted (listed_at m h)) (option_map f (option_map block_in_file (listed_at m h)))) None
+    (ap is_none (relisted-changed f (listed_at m h)) ∙ some-relisted f (listed_at m h)) ∙ there

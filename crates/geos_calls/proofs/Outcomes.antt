@@ -13,7 +13,8 @@ come_to-kept None left answer after refused done = done refl
 come_to-kept (Some r) left answer after refused done = refused r
 
 -- a call leaves memory legal where each refusal does, and where it does when no refusal comes
-pub outcome-kept : {A : Type 0} (effect : Effect A) → ((r : Refusal) → IsMemory (effect.left r)) → (first_refusal effect.refusals ≡ None → IsMemory effect.after) → IsMemory (outcome effect).1
+pub outcome-kept : {A : Type 0} (effect : Effect A) → ((r : Refusal) → IsMemory (effect.left r))
+    → (first_refusal effect.refusals ≡ None → IsMemory effect.after) → IsMemory (outcome effect).1
 outcome-kept effect refused done = come_to-kept (first_refusal effect.refusals) effect.left effect.answer effect.after refused done
 
 -- where no refusal comes, what a call leaves is memory after it

@@ -5,7 +5,8 @@ use Rattle.geos_terms.specs.Refusals.{first_refusal}
 use Rattle.geos_terms.specs.declared.refusal.Refusal.{Refusal}
 
 -- the first test fails, and of the others none comes
-pub none-here : {R : Type 0} (test : Bool) (refusal : R) (rest : Option R) → (if test then Some refusal else rest) ≡ None → (test ≡ false) × (rest ≡ None)
+pub none-here : {R : Type 0} (test : Bool) (refusal : R) (rest : Option R) → (if test then Some refusal else rest) ≡ None
+    → (test ≡ false) × (rest ≡ None)
 none-here true refusal rest h = absurd (let x : Some refusal ≡ None = h in cc)
 none-here false refusal rest h = (refl, h)
 

@@ -214,7 +214,8 @@ pub record SameFile (old new : Memory) : Type 0 where
 -- what a refusal leaves: memory as it was; or, of a commit whose device has failed late, memory
 -- as it was but that the device may hold the pair to be kept, too
 abbrev pub IsLeft : KernelCall → Choice → Refusal → Memory → Memory → Type 0
-IsLeft call choice why old new = (new ≡ old) ⊎ ((why ≡ Disk) × (choice.unsure ≡ true) × IsSomeAnd (keeper_of call) (λ keeper. new ≡ in_doubt old (pair_to_keep keeper old)))
+IsLeft call choice why old new = (new ≡ old) ⊎ ((why ≡ Disk) × (choice.unsure ≡ true)
+    × IsSomeAnd (keeper_of call) (λ keeper. new ≡ in_doubt old (pair_to_keep keeper old)))
 
 -- of each row, on whatever memory and under whatever choice: what a refusal leaves; which
 -- references it makes stale; that it leaves every block that it is not on, and what of the file,
@@ -223,15 +224,23 @@ IsLeft call choice why old new = (new ≡ old) ⊎ ((why ≡ Disk) × (choice.un
 -- changes nothing; and what is given leaves counts and marks, each block that is locked, and the
 -- file beside its blocks
 pub record RowsLeave : Type 0 where
-  pub refused : (call : KernelCall) (choice : Choice) (memory : Memory) (why : Refusal) → IsLeft call choice why memory ((row call choice memory).left why)
+  pub refused : (call : KernelCall) (choice : Choice) (memory : Memory) (why : Refusal)
+      → IsLeft call choice why memory ((row call choice memory).left why)
   pub stale : (call : KernelCall) (choice : Choice) (memory : Memory) → (row call choice memory).stale ≡ stale_of call memory
-  pub others : (call : KernelCall) (choice : Choice) (memory : Memory) → LeavesOthers (scope_of call memory) memory (outcome (row call choice memory)).1
+  pub others : (call : KernelCall) (choice : Choice) (memory : Memory) → LeavesOthers (scope_of call memory) memory
+      (outcome (row call choice memory)).1
   pub file : (call : KernelCall) (choice : Choice) (memory : Memory) → LeavesFile call memory (outcome (row call choice memory)).1
-  pub counts : (call : KernelCall) (choice : Choice) (memory : Memory) → IsAskable call memory → first_refusal (row call choice memory).refusals ≡ None → HasCounts (counts_of call memory) memory (row call choice memory).after
-  pub marks : (call : KernelCall) (choice : Choice) (memory : Memory) → IsAskable call memory → first_refusal (row call choice memory).refusals ≡ None → HasMarks (marks_of call memory) memory (row call choice memory).after
-  pub written : (call : KernelCall) (choice : Choice) (memory : Memory) → Writes call → IsAskable call memory → (h : ℕ) → listed_at (row call choice memory).after h ≡ option_map (marked_block false) (listed_at memory h)
+  pub counts : (call : KernelCall) (choice : Choice) (memory : Memory) → IsAskable call memory
+      → first_refusal (row call choice memory).refusals ≡ None → HasCounts (counts_of call memory) memory (row call choice memory).after
+  pub marks : (call : KernelCall) (choice : Choice) (memory : Memory) → IsAskable call memory
+      → first_refusal (row call choice memory).refusals ≡ None → HasMarks (marks_of call memory) memory (row call choice memory).after
+  pub written : (call : KernelCall) (choice : Choice) (memory : Memory) → Writes call → IsAskable call memory → (h : ℕ)
+      → listed_at (row call choice memory).after h ≡ option_map (marked_block false) (listed_at memory h)
   pub brought : (h : ℕ) (choice : Choice) (memory : Memory) → choice.given ≡ [] → (outcome (effect_of (bring h) choice memory)).1 ≡ memory
-  pub given_counts : (given : List (Option (List (Option (List ℕ))))) (memory : Memory) (name : Name) → locks_of (given_memory given memory) name ≡ locks_of memory name
-  pub given_marks : (given : List (Option (List (Option (List ℕ))))) (memory : Memory) (h : ℕ) → is_marked (given_memory given memory) h ≡ is_marked memory h
-  pub given_locked : (given : List (Option (List (Option (List ℕ))))) (memory : Memory) (name : Name) → 0 < locks_of memory name → block_of (given_memory given memory) name ≡ block_of memory name
+  pub given_counts : (given : List (Option (List (Option (List ℕ))))) (memory : Memory) (name : Name)
+      → locks_of (given_memory given memory) name ≡ locks_of memory name
+  pub given_marks : (given : List (Option (List (Option (List ℕ))))) (memory : Memory) (h : ℕ)
+      → is_marked (given_memory given memory) h ≡ is_marked memory h
+  pub given_locked : (given : List (Option (List (Option (List ℕ))))) (memory : Memory) (name : Name) → 0 < locks_of memory name
+      → block_of (given_memory given memory) name ≡ block_of memory name
   pub given_file : (given : List (Option (List (Option (List ℕ))))) (memory : Memory) → SameFile memory (given_memory given memory)

@@ -52,7 +52,8 @@ vnew uid = makes_listed (is_reserved uid ∷ []) uid 1
 
 -- locks a block or group once more, which brings it into memory, with these refusals in front
 abbrev pub locks_listed : List (Bool × Refusal) → ℕ → Call (Unit {0})
-locks_listed front h choice memory = does memory (front ++ (locks_full memory (vm h) ∷ bringing choice memory h)) (with_locks memory (vm h) (locks_of memory (vm h) + 1))
+locks_listed front h choice memory = does memory (front ++ (locks_full memory (vm h) ∷ bringing choice memory h))
+    (with_locks memory (vm h) (locks_of memory (vm h) + 1))
 
 -- locks a block or group: below the kernel, where a group is a block as any other
 abbrev pub lock_listed : ℕ → Call (Unit {0})
@@ -117,7 +118,8 @@ vgetmap choice memory = tells memory memory.file.cur.map_block
 -- names the map block; 0 is for none
 abbrev pub vsetmap : ℕ → Call (Unit {0})
 vsetmap h choice memory =
-    does memory ((not (h == 0) && is_none (listed_at memory h), refusal.BadHandle) ∷ names_group memory h ∷ []) (with_cur memory (record memory.file.cur { map_block = h }))
+    does memory ((not (h == 0) && is_none (listed_at memory h), refusal.BadHandle) ∷ names_group memory h ∷ [])
+    (with_cur memory (record memory.file.cur { map_block = h }))
 
 -- The file
 

@@ -32,7 +32,8 @@ some-step : (es : List (Option (List ℕ))) (n c : ℕ) (bytes : List ℕ) → g
 some-step [] zero c bytes some = absurd cc
 some-step [] (suc n) c bytes some = absurd cc
 some-step (None ∷ es) zero c bytes some = absurd cc
-some-step (Some first ∷ es) zero c bytes some = (let same : first ≡ bytes = cc in ap (λ (b : List ℕ). let k : Chunk = record { c = c; bytes = b } in k ∷ chunks_from (c + 2) es) same)
+some-step (Some first ∷ es) zero c bytes some = (let same : first ≡ bytes = cc in
+    ap (λ (b : List ℕ). let k : Chunk = record { c = c; bytes = b } in k ∷ chunks_from (c + 2) es) same)
 some-step (x ∷ es) (suc n) c bytes some = some-step es n c bytes some
 
 no-rest : (es : List (Option (List ℕ))) (n c : ℕ) → ((i : ℕ) → n ≤ i → get_or es i None ≡ None) → chunks_from c (drop n es) ≡ []
@@ -44,7 +45,8 @@ no-rest (x ∷ es) (suc n) c none = no-rest es n c (λ i le. none (suc i) (omega
 
 skip : (es : List (Option (List ℕ))) (n d m c e : ℕ) → n + d ≡ m → c + 2 * d ≡ e → ((i : ℕ) → n ≤ i → i < m → get_or es i None ≡ None) →
     chunks_from c (drop n es) ≡ chunks_from e (drop m es)
-skip es n zero m c e to on none = (let k : n ≡ m = omega (arith, to) in let h : c ≡ e = omega (arith, on) in ap (λ i. chunks_from c (drop i es)) k ∙ ap (λ i. chunks_from i (drop m es)) h)
+skip es n zero m c e to on none = (let k : n ≡ m = omega (arith, to) in let h : c ≡ e = omega (arith, on) in
+    ap (λ i. chunks_from c (drop i es)) k ∙ ap (λ i. chunks_from i (drop m es)) h)
 skip es n (suc d) m c e to on none =
     none-step es n c (none n (omega arith) (omega (arith, to)))
     ∙ skip es (suc n) d m (c + 2) e (omega (arith, to)) (omega (arith, on)) (λ i le lt. none i (omega (arith, le)) lt)
@@ -52,7 +54,8 @@ skip es n (suc d) m c e to on none =
 -- an entry's chunk, by its handle
 at-handle : (es : List (Option (List ℕ))) (i c : ℕ) → c ≡ 16 + 2 * i → chunk_of es c ≡ None → get_or es i None ≡ None
 at-handle es i c is none =
-    let t : (nat_le 16 c && (c % 2 == 0)) ≡ true = and_from (nat_le 16 c) (c % 2 == 0) (le-leb 16 c (omega (arith, is))) (eq-eqb (c % 2) 0 (omega (arith, is))) in
+    let t : (nat_le 16 c && (c % 2 == 0)) ≡ true = and_from (nat_le 16 c) (c % 2 == 0) (le-leb 16 c (omega (arith, is)))
+    (eq-eqb (c % 2) 0 (omega (arith, is))) in
     let e : entry_of c ≡ i = omega (arith, is) in
     let here : get_or es (entry_of c) None ≡ None = rw t at none in
     ap (λ k. get_or es k None) (sym e) ∙ here
@@ -78,27 +81,32 @@ chunked es c some = by (chunk_of es c) refl some
 pub chunks-next : (es : List (Option (List ℕ))) (last c : ℕ) → IsNext es last c →
     chunks_after es last ≡ record { c = c; bytes = bytes_of es c } ∷ chunks_after es c
 chunks-next es last c next =
-    let m = entry_of c in let n = passed last in
+    let m = entry_of c in
+    let n = passed last in
     let there = chunked es c next.1 in
-    let is = there.is in let above = next.0 in
+    let is = there.is in
+    let above = next.0 in
     let to : n + (m - n) ≡ m = omega (arith, is, above) in
     let on : 16 + 2 * n + 2 * (m - n) ≡ c = omega (arith, is, above) in
     let behind : passed c ≡ suc m = omega (arith, is) in
     let handle : c + 2 ≡ 16 + 2 * passed c = omega (arith, is) in
-    skip es n (m - n) m (16 + 2 * n) c to on (λ i from below. at-handle es i (16 + 2 * i) refl (next.2 (16 + 2 * i) (omega (arith, from)) (omega (arith, below, is))))
+    skip es n (m - n) m (16 + 2 * n) c to on
+    (λ i from below. at-handle es i (16 + 2 * i) refl (next.2 (16 + 2 * i) (omega (arith, from)) (omega (arith, below, is))))
     ∙ some-step es m c (bytes_of es c) there.item
     ∙ ap (λ (ks : List Chunk). let k : Chunk = record { c = c; bytes = bytes_of es c } in k ∷ ks)
     (ap (λ i. chunks_from i (drop (suc m) es)) handle ∙ ap (λ i. chunks_from (16 + 2 * passed c) (drop i es)) (sym behind))
 
 -- no chunk is behind the last one
 pub chunks-done : (es : List (Option (List ℕ))) (last : ℕ) → IsLast es last → chunks_after es last ≡ []
-chunks-done es last is = no-rest es (passed last) (16 + 2 * passed last) (λ i from. at-handle es i (16 + 2 * i) refl (is (16 + 2 * i) (omega (arith, from))))
+chunks-done es last is = no-rest es (passed last) (16 + 2 * passed last)
+    (λ i from. at-handle es i (16 + 2 * i) refl (is (16 + 2 * i) (omega (arith, from))))
 
 -- what is told of the chunks up to a handle was written, and the others are to come
 abbrev pub HasTold : (Chunk → List ℕ) → List (Option (List ℕ)) → List ℕ → ℕ → List ℕ → Type 0
 HasTold f es start last now = now ++ flat_map f (chunks_after es last) ≡ start ++ flat_map f (chunks_from 16 es)
 
-pub told-next : (f : Chunk → List ℕ) (es : List (Option (List ℕ))) (start now new : List ℕ) (last c : ℕ) (bytes : List ℕ) → HasTold f es start last now → IsNext es last c →
+pub told-next : (f : Chunk → List ℕ) (es : List (Option (List ℕ))) (start now new : List ℕ) (last c : ℕ) (bytes : List ℕ)
+    → HasTold f es start last now → IsNext es last c →
     bytes ≡ bytes_of es c → new ≡ now ++ f (record { c = c; bytes = bytes }) → HasTold f es start c new
 told-next f es start now new last c bytes told next is written =
     let at : List ℕ → Chunk = λ (b : List ℕ). record { c = c; bytes = b } in

@@ -21,7 +21,8 @@ get-listed (b ∷ bs) (suc i) e lt = get-listed bs i e (omega (arith, lt))
 -- each has a handle above the one that they are behind
 above : (bs : List Block) (last i : ℕ) → are_entries last (map entry_of bs) ≡ true → i < length bs → last < (get_or bs i no_block).h
 above [] last i legal lt = absurd (omega (arith, lt))
-above (b ∷ bs) last zero legal lt = (let s = both (is_entry last (entry_of b)) (are_entries b.h (map entry_of bs)) legal in (behind_from last (entry_of b) s.0).above)
+above (b ∷ bs) last zero legal lt = (let s = both (is_entry last (entry_of b)) (are_entries b.h (map entry_of bs)) legal in
+    (behind_from last (entry_of b) s.0).above)
 above (b ∷ bs) last (suc i) legal lt =
     (let s = both (is_entry last (entry_of b)) (are_entries b.h (map entry_of bs)) legal in
     let here = (behind_from last (entry_of b) s.0).above in
@@ -49,7 +50,8 @@ find-at (b ∷ bs) last (suc i) legal lt =
     let x = get_or bs i no_block in
     let there = above bs b.h i s.1 (omega (arith, lt)) in
     let other : b.h ≢ x.h = (λ q. omega (arith, there, q)) in
-    ap (λ t. cond t (Some (entry_of b)) (find (λ e. eqb e.h x.h) (map entry_of bs))) (ne_eqb b.h x.h other) ∙ find-at bs b.h i s.1 (omega (arith, lt)))
+    ap (λ t. cond t (Some (entry_of b)) (find (λ e. eqb e.h x.h) (map entry_of bs))) (ne_eqb b.h x.h other)
+    ∙ find-at bs b.h i s.1 (omega (arith, lt)))
 
 -- the entry at a place of a legal directory
 pub entry-of : (d : Directory) (bs : List Block) (i : ℕ) (e x : Entry) → map entry_of bs ≡ d.entries.items → is_directory d ≡ true → i < length bs →

@@ -24,7 +24,8 @@ module _ {D : Type 0} (medium : Medium D) where
   }
 
 -- a call behind others of which no failure was counted
-pub causes_then : {X : Type 0} (H K : Type 0) (before mid now : ℕ) (result : Result X DumpError) → mid ≡ before → (H → K) → Causes K mid now result → Causes H before now result
+pub causes_then : {X : Type 0} (H K : Type 0) (before mid now : ℕ) (result : Result X DumpError) → mid ≡ before
+    → (H → K) → Causes K mid now result → Causes H before now result
 causes_then H K before mid now (Ok x) same so cause = cause ∙ same
 causes_then H K before mid now (Err Disk) same so cause = (λ h. subst (λ n. Rose n now) same (cause (so h)))
 causes_then H K before mid now (Err Memory) same so cause = cause ∙ same
@@ -43,8 +44,10 @@ causes_error {X} H K before mid now e (Err f) same so is cause =
     by Memory cause = cause ∙ same
 
 -- where nothing was written but an error is handed on, behind others of which no failure was counted
-pub tells_error : {D : Type 0} (medium : Medium D) (telling : Telling) (told other : Detail → Pair → List ℕ) (old mid new : FileState D) (before between after : List ℕ) (e : DumpError)
-    (result : Result (Unit {0}) DumpError) → IsOnlyRead medium old mid → medium.failed mid.device ≡ medium.failed old.device → IsErrAnd result (λ f. f ≡ e)
+pub tells_error : {D : Type 0} (medium : Medium D) (telling : Telling) (told other : Detail → Pair → List ℕ)
+    (old mid new : FileState D) (before between after : List ℕ) (e : DumpError)
+    (result : Result (Unit {0}) DumpError) → IsOnlyRead medium old mid → medium.failed mid.device ≡ medium.failed old.device
+    → IsErrAnd result (λ f. f ≡ e)
     → IsTold medium telling other mid new between after (Err e) → IsTold medium telling told old new before after result
 tells_error medium telling told other old mid new before between after e (Ok x) looks count is error = absurd is
 tells_error medium telling told other old mid new before between after e (Err f) looks count is error = record {

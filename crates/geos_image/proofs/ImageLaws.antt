@@ -59,7 +59,8 @@ header_found bytes fits head h =
     let takes-version = subst (λ (k : ℕ). Takes bytes 4 (word k) 6) known_is (word_found bytes fits 4 6 number refl read-version) in
     let takes-count = word_found bytes fits 6 8 count refl read-count in
     let read : Bool × ℕ = (number == 2, count) in
-    subst (λ (x : Bool × ℕ). Takes bytes 0 (header x.0 x.1) 8) (ok_is read head h) (Takes-then (Takes-then takes-magic takes-version) takes-count))))))
+    subst (λ (x : Bool × ℕ). Takes bytes 0 (header x.0 x.1) 8) (ok_is read head h)
+    (Takes-then (Takes-then takes-magic takes-version) takes-count))))))
 
 -- the instructions of points, spelled
 instrs_text : (points : List Point) → flat_map instr (instrs_of points) ≡ flat_map (λ (point : Point). instr point.instr) points
@@ -74,7 +75,8 @@ record RestFound (bytes : List ℕ) (keyed : Bool) (routines : List Routine) (in
   pub takes : Takes bytes at (rest image.keyed image.points) end
   pub ends : length bytes ≡ end
 
-whole_found : (bytes : List ℕ) → IsBytes bytes → (routines : List Routine) (instrs : List Instr) (at : ℕ) (image : Parts) → whole_at bytes routines instrs at ≡ Ok image → RestFound bytes false routines instrs at image
+whole_found : (bytes : List ℕ) → IsBytes bytes → (routines : List Routine) (instrs : List Instr) (at : ℕ) (image : Parts)
+    → whole_at bytes routines instrs at ≡ Ok image → RestFound bytes false routines instrs at image
 unfolding whole_at
 whole_found bytes fits routines instrs at image h =
     let end = at + 58 * length instrs in
@@ -82,9 +84,19 @@ whole_found bytes fits routines instrs at image h =
     after (guard end (length bytes == end)) _ image h (λ ended tested h.
     let read : Parts = record { keyed = false; routines = routines; points = points } in
     let found = points_found bytes fits instrs at end points refl read-points in
-    subst (RestFound bytes false routines instrs at) (ok_is read image h) (record { keyed_is = refl; routines_are = refl; instrs_are = found.1; end = end; takes = found.0; ends = eqb-true _ _ (guard_ok end _ ended tested) })))
+    subst (RestFound bytes false routines instrs at) (ok_is read image h)
+    (record {
+      keyed_is = refl;
+      routines_are = refl;
+      instrs_are = found.1;
+      end = end;
+      takes = found.0;
+      ends =
+          eqb-true _ _ (guard_ok end _ ended tested);
+    })))
 
-keyed_found : (bytes : List ℕ) → IsBytes bytes → (routines : List Routine) (instrs : List Instr) (at : ℕ) (image : Parts) → keyed_at bytes routines instrs at ≡ Ok image → RestFound bytes true routines instrs at image
+keyed_found : (bytes : List ℕ) → IsBytes bytes → (routines : List Routine) (instrs : List Instr) (at : ℕ) (image : Parts)
+    → keyed_at bytes routines instrs at ≡ Ok image → RestFound bytes true routines instrs at image
 unfolding keyed_at
 keyed_found bytes fits routines instrs at image h =
     let flags = key_flags routines instrs in
@@ -109,13 +121,16 @@ keyed_found bytes fits routines instrs at image h =
       ends = eqb-true _ _ (guard_ok end _ ended tested);
     }))))
 
-rest_found : (keyed : Bool) (bytes : List ℕ) → IsBytes bytes → (routines : List Routine) (instrs : List Instr) (at : ℕ) (image : Parts) → rest_at keyed bytes routines instrs at ≡ Ok image → RestFound bytes keyed routines instrs at image
+rest_found : (keyed : Bool) (bytes : List ℕ) → IsBytes bytes → (routines : List Routine) (instrs : List Instr) (at : ℕ) (image : Parts)
+    → rest_at keyed bytes routines instrs at ≡ Ok image → RestFound bytes keyed routines instrs at image
 rest_found false = whole_found
 rest_found true = keyed_found
 
 -- bytes that hold the parts of an image and no more are its spelling
-whole : (bytes : List ℕ) (image : Parts) (code entries end : ℕ) → Takes bytes 0 (header image.keyed (length image.routines)) 8 → Takes bytes 8 (flat_map routine image.routines) code
-    → Takes bytes code (flat_map instr (instrs_of image.points)) entries → Takes bytes entries (rest image.keyed image.points) end → length bytes ≡ end → bytes ≡ spelling image
+whole : (bytes : List ℕ) (image : Parts) (code entries end : ℕ) → Takes bytes 0 (header image.keyed (length image.routines)) 8
+    → Takes bytes 8 (flat_map routine image.routines) code
+    → Takes bytes code (flat_map instr (instrs_of image.points)) entries → Takes bytes entries (rest image.keyed image.points) end
+    → length bytes ≡ end → bytes ≡ spelling image
 whole bytes image code entries end p q r s e =
     let all = Takes-then (Takes-then (Takes-then p q) (subst (λ (t : List ℕ). Takes bytes code t entries) (instrs_text image.points) r)) s in
     all.parts ∙ ap (λ (t : List ℕ). spelling image ++ t) (drop_all end bytes (omega arith)) ∙ append-nil (spelling image)
@@ -132,15 +147,18 @@ image_found bytes fits image h =
     after (items_at (instr_at head.1 total bytes) 10 total code) _ image h (λ instrs read-instrs h.
     let rest = rest_found head.0 bytes fits routines instrs entries image h in
     let takes-routines = routines_found head.0 bytes fits head.1 8 code [] routines refl read-routines in
-    let takes-instrs = items_found bytes (instr_at head.1 total bytes) instr 10 (instr_found head.1 total bytes fits) total code entries instrs refl read-instrs in
+    let takes-instrs = items_found bytes (instr_at head.1 total bytes) instr 10 (instr_found head.1 total bytes fits)
+    total code entries instrs refl read-instrs in
     let all : routines ≡ takes-routines.0 = takes-routines.1 in
     let count_is : head.1 ≡ length image.routines = sym (ap length rest.routines_are ∙ ap length all ∙ takes-routines.2) in
-    let header-text = subst (λ (k : ℕ). Takes bytes 0 (header image.keyed k) 8) count_is (subst (λ (b : Bool). Takes bytes 0 (header b head.1) 8) (sym rest.keyed_is) (header_found bytes fits head read-head)) in
+    let header-text = subst (λ (k : ℕ). Takes bytes 0 (header image.keyed k) 8) count_is
+    (subst (λ (b : Bool). Takes bytes 0 (header b head.1) 8) (sym rest.keyed_is) (header_found bytes fits head read-head)) in
     let routines-text = subst (λ (rs : List Routine). Takes bytes 8 (flat_map routine rs) code) (sym (rest.routines_are ∙ all)) takes-routines.3 in
     let instrs-text = subst (λ (is : List Instr). Takes bytes code (flat_map instr is) entries) (sym rest.instrs_are) takes-instrs.0 in
     whole bytes image code entries rest.end header-text routines-text instrs-text rest.takes rest.ends)))
 
-header_again : (keyed : Bool) (bytes : List ℕ) (n : ℕ) (rest : List ℕ) → 0 < n → n ≤ 32 → Left bytes 0 (header keyed n ++ rest) → (header_at bytes ≡ Ok (keyed, n)) × Left bytes 8 rest
+header_again : (keyed : Bool) (bytes : List ℕ) (n : ℕ) (rest : List ℕ) → 0 < n → n ≤ 32 → Left bytes 0 (header keyed n ++ rest)
+    → (header_at bytes ≡ Ok (keyed, n)) × Left bytes 8 rest
 unfolding header_at
 header_again false bytes n rest some few l =
     let left : Left bytes 4 (word 1 ++ (word n ++ rest)) = (Left-byte 4 refl (Left-byte 3 refl (Left-byte 2 refl (Left-byte 1 refl l).2).2).2).2 in
@@ -156,7 +174,8 @@ header_again true bytes n rest some few l =
     (rw (le-leb 4 (length bytes) left.within, front, number.0, count.0, lt-ltb 0 n some, le-leb n 32 few) refl, count.1)
 
 -- the instructions of points are ones that an image may have
-instrs_legal : (borrows : Bool) (routines instrs : ℕ) (points : List Point) → list_all (is_point borrows routines instrs) points ≡ true → All (λ i. is_instr routines instrs i ≡ true) (instrs_of points)
+instrs_legal : (borrows : Bool) (routines instrs : ℕ) (points : List Point) → list_all (is_point borrows routines instrs) points ≡ true
+    → All (λ i. is_instr routines instrs i ≡ true) (instrs_of points)
 instrs_legal borrows routines instrs [] h = All-nil (λ i. is_instr routines instrs i ≡ true)
 instrs_legal borrows routines instrs (point ∷ points) h =
     let parts = and_parts (is_point borrows routines instrs point) (list_all (is_point borrows routines instrs) points) h in
@@ -172,7 +191,9 @@ points_count : (points : List Point) → length (instrs_of points) ≡ length po
 points_count points = length-map points (λ (point : Point). point.instr)
 
 module _ (bytes : List ℕ) (routines : List Routine) (points : List Point) (r n at : ℕ) (fits : All PointFits points) where
-  whole_again : list_all (is_point false r n) points ≡ true → rows_stand (replicate 4096 true) points ≡ true → Left bytes at (flat_map told points ++ []) → whole_at bytes routines (instrs_of points) at ≡ Ok (record { keyed = false; routines = routines; points = points })
+  whole_again : list_all (is_point false r n) points ≡ true → rows_stand (replicate 4096 true) points ≡ true
+      → Left bytes at (flat_map told points ++ []) → whole_at bytes routines (instrs_of points) at ≡ Ok
+      (record { keyed = false; routines = routines; points = points })
   unfolding whole_at
   whole_again legal stand left =
       let end = at + 58 * length (instrs_of points) in
@@ -180,7 +201,9 @@ module _ (bytes : List ℕ) (routines : List Routine) (points : List Point) (r n
       let again = points_again 4096 r n bytes points at end [] place stand legal fits left in
       rw (again.0, eq-eqb (length bytes) end (ends bytes end again.1)) refl
 
-  keyed_again : list_all (is_point true r n) points ≡ true → rows_stand (key_flags routines (instrs_of points)) points ≡ true → Left bytes at (rest true points ++ []) → keyed_at bytes routines (instrs_of points) at ≡ Ok (record { keyed = true; routines = routines; points = points })
+  keyed_again : list_all (is_point true r n) points ≡ true → rows_stand (key_flags routines (instrs_of points)) points ≡ true
+      → Left bytes at (rest true points ++ []) → keyed_at bytes routines (instrs_of points) at ≡ Ok
+      (record { keyed = true; routines = routines; points = points })
   unfolding keyed_at
   keyed_again legal stand left =
       let instrs = instrs_of points in
@@ -193,12 +216,17 @@ module _ (bytes : List ℕ) (routines : List Routine) (points : List Point) (r n
       let bare = bare_again bytes points at from (flat_map given_told points ++ []) place fits apart in
       let rows-left = Left-as (ap (λ (t : List ℕ). t ++ []) (given-rows points)) bare.1 in
       let as_many : length (rows_in points) ≡ count = sym (stand-count flags points stand) in
-      let again = λ (at next : ℕ) (x : Row) (rest : List ℕ) (place : next ≡ at + 38) (fine : IsFine x) (l : Left bytes at (row x ++ rest)). row_again true bytes at next x rest place fine.legal fine.fits l in
-      let rows = items_again bytes (row_at true bytes) row 38 IsFine again (rows_in points) count from end [] as_many refl (rows-fine r n points legal fits) rows-left in
+      let again = λ (at next : ℕ) (x : Row) (rest : List ℕ) (place : next ≡ at + 38) (fine : IsFine x)
+      (l : Left bytes at (row x ++ rest)). row_again true bytes at next x rest place fine.legal fine.fits l in
+      let rows = items_again bytes (row_at true bytes) row 38 IsFine again (rows_in points) count from end [] as_many
+      refl (rows-fine r n points legal fits) rows-left in
       let back : with_rows flags (stripped points) (rows_in points) ≡ points = stand-back flags points stand in
-      rw (bare.0, rows.0, eq-eqb (length bytes) end (ends bytes end rows.1)) (ap (λ (ps : List Point). Ok (record { keyed = true; routines = routines; points = ps })) back)
+      rw (bare.0, rows.0, eq-eqb (length bytes) end (ends bytes end rows.1))
+      (ap (λ (ps : List Point). Ok (record { keyed = true; routines = routines; points = ps })) back)
 
-  rest_again : (keyed : Bool) → list_all (is_point keyed r n) points ≡ true → rows_stand (row_flags keyed routines points) points ≡ true → Left bytes at (rest keyed points ++ []) → rest_at keyed bytes routines (instrs_of points) at ≡ Ok (record { keyed = keyed; routines = routines; points = points })
+  rest_again : (keyed : Bool) → list_all (is_point keyed r n) points ≡ true → rows_stand (row_flags keyed routines points) points ≡ true
+      → Left bytes at (rest keyed points ++ []) → rest_at keyed bytes routines (instrs_of points) at ≡ Ok
+      (record { keyed = keyed; routines = routines; points = points })
   rest_again false legal stand left = whole_again legal stand left
   rest_again true legal stand left = keyed_again legal stand left
 
@@ -215,19 +243,28 @@ image_again bytes image legal fits e =
     let points-text = rest image.keyed image.points in
     let few : count ≤ 2 ^ 16 = omega (arith, parts.few) in
     let short : total ≤ 2 ^ 16 = omega (arith, parts.short, parts.counts) in
-    let points-legal : list_all (is_point image.keyed count total) image.points ≡ true = subst (λ (n : ℕ). list_all (is_point image.keyed count n) image.points ≡ true) (sym parts.counts) parts.points in
-    let same-instrs = ap (λ (t : List ℕ). header image.keyed count ++ (routines-text ++ (t ++ (points-text ++ [])))) (sym (instrs_text image.points)) in
-    let texts = e ∙ sym (append-nil (spelling image)) ∙ four_texts (header image.keyed count) routines-text (flat_map (λ (point : Point). instr point.instr) image.points) points-text [] ∙ same-instrs in
-    let left : Left bytes 0 (header image.keyed count ++ (routines-text ++ (flat_map instr (instrs_of image.points) ++ (points-text ++ [])))) = record { within = omega arith; parts = texts } in
+    let points-legal : list_all (is_point image.keyed count total) image.points ≡ true =
+    subst (λ (n : ℕ). list_all (is_point image.keyed count n) image.points ≡ true) (sym parts.counts) parts.points in
+    let same-instrs = ap (λ (t : List ℕ). header image.keyed count ++ (routines-text ++ (t ++ (points-text ++ []))))
+    (sym (instrs_text image.points)) in
+    let texts = e ∙ sym (append-nil (spelling image)) ∙ four_texts (header image.keyed count) routines-text
+    (flat_map (λ (point : Point). instr point.instr) image.points) points-text [] ∙ same-instrs in
+    let left : Left bytes 0 (header image.keyed count ++ (routines-text ++ (flat_map instr (instrs_of image.points) ++ (points-text ++ [])))) =
+    record { within = omega arith; parts = texts } in
     let head = header_again image.keyed bytes count _ parts.some parts.few left in
-    let routines = routines_again image.keyed bytes image.routines count 8 code [] _ refl refl parts.routines (omega (arith, parts.short, parts.counts)) fits.routines head.1 in
+    let routines = routines_again image.keyed bytes image.routines count 8 code [] _ refl refl parts.routines
+    (omega (arith, parts.short, parts.counts)) fits.routines head.1 in
     let legal-instr = λ (i : Instr). is_instr count total i ≡ true in
-    let again = λ (at next : ℕ) (i : Instr) (rest : List ℕ) (place : next ≡ at + 10) (h : legal-instr i) (l : Left bytes at (instr i ++ rest)). instr_again count total bytes at next i rest few short place h l in
-    let instrs = items_again bytes (instr_at count total bytes) instr 10 legal-instr again (instrs_of image.points) total code entries _ (points_count image.points ∙ sym parts.counts) refl (instrs_legal image.keyed count total image.points points-legal) routines.1 in
+    let again = λ (at next : ℕ) (i : Instr) (rest : List ℕ) (place : next ≡ at + 10) (h : legal-instr i)
+    (l : Left bytes at (instr i ++ rest)). instr_again count total bytes at next i rest few short place h l in
+    let instrs = items_again bytes (instr_at count total bytes) instr 10 legal-instr again (instrs_of image.points)
+    total code entries _ (points_count image.points ∙ sym parts.counts) refl (instrs_legal image.keyed count total image.points points-legal)
+    routines.1 in
     let rest = rest_again bytes image.routines image.points count total entries fits.points image.keyed points-legal parts.rows instrs.1 in
     rw (head.0, routines.0, instrs.0, rest) refl
 
 -- what reading gives is spelled there
-pub found_by : (bytes : List ℕ) (result : Result Parts ReadError) → IsBytes bytes → Gives (λ (image : Parts). image) result (image_at bytes) → IfOk result (λ image. bytes ≡ spelling image)
+pub found_by : (bytes : List ℕ) (result : Result Parts ReadError) → IsBytes bytes → Gives (λ (image : Parts). image) result (image_at bytes)
+    → IfOk result (λ image. bytes ≡ spelling image)
 found_by bytes (Ok image) fits h = image_found bytes fits image h
 found_by bytes (Err e) fits h = tt

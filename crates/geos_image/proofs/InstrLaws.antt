@@ -28,11 +28,13 @@ limit_fits routines instrs Routine r i = r
 limit_fits routines instrs Label r i = i
 
 -- a number below the limit of an operand is a word
-operand_fits : (routines instrs : ℕ) (operand : Operand) (n : ℕ) → routines ≤ 2 ^ 16 → instrs ≤ 2 ^ 16 → n < limit routines instrs operand → n < 2 ^ 16
+operand_fits : (routines instrs : ℕ) (operand : Operand) (n : ℕ) → routines ≤ 2 ^ 16 → instrs ≤ 2 ^ 16
+    → n < limit routines instrs operand → n < 2 ^ 16
 operand_fits routines instrs operand n r i lt = omega (arith, limit_fits routines instrs operand r i)
 
 -- an instruction that was read stands there
-pub instr_found : (routines instrs : ℕ) (bytes : List ℕ) → IsBytes bytes → (at next : ℕ) (i : Instr) → next ≡ at + 10 → instr_at routines instrs bytes at ≡ Ok i → Takes bytes at (instr i) next
+pub instr_found : (routines instrs : ℕ) (bytes : List ℕ) → IsBytes bytes → (at next : ℕ) (i : Instr) → next ≡ at + 10
+    → instr_at routines instrs bytes at ≡ Ok i → Takes bytes at (instr i) next
 unfolding instr_at fields_at
 instr_found routines instrs bytes fits at next i e h =
     after (byte_at bytes at) _ i h (λ code read-code h.
@@ -59,7 +61,8 @@ instr_found routines instrs bytes fits at next i e h =
     subst (λ (j : Instr). Takes bytes at (instr j) next) (ok_is read i h) (Takes-then (Takes-then cells takes-imm) takes-target))))))))))
 
 -- an instruction that stands there is read
-pub instr_again : (routines instrs : ℕ) (bytes : List ℕ) (at next : ℕ) (i : Instr) (rest : List ℕ) → routines ≤ 2 ^ 16 → instrs ≤ 2 ^ 16 → next ≡ at + 10 → is_instr routines instrs i ≡ true
+pub instr_again : (routines instrs : ℕ) (bytes : List ℕ) (at next : ℕ) (i : Instr) (rest : List ℕ) → routines ≤ 2 ^ 16
+    → instrs ≤ 2 ^ 16 → next ≡ at + 10 → is_instr routines instrs i ≡ true
     → Left bytes at (instr i ++ rest) → (instr_at routines instrs bytes at ≡ Ok i) × Left bytes next rest
 unfolding instr_at fields_at
 instr_again routines instrs bytes at next i rest few short e legal l =
@@ -71,6 +74,8 @@ instr_again routines instrs bytes at next i rest few short e legal l =
     let c = byte_below_again (limit routines instrs fields.c) bytes (at + 3) (at + 4) _ _ (plus at 3 1) below.c b.1 in
     let d = byte_below_again (limit routines instrs fields.d) bytes (at + 4) (at + 5) _ _ (plus at 4 1) below.d c.1 in
     let unused = byte_below_again 1 bytes (at + 5) (at + 6) 0 _ (plus at 5 1) (omega arith) d.1 in
-    let imm = word_below_again (limit routines instrs fields.imm) bytes (at + 6) (at + 8) i.imm (word i.target ++ rest) (plus at 6 2) (operand_fits routines instrs fields.imm i.imm few short below.imm) below.imm unused.1 in
-    let target = word_below_again (limit routines instrs fields.target) bytes (at + 8) next i.target rest (e ∙ plus at 8 2) (operand_fits routines instrs fields.target i.target few short below.target) below.target imm.1 in
+    let imm = word_below_again (limit routines instrs fields.imm) bytes (at + 6) (at + 8) i.imm (word i.target ++ rest)
+    (plus at 6 2) (operand_fits routines instrs fields.imm i.imm few short below.imm) below.imm unused.1 in
+    let target = word_below_again (limit routines instrs fields.target) bytes (at + 8) next i.target rest (e ∙ plus at 8 2)
+    (operand_fits routines instrs fields.target i.target few short below.target) below.target imm.1 in
     (rw (code.0, opcode_again i.opcode, a.0, b.0, c.0, d.0, unused.0, imm.0, target.0) refl, target.1)

@@ -10,7 +10,8 @@ use Rattle.geos_image.specs.declared.point.Point.{Point}
 use Rattle.geos_image.specs.Reading.{◌>>=◌, items_at, routine_at, routines_at, entry_at, points_at, potential_at, bare_points_at}
 
 -- four of them
-pub four_items : {A : Type 0} (read : ℕ → Result A ℕ) (width at second third fourth : ℕ) (a b c d : A) → at + width ≡ second → second + width ≡ third → third + width ≡ fourth
+pub four_items : {A : Type 0} (read : ℕ → Result A ℕ) (width at second third fourth : ℕ) (a b c d : A) → at + width ≡ second
+    → second + width ≡ third → third + width ≡ fourth
     → read at ≡ Ok a → read second ≡ Ok b → read third ≡ Ok c → read fourth ≡ Ok d → items_at read width 4 at ≡ Ok (a ∷ b ∷ c ∷ d ∷ [])
 four_items read width at second third fourth a b c d e f g p q r s = rw (p, e, q, f, r, g, s) refl
 
@@ -26,21 +27,25 @@ eight_items read width at n2 n3 n4 n5 n6 n7 n8 a b c d e f g h p2 p3 p4 p5 p6 p7
 abbrev pub with_front : {A : Type 0} → List A → Result (List A) ℕ → Result (List A) ℕ
 with_front front read = read >>= λ xs. Ok (front ++ xs)
 
-regroup : {A : Type 0} (front : List A) (x : A) (read : Result (List A) ℕ) → with_front front (read >>= λ xs. Ok (x ∷ xs)) ≡ with_front (front ++ x ∷ []) read
+regroup : {A : Type 0} (front : List A) (x : A) (read : Result (List A) ℕ)
+    → with_front front (read >>= λ xs. Ok (x ∷ xs)) ≡ with_front (front ++ x ∷ []) read
 regroup front x (Ok xs) = ap Ok (simp append_assoc)
 regroup front x (Err at) = refl
 
 module _ {A : Type 0} (read : ℕ → Result A ℕ) (width start count : ℕ) (total : Result (List A) ℕ) where
   -- the next one is read
-  pub items-more : (front : List A) (i at : ℕ) (x : A) → at ≡ start + width * i → i < count → read at ≡ Ok x → with_front front (items_at read width (count - i) at) ≡ total
+  pub items-more : (front : List A) (i at : ℕ) (x : A) → at ≡ start + width * i → i < count → read at ≡ Ok x
+      → with_front front (items_at read width (count - i) at) ≡ total
       → with_front (front ++ x ∷ []) (items_at read width (count - (i + 1)) (at + width)) ≡ total
   items-more front i at x place lt h so_far =
       let k : count - i ≡ suc (count - (i + 1)) = omega arith in
-      let one : with_front front (items_at read width (count - i) at) ≡ with_front (front ++ x ∷ []) (items_at read width (count - (i + 1)) (at + width)) = rw (k, h) (regroup front x (items_at read width (count - (i + 1)) (at + width))) in
+      let one : with_front front (items_at read width (count - i) at) ≡ with_front (front ++ x ∷ [])
+      (items_at read width (count - (i + 1)) (at + width)) = rw (k, h) (regroup front x (items_at read width (count - (i + 1)) (at + width))) in
       sym one ∙ so_far
 
   -- the next one has a fault
-  pub items-fault : (front : List A) (i at fault : ℕ) → i < count → read at ≡ Err fault → with_front front (items_at read width (count - i) at) ≡ total → total ≡ Err fault
+  pub items-fault : (front : List A) (i at fault : ℕ) → i < count → read at ≡ Err fault
+      → with_front front (items_at read width (count - i) at) ≡ total → total ≡ Err fault
   items-fault front i at fault lt h so_far =
       let k : count - i ≡ suc (count - (i + 1)) = omega arith in
       let one : with_front front (items_at read width (count - i) at) ≡ Err fault = rw (k, h) refl in
@@ -54,15 +59,18 @@ module _ {A : Type 0} (read : ℕ → Result A ℕ) (width start count : ℕ) (t
       sym so_far ∙ one
 
 module _ (borrows : Bool) (bytes : List ℕ) (count : ℕ) (total : Result (List Routine) ℕ) where
-  pub routines-more : (front : List Routine) (i at : ℕ) (r : Routine) → i < count → routine_at borrows front bytes at ≡ Ok r → routines_at borrows bytes (count - i) at front ≡ total
+  pub routines-more : (front : List Routine) (i at : ℕ) (r : Routine) → i < count → routine_at borrows front bytes at ≡ Ok r
+      → routines_at borrows bytes (count - i) at front ≡ total
       → routines_at borrows bytes (count - (i + 1)) (at + 100) (front ++ r ∷ []) ≡ total
   unfolding routines_at
   routines-more front i at r lt h so_far =
       let k : count - i ≡ suc (count - (i + 1)) = omega arith in
-      let one : routines_at borrows bytes (count - i) at front ≡ routines_at borrows bytes (count - (i + 1)) (at + 100) (front ++ r ∷ []) = rw (k, h) refl in
+      let one : routines_at borrows bytes (count - i) at front ≡ routines_at borrows bytes (count - (i + 1)) (at + 100)
+      (front ++ r ∷ []) = rw (k, h) refl in
       sym one ∙ so_far
 
-  pub routines-fault : (front : List Routine) (i at fault : ℕ) → i < count → routine_at borrows front bytes at ≡ Err fault → routines_at borrows bytes (count - i) at front ≡ total → total ≡ Err fault
+  pub routines-fault : (front : List Routine) (i at fault : ℕ) → i < count → routine_at borrows front bytes at ≡ Err fault
+      → routines_at borrows bytes (count - i) at front ≡ total → total ≡ Err fault
   unfolding routines_at
   routines-fault front i at fault lt h so_far =
       let k : count - i ≡ suc (count - (i + 1)) = omega arith in
@@ -77,12 +85,17 @@ module _ (borrows : Bool) (bytes : List ℕ) (count : ℕ) (total : Result (List
       sym so_far ∙ one
 
 module _ (bytes : List ℕ) (code : List Instr) (total : Result (List Point) ℕ) where
-  pub points-more : (front : List Point) (k at : ℕ) (d : Instr) (row : Row) (potential : Potential) → k < length code → entry_at bytes at ≡ Ok (row, potential)
-      → with_front front (points_at bytes (drop k code) at) ≡ total → with_front (front ++ record { instr = get_or code k d; row = Some row; potential = potential } ∷ []) (points_at bytes (drop (k + 1) code) (at + 58)) ≡ total
+  pub points-more : (front : List Point) (k at : ℕ) (d : Instr) (row : Row) (potential : Potential) → k < length code
+      → entry_at bytes at ≡ Ok (row, potential)
+      → with_front front (points_at bytes (drop k code) at) ≡ total
+      → with_front (front ++ record { instr = get_or code k d; row = Some row; potential = potential } ∷ [])
+      (points_at bytes (drop (k + 1) code) (at + 58)) ≡ total
   unfolding points_at
   points-more front k at d row potential lt h so_far =
       let rest = points_at bytes (drop (suc k) code) (at + 58) in
-      let one : with_front front (points_at bytes (drop k code) at) ≡ with_front (front ++ record { instr = get_or code k d; row = Some row; potential = potential } ∷ []) rest = rw (drop-cons code k d lt, h) (regroup front (record { instr = get_or code k d; row = Some row; potential = potential }) rest) in
+      let one : with_front front (points_at bytes (drop k code) at) ≡ with_front
+      (front ++ record { instr = get_or code k d; row = Some row; potential = potential } ∷ []) rest =
+      rw (drop-cons code k d lt, h) (regroup front (record { instr = get_or code k d; row = Some row; potential = potential }) rest) in
       rw add-one (sym one ∙ so_far)
 
   pub points-fault : (front : List Point) (k at fault : ℕ) (d : Instr) → k < length code → entry_at bytes at ≡ Err fault
@@ -100,11 +113,15 @@ module _ (bytes : List ℕ) (code : List Instr) (total : Result (List Point) ℕ
 
 module _ (bytes : List ℕ) (code : List Instr) (total : Result (List Point) ℕ) where
   pub bare-more : (front : List Point) (k at : ℕ) (d : Instr) (potential : Potential) → k < length code → potential_at bytes at ≡ Ok potential
-      → with_front front (bare_points_at bytes (drop k code) at) ≡ total → with_front (front ++ record { instr = get_or code k d; row = None; potential = potential } ∷ []) (bare_points_at bytes (drop (k + 1) code) (at + 20)) ≡ total
+      → with_front front (bare_points_at bytes (drop k code) at) ≡ total
+      → with_front (front ++ record { instr = get_or code k d; row = None; potential = potential } ∷ [])
+      (bare_points_at bytes (drop (k + 1) code) (at + 20)) ≡ total
   unfolding bare_points_at
   bare-more front k at d potential lt h so_far =
       let rest = bare_points_at bytes (drop (suc k) code) (at + 20) in
-      let one : with_front front (bare_points_at bytes (drop k code) at) ≡ with_front (front ++ record { instr = get_or code k d; row = None; potential = potential } ∷ []) rest = rw (drop-cons code k d lt, h) (regroup front (record { instr = get_or code k d; row = None; potential = potential }) rest) in
+      let one : with_front front (bare_points_at bytes (drop k code) at) ≡ with_front
+      (front ++ record { instr = get_or code k d; row = None; potential = potential } ∷ []) rest =
+      rw (drop-cons code k d lt, h) (regroup front (record { instr = get_or code k d; row = None; potential = potential }) rest) in
       rw add-one (sym one ∙ so_far)
 
   pub bare-fault : (front : List Point) (k at fault : ℕ) (d : Instr) → k < length code → potential_at bytes at ≡ Err fault
@@ -114,7 +131,8 @@ module _ (bytes : List ℕ) (code : List Instr) (total : Result (List Point) ℕ
       let one : with_front front (bare_points_at bytes (drop k code) at) ≡ Err fault = rw (drop-cons code k d lt, h) refl in
       sym so_far ∙ one
 
-  pub bare-end : (front : List Point) (k at : ℕ) → length code ≤ k → with_front front (bare_points_at bytes (drop k code) at) ≡ total → total ≡ Ok front
+  pub bare-end : (front : List Point) (k at : ℕ) → length code ≤ k → with_front front (bare_points_at bytes (drop k code) at) ≡ total
+      → total ≡ Ok front
   unfolding bare_points_at
   bare-end front k at le so_far =
       let one : with_front front (bare_points_at bytes (drop k code) at) ≡ Ok front = rw (drop_all k code le) (ap Ok (append-nil front)) in

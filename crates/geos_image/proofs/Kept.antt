@@ -26,11 +26,13 @@ pub kept-length : (flags : List Bool) (points : List Point) → length (kept_row
 kept-length flags points = sym (length-instrs (kept_rows flags points)) ∙ ap length (kept-instrs flags points) ∙ length-instrs points
 
 -- a point with the row that it keeps
-pub kept-point : (flags : List Bool) (points : List Point) (pc : ℕ) (point : Point) → slice_get points pc ≡ Some point → slice_get (kept_rows flags points) pc ≡ Some (record point { row = row_where (get_or flags pc false) point.row })
+pub kept-point : (flags : List Bool) (points : List Point) (pc : ℕ) (point : Point) → slice_get points pc ≡ Some point
+    → slice_get (kept_rows flags points) pc ≡ Some (record point { row = row_where (get_or flags pc false) point.row })
 kept-point flags [] pc point e = absurd cc
 kept-point [] (x ∷ points) zero point e = let same : x ≡ point = cc in ap (λ (q : Point). Some (record q { row = None })) same
 kept-point [] (x ∷ points) (suc pc) point e = kept-point [] points pc point e
-kept-point (flag ∷ flags) (x ∷ points) zero point e = let same : x ≡ point = cc in ap (λ (q : Point). Some (record q { row = row_where flag q.row })) same
+kept-point (flag ∷ flags) (x ∷ points) zero point e = let same : x ≡ point = cc in
+    ap (λ (q : Point). Some (record q { row = row_where flag q.row })) same
 kept-point (flag ∷ flags) (x ∷ points) (suc pc) point e = kept-point flags points pc point e
 
 -- ---- legal images
@@ -39,25 +41,30 @@ where-given : (borrows : Bool) (flag : Bool) (o : Option Row) → is_given borro
 where-given borrows true o h = h
 where-given borrows false o h = refl
 
-given-there : (borrows : Bool) (r n : ℕ) (point : Point) (points : List Point) → list_all (is_point borrows r n) (point ∷ points) ≡ true → is_given borrows point.row ≡ true
+given-there : (borrows : Bool) (r n : ℕ) (point : Point) (points : List Point) → list_all (is_point borrows r n) (point ∷ points) ≡ true
+    → is_given borrows point.row ≡ true
 given-there borrows r n point points h =
     let here = (and_parts (is_point borrows r n point) (list_all (is_point borrows r n) points) h).0 in
     (and_parts (is_instr r n point.instr) (is_given borrows point.row) here).1
 
-kept-legal : (borrows : Bool) (r n : ℕ) (flags : List Bool) (points : List Point) → list_all (is_point borrows r n) points ≡ true → list_all (is_point borrows r n) (kept_rows flags points) ≡ true
+kept-legal : (borrows : Bool) (r n : ℕ) (flags : List Bool) (points : List Point) → list_all (is_point borrows r n) points ≡ true
+    → list_all (is_point borrows r n) (kept_rows flags points) ≡ true
 kept-legal borrows r n flags [] h = refl
 kept-legal borrows r n [] (point ∷ points) h = legal-one borrows r n point None (kept_rows [] points) points h refl (kept-legal borrows r n [] points)
 kept-legal borrows r n (flag ∷ flags) (point ∷ points) h =
-    legal-one borrows r n point (row_where flag point.row) (kept_rows flags points) points h (where-given borrows flag point.row (given-there borrows r n point points h)) (kept-legal borrows r n flags points)
+    legal-one borrows r n point (row_where flag point.row) (kept_rows flags points) points h
+    (where-given borrows flag point.row (given-there borrows r n point points h)) (kept-legal borrows r n flags points)
 
 -- where all rows are given, those at flags are left
-kept-stands : (n : ℕ) (flags : List Bool) (points : List Point) → length points ≤ length flags → rows_stand (replicate n true) points ≡ true → rows_stand flags (kept_rows flags points) ≡ true
+kept-stands : (n : ℕ) (flags : List Bool) (points : List Point) → length points ≤ length flags
+    → rows_stand (replicate n true) points ≡ true → rows_stand flags (kept_rows flags points) ≡ true
 kept-stands n flags [] room h = refl
 kept-stands n [] (point ∷ points) room h = absurd (omega (arith, room))
 kept-stands zero (flag ∷ flags) (point ∷ points) room h = absurd cc
 kept-stands (suc n) (flag ∷ flags) (point ∷ points) room h =
     let parts = and_parts (row_stands true point.row) (rows_stand (replicate n true) points) h in
-    both (row_stands flag (row_where flag point.row)) (rows_stand flags (kept_rows flags points)) (one flag point.row parts.0) (kept-stands n flags points (omega (arith, room)) parts.1)
+    both (row_stands flag (row_where flag point.row)) (rows_stand flags (kept_rows flags points)) (one flag point.row parts.0)
+    (kept-stands n flags points (omega (arith, room)) parts.1)
   where
     one : (flag : Bool) (o : Option Row) → row_stands true o ≡ true → row_stands flag (row_where flag o) ≡ true
     one true o h = h
@@ -69,16 +76,19 @@ kept-same flags [] h = refl
 kept-same [] (point ∷ points) h = absurd cc
 kept-same (flag ∷ flags) (point ∷ points) h =
     let parts = and_parts (row_stands flag point.row) (rows_stand flags points) h in
-    ap (λ (o : Option Row). record point { row = o } ∷ kept_rows flags points) (one flag point.row parts.0) ∙ ap (λ (ps : List Point). point ∷ ps) (kept-same flags points parts.1)
+    ap (λ (o : Option Row). record point { row = o } ∷ kept_rows flags points) (one flag point.row parts.0)
+    ∙ ap (λ (ps : List Point). point ∷ ps) (kept-same flags points parts.1)
   where
     one : (flag : Bool) (o : Option Row) → row_stands flag o ≡ true → row_where flag o ≡ o
     one true o h = refl
     one false None h = refl
     one false (Some row) h = absurd cc
 
-keyed-stands : (routines : List Routine) (points : List Point) (keyed : Bool) → length points ≤ 4096 → rows_stand (row_flags keyed routines points) points ≡ true
+keyed-stands : (routines : List Routine) (points : List Point) (keyed : Bool) → length points ≤ 4096
+    → rows_stand (row_flags keyed routines points) points ≡ true
     → rows_stand (key_flags routines (instrs_of points)) (kept_rows (key_flags routines (instrs_of points)) points) ≡ true
-keyed-stands routines points true short h = let flags = key_flags routines (instrs_of points) in subst (λ (ps : List Point). rows_stand flags ps ≡ true) (sym (kept-same flags points h)) h
+keyed-stands routines points true short h = let flags = key_flags routines (instrs_of points) in
+    subst (λ (ps : List Point). rows_stand flags ps ≡ true) (sym (kept-same flags points h)) h
 keyed-stands routines points false short h =
     let flags = key_flags routines (instrs_of points) in
     kept-stands 4096 flags points (omega (arith, short, key_flags-length routines (instrs_of points))) h
@@ -92,29 +102,42 @@ keyed-legal image h =
     let r = length image.routines in
     let len : length kept ≡ length image.points = kept-length flags image.points in
     let same : key_flags image.routines (instrs_of kept) ≡ flags = ap (key_flags image.routines) (kept-instrs flags image.points) in
-    let stand : rows_stand (row_flags true image.routines kept) kept ≡ true = subst (λ (fs : List Bool). rows_stand fs kept ≡ true) (sym same) (keyed-stands image.routines image.points image.keyed parts.short parts.rows) in
-    let points : list_all (is_point true r (length kept)) kept ≡ true = subst (λ (n : ℕ). list_all (is_point true r n) kept ≡ true) (sym len) (kept-legal true r (length image.points) flags image.points parts.points) in
+    let stand : rows_stand (row_flags true image.routines kept) kept ≡ true = subst (λ (fs : List Bool). rows_stand fs kept ≡ true)
+    (sym same) (keyed-stands image.routines image.points image.keyed parts.short parts.rows) in
+    let points : list_all (is_point true r (length kept)) kept ≡ true = subst (λ (n : ℕ). list_all (is_point true r n) kept ≡ true)
+    (sym len) (kept-legal true r (length image.points) flags image.points parts.points) in
     let counts : total_count image.routines ≡ length kept = parts.counts ∙ sym len in
-    rw (lt-ltb 0 r parts.some, le-leb r 32 parts.few, parts.routines, le-leb (length kept) 4096 (omega (arith, len, parts.short)), eq-eqb (total_count image.routines) (length kept) counts, points, stand) refl
+    rw (
+      lt-ltb 0 r parts.some,
+      le-leb r 32 parts.few,
+      parts.routines,
+      le-leb (length kept) 4096 (omega (arith, len, parts.short)),
+      eq-eqb (total_count image.routines) (length kept) counts,
+      points,
+      stand,
+    ) refl
 
 -- and itself where it is one of version 2
 pub keyed-same : (image : Parts) → is_formed true image ≡ true → image.keyed ≡ true → keyed_of image ≡ image
 keyed-same image h keyed =
     let flags = key_flags image.routines (instrs_of image.points) in
     let stand : rows_stand flags image.points ≡ true = rw keyed at (formed_parts true image h).rows in
-    ap (λ (ps : List Point). record { keyed = true; routines = image.routines; points = ps }) (kept-same flags image.points stand) ∙ ap (λ (b : Bool). record { keyed = b; routines = image.routines; points = image.points }) (sym keyed)
+    ap (λ (ps : List Point). record { keyed = true; routines = image.routines; points = ps }) (kept-same flags image.points stand)
+    ∙ ap (λ (b : Bool). record { keyed = b; routines = image.routines; points = image.points }) (sym keyed)
 
 -- ---- what the image gives in version 2
 
 -- a row speaks of four slots
 pub four-slots : (borrows : Bool) (row : Row) → is_row borrows row ≡ true → length row.slots ≡ 4
 four-slots borrows row h =
-    let shaped = (and_parts (borrows || list_all is_own row.slots) (is_shaped row) ((and_parts ((borrows || list_all is_own row.slots) && is_shaped row) (list_all is_pointer row.pointers) h).0)).1 in
+    let shaped = (and_parts (borrows || list_all is_own row.slots) (is_shaped row)
+    ((and_parts ((borrows || list_all is_own row.slots) && is_shaped row) (list_all is_pointer row.pointers) h).0)).1 in
     let a = and_parts (length row.bounds == 8 && length row.slots == 4 && length row.pointers == 4) (length row.pairs == 6) shaped in
     let b = and_parts (length row.bounds == 8 && length row.slots == 4) (length row.pointers == 4) a.0 in
     eqb-true (length row.slots) 4 ((and_parts (length row.bounds == 8) (length row.slots == 4) b.0).1)
 
-exit-row : (borrows : Bool) (earlier routines : List Routine) (r : ℕ) (routine : Routine) → are_routines borrows earlier routines ≡ true → slice_get routines r ≡ Some routine → is_row borrows routine.exit ≡ true
+exit-row : (borrows : Bool) (earlier routines : List Routine) (r : ℕ) (routine : Routine) → are_routines borrows earlier routines ≡ true
+    → slice_get routines r ≡ Some routine → is_row borrows routine.exit ≡ true
 exit-row borrows earlier [] r routine h e = absurd cc
 exit-row borrows earlier (x ∷ routines) zero routine h e =
     let same : x ≡ routine = cc in
@@ -122,27 +145,33 @@ exit-row borrows earlier (x ∷ routines) zero routine h e =
     let a = and_parts (is_name x.name && not (is_named x.name earlier) && nat_lt 0 x.count && is_row borrows x.entry) (is_row borrows x.exit) here in
     subst (λ (q : Routine). is_row borrows q.exit ≡ true) same a.1
 exit-row borrows earlier (x ∷ routines) (suc r) routine h e =
-    exit-row borrows (earlier ++ x ∷ []) routines r routine ((and_parts (is_routine borrows earlier x) (are_routines borrows (earlier ++ x ∷ []) routines) h).1) e
+    exit-row borrows (earlier ++ x ∷ []) routines r routine
+    ((and_parts (is_routine borrows earlier x) (are_routines borrows (earlier ++ x ∷ []) routines) h).1) e
 
 -- so does a routine's exit row
-pub four-exit : (image : Parts) → is_formed true image ≡ true → (r : ℕ) (routine : Routine) → slice_get image.routines r ≡ Some routine → length routine.exit.slots ≡ 4
+pub four-exit : (image : Parts) → is_formed true image ≡ true → (r : ℕ) (routine : Routine) → slice_get image.routines r ≡ Some routine
+    → length routine.exit.slots ≡ 4
 four-exit image h r routine e = four-slots true routine.exit (exit-row true [] image.routines r routine (formed_parts true image h).routines e)
 
-all-there : (n : ℕ) (points : List Point) (pc : ℕ) (point : Point) → rows_stand (replicate n true) points ≡ true → slice_get points pc ≡ Some point → (row : Row) × (point.row ≡ Some row)
+all-there : (n : ℕ) (points : List Point) (pc : ℕ) (point : Point) → rows_stand (replicate n true) points ≡ true
+    → slice_get points pc ≡ Some point → (row : Row) × (point.row ≡ Some row)
 all-there n [] pc point h e = absurd cc
 all-there zero (x ∷ points) pc point h e = absurd cc
 all-there (suc n) (x ∷ points) zero point h e =
     let same : x ≡ point = cc in
-    subst (λ (q : Point). (row : Row) × (q.row ≡ Some row)) same (one x.row ((and_parts (row_stands true x.row) (rows_stand (replicate n true) points) h).0))
+    subst (λ (q : Point). (row : Row) × (q.row ≡ Some row)) same
+    (one x.row ((and_parts (row_stands true x.row) (rows_stand (replicate n true) points) h).0))
   where
     one : (o : Option Row) → row_stands true o ≡ true → (row : Row) × (o ≡ Some row)
     one (Some row) h = (row, refl)
     one None h = absurd cc
-all-there (suc n) (x ∷ points) (suc pc) point h e = all-there n points pc point ((and_parts (row_stands true x.row) (rows_stand (replicate n true) points) h).1) e
+all-there (suc n) (x ∷ points) (suc pc) point h e = all-there n points pc point
+    ((and_parts (row_stands true x.row) (rows_stand (replicate n true) points) h).1) e
 
 module _ (image : Parts) (legal : is_formed true image ≡ true) where
   -- in version 1 each point has a row
-  pub row-there : image.keyed ≡ false → (pc : ℕ) (point : Point) → slice_get image.points pc ≡ Some point → (row : Row) × (point.row ≡ Some row) × (length row.slots ≡ 4)
+  pub row-there : image.keyed ≡ false → (pc : ℕ) (point : Point) → slice_get image.points pc ≡ Some point → (row : Row)
+      × (point.row ≡ Some row) × (length row.slots ≡ 4)
   row-there all pc point e =
       let parts = formed_parts true image legal in
       let r = length image.routines in
@@ -152,26 +181,32 @@ module _ (image : Parts) (legal : is_formed true image ≡ true) where
       let fine : is_given true point.row ≡ true = (and_parts (is_instr r n point.instr) (is_given true point.row) here).1 in
       (given.0, given.1, four-slots true given.0 (ap (is_given true) (sym given.1) ∙ fine))
 
-  flag-of : (pc : ℕ) → pc < length image.points → gives (keyed_of image) pc ≡ slice_index_or (key_flags image.routines (instrs_of image.points)) pc false
+  flag-of : (pc : ℕ) → pc < length image.points → gives (keyed_of image) pc ≡ slice_index_or
+      (key_flags image.routines (instrs_of image.points)) pc false
   flag-of pc lt =
       let flags = key_flags image.routines (instrs_of image.points) in
-      key-given (keyed_of image) (keyed-legal image legal) pc (omega (arith, lt, kept-length flags image.points)) refl ∙ ap (λ (is : List Instr). slice_index_or (key_flags image.routines is) pc false) (kept-instrs flags image.points)
+      key-given (keyed_of image) (keyed-legal image legal) pc (omega (arith, lt, kept-length flags image.points)) refl ∙ ap
+      (λ (is : List Instr). slice_index_or (key_flags image.routines is) pc false) (kept-instrs flags image.points)
 
-  point-as : (pc : ℕ) (point : Point) (b : Bool) → slice_get image.points pc ≡ Some point → pc < length image.points → gives (keyed_of image) pc ≡ b → slice_get (keyed_of image).points pc ≡ Some (record point { row = row_where b point.row })
+  point-as : (pc : ℕ) (point : Point) (b : Bool) → slice_get image.points pc ≡ Some point → pc < length image.points
+      → gives (keyed_of image) pc ≡ b → slice_get (keyed_of image).points pc ≡ Some (record point { row = row_where b point.row })
   point-as pc point b e lt is =
       let flags = key_flags image.routines (instrs_of image.points) in
       kept-point flags image.points pc point e ∙ ap (λ (f : Bool). Some (record point { row = row_where f point.row })) (sym (flag-of pc lt) ∙ is)
 
   -- where a row is given, it is the same
-  pub point-given : (pc : ℕ) (point : Point) → slice_get image.points pc ≡ Some point → pc < length image.points → gives (keyed_of image) pc ≡ true → slice_get (keyed_of image).points pc ≡ Some point
+  pub point-given : (pc : ℕ) (point : Point) → slice_get image.points pc ≡ Some point → pc < length image.points
+      → gives (keyed_of image) pc ≡ true → slice_get (keyed_of image).points pc ≡ Some point
   point-given pc point e lt is = point-as pc point true e lt is
 
-  pub point-bare : (pc : ℕ) (point : Point) → slice_get image.points pc ≡ Some point → pc < length image.points → gives (keyed_of image) pc ≡ false → slice_get (keyed_of image).points pc ≡ Some (record point { row = None })
+  pub point-bare : (pc : ℕ) (point : Point) → slice_get image.points pc ≡ Some point → pc < length image.points
+      → gives (keyed_of image) pc ≡ false → slice_get (keyed_of image).points pc ≡ Some (record point { row = None })
   point-bare pc point e lt is = point-as pc point false e lt is
 
 -- ---- rows that are taken away one after another
 
-pub kept-more : (flags : List Bool) (points : List Point) (k : ℕ) (point : Point) → k < length points → k < length flags → get_or points k point ≡ point
+pub kept-more : (flags : List Bool) (points : List Point) (k : ℕ) (point : Point) → k < length points → k < length flags
+    → get_or points k point ≡ point
     → take (k + 1) (set points k (record point { row = row_where (get_or flags k false) point.row }))
     ++ kept_rows (drop (k + 1) flags) (drop (k + 1) (set points k (record point { row = row_where (get_or flags k false) point.row })))
     ≡ take k points ++ kept_rows (drop k flags) (drop k points)
@@ -182,10 +217,12 @@ kept-more flags points k point lt room here =
     let behind : drop (k + 1) (set points k made) ≡ drop (k + 1) points = drop-set-lt (k + 1) points k made (omega arith) in
     let from : drop k points ≡ point ∷ drop (k + 1) points = drop_more points k point lt ∙ ap (λ (p : Point). p ∷ drop (k + 1) points) here in
     let step : kept_rows (drop k flags) (drop k points) ≡ made ∷ rest =
-    ap (λ (fs : List Bool). kept_rows fs (drop k points)) (drop_more flags k false room) ∙ ap (λ (ps : List Point). kept_rows (get_or flags k false ∷ drop (k + 1) flags) ps) from in
+    ap (λ (fs : List Bool). kept_rows fs (drop k points)) (drop_more flags k false room)
+    ∙ ap (λ (ps : List Point). kept_rows (get_or flags k false ∷ drop (k + 1) flags) ps) from in
     rw (front, behind, step) (append_assoc (take k points) (made ∷ []) rest)
 
-pub kept-end : (flags : List Bool) (points : List Point) (k : ℕ) → length points ≤ k → take k points ++ kept_rows (drop k flags) (drop k points) ≡ points
+pub kept-end : (flags : List Bool) (points : List Point) (k : ℕ) → length points ≤ k
+    → take k points ++ kept_rows (drop k flags) (drop k points) ≡ points
 kept-end flags points k le =
     let a : take k points ≡ points = take_all k points le in
     let b : drop k points ≡ [] = drop_all k points le in

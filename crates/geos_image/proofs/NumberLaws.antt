@@ -28,8 +28,10 @@ word_found bytes fits at next n e h =
     let lt : at + 1 < length bytes = ltb-true _ _ g.0 in
     let b0 = get_or bytes at 0 in
     let b1 = get_or bytes (at + 1) 0 in
-    let cells : Takes bytes at (b0 ∷ b1 ∷ []) next = Takes-then (Takes-byte bytes at (at + 1) refl (omega arith)) (Takes-byte bytes (at + 1) next (omega arith) lt) in
-    let same : word n ≡ b0 ∷ b1 ∷ [] = le_bytes_2 (b0 ∷ b1 ∷ []) n refl (are_more b0 (b1 ∷ []) (fits at) (are_more b1 [] (fits (at + 1)) are_none)) (sym g.1) in
+    let cells : Takes bytes at (b0 ∷ b1 ∷ []) next = Takes-then (Takes-byte bytes at (at + 1) refl (omega arith))
+    (Takes-byte bytes (at + 1) next (omega arith) lt) in
+    let same : word n ≡ b0 ∷ b1 ∷ [] = le_bytes_2 (b0 ∷ b1 ∷ []) n refl (are_more b0 (b1 ∷ []) (fits at) (are_more b1 [] (fits (at + 1)) are_none))
+    (sym g.1) in
     subst (λ (t : List ℕ). Takes bytes at t next) (sym same) cells
 
 -- a long that was read stands there
@@ -41,10 +43,13 @@ long_found bytes fits at next n e h =
     let b1 = get_or bytes (at + 1) 0 in
     let b2 = get_or bytes (at + 2) 0 in
     let b3 = get_or bytes (at + 3) 0 in
-    let low : Takes bytes at (b0 ∷ b1 ∷ []) (at + 2) = Takes-then (Takes-byte bytes at (at + 1) refl (omega arith)) (Takes-byte bytes (at + 1) (at + 2) (omega arith) (omega arith)) in
-    let high : Takes bytes (at + 2) (b2 ∷ b3 ∷ []) next = Takes-then (Takes-byte bytes (at + 2) (at + 3) (omega arith) (omega arith)) (Takes-byte bytes (at + 3) next (omega arith) lt) in
+    let low : Takes bytes at (b0 ∷ b1 ∷ []) (at + 2) = Takes-then (Takes-byte bytes at (at + 1) refl (omega arith))
+    (Takes-byte bytes (at + 1) (at + 2) (omega arith) (omega arith)) in
+    let high : Takes bytes (at + 2) (b2 ∷ b3 ∷ []) next = Takes-then (Takes-byte bytes (at + 2) (at + 3) (omega arith) (omega arith))
+    (Takes-byte bytes (at + 3) next (omega arith) lt) in
     let cells : Takes bytes at (b0 ∷ b1 ∷ b2 ∷ b3 ∷ []) next = Takes-then low high in
-    let are : IsBytes (b0 ∷ b1 ∷ b2 ∷ b3 ∷ []) = are_more b0 (b1 ∷ b2 ∷ b3 ∷ []) (fits at) (are_more b1 (b2 ∷ b3 ∷ []) (fits (at + 1)) (are_more b2 (b3 ∷ []) (fits (at + 2)) (are_more b3 [] (fits (at + 3)) are_none))) in
+    let are : IsBytes (b0 ∷ b1 ∷ b2 ∷ b3 ∷ []) = are_more b0 (b1 ∷ b2 ∷ b3 ∷ []) (fits at)
+    (are_more b1 (b2 ∷ b3 ∷ []) (fits (at + 1)) (are_more b2 (b3 ∷ []) (fits (at + 2)) (are_more b3 [] (fits (at + 3)) are_none))) in
     let same : long n ≡ b0 ∷ b1 ∷ b2 ∷ b3 ∷ [] = le_bytes_4 (b0 ∷ b1 ∷ b2 ∷ b3 ∷ []) n refl are (sym g.1) in
     subst (λ (t : List ℕ). Takes bytes at t next) (sym same) cells
 
@@ -61,7 +66,8 @@ pub byte_below_found : (limit : ℕ) (bytes : List ℕ) (at next n : ℕ) → ne
 byte_below_found limit bytes at next n e h = byte_found bytes at next n e (below_ok limit at (byte_at bytes at) n h).0
 
 -- a word below its limit that was read stands there
-pub word_below_found : (limit : ℕ) (bytes : List ℕ) → IsBytes bytes → (at next n : ℕ) → next ≡ at + 2 → word_below limit bytes at ≡ Ok n → Takes bytes at (word n) next
+pub word_below_found : (limit : ℕ) (bytes : List ℕ) → IsBytes bytes → (at next n : ℕ) → next ≡ at + 2
+    → word_below limit bytes at ≡ Ok n → Takes bytes at (word n) next
 word_below_found limit bytes fits at next n e h = word_found bytes fits at next n e (below_ok limit at (word_at bytes at) n h).0
 
 -- a field that is not used holds 0
@@ -72,20 +78,23 @@ unused_found bytes at next n e h =
     subst (λ (m : ℕ). Takes bytes at (m ∷ []) next) none (byte_found bytes at next n e b.0)
 
 -- a byte that stands there is read
-pub byte_again : (bytes : List ℕ) (at next b : ℕ) (rest : List ℕ) → next ≡ at + 1 → Left bytes at (b ∷ rest) → (byte_at bytes at ≡ Ok b) × Left bytes next rest
+pub byte_again : (bytes : List ℕ) (at next b : ℕ) (rest : List ℕ) → next ≡ at + 1 → Left bytes at (b ∷ rest)
+    → (byte_at bytes at ≡ Ok b) × Left bytes next rest
 byte_again bytes at next b rest e l =
     let p = Left-byte next e l in
     (rw (lt-ltb at (length bytes) p.0, p.1) refl, p.2)
 
 -- a word that stands there is read
-pub word_again : (bytes : List ℕ) (at next n : ℕ) (rest : List ℕ) → next ≡ at + 2 → n < 2 ^ 16 → Left bytes at (word n ++ rest) → (word_at bytes at ≡ Ok n) × Left bytes next rest
+pub word_again : (bytes : List ℕ) (at next n : ℕ) (rest : List ℕ) → next ≡ at + 2 → n < 2 ^ 16 → Left bytes at (word n ++ rest)
+    → (word_at bytes at ≡ Ok n) × Left bytes next rest
 word_again bytes at next n rest e lt l =
     let p = Left-byte (at + 1) refl l in
     let q = Left-byte next (omega arith) p.2 in
     (rw (lt-ltb (at + 1) (length bytes) q.0, p.1, q.1) (ap Ok (from_le_bytes-to_le_bytes_2 n lt)), q.2)
 
 -- a long that stands there is read
-pub long_again : (bytes : List ℕ) (at next n : ℕ) (rest : List ℕ) → next ≡ at + 4 → n < 2 ^ 32 → Left bytes at (long n ++ rest) → (long_at bytes at ≡ Ok n) × Left bytes next rest
+pub long_again : (bytes : List ℕ) (at next n : ℕ) (rest : List ℕ) → next ≡ at + 4 → n < 2 ^ 32 → Left bytes at (long n ++ rest)
+    → (long_at bytes at ≡ Ok n) × Left bytes next rest
 long_again bytes at next n rest e lt l =
     let p = Left-byte (at + 1) refl l in
     let q = Left-byte (at + 2) (omega arith) p.2 in
@@ -94,13 +103,15 @@ long_again bytes at next n rest e lt l =
     (rw (lt-ltb (at + 3) (length bytes) s.0, p.1, q.1, r.1, s.1) (ap Ok (from_le_bytes-to_le_bytes_4 n lt)), s.2)
 
 -- a byte below its limit that stands there is read
-pub byte_below_again : (limit : ℕ) (bytes : List ℕ) (at next b : ℕ) (rest : List ℕ) → next ≡ at + 1 → b < limit → Left bytes at (b ∷ rest) → (byte_below limit bytes at ≡ Ok b) × Left bytes next rest
+pub byte_below_again : (limit : ℕ) (bytes : List ℕ) (at next b : ℕ) (rest : List ℕ) → next ≡ at + 1 → b < limit
+    → Left bytes at (b ∷ rest) → (byte_below limit bytes at ≡ Ok b) × Left bytes next rest
 byte_below_again limit bytes at next b rest e lt l =
     let p = byte_again bytes at next b rest e l in
     (rw (p.0, lt-ltb b limit lt) refl, p.1)
 
 -- a word below its limit that stands there is read
-pub word_below_again : (limit : ℕ) (bytes : List ℕ) (at next n : ℕ) (rest : List ℕ) → next ≡ at + 2 → n < 2 ^ 16 → n < limit → Left bytes at (word n ++ rest) → (word_below limit bytes at ≡ Ok n) × Left bytes next rest
+pub word_below_again : (limit : ℕ) (bytes : List ℕ) (at next n : ℕ) (rest : List ℕ) → next ≡ at + 2 → n < 2 ^ 16
+    → n < limit → Left bytes at (word n ++ rest) → (word_below limit bytes at ≡ Ok n) × Left bytes next rest
 word_below_again limit bytes at next n rest e fits lt l =
     let p = word_again bytes at next n rest e fits l in
     (rw (p.0, lt-ltb n limit lt) refl, p.1)

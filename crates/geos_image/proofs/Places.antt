@@ -28,7 +28,10 @@ Takes-none bytes at = record { parts = refl }
 
 -- two texts side by side are one
 pub Takes-then : {bytes x y : List ℕ} {at mid next : ℕ} → Takes bytes at x mid → Takes bytes mid y next → Takes bytes at (x ++ y) next
-Takes-then {bytes} {x} {y} {at} {mid} {next} p q = record { parts = p.parts ∙ ap (λ (t : List ℕ). x ++ t) q.parts ∙ sym (append_assoc x y (drop next bytes)) }
+Takes-then {bytes} {x} {y} {at} {mid} {next} p q = record {
+  parts = p.parts ∙ ap (λ (t : List ℕ). x ++ t) q.parts
+      ∙ sym (append_assoc x y (drop next bytes));
+}
 
 -- one byte
 pub Takes-byte : (bytes : List ℕ) (at next : ℕ) → next ≡ at + 1 → at < length bytes → Takes bytes at (get_or bytes at 0 ∷ []) next
@@ -52,7 +55,8 @@ pub six_texts : (a b c d e f rest : List ℕ) → a ++ b ++ c ++ d ++ e ++ f ++ 
 six_texts a b c d e f rest = simp append_assoc
 
 -- one byte is left before others
-pub Left-byte : {bytes rest : List ℕ} {at b : ℕ} (next : ℕ) → next ≡ at + 1 → Left bytes at (b ∷ rest) → (at < length bytes) × (get_or bytes at 0 ≡ b) × Left bytes next rest
+pub Left-byte : {bytes rest : List ℕ} {at b : ℕ} (next : ℕ) → next ≡ at + 1 → Left bytes at (b ∷ rest) → (at < length bytes)
+    × (get_or bytes at 0 ≡ b) × Left bytes next rest
 Left-byte {bytes} {rest} {at} {b} next e l =
     let lt : at < length bytes = omega (arith, length-drop at bytes, ap length l.parts) in
     let both : get_or bytes at 0 ∷ drop (at + 1) bytes ≡ b ∷ rest = sym (drop_more bytes at 0 lt) ∙ l.parts in

@@ -22,36 +22,46 @@ both false b p q = p
 pub list_all-push : {A : Type 0} (p : A → Bool) (xs : List A) (x : A) → list_all p xs ≡ true → p x ≡ true → list_all p (xs ++ x ∷ []) ≡ true
 list_all-push p xs x h k = list_all-append p xs (x ∷ []) ∙ both (list_all p xs) (list_all p (x ∷ [])) h (both (p x) true k refl)
 
-are_routines-more : (borrows : Bool) (earlier routines : List Routine) (r : Routine) → are_routines borrows earlier routines ≡ true → is_routine borrows (earlier ++ routines) r ≡ true → are_routines borrows earlier (routines ++ r ∷ []) ≡ true
-are_routines-more borrows earlier [] r h k = both (is_routine borrows earlier r) true (ap (λ rs. is_routine borrows rs r) (sym (append-nil earlier)) ∙ k) refl
+are_routines-more : (borrows : Bool) (earlier routines : List Routine) (r : Routine) → are_routines borrows earlier routines ≡ true
+    → is_routine borrows (earlier ++ routines) r ≡ true → are_routines borrows earlier (routines ++ r ∷ []) ≡ true
+are_routines-more borrows earlier [] r h k = both (is_routine borrows earlier r) true
+    (ap (λ rs. is_routine borrows rs r) (sym (append-nil earlier)) ∙ k) refl
 are_routines-more borrows earlier (first ∷ routines) r h k =
     let parts = and_parts (is_routine borrows earlier first) (are_routines borrows (earlier ++ first ∷ []) routines) h in
     both (is_routine borrows earlier first) _ parts.0
-    (are_routines-more borrows (earlier ++ first ∷ []) routines r parts.1 (ap (λ rs. is_routine borrows rs r) (append_assoc earlier (first ∷ []) routines) ∙ k))
+    (are_routines-more borrows (earlier ++ first ∷ []) routines r parts.1
+    (ap (λ rs. is_routine borrows rs r) (append_assoc earlier (first ∷ []) routines) ∙ k))
 
 -- a routine that may stand behind those that do
-pub are_routines-push : (borrows : Bool) (routines : List Routine) (r : Routine) → are_routines borrows [] routines ≡ true → is_routine borrows routines r ≡ true → are_routines borrows [] (routines ++ r ∷ []) ≡ true
+pub are_routines-push : (borrows : Bool) (routines : List Routine) (r : Routine) → are_routines borrows [] routines ≡ true
+    → is_routine borrows routines r ≡ true → are_routines borrows [] (routines ++ r ∷ []) ≡ true
 are_routines-push borrows routines r h k = are_routines-more borrows [] routines r h k
 
 pub total_count-push : (routines : List Routine) (r : Routine) → total_count (routines ++ r ∷ []) ≡ total_count routines + r.count
 total_count-push routines r = sum_by_push (λ (x : Routine). x.count) routines r
 
 -- one more instruction
-pub instrs-push : (code : List Instr) (front : List Point) (k : ℕ) (d : Instr) (row : Option Row) (potential : Potential) → k < length code → instrs_of front ≡ take k code
+pub instrs-push : (code : List Instr) (front : List Point) (k : ℕ) (d : Instr) (row : Option Row) (potential : Potential)
+    → k < length code → instrs_of front ≡ take k code
     → instrs_of (front ++ record { instr = get_or code k d; row = row; potential = potential } ∷ []) ≡ take (k + 1) code
 instrs-push code front k d row potential lt so_far =
     map-append (λ (point : Point). point.instr) front _ ∙ ap (λ (is : List Instr). is ++ get_or code k d ∷ []) so_far ∙ sym (take_more code k d lt)
 
 -- one more instruction and its entry
-pub points-push : (borrows : Bool) (routines instrs : ℕ) (code : List Instr) (front : List Point) (k : ℕ) (d : Instr) (row : Option Row) (potential : Potential) → k < length code
-    → (list_all (is_instr routines instrs) (take k code) ≡ true → list_all (is_point borrows routines instrs) front ≡ true) → is_given borrows row ≡ true
-    → list_all (is_instr routines instrs) (take (k + 1) code) ≡ true → list_all (is_point borrows routines instrs) (front ++ record { instr = get_or code k d; row = row; potential = potential } ∷ []) ≡ true
+pub points-push : (borrows : Bool) (routines instrs : ℕ) (code : List Instr) (front : List Point) (k : ℕ) (d : Instr)
+    (row : Option Row) (potential : Potential) → k < length code
+    → (list_all (is_instr routines instrs) (take k code) ≡ true → list_all (is_point borrows routines instrs) front ≡ true)
+    → is_given borrows row ≡ true
+    → list_all (is_instr routines instrs) (take (k + 1) code) ≡ true → list_all (is_point borrows routines instrs)
+    (front ++ record { instr = get_or code k d; row = row; potential = potential } ∷ []) ≡ true
 points-push borrows routines instrs code front k d row potential lt so_far legal h =
     let p = is_instr routines instrs in
-    let parts : (list_all p (take k code) && list_all p (get_or code k d ∷ [])) ≡ true = sym (list_all-append p (take k code) (get_or code k d ∷ [])) ∙ ap (list_all p) (sym (take_more code k d lt)) ∙ h in
+    let parts : (list_all p (take k code) && list_all p (get_or code k d ∷ [])) ≡ true = sym (list_all-append p (take k code) (get_or code k d ∷ []))
+    ∙ ap (list_all p) (sym (take_more code k d lt)) ∙ h in
     let two = and_parts (list_all p (take k code)) (list_all p (get_or code k d ∷ [])) parts in
     let here = and_parts (p (get_or code k d)) true two.1 in
-    list_all-push (is_point borrows routines instrs) front (record { instr = get_or code k d; row = row; potential = potential }) (so_far two.0) (both (p (get_or code k d)) (is_given borrows row) here.0 legal)
+    list_all-push (is_point borrows routines instrs) front (record { instr = get_or code k d; row = row; potential = potential })
+    (so_far two.0) (both (p (get_or code k d)) (is_given borrows row) here.0 legal)
 
 -- the bytes of one more element stand behind those of the elements before it
 pub puts-more : {A : Type 0} (f : A → List ℕ) (xs : List A) (k : ℕ) (d : A) (start old new : List ℕ) → k < length xs

@@ -22,21 +22,25 @@ use Rattle.geos_image.proofs.Pushes.{total_count-push}
 
 -- ---- names
 
-name_found : (earlier : List Routine) (bytes : List ℕ) (at next : ℕ) (name : List ℕ) → next ≡ at + 16 → name_at earlier bytes at ≡ Ok name → Takes bytes at name next
+name_found : (earlier : List Routine) (bytes : List ℕ) (at next : ℕ) (name : List ℕ) → next ≡ at + 16
+    → name_at earlier bytes at ≡ Ok name → Takes bytes at name next
 unfolding name_at
 name_found earlier bytes at next name e h =
     let g = cond_ok _ at (take 16 (drop at bytes)) name h in
-    let parts : drop at bytes ≡ take 16 (drop at bytes) ++ drop next bytes = sym (take-append-drop 16 (drop at bytes)) ∙ ap (λ (t : List ℕ). take 16 (drop at bytes) ++ t) (drop-drop 16 at bytes ∙ ap (λ (k : ℕ). drop k bytes) (sym e)) in
+    let parts : drop at bytes ≡ take 16 (drop at bytes) ++ drop next bytes = sym (take-append-drop 16 (drop at bytes))
+    ∙ ap (λ (t : List ℕ). take 16 (drop at bytes) ++ t) (drop-drop 16 at bytes ∙ ap (λ (k : ℕ). drop k bytes) (sym e)) in
     subst (λ (t : List ℕ). Takes bytes at t next) g.1 (record { parts = parts })
 
-name_again : (earlier : List Routine) (bytes : List ℕ) (at next : ℕ) (name rest : List ℕ) → next ≡ at + 16 → length name ≡ 16 → is_name name ≡ true → is_named name earlier ≡ false → Left bytes at (name ++ rest)
+name_again : (earlier : List Routine) (bytes : List ℕ) (at next : ℕ) (name rest : List ℕ) → next ≡ at + 16
+    → length name ≡ 16 → is_name name ≡ true → is_named name earlier ≡ false → Left bytes at (name ++ rest)
     → (name_at earlier bytes at ≡ Ok name) × Left bytes next rest
 unfolding name_at
 name_again earlier bytes at next name rest e len good fresh l =
     let long-enough : length (drop at bytes) ≡ length name + length rest = ap length l.parts ∙ length-append name rest in
     let within : at + 16 ≤ length bytes = omega (arith, length-drop at bytes, l.within) in
     let front : take 16 (drop at bytes) ≡ name = ap (take 16) l.parts ∙ take_at name rest 16 len in
-    let behind : drop next bytes ≡ rest = ap (λ (k : ℕ). drop k bytes) e ∙ sym (drop-drop 16 at bytes) ∙ ap (drop 16) l.parts ∙ drop_at name rest 16 len in
+    let behind : drop next bytes ≡ rest = ap (λ (k : ℕ). drop k bytes) e ∙ sym (drop-drop 16 at bytes) ∙ ap (drop 16) l.parts
+    ∙ drop_at name rest 16 len in
     (rw (front, le-leb (at + 16) (length bytes) within, good, fresh) refl, record { within = omega arith; parts = behind })
 
 -- ---- one routine
@@ -50,21 +54,24 @@ flag_again : (b : Bool) → (flag b < 2) × ((flag b == 1) ≡ b)
 flag_again true = (omega arith, refl)
 flag_again false = (omega arith, refl)
 
-count_found : (earlier : List Routine) (bytes : List ℕ) → IsBytes bytes → (at next n : ℕ) → next ≡ at + 2 → count_at earlier bytes at ≡ Ok n → Takes bytes at (word n) next
+count_found : (earlier : List Routine) (bytes : List ℕ) → IsBytes bytes → (at next n : ℕ) → next ≡ at + 2
+    → count_at earlier bytes at ≡ Ok n → Takes bytes at (word n) next
 unfolding count_at
 count_found earlier bytes fits at next n e h =
     after (word_at bytes at) _ n h (λ count read-count h.
     after (guard at (nat_lt 0 count && nat_le (total_count earlier + count) 4096)) _ n h (λ test tested h.
     subst (λ (k : ℕ). Takes bytes at (word k) next) (ok_is count n h) (word_found bytes fits at next count e read-count)))
 
-count_again : (earlier : List Routine) (bytes : List ℕ) (at next n : ℕ) (rest : List ℕ) → next ≡ at + 2 → nat_lt 0 n ≡ true → total_count earlier + n ≤ 4096 → Left bytes at (word n ++ rest)
+count_again : (earlier : List Routine) (bytes : List ℕ) (at next n : ℕ) (rest : List ℕ) → next ≡ at + 2 → nat_lt 0 n ≡ true
+    → total_count earlier + n ≤ 4096 → Left bytes at (word n ++ rest)
     → (count_at earlier bytes at ≡ Ok n) × Left bytes next rest
 unfolding count_at
 count_again earlier bytes at next n rest e some room l =
     let count = word_again bytes at next n rest e (omega arith) l in
     (rw (count.0, some, le-leb (total_count earlier + n) 4096 room) refl, count.1)
 
-routine_found : (borrows : Bool) (earlier : List Routine) (bytes : List ℕ) → IsBytes bytes → (at next : ℕ) (r : Routine) → next ≡ at + 100 → routine_at borrows earlier bytes at ≡ Ok r → Takes bytes at (routine r) next
+routine_found : (borrows : Bool) (earlier : List Routine) (bytes : List ℕ) → IsBytes bytes → (at next : ℕ) (r : Routine)
+    → next ≡ at + 100 → routine_at borrows earlier bytes at ≡ Ok r → Takes bytes at (routine r) next
 unfolding routine_at
 routine_found borrows earlier bytes fits at next r e h =
     after (name_at earlier bytes at) _ r h (λ name read-name h.
@@ -84,7 +91,8 @@ routine_found borrows earlier bytes fits at next r e h =
     let takes-entry = row_found borrows bytes fits (at + 24) (at + 62) entry (plus at 24 38) read-entry in
     let takes-exit = row_found borrows bytes fits (at + 62) next exit (e ∙ plus at 62 38) read-exit in
     let front = Takes-then (Takes-then takes-name (Takes-then takes-flag takes-unused)) takes-count in
-    subst (λ (q : Routine). Takes bytes at (routine q) next) (ok_is read r h) (Takes-then (Takes-then (Takes-then front takes-budget) takes-entry) takes-exit))))))))
+    subst (λ (q : Routine). Takes bytes at (routine q) next) (ok_is read r h)
+    (Takes-then (Takes-then (Takes-then front takes-budget) takes-entry) takes-exit))))))))
 
 -- the parts of the rule for routines
 record RoutineParts (borrows : Bool) (earlier : List Routine) (r : Routine) : Type 0 where
@@ -105,7 +113,8 @@ routine_parts borrows earlier r h =
     let t = and_parts name fresh s.0 in
     record { name = t.0; fresh = not-true (is_named r.name earlier) t.1; some = s.1; entry = q.1; exit = p.1 }
 
-routine_again : (borrows : Bool) (earlier : List Routine) (bytes : List ℕ) (at next : ℕ) (r : Routine) (rest : List ℕ) → next ≡ at + 100 → is_routine borrows earlier r ≡ true → total_count earlier + r.count ≤ 4096 → RoutineFits r
+routine_again : (borrows : Bool) (earlier : List Routine) (bytes : List ℕ) (at next : ℕ) (r : Routine) (rest : List ℕ)
+    → next ≡ at + 100 → is_routine borrows earlier r ≡ true → total_count earlier + r.count ≤ 4096 → RoutineFits r
     → Left bytes at (routine r ++ rest) → (routine_at borrows earlier bytes at ≡ Ok r) × Left bytes next rest
 unfolding routine_at
 routine_again borrows earlier bytes at next r rest e legal room fits l =
@@ -124,7 +133,8 @@ routine_again borrows earlier bytes at next r rest e legal room fits l =
 -- ---- routines
 
 -- routines that were read stand there, behind the earlier ones
-pub routines_found : (borrows : Bool) (bytes : List ℕ) → IsBytes bytes → (n at next : ℕ) (earlier routines : List Routine) → next ≡ at + 100 * n → routines_at borrows bytes n at earlier ≡ Ok routines
+pub routines_found : (borrows : Bool) (bytes : List ℕ) → IsBytes bytes → (n at next : ℕ) (earlier routines : List Routine)
+    → next ≡ at + 100 * n → routines_at borrows bytes n at earlier ≡ Ok routines
     → (more : List Routine) × (routines ≡ earlier ++ more) × (length more ≡ n) × Takes bytes at (flat_map routine more) next
 unfolding routines_at
 routines_found borrows bytes fits zero at next earlier routines e h =
@@ -138,8 +148,10 @@ routines_found borrows bytes fits (suc n) at next earlier routines e h =
     (r ∷ q.0, q.1 ∙ append_assoc earlier (r ∷ []) q.0, ap suc q.2, takes_more routine r q.0 p q.3))
 
 -- routines that stand there are read, behind the earlier ones
-pub routines_again : (borrows : Bool) (bytes : List ℕ) (more : List Routine) (n at next : ℕ) (earlier : List Routine) (rest : List ℕ) → length more ≡ n → next ≡ at + 100 * n → are_routines borrows earlier more ≡ true → total_count earlier + total_count more ≤ 4096
-    → All RoutineFits more → Left bytes at (flat_map routine more ++ rest) → (routines_at borrows bytes n at earlier ≡ Ok (earlier ++ more)) × Left bytes next rest
+pub routines_again : (borrows : Bool) (bytes : List ℕ) (more : List Routine) (n at next : ℕ) (earlier : List Routine) (rest : List ℕ)
+    → length more ≡ n → next ≡ at + 100 * n → are_routines borrows earlier more ≡ true → total_count earlier + total_count more ≤ 4096
+    → All RoutineFits more → Left bytes at (flat_map routine more ++ rest) → (routines_at borrows bytes n at earlier ≡ Ok (earlier ++ more))
+    × Left bytes next rest
 unfolding routines_at
 routines_again borrows bytes [] zero at next earlier rest len e legal room fits l =
     let same = no_more at 100 next e in
@@ -153,6 +165,8 @@ routines_again borrows bytes (r ∷ more) (suc n) at next earlier rest len e leg
     let here : total_count earlier + r.count ≤ 4096 = omega (arith, room, total) in
     let there : total_count (earlier ++ r ∷ []) + total_count more ≤ 4096 = omega (arith, room, total, pushed) in
     let place = behind_first at 100 n next e in
-    let p = routine_again borrows earlier bytes at (at + 100) r (flat_map routine more ++ rest) refl parts.0 here (All-head RoutineFits r more fits) (left_more routine r more rest l) in
-    let q = routines_again borrows bytes more n (at + 100) next (earlier ++ r ∷ []) rest (omega arith) place parts.1 there (All-tail RoutineFits r more fits) p.1 in
+    let p = routine_again borrows earlier bytes at (at + 100) r (flat_map routine more ++ rest) refl parts.0 here
+    (All-head RoutineFits r more fits) (left_more routine r more rest l) in
+    let q = routines_again borrows bytes more n (at + 100) next (earlier ++ r ∷ []) rest (omega arith) place parts.1 there
+    (All-tail RoutineFits r more fits) p.1 in
     (rw (p.0, q.0, append_assoc earlier (r ∷ []) more) refl, q.1)

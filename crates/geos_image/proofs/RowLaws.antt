@@ -24,12 +24,15 @@ use Rattle.geos_image.proofs.RunLaws.{items_found, items_again}
 abbrev slot_text : SlotState → List ℕ
 slot_text s = slot_code s ∷ []
 
-slot_found : (borrows : Bool) (bytes : List ℕ) (at next : ℕ) (s : SlotState) → next ≡ at + 1 → slot_at borrows bytes at ≡ Ok s → Takes bytes at (slot_text s) next
+slot_found : (borrows : Bool) (bytes : List ℕ) (at next : ℕ) (s : SlotState) → next ≡ at + 1 → slot_at borrows bytes at ≡ Ok s
+    → Takes bytes at (slot_text s) next
 unfolding slot_at
 slot_found borrows bytes at next s e h =
     after (byte_at bytes at) _ s h (λ code read-code h.
     let found : slot_of borrows code ≡ Some s = or_fault_ok at (slot_of borrows code) s h in
-    let spells : slot_code s ≡ code = eqb-true _ _ ((and_parts (slot_code s == code) (borrows || is_own s) (find_passes (λ state. slot_code state == code && (borrows || is_own state)) slot_states s found)).0) in
+    let spells : slot_code s ≡ code =
+    eqb-true _ _ ((and_parts (slot_code s == code) (borrows || is_own s)
+    (find_passes (λ state. slot_code state == code && (borrows || is_own state)) slot_states s found)).0) in
     subst (λ (k : ℕ). Takes bytes at (k ∷ []) next) (sym spells) (byte_found bytes at next code e read-code))
 
 slot_of_again : (borrows : Bool) (s : SlotState) → (borrows || is_own s) ≡ true → slot_of borrows (slot_code s) ≡ Some s
@@ -49,7 +52,8 @@ slot_of_again false (Db false) h = refl
 slot_of_again false (Db true) h = refl
 slot_of_again false (Vm marked true) h = absurd cc
 
-slot_again : (borrows : Bool) (bytes : List ℕ) (at next : ℕ) (s : SlotState) (rest : List ℕ) → next ≡ at + 1 → (borrows || is_own s) ≡ true → Left bytes at (slot_text s ++ rest) → (slot_at borrows bytes at ≡ Ok s) × Left bytes next rest
+slot_again : (borrows : Bool) (bytes : List ℕ) (at next : ℕ) (s : SlotState) (rest : List ℕ) → next ≡ at + 1
+    → (borrows || is_own s) ≡ true → Left bytes at (slot_text s ++ rest) → (slot_at borrows bytes at ≡ Ok s) × Left bytes next rest
 unfolding slot_at
 slot_again borrows bytes at next s rest e h l =
     let code = byte_again bytes at next _ _ e l in
@@ -71,8 +75,10 @@ stale_none slot least e below =
     omega arith
 
 -- a slot is one of four, or stale with no length
-pointer_is : (bytes : List ℕ) (at next slot least : ℕ) (p : Option Pointer) → (nat_lt slot 4 || slot == 255) ≡ true → least < cond (slot == 255) 1 65536
-    → cond (nat_lt slot 4) (Some (record { slot = slot; least = least })) None ≡ p → Takes bytes at (slot ∷ 0 ∷ word least) next → Takes bytes at (pointer p) next
+pointer_is : (bytes : List ℕ) (at next slot least : ℕ) (p : Option Pointer) → (nat_lt slot 4 || slot == 255) ≡ true
+    → least < cond (slot == 255) 1 65536
+    → cond (nat_lt slot 4) (Some (record { slot = slot; least = least })) None ≡ p → Takes bytes at (slot ∷ 0 ∷ word least) next
+    → Takes bytes at (pointer p) next
 pointer_is bytes at next slot least p known below made takes =
     elim (cases_lt slot 4) [
       | inl lt ↦
@@ -83,11 +89,13 @@ pointer_is bytes at next slot least p known below made takes =
           let stale : slot ≡ 255 = eqb-true slot 255 test in
           let none : least ≡ 0 = stale_none slot least stale below in
           let made-none = rw (le-ltb slot 4 ge) at made in
-          subst (λ (q : Option Pointer). Takes bytes at (pointer q) next) made-none (subst (λ (k : ℕ). Takes bytes at (255 ∷ 0 ∷ word k) next) none (subst (λ (k : ℕ). Takes bytes at (k ∷ 0 ∷ word least) next) stale takes))
+          subst (λ (q : Option Pointer). Takes bytes at (pointer q) next) made-none
+          (subst (λ (k : ℕ). Takes bytes at (255 ∷ 0 ∷ word k) next) none (subst (λ (k : ℕ). Takes bytes at (k ∷ 0 ∷ word least) next) stale takes))
     ]
 
 -- a pointer that was read stands there
-pointer_found : (bytes : List ℕ) → IsBytes bytes → (at next : ℕ) (p : Option Pointer) → next ≡ at + 4 → pointer_at bytes at ≡ Ok p → Takes bytes at (pointer p) next
+pointer_found : (bytes : List ℕ) → IsBytes bytes → (at next : ℕ) (p : Option Pointer) → next ≡ at + 4
+    → pointer_at bytes at ≡ Ok p → Takes bytes at (pointer p) next
 unfolding pointer_at
 pointer_found bytes fits at next p e h =
     after (byte_at bytes at) _ p h (λ slot read-slot h.
@@ -98,9 +106,11 @@ pointer_found bytes fits at next p e h =
     let takes-slot = byte_found bytes at (at + 1) slot refl read-slot in
     let takes-unused = unused_found bytes (at + 1) (at + 2) unused (plus at 1 1) read-unused in
     let takes-least = word_found bytes fits (at + 2) next least (e ∙ plus at 2 2) below.0 in
-    pointer_is bytes at next slot least p (guard_ok at _ known read-known) below.1 (ok_is _ p h) (Takes-then (Takes-then takes-slot takes-unused) takes-least)))))
+    pointer_is bytes at next slot least p (guard_ok at _ known read-known) below.1 (ok_is _ p h)
+    (Takes-then (Takes-then takes-slot takes-unused) takes-least)))))
 
-pointer_again : (bytes : List ℕ) (at next : ℕ) (p : Option Pointer) (rest : List ℕ) → next ≡ at + 4 → (is_pointer p ≡ true) × PointerFits p → Left bytes at (pointer p ++ rest) → (pointer_at bytes at ≡ Ok p) × Left bytes next rest
+pointer_again : (bytes : List ℕ) (at next : ℕ) (p : Option Pointer) (rest : List ℕ) → next ≡ at + 4 → (is_pointer p ≡ true)
+    × PointerFits p → Left bytes at (pointer p ++ rest) → (pointer_at bytes at ≡ Ok p) × Left bytes next rest
 unfolding pointer_at
 pointer_again bytes at next None rest e legal l =
     let slot = byte_again bytes at (at + 1) 255 _ refl l in
@@ -153,7 +163,8 @@ pairs_again pairs len =
 -- ---- rows
 
 -- a row that was read stands there
-pub row_found : (borrows : Bool) (bytes : List ℕ) → IsBytes bytes → (at next : ℕ) (r : Row) → next ≡ at + 38 → row_at borrows bytes at ≡ Ok r → Takes bytes at (row r) next
+pub row_found : (borrows : Bool) (bytes : List ℕ) → IsBytes bytes → (at next : ℕ) (r : Row) → next ≡ at + 38
+    → row_at borrows bytes at ≡ Ok r → Takes bytes at (row r) next
 unfolding row_at
 row_found borrows bytes fits at next r e h =
     after (items_at (word_at bytes) 2 8 at) _ r h (λ bounds read-bounds h.
@@ -163,14 +174,17 @@ row_found borrows bytes fits at next r e h =
     after (byte_below 1 bytes (at + 37)) _ r h (λ unused read-unused h.
     let read : Row = record { bounds = bounds; slots = slots; pointers = pointers; pairs = pairs_of pairs } in
     let takes-bounds = items_found bytes (word_at bytes) word 2 (word_found bytes fits) 8 at (at + 16) bounds refl read-bounds in
-    let takes-slots = items_found bytes (slot_at borrows bytes) slot_text 1 (slot_found borrows bytes) 4 (at + 16) (at + 20) slots (plus at 16 4) read-slots in
+    let takes-slots = items_found bytes (slot_at borrows bytes) slot_text 1 (slot_found borrows bytes) 4 (at + 16)
+    (at + 20) slots (plus at 16 4) read-slots in
     let takes-states = subst (λ (t : List ℕ). Takes bytes (at + 16) t (at + 20)) (flat_map_single slot_code slots) takes-slots.0 in
-    let takes-pointers = items_found bytes (pointer_at bytes) pointer 4 (pointer_found bytes fits) 4 (at + 20) (at + 36) pointers (plus at 20 16) read-pointers in
+    let takes-pointers = items_found bytes (pointer_at bytes) pointer 4 (pointer_found bytes fits) 4 (at + 20)
+    (at + 36) pointers (plus at 20 16) read-pointers in
     let below = below_ok 64 (at + 36) (byte_at bytes (at + 36)) pairs read-pairs in
     let takes-byte = byte_found bytes (at + 36) (at + 37) pairs (plus at 36 1) below.0 in
     let takes-pairs = subst (λ (k : ℕ). Takes bytes (at + 36) (k ∷ []) (at + 37)) (sym (pairs_found pairs below.1)) takes-byte in
     let takes-unused = unused_found bytes (at + 37) next unused (e ∙ plus at 37 1) read-unused in
-    subst (λ (q : Row). Takes bytes at (row q) next) (ok_is read r h) (Takes-then (Takes-then (Takes-then takes-bounds.0 takes-states) takes-pointers.0) (Takes-then takes-pairs takes-unused)))))))
+    subst (λ (q : Row). Takes bytes at (row q) next) (ok_is read r h)
+    (Takes-then (Takes-then (Takes-then takes-bounds.0 takes-states) takes-pointers.0) (Takes-then takes-pairs takes-unused)))))))
 
 -- a row of the right shape whose pointers lead into slots
 record Shape (borrows : Bool) (r : Row) : Type 0 where
@@ -196,14 +210,17 @@ row_shape borrows r h =
     record { own = o.0; bounds = eqb-true _ _ t.0; slots = eqb-true _ _ t.1; four = eqb-true _ _ s.1; pairs = eqb-true _ _ q.1; legal = p.1 }
 
 -- what is known of each pointer
-both_all : (pointers : List (Option Pointer)) → list_all is_pointer pointers ≡ true → All PointerFits pointers → All (λ p. (is_pointer p ≡ true) × PointerFits p) pointers
+both_all : (pointers : List (Option Pointer)) → list_all is_pointer pointers ≡ true → All PointerFits pointers
+    → All (λ p. (is_pointer p ≡ true) × PointerFits p) pointers
 both_all [] legal fits = All-nil (λ p. (is_pointer p ≡ true) × PointerFits p)
 both_all (p ∷ pointers) legal fits =
     let parts = and_parts (is_pointer p) (list_all is_pointer pointers) legal in
-    All-cons (λ q. (is_pointer q ≡ true) × PointerFits q) p pointers (parts.0, All-head PointerFits p pointers fits) (both_all pointers parts.1 (All-tail PointerFits p pointers fits))
+    All-cons (λ q. (is_pointer q ≡ true) × PointerFits q) p pointers (parts.0, All-head PointerFits p pointers fits)
+    (both_all pointers parts.1 (All-tail PointerFits p pointers fits))
 
 -- a row that stands there is read
-pub row_again : (borrows : Bool) (bytes : List ℕ) (at next : ℕ) (r : Row) (rest : List ℕ) → next ≡ at + 38 → is_row borrows r ≡ true → RowFits r → Left bytes at (row r ++ rest) → (row_at borrows bytes at ≡ Ok r) × Left bytes next rest
+pub row_again : (borrows : Bool) (bytes : List ℕ) (at next : ℕ) (r : Row) (rest : List ℕ) → next ≡ at + 38
+    → is_row borrows r ≡ true → RowFits r → Left bytes at (row r ++ rest) → (row_at borrows bytes at ≡ Ok r) × Left bytes next rest
 unfolding row_at
 row_again borrows bytes at next r rest e legal fits l =
     let shape = row_shape borrows r legal in
@@ -214,8 +231,10 @@ row_again borrows bytes at next r rest e legal fits l =
     let one-kind = ap (λ (t : List ℕ). flat_map word r.bounds ++ (t ++ (flat_map pointer r.pointers ++ (end ++ rest)))) slot-texts in
     let left = Left-as (texts ∙ one-kind) l in
     let bounds = items_again bytes (word_at bytes) word 2 IsWord (word_again bytes) r.bounds 8 at (at + 16) _ shape.bounds refl fits.bounds left in
-    let slots = items_again bytes (slot_at borrows bytes) slot_text 1 (λ s. (borrows || is_own s) ≡ true) (slot_again borrows bytes) r.slots 4 (at + 16) (at + 20) _ shape.slots (plus at 16 4) (each_own borrows r.slots shape.own) bounds.1 in
-    let pointers = items_again bytes (pointer_at bytes) pointer 4 (λ p. (is_pointer p ≡ true) × PointerFits p) (pointer_again bytes) r.pointers 4 (at + 20) (at + 36) _ shape.four (plus at 20 16) (both_all r.pointers shape.legal fits.pointers) slots.1 in
+    let slots = items_again bytes (slot_at borrows bytes) slot_text 1 (λ s. (borrows || is_own s) ≡ true)
+    (slot_again borrows bytes) r.slots 4 (at + 16) (at + 20) _ shape.slots (plus at 16 4) (each_own borrows r.slots shape.own) bounds.1 in
+    let pointers = items_again bytes (pointer_at bytes) pointer 4 (λ p. (is_pointer p ≡ true) × PointerFits p)
+    (pointer_again bytes) r.pointers 4 (at + 20) (at + 36) _ shape.four (plus at 20 16) (both_all r.pointers shape.legal fits.pointers) slots.1 in
     let pairs = byte_below_again 64 bytes (at + 36) (at + 37) (pairs_byte r.pairs) _ (plus at 36 1) six.0 pointers.1 in
     let unused = byte_below_again 1 bytes (at + 37) next 0 rest (e ∙ plus at 37 1) (lit< tt) pairs.1 in
     (rw (bounds.0, slots.0, pointers.0, pairs.0, unused.0, six.1) refl, unused.1)

@@ -11,7 +11,8 @@ pub some_routine : (x y : Routine) → Some x ≡ Some y → x ≡ y
 some_routine x y e = cc
 
 -- a routine ends where the next one starts
-pub start_of-next : (routines : List Routine) (r : ℕ) (routine : Routine) → slice_get routines r ≡ Some routine → start_of routines (suc r) ≡ start_of routines r + routine.count
+pub start_of-next : (routines : List Routine) (r : ℕ) (routine : Routine) → slice_get routines r ≡ Some routine
+    → start_of routines (suc r) ≡ start_of routines r + routine.count
 start_of-next [] r routine e = absurd cc
 start_of-next (x ∷ routines) zero routine e = let same = ap (λ (y : Routine). y.count) (some_routine x routine e) in omega arith
 start_of-next (x ∷ routines) (suc r) routine e =
@@ -35,7 +36,8 @@ start_of-le (x ∷ routines) (suc a) (suc b) h =
     omega (arith, p, q, ih)
 
 -- the routines before one that there is, with it, are no more than all
-pub start_of-end : (routines : List Routine) (r : ℕ) (routine : Routine) → slice_get routines r ≡ Some routine → start_of routines r + routine.count ≤ total_count routines
+pub start_of-end : (routines : List Routine) (r : ℕ) (routine : Routine) → slice_get routines r ≡ Some routine
+    → start_of routines r + routine.count ≤ total_count routines
 start_of-end [] r routine e = absurd cc
 start_of-end (x ∷ routines) zero routine e =
     let same = ap (λ (y : Routine). y.count) (some_routine x routine e) in
@@ -58,7 +60,8 @@ start_of-all (x ∷ routines) (suc r) h =
     omega (arith, p, q, ih)
 
 -- a routine's instructions are some of the image's
-pub start_of-room : (image : Parts) (r : ℕ) → is_image image ≡ true → IfSome (slice_get image.routines r) (λ routine. start_of image.routines r + routine.count ≤ length image.points)
+pub start_of-room : (image : Parts) (r : ℕ) → is_image image ≡ true → IfSome (slice_get image.routines r)
+    (λ routine. start_of image.routines r + routine.count ≤ length image.points)
 start_of-room image r legal = go (slice_get image.routines r) refl
   where
     go : (o : Option Routine) → slice_get image.routines r ≡ o → IfSome o (λ routine. start_of image.routines r + routine.count ≤ length image.points)

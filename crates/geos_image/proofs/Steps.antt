@@ -30,7 +30,8 @@ pub cond_ok : {A : Type 0} (b : Bool) (at : ℕ) (x y : A) → cond b (Ok x) (Er
 cond_ok true at x y e = (refl, ok_is x y e)
 cond_ok false at x y e = absurd cc
 
-first_passes : {X : Type 0} (test : X → Bool) (first x : X) (others : Option X) (b : Bool) → test first ≡ b → cond b (Some first) others ≡ Some x → (others ≡ Some x → test x ≡ true) → test x ≡ true
+first_passes : {X : Type 0} (test : X → Bool) (first x : X) (others : Option X) (b : Bool) → test first ≡ b
+    → cond b (Some first) others ≡ Some x → (others ≡ Some x → test x ≡ true) → test x ≡ true
 first_passes test first x others true e h next = let same : first ≡ x = cc in subst (λ y. test y ≡ true) same e
 first_passes test first x others false e h next = next h
 

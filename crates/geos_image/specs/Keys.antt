@@ -103,7 +103,12 @@ flag_count (true ∷ flags) (i ∷ instrs) = flag_count flags instrs + 1
 
 -- the image in version 2: it gives the same rows, at its key places alone
 abbrev pub keyed_of : Parts → Parts
-keyed_of image = record { keyed = true; routines = image.routines; points = kept_rows (key_flags image.routines (instrs_of image.points)) image.points }
+keyed_of image = record {
+  keyed = true;
+  routines = image.routines;
+  points =
+      kept_rows (key_flags image.routines (instrs_of image.points)) image.points;
+}
 
 -- the pc is a key place of the image
 abbrev pub is_key : Parts → ℕ → Bool

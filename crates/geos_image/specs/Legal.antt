@@ -69,7 +69,8 @@ is_point borrows routines instrs point = is_instr routines instrs point.instr &&
 
 -- the points are legal in each image in which the instructions are
 abbrev pub LegalWhere : Bool → List Instr → List Point → Type 0
-LegalWhere borrows code points = (routines instrs : ℕ) → list_all (is_instr routines instrs) code ≡ true → list_all (is_point borrows routines instrs) points ≡ true
+LegalWhere borrows code points = (routines instrs : ℕ) → list_all (is_instr routines instrs) code ≡ true
+    → list_all (is_point borrows routines instrs) points ≡ true
 
 -- some routine has the name
 abbrev pub is_named : List ℕ → List Routine → Bool
@@ -118,11 +119,17 @@ is_image image = is_formed image.keyed image
 
 -- the image that gives these rows at its key places, in their order
 abbrev pub keyed_parts : List Routine → List Point → List Row → Parts
-keyed_parts routines points rows = record { keyed = true; routines = routines; points = with_rows (key_flags routines (instrs_of points)) points rows }
+keyed_parts routines points rows = record {
+  keyed = true;
+  routines = routines;
+  points =
+      with_rows (key_flags routines (instrs_of points)) points rows;
+}
 
 -- these make an image: there is a row for each key place, and no more
 abbrev pub is_keyed : List Routine → List Point → List Row → Bool
-is_keyed routines points rows = flag_count (key_flags routines (instrs_of points)) (instrs_of points) == length rows && is_image (keyed_parts routines points rows)
+is_keyed routines points rows = flag_count (key_flags routines (instrs_of points)) (instrs_of points) == length rows
+    && is_image (keyed_parts routines points rows)
 
 -- routines and instructions that an image may have
 pub record IsCode (borrows : Bool) (routines : List Routine) (instrs : List Instr) : Type 0 where

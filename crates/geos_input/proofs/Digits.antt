@@ -22,16 +22,19 @@ length-digits (b ∷ bytes) = omega (arith, length-digits bytes)
 
 pub digits-even : (bytes : List ℕ) → length (digits_in bytes None) % 2 ≡ 0
 digits-even bytes =
-    let len : length (digits_in bytes None) ≡ 2 * length bytes = omega (arith, length-append (flat_map digits_of_byte bytes) [], length-digits bytes) in
+    let len : length (digits_in bytes None) ≡ 2 * length bytes =
+    omega (arith, length-append (flat_map digits_of_byte bytes) [], length-digits bytes) in
     rw len (omega arith)
 
 pub digits-odd : (bytes : List ℕ) (high : ℕ) → length (digits_in bytes (Some high)) % 2 ≡ 1
 digits-odd bytes high =
-    let len : length (digits_in bytes (Some high)) ≡ 2 * length bytes + 1 = omega (arith, length-append (flat_map digits_of_byte bytes) (high ∷ []), length-digits bytes) in
+    let len : length (digits_in bytes (Some high)) ≡ 2 * length bytes + 1 =
+    omega (arith, length-append (flat_map digits_of_byte bytes) (high ∷ []), length-digits bytes) in
     rw len (omega arith)
 
 -- a digit whose pair comes makes a byte
-pub digits-paired : (bytes : List ℕ) (high low : ℕ) → high < 16 → low < 16 → digits_in (bytes ++ (16 * high + low) ∷ []) None ≡ digits_in bytes (Some high) ++ low ∷ []
+pub digits-paired : (bytes : List ℕ) (high low : ℕ) → high < 16 → low < 16
+    → digits_in (bytes ++ (16 * high + low) ∷ []) None ≡ digits_in bytes (Some high) ++ low ∷ []
 digits-paired bytes high low p q =
     let first : (16 * high + low) / 16 ≡ high = omega arith in
     let second : (16 * high + low) % 16 ≡ low = omega arith in

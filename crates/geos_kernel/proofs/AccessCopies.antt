@@ -26,7 +26,8 @@ use Rattle.geos_kernel.proofs.AccessReads.{Lies, has-place, lies, stands-there, 
 use Rattle.geos_kernel.proofs.AccessWrites.{written-store, copied-in, stored-kernel, copied-over}
 
 -- a copy of no byte changes nothing
-pub nothing-copied : {D : Type 0} (medium : Medium D) (v : VmState D) (s : Store) (to : Span) (target source : Reference) (n : ℕ) → IsKernel medium v s → n ≡ 0 → Stands (core_of medium v s) to target
+pub nothing-copied : {D : Type 0} (medium : Medium D) (v : VmState D) (s : Store) (to : Span) (target source : Reference) (n : ℕ)
+    → IsKernel medium v s → n ≡ 0 → Stands (core_of medium v s) to target
     → Calls (medium.honest v.file.device) (table.copy target source n) (Ok tt) (core_of medium v s) (core_of medium v s)
 nothing-copied medium v s to target source n k none t =
     let old = core_of medium v s in
@@ -35,13 +36,16 @@ nothing-copied medium v s to target source n k none t =
     let slot = slot_of target.name in
     let fits : 0 + length {A = ℕ} [] ≤ target.len = omega arith in
     let are : AreBytes [] = All-nil (λ b. b < 256) in
-    let same : written-store medium v s k target there place 0 [] fits are ≡ s = ap (with_bytes s slot) (with_nothing (store.bytes_of s slot) (place.place.at + (target.start + 0))) ∙ with_own s slot in
+    let same : written-store medium v s k target there place 0 [] fits are ≡ s = ap (with_bytes s slot)
+    (with_nothing (store.bytes_of s slot) (place.place.at + (target.start + 0))) ∙ with_own s slot in
     let calls : Calls (medium.honest v.file.device) (table.copy target source 0) (Ok tt) old old =
-    subst (λ u. Calls (medium.honest v.file.device) (table.copy target source 0) (Ok tt) old (core_of medium v u)) same (copied-in medium v s k target there place 0 [] fits are source 0 (λ m is. refl) refl) in
+    subst (λ u. Calls (medium.honest v.file.device) (table.copy target source 0) (Ok tt) old (core_of medium v u)) same
+    (copied-in medium v s k target there place 0 [] fits are source 0 (λ m is. refl) refl) in
     subst (λ n. Calls (medium.honest v.file.device) (table.copy target source n) (Ok tt) old old) (sym none) calls
 
 module _ {D : Type 0} (medium : Medium D) (v : VmState D) (s t : Store) (k : IsKernel medium v s) (to from : Span) (target source : Reference)
-    (x : Stands (core_of medium v s) to target) (y : Stands (core_of medium v s) from source) (n : ℕ) (some : 0 < n) (room : n ≤ target.len) (fits : n ≤ source.len) (are : (slot : ℕ) → AreBytes (store.bytes_of s slot))
+    (x : Stands (core_of medium v s) to target) (y : Stands (core_of medium v s) from source) (n : ℕ) (some : 0 < n)
+    (room : n ≤ target.len) (fits : n ≤ source.len) (are : (slot : ℕ) → AreBytes (store.bytes_of s slot))
     (copied : CopiesCovered s t from.at to.at n) where
   abbrev core : Store → KernelState
   core u = core_of medium v u
@@ -71,15 +75,19 @@ module _ {D : Type 0} (medium : Medium D) (v : VmState D) (s t : Store) (k : IsK
   taken-bytes = bytes-part (store.bytes_of s (slot_of source.name)) (from.at - store.place_of s (slot_of source.name)) n (are (slot_of source.name))
 
   pub copied-kernel : MayChange (core s) target.name → IsKernel medium v t
-  copied-kernel = stored-kernel medium v s t k to target x 0 to.at taken (omega (arith, long, room)) (omega (arith, long, some)) (omega arith) taken-bytes covered
+  copied-kernel = stored-kernel medium v s t k to target x 0 to.at taken (omega (arith, long, room)) (omega (arith, long, some))
+      (omega arith) taken-bytes covered
 
   pub copied-calls : Calls (medium.honest v.file.device) (table.copy target source n) (Ok tt) (core s) (core t)
-  copied-calls = copied-over medium v s t k to target x 0 to.at taken (omega (arith, long, room)) (omega (arith, long, some)) (omega arith) taken-bytes covered source n is-taken refl
+  copied-calls = copied-over medium v s t k to target x 0 to.at taken (omega (arith, long, room)) (omega (arith, long, some))
+      (omega arith) taken-bytes covered source n is-taken refl
 
 -- A copy between spans that stand, as calls see the kernel
 
-module _ {D : Type 0} (medium : Medium D) (v : VmState D) (s t : Store) (k : KernelOn D) (is : kernel_of medium v s ≡ k) (kernel : IsKernel medium v s) (to from : Span)
-    (n : ℕ) (some : 0 < n) (room : n ≤ to.len) (fits : n ≤ from.len) (are : (slot : ℕ) → AreBytes (store.bytes_of s slot)) (copied : CopiesCovered s t from.at to.at n) where
+module _ {D : Type 0} (medium : Medium D) (v : VmState D) (s t : Store) (k : KernelOn D) (is : kernel_of medium v s ≡ k)
+    (kernel : IsKernel medium v s) (to from : Span)
+    (n : ℕ) (some : 0 < n) (room : n ≤ to.len) (fits : n ≤ from.len) (are : (slot : ℕ) → AreBytes (store.bytes_of s slot))
+    (copied : CopiesCovered s t from.at to.at n) where
   -- the blocks still are a kernel's
   pub span-copied : IsWritable k.core to → IsStanding k.core from → IsKernel medium v t
   span-copied writable standing =
@@ -88,6 +96,9 @@ module _ {D : Type 0} (medium : Medium D) (v : VmState D) (s t : Store) (k : Ker
       copied-kernel medium v s t kernel to from x.0 y.0 x.1 y.1 n some (omega (arith, room, x.1.len)) (omega (arith, fits, y.1.len)) are copied x.2
 
   -- and the copy is the row's, whatever the spans stand for
-  pub span-copies : (target source : Reference) → Stands k.core to target → Stands k.core from source → Calls (medium.honest k.device) (table.copy target source n) (Ok tt) k.core (core_of medium v t)
-  span-copies = subst (λ k. (target source : Reference) → Stands k.core to target → Stands k.core from source → Calls (medium.honest k.device) (table.copy target source n) (Ok tt) k.core (core_of medium v t)) is
-      (λ target source x y. copied-calls medium v s t kernel to from target source x y n some (omega (arith, room, x.len)) (omega (arith, fits, y.len)) are copied)
+  pub span-copies : (target source : Reference) → Stands k.core to target → Stands k.core from source
+      → Calls (medium.honest k.device) (table.copy target source n) (Ok tt) k.core (core_of medium v t)
+  span-copies = subst (λ k. (target source : Reference) → Stands k.core to target → Stands k.core from source
+      → Calls (medium.honest k.device) (table.copy target source n) (Ok tt) k.core (core_of medium v t)) is
+      (λ target source x y. copied-calls medium v s t kernel to from target source x y n some (omega (arith, room, x.len))
+      (omega (arith, fits, y.len)) are copied)

@@ -41,7 +41,8 @@ pub record Lies (s : KernelState) (span : Span) (ref : Reference) : Type 0 where
   pub within : chunk.place.at + ref.start + ref.len ≤ store.size_of s.blocks (slot_of ref.name)
 
 -- a chunk that is there has a place
-pub chunk-placed : (o : Option block.Place) (b bytes : List ℕ) → option_map (block.bytes_at b) o ≡ Some bytes → (p : block.Place) × (o ≡ Some p) × (block.bytes_at b p ≡ bytes)
+pub chunk-placed : (o : Option block.Place) (b bytes : List ℕ) → option_map (block.bytes_at b) o ≡ Some bytes
+    → (p : block.Place) × (o ≡ Some p) × (block.bytes_at b p ≡ bytes)
 chunk-placed None b bytes e = absurd cc
 chunk-placed (Some p) b bytes e = (p, refl, cc)
 
@@ -68,7 +69,8 @@ module _ (s : KernelState) (span : Span) (ref : Reference) (stands : Stands s sp
         within = omega (arith, some, stands.fits, ap length placed.2, length-take p.len (drop p.at block_bytes), length-drop p.at block_bytes);
       }
 
-module _ {D : Type 0} (medium : Medium D) (v : VmState D) (s : Store) (span : Span) (ref : Reference) (stands : Stands (core_of medium v s) span ref) (k : IsKernel medium v s) where
+module _ {D : Type 0} (medium : Medium D) (v : VmState D) (s : Store) (span : Span) (ref : Reference)
+    (stands : Stands (core_of medium v s) span ref) (k : IsKernel medium v s) where
   abbrev sees : KernelState
   sees = core_of medium v s
 
@@ -80,34 +82,42 @@ module _ {D : Type 0} (medium : Medium D) (v : VmState D) (s : Store) (span : Sp
   stands-there = there_of_locks s (slot_of ref.name) stands.locked
 
   -- the bytes that a reference names are bytes of its block
-  pub named-is : (m : Memory) → IsMemoryOf medium v s m → (l : Lies sees span ref) → table.named_bytes m ref ≡ part own_bytes (l.chunk.place.at + ref.start) ref.len
+  pub named-is : (m : Memory) → IsMemoryOf medium v s m → (l : Lies sees span ref)
+      → table.named_bytes m ref ≡ part own_bytes (l.chunk.place.at + ref.start) ref.len
   named-is m is l =
       let p = l.chunk.place in
       let chunks : model.chunks_at m ref.name ≡ block.chunks own_bytes = chunks-known medium v s k.tied m is ref.name stands-there in
-      let bytes : bytes_of (block.chunks own_bytes) ref.chunk ≡ block.bytes_at own_bytes p = ap (λ o. unwrap_or o []) (chunk-place own_bytes ref.chunk ∙ ap (option_map (block.bytes_at own_bytes)) l.chunk.is) in
-      ap (λ cs. part (bytes_of cs ref.chunk) ref.start ref.len) chunks ∙ ap (λ bs. part bs ref.start ref.len) bytes ∙ part-part own_bytes p.at p.len ref.start ref.len l.chunk.room
+      let bytes : bytes_of (block.chunks own_bytes) ref.chunk ≡ block.bytes_at own_bytes p = ap (λ o. unwrap_or o [])
+      (chunk-place own_bytes ref.chunk ∙ ap (option_map (block.bytes_at own_bytes)) l.chunk.is) in
+      ap (λ cs. part (bytes_of cs ref.chunk) ref.start ref.len) chunks ∙ ap (λ bs. part bs ref.start ref.len) bytes
+      ∙ part-part own_bytes p.at p.len ref.start ref.len l.chunk.room
 
-  byte-named : (m : Memory) → IsMemoryOf medium v s m → (l : Lies sees span ref) (i at : ℕ) → i < ref.len → at ≡ span.at + i → byte_of s (slot_of ref.name) at ≡ slice_index (table.named_bytes m ref) i
+  byte-named : (m : Memory) → IsMemoryOf medium v s m → (l : Lies sees span ref) (i at : ℕ) → i < ref.len → at ≡ span.at + i
+      → byte_of s (slot_of ref.name) at ≡ slice_index (table.named_bytes m ref) i
   byte-named m is l i at less e =
       let begin = l.chunk.place.at + ref.start in
       let index : at - store.place_of s (slot_of ref.name) ≡ begin + i = omega (arith, e, l.at) in
-      ap (slice_index own_bytes) index ∙ sym (ap (λ bs. slice_index bs i) (named-is m is l) ∙ get_or-take ref.len (drop begin own_bytes) i 0 less ∙ get_or-drop begin own_bytes i 0)
+      ap (slice_index own_bytes) index ∙ sym (ap (λ bs. slice_index bs i) (named-is m is l)
+      ∙ get_or-take ref.len (drop begin own_bytes) i 0 less ∙ get_or-drop begin own_bytes i 0)
 
   covers : (l : Lies sees span ref) (i at : ℕ) → i < ref.len → at ≡ span.at + i → Covers s (slot_of ref.name) at
   covers l i at less e = (omega (arith, e, l.at), omega (arith, less, e, l.at, l.within))
 
-  pub load8-calls : (i at byte : ℕ) → i + 1 ≤ ref.len → at ≡ span.at + i → ReadsByte s at byte → Calls (medium.honest v.file.device) (table.load8 ref i) (Ok byte) sees sees
+  pub load8-calls : (i at byte : ℕ) → i + 1 ≤ ref.len → at ≡ span.at + i → ReadsByte s at byte
+      → Calls (medium.honest v.file.device) (table.load8 ref i) (Ok byte) sees sees
   load8-calls i at byte fits e read =
       let l = lies sees span ref stands (omega (arith, fits)) in
       telling-calls medium (table.load8 ref i) (Ok byte) v s (λ m is.
-      let same : byte ≡ slice_index (table.named_bytes m ref) i = read (slot_of ref.name) (covers l i at (omega (arith, fits)) e) ∙ byte-named m is l i at (omega (arith, fits)) e in
+      let same : byte ≡ slice_index (table.named_bytes m ref) i = read (slot_of ref.name) (covers l i at (omega (arith, fits)) e)
+      ∙ byte-named m is l i at (omega (arith, fits)) e in
       ap (λ b. (Ok b, m)) (sym same))
 
   word-named : (bytes : List ℕ) (i low high : ℕ) → low ≡ slice_index bytes i → high ≡ slice_index bytes (i + 1) → low + 256 * high ≡ word bytes i
   unfolding word
   word-named bytes i low high e f = omega (arith, e, f)
 
-  pub load16-calls : (i at w : ℕ) → i + 2 ≤ ref.len → at ≡ span.at + i → ReadsWord s at w → Calls (medium.honest v.file.device) (table.load16 ref i) (Ok w) sees sees
+  pub load16-calls : (i at w : ℕ) → i + 2 ≤ ref.len → at ≡ span.at + i → ReadsWord s at w
+      → Calls (medium.honest v.file.device) (table.load16 ref i) (Ok w) sees sees
   load16-calls i at w fits e read =
       let l = lies sees span ref stands (omega (arith, fits)) in
       let slot = slot_of ref.name in
@@ -117,11 +127,13 @@ module _ {D : Type 0} (medium : Medium D) (v : VmState D) (s : Store) (span : Sp
       telling-calls medium (table.load16 ref i) (Ok w) v s (λ m is.
       let same : w ≡ word (table.named_bytes m ref) i =
       read slot slot (covers l i at low e) (covers l (i + 1) (at + 1) high next)
-      ∙ word-named (table.named_bytes m ref) i (byte_of s slot at) (byte_of s slot (at + 1)) (byte-named m is l i at low e) (byte-named m is l (i + 1) (at + 1) high next) in
+      ∙ word-named (table.named_bytes m ref) i (byte_of s slot at) (byte_of s slot (at + 1)) (byte-named m is l i at low e)
+      (byte-named m is l (i + 1) (at + 1) high next) in
       ap (λ b. (Ok b, m)) (sym same))
 
   -- the first bytes that a reference names, as a copy takes them
-  pub first-named : (m : Memory) → IsMemoryOf medium v s m → (l : Lies sees span ref) (n : ℕ) → n ≤ ref.len → part own_bytes (span.at - store.place_of s (slot_of ref.name)) n ≡ take n (table.named_bytes m ref)
+  pub first-named : (m : Memory) → IsMemoryOf medium v s m → (l : Lies sees span ref) (n : ℕ) → n ≤ ref.len
+      → part own_bytes (span.at - store.place_of s (slot_of ref.name)) n ≡ take n (table.named_bytes m ref)
   first-named m is l n fits =
       let begin = l.chunk.place.at + ref.start in
       let index : span.at - store.place_of s (slot_of ref.name) ≡ begin = omega (arith, l.at) in
@@ -129,7 +141,8 @@ module _ {D : Type 0} (medium : Medium D) (v : VmState D) (s : Store) (span : Sp
 
 -- A span that stands, as calls see the kernel
 
-module _ {D : Type 0} (medium : Medium D) (v : VmState D) (s : Store) (k : KernelOn D) (is : kernel_of medium v s ≡ k) (kernel : IsKernel medium v s) (span : Span) where
+module _ {D : Type 0} (medium : Medium D) (v : VmState D) (s : Store) (k : KernelOn D) (is : kernel_of medium v s ≡ k)
+    (kernel : IsKernel medium v s) (span : Span) where
   -- bytes of it lie in the region
   pub span-region : (i n : ℕ) → IsStanding k.core span → i + n ≤ span.len → 0 < n → span.at + i + n ≤ store.region_len s
   span-region i n standing fits some =
@@ -138,10 +151,14 @@ module _ {D : Type 0} (medium : Medium D) (v : VmState D) (s : Store) (k : Kerne
       omega (arith, fits, here.1.len, l.at, l.within, kernel.laid.within (slot_of here.0.name))
 
   -- what is read from it answers as the row says, whatever it stands for
-  pub span-byte : (i at byte : ℕ) → i + 1 ≤ span.len → at ≡ span.at + i → ReadsByte s at byte → (ref : Reference) → Stands k.core span ref → Calls (medium.honest k.device) (table.load8 ref i) (Ok byte) k.core k.core
-  span-byte i at byte fits e read = subst (λ k. (ref : Reference) → Stands k.core span ref → Calls (medium.honest k.device) (table.load8 ref i) (Ok byte) k.core k.core) is
+  pub span-byte : (i at byte : ℕ) → i + 1 ≤ span.len → at ≡ span.at + i → ReadsByte s at byte → (ref : Reference)
+      → Stands k.core span ref → Calls (medium.honest k.device) (table.load8 ref i) (Ok byte) k.core k.core
+  span-byte i at byte fits e read = subst (λ k. (ref : Reference) → Stands k.core span ref
+      → Calls (medium.honest k.device) (table.load8 ref i) (Ok byte) k.core k.core) is
       (λ ref stands. load8-calls medium v s span ref stands kernel i at byte (omega (arith, fits, stands.len)) e read)
 
-  pub span-word : (i at w : ℕ) → i + 2 ≤ span.len → at ≡ span.at + i → ReadsWord s at w → (ref : Reference) → Stands k.core span ref → Calls (medium.honest k.device) (table.load16 ref i) (Ok w) k.core k.core
-  span-word i at w fits e read = subst (λ k. (ref : Reference) → Stands k.core span ref → Calls (medium.honest k.device) (table.load16 ref i) (Ok w) k.core k.core) is
+  pub span-word : (i at w : ℕ) → i + 2 ≤ span.len → at ≡ span.at + i → ReadsWord s at w → (ref : Reference)
+      → Stands k.core span ref → Calls (medium.honest k.device) (table.load16 ref i) (Ok w) k.core k.core
+  span-word i at w fits e read = subst (λ k. (ref : Reference) → Stands k.core span ref
+      → Calls (medium.honest k.device) (table.load16 ref i) (Ok w) k.core k.core) is
       (λ ref stands. load16-calls medium v s span ref stands kernel i at w (omega (arith, fits, stands.len)) e read)

@@ -58,7 +58,8 @@ max-is : (n m k : ℕ) → n ≡ m → k ≤ n → max m k ≡ n
 max-is n m k e le = omega (arith, e, le)
 
 -- chunks whose places stay keep their lengths
-chunk-kept : (b d : List ℕ) (c : ℕ) (bytes : List ℕ) → length d ≡ length b → block.place_of d c ≡ block.place_of b c → chunks.chunk_of (block.chunks b) c ≡ Some bytes
+chunk-kept : (b d : List ℕ) (c : ℕ) (bytes : List ℕ) → length d ≡ length b → block.place_of d c ≡ block.place_of b c
+    → chunks.chunk_of (block.chunks b) c ≡ Some bytes
     → (kept : List ℕ) × (chunks.chunk_of (block.chunks d) c ≡ Some kept) × (length kept ≡ length bytes)
 chunk-kept b d c bytes long places is =
     let q = chunk-placed (block.place_of b c) b bytes (sym (chunk-place b c) ∙ is) in
@@ -68,7 +69,8 @@ chunk-kept b d c bytes long places is =
       omega (arith, long, ap length q.2, length-take p.len (drop p.at d), length-drop p.at d, length-take p.len (drop p.at b), length-drop p.at b),
     )
 
-module _ {D : Type 0} (medium : Medium D) (v : VmState D) (s : Store) (k : IsKernel medium v s) (ref : Reference) (there : store.IsThere s (slot_of ref.name)) (place : HasPlace (core_of medium v s) ref)
+module _ {D : Type 0} (medium : Medium D) (v : VmState D) (s : Store) (k : IsKernel medium v s) (ref : Reference)
+    (there : store.IsThere s (slot_of ref.name)) (place : HasPlace (core_of medium v s) ref)
     (i : ℕ) (ws : List ℕ) (fits : i + length ws ≤ ref.len) (are : AreBytes ws) where
   abbrev slot : ℕ
   slot = slot_of ref.name
@@ -121,10 +123,13 @@ module _ {D : Type 0} (medium : Medium D) (v : VmState D) (s : Store) (k : IsKer
   stands-own span r e st =
       let was : store.bytes_of s (slot_of r.name) ≡ before = ap (store.bytes_of s) e in
       let is : store.bytes_of written-store (slot_of r.name) ≡ written = ap (store.bytes_of written-store) e ∙ ap store.bytes_in block-own in
-      let kept = chunk-kept before written r.chunk st.bytes long (changes.places r.chunk) (subst (λ b. chunks.chunk_of (block.chunks b) r.chunk ≡ Some st.bytes) was st.chunk) in
-      let stays : block.place_of (store.bytes_of written-store (slot_of r.name)) r.chunk ≡ block.place_of (store.bytes_of s (slot_of r.name)) r.chunk =
+      let kept = chunk-kept before written r.chunk st.bytes long (changes.places r.chunk)
+      (subst (λ b. chunks.chunk_of (block.chunks b) r.chunk ≡ Some st.bytes) was st.chunk) in
+      let stays : block.place_of (store.bytes_of written-store (slot_of r.name)) r.chunk ≡ block.place_of
+      (store.bytes_of s (slot_of r.name)) r.chunk =
       ap (λ b. block.place_of b r.chunk) is ∙ changes.places r.chunk ∙ sym (ap (λ b. block.place_of b r.chunk) was) in
-      let locks : store.locks_of written-store (slot_of r.name) ≡ store.locks_of s (slot_of r.name) = ap (store.locks_of written-store) e ∙ ap store.locks_in block-own ∙ sym (ap (store.locks_of s) e) in
+      let locks : store.locks_of written-store (slot_of r.name) ≡ store.locks_of s (slot_of r.name) = ap (store.locks_of written-store) e
+      ∙ ap store.locks_in block-own ∙ sym (ap (store.locks_of s) e) in
       record {
         bytes = kept.0;
         locked = rw locks st.locked;
@@ -166,14 +171,19 @@ module _ {D : Type 0} (medium : Medium D) (v : VmState D) (s : Store) (k : IsKer
       let b : Block = record { locks = store.locks_of s slot; bytes = before } in
       let legal = named-legal medium v s m k.tied is ref.name of_file b (there-is (store.block_at s slot) there) in
       subst IsLegalBlock same-block
-      (rechunked-legal row_chunks (spelled (store.locks_of s slot) before) (with_written-legal (block.chunks before) ref.chunk (ref.start + i) ws are legal.heap.chunks) (omega (arith, needs, long, legal.heap.most)) legal)
+      (rechunked-legal row_chunks (spelled (store.locks_of s slot) before)
+      (with_written-legal (block.chunks before) ref.chunk (ref.start + i) ws are legal.heap.chunks)
+      (omega (arith, needs, long, legal.heap.most)) legal)
 
   -- memory is as the row says
   pub written-memory : (m : Memory) → IsMemoryOf medium v s m → IsMemoryOf medium v written-store (table.written m ref i ws)
   written-memory m is =
       let b : Block = record { locks = store.locks_of s slot; bytes = before } in
-      let after = named-changed medium v s written-store ref.name k.tied keeps m is b own (there-is (store.block_at s slot) there) block-own (rechunked_block row_chunks) same-block (written-legal m is) in
-      subst (λ cs. IsMemoryOf medium v written-store (model.with_chunks m ref.name (chunks.with_bytes cs ref.chunk (with_part (chunks.bytes_of cs ref.chunk) (ref.start + i) ws)))) (sym (chunks-known medium v s k.tied m is ref.name there)) after
+      let after = named-changed medium v s written-store ref.name k.tied keeps m is b own (there-is (store.block_at s slot) there)
+      block-own (rechunked_block row_chunks) same-block (written-legal m is) in
+      subst (λ cs. IsMemoryOf medium v written-store
+      (model.with_chunks m ref.name (chunks.with_bytes cs ref.chunk (with_part (chunks.bytes_of cs ref.chunk) (ref.start + i) ws))))
+      (sym (chunks-known medium v s k.tied m is ref.name there)) after
 
   written-row : DoesRow medium (table.store ref i ws) (Ok tt) v s v written-store
   written-row = does-willing medium (table.store ref i ws) (Ok tt) v s written-store (λ m is. (table.written m ref i ws, written-memory m is, refl))
@@ -182,11 +192,13 @@ module _ {D : Type 0} (medium : Medium D) (v : VmState D) (s : Store) (k : IsKer
   written-calls = row-calls medium (table.store ref i ws) (Ok tt) v s written-store written-row (λ f tied choice. written-spans f)
 
   -- a copy of these bytes is this call
-  pub copied-in : (source : Reference) (n : ℕ) → ((m : Memory) → IsMemoryOf medium v s m → ws ≡ take n (table.named_bytes m source)) → i ≡ 0 → Calls (medium.honest v.file.device) (table.copy ref source n) (Ok tt) (sees s) (sees written-store)
+  pub copied-in : (source : Reference) (n : ℕ) → ((m : Memory) → IsMemoryOf medium v s m → ws ≡ take n (table.named_bytes m source))
+      → i ≡ 0 → Calls (medium.honest v.file.device) (table.copy ref source n) (Ok tt) (sees s) (sees written-store)
   copied-in source n same first = row-calls medium (table.copy ref source n) (Ok tt) v s written-store
       (does-willing medium (table.copy ref source n) (Ok tt) v s written-store (λ m is. (
         table.written m ref 0 (take n (table.named_bytes m source)),
-        subst (λ bs. IsMemoryOf medium v written-store (table.written m ref 0 bs)) (same m is) (subst (λ j. IsMemoryOf medium v written-store (table.written m ref j ws)) first (written-memory m is)),
+        subst (λ bs. IsMemoryOf medium v written-store (table.written m ref 0 bs)) (same m is)
+            (subst (λ j. IsMemoryOf medium v written-store (table.written m ref j ws)) first (written-memory m is)),
         refl,
       )))
       (λ f tied choice. written-spans f)
@@ -202,11 +214,14 @@ module _ {D : Type 0} (medium : Medium D) (v : VmState D) (s : Store) (k : IsKer
         heap = subst (λ o. IsHeap (store.bytes_in o)) (sym block-own) changes.heap;
         handle = ap (λ o. block.handle_word (store.bytes_in o)) block-own ∙ changes.handle;
       } in
-      others-kernel medium v s written-store ref.name k holds others (table.store ref i ws) (Ok tt) (named-tied medium v s written-store ref.name k.tied there others may) written-row
+      others-kernel medium v s written-store ref.name k holds others (table.store ref i ws) (Ok tt)
+      (named-tied medium v s written-store ref.name k.tied there others may) written-row
 
 -- a write that covers bytes of a span is a write to the chunk for which it stands
-module _ {D : Type 0} (medium : Medium D) (v : VmState D) (s t : Store) (k : IsKernel medium v s) (span : Span) (ref : Reference) (stands : Stands (core_of medium v s) span ref)
-    (i at : ℕ) (ws : List ℕ) (fits : i + length ws ≤ ref.len) (some : 0 < length ws) (e : at ≡ span.at + i) (are : AreBytes ws) (covered : WritesCovered s t at ws) where
+module _ {D : Type 0} (medium : Medium D) (v : VmState D) (s t : Store) (k : IsKernel medium v s) (span : Span)
+    (ref : Reference) (stands : Stands (core_of medium v s) span ref)
+    (i at : ℕ) (ws : List ℕ) (fits : i + length ws ≤ ref.len) (some : 0 < length ws) (e : at ≡ span.at + i)
+    (are : AreBytes ws) (covered : WritesCovered s t at ws) where
   abbrev core : Store → KernelState
   core u = core_of medium v u
 
@@ -221,17 +236,21 @@ module _ {D : Type 0} (medium : Medium D) (v : VmState D) (s t : Store) (k : IsK
       let slot = slot_of ref.name in
       let before = store.bytes_of s slot in
       let index : at - store.place_of s slot ≡ place.chunk.place.at + (ref.start + i) = omega (arith, e, place.at) in
-      covered slot some (omega (arith, e, place.at), omega (arith, e, fits, place.at, place.within)) ∙ ap (λ j. with_bytes s slot (with_part before j ws)) index
+      covered slot some (omega (arith, e, place.at), omega (arith, e, fits, place.at, place.within))
+      ∙ ap (λ j. with_bytes s slot (with_part before j ws)) index
 
   pub stored-kernel : MayChange (core s) ref.name → IsKernel medium v t
   stored-kernel may = subst (IsKernel medium v) (sym stored) (written-kernel medium v s k ref is-there place.chunk i ws fits are may)
 
   pub stored-calls : Calls (medium.honest v.file.device) (table.store ref i ws) (Ok tt) (core s) (core t)
-  stored-calls = subst (λ u. Calls (medium.honest v.file.device) (table.store ref i ws) (Ok tt) (core s) (core u)) (sym stored) (written-calls medium v s k ref is-there place.chunk i ws fits are)
+  stored-calls = subst (λ u. Calls (medium.honest v.file.device) (table.store ref i ws) (Ok tt) (core s) (core u))
+      (sym stored) (written-calls medium v s k ref is-there place.chunk i ws fits are)
 
-  pub copied-over : (source : Reference) (n : ℕ) → ((m : Memory) → IsMemoryOf medium v s m → ws ≡ take n (table.named_bytes m source)) → i ≡ 0 → Calls (medium.honest v.file.device) (table.copy ref source n) (Ok tt) (core s) (core t)
+  pub copied-over : (source : Reference) (n : ℕ) → ((m : Memory) → IsMemoryOf medium v s m → ws ≡ take n (table.named_bytes m source))
+      → i ≡ 0 → Calls (medium.honest v.file.device) (table.copy ref source n) (Ok tt) (core s) (core t)
   copied-over source n is first =
-      subst (λ u. Calls (medium.honest v.file.device) (table.copy ref source n) (Ok tt) (core s) (core u)) (sym stored) (copied-in medium v s k ref is-there place.chunk i ws fits are source n is first)
+      subst (λ u. Calls (medium.honest v.file.device) (table.copy ref source n) (Ok tt) (core s) (core u)) (sym stored)
+      (copied-in medium v s k ref is-there place.chunk i ws fits are source n is first)
 
 -- A write through a span that stands, as calls see the kernel
 
@@ -241,8 +260,10 @@ byte-bytes b small = All-cons (λ b. b < 256) b [] small (All-nil (λ b. b < 256
 pub word-bytes : (w : ℕ) → w < 65536 → AreBytes (word_bytes w)
 word-bytes w small = All-cons (λ b. b < 256) (w % 256) (w / 256 ∷ []) (omega arith) (byte-bytes (w / 256) (omega (arith, small)))
 
-module _ {D : Type 0} (medium : Medium D) (v : VmState D) (s t : Store) (k : KernelOn D) (is : kernel_of medium v s ≡ k) (kernel : IsKernel medium v s) (span : Span)
-    (i at : ℕ) (ws : List ℕ) (fits : i + length ws ≤ span.len) (some : 0 < length ws) (e : at ≡ span.at + i) (are : AreBytes ws) (covered : WritesCovered s t at ws) where
+module _ {D : Type 0} (medium : Medium D) (v : VmState D) (s t : Store) (k : KernelOn D) (is : kernel_of medium v s ≡ k)
+    (kernel : IsKernel medium v s) (span : Span)
+    (i at : ℕ) (ws : List ℕ) (fits : i + length ws ≤ span.len) (some : 0 < length ws) (e : at ≡ span.at + i)
+    (are : AreBytes ws) (covered : WritesCovered s t at ws) where
   -- the blocks still are a kernel's
   pub span-written : IsWritable k.core span → IsKernel medium v t
   span-written writable =

@@ -28,11 +28,19 @@ stays-or-rises a b c first (inr risen) = inr (rises-later a b c first risen)
 module _ (honest : Type 0) (old mid new : KernelState) where
   -- what may come from outside up to one kernel may come up to a later one
   pub chosen-before : (choice : Choice) → NeverFell honest mid new → IsChosen honest old mid choice → IsChosen honest old new choice
-  chosen-before choice later chosen = record { given = chosen.given; device = λ g t. rises-more (failed_in old) (failed_in mid) (failed_in new) (chosen.device g t) (later g) }
+  chosen-before choice later chosen = record {
+    given = chosen.given;
+    device = λ g t. rises-more (failed_in old)
+        (failed_in mid) (failed_in new) (chosen.device g t) (later g);
+  }
 
   -- and what may come from one kernel on, from an earlier one on
   pub chosen-after : (choice : Choice) → NeverFell honest old mid → IsChosen honest mid new choice → IsChosen honest old new choice
-  chosen-after choice before chosen = record { given = chosen.given; device = λ g t. rises-later (failed_in old) (failed_in mid) (failed_in new) (before g) (chosen.device g t) }
+  chosen-after choice before chosen = record {
+    given = chosen.given;
+    device = λ g t. rises-later (failed_in old)
+        (failed_in mid) (failed_in new) (before g) (chosen.device g t);
+  }
 
   -- the count of failures stays or rises over both of two stretches
   pub lasts-on : NeverFell honest old mid → NeverFell honest mid new → NeverFell honest old new

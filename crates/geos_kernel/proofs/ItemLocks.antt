@@ -46,7 +46,8 @@ module _ {D : Type 0} (medium : Medium D) (v w : VmState D) (s t : Store) (k : K
   abbrev new : KernelOn D
   new = kernel_of medium w t
 
-  reads-file : {fails ends : Type 0} → (ends → fails) → (fails → ends) → w.file ≡ (with_device v w.file.device).file → ReadsDevice medium fails v.file w.file → ReadsFile medium ends old new
+  reads-file : {fails ends : Type 0} → (ends → fails) → (fails → ends) → w.file ≡ (with_device v w.file.device).file
+      → ReadsDevice medium fails v.file w.file → ReadsFile medium ends old new
   reads-file one other same device = record {
     reads = device.reads;
     file = same;
@@ -55,20 +56,24 @@ module _ {D : Type 0} (medium : Medium D) (v w : VmState D) (s t : Store) (k : K
     between = between-reading medium old new device.reads known device.steadily;
   }
 
-  listed-file : {A : Type 0} (r : Result A Refusal) → w.file ≡ (with_device (listed_after r v g) w.file.device).file → w.file ≡ (with_device v w.file.device).file
+  listed-file : {A : Type 0} (r : Result A Refusal) → w.file ≡ (with_device (listed_after r v g) w.file.device).file
+      → w.file ≡ (with_device v w.file.device).file
   listed-file (Ok answer) e = e
   listed-file (Err why) e = e
 
   -- a refusal has listed nothing else
-  no-room : {A : Type 0} (edit : List (Option (List ℕ)) → Edit A) (r : Result A Refusal) → w ≡ with_device (listed_after r v g) w.file.device → r ≡ Err NoRoom → LacksItemRoom v t g edit → ItemHasNoRoom new.core g edit
+  no-room : {A : Type 0} (edit : List (Option (List ℕ)) → Edit A) (r : Result A Refusal) → w ≡ with_device (listed_after r v g) w.file.device
+      → r ≡ Err NoRoom → LacksItemRoom v t g edit → ItemHasNoRoom new.core g edit
   no-room edit (Ok answer) same wanting lacks = absurd cc
   no-room edit (Err why) same wanting lacks =
       let entries : w.entries ≡ v.entries = ap (λ (x : VmState D). x.entries) same in
       record { none = rw entries lacks.none; no_room = rw entries lacks.no_room }
 
   -- a call on items
-  pub item-called : {A : Type 0} (call : Call A) (edit : List (Option (List ℕ)) → Edit A) (r : Result A Refusal) → ChangesItem medium call edit g r v w s t
-      → ((choice : Choice) (f : VmFile) → (effect_of call choice (memory_of old.core f)).stale ≡ in_group (given_memory choice.given (memory_of old.core f)) g) → CallsItem medium call edit g r k new
+  pub item-called : {A : Type 0} (call : Call A) (edit : List (Option (List ℕ)) → Edit A) (r : Result A Refusal)
+      → ChangesItem medium call edit g r v w s t
+      → ((choice : Choice) (f : VmFile) → (effect_of call choice (memory_of old.core f)).stale ≡ in_group
+      (given_memory choice.given (memory_of old.core f)) g) → CallsItem medium call edit g r k new
   item-called call edit r changes stale = subst (λ x. CallsItem medium call edit g r x new) is (record {
     calls = item-calls medium v w s t g kernel call edit r changes stale;
     no_room = λ wanting. no-room edit r changes.listed wanting (changes.no_room wanting);
@@ -79,7 +84,8 @@ module _ {D : Type 0} (medium : Medium D) (v w : VmState D) (s t : Store) (k : K
 
   module _ (i n : ℕ) where
     -- the item was found
-    pub part-locked : (at len : ℕ) → LocksItem medium g i n (Ok (at, len)) v w s t → LocksPart medium g i n (Ok (record { at = place_of t (vm_slot g) + at; len = len })) k new
+    pub part-locked : (at len : ℕ) → LocksItem medium g i n (Ok (at, len)) v w s t
+        → LocksPart medium g i n (Ok (record { at = place_of t (vm_slot g) + at; len = len })) k new
     part-locked at len locks =
         let span : Span = record { at = place_of t (vm_slot g) + at; len = len } in
         let ref = in_block (vm g) (record { chunk = i; start = 0; len = len }) in
@@ -89,7 +95,8 @@ module _ {D : Type 0} (medium : Medium D) (v w : VmState D) (s t : Store) (k : K
           stands = ((ref, stands), locks.within.1);
           writable = λ marked. (ref, stands, λ file. marked);
           locks = λ was. (locks.there was).1;
-          in_memory = in-memory medium v w s t old refl g (Ok span) (λ was. (ap (λ (x : VmState D). x.file) (locks.there was).0, λ e. absurd cc)) (λ other. tt) (λ e. absurd cc);
+          in_memory = in-memory medium v w s t old refl g (Ok span) (λ was. (ap (λ (x : VmState D). x.file) (locks.there was).0, λ e. absurd cc))
+              (λ other. tt) (λ e. absurd cc);
           device = reads-file (λ e. absurd cc) (λ e. absurd cc) (ap (λ (x : VmState D). x.file) locks.same) locks.device;
         })
 
@@ -100,6 +107,8 @@ module _ {D : Type 0} (medium : Medium D) (v w : VmState D) (s t : Store) (k : K
       stands = tt;
       writable = tt;
       locks = λ was. tt;
-      in_memory = in-memory medium v w s t old refl g (Err why) (λ was. (ap (λ (x : VmState D). x.file) (locks.there was).0, λ e. (locks.there was).2 (same-why why e))) (λ other was. locks.refused was) (λ e. locks.absent (same-why why e));
+      in_memory = in-memory medium v w s t old refl g (Err why)
+          (λ was. (ap (λ (x : VmState D). x.file) (locks.there was).0, λ e. (locks.there was).2 (same-why why e)))
+          (λ other was. locks.refused was) (λ e. locks.absent (same-why why e));
       device = reads-file (same-why why) (same-why why) (ap (λ (x : VmState D). x.file) locks.same) locks.device;
     })

@@ -18,8 +18,12 @@ room-below (Ok h) e = absurd cc
 room-below (Err new.NoHandle) e = absurd cc
 room-below (Err new.NoRoom) e = refl
 
-pub new-lacks : {D E : Type 0} (medium : Medium D) (v w : VmState D) (s t : Store) (r : Result ℕ E) (why : E) → r ≡ Err why → OnErr r (w ≡ v) → LacksRoomForNew v s t → NewListedHasNoRoom (core_of medium v s) (core_of medium w t)
+pub new-lacks : {D E : Type 0} (medium : Medium D) (v w : VmState D) (s t : Store) (r : Result ℕ E) (why : E)
+    → r ≡ Err why → OnErr r (w ≡ v) → LacksRoomForNew v s t → NewListedHasNoRoom (core_of medium v s) (core_of medium w t)
 new-lacks {D} {E} medium v w s t r why is err lacks =
     let same : w ≡ v = subst (λ (x : Result ℕ E). OnErr x (w ≡ v)) is err in
-    let none : NoneIdle w t lacks.h = subst (λ x. NoneIdle x t lacks.h) (sym same) lacks.lacks.none in
-    (lacks.h, record { handle = lacks.lowest.handle; free = lacks.lowest.free; lower = lacks.lowest.lower }, record { none = none; no_room = lacks.lacks.no_room })
+    let none : NoneIdle w t lacks.h = subst (λ x. NoneIdle x t lacks.h) (sym same) lacks.lacks.none in (
+      lacks.h,
+      record { handle = lacks.lowest.handle; free = lacks.lowest.free; lower = lacks.lowest.lower },
+      record { none = none; no_room = lacks.lacks.no_room },
+    )

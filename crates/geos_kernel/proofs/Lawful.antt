@@ -24,10 +24,12 @@ block-legal None heap bytes few = tt
 block-legal (Some b) heap bytes few = record { heap = heap-legal b.bytes (heap tt) bytes; few = few }
 
 -- where the region is of bytes, memory is legal
-pub memory-legal : {D : Type 0} (medium : Medium D) (v : VmState D) (s : Store) (region : List ℕ) → IsKernel medium v s → IsRegion s region → AreBytes region → (m : Memory) → IsMemoryOf medium v s m → IsMemory m
+pub memory-legal : {D : Type 0} (medium : Medium D) (v : VmState D) (s : Store) (region : List ℕ) → IsKernel medium v s
+    → IsRegion s region → AreBytes region → (m : Memory) → IsMemoryOf medium v s m → IsMemory m
 memory-legal medium v s region k lies bytes m is = record { handles = count medium v s m k.tied is; blocks = blocks; file = is.file.legal }
   where
     blocks : (h : ℕ) → IfSome (block_of m (mem h)) IsLegalBlock
     blocks h =
         let name = mem h in
-        rw (mem-known medium v s k.tied m is h) (block-legal (block_at s (slot_of name)) (k.heaps name) (values-of s (slot_of name) region lies bytes) (k.few name))
+        rw (mem-known medium v s k.tied m is h) (block-legal (block_at s (slot_of name)) (k.heaps name)
+        (values-of s (slot_of name) region lies bytes) (k.few name))

@@ -74,7 +74,8 @@ apart h k p e = elim (handle-or {X = ℕ} 0 k) [
 -- where all others stay
 pub keeps-mem : {D : Type 0} (v : VmState D) (s t : Store) (h : ℕ) → Keeps v s t h → SparesMem s t
 keeps-mem v s t h keeps = record {
-  mem = λ k p. (let low = slot_of-mem k p in let most = p.1 in mem-kept v s t h (slot_of (mem k)) (omega (arith, low, most)) (keeps.each (slot_of (mem k)) (apart k h p)));
+  mem = λ k p. (let low = slot_of-mem k p in let most = p.1 in mem-kept v s t h (slot_of (mem k)) (omega (arith, low, most))
+      (keeps.each (slot_of (mem k)) (apart k h p)));
   len = keeps.len;
 }
 
@@ -99,13 +100,19 @@ not-locked s t h not some = (same-spares s t (not.stays (there_of_locks s (vm_sl
 -- where one of the file was dropped, which was not locked
 pub drops-spares : {D : Type 0} (v : VmState D) (s t : Store) (h : ℕ) → IsLaidOut s → Drops s t h → (0 < locks_of s (vm_slot h) → ⊥) → Spares s t
 drops-spares v s t h laid drops free =
-    keeps-spares v s t h (record { each = λ slot ne. inl (drops.others slot ne, λ some. drops.places slot ne); laid = drops.laid laid; len = drops.len }) (λ some. absurd (free some))
+    keeps-spares v s t h (record {
+      each = λ slot ne. inl (drops.others slot ne, λ some. drops.places slot ne);
+      laid =
+          drops.laid laid;
+      len = drops.len;
+    }) (λ some. absurd (free some))
 
 -- where some were discarded
 pub thins-spares : {D : Type 0} (v : VmState D) (s t : Store) (but : ℕ) → Thins v s t but → Spares s t
 thins-spares v s t but thins = record {
   beside = record {
-    mem = λ k p. (let low = slot_of-mem k p in let most = p.1 in mem-kept v s t but (slot_of (mem k)) (omega (arith, low, most)) (stays-kept v s t but (slot_of (mem k)) (thins.each (slot_of (mem k)))));
+    mem = λ k p. (let low = slot_of-mem k p in let most = p.1 in mem-kept v s t but (slot_of (mem k)) (omega (arith, low, most))
+        (stays-kept v s t but (slot_of (mem k)) (thins.each (slot_of (mem k)))));
     len = thins.len;
   };
   locked = λ slot some. block-stays s t slot (thins-locked v s t but thins slot some) some;
@@ -130,7 +137,8 @@ commit-spares Revert s t none after = dropped-spares s t none after
 -- Blocks of a kernel
 
 -- a block of the file in memory is a heap under its handle
-tied-heap : {D : Type 0} (medium : Medium D) (w : VmState D) (h : ℕ) (e : Option Held) (b : Option Block) → TiedAt medium w.file h e b → IsBlock b → IsHeap (bytes_in b) × (block.handle_word (bytes_in b) ≡ h)
+tied-heap : {D : Type 0} (medium : Medium D) (w : VmState D) (h : ℕ) (e : Option Held) (b : Option Block)
+    → TiedAt medium w.file h e b → IsBlock b → IsHeap (bytes_in b) × (block.handle_word (bytes_in b) ≡ h)
 tied-heap medium w h None None t there = absurd there
 tied-heap medium w h None (Some b) t there = absurd t
 tied-heap medium w h (Some e) None t there = absurd there
@@ -142,7 +150,8 @@ no-locks (Some b) few = few tt
 
 module _ {D : Type 0} (medium : Medium D) (v w : VmState D) (s t : Store) where
   -- they still are one's where those of global memory are spared
-  pub kernel-beside : IsKernel medium v s → IsTied medium w t → SparesMem s t → ((f : VmFile) × vm.IsFileOf medium.image medium.honest w t f) → IsKernel medium w t
+  pub kernel-beside : IsKernel medium v s → IsTied medium w t → SparesMem s t → ((f : VmFile) × vm.IsFileOf medium.image medium.honest w t f)
+      → IsKernel medium w t
   kernel-beside k tied spares known = record {
     laid = tied.laid;
     heaps = λ n there. (both n.owner n.h there).0;
@@ -156,7 +165,8 @@ module _ {D : Type 0} (medium : Medium D) (v w : VmState D) (s t : Store) where
       handle : (owner : Owner) (h : ℕ) → IsThere t (slot_of (named owner h)) → IsHandle h
       handle owner h there = handle_of_there t t (named owner h) refl tied.laid there
 
-      both : (owner : Owner) (h : ℕ) → IsThere t (slot_of (named owner h)) → IsHeap (bytes_of t (slot_of (named owner h))) × (block.handle_word (bytes_of t (slot_of (named owner h))) ≡ h)
+      both : (owner : Owner) (h : ℕ) → IsThere t (slot_of (named owner h)) → IsHeap (bytes_of t (slot_of (named owner h)))
+          × (block.handle_word (bytes_of t (slot_of (named owner h))) ≡ h)
       both Mem h there =
           let is = spares.mem h (handle Mem h there) in
           let before = subst IsBlock is there in
@@ -164,9 +174,11 @@ module _ {D : Type 0} (medium : Medium D) (v w : VmState D) (s t : Store) where
       both Vm h there = tied-heap medium w h (held_at w h) (block_at t (vm_slot h)) (tied.each h (handle Vm h there)) there
 
       counts : (owner : Owner) (h : ℕ) → locks_of t (slot_of (named owner h)) ≤ 65535
-      counts Mem h = no-locks (block_at t (slot_of (mem h))) (λ there. (let is = spares.mem h (handle Mem h there) in subst (λ o. locks_in o ≤ 65535) (sym is) (k.few (mem h))))
+      counts Mem h = no-locks (block_at t (slot_of (mem h)))
+          (λ there. (let is = spares.mem h (handle Mem h there) in subst (λ o. locks_in o ≤ 65535) (sym is) (k.few (mem h))))
       counts Vm h =
-          no-locks (block_at t (vm_slot h)) (λ there. few-named medium w t tied (memory_of (core_of medium w t) known.0) (record { blocks = refl; file = known.1; region = refl }) (vm_name h) there refl)
+          no-locks (block_at t (vm_slot h)) (λ there. few-named medium w t tied (memory_of (core_of medium w t) known.0)
+          (record { blocks = refl; file = known.1; region = refl }) (vm_name h) there refl)
 
   -- spans stay where the locked blocks do
   pub spans-beside : Spares s t → (f : VmFile) (stale : Staleness) → SpansStay (core_of medium v s) (core_of medium w t) f stale
@@ -175,8 +187,10 @@ module _ {D : Type 0} (medium : Medium D) (v w : VmState D) (s t : Store) where
       stands-on (core_of medium v s) (core_of medium w t) span ref own.0 own.1 own.2 stands
 
   -- a call that does its row
-  pub calls-beside : {A : Type 0} {call : Call A} {result : Result A Refusal} → DoesRow medium call result v s w t → (medium.honest v.file.device → medium.honest w.file.device)
-      → NeverFell (medium.honest v.file.device) (core_of medium v s) (core_of medium w t) → Spares s t → Calls (medium.honest v.file.device) call result (core_of medium v s) (core_of medium w t)
+  pub calls-beside : {A : Type 0} {call : Call A} {result : Result A Refusal} → DoesRow medium call result v s w t
+      → (medium.honest v.file.device → medium.honest w.file.device)
+      → NeverFell (medium.honest v.file.device) (core_of medium v s) (core_of medium w t) → Spares s t
+      → Calls (medium.honest v.file.device) call result (core_of medium v s) (core_of medium w t)
   calls-beside {call} {result} row still lasts spares = record {
     answers = row-answers medium call result v s w t row still lasts;
     spans = λ f tied choice. spans-beside spares f (effect_of call choice (memory_of (core_of medium v s) f)).stale;

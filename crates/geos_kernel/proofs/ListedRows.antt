@@ -67,12 +67,14 @@ module _ {D : Type 0} (medium : Medium D) (v : VmState D) (s : Store) (tied : Is
 
   module _ (refusals : Choice → Memory → List (Bool × Refusal)) (after : Memory → Memory) (h : ℕ) where
     -- on what is no group, such a call is the one that takes groups too
-    no_group-row : (IsGroup v h → ⊥) → (w : VmState D) (t : Store) (r : Result (Unit {0}) Refusal) → DoesRow medium (on_listed refusals after h) r v s w t → DoesRow medium (on_ungrouped refusals after h) r v s w t
+    no_group-row : (IsGroup v h → ⊥) → (w : VmState D) (t : Store) (r : Result (Unit {0}) Refusal)
+        → DoesRow medium (on_listed refusals after h) r v s w t → DoesRow medium (on_ungrouped refusals after h) r v s w t
     no_group-row none w t r row m is =
         let b = row m is in
         let n = given_memory b.0.given m in
         let test : is_group n h ≡ false = is_group-given b.0.given m h ∙ no_group-told medium v s tied m is h none in
-        let tests : first_refusal (no_listed n h ∷ names_group n h ∷ refusals b.0 n) ≡ first_refusal (no_listed n h ∷ refusals b.0 n) = rw test refl in
+        let tests : first_refusal (no_listed n h ∷ names_group n h ∷ refusals b.0 n) ≡ first_refusal (no_listed n h ∷ refusals b.0 n) =
+        rw test refl in
         (b.0, b.1, b.2, b.3, ap (λ o. come_to {A = Unit {0}} o (unchanged n) tt (after n)) tests ∙ b.4)
 
     -- a group it refuses
@@ -82,13 +84,15 @@ module _ {D : Type 0} (medium : Medium D) (v : VmState D) (s : Store) (tied : Is
         let listed = group-listed m h one in
         (chosen false false [], record { given = λ good. refl; device = λ good fails. absurd cc }, m, is, rw (one, listed) refl)
 
-  pub lock-row : (h : ℕ) → (IsGroup v h → ⊥) → (w : VmState D) (t : Store) (r : Result (Unit {0}) Refusal) → DoesRow medium (lock_listed h) r v s w t → DoesRow medium (vlock h) r v s w t
+  pub lock-row : (h : ℕ) → (IsGroup v h → ⊥) → (w : VmState D) (t : Store) (r : Result (Unit {0}) Refusal)
+      → DoesRow medium (lock_listed h) r v s w t → DoesRow medium (vlock h) r v s w t
   lock-row h = no_group-row (lock-refusals h) (λ m. with_locks m (vm h) (locks_of m (vm h) + 1)) h
 
   pub lock-group-row : (h : ℕ) → IsGroup v h → DoesRow medium (vlock h) (Err refusal.Reserved) v s v s
   lock-group-row h = group-row (lock-refusals h) (λ m. with_locks m (vm h) (locks_of m (vm h) + 1)) h
 
-  pub free-row : (h : ℕ) → (IsGroup v h → ⊥) → (w : VmState D) (t : Store) (r : Result (Unit {0}) Refusal) → DoesRow medium (free_listed h) r v s w t → DoesRow medium (vfree h) r v s w t
+  pub free-row : (h : ℕ) → (IsGroup v h → ⊥) → (w : VmState D) (t : Store) (r : Result (Unit {0}) Refusal)
+      → DoesRow medium (free_listed h) r v s w t → DoesRow medium (vfree h) r v s w t
   free-row h = no_group-row (λ choice m. is_in_use m (vm h) ∷ []) (λ m. without_listed m h) h
 
   pub free-group-row : (h : ℕ) → IsGroup v h → DoesRow medium (vfree h) (Err refusal.Reserved) v s v s
@@ -96,7 +100,8 @@ module _ {D : Type 0} (medium : Medium D) (v : VmState D) (s : Store) (tied : Is
 
   -- New blocks, and the user ID of groups
 
-  pub vnew-row : (uid : ℕ) → uid ≢ group_uid → (w : VmState D) (t : Store) (r : Result ℕ Refusal) → DoesRow medium (make_listed uid 1) r v s w t → DoesRow medium (vnew uid) r v s w t
+  pub vnew-row : (uid : ℕ) → uid ≢ group_uid → (w : VmState D) (t : Store) (r : Result ℕ Refusal)
+      → DoesRow medium (make_listed uid 1) r v s w t → DoesRow medium (vnew uid) r v s w t
   vnew-row uid ne w t r row m is =
       let b = row m is in
       let n = given_memory b.0.given m in
@@ -120,7 +125,8 @@ module _ {D : Type 0} (medium : Medium D) (v : VmState D) (s : Store) (tied : Is
 
   pub vsetmap-unlisted-row : (h : ℕ) → h ≢ 0 → held_at v h ≡ None → DoesRow medium (vsetmap h) (Err refusal.BadHandle) v s v s
   vsetmap-unlisted-row h some none m is =
-      let test = zero-test h some in let absent = no-uid (held_at v h) (listed_at m h) none (uid-told medium v s tied m is h) in
+      let test = zero-test h some in
+      let absent = no-uid (held_at v h) (listed_at m h) none (uid-told medium v s tied m is h) in
       (chosen false false [], record { given = λ good. refl; device = λ good fails. absurd cc }, m, is, rw (test, absent) refl)
 
   pub vsetmap-group-row : (h : ℕ) → IsGroup v h → DoesRow medium (vsetmap h) (Err refusal.Reserved) v s v s

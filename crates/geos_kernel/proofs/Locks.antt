@@ -51,7 +51,8 @@ use Rattle.geos_kernel.proofs.Stays.{Same, kernel-on, spans-same, stands-on, sta
 abbrev pub DoesSlot : (ℕ → Type 0) → Store → Store → Store → ℕ → Result (Unit {0}) HandleError → Type 0
 DoesSlot Forbidden after old new slot r =
     OnOk r (store.IsThere old slot) × OnOk r (new ≡ after)
-    × ((r ≡ Err handle.BadHandle) ↔ (store.IsThere old slot → ⊥)) × ((r ≡ Err handle.Locked) ↔ Forbidden (store.locks_of old slot)) × OnErr r (new ≡ old)
+    × ((r ≡ Err handle.BadHandle) ↔ (store.IsThere old slot → ⊥)) × ((r ≡ Err handle.Locked) ↔ Forbidden (store.locks_of old slot))
+    × OnErr r (new ≡ old)
 
 -- what `lock` ensures of a slot
 abbrev pub LocksSlot : Store → Store → ℕ → Result (Unit {0}) HandleError → Type 0
@@ -80,14 +81,17 @@ module _ {D : Type 0} (medium : Medium D) (v : VmState D) (s : Store) (name : Na
   relocked-own n there = let small = there_small s slot k.laid there in with_locks-same s slot n (omega (arith, small, k.laid.slots))
 
   relocked-keeps : (n : ℕ) → store.IsThere s slot → KeepsBut v s (relocked n) name
-  relocked-keeps n there = slot-keeps s (relocked n) name (change.block_with_locks s slot n) refl v (λ j ne some. refl) (laid-with_locks s k.laid slot there n) refl
+  relocked-keeps n there = slot-keeps s (relocked n) name (change.block_with_locks s slot n) refl v (λ j ne some. refl)
+      (laid-with_locks s k.laid slot there n) refl
 
-  relocked-memory : (m : Memory) (n : ℕ) → n ≤ 65535 → store.IsThere s slot → IsMemoryOf medium v s m → IsMemoryOf medium v (relocked n) (model.with_locks m name n)
+  relocked-memory : (m : Memory) (n : ℕ) → n ≤ 65535 → store.IsThere s slot → IsMemoryOf medium v s m
+      → IsMemoryOf medium v (relocked n) (model.with_locks m name n)
   relocked-memory m n few there is =
       let b : Block = record { locks = store.locks_of s slot; bytes = store.bytes_of s slot } in
       let c : Block = record { locks = n; bytes = store.bytes_of s slot } in
       let at = there-is (store.block_at s slot) there in
-      let legal : name.owner ≡ Vm → IsLegalBlock (spelled n (store.bytes_of s slot)) = λ e. (let l = named-legal medium v s m k.tied is name e b at in record { heap = l.heap; few = few }) in
+      let legal : name.owner ≡ Vm → IsLegalBlock (spelled n (store.bytes_of s slot)) =
+      λ e. (let l = named-legal medium v s m k.tied is name e b at in record { heap = l.heap; few = few }) in
       named-changed medium v s (relocked n) name k.tied (relocked-keeps n there) m is b c at (relocked-own n there) (locked_block n) refl legal
 
   -- the same where a row says the new count by the old one
@@ -95,13 +99,15 @@ module _ {D : Type 0} (medium : Medium D) (v : VmState D) (s : Store) (name : Na
       → IsMemoryOf medium v (relocked (count (store.locks_of s slot))) (model.with_locks m name (count (model.locks_of m name)))
   recounted-memory count few there m is =
       let n : ℕ = count (store.locks_of s slot) in
-      subst (λ old. IsMemoryOf medium v (relocked n) (model.with_locks m name (count old))) (sym (locks-known medium v s k.tied m is name)) (relocked-memory m n few there is)
+      subst (λ old. IsMemoryOf medium v (relocked n) (model.with_locks m name (count old)))
+      (sym (locks-known medium v s k.tied m is name)) (relocked-memory m n few there is)
 
   -- every other block is as it was, and lies where it lay
   relocked-other : (n j : ℕ) → j ≢ slot → store.block_at (relocked n) j ≡ store.block_at s j
   relocked-other n j ne = with_locks-other s slot n j ne
 
-  stands-own : (n : ℕ) (span : Span) (ref : Reference) → 0 < n → store.IsThere s slot → slot_of ref.name ≡ slot → Stands (core s) span ref → Stands (core (relocked n)) span ref
+  stands-own : (n : ℕ) (span : Span) (ref : Reference) → 0 < n → store.IsThere s slot → slot_of ref.name ≡ slot
+      → Stands (core s) span ref → Stands (core (relocked n)) span ref
   stands-own n span ref some there same st =
       let new = relocked n in
       let bytes : store.bytes_of new (slot_of ref.name) ≡ store.bytes_of s (slot_of ref.name) =
@@ -116,10 +122,12 @@ module _ {D : Type 0} (medium : Medium D) (v : VmState D) (s : Store) (name : Na
   relocked-tied : (n : ℕ) → store.IsThere s slot → IsTied medium v (relocked n)
   relocked-tied n there = on name.owner name.h (has-handle there) there
     where
-      on : (owner : Owner) (h : ℕ) → IsHandle h → store.IsThere s (slot_of (named owner h)) → IsTied medium v (change.with_locks s (slot_of (named owner h)) n)
+      on : (owner : Owner) (h : ℕ) → IsHandle h → store.IsThere s (slot_of (named owner h))
+          → IsTied medium v (change.with_locks s (slot_of (named owner h)) n)
       on Mem h q there =
           let u = change.with_locks s (slot_of (mem h)) n in
-          mem-tied medium v s u h q k.tied (slot-keeps s u (mem h) (change.block_with_locks s (slot_of (mem h)) n) refl v (λ j ne some. refl) (laid-with_locks s k.laid (slot_of (mem h)) there n) refl)
+          mem-tied medium v s u h q k.tied (slot-keeps s u (mem h) (change.block_with_locks s (slot_of (mem h)) n) refl v
+          (λ j ne some. refl) (laid-with_locks s k.laid (slot_of (mem h)) there n) refl)
       on Vm h q there = locked-tied medium v s (change.with_locks s (slot_of (named Vm h)) n) h n q k.tied there refl
 
   relocked-counts : (n : ℕ) → n ≤ 65535 → store.IsThere s slot → (other : Name) → store.locks_of (relocked n) (slot_of other) ≤ 65535
@@ -130,7 +138,11 @@ module _ {D : Type 0} (medium : Medium D) (v : VmState D) (s : Store) (name : Na
 
   relocked-same : (n : ℕ) → store.IsThere s slot → (j : ℕ) → Same s (relocked n) j
   relocked-same n there j = elim (cases_eq j (slot_of name)) [
-    | inl e ↦ inr (ap (store.bytes_of (relocked n)) e ∙ ap store.bytes_in (relocked-own n there) ∙ sym (ap (store.bytes_of s) e), λ t. subst (store.IsThere s) (sym e) there)
+    | inl e ↦ inr (
+      ap (store.bytes_of (relocked n)) e ∙ ap store.bytes_in (relocked-own n there)
+          ∙ sym (ap (store.bytes_of s) e),
+      λ t. subst (store.IsThere s) (sym e) there,
+    )
     | inr ne ↦ inr (ap store.bytes_in (relocked-other n j ne), λ t. subst store.IsBlock (relocked-other n j ne) t)
   ]
 
@@ -139,7 +151,8 @@ module _ {D : Type 0} (medium : Medium D) (v : VmState D) (s : Store) (name : Na
   relocked-kernel n few there =
       let f = k.known in
       let after = relocked-memory (memory_of (core s) f.0) n few there (record { blocks = refl; file = f.1; region = refl }) in
-      kernel-on medium v s (relocked n) k (relocked-tied n there) ((model.with_locks (memory_of (core s) f.0) name n).file, after.file) refl (relocked-same n there) (relocked-counts n few there)
+      kernel-on medium v s (relocked n) k (relocked-tied n there) ((model.with_locks (memory_of (core s) f.0) name n).file, after.file)
+      refl (relocked-same n there) (relocked-counts n few there)
 
   -- while a block is locked, its spans stay, and so do all others
   lock-spans : (f : VmFile) (n : ℕ) → 0 < n → store.IsThere s slot → SpansStay (core s) (core (relocked n)) f Nothing
@@ -150,10 +163,12 @@ module _ {D : Type 0} (medium : Medium D) (v : VmState D) (s : Store) (name : Na
 
   -- when a block is locked no more, the spans in all others stay
   unlock-spans : (f : VmFile) (n : ℕ) → store.IsThere s slot → SpansStay (core s) (core (relocked n)) f (InBlock name)
-  unlock-spans f n there span ref st fresh = stands-other n span ref (other-slot s ref.name name k.laid (there_of_locks s (slot_of ref.name) st.locked) there fresh) st
+  unlock-spans f n there span ref st fresh = stands-other n span ref
+      (other-slot s ref.name name k.laid (there_of_locks s (slot_of ref.name) st.locked) there fresh) st
 
   -- a lock that is given back
-  given-back : (f : VmFile) (n : ℕ) → model.locks_of (memory_of (core s) f) name ≡ n + 1 → store.IsThere s slot → SpansStay (core s) (core (relocked n)) f (OfLock name)
+  given-back : (f : VmFile) (n : ℕ) → model.locks_of (memory_of (core s) f) name ≡ n + 1 → store.IsThere s slot
+      → SpansStay (core s) (core (relocked n)) f (OfLock name)
   given-back f zero one there span ref st fresh =
       let last : IfSome (if model.locks_of (memory_of (core s) f) name == 1 then Some name else None) (λ other. ref.name ≢ other) = fresh in
       unlock-spans f 0 there span ref st (subst (λ n. IfSome (if n == 1 then Some name else None) (λ other. ref.name ≢ other)) one last)
@@ -173,7 +188,8 @@ module _ {D : Type 0} (medium : Medium D) (v : VmState D) (s : Store) (name : Na
     unlock-stays f tied =
         let n : ℕ = store.locks_of s slot - 1 in
         let is = memory-known medium v s f tied in
-        let one : model.locks_of (memory_of (core s) f) name ≡ n + 1 = omega (arith, locks-known medium v s k.tied (memory_of (core s) f) is name, locked) in
+        let one : model.locks_of (memory_of (core s) f) name ≡ n + 1 =
+        omega (arith, locks-known medium v s k.tied (memory_of (core s) f) is name, locked) in
         subst (λ u. SpansStay (core s) (core u) f (OfLock name)) (sym e) (given-back f n one held)
 
     pub unlock-calls : Calls (medium.honest v.file.device) (table.unlock name) (Ok tt) (core s) (core t)
@@ -224,8 +240,10 @@ module _ {D : Type 0} (medium : Medium D) (v : VmState D) (s : Store) (h : ℕ) 
   there-told : (m : Memory) → IsMemoryOf medium v s m → store.IsThere s mem_slot → is_none (model.block_of m (mem h)) ≡ false
   there-told m is there = ap is_none (there-known medium v s k.tied m is (mem h) there)
 
-  module _ (is_forbidden : ℕ → Bool) (Forbidden : ℕ → Type 0) (decides : (n : ℕ) → Decides (is_forbidden n) (Forbidden n)) (locked : (n : ℕ) → Forbidden n → 0 < n)
-      (changed : Memory → Name → Memory) (after : Store) (leaves : store.IsThere s mem_slot → (Forbidden (store.locks_of s mem_slot) → ⊥) → LeavesBlocks medium v s after (λ m. changed m (mem h))) where
+  module _ (is_forbidden : ℕ → Bool) (Forbidden : ℕ → Type 0) (decides : (n : ℕ) → Decides (is_forbidden n) (Forbidden n))
+      (locked : (n : ℕ) → Forbidden n → 0 < n)
+      (changed : Memory → Name → Memory) (after : Store) (leaves : store.IsThere s mem_slot → (Forbidden (store.locks_of s mem_slot) → ⊥)
+      → LeavesBlocks medium v s after (λ m. changed m (mem h))) where
     abbrev call : Call (Unit {0})
     call = on_whole is_forbidden changed h
 
@@ -233,7 +251,8 @@ module _ {D : Type 0} (medium : Medium D) (v : VmState D) (s : Store) (h : ℕ) 
     whole-row t (Ok done) (there, ok, bad, full, err) = does-willing medium call (Ok tt) v s t (λ m is.
         let free : Forbidden (store.locks_of s mem_slot) → ⊥ = λ f. ok_err (full.1 f) in
         let some = there-told m is there in
-        let fine = ap is_forbidden (counts-told m is) ∙ unforbidden (is_forbidden (store.locks_of s mem_slot)) (decides (store.locks_of s mem_slot)) free in
+        let fine = ap is_forbidden (counts-told m is) ∙ unforbidden (is_forbidden (store.locks_of s mem_slot))
+        (decides (store.locks_of s mem_slot)) free in
         (changed m (mem h), subst (λ u. IsMemoryOf medium v u (changed m (mem h))) (sym ok) ((leaves there free).memory m is), rw (some, fine) refl))
     whole-row t (Err handle.BadHandle) (there, ok, bad, full, err) = does-willing medium call (Err BadHandle) v s t (λ m is.
         let none = block-absent medium v s m k.tied is h (bad.0 refl) in
@@ -243,8 +262,10 @@ module _ {D : Type 0} (medium : Medium D) (v : VmState D) (s : Store) (h : ℕ) 
         let forbids = ap is_forbidden (counts-told m is) ∙ (decides (store.locks_of s mem_slot)).1 (full.0 refl) in
         (m, subst (λ u. IsMemoryOf medium v u m) (sym err) is, rw (some, forbids) refl))
 
-    whole-spans : (t : Store) (r : Result (Unit {0}) HandleError) → DoesSlot Forbidden after s t mem_slot r → (f : VmFile) → SpansStay (sees s) (sees t) f Nothing
-    whole-spans t (Ok done) (there, ok, bad, full, err) f = subst (λ u. SpansStay (sees s) (sees u) f Nothing) (sym ok) ((leaves there (λ f. ok_err (full.1 f))).spans f)
+    whole-spans : (t : Store) (r : Result (Unit {0}) HandleError) → DoesSlot Forbidden after s t mem_slot r → (f : VmFile)
+        → SpansStay (sees s) (sees t) f Nothing
+    whole-spans t (Ok done) (there, ok, bad, full, err) f = subst (λ u. SpansStay (sees s) (sees u) f Nothing) (sym ok)
+        ((leaves there (λ f. ok_err (full.1 f))).spans f)
     whole-spans t (Err e) (there, ok, bad, full, err) f = spans-same (sees s) (sees t) f Nothing err
 
     whole-kernel : (t : Store) (r : Result (Unit {0}) HandleError) → DoesSlot Forbidden after s t mem_slot r → IsKernel medium v t
@@ -252,8 +273,13 @@ module _ {D : Type 0} (medium : Medium D) (v : VmState D) (s : Store) (h : ℕ) 
     whole-kernel t (Err e) (there, ok, bad, full, err) = subst (IsKernel medium v) (sym err) k
 
     -- the blocks still are a kernel's, and the call answers as its row says
-    whole-done : (t : Store) (r : Result (Unit {0}) HandleError) → DoesSlot Forbidden after s t mem_slot r → IsKernel medium v t × Calls (medium.honest v.file.device) call (of_handle r) (sees s) (sees t)
-    whole-done t r does = (whole-kernel t r does, row-calls medium call (of_handle r) v s t (whole-row t r does) (λ f tied choice. whole-spans t r does f))
+    whole-done : (t : Store) (r : Result (Unit {0}) HandleError) → DoesSlot Forbidden after s t mem_slot r
+        → IsKernel medium v t × Calls (medium.honest v.file.device) call (of_handle r) (sees s) (sees t)
+    whole-done t r does = (
+      whole-kernel t r does,
+      row-calls medium call (of_handle r) v s t (whole-row t r does)
+          (λ f tied choice. whole-spans t r does f),
+    )
 
   -- A block that is locked once more
 
@@ -270,8 +296,10 @@ module _ {D : Type 0} (medium : Medium D) (v : VmState D) (s : Store) (h : ℕ) 
         kernel = relocked-kernel medium v s (mem h) k (store.locks_of s mem_slot + 1) few there;
       }
 
-  pub lock-done : (t : Store) (r : Result (Unit {0}) HandleError) → LocksSlot s t mem_slot r → IsKernel medium v t × Calls (medium.honest v.file.device) (table.mlock h) (of_handle r) (sees s) (sees t)
-  lock-done = whole-done (λ n. n == 65535) (λ n. n ≡ 65535) (λ n. Decides-eqb n 65535) (λ n is. omega (arith, is)) (λ m name. model.with_locks m name (model.locks_of m name + 1)) (change.with_lock_more s mem_slot) lock-leaves
+  pub lock-done : (t : Store) (r : Result (Unit {0}) HandleError) → LocksSlot s t mem_slot r → IsKernel medium v t
+      × Calls (medium.honest v.file.device) (table.mlock h) (of_handle r) (sees s) (sees t)
+  lock-done = whole-done (λ n. n == 65535) (λ n. n ≡ 65535) (λ n. Decides-eqb n 65535) (λ n is. omega (arith, is))
+      (λ m name. model.with_locks m name (model.locks_of m name + 1)) (change.with_lock_more s mem_slot) lock-leaves
 
   -- A block that goes
 
@@ -286,16 +314,19 @@ module _ {D : Type 0} (medium : Medium D) (v : VmState D) (s : Store) (h : ℕ) 
   gone-own there = let small = there_small s mem_slot k.laid there in with_block-same s mem_slot None 0 (omega (arith, small, k.laid.slots))
 
   gone-keeps : store.IsThere s mem_slot → KeepsBut v s gone (mem h)
-  gone-keeps there = slot-keeps s gone (mem h) None refl v (λ j ne some. get_or-set_other s.places mem_slot j 0 0 ne) (laid-without s k.laid mem_slot there) refl
+  gone-keeps there = slot-keeps s gone (mem h) None refl v (λ j ne some. get_or-set_other s.places mem_slot j 0 0 ne)
+      (laid-without s k.laid mem_slot there) refl
 
   gone-memory : store.IsThere s mem_slot → (m : Memory) → IsMemoryOf medium v s m → IsMemoryOf medium v gone (model.with_block m (mem h) None)
-  gone-memory there m is = mem-changed medium v s gone h (handle_of_there s s (mem h) refl k.laid there) k.tied (gone-keeps there) m is None (sym (ap block_in (gone-own there)))
+  gone-memory there m is = mem-changed medium v s gone h (handle_of_there s s (mem h) refl k.laid there) k.tied
+      (gone-keeps there) m is None (sym (ap block_in (gone-own there)))
 
   -- it takes no span with it, since it is not locked
   gone-spans : (f : VmFile) → store.locks_of s mem_slot ≡ 0 → SpansStay (sees s) (sees gone) f Nothing
   gone-spans f none span ref st fresh =
       let apart : slot_of ref.name ≢ mem_slot = λ same. absurd (omega (arith, st.locked, ap (store.locks_of s) same, none)) in
-      stands-same (sees s) (sees gone) span ref (with_block-other s mem_slot None 0 (slot_of ref.name) apart) (get_or-set_other s.places mem_slot (slot_of ref.name) 0 0 apart) st
+      stands-same (sees s) (sees gone) span ref (with_block-other s mem_slot None 0 (slot_of ref.name) apart)
+      (get_or-set_other s.places mem_slot (slot_of ref.name) 0 0 apart) st
 
   gone-same : store.IsThere s mem_slot → (j : ℕ) → Same s gone j
   gone-same there j = elim (cases_eq j (slot_of (mem h))) [
@@ -318,7 +349,14 @@ module _ {D : Type 0} (medium : Medium D) (v : VmState D) (s : Store) (h : ℕ) 
       kernel-on medium v s gone k tied (f.0, after.file) refl (gone-same there) (gone-counts there)
 
   gone-leaves : store.IsThere s mem_slot → (0 < store.locks_of s mem_slot → ⊥) → LeavesBlocks medium v s gone (λ m. model.with_block m (mem h) None)
-  gone-leaves there free = record { memory = gone-memory there; spans = λ f. gone-spans f (unlocked (store.locks_of s mem_slot) free); kernel = gone-kernel there }
+  gone-leaves there free = record {
+    memory = gone-memory there;
+    spans = λ f. gone-spans f (unlocked (store.locks_of s mem_slot) free);
+    kernel =
+        gone-kernel there;
+  }
 
-  pub free-done : (t : Store) (r : Result (Unit {0}) HandleError) → FreesSlot s t mem_slot r → IsKernel medium v t × Calls (medium.honest v.file.device) (table.mfree h) (of_handle r) (sees s) (sees t)
-  free-done = whole-done (λ n. nat_lt 0 n) (λ n. 0 < n) (λ n. Decides-ltb 0 n) (λ n some. some) (λ m name. model.with_block m name None) gone gone-leaves
+  pub free-done : (t : Store) (r : Result (Unit {0}) HandleError) → FreesSlot s t mem_slot r → IsKernel medium v t
+      × Calls (medium.honest v.file.device) (table.mfree h) (of_handle r) (sees s) (sees t)
+  free-done = whole-done (λ n. nat_lt 0 n) (λ n. 0 < n) (λ n. Decides-ltb 0 n) (λ n some. some)
+      (λ m name. model.with_block m name None) gone gone-leaves

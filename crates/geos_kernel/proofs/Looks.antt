@@ -28,8 +28,10 @@ gives-standing good call span s (Ok ref, answers, stands) = (ref, stands)
 gives-standing good call span s (Err refusal, answers, stands) = absurd stands
 
 -- a span stands for bytes that were found in a locked block
-pub found-stands : (s : KernelState) (name : Name) → 0 < store.locks_of s.blocks (slot_of name) → (edit : List (Option (List ℕ)) → Edit Part) (at len place : ℕ) → place ≡ store.place_of s.blocks (slot_of name)
-    → Finds edit (store.bytes_of s.blocks (slot_of name)) (Ok (at, len)) → Stands s (record { at = place + at; len = len }) (table.in_block name (edit (chunks_at s.blocks name)).answer)
+pub found-stands : (s : KernelState) (name : Name) → 0 < store.locks_of s.blocks (slot_of name)
+    → (edit : List (Option (List ℕ)) → Edit Part) (at len place : ℕ) → place ≡ store.place_of s.blocks (slot_of name)
+    → Finds edit (store.bytes_of s.blocks (slot_of name)) (Ok (at, len)) → Stands s (record { at = place + at; len = len })
+    (table.in_block name (edit (chunks_at s.blocks name)).answer)
 found-stands s name locked edit at len place e h =
     let lies = h.2 in
     record {
@@ -44,7 +46,8 @@ found-stands s name locked edit at len place e h =
     answer : Part
     answer = (edit (chunks_at s.blocks name)).answer
 
-    moved : (o : Option block.Place) → IfSome o (λ q. at ≡ q.at + answer.start) → IfSome o (λ q. place + at ≡ store.place_of s.blocks (slot_of name) + q.at + answer.start)
+    moved : (o : Option block.Place) → IfSome o (λ q. at ≡ q.at + answer.start)
+        → IfSome o (λ q. place + at ≡ store.place_of s.blocks (slot_of name) + q.at + answer.start)
     moved None h = tt
     moved (Some q) h = omega (arith, e, h)
 
@@ -53,23 +56,29 @@ module _ {D : Type 0} (medium : Medium D) (v : VmState D) (s : Store) (name : Na
   sees = core_of medium v s
 
   -- a call that tells something of the chunks
-  pub told : {A : Type 0} (edit : List (Option (List ℕ)) → Edit A) (r : Result A Refusal) → Tells edit (chunks_at s name) r → Calls (medium.honest v.file.device) (table.reads edit name) r sees sees
+  pub told : {A : Type 0} (edit : List (Option (List ℕ)) → Edit A) (r : Result A Refusal) → Tells edit (chunks_at s name) r
+      → Calls (medium.honest v.file.device) (table.reads edit name) r sees sees
   told edit r h =
-      row-calls medium (table.reads edit name) r v s s (tells-row medium v edit s name k.tied holds r h) (λ f tied choice span ref stands fresh. stands)
+      row-calls medium (table.reads edit name) r v s s (tells-row medium v edit s name k.tied holds r h)
+      (λ f tied choice span ref stands fresh. stands)
 
   -- a call that gives a reference, or refuses it
-  pub refers-not : (edit : List (Option (List ℕ)) → Edit Part) (why : Refusal) → first_refusal (edit (chunks_at s name)).refusals ≡ Some why → GivesSpan (medium.honest v.file.device) (table.refers edit name) (Err why) sees
+  pub refers-not : (edit : List (Option (List ℕ)) → Edit Part) (why : Refusal) → first_refusal (edit (chunks_at s name)).refusals ≡ Some why
+      → GivesSpan (medium.honest v.file.device) (table.refers edit name) (Err why) sees
   refers-not edit why came = (
     Err why,
-    row-calls medium (table.refers edit name) (Err why) v s s (refers-not-row medium v edit s name k.tied holds why came) (λ f tied choice span ref stands fresh. stands),
+    row-calls medium (table.refers edit name) (Err why) v s s (refers-not-row medium v edit s name k.tied holds why came)
+        (λ f tied choice span ref stands fresh. stands),
     refl,
   )
 
   -- bytes that were found
-  pub found : 0 < store.locks_of s (slot_of name) → (edit : List (Option (List ℕ)) → Edit Part) (at len place : ℕ) → place ≡ store.place_of s (slot_of name) → Finds edit (store.bytes_of s (slot_of name)) (Ok (at, len))
+  pub found : 0 < store.locks_of s (slot_of name) → (edit : List (Option (List ℕ)) → Edit Part) (at len place : ℕ)
+      → place ≡ store.place_of s (slot_of name) → Finds edit (store.bytes_of s (slot_of name)) (Ok (at, len))
       → GivesSpan (medium.honest v.file.device) (table.refers edit name) (Ok (record { at = place + at; len = len })) sees
   found locked edit at len place e h = (
     Ok (table.in_block name (edit (chunks_at s name)).answer),
-    row-calls medium (table.refers edit name) (Ok (table.in_block name (edit (chunks_at s name)).answer)) v s s (refers-row medium v edit s name k.tied holds h.0) (λ f tied choice span ref stands fresh. stands),
+    row-calls medium (table.refers edit name) (Ok (table.in_block name (edit (chunks_at s name)).answer)) v s s
+        (refers-row medium v edit s name k.tied holds h.0) (λ f tied choice span ref stands fresh. stands),
     found-stands sees name locked edit at len place e h,
   )

@@ -33,12 +33,14 @@ module _ {D : Type 0} (medium : Medium D) (v : VmState D) (s : Store) (m : Memor
   lowest-some (suc i) l =
       let lt : i < 1024 = omega (arith, l.handle.1) in
       let first : position_or_len is_none m.blocks ≡ i =
-      position_or_len_is is_none m.blocks i None (omega (arith, count)) (λ j below. used j (l.lower (suc j) (omega arith, omega arith) (omega arith))) (λ inside. unused i l.free) in
+      position_or_len_is is_none m.blocks i None (omega (arith, count)) (λ j below. used j (l.lower (suc j) (omega arith, omega arith) (omega arith)))
+      (λ inside. unused i l.free) in
       let inside : nat_lt i (length m.blocks) ≡ true = rw count (grind (arith, lt)) in
       rw (first, inside) refl
 
   pub lowest-none : AllInUse s Mem → lowest_handle m Mem ≡ None
   lowest-none all =
       let last : position_or_len is_none m.blocks ≡ 1024 =
-      position_or_len_is is_none m.blocks 1024 None (omega (arith, count)) (λ j below. used j (all (suc j) (omega arith, omega (arith, below)))) (λ inside. absurd (omega (arith, inside, count))) in
+      position_or_len_is is_none m.blocks 1024 None (omega (arith, count)) (λ j below. used j (all (suc j) (omega arith, omega (arith, below))))
+      (λ inside. absurd (omega (arith, inside, count))) in
       rw (last, count) refl

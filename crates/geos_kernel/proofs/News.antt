@@ -92,9 +92,11 @@ module _ {D : Type 0} (medium : Medium D) (v : VmState D) (s : Store) (k : IsKer
     made-tied = mem-tied medium v makes.mid t h low.handle thin keeps
 
     fresh-block : spelled 1 makes.made.bytes ≡ record { locks = 1; heap = model.new_heap }
-    fresh-block = let made = makes.made in let chunks = made.chunks in let long = made.long in λ i. record { locks = 1; heap = record { chunks = chunks i; size = long i } }
+    fresh-block = let made = makes.made in let chunks = made.chunks in let long = made.long in
+        λ i. record { locks = 1; heap = record { chunks = chunks i; size = long i } }
 
-    made-memory : (m : Memory) → IsMemoryOf medium v s m → IsMemoryOf medium v t (model.with_block m (mem h) (Some (record { locks = 1; heap = model.new_heap })))
+    made-memory : (m : Memory) → IsMemoryOf medium v s m
+        → IsMemoryOf medium v t (model.with_block m (mem h) (Some (record { locks = 1; heap = model.new_heap })))
     made-memory m is =
         let now = memory-thins medium v s makes.mid m is 0 k.tied makes.thins in
         subst (λ b. IsMemoryOf medium v t (model.with_block m (mem h) (Some b))) fresh-block
@@ -118,7 +120,8 @@ module _ {D : Type 0} (medium : Medium D) (v : VmState D) (s : Store) (k : IsKer
         (does-willing medium table.mnew (Ok h) v s t (λ m is. (
           model.with_block m (mem h) (Some (record { locks = 1; heap = model.new_heap })),
           made-memory m is,
-          mnew-ok m (model.with_block m (mem h) (Some (record { locks = 1; heap = model.new_heap }))) h (lowest-some medium v s m k.tied is h low) refl,
+          mnew-ok m (model.with_block m (mem h) (Some (record { locks = 1; heap = model.new_heap }))) h
+              (lowest-some medium v s m k.tied is h low) refl,
         )))
         (λ f tied choice. made-spans f)
 
@@ -129,5 +132,6 @@ module _ {D : Type 0} (medium : Medium D) (v : VmState D) (s : Store) (k : IsKer
         let now = memory-thins medium v s makes.mid (memory_of (sees s) f.0) before 0 k.tied makes.thins in
         let after = made-memory (memory_of (sees s) f.0) before in
         let mid = kernel-thins medium v s makes.mid 0 k makes.thins thin (f.0, now.file) in
-        kernel-but medium v makes.mid t (mem h) mid keeps low.handle made-tied (f.0, after.file) (subst (λ o. IsHeap (store.bytes_in o)) (sym at-own) makes.made.heap)
+        kernel-but medium v makes.mid t (mem h) mid keeps low.handle made-tied (f.0, after.file)
+        (subst (λ o. IsHeap (store.bytes_in o)) (sym at-own) makes.made.heap)
         (ap (λ o. block.handle_word (store.bytes_in o)) at-own ∙ makes.made.handle) (omega (arith, ap store.locks_in at-own))

@@ -37,7 +37,8 @@ module _ (s t : Store) where
   pub locks-remain : (slot n : ℕ) → IsLaidOut s → IsThere s slot → t ≡ with_locks s slot n → Remain s t 0
   locks-remain slot n laid there is = shape-remain laid (subst (SameShape s) (sym is) (with_locks-shape s slot n laid there))
 
-  pub lock-remain : {E : Type 0} (slot : ℕ) (r : Result (Unit {0}) E) → IsLaidOut s → OnOk r (IsThere s slot) → OnOk r (t ≡ with_lock_more s slot) → OnErr r (t ≡ s) → Remain s t 0
+  pub lock-remain : {E : Type 0} (slot : ℕ) (r : Result (Unit {0}) E) → IsLaidOut s → OnOk r (IsThere s slot)
+      → OnOk r (t ≡ with_lock_more s slot) → OnErr r (t ≡ s) → Remain s t 0
   lock-remain slot (Ok done) laid there ok err = locks-remain slot (locks_of s slot + 1) laid there ok
   lock-remain slot (Err why) laid there ok err = same-remain 0 err
 
@@ -52,15 +53,18 @@ module _ (s t : Store) where
     | inr other ↦ subst IsBlock (sym (rechunked-other s t slot there cs k r (vm_slot h) other)) was
   ]
 
-  pub changes-remain : {A : Type 0} (edit : List (Option (List ℕ)) → Edit A) (name : Name) (r : Result A Refusal) → IsThere s (slot_of name) → Changes edit s t name r → Remain s t 0
+  pub changes-remain : {A : Type 0} (edit : List (Option (List ℕ)) → Edit A) (name : Name) (r : Result A Refusal)
+      → IsThere s (slot_of name) → Changes edit s t name r → Remain s t 0
   changes-remain edit name (Ok answer) there c = rechunked-remain (slot_of name) _ _ there c.1
   changes-remain edit name (Err why) there c = same-remain 0 c.1
 
   -- where a block of global memory went
-  pub freed-remain : {E : Type 0} (h : ℕ) (r : Result (Unit {0}) E) → IsLaidOut s → OnOk r (IsThere s (slot_of (mem h))) → OnOk r (t ≡ without s (slot_of (mem h))) → OnErr r (t ≡ s) → Remain s t 0
+  pub freed-remain : {E : Type 0} (h : ℕ) (r : Result (Unit {0}) E) → IsLaidOut s → OnOk r (IsThere s (slot_of (mem h)))
+      → OnOk r (t ≡ without s (slot_of (mem h))) → OnErr r (t ≡ s) → Remain s t 0
   freed-remain h (Ok done) laid there ok err = λ k p ne was.
       let handle : IsHandle h = handle_of_there s s (mem h) refl laid there in
-      subst IsBlock (sym (ap (λ u. block_at u (vm_slot k)) ok ∙ with_block-other s (slot_of (mem h)) None 0 (vm_slot k) (λ e. apart h k handle (sym e)))) was
+      subst IsBlock (sym (ap (λ u. block_at u (vm_slot k)) ok ∙ with_block-other s (slot_of (mem h)) None 0 (vm_slot k)
+      (λ e. apart h k handle (sym e)))) was
   freed-remain h (Err why) laid there ok err = same-remain 0 err
 
   -- where one of the file went
@@ -69,7 +73,9 @@ module _ (s t : Store) where
     where
       other : (k : ℕ) → IsHandle k → k ≢ h → vm_slot k ≢ vm_slot h
       other k p ne e = elim (handle-or {X = ℕ} 0 h) [
-        | inl q ↦ (let here = slot-is k p in let there = slot-is h q in let some = p.0 in let least = q.0 in ne (omega (arith, here, there, some, least, e)))
-        | inr past ↦ (let here = slot-is k p in let there = slot_of-past Vm h past in let most = p.1 in let some = p.0 in absurd (omega (arith, here, there, most, some, e)))
+        | inl q ↦ (let here = slot-is k p in let there = slot-is h q in let some = p.0 in let least = q.0 in
+            ne (omega (arith, here, there, some, least, e)))
+        | inr past ↦ (let here = slot-is k p in let there = slot_of-past Vm h past in let most = p.1 in let some = p.0 in
+            absurd (omega (arith, here, there, most, some, e)))
       ]
   dropped-remain P h (Err why) drops err = same-remain h err.1

@@ -25,20 +25,25 @@ module _ {D : Type 0} (medium : Medium D) {A : Type 0} (call : Call A) (result :
   cramped-chosen old new = record { given = λ g. refl; device = λ g refused. absurd cc }
 
   -- of a call that is refused nothing from outside
-  pub does-willing : ((m : Memory) → IsMemoryOf medium v s m → (n : Memory) × IsMemoryOf medium v t n × (outcome (effect_of call willing m) ≡ (result, n))) → DoesRow medium call result v s v t
+  pub does-willing : ((m : Memory) → IsMemoryOf medium v s m → (n : Memory) × IsMemoryOf medium v t n
+      × (outcome (effect_of call willing m) ≡ (result, n))) → DoesRow medium call result v s v t
   does-willing does m is = let d = does m is in (willing, willing-chosen v.file.device v.file.device, d.0, d.1, d.2)
 
   -- of one that is refused room
-  pub does-cramped : ((m : Memory) → IsMemoryOf medium v s m → (n : Memory) × IsMemoryOf medium v t n × (outcome (effect_of call cramped m) ≡ (result, n))) → DoesRow medium call result v s v t
+  pub does-cramped : ((m : Memory) → IsMemoryOf medium v s m → (n : Memory) × IsMemoryOf medium v t n
+      × (outcome (effect_of call cramped m) ≡ (result, n))) → DoesRow medium call result v s v t
   does-cramped does m is = let d = does m is in (cramped, cramped-chosen v.file.device v.file.device, d.0, d.1, d.2)
 
   -- a call that asks the device nothing
   pub row-calls : DoesRow medium call result v s v t
-      → ((f : VmFile) → IsFileOf (medium.honest v.file.device) (core_of medium v s) f → (choice : Choice) → SpansStay (core_of medium v s) (core_of medium v t) f (effect_of call choice (memory_of (core_of medium v s) f)).stale)
+      → ((f : VmFile) → IsFileOf (medium.honest v.file.device) (core_of medium v s) f → (choice : Choice)
+      → SpansStay (core_of medium v s) (core_of medium v t) f (effect_of call choice (memory_of (core_of medium v s) f)).stale)
       → Calls (medium.honest v.file.device) call result (core_of medium v s) (core_of medium v t)
   row-calls row spans = record { answers = row-answers medium call result v s v t row (λ g. g) (λ g. inl refl); spans = spans }
 
 -- a call that tells something, and changes nothing
 module _ {D : Type 0} (medium : Medium D) {A : Type 0} (call : Call A) (result : Result A Refusal) (v : VmState D) (s : Store) where
-  pub telling-calls : ((m : Memory) → IsMemoryOf medium v s m → outcome (effect_of call willing m) ≡ (result, m)) → Calls (medium.honest v.file.device) call result (core_of medium v s) (core_of medium v s)
-  telling-calls tells = row-calls medium call result v s s (does-willing medium call result v s s (λ m is. (m, is, tells m is))) (λ f tied choice span ref stands fresh. stands)
+  pub telling-calls : ((m : Memory) → IsMemoryOf medium v s m → outcome (effect_of call willing m) ≡ (result, m))
+      → Calls (medium.honest v.file.device) call result (core_of medium v s) (core_of medium v s)
+  telling-calls tells = row-calls medium call result v s s (does-willing medium call result v s s (λ m is. (m, is, tells m is)))
+      (λ f tied choice span ref stands fresh. stands)

@@ -40,7 +40,14 @@ module _ {D : Type 0} (medium : Medium D) (v : VmState D) (s : Store) where
   pub file-seen : (f : VmFile) → vm.IsFileOf medium.image medium.honest v s f → IsFileOf good core f
   file-seen f is = record {
     area = is.area;
-    cur = record { handles = is.cur.handles; each = is.cur.each; map_block = is.cur.map_block; map_group = is.cur.map_group; map_item = is.cur.map_item };
+    cur = record {
+      handles = is.cur.handles;
+      each = is.cur.each;
+      map_block = is.cur.map_block;
+      map_group =
+          is.cur.map_group;
+      map_item = is.cur.map_item;
+    };
     saved = is.saved;
     kept = kept-seen f.kept is.kept;
     legal = is.legal;
@@ -49,7 +56,14 @@ module _ {D : Type 0} (medium : Medium D) (v : VmState D) (s : Store) where
   pub file-known : (f : VmFile) → IsFileOf good core f → vm.IsFileOf medium.image medium.honest v s f
   file-known f is = record {
     area = is.area;
-    cur = record { handles = is.cur.handles; each = is.cur.each; map_block = is.cur.map_block; map_group = is.cur.map_group; map_item = is.cur.map_item };
+    cur = record {
+      handles = is.cur.handles;
+      each = is.cur.each;
+      map_block = is.cur.map_block;
+      map_group =
+          is.cur.map_group;
+      map_item = is.cur.map_item;
+    };
     saved = is.saved;
     kept = kept-known f.kept is.kept;
     legal = is.legal;
@@ -67,7 +81,8 @@ file-on A B more core f is = record {
   area = is.area;
   cur = record {
     handles = is.cur.handles;
-    each = λ h p. (let read = bytes_read image_seen core.vm.file h in listed-on A B more read read (held_at core.vm h) (block_at core.blocks (vm_slot h)) (at_handle None f.cur.blocks h) (λ b. refl) (is.cur.each h p));
+    each = λ h p. (let read = bytes_read image_seen core.vm.file h in listed-on A B more read read (held_at core.vm h)
+        (block_at core.blocks (vm_slot h)) (at_handle None f.cur.blocks h) (λ b. refl) (is.cur.each h p));
     map_block = is.cur.map_block;
     map_group = is.cur.map_group;
     map_item = is.cur.map_item;
@@ -79,7 +94,8 @@ file-on A B more core f is = record {
   where
     on : (kept : Kept) → IsKeptOf image_seen (λ d. A) core.vm.file kept → IsKeptOf image_seen (λ d. B) core.vm.file kept
     on (Sure p) k = (let q = pair_of image_seen core.vm.file in (k.0, pair-on A B more core.vm.file.current core.vm.file.saved q q p (λ b. refl) k.1))
-    on (Unsure p q) k = (let r = pair_of image_seen core.vm.file in (k.0, pair-on A B more core.vm.file.current core.vm.file.saved r r p (λ b. refl) k.1, λ b. k.2 (more b)))
+    on (Unsure p q) k = (let r = pair_of image_seen core.vm.file in
+        (k.0, pair-on A B more core.vm.file.current core.vm.file.saved r r p (λ b. refl) k.1, λ b. k.2 (more b)))
 
 -- The counts of failures
 
@@ -89,7 +105,8 @@ risen a b (inr most) = inr (omega (arith, most))
 
 -- Calls
 
-module _ {D : Type 0} (medium : Medium D) {A : Type 0} (call : Call A) (result : Result A Refusal) (v : VmState D) (s : Store) (w : VmState D) (t : Store) where
+module _ {D : Type 0} (medium : Medium D) {A : Type 0} (call : Call A) (result : Result A Refusal) (v : VmState D)
+    (s : Store) (w : VmState D) (t : Store) where
   abbrev old : KernelState
   old = core_of medium v s
 
@@ -100,7 +117,8 @@ module _ {D : Type 0} (medium : Medium D) {A : Type 0} (call : Call A) (result :
   same-memory n is = (let blocks = is.blocks in let region = is.region in λ k. record { blocks = blocks k; file = n.file; region = region k })
 
   -- a call that does its row answers as the row says
-  pub row-answers : DoesRow medium call result v s w t → (medium.honest v.file.device → medium.honest w.file.device) → NeverFell (medium.honest v.file.device) old new
+  pub row-answers : DoesRow medium call result v s w t → (medium.honest v.file.device → medium.honest w.file.device)
+      → NeverFell (medium.honest v.file.device) old new
       → (f : VmFile) → IsFileOf (medium.honest v.file.device) old f → AnswersWith (medium.honest v.file.device) call result old new f
   row-answers row still lasts f tied =
       let b = row (memory_of old f) (memory-known medium v s f tied) in
@@ -114,16 +132,19 @@ module _ {D : Type 0} (medium : Medium D) {A : Type 0} (call : Call A) (result :
       }
 
   -- and the model knows a file afterwards
-  pub row-known : DoesRow medium call result v s w t → (f : VmFile) × vm.IsFileOf medium.image medium.honest v s f → (f : VmFile) × vm.IsFileOf medium.image medium.honest w t f
+  pub row-known : DoesRow medium call result v s w t → (f : VmFile) × vm.IsFileOf medium.image medium.honest v s f
+      → (f : VmFile) × vm.IsFileOf medium.image medium.honest w t f
   row-known does (f, is) =
       let b = does (memory_of old f) (record { blocks = refl; file = is; region = refl }) in
       (b.2.file, b.3.file)
 
 -- a call on what is in a kernel is one on the kernel
-pub calls-seen : {D A : Type 0} (medium : Medium D) (v : VmState D) (s : Store) (k : KernelOn D) → kernel_of medium v s ≡ k → {call : Call A} {r : Result A Refusal} {new : KernelState}
+pub calls-seen : {D A : Type 0} (medium : Medium D) (v : VmState D) (s : Store) (k : KernelOn D) → kernel_of medium v s ≡ k
+    → {call : Call A} {r : Result A Refusal} {new : KernelState}
     → Calls (medium.honest v.file.device) call r (core_of medium v s) new → Calls (medium.honest k.device) call r k.core new
 calls-seen medium v s k is {call} {r} {new} calls = subst (λ k. Calls (medium.honest k.device) call r k.core new) is calls
 
 -- a call that changes blocks alone
-pub blocks-alone : {D : Type 0} (medium : Medium D) (v : VmState D) (s t : Store) (k : KernelOn D) → kernel_of medium v s ≡ k → LeavesVm k (kernel_of medium v t)
+pub blocks-alone : {D : Type 0} (medium : Medium D) (v : VmState D) (s t : Store) (k : KernelOn D) → kernel_of medium v s ≡ k
+    → LeavesVm k (kernel_of medium v t)
 blocks-alone medium v s t k is = record { device = ap (λ k. k.device) is; vm = ap (λ k. k.core.vm) is }

@@ -25,7 +25,8 @@ use Rattle.geos_kernel.specs.Kernel.{IsKernel}
 -- Spans
 
 -- a span stands on where its block keeps its bytes and its place, and stays locked
-pub stands-on : (old new : KernelState) (span : Span) (ref : Reference) → bytes_of new.blocks (slot_of ref.name) ≡ bytes_of old.blocks (slot_of ref.name) → 0 < locks_of new.blocks (slot_of ref.name)
+pub stands-on : (old new : KernelState) (span : Span) (ref : Reference)
+    → bytes_of new.blocks (slot_of ref.name) ≡ bytes_of old.blocks (slot_of ref.name) → 0 < locks_of new.blocks (slot_of ref.name)
     → place_of new.blocks (slot_of ref.name) ≡ place_of old.blocks (slot_of ref.name) → Stands old span ref → Stands new span ref
 stands-on old new span ref bytes locked place s = record {
   bytes = s.bytes;
@@ -37,13 +38,16 @@ stands-on old new span ref bytes locked place s = record {
 }
 
 -- where its block is the same, and lies where it lay
-pub stands-same : (old new : KernelState) (span : Span) (ref : Reference) → block_at new.blocks (slot_of ref.name) ≡ block_at old.blocks (slot_of ref.name) → place_of new.blocks (slot_of ref.name) ≡ place_of old.blocks (slot_of ref.name)
+pub stands-same : (old new : KernelState) (span : Span) (ref : Reference)
+    → block_at new.blocks (slot_of ref.name) ≡ block_at old.blocks (slot_of ref.name)
+    → place_of new.blocks (slot_of ref.name) ≡ place_of old.blocks (slot_of ref.name)
     → Stands old span ref → Stands new span ref
 stands-same old new span ref same place s = stands-on old new span ref (ap bytes_in same) (subst (λ o. 0 < locks_in o) (sym same) s.locked) place s
 
 -- where nothing has changed, all spans stay
 pub spans-same : (old new : KernelState) (f : VmFile) (stale : Staleness) → new.blocks ≡ old.blocks → SpansStay old new f stale
-spans-same old new f stale e span ref s fresh = stands-same old new span ref (ap (λ b. block_at b (slot_of ref.name)) e) (ap (λ b. place_of b (slot_of ref.name)) e) s
+spans-same old new f stale e span ref s fresh = stands-same old new span ref (ap (λ b. block_at b (slot_of ref.name)) e)
+    (ap (λ b. place_of b (slot_of ref.name)) e) s
 
 -- Blocks that were discarded
 
@@ -58,7 +62,8 @@ module _ {D : Type 0} (v : VmState D) (s t : Store) (but : ℕ) where
   thins-locked thins slot locked = goes-free v s t but slot locked (stays-kept slot (thins.each slot))
 
 -- spans stand on while blocks are discarded
-pub thins-stands : {D : Type 0} (v : VmState D) (but : ℕ) (old new : KernelState) (span : Span) (ref : Reference) → Thins v old.blocks new.blocks but → Stands old span ref → Stands new span ref
+pub thins-stands : {D : Type 0} (v : VmState D) (but : ℕ) (old new : KernelState) (span : Span) (ref : Reference)
+    → Thins v old.blocks new.blocks but → Stands old span ref → Stands new span ref
 thins-stands v but old new span ref thins s =
     let kept = thins-locked v old.blocks new.blocks but thins (slot_of ref.name) s.locked in
     stands-same old new span ref kept.0 kept.1 s
@@ -69,7 +74,8 @@ thins-stands v but old new span ref thins s =
 abbrev pub Same : Store → Store → ℕ → Type 0
 Same s t slot = (block_at t slot ≡ None) ⊎ ((bytes_of t slot ≡ bytes_of s slot) × (IsThere t slot → IsThere s slot))
 
-module _ {D : Type 0} (medium : Medium D) (v : VmState D) (s t : Store) (k : IsKernel medium v s) (tied : IsTied medium v t) (known : (f : VmFile) × vm.IsFileOf medium.image medium.honest v t f) (len : t.len ≡ s.len) where
+module _ {D : Type 0} (medium : Medium D) (v : VmState D) (s t : Store) (k : IsKernel medium v s) (tied : IsTied medium v t)
+    (known : (f : VmFile) × vm.IsFileOf medium.image medium.honest v t f) (len : t.len ≡ s.len) where
   -- blocks still are a kernel's where each slot has the bytes that it had, or none
   pub kernel-on : ((slot : ℕ) → Same s t slot) → ((name : Name) → locks_of t (slot_of name) ≤ 65535) → IsKernel medium v t
   kernel-on same few = record {
@@ -91,9 +97,12 @@ module _ {D : Type 0} (medium : Medium D) (v : VmState D) (s t : Store) (k : IsK
       handle name there (inr (bytes, back)) = rw bytes (k.handles name (back there))
 
 -- and where those but one are as they were or were discarded, and that one is a heap under its handle
-pub kernel-but : {D : Type 0} (medium : Medium D) (v : VmState D) (s t : Store) (name : Name) → IsKernel medium v s → KeepsBut v s t name → IsHandle name.h → IsTied medium v t → ((f : VmFile) × vm.IsFileOf medium.image medium.honest v t f)
-    → IsHeap (bytes_of t (slot_of name)) → block.handle_word (bytes_of t (slot_of name)) ≡ name.h → locks_of t (slot_of name) ≤ 65535 → IsKernel medium v t
-kernel-but {D} medium v s t name k keeps q tied known holds word few = record { laid = tied.laid; heaps = heap; handles = handle; few = counts; tied = tied; known = known; small = rw keeps.len k.small }
+pub kernel-but : {D : Type 0} (medium : Medium D) (v : VmState D) (s t : Store) (name : Name) → IsKernel medium v s
+    → KeepsBut v s t name → IsHandle name.h → IsTied medium v t → ((f : VmFile) × vm.IsFileOf medium.image medium.honest v t f)
+    → IsHeap (bytes_of t (slot_of name)) → block.handle_word (bytes_of t (slot_of name)) ≡ name.h
+    → locks_of t (slot_of name) ≤ 65535 → IsKernel medium v t
+kernel-but {D} medium v s t name k keeps q tied known holds word few =
+    record { laid = tied.laid; heaps = heap; handles = handle; few = counts; tied = tied; known = known; small = rw keeps.len k.small }
   where
     other : (n : Name) → IsThere t (slot_of n) → slot_of n ≢ slot_of name → block_at t (slot_of n) ≡ block_at s (slot_of n)
     other n there ne = on (keeps.each (slot_of n) ne)
@@ -110,19 +119,24 @@ kernel-but {D} medium v s t name k keeps q tied known holds word few = record { 
 
     handle : (n : Name) → IsThere t (slot_of n) → block.handle_word (bytes_of t (slot_of n)) ≡ n.h
     handle n there = elim (cases_eq (slot_of n) (slot_of name)) [
-      | inl same ↦ ap (λ j. block.handle_word (bytes_of t j)) same ∙ word ∙ ap (λ m. m.h) (same-name name n q (handle_of_there t t n refl tied.laid there) (sym same))
+      | inl same ↦ ap (λ j. block.handle_word (bytes_of t j)) same ∙ word
+          ∙ ap (λ m. m.h) (same-name name n q (handle_of_there t t n refl tied.laid there) (sym same))
       | inr ne ↦ (let is = other n there ne in ap (λ o. block.handle_word (bytes_in o)) is ∙ k.handles n (subst IsBlock is there))
     ]
 
     counts : (n : Name) → locks_of t (slot_of n) ≤ 65535
-    counts n = elim (cases_eq (slot_of n) (slot_of name)) [ inl same ↦ omega (arith, ap (locks_of t) same, few) | inr ne ↦ on (keeps.each (slot_of n) ne) ]
+    counts n = elim (cases_eq (slot_of n) (slot_of name)) [
+      | inl same ↦ omega (arith, ap (locks_of t) same, few)
+      | inr ne ↦ on (keeps.each (slot_of n) ne)
+    ]
       where
         on : KeptOrGoes v s t (own_handle name) (slot_of n) → locks_of t (slot_of n) ≤ 65535
         on (inl u) = omega (arith, ap locks_in u.0, k.few n)
         on (inr g) = omega (arith, ap locks_in g.gone)
 
 -- blocks still are a kernel's where some were discarded
-pub kernel-thins : {D : Type 0} (medium : Medium D) (v : VmState D) (s t : Store) (but : ℕ) → IsKernel medium v s → Thins v s t but → IsTied medium v t
+pub kernel-thins : {D : Type 0} (medium : Medium D) (v : VmState D) (s t : Store) (but : ℕ) → IsKernel medium v s
+    → Thins v s t but → IsTied medium v t
     → ((f : VmFile) × vm.IsFileOf medium.image medium.honest v t f) → IsKernel medium v t
 kernel-thins {D} medium v s t but k thins tied known = kernel-on medium v s t k tied known thins.len same counts
   where

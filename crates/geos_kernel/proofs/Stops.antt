@@ -19,15 +19,18 @@ use Rattle.geos_kernel.proofs.Seen.{file-on, memory-known}
 
 -- what `open` finds of what the file keeps is what the model has as kept
 abbrev pub FindsKept : {D : Type 0} → Medium D → KernelOn D → Type 0
-FindsKept medium k = (f : VmFile) → IsFileOf (medium.honest k.device) k.core f → medium.honest k.device → (c : List ℕ) → Finds medium.image (vm_file_of k) c → OpensAsKept f.kept c
+FindsKept medium k = (f : VmFile) → IsFileOf (medium.honest k.device) k.core f → medium.honest k.device → (c : List ℕ)
+    → Finds medium.image (vm_file_of k) c → OpensAsKept f.kept c
 
 module _ {D : Type 0} (medium : Medium D) (v : VmState D) (s : Store) where
   -- so it is where it is so of blocks of a file
-  pub leaves-kept : ((s : Store) (m : Memory) → IsMemoryOf medium v s m → medium.honest v.file.device → (c : List ℕ) → medium.may_leave v.file.device c → OpensAsKept m.file.kept c)
+  pub leaves-kept : ((s : Store) (m : Memory) → IsMemoryOf medium v s m → medium.honest v.file.device → (c : List ℕ)
+      → medium.may_leave v.file.device c → OpensAsKept m.file.kept c)
       → LeavesKept medium (kernel_of medium v s)
   leaves-kept kept f is good c left = kept s (memory_of (core_of medium v s) f) (memory-known medium v s f is) good c left
 
-  pub finds-kept : ((s : Store) (m : Memory) → IsMemoryOf medium v s m → medium.honest v.file.device → (c : List ℕ) → Finds medium.image v.file c → OpensAsKept m.file.kept c)
+  pub finds-kept : ((s : Store) (m : Memory) → IsMemoryOf medium v s m → medium.honest v.file.device → (c : List ℕ)
+      → Finds medium.image v.file c → OpensAsKept m.file.kept c)
       → FindsKept medium (kernel_of medium v s)
   finds-kept found f is good c finds = found s (memory_of (core_of medium v s) f) (memory-known medium v s f is) good c finds
 
@@ -50,7 +53,8 @@ module _ {D : Type 0} (medium : Medium D) (old new : KernelOn D) where
   between-leaving leaves = between-still leaves.device (ap (λ (v : VmState Seen). v.file) leaves.vm)
 
   -- one read it at most
-  pub between-reading : ReadsOnly medium old.device new.device → LeavesKept medium old → Steadily medium (vm_file_of old) (vm_file_of new) → Between medium old new
+  pub between-reading : ReadsOnly medium old.device new.device → LeavesKept medium old → Steadily medium (vm_file_of old) (vm_file_of new)
+      → Between medium old new
   between-reading reads known steadily = record {
     honest = (reads.was, reads.stays);
     stops = λ good f g is now. weaker medium.may_have_left old.device new.device _ _ (λ c left. inl (known f is good c left)) (reads.time good);
@@ -58,14 +62,17 @@ module _ {D : Type 0} (medium : Medium D) (old new : KernelOn D) where
   }
 
   -- one committed
-  pub between-keeping : (medium.honest old.device → Passes medium.may_have_left old.device new.device (FindsEither medium.image (vm_file_of old) (vm_file_of new)))
-      → (medium.honest old.device → medium.honest new.device) → (medium.honest new.device → medium.honest old.device) → FindsKept medium old → FindsKept medium new
+  pub between-keeping : (medium.honest old.device → Passes medium.may_have_left old.device new.device
+      (FindsEither medium.image (vm_file_of old) (vm_file_of new)))
+      → (medium.honest old.device → medium.honest new.device) → (medium.honest new.device → medium.honest old.device)
+      → FindsKept medium old → FindsKept medium new
       → Steadily medium (vm_file_of old) (vm_file_of new) → Between medium old new
   between-keeping either stays was before after steadily = record {
     honest = (was, stays);
     stops = λ good f g is now.
         weaker medium.may_have_left old.device new.device _ _
-        (λ c found. ⊎_elim (λ old_one. inl (before f is good c old_one)) (λ new_one. inr (after g (file-on (medium.honest old.device) (medium.honest new.device) was new.core g now) (stays good) c new_one)) found)
+        (λ c found. ⊎_elim (λ old_one. inl (before f is good c old_one))
+        (λ new_one. inr (after g (file-on (medium.honest old.device) (medium.honest new.device) was new.core g now) (stays good) c new_one)) found)
         (either good);
     steadily = steadily;
   }

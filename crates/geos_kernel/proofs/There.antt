@@ -26,16 +26,21 @@ on-there (Ok answer) P Q stays there = tt
 on-there (Err why) P Q stays there = stays there
 
 module _ {D : Type 0} (medium : Medium D) (v w : VmState D) (s t : Store) (k : KernelOn D) (is : kernel_of medium v s ≡ k) where
-  pub in-memory : {A : Type 0} (h : ℕ) (r : Result A Refusal) → (IsThere s (vm_slot h) → (w.file ≡ v.file) × (r ≡ Err refusal.Disk → ⊥)) → ((r ≡ Err refusal.NoRoom → ⊥) → OnErr r (IsThere s (vm_slot h) → t ≡ s))
+  pub in-memory : {A : Type 0} (h : ℕ) (r : Result A Refusal) → (IsThere s (vm_slot h) → (w.file ≡ v.file) × (r ≡ Err refusal.Disk → ⊥))
+      → ((r ≡ Err refusal.NoRoom → ⊥) → OnErr r (IsThere s (vm_slot h) → t ≡ s))
       → (r ≡ Err refusal.Disk → IsThere t (vm_slot h) → ⊥) → InMemory h r k (kernel_of medium w t)
   in-memory h r there stays absent = subst (λ x. InMemory h r x (kernel_of medium w t)) is (record {
-    there = λ was. (let file = (there was).0 in (record { device = ap (λ (f : FileState D). f.device) file; file = ap (λ (f : FileState D). file_over (seen medium f.device) f) file }, (there was).1));
+    there = λ was. (let file = (there was).0 in (
+      record { device = ap (λ (f : FileState D). f.device) file; file = ap (λ (f : FileState D). file_over (seen medium f.device) f) file },
+      (there was).1,
+    ));
     refused = λ was other. on-there r (IsThere s (vm_slot h)) (t ≡ s) (stays other) was;
     absent = absent;
   })
 
   pub asks-nothing : w.file ≡ v.file → AsksNothing k (kernel_of medium w t)
-  asks-nothing file = subst (λ x. AsksNothing x (kernel_of medium w t)) is (record { device = ap (λ (f : FileState D). f.device) file; file = ap (λ (f : FileState D). file_over (seen medium f.device) f) file })
+  asks-nothing file = subst (λ x. AsksNothing x (kernel_of medium w t)) is
+      (record { device = ap (λ (f : FileState D). f.device) file; file = ap (λ (f : FileState D). file_over (seen medium f.device) f) file })
 
   pub nothing-changed : w ≡ v → t ≡ s → kernel_of medium w t ≡ k
   nothing-changed vm blocks = ap (λ x. kernel_of medium x t) vm ∙ ap (kernel_of medium v) blocks ∙ is
@@ -60,8 +65,10 @@ module _ {D : Type 0} (medium : Medium D) (v w : VmState D) (s t : Store) (k : K
     lock-stays (Ok done) there = tt
     lock-stays (Err why) there = λ was. (there was).1.1
 
-    pub lock-in_memory : (r : Result (Unit {0}) LockError) → IfThere r → (r ≡ Err lock.Disk → IsThere t (vm_slot h) → ⊥) → InMemory h (of_lock r) k (kernel_of medium w t)
-    lock-in_memory r there absent = in-memory h (of_lock r) (λ was. (ap (λ (x : VmState D). x.file) (there was).0, no-disk r (there was).1)) (λ other. lock-stays r there) (λ e. absent (disk-so r e))
+    pub lock-in_memory : (r : Result (Unit {0}) LockError) → IfThere r → (r ≡ Err lock.Disk → IsThere t (vm_slot h) → ⊥)
+        → InMemory h (of_lock r) k (kernel_of medium w t)
+    lock-in_memory r there absent = in-memory h (of_lock r) (λ was. (ap (λ (x : VmState D). x.file) (there was).0, no-disk r (there was).1))
+        (λ other. lock-stays r there) (λ e. absent (disk-so r e))
 
     pub lock-more : (r : Result (Unit {0}) LockError) → IfThere r → IsThere s (vm_slot h) → OnOk (of_lock r) more
     lock-more (Ok done) there was = (there was).1
@@ -73,7 +80,9 @@ module _ {D : Type 0} (medium : Medium D) (v w : VmState D) (s t : Store) (k : K
     room-so (Err _) e = absurd cc
 
     -- what it reads of the device
-    pub lock-device : (r : Result (Unit {0}) LockError) → LeavesKept medium (kernel_of medium v s) → w ≡ with_device v w.file.device → ReadsDevice medium (r ≡ Err lock.Disk) v.file w.file → ReadsFile medium (of_lock r ≡ Err refusal.Disk) k (kernel_of medium w t)
+    pub lock-device : (r : Result (Unit {0}) LockError) → LeavesKept medium (kernel_of medium v s)
+        → w ≡ with_device v w.file.device → ReadsDevice medium (r ≡ Err lock.Disk) v.file w.file
+        → ReadsFile medium (of_lock r ≡ Err refusal.Disk) k (kernel_of medium w t)
     lock-device r known same device = subst (λ x. ReadsFile medium (of_lock r ≡ Err refusal.Disk) x (kernel_of medium w t)) is (record {
       reads = device.reads;
       file = ap (λ (x : VmState D). x.file) same;
@@ -83,18 +92,21 @@ module _ {D : Type 0} (medium : Medium D) (v w : VmState D) (s t : Store) (k : K
     })
 
     -- where it has no room
-    pub lock-no_room : (r : Result (Unit {0}) LockError) → w ≡ with_device v w.file.device → ((r ≡ Err lock.BadHandle) ↔ (held_at v h ≡ None)) → (r ≡ Err lock.NoRoom → IfSome (held_at v h) (λ held. LacksRoom v s t (vm h) held.len))
+    pub lock-no_room : (r : Result (Unit {0}) LockError) → w ≡ with_device v w.file.device
+        → ((r ≡ Err lock.BadHandle) ↔ (held_at v h ≡ None)) → (r ≡ Err lock.NoRoom → IfSome (held_at v h) (λ held. LacksRoom v s t (vm h) held.len))
         → of_lock r ≡ Err refusal.NoRoom → ListedHasNoRoom (core_of medium w t) h
     lock-no_room r same bad lacks e = on (held_at v h) refl (lacks (room-so r e))
       where
         on : (o : Option Held) → held_at v h ≡ o → IfSome o (λ held. LacksRoom v s t (vm h) held.len) → ListedHasNoRoom (core_of medium w t) h
         on None none lacking = let why = bad.1 none in let other = room-so r e in absurd cc
         on (Some held) listed lacking =
-            subst (λ o. IsSomeAnd o (λ held. HasNoRoomIn (core_of medium w t) (vm h) held.len)) (sym (ap (λ (x : VmState D). held_at x h) same ∙ listed))
+            subst (λ o. IsSomeAnd o (λ held. HasNoRoomIn (core_of medium w t) (vm h) held.len))
+            (sym (ap (λ (x : VmState D). held_at x h) same ∙ listed))
             (record { none = subst (λ (x : VmState D). NoneIdle x t h) (sym same) lacking.none; no_room = lacking.no_room })
 
     -- a refusal but for room or the device
-    pub lock-refused : (r : Result (Unit {0}) LockError) → IfThere r → (r ≡ Err lock.BadHandle → (w ≡ v) × (t ≡ s)) → (r ≡ Err lock.Locked → locks_of s (vm_slot h) ≡ 65535)
+    pub lock-refused : (r : Result (Unit {0}) LockError) → IfThere r → (r ≡ Err lock.BadHandle → (w ≡ v) × (t ≡ s))
+        → (r ≡ Err lock.Locked → locks_of s (vm_slot h) ≡ 65535)
         → (of_lock r ≡ Err refusal.NoRoom → ⊥) → (of_lock r ≡ Err refusal.Disk → ⊥) → OnErr (of_lock r) (kernel_of medium w t ≡ k)
     lock-refused (Ok done) there bad full room disk = tt
     lock-refused (Err lock.BadHandle) there bad full room disk = nothing-changed (bad refl).0 (bad refl).1
@@ -108,4 +120,5 @@ module _ {D : Type 0} (medium : Medium D) (v w : VmState D) (s t : Store) (k : K
   -- A group
 
   pub no_group-same : {A : Type 0} (g : ℕ) (r : Result A Refusal) → RefusesNoGroup g r v w s t → (IsGroup k.core.vm g → ⊥) → kernel_of medium w t ≡ k
-  no_group-same g r no_group none = let refused = no_group (λ group. none (subst (λ (x : KernelOn D). IsGroup x.core.vm g) is group)) in nothing-changed refused.1 refused.2
+  no_group-same g r no_group none = let refused = no_group (λ group. none (subst (λ (x : KernelOn D). IsGroup x.core.vm g) is group)) in
+      nothing-changed refused.1 refused.2

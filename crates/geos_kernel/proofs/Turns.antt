@@ -14,7 +14,8 @@ use Rattle.geos_kernel.proofs.Seen.{file-on}
 
 -- Other words for an honest device
 
-calls-alike : (other good : Type 0) → other ↔ good → {A : Type 0} (row : Call A) (result : Result A Refusal) (old new : KernelState) → Calls other row result old new → Calls good row result old new
+calls-alike : (other good : Type 0) → other ↔ good → {A : Type 0} (row : Call A) (result : Result A Refusal) (old new : KernelState)
+    → Calls other row result old new → Calls good row result old new
 calls-alike other good alike row result old new calls = record {
   answers = λ f tied.
       let a = calls.answers f (file-on good other alike.0 old f tied) in
@@ -44,18 +45,55 @@ module _ (good : Type 0) where
     file : VmFile
     tied : IsFileOf good new file
     comes : Leads turn choice (memory_of old f) (memory_of new file)
-    spans : (span : Span) (ref : Reference) → Stands old span ref → IsFresh (memory_of old f) (stale_by turn choice (memory_of old f)) ref → Stands new span ref
+    spans : (span : Span) (ref : Reference) → Stands old span ref → IsFresh (memory_of old f) (stale_by turn choice (memory_of old f)) ref
+        → Stands new span ref
 
   -- the row of one call answers so, and spans that it does not make stale stay
   one : (turn : Turn) (old new : KernelState) → Answered good turn old new → (f : VmFile) → IsFileOf good old f → One turn old new f
   one (Does row result) old new calls f tied =
-      let a = calls.answers f tied in record { choice = a.choice; chosen = a.chosen; lasts = a.lasts; file = a.file; tied = a.tied; comes = a.comes; spans = calls.spans f tied a.choice }
+      let a = calls.answers f tied in record {
+        choice = a.choice;
+        chosen = a.chosen;
+        lasts = a.lasts;
+        file =
+            a.file;
+        tied = a.tied;
+        comes = a.comes;
+        spans = calls.spans f tied a.choice;
+      }
   one (Tells row result) old new calls f tied =
-      let a = calls.answers f tied in record { choice = a.choice; chosen = a.chosen; lasts = a.lasts; file = a.file; tied = a.tied; comes = a.comes; spans = calls.spans f tied a.choice }
+      let a = calls.answers f tied in record {
+        choice = a.choice;
+        chosen = a.chosen;
+        lasts = a.lasts;
+        file =
+            a.file;
+        tied = a.tied;
+        comes = a.comes;
+        spans = calls.spans f tied a.choice;
+      }
   one (TellsTwo row result) old new calls f tied =
-      let a = calls.answers f tied in record { choice = a.choice; chosen = a.chosen; lasts = a.lasts; file = a.file; tied = a.tied; comes = a.comes; spans = calls.spans f tied a.choice }
+      let a = calls.answers f tied in record {
+        choice = a.choice;
+        chosen = a.chosen;
+        lasts = a.lasts;
+        file =
+            a.file;
+        tied = a.tied;
+        comes = a.comes;
+        spans = calls.spans f tied a.choice;
+      }
   one (Refers row result) old new calls f tied =
-      let a = calls.answers f tied in record { choice = a.choice; chosen = a.chosen; lasts = a.lasts; file = a.file; tied = a.tied; comes = a.comes; spans = calls.spans f tied a.choice }
+      let a = calls.answers f tied in record {
+        choice = a.choice;
+        chosen = a.chosen;
+        lasts = a.lasts;
+        file =
+            a.file;
+        tied = a.tied;
+        comes = a.comes;
+        spans = calls.spans f tied a.choice;
+      }
 
   -- what may come from one kernel on, from an earlier one on
   all-after : (old mid new : KernelState) → NeverFell good old mid → (steps : List Step) → AreChosen good mid new steps → AreChosen good old new steps
@@ -88,7 +126,11 @@ module _ (good : Type 0) where
         by_rows = record {
           steps = record { turn = turn; choice = first.choice } ∷ rest.steps;
           calls = ap (λ l. turn ∷ l) rest.calls;
-          chosen = (chosen-before good old made.0 new first.choice later.lasts first.chosen, all-after old made.0 new first.lasts rest.steps rest.chosen);
+          chosen = (
+            chosen-before good old made.0 new first.choice later.lasts first.chosen,
+            all-after old made.0
+                new first.lasts rest.steps rest.chosen,
+          );
           file = rest.file;
           tied = rest.tied;
           run = (memory_of made.0 first.file, first.comes, rest.run);

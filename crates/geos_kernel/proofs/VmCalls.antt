@@ -43,7 +43,8 @@ vm-named name is k = record { owner = is k; h = name.h }
 -- The count of failures
 
 -- it stayed, or rose: a call fails, or it does not
-pub stayed-or-rose : (good fails : Type 0) (a b : ℕ) → fails ⊎ (fails → ⊥) → (good → fails → Rose a b) → ((fails → ⊥) → b ≡ a) → good → (b ≡ a) ⊎ HasRisen a b
+pub stayed-or-rose : (good fails : Type 0) (a b : ℕ) → fails ⊎ (fails → ⊥) → (good → fails → Rose a b) → ((fails → ⊥) → b ≡ a)
+    → good → (b ≡ a) ⊎ HasRisen a b
 stayed-or-rose good fails a b (inl failed) cause counted g = inr (risen a b (cause g failed))
 stayed-or-rose good fails a b (inr never) cause counted g = inl (counted never)
 
@@ -55,15 +56,18 @@ module _ {D : Type 0} (medium : Medium D) (v w : VmState D) (s t : Store) (k : I
 -- Calls that ask the device nothing
 
 module _ {D : Type 0} (medium : Medium D) (v w : VmState D) (s t : Store) (file : w.file ≡ v.file) where
-  pub quiet-calls : {A : Type 0} {call : Call A} {r : Result A Refusal} → DoesRow medium call r v s w t → Spares s t → Calls (medium.honest v.file.device) call r (core_of medium v s) (core_of medium w t)
+  pub quiet-calls : {A : Type 0} {call : Call A} {r : Result A Refusal} → DoesRow medium call r v s w t → Spares s t
+      → Calls (medium.honest v.file.device) call r (core_of medium v s) (core_of medium w t)
   quiet-calls row spares =
       let device : w.file.device ≡ v.file.device = ap (λ (f : FileState D). f.device) file in
       calls-beside medium v w s t row (λ good. subst medium.honest (sym device) good) (λ good. inl (ap medium.failed device)) spares
 
 -- and change nothing
-pub told-calls : {D A : Type 0} (medium : Medium D) (v : VmState D) (s : Store) (k : KernelOn D) → kernel_of medium v s ≡ k → {call : Call A} {r : Result A Refusal}
+pub told-calls : {D A : Type 0} (medium : Medium D) (v : VmState D) (s : Store) (k : KernelOn D) → kernel_of medium v s ≡ k
+    → {call : Call A} {r : Result A Refusal}
     → DoesRow medium call r v s v s → Calls (medium.honest k.device) call r k.core k.core
-told-calls medium v s k is {call} {r} row = subst (λ k. Calls (medium.honest k.device) call r k.core k.core) is (quiet-calls medium v v s s refl row (same-spares s s refl))
+told-calls medium v s k is {call} {r} row = subst (λ k. Calls (medium.honest k.device) call r k.core k.core) is
+    (quiet-calls medium v v s s refl row (same-spares s s refl))
 
 -- Locks
 
@@ -72,20 +76,24 @@ lock-disk (Err lock.Disk) = inl refl
 lock-disk (Ok done) = inr (λ e. absurd cc)
 lock-disk (Err _) = inr (λ e. absurd cc)
 
-lock-own : (s t : Store) (h : ℕ) (r : Result (Unit {0}) LockError) → OnOk r (LockedMore s t h) → OnErr r (NotBrought s t h) → StaysLocked s t (vm_slot h)
+lock-own : (s t : Store) (h : ℕ) (r : Result (Unit {0}) LockError) → OnOk r (LockedMore s t h) → OnErr r (NotBrought s t h)
+    → StaysLocked s t (vm_slot h)
 lock-own s t h (Ok done) ok err = more-locked s t h ok
 lock-own s t h (Err why) ok err = not-locked s t h err
 
-pub lock-spares : {D : Type 0} (v : VmState D) (s t : Store) (h : ℕ) (r : Result (Unit {0}) LockError) → Keeps v s t h → OnOk r (LockedMore s t h) → OnErr r (NotBrought s t h) → Spares s t
+pub lock-spares : {D : Type 0} (v : VmState D) (s t : Store) (h : ℕ) (r : Result (Unit {0}) LockError) → Keeps v s t h
+    → OnOk r (LockedMore s t h) → OnErr r (NotBrought s t h) → Spares s t
 lock-spares v s t h r keeps ok err = keeps-spares v s t h keeps (lock-own s t h r ok err)
 
-pub lock-lasts : (good : Type 0) (a b : ℕ) (r : Result (Unit {0}) LockError) → (good → r ≡ Err lock.Disk → Rose a b) → ((r ≡ Err lock.Disk → ⊥) → b ≡ a) → good → (b ≡ a) ⊎ HasRisen a b
+pub lock-lasts : (good : Type 0) (a b : ℕ) (r : Result (Unit {0}) LockError) → (good → r ≡ Err lock.Disk → Rose a b)
+    → ((r ≡ Err lock.Disk → ⊥) → b ≡ a) → good → (b ≡ a) ⊎ HasRisen a b
 lock-lasts good a b r cause counted = stayed-or-rose good (r ≡ Err lock.Disk) a b (lock-disk r) cause counted
 
 -- New blocks
 
 -- a block that is not listed is not locked
-unlisted-free : {D : Type 0} (medium : Medium D) (v : VmState D) (s : Store) (h : ℕ) → IsTied medium v s → IsHandle h → held_at v h ≡ None → locks_of s (vm_slot h) ≡ 0
+unlisted-free : {D : Type 0} (medium : Medium D) (v : VmState D) (s : Store) (h : ℕ) → IsTied medium v s → IsHandle h
+    → held_at v h ≡ None → locks_of s (vm_slot h) ≡ 0
 unlisted-free medium v s h tied p none = on (held_at v h) (block_at s (vm_slot h)) none (tied.each h p)
   where
     on : (e : Option Held) (b : Option Block) → e ≡ None → TiedAt medium v.file h e b → locks_in b ≡ 0
@@ -102,7 +110,8 @@ pub data Made {D : Type 0} (v w : VmState D) (s t : Store) (uid n : ℕ) : Type 
 module _ {D : Type 0} (medium : Medium D) (v w : VmState D) (s t : Store) (uid n : ℕ) (k : IsKernel medium v s) where
   pub made-spares : Made v w s t uid n → Spares s t
   made-spares (IsMade h adds) =
-      keeps-spares v s t h adds.keeps (λ some. (let none = unlisted-free medium v s h k.tied adds.lowest.handle adds.lowest.free in absurd (omega (arith, some, none))))
+      keeps-spares v s t h adds.keeps
+      (λ some. (let none = unlisted-free medium v s h k.tied adds.lowest.handle adds.lowest.free in absurd (omega (arith, some, none))))
   made-spares (HasNoRoom lacks same) = thins-spares v s t lacks.h lacks.lacks.thins
   made-spares (HasNoHandle blocks same) = same-spares s t blocks
 
@@ -112,28 +121,33 @@ module _ {D : Type 0} (medium : Medium D) (v w : VmState D) (s t : Store) (uid n
   made-file (HasNoHandle blocks same) = ap (λ (x : VmState D). x.file) same
 
   -- as it is said below the kernel, and for groups
-  pub made-below : (r : Result ℕ NewError) → IfOk r (Adds v w s t uid n) → (r ≡ Err new.NoRoom → LacksRoomForNew v s t) → (r ≡ Err new.NoHandle → t ≡ s) → OnErr r (w ≡ v) → Made v w s t uid n
+  pub made-below : (r : Result ℕ NewError) → IfOk r (Adds v w s t uid n) → (r ≡ Err new.NoRoom → LacksRoomForNew v s t)
+      → (r ≡ Err new.NoHandle → t ≡ s) → OnErr r (w ≡ v) → Made v w s t uid n
   made-below (Ok h) ok room stays err = IsMade h ok
   made-below (Err new.NoRoom) ok room stays err = HasNoRoom (room refl) err
   made-below (Err new.NoHandle) ok room stays err = HasNoHandle (stays refl) err
 
-  pub made-group : (r : Result ℕ Refusal) → IfOk r (Adds v w s t uid n) → IfErr r (λ why. (why ≡ refusal.NoHandle) ⊎ (why ≡ refusal.NoRoom)) → (r ≡ Err refusal.NoRoom → LacksRoomForNew v s t) → (r ≡ Err refusal.NoHandle → t ≡ s) → OnErr r (w ≡ v)
+  pub made-group : (r : Result ℕ Refusal) → IfOk r (Adds v w s t uid n) → IfErr r (λ why. (why ≡ refusal.NoHandle) ⊎ (why ≡ refusal.NoRoom))
+      → (r ≡ Err refusal.NoRoom → LacksRoomForNew v s t) → (r ≡ Err refusal.NoHandle → t ≡ s) → OnErr r (w ≡ v)
       → Made v w s t uid n
   made-group (Ok h) ok why room stays err = IsMade h ok
   made-group (Err e) ok (inl is) room stays err = HasNoHandle (stays (ap Err is)) err
   made-group (Err e) ok (inr is) room stays err = HasNoRoom (room (ap Err is)) err
 
   -- it is locked and marked
-  pub made-ready : (r : Result ℕ NewError) → IfOk r (Adds v w s t uid 1) → IfOk (of_new r) (λ h. IsLocked (core_of medium w t) (vm_name h) × IsMarked (core_of medium w t) h)
+  pub made-ready : (r : Result ℕ NewError) → IfOk r (Adds v w s t uid 1)
+      → IfOk (of_new r) (λ h. IsLocked (core_of medium w t) (vm_name h) × IsMarked (core_of medium w t) h)
   made-ready (Ok h) adds =
-      let marked : held_at w h ≡ Some (new_held uid) = ap (λ (x : VmState D). held_at x h) adds.state ∙ held-same v.entries h (Some (new_held uid)) adds.lowest.handle k.tied.long in
+      let marked : held_at w h ≡ Some (new_held uid) = ap (λ (x : VmState D). held_at x h) adds.state
+      ∙ held-same v.entries h (Some (new_held uid)) adds.lowest.handle k.tied.long in
       (omega (arith, locks-new t h 1 adds.is), ap is_marked_in marked)
   made-ready (Err why) adds = tt
 
 -- Blocks that go
 
 module _ {D : Type 0} (v w : VmState D) (s t : Store) (h : ℕ) {E : Type 0} where
-  pub freed-spares : (r : Result (Unit {0}) E) → IsLaidOut s → OnOk r (Drops s t h) → OnErr r ((w ≡ v) × (t ≡ s)) → OnOk r (0 < locks_of s (vm_slot h) → ⊥) → Spares s t
+  pub freed-spares : (r : Result (Unit {0}) E) → IsLaidOut s → OnOk r (Drops s t h) → OnErr r ((w ≡ v) × (t ≡ s))
+      → OnOk r (0 < locks_of s (vm_slot h) → ⊥) → Spares s t
   freed-spares (Ok done) laid drops refused free = drops-spares v s t h laid drops free
   freed-spares (Err why) laid drops refused free = same-spares s t refused.1
 
@@ -146,7 +160,8 @@ not-locked-ok (Ok done) why P locked = λ p. (let e = locked p in absurd cc)
 not-locked-ok (Err other) why P locked = tt
 
 -- of a group that went: none where the handle named none
-pub group-free : {D : Type 0} (r : Result (Unit {0}) Refusal) (v w : VmState D) (s t : Store) (g : ℕ) → RefusesNoGroup g r v w s t → (IsGroup v g → (r ≡ Err refusal.Locked) ↔ (0 < locks_of s (vm_slot g))) → OnOk r (0 < locks_of s (vm_slot g) → ⊥)
+pub group-free : {D : Type 0} (r : Result (Unit {0}) Refusal) (v w : VmState D) (s t : Store) (g : ℕ)
+    → RefusesNoGroup g r v w s t → (IsGroup v g → (r ≡ Err refusal.Locked) ↔ (0 < locks_of s (vm_slot g))) → OnOk r (0 < locks_of s (vm_slot g) → ⊥)
 group-free (Ok done) v w s t g no_group locked = λ some.
     let none : IsGroup v g → ⊥ = λ group. (let e = (locked group).1 some in absurd cc) in
     let e = (no_group none).0 in
@@ -156,7 +171,8 @@ group-free (Err why) v w s t g no_group locked = tt
 -- Commits
 
 module _ {D : Type 0} (v w : VmState D) where
-  pub committed-spares : (how : How) (s t : Store) → NoneLocked s → (r : Result (Unit {0}) CommitError) → OnOk r (StoreAfter how s t) → OnErr r ((w ≡ record v { file = w.file }) × (t ≡ s)) → Spares s t
+  pub committed-spares : (how : How) (s t : Store) → NoneLocked s → (r : Result (Unit {0}) CommitError)
+      → OnOk r (StoreAfter how s t) → OnErr r ((w ≡ record v { file = w.file }) × (t ≡ s)) → Spares s t
   committed-spares how s t none (Ok done) store refused = commit-spares how s t none store
   committed-spares how s t none (Err why) store refused = same-spares s t refused.1
 
@@ -166,7 +182,8 @@ module _ {D : Type 0} (v w : VmState D) where
   committed-refused medium s t (Ok done) refused = tt
   committed-refused medium s t (Err why) refused = (ap (vm_over (seen medium w.file.device)) refused.0, refused.1)
 
-  pub committed-lasts : (failed : D → ℕ) (r : Result (Unit {0}) CommitError) → OnOk r (failed w.file.device ≡ failed v.file.device) → IfErr r (λ e. IsAfter e v.file w.file) → (r ≡ Err commit.Disk → Rose (failed v.file.device) (failed w.file.device))
+  pub committed-lasts : (failed : D → ℕ) (r : Result (Unit {0}) CommitError) → OnOk r (failed w.file.device ≡ failed v.file.device)
+      → IfErr r (λ e. IsAfter e v.file w.file) → (r ≡ Err commit.Disk → Rose (failed v.file.device) (failed w.file.device))
       → (failed w.file.device ≡ failed v.file.device) ⊎ HasRisen (failed v.file.device) (failed w.file.device)
   committed-lasts failed (Ok done) ok after cause = inl ok
   committed-lasts failed (Err commit.Unsure) ok after cause = inl (ap (λ (f : FileState D). failed f.device) after)

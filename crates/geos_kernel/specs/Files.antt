@@ -26,11 +26,13 @@ vm_file_of k = file_over k.device k.core.vm.file
 
 -- a stop now leaves a file in which `open` finds what the model has as kept
 abbrev pub LeavesKept : {D : Type 0} → Medium D → KernelOn D → Type 0
-LeavesKept medium k = (f : VmFile) → IsFileOf (medium.honest k.device) k.core f → medium.honest k.device → (c : List ℕ) → medium.may_leave k.device c → OpensAsKept f.kept c
+LeavesKept medium k = (f : VmFile) → IsFileOf (medium.honest k.device) k.core f → medium.honest k.device → (c : List ℕ)
+    → medium.may_leave k.device c → OpensAsKept f.kept c
 
 -- from the one kernel to the other a stop leaves a file in which `open` finds what the model has as kept beside the one, or beside the other
 abbrev pub Stops : {D : Type 0} → Medium D → KernelOn D → KernelOn D → Type 0
-Stops medium old new = medium.honest old.device → (f g : VmFile) → IsFileOf (medium.honest old.device) old.core f → IsFileOf (medium.honest old.device) new.core g
+Stops medium old new = medium.honest old.device → (f g : VmFile) → IsFileOf (medium.honest old.device) old.core f
+    → IsFileOf (medium.honest old.device) new.core g
     → Passes medium.may_have_left old.device new.device (λ c. OpensAsKept f.kept c ⊎ OpensAsKept g.kept c)
 
 -- what holds of the device from the one kernel to the other: it is as honest as before; a stop leaves what the model has as kept; and no
@@ -63,7 +65,8 @@ pub record InMemory {D A : Type 0} (h : ℕ) (result : Result A Refusal) (old ne
 
 -- a call on the items of a group: it answers as its row says; room is wanting only for what the group
 -- needs by its edit; a group that is in memory asks the device nothing, and of none nothing changes
-pub record CallsItem {D A : Type 0} (medium : Medium D) (call : Call A) (edit : List (Option (List ℕ)) → Edit A) (g : ℕ) (result : Result A Refusal) (old new : KernelOn D) : Type 0 where
+pub record CallsItem {D A : Type 0} (medium : Medium D) (call : Call A) (edit : List (Option (List ℕ)) → Edit A)
+    (g : ℕ) (result : Result A Refusal) (old new : KernelOn D) : Type 0 where
   pub calls : Calls (medium.honest old.device) call result old.core new.core
   pub no_room : result ≡ Err NoRoom → ItemHasNoRoom new.core g edit
   pub in_memory : InMemory g result old new

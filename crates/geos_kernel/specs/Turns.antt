@@ -73,12 +73,14 @@ pub record AnsweredByRows (good : Type 0) (turns : List Turn) (old new : KernelS
   pub file : VmFile
   pub tied : IsFileOf good new file
   pub run : Run steps (memory_of old f) (memory_of new file)
-  pub spans : (span : Span) (ref : Reference) → Stands old span ref → Spares steps (memory_of old f) (memory_of new file) run ref → Stands new span ref
+  pub spans : (span : Span) (ref : Reference) → Stands old span ref → Spares steps (memory_of old f) (memory_of new file) run ref
+      → Stands new span ref
 
 -- every list of calls is answered by its rows; and a call that gives a span, or refuses it,
 -- answers the reference for which the span stands
 pub record CallsAnswerInTurn (good : Type 0) : Type 0 where
-  pub lists : (turns : List Turn) (old new : KernelState) → InTurn good turns old new → (f : VmFile) → IsFileOf good old f → AnsweredByRows good turns old new f
+  pub lists : (turns : List Turn) (old new : KernelState) → InTurn good turns old new → (f : VmFile) → IsFileOf good old f
+      → AnsweredByRows good turns old new f
   pub given : (row : Call Reference) (result : Result Span Refusal) (old new : KernelState) → LeadsToSpan good row result old new →
       (reference : Result Reference Refusal) × Calls good row reference old new × StandsFor new result reference
 

@@ -58,7 +58,14 @@ impl<D: Device + Drop> Kernel<D> {
         ensures refused { StaysIfRefused result self.old.core.blocks self.new.core.blocks }
         ensures vm { LeavesVm self.old self.new }
     {
-        self.change(name, Change::Cains { c: chunk, i: index, n: len })
+        self.change(
+            name,
+            Change::Cains {
+                c: chunk,
+                i: index,
+                n: len,
+            },
+        )
     }
 
     /// Takes an element out. `BadChunk` and `BadArray` as `caadd`, `BadElement` where no
@@ -93,7 +100,14 @@ impl<D: Device + Drop> Kernel<D> {
         ensures stands { IfOk result (λ span. IsStanding self.now.core span × (least ≤ span.len)) }
         ensures writable { IfOk result (λ span. MayChange self.now.core name → IsWritable self.now.core span) }
     {
-        self.refer(name, Refer::Caelt { c: chunk, i: index, n: least })
+        self.refer(
+            name,
+            Refer::Caelt {
+                c: chunk,
+                i: index,
+                n: least,
+            },
+        )
     }
 
     /// Takes all elements out; their size stays. `BadChunk` and `BadArray` as `caadd`. Makes
@@ -121,6 +135,13 @@ impl<D: Device + Drop> Kernel<D> {
         ensures refused { StaysIfRefused result self.old.core.blocks self.new.core.blocks }
         ensures vm { LeavesVm self.old self.new }
     {
-        self.change(name, Change::Caresize { c: chunk, i: index, n: len })
+        self.change(
+            name,
+            Change::Caresize {
+                c: chunk,
+                i: index,
+                n: len,
+            },
+        )
     }
 }

@@ -99,7 +99,14 @@ impl<D: Device + Drop> Kernel<D> {
     pub fn iins(&mut self, group: u16, item: u16, at: u16, len: u16) -> Result<(), Refusal>
         ensures { CallsItem D.medium (table.iins group item at len) (insert_bytes item at len) group result self.old self.new }
     {
-        self.item_change(group, Change::Lins { c: item, at, n: len })
+        self.item_change(
+            group,
+            Change::Lins {
+                c: item,
+                at,
+                n: len,
+            },
+        )
     }
 
     /// Deletes `len` bytes at an offset of an item. It is refused as `ifree` is, with `Range` behind
@@ -107,7 +114,14 @@ impl<D: Device + Drop> Kernel<D> {
     pub fn idel(&mut self, group: u16, item: u16, at: u16, len: u16) -> Result<(), Refusal>
         ensures { CallsItem D.medium (table.idel group item at len) (delete_bytes item at len) group result self.old self.new }
     {
-        self.item_change(group, Change::Ldel { c: item, at, n: len })
+        self.item_change(
+            group,
+            Change::Ldel {
+                c: item,
+                at,
+                n: len,
+            },
+        )
     }
 
     /// Locks a group once more, which brings it into memory, and answers where the bytes of an item

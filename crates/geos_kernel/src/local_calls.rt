@@ -69,7 +69,14 @@ impl<D: Device + Drop> Kernel<D> {
         ensures refused { StaysIfRefused result self.old.core.blocks self.new.core.blocks }
         ensures vm { LeavesVm self.old self.new }
     {
-        self.change(name, Change::Lins { c: chunk, at, n: len })
+        self.change(
+            name,
+            Change::Lins {
+                c: chunk,
+                at,
+                n: len,
+            },
+        )
     }
 
     /// Deletes `len` bytes at an offset of a chunk of a locked block. `BadChunk` where no chunk
@@ -83,7 +90,14 @@ impl<D: Device + Drop> Kernel<D> {
         ensures vm { LeavesVm self.old self.new }
         ensures remain { Remain self.old.core.blocks self.new.core.blocks 0 }
     {
-        self.change(name, Change::Ldel { c: chunk, at, n: len })
+        self.change(
+            name,
+            Change::Ldel {
+                c: chunk,
+                at,
+                n: len,
+            },
+        )
     }
 
     /// The length of a chunk in bytes. `BadChunk` where no chunk of the block has this handle.

@@ -41,14 +41,16 @@ get_or-at (y ∷ xs) zero x d e = cc
 get_or-at (y ∷ xs) (suc k) x d e = get_or-at xs k x d e
 
 -- one more element is as all before it are
-pub All-one_more : {A : Type 0} (P : A → Type 0) (xs : List A) (k : ℕ) → k < length xs → All P (take k xs) → IfSome (slice_get xs k) P → All P (take (k + 1) xs)
+pub All-one_more : {A : Type 0} (P : A → Type 0) (xs : List A) (k : ℕ) → k < length xs → All P (take k xs)
+    → IfSome (slice_get xs k) P → All P (take (k + 1) xs)
 All-one_more P xs k lt before there =
     let at = item_at xs k lt in
     let here : P at.0 = rw at.1 at there in
     All-more P xs k at.0 lt before (subst P (sym (get_or-at xs k at.0 at.0 at.1)) here)
 
 -- an instruction of a legal image keeps the limits
-pub KeepsLimits-at : (image : Parts) (pc : ℕ) (i : Instr) → is_image image ≡ true → pc < length image.points → IfSome (slice_get image.points pc) (λ point. i ≡ point.instr) → KeepsLimits image i
+pub KeepsLimits-at : (image : Parts) (pc : ℕ) (i : Instr) → is_image image ≡ true → pc < length image.points
+    → IfSome (slice_get image.points pc) (λ point. i ≡ point.instr) → KeepsLimits image i
 KeepsLimits-at image pc i legal lt there =
     let n = length image.points in
     let r = length image.routines in
@@ -58,7 +60,8 @@ KeepsLimits-at image pc i legal lt there =
     rw same (keeps_limits image at.0.instr ((and_parts (is_instr r n at.0.instr) (is_given image.keyed at.0.row) point).0))
 
 -- what is said of the instruction at a pc
-pub instr-at : (f : Instr → List ℕ) (points : List Point) (pc : ℕ) (i : Instr) → pc < length points → IfSome (slice_get points pc) (λ point. i ≡ point.instr)
+pub instr-at : (f : Instr → List ℕ) (points : List Point) (pc : ℕ) (i : Instr) → pc < length points
+    → IfSome (slice_get points pc) (λ point. i ≡ point.instr)
     → option_map_or (λ point. f point.instr) (slice_get points pc) [] ≡ f i
 instr-at f points pc i lt there =
     let at = item_at points pc lt in

@@ -22,7 +22,8 @@ or-true true = refl
 or-true false = refl
 
 -- one more instruction, and where it may lead
-is_target-more : (points : List Point) (k pc : ℕ) (i : Instr) (target : Option ℕ) → k < length points → IfSome (slice_get points k) (λ point. i ≡ point.instr) → target ≡ target_of i
+is_target-more : (points : List Point) (k pc : ℕ) (i : Instr) (target : Option ℕ) → k < length points
+    → IfSome (slice_get points k) (λ point. i ≡ point.instr) → target ≡ target_of i
     → is_target (take (k + 1) points) pc ≡ (is_target (take k points) pc || is_at pc target)
 is_target-more points k pc i target lt there leads =
     let at = item_at points k lt in
@@ -34,14 +35,17 @@ is_target-more points k pc i target lt there leads =
     ∙ ap (λ (t : Option ℕ). is_target (take k points) pc || is_at pc t) (sym leads)
 
 -- an instruction without a label
-pub is_target-none : (points : List Point) (k pc : ℕ) (i : Instr) (mark : Bool) → k < length points → IfSome (slice_get points k) (λ point. i ≡ point.instr) → None ≡ target_of i
+pub is_target-none : (points : List Point) (k pc : ℕ) (i : Instr) (mark : Bool) → k < length points
+    → IfSome (slice_get points k) (λ point. i ≡ point.instr) → None ≡ target_of i
     → mark ≡ is_target (take k points) pc → mark ≡ is_target (take (k + 1) points) pc
 is_target-none points k pc i mark lt there leads so_far =
     so_far ∙ or-false (is_target (take k points) pc) ∙ sym (is_target-more points k pc i None lt there leads)
 
 -- an instruction whose label is marked
-pub is_target-some : (points : List Point) (k pc : ℕ) (i : Instr) (target : ℕ) (marks : List Bool) → k < length points → IfSome (slice_get points k) (λ point. i ≡ point.instr) → Some target ≡ target_of i
-    → target < length marks → get_or marks pc false ≡ is_target (take k points) pc → get_or (set marks target true) pc false ≡ is_target (take (k + 1) points) pc
+pub is_target-some : (points : List Point) (k pc : ℕ) (i : Instr) (target : ℕ) (marks : List Bool) → k < length points
+    → IfSome (slice_get points k) (λ point. i ≡ point.instr) → Some target ≡ target_of i
+    → target < length marks → get_or marks pc false ≡ is_target (take k points) pc
+    → get_or (set marks target true) pc false ≡ is_target (take (k + 1) points) pc
 is_target-some points k pc i target marks lt there leads within so_far =
     let before = is_target (take k points) pc in
     let more = is_target-more points k pc i (Some target) lt there leads in

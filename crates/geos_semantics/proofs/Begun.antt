@@ -35,12 +35,19 @@ module _ (base : Base) (s : State) (choice : Choice) (S : Sound base s) where
     lends = S.lends;
     slots = slots-sound s.memory (given_memory choice.given s.memory) s.slots (λ k held e. stays-given choice.given s.memory held) S.slots;
     locks = λ name. locks_of-given choice.given s.memory name ∙ S.locks name;
-    pointers = each-same (PointerIsSound s.memory s.slots) (PointerIsSound (given_memory choice.given s.memory) s.slots) pointer-begun s.pointers S.pointers;
+    pointers = each-same (PointerIsSound s.memory s.slots) (PointerIsSound (given_memory choice.given s.memory) s.slots)
+        pointer-begun s.pointers S.pointers;
   }
 
 -- slots and pointers are as a row says, as before
 pub meets-begun : (s : State) (choice : Choice) (row : Row) → Meets s row → Meets (begun choice s) row
-meets-begun s choice row M = record { words = M.words; slots = slots-left s.memory (given_memory choice.given s.memory) s.slots row.slots (λ k held e. stays-given choice.given s.memory held) M.slots; pointers = M.pointers; pairs = M.pairs }
+meets-begun s choice row M = record {
+  words = M.words;
+  slots = slots-left s.memory (given_memory choice.given s.memory)
+      s.slots row.slots (λ k held e. stays-given choice.given s.memory held) M.slots;
+  pointers = M.pointers;
+  pairs = M.pairs;
+}
 
 -- the moment with that in memory
 abbrev pub begun_moment : Moment → Choice → Moment

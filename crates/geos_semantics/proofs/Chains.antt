@@ -18,13 +18,15 @@ dot-spent (c ∷ cs) (k ∷ ks) zero v e = rw e (let a : 0 * v + dot cs ks ≡ 0
 dot-spent (c ∷ cs) (k ∷ ks) (suc i) v e = ap (λ n. c * k + n) (dot-spent cs ks i v e)
 
 -- what the potential at a point is
-pub value_at-is : (image : Parts) (pc : ℕ) (counters : List ℕ) (place : Place) → slice_get (places image) pc ≡ Some place → value_at image pc counters ≡ value place.potential counters
+pub value_at-is : (image : Parts) (pc : ℕ) (counters : List ℕ) (place : Place) → slice_get (places image) pc ≡ Some place
+    → value_at image pc counters ≡ value place.potential counters
 value_at-is image pc counters place e =
     let found = point-of image pc place e in
     rw (found.1, value_at) (ap (λ (p : Potential). value p counters) (sym found.2.potential))
 
 -- a counter that routine r touches is counted on by none of those that it returns to
-pub kept-set : (image : Parts) (root r : ℕ) (frames : List Frame) (counters : List ℕ) (k v : ℕ) → Chain image root r frames → k < 4 → touches image k r ≡ true
+pub kept-set : (image : Parts) (root r : ℕ) (frames : List Frame) (counters : List ℕ) (k v : ℕ) → Chain image root r frames
+    → k < 4 → touches image k r ≡ true
     → kept image frames (set counters k v) ≡ kept image frames counters
 kept-set image root r [] counters k v chain few touched = refl
 kept-set image root r (frame ∷ frames) counters k v chain few touched =

@@ -32,26 +32,31 @@ some-is None d h = absurd cc
 some-is (Some x) d h = refl
 
 -- the array of a chunk, as its bytes spell it
-array-read : (m : Memory) (name : Name) (c : ℕ) → IsMemory m → is_none (arr (bytes_of (chunks_at m name) c)) ≡ false → Reads (bytes_of (chunks_at m name) c) (array_of (chunks_at m name) c)
+array-read : (m : Memory) (name : Name) (c : ℕ) → IsMemory m → is_none (arr (bytes_of (chunks_at m name) c)) ≡ false
+    → Reads (bytes_of (chunks_at m name) c) (array_of (chunks_at m name) c)
 array-read m name c legal is =
     let bytes = bytes_of (chunks_at m name) c in
     let are = bytes_of-legal (chunks_at m name) c (chunks-bytes m name legal) in
     reads bytes (array_of (chunks_at m name) c) (λ k. (let b = byte-most bytes k are in omega (arith, b))) (some-is (arr bytes) (empty 0) is)
 
 -- a chunk that is referred to whole
-in-chunk : (m : Memory) (name : Name) (c : ℕ) → is_none (chunk_of (chunks_at m name) c) ≡ false → IsInChunk m (record { name = name; chunk = c; start = 0; len = length (bytes_of (chunks_at m name) c) })
+in-chunk : (m : Memory) (name : Name) (c : ℕ) → is_none (chunk_of (chunks_at m name) c) ≡ false
+    → IsInChunk m (record { name = name; chunk = c; start = 0; len = length (bytes_of (chunks_at m name) c) })
 in-chunk m name c h = record { bytes = bytes_of (chunks_at m name) c; there = some-is (chunk_of (chunks_at m name) c) [] h; fits = omega arith }
 
 -- the handle of a new chunk is a word, where its block has room for it
-pub make-most : (choice : Choice) (m : Memory) (name : Name) (make : Make) → first_refusal (make_row name make choice m).refusals ≡ None → (make_row name make choice m).answer ≤ 65535
-make-most choice m name (Lalloc n) fine = let cs = chunks_at m name in handle-fits cs (with_new cs n) n refl (grown-small choice m name [] (with_new cs n) fine)
+pub make-most : (choice : Choice) (m : Memory) (name : Name) (make : Make) → first_refusal (make_row name make choice m).refusals ≡ None
+    → (make_row name make choice m).answer ≤ 65535
+make-most choice m name (Lalloc n) fine = let cs = chunks_at m name in
+    handle-fits cs (with_new cs n) n refl (grown-small choice m name [] (with_new cs n) fine)
 make-most choice m name (Canew k) fine =
     let cs = chunks_at m name in
     let new = (create_array k cs).chunks in
     handle-fits cs new 8 (length-set (with_new cs 8) (entry_of (new_handle cs)) (Some (spelled (empty k)))) (grown-small choice m name [] new fine)
 
 -- a number that is told is a word
-pub ask-most : (choice : Choice) (m : Memory) (name : Name) (ask : Ask) → IsMemory m → first_refusal (ask_row name ask choice m).refusals ≡ None → (ask_row name ask choice m).answer ≤ 65535
+pub ask-most : (choice : Choice) (m : Memory) (name : Name) (ask : Ask) → IsMemory m → first_refusal (ask_row name ask choice m).refusals ≡ None
+    → (ask_row name ask choice m).answer ≤ 65535
 ask-most choice m name (Lsize c) legal fine = length-most m name c legal
 ask-most choice m name (Cacount c) legal fine =
     let read = array-read m name c legal (passed (ask_row name (Cacount c) choice m).refusals fine).1.0 in
@@ -60,10 +65,12 @@ ask-most choice m name (Cacount c) legal fine =
     omega (arith, counted, word)
 
 -- bytes that are referred to are part of their chunk, and as many as are asked for
-pub refer-led : (choice : Choice) (m : Memory) (name : Name) (refer : Refer) → IsMemory m → first_refusal (refer_row name refer choice m).refusals ≡ None
+pub refer-led : (choice : Choice) (m : Memory) (name : Name) (refer : Refer) → IsMemory m
+    → first_refusal (refer_row name refer choice m).refusals ≡ None
     → IsInChunk m (refer_row name refer choice m).answer × (least refer ≤ (refer_row name refer choice m).answer.len)
 refer-led choice m name (Deref c n) legal fine =
-    let pass = passed (refer_row name (Deref c n) choice m).refusals fine in (in-chunk m name c pass.0, ltb-false (length (bytes_of (chunks_at m name) c)) n pass.1.0)
+    let pass = passed (refer_row name (Deref c n) choice m).refusals fine in
+    (in-chunk m name c pass.0, ltb-false (length (bytes_of (chunks_at m name) c)) n pass.1.0)
 refer-led choice m name (Caelt c i n) legal fine =
     let cs = chunks_at m name in
     let pass = passed (refer_row name (Caelt c i n) choice m).refusals fine in

@@ -84,7 +84,8 @@ module _ (base : Base) (s : State) (row : Row) (S : Sound base s) (M : Meets s r
   none-locked h = omega (arith, S.locks (vm h), S.none h, none-held s.slots h free)
 
   -- whatever becomes of the file, where global memory and the counts are as they were
-  fine-beside : (new : Memory) → IsMemory new → new.blocks ≡ s.memory.blocks → ((name : Name) → locks_of new name ≡ locks_of s.memory name) → Fine base s (record s { memory = new; pointers = kept_pointers a Nothing s.pointers }) row
+  fine-beside : (new : Memory) → IsMemory new → new.blocks ≡ s.memory.blocks → ((name : Name) → locks_of new name ≡ locks_of s.memory name)
+      → Fine base s (record s { memory = new; pointers = kept_pointers a Nothing s.pointers }) row
   fine-beside new legal blocks locks = record {
     sound = record {
       none = S.none;
@@ -94,9 +95,16 @@ module _ (base : Base) (s : State) (row : Row) (S : Sound base s) (M : Meets s r
       lends = S.lends;
       slots = slots-sound s.memory new s.slots stay S.slots;
       locks = λ name. locks name ∙ S.locks name;
-      pointers = each-map (PointerIsSound s.memory s.slots) (PointerIsSound new s.slots) (kept_pointer a Nothing) pointer-beside s.pointers S.pointers;
+      pointers = each-map (PointerIsSound s.memory s.slots) (PointerIsSound new s.slots) (kept_pointer a Nothing)
+          pointer-beside s.pointers S.pointers;
     };
-    meets = record { words = M.words; slots = slots-left s.memory new s.slots row.slots stay M.slots; pointers = kept-nothing a s.pointers row.pointers M.pointers; pairs = M.pairs };
+    meets = record {
+      words = M.words;
+      slots = slots-left s.memory new s.slots row.slots stay M.slots;
+      pointers =
+          kept-nothing a s.pointers row.pointers M.pointers;
+      pairs = M.pairs;
+    };
     routine = refl;
     stack = refl;
     counters = refl;
@@ -111,7 +119,8 @@ module _ (base : Base) (s : State) (row : Row) (S : Sound base s) (M : Meets s r
       stay : HeldStay s.memory new s.slots
       stay k held e =
           let here : held.kind ≡ MemBlock = held-mem held (ap holds_of_file (sym e) ∙ slot-free s.slots k free) in
-          subst (λ kind. Stays s.memory new (record { kind = kind; handle = held.handle; borrowed = held.borrowed })) (sym here) (stay-mem held.handle held.borrowed)
+          subst (λ kind. Stays s.memory new (record { kind = kind; handle = held.handle; borrowed = held.borrowed }))
+          (sym here) (stay-mem held.handle held.borrowed)
 
       pointer-beside : (p : Option SlotReference) → PointerIsSound s.memory s.slots p → PointerIsSound new s.slots (kept_pointer a Nothing p)
       pointer-beside None k = tt
@@ -122,23 +131,28 @@ module _ (base : Base) (s : State) (row : Row) (S : Sound base s) (M : Meets s r
           (k.0, record { bytes = k.1.bytes; there = rw (ap chunks_in same) k.1.there; fits = k.1.fits })
 
 -- what a refusal of a commit leaves has each block as it was
-left-leaves : (a : ℕ) (choice : Choice) (m : Memory) (pair : Pair) (why : Refusal) → IsMemory (left_by_commit choice m pair why) → Leaves a Nothing m (left_by_commit choice m pair why)
+left-leaves : (a : ℕ) (choice : Choice) (m : Memory) (pair : Pair) (why : Refusal) → IsMemory (left_by_commit choice m pair why)
+    → Leaves a Nothing m (left_by_commit choice m pair why)
 left-leaves a choice m pair refusal.Disk legal =
-    cond_both choice.unsure (in_doubt m pair) m (λ new. IsMemory new → Leaves a Nothing m new) (λ late is. leaves-blocks a m (in_doubt m pair) is refl refl) (λ early is. leaves-blocks a m m is refl refl) legal
+    cond_both choice.unsure (in_doubt m pair) m (λ new. IsMemory new → Leaves a Nothing m new)
+    (λ late is. leaves-blocks a m (in_doubt m pair) is refl refl) (λ early is. leaves-blocks a m m is refl refl) legal
 left-leaves a choice m pair why legal = leaves-blocks a m m legal refl refl
 
 module _ (moment : Moment) where
   open moment use {image, base, state as s, good as G}
 
-  commit-well : (keeper : Keeper) → ((cur saved : Directory KeptBlock) → IsStored cur → IsStored saved → IsPair (keeper cur saved)) → list_any holds_of_file s.slots ≡ false
-      → Leads image s.routine G.routine (s.pc + 1) G.point.row (pays G.point.potential) → Leads image s.routine G.routine G.point.instr.target (rows.refused G.point.instr Commits G.point.row) (pays G.point.potential)
+  commit-well : (keeper : Keeper) → ((cur saved : Directory KeptBlock) → IsStored cur → IsStored saved → IsPair (keeper cur saved))
+      → list_any holds_of_file s.slots ≡ false
+      → Leads image s.routine G.routine (s.pc + 1) G.point.row (pays G.point.potential)
+      → Leads image s.routine G.routine G.point.instr.target (rows.refused G.point.instr Commits G.point.row) (pays G.point.potential)
       → (choice : Choice) → Well moment (calls (commit keeper) nowhere choice G.point.instr s)
   commit-well keeper keeps free L B choice =
       let i = G.point.instr in
       let pair = pair_to_keep keeper s.memory in
       let legal_pair = pair-legal keeper s.memory keeps G.sound.memory in
       calls-well moment Commits G.point.row (commit keeper) nowhere choice L B
-      (λ r. fine-nothing base s G.point.row G.sound G.meets i.a _ (left-leaves i.a choice s.memory pair r (left-legal choice s.memory pair r legal_pair G.sound.memory)))
+      (λ r. fine-nothing base s G.point.row G.sound G.meets i.a _
+      (left-leaves i.a choice s.memory pair r (left-legal choice s.memory pair r legal_pair G.sound.memory)))
       (λ e.
       let legal_after = after-kept (commit keeper choice s.memory) (commit-kept keeper keeps choice s.memory G.sound.memory) e in
       let none = none-locked base s G.point.row G.sound G.meets i.a free in
@@ -146,10 +160,13 @@ module _ (moment : Moment) where
       refl
 
   pub vupdate-well : StepsWell moment op.Vupdate
-  vupdate-well is choice = commit-well keep_current (λ cur saved c s. (c, s)) (unfaulted-here moment op.Vupdate is).free (along_edge moment op.Vupdate is refl) (branch_edge moment op.Vupdate is refl) choice
+  vupdate-well is choice = commit-well keep_current (λ cur saved c s. (c, s)) (unfaulted-here moment op.Vupdate is).free
+      (along_edge moment op.Vupdate is refl) (branch_edge moment op.Vupdate is refl) choice
 
   pub vsave-well : StepsWell moment op.Vsave
-  vsave-well is choice = commit-well keep_saved (λ cur saved c s. (c, c)) (unfaulted-here moment op.Vsave is).free (along_edge moment op.Vsave is refl) (branch_edge moment op.Vsave is refl) choice
+  vsave-well is choice = commit-well keep_saved (λ cur saved c s. (c, c)) (unfaulted-here moment op.Vsave is).free
+      (along_edge moment op.Vsave is refl) (branch_edge moment op.Vsave is refl) choice
 
   pub vrevert-well : StepsWell moment op.Vrevert
-  vrevert-well is choice = commit-well keep_reverted (λ cur saved c s. (s, s)) (unfaulted-here moment op.Vrevert is).free (along_edge moment op.Vrevert is refl) (branch_edge moment op.Vrevert is refl) choice
+  vrevert-well is choice = commit-well keep_reverted (λ cur saved c s. (s, s)) (unfaulted-here moment op.Vrevert is).free
+      (along_edge moment op.Vrevert is refl) (branch_edge moment op.Vrevert is refl) choice

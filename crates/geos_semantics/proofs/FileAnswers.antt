@@ -24,7 +24,8 @@ listed-some uid P None h = absurd h
 listed-some uid P (Some b) h = refl
 
 -- a handle that is 0, or has something listed, is a word
-mapped-small : (m : Memory) (P : ℕ → Type 0) (h : ℕ) → IsMemory m → (h ≢ 0 → IsSomeAnd (option_map (λ (l : VmBlock). l.uid) (listed_at m h)) P) → h ≤ 65535
+mapped-small : (m : Memory) (P : ℕ → Type 0) (h : ℕ) → IsMemory m → (h ≢ 0 → IsSomeAnd (option_map (λ (l : VmBlock). l.uid) (listed_at m h)) P)
+    → h ≤ 65535
 mapped-small m P h legal there = elim (cases_lt 0 h) [
   | inl l ↦ (
       let some = there (λ e. absurd (omega (arith, l, e))) in

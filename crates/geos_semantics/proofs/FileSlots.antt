@@ -72,12 +72,14 @@ locked-some None h = absurd (omega (arith, h))
 locked-some (Some b) h = refl
 
 -- a block of the VM file that a slot holds is listed
-listed-held : (m : Memory) (kind other : Kind) (h : ℕ) → owner_of kind ≡ owner.Vm → IsOfKind m other (named (owner_of other) h) → alike (Some other) (Some kind) ≡ true → is_none (listed_at m h) ≡ false
+listed-held : (m : Memory) (kind other : Kind) (h : ℕ) → owner_of kind ≡ owner.Vm → IsOfKind m other (named (owner_of other) h)
+    → alike (Some other) (Some kind) ≡ true → is_none (listed_at m h) ≡ false
 listed-held m VmBlock VmBlock h of is same = some-listed (listed_at m h) is.0
 listed-held m DbGroup DbGroup h of is same = some-listed (listed_at m h) is.0
 listed-held m _ _ h of is same = absurd cc
 
-listed-at : (m : Memory) (kind : Kind) (o : Option Held) → owner_of kind ≡ owner.Vm → SlotIsSound m o → alike (option_map (λ (held : Held). held.kind) o) (Some kind) ≡ true → is_none (listed_at m (name_in o).h) ≡ false
+listed-at : (m : Memory) (kind : Kind) (o : Option Held) → owner_of kind ≡ owner.Vm → SlotIsSound m o
+    → alike (option_map (λ (held : Held). held.kind) o) (Some kind) ≡ true → is_none (listed_at m (name_in o).h) ≡ false
 listed-at m kind None of is same = absurd cc
 listed-at m kind (Some held) of is same = listed-held m kind held.kind held.handle of is same
 
@@ -100,12 +102,19 @@ leaves-marked a m h legal = record {
   legal = legal;
   locks = λ name. locks_of-mark m h true name;
   held = λ held. stays-marked m h held;
-  chunks = λ target fresh k. record { bytes = k.bytes; there = rw (ap chunks_in (block_of-mark m h true target.reference.name)) k.there; fits = k.fits };
+  chunks = λ target fresh k. record {
+    bytes = k.bytes;
+    there = rw (ap chunks_in (block_of-mark m h true target.reference.name)) k.there;
+    fits =
+        k.fits;
+  };
 }
 
 -- a block that a slot holds was marked
-fine-marked : (base : Base) (s : State) (row : Row) (i : Instr) (kind : Kind) → Sound base s → Meets s row → is_none (listed_at s.memory (name_at s i.a).h) ≡ false → IsMemory (with_mark s.memory (name_at s i.a).h true)
-    → Fine base s (record s { memory = with_mark s.memory (name_at s i.a).h true; pointers = kept_pointers i.a Nothing s.pointers }) (record row { slots = slots_after i (Marks kind) row.slots })
+fine-marked : (base : Base) (s : State) (row : Row) (i : Instr) (kind : Kind) → Sound base s → Meets s row
+    → is_none (listed_at s.memory (name_at s i.a).h) ≡ false → IsMemory (with_mark s.memory (name_at s i.a).h true)
+    → Fine base s (record s { memory = with_mark s.memory (name_at s i.a).h true; pointers = kept_pointers i.a Nothing s.pointers })
+    (record row { slots = slots_after i (Marks kind) row.slots })
 fine-marked base s row i kind S M listed legal =
     let h = (name_at s i.a).h in
     let new = with_mark s.memory h true in
@@ -117,7 +126,9 @@ fine-marked base s row i kind S M listed legal =
       sound = sound-left base s i.a Nothing new S L;
       meets = record {
         words = M.words;
-        slots = subst (λ held. Each2 (SlotMeets new) held (set row.slots i.a (marked_state (slot_state row i.a)))) (set-get_or s.slots i.a None) (each2-set (SlotMeets new) s.slots row.slots i.a (slot s i.a) (marked_state (slot_state row i.a)) left (slot-marked new (slot s i.a) (slot_state row i.a) same now));
+        slots = subst (λ held. Each2 (SlotMeets new) held (set row.slots i.a (marked_state (slot_state row i.a))))
+            (set-get_or s.slots i.a None) (each2-set (SlotMeets new) s.slots row.slots i.a (slot s i.a)
+            (marked_state (slot_state row i.a)) left (slot-marked new (slot s i.a) (slot_state row i.a) same now));
         pointers = kept-nothing i.a s.pointers row.pointers M.pointers;
         pairs = M.pairs;
       };
@@ -135,7 +146,8 @@ fine-marked base s row i kind S M listed legal =
 abbrev held_vm : ℕ → Held
 held_vm h = record { kind = VmBlock; handle = h; borrowed = false }
 
-new-into : (base : Base) (s : State) (uid : ℕ) → (uid == group_uid) ≡ false → IsMemory (with_new s.memory uid 1) → locks_of (with_new s.memory uid 1) (new_vm s.memory) ≡ 1
+new-into : (base : Base) (s : State) (uid : ℕ) → (uid == group_uid) ≡ false → IsMemory (with_new s.memory uid 1)
+    → locks_of (with_new s.memory uid 1) (new_vm s.memory) ≡ 1
     → LocksInto base s (held_vm (new_vm s.memory).h) (with_new s.memory uid 1)
 new-into base s uid plain legal once =
     let m = s.memory in
@@ -148,10 +160,12 @@ new-into base s uid plain legal once =
       legal = legal;
       is = (
         locked-some (block_of new (new_vm m)) once,
-        entry-kept (λ l. (uid_in l == group_uid) ≡ false) m.file.cur.blocks h h (Some (new_listed uid 1)) None plain (ap (λ l. uid_in l == group_uid) none),
+        entry-kept (λ l. (uid_in l == group_uid) ≡ false) m.file.cur.blocks h h (Some (new_listed uid 1)) None plain
+            (ap (λ l. uid_in l == group_uid) none),
       );
       once = omega (arith, once, was);
-      locks = λ other ne. ap locks_in (block_of-beside (new_vm m) m new (new-others m uid 1) other (λ same. let both : false ≡ true = sym ne ∙ same_name-is (new_vm m) other same in absurd cc));
+      locks = λ other ne. ap locks_in (block_of-beside (new_vm m) m new (new-others m uid 1) other
+          (λ same. let both : false ≡ true = sym ne ∙ same_name-is (new_vm m) other same in absurd cc));
       held = stays-new m uid 1;
       chunks = λ ref k.
           let same = block_of-beside (new_vm m) m new (new-others m uid 1) ref.name (new-apart m uid 1 ref.name (leads-there m ref k)) in
@@ -173,7 +187,8 @@ module _ (moment : Moment) where
       let empty = empty-at s i.a (unfaulted-here moment op.Vnew is).empty in
       let m = s.memory in
       let h = (new_vm m).h in
-      calls-well moment (LocksNew VmBlock) _ (vnew uid) (λ h t. holding VmBlock i.a h (with_word i.b h t)) choice (along_edge moment op.Vnew is refl) (branch_edge moment op.Vnew is refl) (λ r. fine-unchanged moment)
+      calls-well moment (LocksNew VmBlock) _ (vnew uid) (λ h t. holding VmBlock i.a h (with_word i.b h t)) choice
+      (along_edge moment op.Vnew is refl) (branch_edge moment op.Vnew is refl) (λ r. fine-unchanged moment)
       (λ e.
       let pass = passed (vnew uid choice m).refusals e in
       let below = word-small base s i.c G.sound in
@@ -181,7 +196,8 @@ module _ (moment : Moment) where
       let once = rows_leave.counts (Vnew uid) choice m tt e in
       let marked = rows_leave.marks (Vnew uid) choice m tt e in
       let L = new-into base s uid pass.0 legal_after once in
-      let F = fine-made base s G.point.row G.sound G.meets i a (held_vm h) (with_new m uid 1) empty (new-free m) L (refl, refl, λ known. ap not marked) in
+      let F = fine-made base s G.point.row G.sound G.meets i a (held_vm h) (with_new m uid 1) empty (new-free m) L
+      (refl, refl, λ known. ap not marked) in
       let small = new-small m G.sound.memory in
       fine-word base s _ _ i.b h 65535 F small small)
       refl
@@ -189,8 +205,10 @@ module _ (moment : Moment) where
   pub vlock-well : StepsWell moment op.Vlock
   vlock-well is =
       let h = word s G.point.instr.b in
-      let refusals : Choice → Memory → List (Bool × Refusal) = λ choice m. no_listed m h ∷ names_group m h ∷ locks_full m (vm h) ∷ bringing choice m h in
-      locking-well moment VmBlock refusals h (fields-here moment op.Vlock is).0 (unfaulted-here moment op.Vlock is).empty (along_edge moment op.Vlock is refl) (branch_edge moment op.Vlock is refl) (rows_keep_memory.by_vlock h)
+      let refusals : Choice → Memory → List (Bool × Refusal) = λ choice m. no_listed m h ∷ names_group m h ∷ locks_full m
+      (vm h) ∷ bringing choice m h in
+      locking-well moment VmBlock refusals h (fields-here moment op.Vlock is).0 (unfaulted-here moment op.Vlock is).empty
+      (along_edge moment op.Vlock is refl) (branch_edge moment op.Vlock is refl) (rows_keep_memory.by_vlock h)
       (λ choice e. let pass = passed (refusals choice s.memory) e in (listed-some (listed_at s.memory h) pass.0, pass.1.0))
 
   pub ilock-well : StepsWell moment op.Ilock
@@ -201,7 +219,8 @@ module _ (moment : Moment) where
       let item = word s i.d in
       let a = (fields-here moment op.Ilock is).0 in
       let empty = empty-at s i.a (unfaulted-here moment op.Ilock is).empty in
-      calls-well moment (Locks DbGroup) _ (ilock g item i.imm) (λ ref t. leading i.b i.a ref (holding DbGroup i.a g t)) choice (along_edge moment op.Ilock is refl) (branch_edge moment op.Ilock is refl) (λ r. fine-unchanged moment)
+      calls-well moment (Locks DbGroup) _ (ilock g item i.imm) (λ ref t. leading i.b i.a ref (holding DbGroup i.a g t))
+      choice (along_edge moment op.Ilock is refl) (branch_edge moment op.Ilock is refl) (λ r. fine-unchanged moment)
       (λ e.
       let group : is_group m g ≡ true = not-false (is_group m g) (passed (ilock g item i.imm choice m).refusals e).0 in
       let own = none-behind (no_group m g ∷ locks_full m (vm g) ∷ bringing choice m g) (deref (vm g) item i.imm choice m).refusals e in
@@ -210,19 +229,22 @@ module _ (moment : Moment) where
       let L = locks-into base s (held_group g) refl (group-some (listed_at m g) group, group) legal_after in
       let F = fine-locked base s G.point.row G.sound G.meets i a (held_group g) _ empty L in
       let target : SlotReference = record { slot = i.a; reference = (ilock g item i.imm choice m).answer } in
-      let held : name_held (get_or (set s.slots i.a (Some (held_group g))) i.a None) ≡ Some (vm g) = ap name_held (get_or-set_same s.slots i.a (Some (held_group g)) None (omega (arith, a, G.sound.four))) in
+      let held : name_held (get_or (set s.slots i.a (Some (held_group g))) i.a None) ≡ Some (vm g) =
+      ap name_held (get_or-set_same s.slots i.a (Some (held_group g)) None (omega (arith, a, G.sound.four))) in
       fine-pointing base s _ _ i.b target i.imm F (held, L.chunks target.reference led.0) led.1)
       refl
 
   -- the block of slot a, which is one of the VM file, was marked
   marking-well : (kind : Kind) → owner_of kind ≡ owner.Vm → not (alike (kind_at s G.point.instr.a) (Some kind)) ≡ false
-      → Leads image s.routine G.routine (s.pc + 1) (record G.point.row { slots = slots_after G.point.instr (Marks kind) G.point.row.slots }) (pays G.point.potential)
+      → Leads image s.routine G.routine (s.pc + 1) (record G.point.row { slots = slots_after G.point.instr (Marks kind) G.point.row.slots })
+      (pays G.point.potential)
       → (choice : Choice) → Well moment (marking choice G.point.instr s)
   marking-well kind of right L choice =
       let i = G.point.instr in
       let h = (name_at s i.a).h in
       let listed = listed-at s.memory kind (slot s i.a) of (slot-sound base s i.a G.sound) (not-false (alike (kind_at s i.a) (Some kind)) right) in
-      fine-goes moment _ (s.pc + 1) _ L (fine-marked base s G.point.row i kind G.sound G.meets listed (rows_keep_memory.by_vdirty h choice s.memory G.sound.memory))
+      fine-goes moment _ (s.pc + 1) _ L (fine-marked base s G.point.row i kind G.sound G.meets listed
+      (rows_keep_memory.by_vdirty h choice s.memory G.sound.memory))
 
   pub vdirty-well : StepsWell moment op.Vdirty
   vdirty-well is choice = marking-well VmBlock refl (unfaulted-here moment op.Vdirty is).right (along_edge moment op.Vdirty is refl) choice
@@ -231,7 +253,9 @@ module _ (moment : Moment) where
   idirty-well is choice = marking-well DbGroup refl (unfaulted-here moment op.Idirty is).right (along_edge moment op.Idirty is refl) choice
 
   pub vunlock-well : StepsWell moment op.Vunlock
-  vunlock-well is choice = unlocking-well moment VmBlock (fields-here moment op.Vunlock is).0 (unfaulted-here moment op.Vunlock is).right (along_edge moment op.Vunlock is refl) choice
+  vunlock-well is choice = unlocking-well moment VmBlock (fields-here moment op.Vunlock is).0
+      (unfaulted-here moment op.Vunlock is).right (along_edge moment op.Vunlock is refl) choice
 
   pub iunlock-well : StepsWell moment op.Iunlock
-  iunlock-well is choice = unlocking-well moment DbGroup (fields-here moment op.Iunlock is).0 (unfaulted-here moment op.Iunlock is).right (along_edge moment op.Iunlock is refl) choice
+  iunlock-well is choice = unlocking-well moment DbGroup (fields-here moment op.Iunlock is).0
+      (unfaulted-here moment op.Iunlock is).right (along_edge moment op.Iunlock is refl) choice

@@ -35,9 +35,20 @@ pub record Fine (base : Base) (s t : State) (row : Row) : Type 0 where
   pub counters : t.counters ≡ s.counters
 
 -- a word is written, within the bound that is known of it and that of all words
-pub fine-word : (base : Base) (s t : State) (row : Row) (a v n : ℕ) → Fine base s t row → v ≤ n → v ≤ 65535 → Fine base s (with_word a v t) (with_bound a n row)
+pub fine-word : (base : Base) (s t : State) (row : Row) (a v n : ℕ) → Fine base s t row → v ≤ n → v ≤ 65535
+    → Fine base s (with_word a v t) (with_bound a n row)
 fine-word base s t row a v n F le small = record {
-  sound = record { none = F.sound.none; words = each-set (λ n. n ≤ 65535) t.words a v F.sound.words small; memory = F.sound.memory; four = F.sound.four; lends = F.sound.lends; slots = F.sound.slots; locks = F.sound.locks; pointers = F.sound.pointers };
+  sound = record {
+    none = F.sound.none;
+    words = each-set (λ n. n ≤ 65535) t.words a v F.sound.words small;
+    memory =
+        F.sound.memory;
+    four = F.sound.four;
+    lends = F.sound.lends;
+    slots = F.sound.slots;
+    locks = F.sound.locks;
+    pointers = F.sound.pointers;
+  };
   meets = meets-word t row a v n F.meets le;
   routine = F.routine;
   stack = F.stack;
@@ -50,10 +61,17 @@ chunks_written m ref at ws = with_bytes (chunks_at m ref.name) ref.chunk (with_p
 
 module _ (base : Base) (s : State) (row : Row) (S : Sound base s) (M : Meets s row) where
   -- after a call that makes nothing stale
-  pub fine-nothing : (a : ℕ) (new : Memory) → Leaves a Nothing s.memory new → Fine base s (record s { memory = new; pointers = kept_pointers a Nothing s.pointers }) row
+  pub fine-nothing : (a : ℕ) (new : Memory) → Leaves a Nothing s.memory new
+      → Fine base s (record s { memory = new; pointers = kept_pointers a Nothing s.pointers }) row
   fine-nothing a new L = record {
     sound = sound-left base s a Nothing new S L;
-    meets = record { words = M.words; slots = slots-left s.memory new s.slots row.slots (λ k held e. L.held held) M.slots; pointers = kept-nothing a s.pointers row.pointers M.pointers; pairs = M.pairs };
+    meets = record {
+      words = M.words;
+      slots = slots-left s.memory new s.slots row.slots (λ k held e. L.held held) M.slots;
+      pointers =
+          kept-nothing a s.pointers row.pointers M.pointers;
+      pairs = M.pairs;
+    };
     routine = refl;
     stack = refl;
     counters = refl;
@@ -64,40 +82,58 @@ module _ (base : Base) (s : State) (row : Row) (S : Sound base s) (M : Meets s r
   fine-same a = fine-nothing a s.memory (leaves-all a Nothing s.memory S.memory)
 
   -- what is known of pointers after chunks of a block may have moved
-  moved-pointers : (a : ℕ) (name : Name) → name_held (slot s a) ≡ Some name → Each2 PointerMeets (kept_pointers a (InBlock name) s.pointers) (map (stale_where (may_be_same row a)) row.pointers)
+  moved-pointers : (a : ℕ) (name : Name) → name_held (slot s a) ≡ Some name
+      → Each2 PointerMeets (kept_pointers a (InBlock name) s.pointers) (map (stale_where (may_be_same row a)) row.pointers)
   moved-pointers a name held =
-      each2-map (PointerIsSound s.memory s.slots) PointerMeets PointerMeets (kept_pointer a (InBlock name)) (stale_where (may_be_same row a)) one s.pointers row.pointers S.pointers M.pointers
+      each2-map (PointerIsSound s.memory s.slots) PointerMeets PointerMeets (kept_pointer a (InBlock name))
+      (stale_where (may_be_same row a)) one s.pointers row.pointers S.pointers M.pointers
     where
-      one : (p : Option SlotReference) (q : Option Pointer) → PointerIsSound s.memory s.slots p → PointerMeets p q → PointerMeets (kept_pointer a (InBlock name) p) (stale_where (may_be_same row a) q)
+      one : (p : Option SlotReference) (q : Option Pointer) → PointerIsSound s.memory s.slots p → PointerMeets p q
+          → PointerMeets (kept_pointer a (InBlock name) p) (stale_where (may_be_same row a) q)
       one p q sound m =
           pointer-kept a (InBlock name) (may_be_same row a) p q
           (λ target is r known slot_is test.
           let here = subst (PointerIsSound s.memory s.slots) is sound in
-          not-same base s row a r.slot name target.reference.name S M held (subst (λ k. name_held (get_or s.slots k None) ≡ Some target.reference.name) slot_is here.0) test)
+          not-same base s row a r.slot name target.reference.name S M held
+          (subst (λ k. name_held (get_or s.slots k None) ≡ Some target.reference.name) slot_is here.0) test)
           m
 
   -- after a call that may have moved chunks of the block that a slot holds
   pub fine-moved : (i : Instr) (name : Name) (new : Memory) → name_held (slot s i.a) ≡ Some name → Leaves i.a (InBlock name) s.memory new
-      → Fine base s (record s { memory = new; pointers = kept_pointers i.a (InBlock name) s.pointers }) (record row { pointers = pointers_kept i Moves row })
+      → Fine base s (record s { memory = new; pointers = kept_pointers i.a (InBlock name) s.pointers })
+      (record row { pointers = pointers_kept i Moves row })
   fine-moved i name new held L = record {
     sound = sound-left base s i.a (InBlock name) new S L;
-    meets = record { words = M.words; slots = slots-left s.memory new s.slots row.slots (λ k held e. L.held held) M.slots; pointers = moved-pointers i.a name held; pairs = M.pairs };
+    meets = record {
+      words = M.words;
+      slots = slots-left s.memory new s.slots row.slots (λ k held e. L.held held) M.slots;
+      pointers =
+          moved-pointers i.a name held;
+      pairs = M.pairs;
+    };
     routine = refl;
     stack = refl;
     counters = refl;
   }
 
   -- other chunks in a block leave what is not made stale
-  pub leaves-chunks : (a : ℕ) (name : Name) (chunks : List (Option (List ℕ))) → IsMemory (with_chunks s.memory name chunks) → Leaves a (InBlock name) s.memory (with_chunks s.memory name chunks)
+  pub leaves-chunks : (a : ℕ) (name : Name) (chunks : List (Option (List ℕ))) → IsMemory (with_chunks s.memory name chunks)
+      → Leaves a (InBlock name) s.memory (with_chunks s.memory name chunks)
   leaves-chunks a name chunks legal = record {
     legal = legal;
     locks = λ other. locks_of-chunks s.memory name other chunks;
     held = λ other. stays-mapped s.memory (rechunked_block chunks) name other;
-    chunks = λ target fresh h. record { bytes = h.bytes; there = rw (chunks_at-other s.memory name target.reference.name chunks (names-apart target.reference.name name fresh)) h.there; fits = h.fits };
+    chunks = λ target fresh h. record {
+      bytes = h.bytes;
+      there =
+          rw (chunks_at-other s.memory name target.reference.name chunks (names-apart target.reference.name name fresh)) h.there;
+      fits = h.fits;
+    };
   }
 
   -- bytes written into a chunk leave each chunk as long as it was
-  pub leaves-written : (a : ℕ) (ref : Reference) (at : ℕ) (ws : List ℕ) → IsInChunk s.memory ref → IsMemory (written s.memory ref at ws) → Leaves a Nothing s.memory (written s.memory ref at ws)
+  pub leaves-written : (a : ℕ) (ref : Reference) (at : ℕ) (ws : List ℕ) → IsInChunk s.memory ref
+      → IsMemory (written s.memory ref at ws) → Leaves a Nothing s.memory (written s.memory ref at ws)
   leaves-written a ref at ws here legal = record {
     legal = legal;
     locks = λ other. locks_of-chunks s.memory ref.name other (chunks_written s.memory ref at ws);
@@ -115,22 +151,32 @@ module _ (base : Base) (s : State) (row : Row) (S : Sound base s) (M : Meets s r
       kept other h = elim (names ref.name other.name) [
         | inl is ↦ (
             let same = same_name-true ref.name other.name is in
-            let there : chunk_of (chunks_at s.memory ref.name) other.chunk ≡ Some h.bytes = subst (λ n. chunk_of (chunks_at s.memory n) other.chunk ≡ Some h.bytes) (sym same) h.there in
-            let found = chunk-kept (chunks_at s.memory ref.name) ref.chunk other.chunk (with_part (bytes_of (chunks_at s.memory ref.name) ref.chunk) (ref.start + at) ws) here.bytes h.bytes here.there as_long there in
+            let there : chunk_of (chunks_at s.memory ref.name) other.chunk ≡ Some h.bytes =
+            subst (λ n. chunk_of (chunks_at s.memory n) other.chunk ≡ Some h.bytes) (sym same) h.there in
+            let found = chunk-kept (chunks_at s.memory ref.name) ref.chunk other.chunk
+            (with_part (bytes_of (chunks_at s.memory ref.name) ref.chunk) (ref.start + at) ws) here.bytes h.bytes here.there as_long there in
             let now : chunks_at (with_chunks s.memory ref.name (chunks_written s.memory ref at ws)) ref.name ≡ chunks_written s.memory ref at ws =
             chunks_at-same s.memory ref.name (chunks_written s.memory ref at ws) (leads-there s.memory ref here) in
             record {
               bytes = found.0;
-              there = subst (λ n. chunk_of (chunks_at (with_chunks s.memory ref.name (chunks_written s.memory ref at ws)) n) other.chunk ≡ Some found.0) same (ap (λ c. chunk_of c other.chunk) now ∙ found.1);
+              there = subst (λ n. chunk_of (chunks_at (with_chunks s.memory ref.name (chunks_written s.memory ref at ws)) n)
+                  other.chunk ≡ Some found.0) same (ap (λ c. chunk_of c other.chunk) now ∙ found.1);
               fits = omega (arith, h.fits, found.2);
             }
             )
-        | inr ne ↦ record { bytes = h.bytes; there = rw (chunks_at-other s.memory ref.name other.name (chunks_written s.memory ref at ws) ne) h.there; fits = h.fits }
+        | inr ne ↦ record {
+          bytes = h.bytes;
+          there = rw (chunks_at-other s.memory ref.name other.name (chunks_written s.memory ref at ws) ne)
+              h.there;
+          fits = h.fits;
+        }
       ]
 
 -- a pointer is set to bytes of a chunk of the block that a slot holds
-pub fine-pointing : (base : Base) (s t : State) (row : Row) (p : ℕ) (target : SlotReference) (least : ℕ) → Fine base s t row → PointerIsSound t.memory t.slots (Some target) → least ≤ target.reference.len
-    → Fine base s (with_pointer p (Some target) t) (record row { pointers = set row.pointers p (Some (record { slot = target.slot; least = least })) })
+pub fine-pointing : (base : Base) (s t : State) (row : Row) (p : ℕ) (target : SlotReference) (least : ℕ) → Fine base s t row
+    → PointerIsSound t.memory t.slots (Some target) → least ≤ target.reference.len
+    → Fine base s (with_pointer p (Some target) t)
+    (record row { pointers = set row.pointers p (Some (record { slot = target.slot; least = least })) })
 fine-pointing base s t row p target least F sound le = record {
   sound = record {
     memory = F.sound.memory;
@@ -145,7 +191,8 @@ fine-pointing base s t row p target least F sound le = record {
   meets = record {
     words = F.meets.words;
     slots = F.meets.slots;
-    pointers = each2-set PointerMeets t.pointers row.pointers p (Some target) (Some (record { slot = target.slot; least = least })) F.meets.pointers (refl, le);
+    pointers = each2-set PointerMeets t.pointers row.pointers p (Some target) (Some (record { slot = target.slot; least = least }))
+        F.meets.pointers (refl, le);
     pairs = F.meets.pairs;
   };
   routine = F.routine;

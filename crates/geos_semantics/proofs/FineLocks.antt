@@ -34,7 +34,8 @@ none-some None e h = absurd cc
 none-some (Some x) e h = absurd cc
 
 -- memory after one lock more
-pub locks-into : (base : Base) (s : State) (locked : Held) → locked.borrowed ≡ false → IsOfKind s.memory locked.kind (name_of locked) → IsMemory (with_locks s.memory (name_of locked) (locks_of s.memory (name_of locked) + 1))
+pub locks-into : (base : Base) (s : State) (locked : Held) → locked.borrowed ≡ false → IsOfKind s.memory locked.kind (name_of locked)
+    → IsMemory (with_locks s.memory (name_of locked) (locks_of s.memory (name_of locked) + 1))
     → LocksInto base s locked (with_locks s.memory (name_of locked) (locks_of s.memory (name_of locked) + 1))
 locks-into base s locked own is legal =
     let name = name_of locked in
@@ -55,7 +56,8 @@ not-new m name other none h = go (same_name name other) refl
   where
     go : (b : Bool) → same_name name other ≡ b → b ≡ false
     go false e = refl
-    go true e = (let same = same_name-true name other e in let gone : is_none (block_of m other) ≡ true = subst (λ n. is_none (block_of m n) ≡ true) same (ap is_none none) in let both : false ≡ true = sym h ∙ gone in absurd cc)
+    go true e = (let same = same_name-true name other e in let gone : is_none (block_of m other) ≡ true =
+        subst (λ n. is_none (block_of m n) ≡ true) same (ap is_none none) in let both : false ≡ true = sym h ∙ gone in absurd cc)
 
 -- a block as it is made and locked
 abbrev pub new_block : Block
@@ -73,7 +75,8 @@ stays-made m h free held =
     refl refl
 
 -- memory after a block was made and locked
-pub makes-into : (base : Base) (s : State) (h : ℕ) → lowest_handle s.memory owner.Mem ≡ Some h → IsMemory (with_block s.memory (mem h) (Some new_block)) → LocksInto base s (held_mem h) (with_block s.memory (mem h) (Some new_block))
+pub makes-into : (base : Base) (s : State) (h : ℕ) → lowest_handle s.memory owner.Mem ≡ Some h
+    → IsMemory (with_block s.memory (mem h) (Some new_block)) → LocksInto base s (held_mem h) (with_block s.memory (mem h) (Some new_block))
 makes-into base s h lowest legal =
     let free = lowest-free s.memory h (Some new_block) lowest in
     let was : locks_of s.memory (mem h) ≡ 0 = ap locks_in free.0 in
@@ -91,7 +94,8 @@ makes-into base s h lowest legal =
     }
 
 -- memory after a lock was given back
-pub unlocks : (s : State) (name : Name) → is_none (block_of s.memory name) ≡ false → IsMemory (with_locks s.memory name (locks_of s.memory name - 1)) → GivesBack s name (with_locks s.memory name (locks_of s.memory name - 1))
+pub unlocks : (s : State) (name : Name) → is_none (block_of s.memory name) ≡ false
+    → IsMemory (with_locks s.memory name (locks_of s.memory name - 1)) → GivesBack s name (with_locks s.memory name (locks_of s.memory name - 1))
 unlocks s name there legal =
     let n = locks_of s.memory name - 1 in
     record {
@@ -104,8 +108,10 @@ unlocks s name there legal =
 
 module _ (base : Base) (s : State) (row : Row) (S : Sound base s) (M : Meets s row) (i : Instr) (within : i.a < 4) where
   -- a slot that held nothing holds a block, as is known of it
-  locked-slots : (locked : Held) (state : SlotState) (new : Memory) → LocksInto base s locked new → SlotMeets new (Some locked) state → Each2 (SlotMeets new) (set s.slots i.a (Some locked)) (set row.slots i.a state)
-  locked-slots locked state new L known = each2-set (SlotMeets new) s.slots row.slots i.a (Some locked) state (slots-left s.memory new s.slots row.slots (λ k held e. L.held held) M.slots) known
+  locked-slots : (locked : Held) (state : SlotState) (new : Memory) → LocksInto base s locked new
+      → SlotMeets new (Some locked) state → Each2 (SlotMeets new) (set s.slots i.a (Some locked)) (set row.slots i.a state)
+  locked-slots locked state new L known = each2-set (SlotMeets new) s.slots row.slots i.a (Some locked) state
+      (slots-left s.memory new s.slots row.slots (λ k held e. L.held held) M.slots) known
 
   -- a block is locked once more
   pub fine-locked : (locked : Held) (new : Memory) → slot s i.a ≡ None → LocksInto base s locked new
@@ -130,10 +136,12 @@ module _ (base : Base) (s : State) (row : Row) (S : Sound base s) (M : Meets s r
     where
       go : (o : Option Held) → name_held o ≡ Some name → SlotIsSound s.memory o → ⊥
       go None e h = absurd cc
-      go (Some held) e h = (let same : name_of held ≡ name = cc in none-some (block_of s.memory (name_of held)) (ap (block_of s.memory) same ∙ none) (kind-some s.memory held.kind (name_of held) h))
+      go (Some held) e h = (let same : name_of held ≡ name = cc in none-some (block_of s.memory (name_of held))
+          (ap (block_of s.memory) same ∙ none) (kind-some s.memory held.kind (name_of held) h))
 
   -- a block is made and locked
-  pub fine-made : (locked : Held) (new : Memory) → slot s i.a ≡ None → block_of s.memory (name_of locked) ≡ None → LocksInto base s locked new → SlotMeets new (Some locked) (held_state locked.kind true)
+  pub fine-made : (locked : Held) (new : Memory) → slot s i.a ≡ None → block_of s.memory (name_of locked) ≡ None
+      → LocksInto base s locked new → SlotMeets new (Some locked) (held_state locked.kind true)
       → Fine base s (record s { memory = new; slots = set s.slots i.a (Some locked); pointers = kept_pointers i.a Nothing s.pointers })
       (record row { slots = slots_after i (LocksNew locked.kind) row.slots; pairs = pairs_after i (LocksNew locked.kind) row })
   fine-made locked new empty free L known = record {
@@ -142,7 +150,8 @@ module _ (base : Base) (s : State) (row : Row) (S : Sound base s) (M : Meets s r
       words = M.words;
       slots = locked-slots locked (held_state locked.kind true) new L known;
       pointers = kept-nothing i.a s.pointers row.pointers M.pointers;
-      pairs = pairs-new s.slots i.a locked (λ b. holds_kind locked.kind (slot_state row b)) row.pairs empty (not-held-yet (name_of locked) free) M.pairs;
+      pairs = pairs-new s.slots i.a locked (λ b. holds_kind locked.kind (slot_state row b)) row.pairs empty
+          (not-held-yet (name_of locked) free) M.pairs;
     };
     routine = refl;
     stack = refl;
@@ -150,20 +159,29 @@ module _ (base : Base) (s : State) (row : Row) (S : Sound base s) (M : Meets s r
   }
 
   unlocked-pointers : (name : Name) → Each2 PointerMeets (kept_pointers i.a (OfLock name) s.pointers) (map (stale_where (λ b. b == i.a)) row.pointers)
-  unlocked-pointers name = each2-map (PointerIsSound s.memory s.slots) PointerMeets PointerMeets (kept_pointer i.a (OfLock name)) (stale_where (λ b. b == i.a)) one s.pointers row.pointers S.pointers M.pointers
+  unlocked-pointers name = each2-map (PointerIsSound s.memory s.slots) PointerMeets PointerMeets (kept_pointer i.a (OfLock name))
+      (stale_where (λ b. b == i.a)) one s.pointers row.pointers S.pointers M.pointers
     where
-      one : (p : Option SlotReference) (q : Option Pointer) → PointerIsSound s.memory s.slots p → PointerMeets p q → PointerMeets (kept_pointer i.a (OfLock name) p) (stale_where (λ b. b == i.a) q)
+      one : (p : Option SlotReference) (q : Option Pointer) → PointerIsSound s.memory s.slots p → PointerMeets p q
+          → PointerMeets (kept_pointer i.a (OfLock name) p) (stale_where (λ b. b == i.a) q)
       one p q sound m = pointer-kept i.a (OfLock name) (λ b. b == i.a) p q (λ target is r known slot_is test. rw slot_is test) m
 
   -- a lock is given back, and the slot is empty
-  pub fine-unlocked : (kind : Kind) (name : Name) (new : Memory) → name_held (slot s i.a) ≡ Some name → is_borrowed (slot s i.a) ≡ false → GivesBack s name new
+  pub fine-unlocked : (kind : Kind) (name : Name) (new : Memory) → name_held (slot s i.a) ≡ Some name
+      → is_borrowed (slot s i.a) ≡ false → GivesBack s name new
       → Fine base s (record s { memory = new; slots = set s.slots i.a None; pointers = kept_pointers i.a (OfLock name) s.pointers })
-      (record row { slots = slots_after i (Unlocks kind) row.slots; pointers = pointers_kept i (Unlocks kind) row; pairs = pairs_after i (Unlocks kind) row })
+      (record row {
+        slots = slots_after i (Unlocks kind) row.slots;
+        pointers = pointers_kept i (Unlocks kind) row;
+        pairs =
+            pairs_after i (Unlocks kind) row;
+      })
   fine-unlocked kind name new full own U = record {
     sound = sound-unlocked base s i.a name new S within full own U;
     meets = record {
       words = M.words;
-      slots = each2-set (SlotMeets new) s.slots row.slots i.a None Empty (slots-left s.memory new s.slots row.slots (λ k held e. U.held held) M.slots) tt;
+      slots = each2-set (SlotMeets new) s.slots row.slots i.a None Empty (slots-left s.memory new s.slots row.slots (λ k held e. U.held held) M.slots)
+          tt;
       pointers = unlocked-pointers name;
       pairs = pairs-without s.slots i.a None row.pairs M.pairs;
     };
@@ -173,7 +191,8 @@ module _ (base : Base) (s : State) (row : Row) (S : Sound base s) (M : Meets s r
   }
 
 -- a block that no one holds is freed
-pub fine-freed : (base : Base) (s : State) (row : Row) (S : Sound base s) (M : Meets s row) (a : ℕ) (name : Name) (new : Memory) → locks_of s.memory name ≡ 0 → IsMemory new → LeavesOthers (OneBlock name) s.memory new → locks_of new name ≡ 0
+pub fine-freed : (base : Base) (s : State) (row : Row) (S : Sound base s) (M : Meets s row) (a : ℕ) (name : Name) (new : Memory)
+    → locks_of s.memory name ≡ 0 → IsMemory new → LeavesOthers (OneBlock name) s.memory new → locks_of new name ≡ 0
     → Fine base s (record s { memory = new; pointers = kept_pointers a Nothing s.pointers }) row
 fine-freed base s row S M a name new free legal L gone = record {
   sound = sound-freed base s a name new S free legal L gone;

@@ -41,7 +41,8 @@ module _ (moment : Moment) where
   pub gnew-well : StepsWell moment op.Gnew
   gnew-well is choice =
       let i = G.point.instr in
-      calls-well moment NoSlot (with_bound i.a 65535 G.point.row) gnew (with_word i.a) choice (along_edge moment op.Gnew is refl) (branch_edge moment op.Gnew is refl) (λ r. fine-unchanged moment)
+      calls-well moment NoSlot (with_bound i.a 65535 G.point.row) gnew (with_word i.a) choice (along_edge moment op.Gnew is refl)
+      (branch_edge moment op.Gnew is refl) (λ r. fine-unchanged moment)
       (λ e.
       let legal_after = after-kept (gnew choice s.memory) (rows_keep_memory.by_gnew choice s.memory G.sound.memory) e in
       let F = fine-nothing base s G.point.row G.sound G.meets i.a (with_new s.memory group_uid 0) (leaves-new s.memory group_uid i.a legal_after) in
@@ -53,25 +54,31 @@ module _ (moment : Moment) where
   regrouped_row = record G.point.row { pointers = pointers_kept G.point.instr MovesGroup G.point.row }
 
   -- what a call on items leaves is fine, where it is refused and where it is done
-  fine-items : {A : Type 0} (g : ℕ) (row : Call A) (chunks : List (Option (List ℕ))) → Keeps (on_group g row) → Rechunks row (vm g) chunks s.memory → (choice : Choice)
-      → ((r : Refusal) → Fine base s (after_call (on_group g row choice s.memory) G.point.instr.a ((on_group g row choice s.memory).left r) s) regrouped_row)
-      × (first_refusal (on_group g row choice s.memory).refusals ≡ None → Fine base s (after_call (on_group g row choice s.memory) G.point.instr.a (on_group g row choice s.memory).after s) regrouped_row)
+  fine-items : {A : Type 0} (g : ℕ) (row : Call A) (chunks : List (Option (List ℕ))) → Keeps (on_group g row)
+      → Rechunks row (vm g) chunks s.memory → (choice : Choice)
+      → ((r : Refusal) → Fine base s (after_call (on_group g row choice s.memory) G.point.instr.a ((on_group g row choice s.memory).left r) s)
+      regrouped_row)
+      × (first_refusal (on_group g row choice s.memory).refusals ≡ None
+      → Fine base s (after_call (on_group g row choice s.memory) G.point.instr.a (on_group g row choice s.memory).after s) regrouped_row)
   fine-items g row chunks keeps rechunks choice =
       let shape = rechunks choice in
       let i = G.point.instr in (
-        (λ r. rw (shape.2 r) (fine-regrouped base s G.point.row G.sound G.meets i g s.memory (leaves-all i.a (in_group s.memory g) s.memory G.sound.memory))),
+        (λ r. rw (shape.2 r) (fine-regrouped base s G.point.row G.sound G.meets i g s.memory
+            (leaves-all i.a (in_group s.memory g) s.memory G.sound.memory))),
         (λ e.
             let group : is_group s.memory g ≡ true = not-false (is_group s.memory g) (passed (on_group g row choice s.memory).refusals e).0 in
             let legal_after = after-kept (on_group g row choice s.memory) (keeps choice s.memory G.sound.memory) e in
             let legal_items = subst (λ m. IsMemory (with_mark m g true)) shape.0 legal_after in
-            rw shape.0 (fine-regrouped base s G.point.row G.sound G.meets i g (with_items s.memory g chunks) (leaves-items i.a s.memory g chunks group legal_items))),
+            rw shape.0 (fine-regrouped base s G.point.row G.sound G.meets i g (with_items s.memory g chunks)
+            (leaves-items i.a s.memory g chunks group legal_items))),
       )
 
   pub changing_items-well : Leads image s.routine G.routine (s.pc + 1) regrouped_row (pays G.point.potential)
       → Leads image s.routine G.routine G.point.instr.target (rows.refused G.point.instr MovesGroup G.point.row) (pays G.point.potential)
       → (g : ℕ) (change : Change) (choice : Choice) → Well moment (changing_items g change choice G.point.instr s)
   changing_items-well L B g change choice =
-      let F = fine-items g (change_row (vm g) change) (change_edit change (chunks_at s.memory (vm g))).chunks (rows_keep_memory.by_item_change g change) (change-shape (vm g) change s.memory) choice in
+      let F = fine-items g (change_row (vm g) change) (change_edit change (chunks_at s.memory (vm g))).chunks
+      (rows_keep_memory.by_item_change g change) (change-shape (vm g) change s.memory) choice in
       calls-well moment MovesGroup regrouped_row (on_group g (change_row (vm g) change)) nowhere choice L B F.0 F.1 refl
 
   pub making_item-well : Leads image s.routine G.routine (s.pc + 1) (with_bound G.point.instr.a 65535 regrouped_row) (pays G.point.potential)
@@ -79,7 +86,8 @@ module _ (moment : Moment) where
       → (g : ℕ) (make : Make) → HasWordSize make → (choice : Choice) → Well moment (making_item g make choice G.point.instr s)
   making_item-well L B g make word choice =
       let row = make_row (vm g) make in
-      let F = fine-items g row (make_edit make (chunks_at s.memory (vm g))).chunks (rows_keep_memory.by_item_make g make word) (λ choice. (refl, refl, λ r. refl)) choice in
+      let F = fine-items g row (make_edit make (chunks_at s.memory (vm g))).chunks (rows_keep_memory.by_item_make g make word)
+      (λ choice. (refl, refl, λ r. refl)) choice in
       calls-well moment MovesGroup (with_bound G.point.instr.a 65535 regrouped_row) (on_group g row) (with_word G.point.instr.a) choice L B F.0
       (λ e.
       let own = none-behind (no_group s.memory g ∷ bringing choice s.memory g) (row choice s.memory).refusals e in

@@ -31,7 +31,8 @@ use Rattle.geos_semantics.proofs.Fine.{Fine}
 
 -- A block is marked
 
-block-marked : (marked : Bool) (listed : Option VmBlock) → option_map block_in_file (option_map (marked_block marked) listed) ≡ option_map block_in_file listed
+block-marked : (marked : Bool) (listed : Option VmBlock)
+    → option_map block_in_file (option_map (marked_block marked) listed) ≡ option_map block_in_file listed
 block-marked marked None = refl
 block-marked marked (Some l) = refl
 
@@ -42,14 +43,16 @@ uid-marked marked (Some l) = refl
 module _ (m : Memory) (h : ℕ) (marked : Bool) where
   owned-mark : (o : Owner) (k : ℕ) → owned_block (with_mark m h marked) o k ≡ owned_block m o k
   owned-mark Mem k = refl
-  owned-mark Vm k = entry-told (option_map block_in_file) m.file.cur.blocks h k (option_map (marked_block marked) (listed_at m h)) None (block-marked marked (listed_at m h))
+  owned-mark Vm k = entry-told (option_map block_in_file) m.file.cur.blocks h k (option_map (marked_block marked) (listed_at m h)) None
+      (block-marked marked (listed_at m h))
 
   -- but for its mark, each block is as it was
   pub block_of-mark : (name : Name) → block_of (with_mark m h marked) name ≡ block_of m name
   block_of-mark name = owned-mark name.owner name.h
 
   pub groups-mark : (k : ℕ) → is_group (with_mark m h marked) k ≡ is_group m k
-  groups-mark k = ap (λ u. u == group_uid) (entry-told uid_in m.file.cur.blocks h k (option_map (marked_block marked) (listed_at m h)) None (uid-marked marked (listed_at m h)))
+  groups-mark k = ap (λ u. u == group_uid)
+      (entry-told uid_in m.file.cur.blocks h k (option_map (marked_block marked) (listed_at m h)) None (uid-marked marked (listed_at m h)))
 
 -- one that was marked still is
 marks-more : (m : Memory) (h k : ℕ) → not (is_marked m k) ≡ false → not (is_marked (with_mark m h true) k) ≡ false
@@ -62,7 +65,8 @@ marks-more m h k e = go (listed_at m h) refl
 -- what slots know stays so where a block is marked
 pub stays-marked : (m : Memory) (h : ℕ) (held : Held) → Stays m (with_mark m h true) held
 stays-marked m h held = record {
-  is = λ is. kind-from m (with_mark m h true) held.kind (name_of held) (λ there. ap is_none (block_of-mark m h true (name_of held)) ∙ there) (groups-mark m h true held.handle) is;
+  is = λ is. kind-from m (with_mark m h true) held.kind (name_of held) (λ there. ap is_none (block_of-mark m h true (name_of held)) ∙ there)
+      (groups-mark m h true held.handle) is;
   mark = λ marked. of (owner_of held.kind) held.handle marked;
 }
   where
@@ -83,7 +87,8 @@ stays-items m g chunks held =
     record { is = λ h. second.is (first.is h); mark = λ h. second.mark (first.mark h) }
 
 -- other items in a group leave what is not made stale
-pub leaves-items : (a : ℕ) (m : Memory) (g : ℕ) (chunks : List (Option (List ℕ))) → is_group m g ≡ true → IsMemory (with_items m g chunks) → Leaves a (in_group m g) m (with_items m g chunks)
+pub leaves-items : (a : ℕ) (m : Memory) (g : ℕ) (chunks : List (Option (List ℕ))) → is_group m g ≡ true
+    → IsMemory (with_items m g chunks) → Leaves a (in_group m g) m (with_items m g chunks)
 leaves-items a m g chunks group legal = record {
   legal = legal;
   locks = λ other. locks_of-mark (with_chunks m (vm g) chunks) g true other ∙ locks_of-chunks m (vm g) other chunks;
@@ -91,7 +96,8 @@ leaves-items a m g chunks group legal = record {
   chunks = λ target fresh h.
       let other = target.reference.name in
       let apart : same_name other (vm g) ≡ false = subst (λ b. is_made_stale a (cond b (InBlock (vm g)) Nothing) target ≡ false) group fresh in
-      let same = ap chunks_in (block_of-mark (with_chunks m (vm g) chunks) g true other) ∙ chunks_at-other m (vm g) other chunks (names-apart other (vm g) apart) in
+      let same = ap chunks_in (block_of-mark (with_chunks m (vm g) chunks) g true other)
+      ∙ chunks_at-other m (vm g) other chunks (names-apart other (vm g) apart) in
       record { bytes = h.bytes; there = rw same h.there; fits = h.fits };
 }
 
@@ -110,7 +116,8 @@ not-in-group a m g o target is held unlike = by (is_group m g) refl
 
     apart : is_group m g ≡ true → (b : Bool) → same_name name (vm g) ≡ b → b ≡ false
     apart group false e = refl
-    apart group true e = absurd (held-apart m (Some (record { kind = DbGroup; handle = g; borrowed = false })) o (vm g) name (group-some (listed_at m g) group, group) is refl held (same_name-true name (vm g) e) unlike)
+    apart group true e = absurd (held-apart m (Some (record { kind = DbGroup; handle = g; borrowed = false })) o
+        (vm g) name (group-some (listed_at m g) group, group) is refl held (same_name-true name (vm g) e) unlike)
 
     by : (b : Bool) → is_group m g ≡ b → is_made_stale a (cond b (InBlock (vm g)) Nothing) target ≡ false
     by false group = refl
@@ -119,23 +126,34 @@ not-in-group a m g o target is held unlike = by (is_group m g) refl
 module _ (base : Base) (s : State) (row : Row) (S : Sound base s) (M : Meets s row) (i : Instr) (g : ℕ) where
   -- what is known of pointers after items of a group may have moved
   regrouped-pointers : Each2 PointerMeets (kept_pointers i.a (in_group s.memory g) s.pointers) (pointers_kept i MovesGroup row)
-  regrouped-pointers = each2-map (PointerIsSound s.memory s.slots) PointerMeets PointerMeets (kept_pointer i.a (in_group s.memory g)) (stale_where (λ b. holds_kind DbGroup (slot_state row b))) one s.pointers row.pointers S.pointers M.pointers
+  regrouped-pointers = each2-map (PointerIsSound s.memory s.slots) PointerMeets PointerMeets (kept_pointer i.a (in_group s.memory g))
+      (stale_where (λ b. holds_kind DbGroup (slot_state row b))) one s.pointers row.pointers S.pointers M.pointers
     where
-      one : (p : Option SlotReference) (q : Option Pointer) → PointerIsSound s.memory s.slots p → PointerMeets p q → PointerMeets (kept_pointer i.a (in_group s.memory g) p) (stale_where (λ b. holds_kind DbGroup (slot_state row b)) q)
+      one : (p : Option SlotReference) (q : Option Pointer) → PointerIsSound s.memory s.slots p → PointerMeets p q
+          → PointerMeets (kept_pointer i.a (in_group s.memory g) p) (stale_where (λ b. holds_kind DbGroup (slot_state row b)) q)
       one p q sound m =
           pointer-kept i.a (in_group s.memory g) (λ b. holds_kind DbGroup (slot_state row b)) p q
           (λ target is r known slot_is test.
           let here = subst (PointerIsSound s.memory s.slots) is sound in
-          let held : name_held (slot s r.slot) ≡ Some target.reference.name = subst (λ k. name_held (get_or s.slots k None) ≡ Some target.reference.name) slot_is here.0 in
-          not-in-group i.a s.memory g (slot s r.slot) target (slot-sound base s r.slot S) held (ap (λ kind. alike kind (Some DbGroup)) (kind-known s row r.slot M) ∙ test))
+          let held : name_held (slot s r.slot) ≡ Some target.reference.name =
+          subst (λ k. name_held (get_or s.slots k None) ≡ Some target.reference.name) slot_is here.0 in
+          not-in-group i.a s.memory g (slot s r.slot) target (slot-sound base s r.slot S) held
+          (ap (λ kind. alike kind (Some DbGroup)) (kind-known s row r.slot M) ∙ test))
           m
 
   -- after a call that may have moved items of a group
   pub fine-regrouped : (new : Memory) → Leaves i.a (in_group s.memory g) s.memory new
-      → Fine base s (record s { memory = new; pointers = kept_pointers i.a (in_group s.memory g) s.pointers }) (record row { pointers = pointers_kept i MovesGroup row })
+      → Fine base s (record s { memory = new; pointers = kept_pointers i.a (in_group s.memory g) s.pointers })
+      (record row { pointers = pointers_kept i MovesGroup row })
   fine-regrouped new L = record {
     sound = sound-left base s i.a (in_group s.memory g) new S L;
-    meets = record { words = M.words; slots = slots-left s.memory new s.slots row.slots (λ k held e. L.held held) M.slots; pointers = regrouped-pointers; pairs = M.pairs };
+    meets = record {
+      words = M.words;
+      slots = slots-left s.memory new s.slots row.slots (λ k held e. L.held held) M.slots;
+      pointers =
+          regrouped-pointers;
+      pairs = M.pairs;
+    };
     routine = refl;
     stack = refl;
     counters = refl;

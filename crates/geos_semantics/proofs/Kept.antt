@@ -13,7 +13,8 @@ use Rattle.geos_semantics.specs.Meets.{Base, PointerMeets, IsInChunk, PointerIsS
 use Rattle.geos_semantics.proofs.Stays.{Stays, stays-same, slots-sound}
 
 -- a fact of each element is one of each changed element
-pub each-map : {X Y : Type 0} (P : X → Type 0) (Q : Y → Type 0) (f : X → Y) → ((x : X) → P x → Q (f x)) → (xs : List X) → Each P xs → Each Q (map f xs)
+pub each-map : {X Y : Type 0} (P : X → Type 0) (Q : Y → Type 0) (f : X → Y) → ((x : X) → P x → Q (f x)) → (xs : List X)
+    → Each P xs → Each Q (map f xs)
 each-map P Q f k [] h = tt
 each-map P Q f k (x ∷ xs) h = (k x h.0, each-map P Q f k xs h.1)
 
@@ -22,14 +23,16 @@ each-same P Q k [] h = tt
 each-same P Q k (x ∷ xs) h = (k x h.0, each-same P Q k xs h.1)
 
 -- the same of a relation of two lists, where a fact of the elements of the first is known
-pub each2-map : {X Y : Type 0} (S : X → Type 0) (R T : X → Y → Type 0) (f : X → X) (g : Y → Y) → ((x : X) (y : Y) → S x → R x y → T (f x) (g y)) → (xs : List X) (ys : List Y) → Each S xs → Each2 R xs ys
+pub each2-map : {X Y : Type 0} (S : X → Type 0) (R T : X → Y → Type 0) (f : X → X) (g : Y → Y)
+    → ((x : X) (y : Y) → S x → R x y → T (f x) (g y)) → (xs : List X) (ys : List Y) → Each S xs → Each2 R xs ys
     → Each2 T (map f xs) (map g ys)
 each2-map S R T f g k [] [] s h = tt
 each2-map S R T f g k [] (y ∷ ys) s h = absurd h
 each2-map S R T f g k (x ∷ xs) [] s h = absurd h
 each2-map S R T f g k (x ∷ xs) (y ∷ ys) s h = (k x y s.0 h.0, each2-map S R T f g k xs ys s.1 h.1)
 
-pub each2-left : {X Y : Type 0} (R T : X → Y → Type 0) (f : X → X) → ((x : X) (y : Y) → R x y → T (f x) y) → (xs : List X) (ys : List Y) → Each2 R xs ys → Each2 T (map f xs) ys
+pub each2-left : {X Y : Type 0} (R T : X → Y → Type 0) (f : X → X) → ((x : X) (y : Y) → R x y → T (f x) y)
+    → (xs : List X) (ys : List Y) → Each2 R xs ys → Each2 T (map f xs) ys
 each2-left R T f k [] [] h = tt
 each2-left R T f k [] (y ∷ ys) h = absurd h
 each2-left R T f k (x ∷ xs) [] h = absurd h
@@ -48,7 +51,8 @@ pub record Leaves (a : ℕ) (stale : Staleness) (old new : Memory) : Type 0 wher
 pub leaves-all : (a : ℕ) (stale : Staleness) (m : Memory) → IsMemory m → Leaves a stale m m
 leaves-all a stale m legal = record { legal = legal; locks = λ name. refl; held = λ held. stays-same m held; chunks = λ target fresh h. h }
 
-pointer-left : (a : ℕ) (stale : Staleness) (old new : Memory) (slots : List (Option Held)) → Leaves a stale old new → (p : Option SlotReference) → PointerIsSound old slots p → PointerIsSound new slots (kept_pointer a stale p)
+pointer-left : (a : ℕ) (stale : Staleness) (old new : Memory) (slots : List (Option Held)) → Leaves a stale old new
+    → (p : Option SlotReference) → PointerIsSound old slots p → PointerIsSound new slots (kept_pointer a stale p)
 pointer-left a stale old new slots L None h = tt
 pointer-left a stale old new slots L (Some target) h = go (is_made_stale a stale target) refl
   where
@@ -67,7 +71,8 @@ sound-left base s a stale new S L = record {
   lends = S.lends;
   slots = slots-sound s.memory new s.slots (λ k held e. L.held held) S.slots;
   locks = λ name. L.locks name ∙ S.locks name;
-  pointers = each-map (PointerIsSound s.memory s.slots) (PointerIsSound new s.slots) (kept_pointer a stale) (pointer-left a stale s.memory new s.slots L) s.pointers S.pointers;
+  pointers = each-map (PointerIsSound s.memory s.slots) (PointerIsSound new s.slots) (kept_pointer a stale)
+      (pointer-left a stale s.memory new s.slots L) s.pointers S.pointers;
 }
 
 -- Pointers that the row still knows
@@ -76,12 +81,14 @@ nothing-stale : (a : ℕ) (p : Option SlotReference) (q : Option Pointer) → Po
 nothing-stale a None q h = h
 nothing-stale a (Some target) q h = h
 
-pub kept-nothing : (a : ℕ) (ps : List (Option SlotReference)) (qs : List (Option Pointer)) → Each2 PointerMeets ps qs → Each2 PointerMeets (kept_pointers a Nothing ps) qs
+pub kept-nothing : (a : ℕ) (ps : List (Option SlotReference)) (qs : List (Option Pointer)) → Each2 PointerMeets ps qs
+    → Each2 PointerMeets (kept_pointers a Nothing ps) qs
 kept-nothing a ps qs h = each2-left PointerMeets PointerMeets (kept_pointer a Nothing) (nothing-stale a) ps qs h
 
 -- where what the call makes stale is stale by the row
 pub pointer-kept : (a : ℕ) (stale : Staleness) (test : ℕ → Bool) (p : Option SlotReference) (q : Option Pointer)
-    → ((target : SlotReference) → p ≡ Some target → (r : Pointer) → q ≡ Some r → target.slot ≡ r.slot → test r.slot ≡ false → is_made_stale a stale target ≡ false)
+    → ((target : SlotReference) → p ≡ Some target → (r : Pointer) → q ≡ Some r → target.slot ≡ r.slot → test r.slot ≡ false
+    → is_made_stale a stale target ≡ false)
     → PointerMeets p q → PointerMeets (kept_pointer a stale p) (stale_where test q)
 pointer-kept a stale test p None k h = tt
 pointer-kept a stale test None (Some r) k h = absurd h

@@ -38,7 +38,8 @@ each2-trans P Q R k (x ∷ xs) (y ∷ ys) [] h j = absurd j
 each2-trans P Q R k (x ∷ xs) (y ∷ ys) (z ∷ zs) h j = (k x y z h.0 j.0, each2-trans P Q R k xs ys zs h.1 j.1)
 
 -- the same where the second relation is given from the last list to the second
-pub each2-trans_back : {X Y Z : Type 0} (P : Y → X → Type 0) (Q : Y → Z → Type 0) (R : X → Z → Type 0) → ((x : X) (y : Y) (z : Z) → P y x → Q y z → R x z)
+pub each2-trans_back : {X Y Z : Type 0} (P : Y → X → Type 0) (Q : Y → Z → Type 0) (R : X → Z → Type 0)
+    → ((x : X) (y : Y) (z : Z) → P y x → Q y z → R x z)
     → (xs : List X) (ys : List Y) (zs : List Z) → Each2 P ys xs → Each2 Q ys zs → Each2 R xs zs
 each2-trans_back P Q R k [] [] [] h j = tt
 each2-trans_back P Q R k [] [] (z ∷ zs) h j = absurd j

@@ -23,7 +23,8 @@ each-set P (y ∷ ys) zero x h new = (new, h.1)
 each-set P (y ∷ ys) (suc k) x h new = (h.0, each-set P ys k x h.1 new)
 
 -- what is borrowed, once a slot has another content of which the same is borrowed
-pub lent-set : (slots : List (Option Held)) (a : ℕ) (new : Option Held) → lent_in new ≡ lent_in (get_or slots a None) → lent (set slots a new) ≡ lent slots
+pub lent-set : (slots : List (Option Held)) (a : ℕ) (new : Option Held) → lent_in new ≡ lent_in (get_or slots a None)
+    → lent (set slots a new) ≡ lent slots
 lent-set [] a new e = refl
 lent-set (x ∷ xs) zero new e = ap (λ (o : Option Name). o ∷ lent xs) e
 lent-set (x ∷ xs) (suc a) new e = ap (λ (os : List (Option Name)). lent_in x ∷ os) (lent-set xs a new e)
@@ -60,7 +61,8 @@ pub leads-there : (m : Memory) (ref : Reference) → IsInChunk m ref → is_none
 leads-there m ref h = go (block_of m ref.name) refl
   where
     go : (o : Option Block) → block_of m ref.name ≡ o → is_none o ≡ false
-    go None e = absurd (let none : chunk_of (chunks_in None) ref.chunk ≡ Some h.bytes = subst (λ b. chunk_of (chunks_in b) ref.chunk ≡ Some h.bytes) e h.there in no-chunk ref.chunk h.bytes none)
+    go None e = absurd (let none : chunk_of (chunks_in None) ref.chunk ≡ Some h.bytes =
+        subst (λ b. chunk_of (chunks_in b) ref.chunk ≡ Some h.bytes) e h.there in no-chunk ref.chunk h.bytes none)
     go (Some b) e = refl
 
 -- A block that is locked once more into an empty slot, or made and locked
@@ -78,13 +80,20 @@ pub there-some : {X : Type 0} (o : Option X) → is_none o ≡ false → IsSome 
 there-some None h = absurd cc
 there-some (Some x) h = refl
 
-module _ (base : Base) (s : State) (a : ℕ) (locked : Held) (new : Memory) (S : Sound base s) (within : a < 4) (empty : slot s a ≡ None) (L : LocksInto base s locked new) where
-  pointer-locked : (p : Option SlotReference) → PointerIsSound s.memory s.slots p → PointerIsSound new (set s.slots a (Some locked)) (kept_pointer a Nothing p)
+module _ (base : Base) (s : State) (a : ℕ) (locked : Held) (new : Memory) (S : Sound base s) (within : a < 4)
+    (empty : slot s a ≡ None) (L : LocksInto base s locked new) where
+  pointer-locked : (p : Option SlotReference) → PointerIsSound s.memory s.slots p
+      → PointerIsSound new (set s.slots a (Some locked)) (kept_pointer a Nothing p)
   pointer-locked None k = tt
-  pointer-locked (Some target) k = (ap name_held (get_or-set_other s.slots a target.slot (Some locked) None apart) ∙ k.0, L.chunks target.reference k.1)
+  pointer-locked (Some target) k = (
+    ap name_held (get_or-set_other s.slots a target.slot (Some locked) None apart)
+        ∙ k.0,
+    L.chunks target.reference k.1,
+  )
     where
       apart : target.slot ≢ a
-      apart e = (let none : name_held (get_or s.slots target.slot None) ≡ None = rw e (ap name_held empty) in let both : None ≡ Some target.reference.name = sym none ∙ k.0 in absurd cc)
+      apart e = (let none : name_held (get_or s.slots target.slot None) ≡ None = rw e (ap name_held empty) in
+          let both : None ≡ Some target.reference.name = sym none ∙ k.0 in absurd cc)
 
   locks-locked : (name : Name) → locks_of new name ≡ base.locks name + holds (set s.slots a (Some locked)) name
   locks-locked name =
@@ -113,7 +122,8 @@ module _ (base : Base) (s : State) (a : ℕ) (locked : Held) (new : Memory) (S :
     lends = lent-set s.slots a (Some locked) (lent-none (Some locked) L.own ∙ sym (ap lent_in empty)) ∙ S.lends;
     slots = each-set (SlotIsSound new) s.slots a (Some locked) (slots-sound s.memory new s.slots (λ k held e. L.held held) S.slots) L.is;
     locks = locks-locked;
-    pointers = each-map (PointerIsSound s.memory s.slots) (PointerIsSound new (set s.slots a (Some locked))) (kept_pointer a Nothing) pointer-locked s.pointers S.pointers;
+    pointers = each-map (PointerIsSound s.memory s.slots) (PointerIsSound new (set s.slots a (Some locked)))
+        (kept_pointer a Nothing) pointer-locked s.pointers S.pointers;
   }
 
 -- A lock that is given back: the slot is empty, and what led through it is stale
@@ -125,12 +135,14 @@ pub record GivesBack (s : State) (name : Name) (new : Memory) : Type 0 where
   pub held : (held : Held) → Stays s.memory new held
   pub chunks : (ref : Reference) → IsInChunk s.memory ref → IsInChunk new ref
 
-module _ (base : Base) (s : State) (a : ℕ) (name : Name) (new : Memory) (S : Sound base s) (within : a < 4) (full : name_held (slot s a) ≡ Some name) (own : is_borrowed (slot s a) ≡ false) (U : GivesBack s name new) where
+module _ (base : Base) (s : State) (a : ℕ) (name : Name) (new : Memory) (S : Sound base s) (within : a < 4)
+    (full : name_held (slot s a) ≡ Some name) (own : is_borrowed (slot s a) ≡ false) (U : GivesBack s name new) where
   -- the block is locked, by this slot at least
   pub is-locked : 1 ≤ locks_of s.memory name
   is-locked = omega (arith, S.locks name, held-counts s.slots a name, holds-once-is name (get_or s.slots a None) full)
 
-  pointer-unlocked : (p : Option SlotReference) → PointerIsSound s.memory s.slots p → PointerIsSound new (set s.slots a None) (kept_pointer a (OfLock name) p)
+  pointer-unlocked : (p : Option SlotReference) → PointerIsSound s.memory s.slots p
+      → PointerIsSound new (set s.slots a None) (kept_pointer a (OfLock name) p)
   pointer-unlocked None k = tt
   pointer-unlocked (Some target) k = go (target.slot == a) refl
     where
@@ -144,7 +156,8 @@ module _ (base : Base) (s : State) (a : ℕ) (name : Name) (new : Memory) (S : S
       elim (names name other) [
         | inl is ↦ (
             let same = same_name-true name other is in
-            let one : holds_once other (get_or s.slots a None) ≡ 1 = subst (λ n. holds_once n (get_or s.slots a None) ≡ 1) same (holds-once-is name (get_or s.slots a None) full) in
+            let one : holds_once other (get_or s.slots a None) ≡ 1 = subst (λ n. holds_once n (get_or s.slots a None) ≡ 1) same
+            (holds-once-is name (get_or s.slots a None) full) in
             let lock = subst (λ n. locks_of new n ≡ locks_of s.memory n - 1) same U.once in
             omega (arith, less, one, lock, S.locks other)
             )
@@ -168,15 +181,18 @@ module _ (base : Base) (s : State) (a : ℕ) (name : Name) (new : Memory) (S : S
     lends = lent-set s.slots a None (sym (lent-none (slot s a) own)) ∙ S.lends;
     slots = each-set (SlotIsSound new) s.slots a None (slots-sound s.memory new s.slots (λ k held e. U.held held) S.slots) tt;
     locks = locks-unlocked;
-    pointers = each-map (PointerIsSound s.memory s.slots) (PointerIsSound new (set s.slots a None)) (kept_pointer a (OfLock name)) pointer-unlocked s.pointers S.pointers;
+    pointers = each-map (PointerIsSound s.memory s.slots) (PointerIsSound new (set s.slots a None))
+        (kept_pointer a (OfLock name)) pointer-unlocked s.pointers S.pointers;
   }
 
 -- A block that is freed is held by no slot
 
-module _ (base : Base) (s : State) (a : ℕ) (name : Name) (new : Memory) (S : Sound base s) (free : locks_of s.memory name ≡ 0) (legal : IsMemory new) (L : LeavesOthers (OneBlock name) s.memory new) (gone : locks_of new name ≡ 0) where
+module _ (base : Base) (s : State) (a : ℕ) (name : Name) (new : Memory) (S : Sound base s) (free : locks_of s.memory name ≡ 0)
+    (legal : IsMemory new) (L : LeavesOthers (OneBlock name) s.memory new) (gone : locks_of new name ≡ 0) where
   -- no slot holds it
   none-holds : (k : ℕ) → name_held (get_or s.slots k None) ≡ Some name → ⊥
-  none-holds k e = (let one = holds-once-is name (get_or s.slots k None) e in let most = held-counts s.slots k name in absurd (omega (arith, one, most, S.locks name, free)))
+  none-holds k e = (let one = holds-once-is name (get_or s.slots k None) e in let most = held-counts s.slots k name in
+      absurd (omega (arith, one, most, S.locks name, free)))
 
   -- so what slots hold stays what it was
   pub held-stay : HeldStay s.memory new s.slots
@@ -196,7 +212,8 @@ module _ (base : Base) (s : State) (a : ℕ) (name : Name) (new : Memory) (S : S
         let was = subst (λ n. locks_of s.memory n ≡ 0) same free in
         omega (arith, now, was, S.locks other)
         )
-    | inr ne ↦ ap locks_in (block_of-beside name s.memory new L other (λ e. let both : false ≡ true = sym ne ∙ same_name-is name other e in absurd cc)) ∙ S.locks other
+    | inr ne ↦ ap locks_in (block_of-beside name s.memory new L other (λ e. let both : false ≡ true = sym ne
+        ∙ same_name-is name other e in absurd cc)) ∙ S.locks other
   ]
 
   pub sound-freed : Sound base (record s { memory = new; pointers = kept_pointers a Nothing s.pointers })

@@ -55,14 +55,17 @@ names name other = go (same_name name other)
 
 -- Blocks under names
 
-owned-other : (m : Memory) (o q : Owner) (h k : ℕ) (b : Option Block) → (same_owner o q && h == k) ≡ false → owned_block (with_owned_block m o h b) q k ≡ owned_block m q k
+owned-other : (m : Memory) (o q : Owner) (h k : ℕ) (b : Option Block) → (same_owner o q && h == k) ≡ false
+    → owned_block (with_owned_block m o h b) q k ≡ owned_block m q k
 owned-other m Mem Mem h k b ne = entry-other None b m.blocks h k (λ e. eqb-false h k ne (sym e))
 owned-other m Mem Vm h k b ne = refl
 owned-other m Vm Mem h k b ne = refl
-owned-other m Vm Vm h k b ne = ap (option_map (λ (l : VmBlock). l.block)) (entry-other None (option_map (relisted (listed_at m h)) b) m.file.cur.blocks h k (λ e. eqb-false h k ne (sym e)))
+owned-other m Vm Vm h k b ne = ap (option_map (λ (l : VmBlock). l.block))
+    (entry-other None (option_map (relisted (listed_at m h)) b) m.file.cur.blocks h k (λ e. eqb-false h k ne (sym e)))
 
 -- a block under another name is as it was
-pub block_of-other : (m : Memory) (name other : Name) (b : Option Block) → same_name name other ≡ false → block_of (with_block m name b) other ≡ block_of m other
+pub block_of-other : (m : Memory) (name other : Name) (b : Option Block) → same_name name other ≡ false
+    → block_of (with_block m name b) other ≡ block_of m other
 block_of-other m name other b ne = owned-other m name.owner other.owner name.h other.h b ne
 
 chunks-locked : (n : ℕ) (b : Option Block) → chunks_in (option_map (locked_block n) b) ≡ chunks_in b
@@ -73,14 +76,16 @@ chunks-locked n (Some b) = refl
 pub chunks_at-locked : (m : Memory) (name other : Name) (n : ℕ) → chunks_at (with_locks m name n) other ≡ chunks_at m other
 chunks_at-locked m name other n = told-mapped chunks_in m (locked_block n) (chunks-locked n) name other
 
-pub chunks_at-other : (m : Memory) (name other : Name) (cs : List (Option (List ℕ))) → same_name name other ≡ false → chunks_at (with_chunks m name cs) other ≡ chunks_at m other
+pub chunks_at-other : (m : Memory) (name other : Name) (cs : List (Option (List ℕ))) → same_name name other ≡ false
+    → chunks_at (with_chunks m name cs) other ≡ chunks_at m other
 chunks_at-other m name other cs ne = ap chunks_in (block_of-other m name other (option_map (rechunked_block cs) (block_of m name)) ne)
 
 chunks-set : (cs : List (Option (List ℕ))) (b : Option Block) → is_none b ≡ false → chunks_in (option_map (rechunked_block cs) b) ≡ cs
 chunks-set cs None h = absurd cc
 chunks-set cs (Some b) h = refl
 
-pub chunks_at-same : (m : Memory) (name : Name) (cs : List (Option (List ℕ))) → is_none (block_of m name) ≡ false → chunks_at (with_chunks m name cs) name ≡ cs
+pub chunks_at-same : (m : Memory) (name : Name) (cs : List (Option (List ℕ))) → is_none (block_of m name) ≡ false
+    → chunks_at (with_chunks m name cs) name ≡ cs
 chunks_at-same m name cs there = ap chunks_in (block_of-mapped m (rechunked_block cs) name) ∙ chunks-set cs (block_of m name) there
 
 pub locks_of-other : (m : Memory) (name other : Name) (n : ℕ) → same_name name other ≡ false → locks_of (with_locks m name n) other ≡ locks_of m other
@@ -89,15 +94,18 @@ locks_of-other m name other n ne = ap locks_in (block_of-other m name other (opt
 -- The lowest free handle
 
 -- it names no block, and a block that is put there is there
-pub lowest-free : (m : Memory) (h : ℕ) (b : Option Block) → lowest_handle m Mem ≡ Some h → (block_of m (mem h) ≡ None) × (block_of (with_block m (mem h) b) (mem h) ≡ b)
+pub lowest-free : (m : Memory) (h : ℕ) (b : Option Block) → lowest_handle m Mem ≡ Some h → (block_of m (mem h) ≡ None)
+    × (block_of (with_block m (mem h) b) (mem h) ≡ b)
 lowest-free m h b e = go (position is_none m.blocks) refl e
   where
-    go : (o : Option ℕ) → position is_none m.blocks ≡ o → option_map suc o ≡ Some h → (block_of m (mem h) ≡ None) × (block_of (with_block m (mem h) b) (mem h) ≡ b)
+    go : (o : Option ℕ) → position is_none m.blocks ≡ o → option_map suc o ≡ Some h → (block_of m (mem h) ≡ None)
+        × (block_of (with_block m (mem h) b) (mem h) ≡ b)
     go None p e = absurd cc
     go (Some k) p e =
         let found = position-Some is_none m.blocks k None p in
         let is : suc k ≡ h = cc in
-        subst (λ n. (block_of m (mem n) ≡ None) × (block_of (with_block m (mem n) b) (mem n) ≡ b)) is (none-is (get_or m.blocks k None) found.1, get_or-set_same m.blocks k b None found.0)
+        subst (λ n. (block_of m (mem n) ≡ None) × (block_of (with_block m (mem n) b) (mem n) ≡ b)) is
+        (none-is (get_or m.blocks k None) found.1, get_or-set_same m.blocks k b None found.0)
 
 -- it is within the list, or 0
 pub lowest-within : {X : Type 0} (xs : List (Option X)) → unwrap_or (lowest_of xs) 0 ≤ length xs
@@ -135,7 +143,8 @@ chunk-short m name c bytes legal e =
     omega (arith, whole, same, cost-over (length bytes), fits)
 
 -- an entry, after another chunk of the same length was put into an entry
-set-found : (cs : List (Option (List ℕ))) (k j : ℕ) (new old bytes : List ℕ) → get_or cs k None ≡ Some old → length new ≡ length old → get_or cs j None ≡ Some bytes
+set-found : (cs : List (Option (List ℕ))) (k j : ℕ) (new old bytes : List ℕ) → get_or cs k None ≡ Some old
+    → length new ≡ length old → get_or cs j None ≡ Some bytes
     → (found : List ℕ) × (get_or (set cs k (Some new)) j None ≡ Some found) × (length found ≡ length bytes)
 set-found [] k j new old bytes e same there = absurd cc
 set-found (c ∷ cs) zero zero new old bytes e same there = (new, refl, same ∙ ap (λ (xs : List ℕ). length xs) (let s : old ≡ bytes = cc in s))
@@ -148,11 +157,16 @@ chunk-if true x y bytes found e f = f
 chunk-if false x y bytes found e f = absurd cc
 
 -- each chunk is there, and as long as it was, after another of the same length was put in place of one
-pub chunk-kept : (cs : List (Option (List ℕ))) (c d : ℕ) (new old bytes : List ℕ) → chunk_of cs c ≡ Some old → length new ≡ length old → chunk_of cs d ≡ Some bytes
+pub chunk-kept : (cs : List (Option (List ℕ))) (c d : ℕ) (new old bytes : List ℕ) → chunk_of cs c ≡ Some old
+    → length new ≡ length old → chunk_of cs d ≡ Some bytes
     → (found : List ℕ) × (chunk_of (with_bytes cs c new) d ≡ Some found) × (length found ≡ length bytes)
 chunk-kept cs c d new old bytes e same there =
-    let f = set-found cs (entry_of c) (entry_of d) new old bytes (chunk-entry-is cs c old e) same (chunk-entry-is cs d bytes there) in
-    (f.0, chunk-if (nat_le 16 d && (d % 2 == 0)) (get_or cs (entry_of d) None) (get_or (set cs (entry_of c) (Some new)) (entry_of d) None) bytes f.0 there f.1, f.2)
+    let f = set-found cs (entry_of c) (entry_of d) new old bytes (chunk-entry-is cs c old e) same (chunk-entry-is cs d bytes there) in (
+      f.0,
+      chunk-if (nat_le 16 d && (d % 2 == 0)) (get_or cs (entry_of d) None) (get_or (set cs (entry_of c) (Some new)) (entry_of d) None)
+          bytes f.0 there f.1,
+      f.2,
+    )
 
 -- where one is there, the other is
 pub some-of : {X : Type 0} (o q : Option X) → (is_none o ≡ false → is_none q ≡ false) → IsSome o → IsSome q

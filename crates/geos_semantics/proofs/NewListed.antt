@@ -43,7 +43,9 @@ module _ (m : Memory) (uid n : ℕ) where
 
   -- a block that is there is not the one that is made
   pub new-apart : (other : Name) → is_none (block_of m other) ≡ false → new_vm m ≡ other → ⊥
-  new-apart other there same = (let none : is_none (block_of m other) ≡ true = subst (λ name. is_none (block_of m name) ≡ true) same (ap is_none (new-free m)) in let both : false ≡ true = sym there ∙ none in absurd cc)
+  new-apart other there same =
+      (let none : is_none (block_of m other) ≡ true = subst (λ name. is_none (block_of m name) ≡ true) same (ap is_none (new-free m)) in
+      let both : false ≡ true = sym there ∙ none in absurd cc)
 
   -- what slots know stays so
   pub stays-new : (held : Held) → Stays m with_new held
@@ -63,7 +65,8 @@ module _ (m : Memory) (uid : ℕ) where
     where
       of : (o : Owner) (k : ℕ) → locks_in (owned_block (with_new m uid 0) o k) ≡ locks_in (owned_block m o k)
       of Mem k = refl
-      of Vm k = entry-told (λ e. locks_in (option_map block_in_file e)) m.file.cur.blocks (new_vm m).h k (Some (new_listed uid 0)) None (sym (ap locks_in (new-free m)))
+      of Vm k = entry-told (λ e. locks_in (option_map block_in_file e)) m.file.cur.blocks (new_vm m).h k
+          (Some (new_listed uid 0)) None (sym (ap locks_in (new-free m)))
 
   pub leaves-new : (a : ℕ) → IsMemory (with_new m uid 0) → Leaves a Nothing m (with_new m uid 0)
   leaves-new a legal = record {
@@ -71,6 +74,7 @@ module _ (m : Memory) (uid : ℕ) where
     locks = new-unlocked;
     held = stays-new m uid 0;
     chunks = λ target fresh h.
-        let same = block_of-beside (new_vm m) m (with_new m uid 0) (new-others m uid 0) target.reference.name (new-apart m uid 0 target.reference.name (leads-there m target.reference h)) in
+        let same = block_of-beside (new_vm m) m (with_new m uid 0) (new-others m uid 0) target.reference.name
+        (new-apart m uid 0 target.reference.name (leads-there m target.reference h)) in
         record { bytes = h.bytes; there = rw (ap chunks_in same) h.there; fits = h.fits };
   }

@@ -48,7 +48,8 @@ load-leaves : (width : Width) (ref : Reference) (at : ℕ) (choice : Choice) (m 
 load-leaves Byte ref at choice m = (refl, refl, λ r. refl)
 load-leaves Both ref at choice m = (refl, refl, λ r. refl)
 
-load-most : (width : Width) (ref : Reference) (at : ℕ) (choice : Choice) (m : Memory) → IsMemory m → (load width ref at choice m).answer ≤ most_in width
+load-most : (width : Width) (ref : Reference) (at : ℕ) (choice : Choice) (m : Memory) → IsMemory m
+    → (load width ref at choice m).answer ≤ most_in width
 load-most Byte ref at choice m legal = byte-most (named_bytes m ref) at (named_bytes-legal m ref legal)
 load-most Both ref at choice m legal = word-most (named_bytes m ref) at (named_bytes-legal m ref legal)
 
@@ -57,12 +58,18 @@ module _ (moment : Moment) where
 
   -- Reads and writes whose offset the verifier knows of
 
-  read-well : (width : Width) (at : ℕ) (choice : Choice) → Leads image s.routine G.routine (s.pc + 1) (with_bound G.point.instr.a (most_in width) G.point.row) (pays G.point.potential) → Well moment (reads width at choice G.point.instr s)
+  read-well : (width : Width) (at : ℕ) (choice : Choice) → Leads image s.routine G.routine (s.pc + 1)
+      (with_bound G.point.instr.a (most_in width) G.point.row) (pays G.point.potential) → Well moment (reads width at choice G.point.instr s)
   read-well width at choice L = go width L
     where
-      go : (width : Width) → Leads image s.routine G.routine (s.pc + 1) (with_bound G.point.instr.a (most_in width) G.point.row) (pays G.point.potential) → Well moment (reads width at choice G.point.instr s)
-      go Byte L = fine-goes moment _ (s.pc + 1) _ L (fine-word base s _ G.point.row G.point.instr.a _ 255 (fine-unchanged moment) (load-most Byte (reference_at s G.point.instr.b) at choice s.memory G.sound.memory) (omega (arith, load-most Byte (reference_at s G.point.instr.b) at choice s.memory G.sound.memory)))
-      go Both L = fine-goes moment _ (s.pc + 1) _ L (fine-word base s _ G.point.row G.point.instr.a _ 65535 (fine-unchanged moment) (load-most Both (reference_at s G.point.instr.b) at choice s.memory G.sound.memory) (load-most Both (reference_at s G.point.instr.b) at choice s.memory G.sound.memory))
+      go : (width : Width) → Leads image s.routine G.routine (s.pc + 1) (with_bound G.point.instr.a (most_in width) G.point.row)
+          (pays G.point.potential) → Well moment (reads width at choice G.point.instr s)
+      go Byte L = fine-goes moment _ (s.pc + 1) _ L (fine-word base s _ G.point.row G.point.instr.a _ 255
+          (fine-unchanged moment) (load-most Byte (reference_at s G.point.instr.b) at choice s.memory G.sound.memory)
+          (omega (arith, load-most Byte (reference_at s G.point.instr.b) at choice s.memory G.sound.memory)))
+      go Both L = fine-goes moment _ (s.pc + 1) _ L (fine-word base s _ G.point.row G.point.instr.a _ 65535
+          (fine-unchanged moment) (load-most Both (reference_at s G.point.instr.b) at choice s.memory G.sound.memory)
+          (load-most Both (reference_at s G.point.instr.b) at choice s.memory G.sound.memory))
 
   pub ldb-well : StepsWell moment op.Ldb
   ldb-well is choice = read-well Byte G.point.instr.imm choice (along_edge moment op.Ldb is refl)
@@ -78,10 +85,16 @@ module _ (moment : Moment) where
 
   -- the low bytes of a word go where a pointer leads
   stored-fine : (width : Width) (at : ℕ) → is_none (pointer s G.point.instr.b) ≡ false
-      → Fine base s (record s { memory = written s.memory (reference_at s G.point.instr.b) at (low_bytes width (word s G.point.instr.a)); pointers = kept_pointers G.point.instr.a Nothing s.pointers }) G.point.row
-  stored-fine width at fresh = fine-written moment (reference_at s G.point.instr.b) at (low_bytes width (word s G.point.instr.a)) (led-at base s G.point.instr.b G.sound fresh) (low-bytes width (word s G.point.instr.a))
+      → Fine base s (record s {
+        memory = written s.memory (reference_at s G.point.instr.b) at (low_bytes width (word s G.point.instr.a));
+        pointers =
+            kept_pointers G.point.instr.a Nothing s.pointers;
+      }) G.point.row
+  stored-fine width at fresh = fine-written moment (reference_at s G.point.instr.b) at (low_bytes width (word s G.point.instr.a))
+      (led-at base s G.point.instr.b G.sound fresh) (low-bytes width (word s G.point.instr.a))
 
-  write-well : (width : Width) (at : ℕ) (choice : Choice) → is_none (pointer s G.point.instr.b) ≡ false → Leads image s.routine G.routine (s.pc + 1) G.point.row (pays G.point.potential) → Well moment (writes width at choice G.point.instr s)
+  write-well : (width : Width) (at : ℕ) (choice : Choice) → is_none (pointer s G.point.instr.b) ≡ false
+      → Leads image s.routine G.routine (s.pc + 1) G.point.row (pays G.point.potential) → Well moment (writes width at choice G.point.instr s)
   write-well width at choice fresh L = fine-goes moment _ (s.pc + 1) G.point.row L (stored-fine width at fresh)
 
   pub stb-well : StepsWell moment op.Stb
@@ -98,12 +111,16 @@ module _ (moment : Moment) where
 
   -- Reads and writes whose offset is tested
 
-  tested-read-well : (width : Width) (choice : Choice) → Leads image s.routine G.routine (s.pc + 1) (with_bound G.point.instr.a (most_in width) G.point.row) (pays G.point.potential)
-      → Leads image s.routine G.routine G.point.instr.target (rows.refused G.point.instr NoSlot G.point.row) (pays G.point.potential) → Well moment (reads_within width (word s G.point.instr.c) choice G.point.instr s)
+  tested-read-well : (width : Width) (choice : Choice) → Leads image s.routine G.routine (s.pc + 1)
+      (with_bound G.point.instr.a (most_in width) G.point.row) (pays G.point.potential)
+      → Leads image s.routine G.routine G.point.instr.target (rows.refused G.point.instr NoSlot G.point.row) (pays G.point.potential)
+      → Well moment (reads_within width (word s G.point.instr.c) choice G.point.instr s)
   tested-read-well width choice L B =
       let ref = reference_at s G.point.instr.b in
       let at = word s G.point.instr.c in
-      telling-well moment NoSlot refl G.point.instr.a (most_in width) (most_in-le width) L B (within ref at width (load width ref at)) choice (load-leaves width ref at choice s.memory) (λ e. load-most width ref at choice s.memory G.sound.memory)
+      telling-well moment NoSlot refl G.point.instr.a (most_in width) (most_in-le width) L B
+      (within ref at width (load width ref at)) choice (load-leaves width ref at choice s.memory)
+      (λ e. load-most width ref at choice s.memory G.sound.memory)
 
   pub ldcb-well : StepsWell moment op.Ldcb
   ldcb-well is choice = tested-read-well Byte choice (along_edge moment op.Ldcb is refl) (branch_edge moment op.Ldcb is refl)
@@ -111,18 +128,23 @@ module _ (moment : Moment) where
   pub ldcw-well : StepsWell moment op.Ldcw
   ldcw-well is choice = tested-read-well Both choice (along_edge moment op.Ldcw is refl) (branch_edge moment op.Ldcw is refl)
 
-  tested-write-well : (width : Width) (choice : Choice) → is_none (pointer s G.point.instr.b) ≡ false → Leads image s.routine G.routine (s.pc + 1) G.point.row (pays G.point.potential)
-      → Leads image s.routine G.routine G.point.instr.target (rows.refused G.point.instr NoSlot G.point.row) (pays G.point.potential) → Well moment (writes_within width (word s G.point.instr.c) choice G.point.instr s)
+  tested-write-well : (width : Width) (choice : Choice) → is_none (pointer s G.point.instr.b) ≡ false
+      → Leads image s.routine G.routine (s.pc + 1) G.point.row (pays G.point.potential)
+      → Leads image s.routine G.routine G.point.instr.target (rows.refused G.point.instr NoSlot G.point.row) (pays G.point.potential)
+      → Well moment (writes_within width (word s G.point.instr.c) choice G.point.instr s)
   tested-write-well width choice fresh L B =
       let ref = reference_at s G.point.instr.b in
       let at = word s G.point.instr.c in
-      calls-well moment NoSlot G.point.row (within ref at width (store ref at (low_bytes width (word s G.point.instr.a)))) nowhere choice L B (λ r. fine-unchanged moment) (λ e. stored-fine width at fresh) refl
+      calls-well moment NoSlot G.point.row (within ref at width (store ref at (low_bytes width (word s G.point.instr.a))))
+      nowhere choice L B (λ r. fine-unchanged moment) (λ e. stored-fine width at fresh) refl
 
   pub stcb-well : StepsWell moment op.Stcb
-  stcb-well is choice = tested-write-well Byte choice (unfaulted-here moment op.Stcb is).fresh (along_edge moment op.Stcb is refl) (branch_edge moment op.Stcb is refl)
+  stcb-well is choice = tested-write-well Byte choice (unfaulted-here moment op.Stcb is).fresh (along_edge moment op.Stcb is refl)
+      (branch_edge moment op.Stcb is refl)
 
   pub stcw-well : StepsWell moment op.Stcw
-  stcw-well is choice = tested-write-well Both choice (unfaulted-here moment op.Stcw is).fresh (along_edge moment op.Stcw is refl) (branch_edge moment op.Stcw is refl)
+  stcw-well is choice = tested-write-well Both choice (unfaulted-here moment op.Stcw is).fresh (along_edge moment op.Stcw is refl)
+      (branch_edge moment op.Stcw is refl)
 
   -- Pointers as a whole
 
@@ -143,7 +165,8 @@ module _ (moment : Moment) where
         meets = record {
           words = G.meets.words;
           slots = G.meets.slots;
-          pointers = each2-set PointerMeets s.pointers G.point.row.pointers i.a (pointer s i.b) (pointer_at G.point.row i.b) G.meets.pointers (pointer-known s G.point.row i.b G.meets);
+          pointers = each2-set PointerMeets s.pointers G.point.row.pointers i.a (pointer s i.b) (pointer_at G.point.row i.b)
+              G.meets.pointers (pointer-known s G.point.row i.b G.meets);
           pairs = G.meets.pairs;
         };
         routine = refl;
@@ -158,10 +181,13 @@ module _ (moment : Moment) where
       let from = reference_at s i.b in
       let ws = take i.imm (named_bytes s.memory from) in
       fine-goes moment _ (s.pc + 1) G.point.row (along_edge moment op.Copy is refl)
-      (fine-written moment (reference_at s i.a) 0 ws (led-at base s i.a G.sound fresh) (All-take (λ b. b < 256) i.imm (named_bytes s.memory from) (named_bytes-legal s.memory from G.sound.memory)))
+      (fine-written moment (reference_at s i.a) 0 ws (led-at base s i.a G.sound fresh)
+      (All-take (λ b. b < 256) i.imm (named_bytes s.memory from) (named_bytes-legal s.memory from G.sound.memory)))
 
   pub plen-well : StepsWell moment op.Plen
   plen-well is choice =
       let i = G.point.instr in
       let led = led-at base s i.b G.sound (unfaulted-here moment op.Plen is).fresh in
-      fine-goes moment _ (s.pc + 1) _ (along_edge moment op.Plen is refl) (fine-word base s s G.point.row i.a (reference_at s i.b).len 65535 (fine-here moment) (led-most s.memory (reference_at s i.b) G.sound.memory led) (led-most s.memory (reference_at s i.b) G.sound.memory led))
+      fine-goes moment _ (s.pc + 1) _ (along_edge moment op.Plen is refl)
+      (fine-word base s s G.point.row i.a (reference_at s i.b).len 65535 (fine-here moment)
+      (led-most s.memory (reference_at s i.b) G.sound.memory led) (led-most s.memory (reference_at s i.b) G.sound.memory led))

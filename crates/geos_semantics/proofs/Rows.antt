@@ -58,10 +58,14 @@ meets-fits s r q M h =
     let b = and_parts (bounds && slots) pointers a.0 in
     let c = and_parts bounds slots b.0 in
     record {
-      words = each2-trans (λ n most. n ≤ most) (λ m n. nat_le m n ≡ true) (λ n most. n ≤ most) (λ x y z m e. let k = leb-true y z e in omega arith) s.words r.bounds q.bounds M.words (each2-from_test nat_le r.bounds q.bounds c.0);
-      slots = each2-trans (SlotMeets s.memory) (λ x y. slot_fits x y ≡ true) (SlotMeets s.memory) (slot-meets s.memory) s.slots r.slots q.slots M.slots (each2-from_test slot_fits r.slots q.slots c.1);
-      pointers = each2-trans PointerMeets (λ x y. pointer_fits x y ≡ true) PointerMeets pointer-meets s.pointers r.pointers q.pointers M.pointers (each2-from_test pointer_fits r.pointers q.pointers b.1);
-      pairs = each2-trans_back (λ y x. pair_fits y x ≡ true) (PairMeets s.slots) (PairMeets s.slots) (λ x y z p m e. m (pair-known y x p e)) q.pairs r.pairs slot_pairs (each2-from_test pair_fits r.pairs q.pairs a.1) M.pairs;
+      words = each2-trans (λ n most. n ≤ most) (λ m n. nat_le m n ≡ true) (λ n most. n ≤ most)
+          (λ x y z m e. let k = leb-true y z e in omega arith) s.words r.bounds q.bounds M.words (each2-from_test nat_le r.bounds q.bounds c.0);
+      slots = each2-trans (SlotMeets s.memory) (λ x y. slot_fits x y ≡ true) (SlotMeets s.memory) (slot-meets s.memory)
+          s.slots r.slots q.slots M.slots (each2-from_test slot_fits r.slots q.slots c.1);
+      pointers = each2-trans PointerMeets (λ x y. pointer_fits x y ≡ true) PointerMeets pointer-meets s.pointers
+          r.pointers q.pointers M.pointers (each2-from_test pointer_fits r.pointers q.pointers b.1);
+      pairs = each2-trans_back (λ y x. pair_fits y x ≡ true) (PairMeets s.slots) (PairMeets s.slots)
+          (λ x y z p m e. m (pair-known y x p e)) q.pairs r.pairs slot_pairs (each2-from_test pair_fits r.pairs q.pairs a.1) M.pairs;
     }
 
 -- a word that is written is within the bound that is
@@ -93,7 +97,8 @@ shift-bound x m n h = le-div (x / 2 ^ n) m (2 ^ n) (pow_pos n) (omega (arith, di
 -- a word that is found to be at most n
 pub meets-capped : (s : State) (r : Row) (a n : ℕ) → Meets s r → word s a ≤ n → Meets s (with_bound a (min (bound r a) n) r)
 meets-capped s r a n M le = record {
-  words = rw (← (set-get_or s.words a 0)) (each2-set (λ x y. x ≤ y) s.words r.bounds a (word s a) (min (bound r a) n) M.words (let k = word-bound s r a M in omega arith));
+  words = rw (← (set-get_or s.words a 0)) (each2-set (λ x y. x ≤ y) s.words r.bounds a (word s a) (min (bound r a) n)
+      M.words (let k = word-bound s r a M in omega arith));
   slots = M.slots;
   pointers = M.pointers;
   pairs = M.pairs;

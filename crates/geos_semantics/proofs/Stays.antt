@@ -49,13 +49,15 @@ kind-there m kind name h = some-there (block_of m name) (kind-some m kind name h
 
 -- The block is there, a group where it was one, and marked where it was
 
-pub kind-from : (old new : Memory) (kind : Kind) (name : Name) → (is_none (block_of old name) ≡ false → is_none (block_of new name) ≡ false) → is_group new name.h ≡ is_group old name.h
+pub kind-from : (old new : Memory) (kind : Kind) (name : Name) → (is_none (block_of old name) ≡ false → is_none (block_of new name) ≡ false)
+    → is_group new name.h ≡ is_group old name.h
     → IsOfKind old kind name → IsOfKind new kind name
 kind-from old new block.MemBlock name there group h = some-of (block_of old name) (block_of new name) there h
 kind-from old new block.VmBlock name there group h = (some-of (block_of old name) (block_of new name) there h.0, group ∙ h.1)
 kind-from old new block.DbGroup name there group h = (some-of (block_of old name) (block_of new name) there h.0, group ∙ h.1)
 
-mark-from : (old new : Memory) (o : Owner) (h : ℕ) → is_marked new h ≡ is_marked old h → is_unmarked_block old o h ≡ false → is_unmarked_block new o h ≡ false
+mark-from : (old new : Memory) (o : Owner) (h : ℕ) → is_marked new h ≡ is_marked old h → is_unmarked_block old o h ≡ false
+    → is_unmarked_block new o h ≡ false
 mark-from old new owner.Mem h same e = refl
 mark-from old new owner.Vm h same e = ap not same ∙ e
 
@@ -72,11 +74,13 @@ uid-changed : (f : Block → Block) (listed : Option VmBlock) → uid_in (option
 uid-changed f None = refl
 uid-changed f (Some l) = refl
 
-owned-groups : (m : Memory) (f : Block → Block) (o : Owner) (h k : ℕ) → is_group (with_owned_block m o h (option_map f (owned_block m o h))) k ≡ is_group m k
+owned-groups : (m : Memory) (f : Block → Block) (o : Owner) (h k : ℕ)
+    → is_group (with_owned_block m o h (option_map f (owned_block m o h))) k ≡ is_group m k
 owned-groups m f owner.Mem h k = refl
 owned-groups m f owner.Vm h k =
     ap (λ u. u == group_uid)
-    (entry-told uid_in m.file.cur.blocks h k (option_map (relisted (listed_at m h)) (option_map f (owned_block m owner.Vm h))) None (ap uid_in (relisted-changed f (listed_at m h)) ∙ uid-changed f (listed_at m h)))
+    (entry-told uid_in m.file.cur.blocks h k (option_map (relisted (listed_at m h)) (option_map f (owned_block m owner.Vm h))) None
+    (ap uid_in (relisted-changed f (listed_at m h)) ∙ uid-changed f (listed_at m h)))
 
 some-mapped : (f : Block → Block) (b : Option Block) → is_none (option_map f b) ≡ is_none b
 some-mapped f None = refl
@@ -86,7 +90,8 @@ some-mapped f (Some b) = refl
 pub stays-mapped : (m : Memory) (f : Block → Block) (name : Name) (held : Held) → Stays m (with_block m name (option_map f (block_of m name))) held
 stays-mapped m f name held =
     let new = with_block m name (option_map f (block_of m name)) in
-    stays-from m new held (λ there. told-mapped is_none m f (some-mapped f) name (name_of held) ∙ there) (owned-groups m f name.owner name.h held.handle) (marks-mapped m f name held.handle)
+    stays-from m new held (λ there. told-mapped is_none m f (some-mapped f) name (name_of held) ∙ there)
+    (owned-groups m f name.owner name.h held.handle) (marks-mapped m f name held.handle)
 
 -- What a device gives
 
@@ -100,16 +105,23 @@ is_group-given : (given : List (Option (List (Option (List ℕ))))) (m : Memory)
 is_group-given given m h =
     ap (λ u. u == group_uid)
     (uid-told (listed_at (given_memory given m) h) (listed_at m h)
-    (ap (option_map (λ (l : VmBlock). l.uid)) (listed-given given m.file.cur.blocks h) ∙ entry-told_given (λ (l : VmBlock). l.uid) (λ chunks listed. refl) (at_handle None given h) (at_handle None m.file.cur.blocks h)))
+    (ap (option_map (λ (l : VmBlock). l.uid)) (listed-given given m.file.cur.blocks h)
+    ∙ entry-told_given (λ (l : VmBlock). l.uid) (λ chunks listed. refl) (at_handle None given h) (at_handle None m.file.cur.blocks h)))
 
 pub stays-given : (given : List (Option (List (Option (List ℕ))))) (m : Memory) (held : Held) → Stays m (given_memory given m) held
 stays-given given m held =
-    stays-from m (given_memory given m) held (λ there. there-given given m (name_of held) ∙ there) (is_group-given given m held.handle) (is_marked-given given m held.handle)
+    stays-from m (given_memory given m) held (λ there. there-given given m (name_of held) ∙ there)
+    (is_group-given given m held.handle) (is_marked-given given m held.handle)
 
 -- Blocks beside the one that a call is on
 
 owned-others : (m : Memory) (o : Owner) (h : ℕ) (block : Option Block) → LeavesOthers (OneBlock (named o h)) m (with_owned_block m o h block)
-owned-others m owner.Mem h block = record { blocks = λ k out. entry-other None block m.blocks h k (λ e. out (ap mem (sym e))); listed = λ k out. refl; region = refl }
+owned-others m owner.Mem h block = record {
+  blocks = λ k out. entry-other None block m.blocks h k (λ e. out (ap mem (sym e)));
+  listed =
+      λ k out. refl;
+  region = refl;
+}
 owned-others m owner.Vm h block = record {
   blocks = λ k out. refl;
   listed = λ k out. entry-other None (option_map (relisted (listed_at m h)) block) m.file.cur.blocks h k (λ e. out (ap vm (sym e)));
@@ -132,7 +144,8 @@ module _ (name : Name) (old new : Memory) (L : LeavesOthers (OneBlock name) old 
   group-beside : (h : ℕ) → (name ≡ vm h → ⊥) → is_group new h ≡ is_group old h
   group-beside h out = ap (λ l. uid_in l == group_uid) (L.listed h out)
 
-  is-beside : (kind : Kind) (h : ℕ) → (name ≡ named (owner_of kind) h → ⊥) → IsOfKind old kind (named (owner_of kind) h) → IsOfKind new kind (named (owner_of kind) h)
+  is-beside : (kind : Kind) (h : ℕ) → (name ≡ named (owner_of kind) h → ⊥) → IsOfKind old kind (named (owner_of kind) h)
+      → IsOfKind new kind (named (owner_of kind) h)
   is-beside block.MemBlock h out k = subst (λ o. IsSome o) (sym (block_of-beside (mem h) out)) k
   is-beside block.VmBlock h out k = (subst (λ o. IsSome o) (sym (block_of-beside (vm h) out)) k.0, group-beside h out ∙ k.1)
   is-beside block.DbGroup h out k = (subst (λ o. IsSome o) (sym (block_of-beside (vm h) out)) k.0, group-beside h out ∙ k.1)
@@ -150,21 +163,25 @@ module _ (name : Name) (old new : Memory) (L : LeavesOthers (OneBlock name) old 
 abbrev pub HeldStay : Memory → Memory → List (Option Held) → Type 0
 HeldStay old new slots = (k : ℕ) (held : Held) → get_or slots k None ≡ Some held → Stays old new held
 
-pub slots-sound : (old new : Memory) (slots : List (Option Held)) → HeldStay old new slots → Each (SlotIsSound old) slots → Each (SlotIsSound new) slots
+pub slots-sound : (old new : Memory) (slots : List (Option Held)) → HeldStay old new slots → Each (SlotIsSound old) slots
+    → Each (SlotIsSound new) slots
 slots-sound old new [] stay h = tt
 slots-sound old new (None ∷ slots) stay h = (tt, slots-sound old new slots (λ k held e. stay (suc k) held e) h.1)
 slots-sound old new (Some held ∷ slots) stay h = ((stay 0 held refl).is h.0, slots-sound old new slots (λ k other e. stay (suc k) other e) h.1)
 
-slot-left : (old new : Memory) (o : Option Held) (x : SlotState) → ((held : Held) → o ≡ Some held → Stays old new held) → SlotMeets old o x → SlotMeets new o x
+slot-left : (old new : Memory) (o : Option Held) (x : SlotState) → ((held : Held) → o ≡ Some held → Stays old new held)
+    → SlotMeets old o x → SlotMeets new o x
 slot-left old new (Some held) (Vm marked borrowed) stay k = (k.0, k.1, λ is. (stay held refl).mark (k.2 is))
 slot-left old new (Some held) (Db marked) stay k = (k.0, k.1, λ is. (stay held refl).mark (k.2 is))
 slot-left old new _ _ stay k = k
 
-pub slots-left : (old new : Memory) (slots : List (Option Held)) (states : List SlotState) → HeldStay old new slots → Each2 (SlotMeets old) slots states → Each2 (SlotMeets new) slots states
+pub slots-left : (old new : Memory) (slots : List (Option Held)) (states : List SlotState) → HeldStay old new slots
+    → Each2 (SlotMeets old) slots states → Each2 (SlotMeets new) slots states
 slots-left old new [] [] stay h = tt
 slots-left old new [] (y ∷ ys) stay h = absurd h
 slots-left old new (x ∷ xs) [] stay h = absurd h
-slots-left old new (x ∷ xs) (y ∷ ys) stay h = (slot-left old new x y (λ held e. stay 0 held e) h.0, slots-left old new xs ys (λ k held e. stay (suc k) held e) h.1)
+slots-left old new (x ∷ xs) (y ∷ ys) stay h =
+    (slot-left old new x y (λ held e. stay 0 held e) h.0, slots-left old new xs ys (λ k held e. stay (suc k) held e) h.1)
 
 -- a block of a kind that is not borrowed is what a row says of a slot that holds one, of which no mark is known
 pub meets-held : (m : Memory) (held : Held) → held.borrowed ≡ false → SlotMeets m (Some held) (held_state held.kind false)

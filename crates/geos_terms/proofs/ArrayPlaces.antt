@@ -16,7 +16,8 @@ same-array bytes a b x y = let e : Some a ≡ Some b = sym x ∙ y in cc
 -- the first elements take no more than all
 pub join-le : (xs : List (List ℕ)) (i : ℕ) → length (join (take i xs)) ≤ length (join xs)
 join-le xs i =
-    let e = ap (λ ys. length (join ys)) (sym (take-append-drop i xs)) ∙ ap length (join-append (take i xs) (drop i xs)) ∙ length-append (join (take i xs)) (join (drop i xs)) in
+    let e = ap (λ ys. length (join ys)) (sym (take-append-drop i xs)) ∙ ap length (join-append (take i xs) (drop i xs))
+    ∙ length-append (join (take i xs)) (join (drop i xs)) in
     omega (arith, e)
 
 -- an element more takes its bytes more
@@ -31,7 +32,9 @@ first-least a = omega (arith, length-head a)
 -- elements lie behind the header, and in the bytes
 pub element-bounds : (bytes : List ℕ) (a : Array) (i : ℕ) → Reads bytes a → (8 ≤ element_at a i) × (element_at a i ≤ length bytes)
 element-bounds bytes a i r =
-    let e = element-at a i in let l = join-le a.elements i in let f = first-least a in
+    let e = element-at a i in
+    let l = join-le a.elements i in
+    let f = first-least a in
     let whole = ap length r.spells.rest in
     (omega (arith, e, f), omega (arith, e, l, whole, r.spells.fits, length-drop (first_at a) bytes))
 
@@ -46,17 +49,26 @@ drop-elements bytes a i r =
     ap (λ m. drop m bytes) (element-at a i) ∙ sym (drop-drop n (first_at a) bytes) ∙ ap (drop n) r.spells.rest ∙ drop-join a.elements i n refl
 
 -- the bytes of an element
-pub part-element : (bytes : List ℕ) (a : Array) (i : ℕ) → Reads bytes a → i < length a.elements → part bytes (element_at a i) (length (element a i)) ≡ element a i
+pub part-element : (bytes : List ℕ) (a : Array) (i : ℕ) → Reads bytes a → i < length a.elements
+    → part bytes (element_at a i) (length (element a i)) ≡ element a i
 part-element bytes a i r h =
     let rest = drop (i + 1) a.elements in
-    ap (take (length (element a i))) (drop-elements bytes a i r ∙ ap join (drop_more a.elements i [] h)) ∙ take_at (element a i) (join rest) (length (element a i)) refl
+    ap (take (length (element a i))) (drop-elements bytes a i r ∙ ap join (drop_more a.elements i [] h))
+    ∙ take_at (element a i) (join rest) (length (element a i)) refl
 
 -- what an array takes
 pub length-spelled : (a : Array) → length (spelled a) ≡ first_at a + length (join a.elements)
 unfolding spelled
-length-spelled a = omega (arith, length-head a, length-word_bytes (head_words a), length-append (flat_map word_bytes (head_words a)) (join a.elements))
+length-spelled a = omega (
+  arith,
+  length-head a,
+  length-word_bytes (head_words a),
+  length-append (flat_map word_bytes (head_words a))
+      (join a.elements),
+)
 
 -- elements stand in their order
 pub element-order : (a : Array) (i j : ℕ) → i ≤ j → element_at a i ≤ element_at a j
 element-order a i j h =
-    let same = ap (λ xs. length (join xs)) (take-take i j a.elements h) in omega (arith, element-at a i, element-at a j, join-le (take j a.elements) i, same)
+    let same = ap (λ xs. length (join xs)) (take-take i j a.elements h) in
+    omega (arith, element-at a i, element-at a j, join-le (take j a.elements) i, same)

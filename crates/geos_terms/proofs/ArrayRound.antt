@@ -15,14 +15,17 @@ use Rattle.geos_terms.proofs.ArrayReads.{reads, headed, varying-array, equal-arr
 all-size : (k : ℕ) (xs : List (List ℕ)) → All (λ x. length x ≡ k) xs → length (join xs) ≡ length xs * k
 all-size k [] h = omega arith
 all-size k (x ∷ xs) h =
-    let e = all-size k xs (λ i d l. h (suc i) d (omega arith)) in let first = h 0 [] (omega arith) in let m : suc (length xs) * k ≡ k + length xs * k = omega arith in
+    let e = all-size k xs (λ i d l. h (suc i) d (omega arith)) in
+    let first = h 0 [] (omega arith) in
+    let m : suc (length xs) * k ≡ k + length xs * k = omega arith in
     omega (arith, e, first, m, length-append x (join xs))
 
 equal-back : (k : ℕ) (xs : List (List ℕ)) → All (λ x. length x ≡ k) xs → equal_parts k (length xs) (join xs) ≡ xs
 equal-back k [] h = refl
 equal-back k (x ∷ xs) h =
     let first = h 0 [] (omega arith) in
-    ap (λ y. y ∷ equal_parts k (length xs) (drop k (x ++ join xs))) (take_at x (join xs) k first) ∙ ap (λ ys. x ∷ equal_parts k (length xs) ys) (drop_at x (join xs) k first)
+    ap (λ y. y ∷ equal_parts k (length xs) (drop k (x ++ join xs))) (take_at x (join xs) k first)
+    ∙ ap (λ ys. x ∷ equal_parts k (length xs) ys) (drop_at x (join xs) k first)
     ∙ ap (λ ys. x ∷ ys) (equal-back k xs (λ i d l. h (suc i) d (omega arith)))
 
 -- elements of varying sizes, by their offsets
@@ -33,13 +36,19 @@ record Back (bytes : List ℕ) (at : ℕ) (x : List ℕ) (xs : List (List ℕ)) 
 varying-back : (bytes : List ℕ) (at : ℕ) (x : List ℕ) (xs : List (List ℕ)) → drop at bytes ≡ join (x ∷ xs) → at ≤ length bytes → Back bytes at x xs
 varying-back bytes at x [] is fits = record { falls = le-leb at (length bytes) fits; parts = ap (λ ys. ys ∷ []) (is ∙ append-nil x) }
 varying-back bytes at x (y ∷ ys) is fits =
-    let next = at + length x in let rest = offsets (next + length y) ys in let long = ap length is in let la = length-append x (join (y ∷ ys)) in let ld = length-drop at bytes in
-    let behind : drop next bytes ≡ join (y ∷ ys) = sym (drop-drop (length x) at bytes) ∙ ap (drop (length x)) is ∙ drop_at x (join (y ∷ ys)) (length x) refl in
+    let next = at + length x in
+    let rest = offsets (next + length y) ys in
+    let long = ap length is in
+    let la = length-append x (join (y ∷ ys)) in
+    let ld = length-drop at bytes in
+    let behind : drop next bytes ≡ join (y ∷ ys) = sym (drop-drop (length x) at bytes) ∙ ap (drop (length x)) is
+    ∙ drop_at x (join (y ∷ ys)) (length x) refl in
     let b = varying-back bytes next y ys behind (omega (arith, long, la, ld)) in
     let width : next - at ≡ length x = omega arith in
     record {
       falls = and_from (nat_le at next) (never_fall next rest (length bytes)) (le-leb at next (omega arith)) b.falls;
-      parts = ap (λ n. part bytes at n ∷ parts_at bytes next rest) width ∙ ap (λ p. p ∷ parts_at bytes next rest) (ap (take (length x)) is ∙ take_at x (join (y ∷ ys)) (length x) refl)
+      parts = ap (λ n. part bytes at n ∷ parts_at bytes next rest) width ∙ ap (λ p. p ∷ parts_at bytes next rest)
+          (ap (take (length x)) is ∙ take_at x (join (y ∷ ys)) (length x) refl)
           ∙ ap (λ ps. x ∷ ps) b.parts;
     }
 
@@ -65,29 +74,41 @@ spelled-long a = omega (arith, length-head a, length-word_bytes (head_words a), 
 
 pub array-spelled : (a : Array) → (a.element_size ≢ 0 → All (λ x. length x ≡ a.element_size) a.elements) → arr (spelled a) ≡ Some a
 array-spelled a equal =
-    let b = spelled a in let n = length-head a in let long = spelled-long a in let rest = spelled-rest a in
-    let count : count_word b ≡ length a.elements = head-word a 0 (omega arith) in let size : size_word b ≡ a.element_size = head-word a 1 (omega arith) in
+    let b = spelled a in
+    let n = length-head a in
+    let long = spelled-long a in
+    let rest = spelled-rest a in
+    let count : count_word b ≡ length a.elements = head-word a 0 (omega arith) in
+    let size : size_word b ≡ a.element_size = head-word a 1 (omega arith) in
     let h = headed b (omega (arith, n, long)) (head-word a 2 (omega arith)) (head-word a 3 (omega arith)) in
     elim (cases_eq a.element_size 0) [
       | inl none ↦ (let first = first-varying a none in let t = table-varying a none in let m = length-offsets (first_at a) a.elements in
           let words : words_from b 8 (count_word b) ≡ offsets (first_at a) a.elements =
-          same_number_lists (words_from b 8 (count_word b)) (offsets (first_at a) a.elements) (length-words_from b 8 (count_word b) ∙ count ∙ sym m) (λ j l.
+          same_number_lists (words_from b 8 (count_word b)) (offsets (first_at a) a.elements)
+          (length-words_from b 8 (count_word b) ∙ count ∙ sym m) (λ j l.
           let j_in : j < length a.elements = omega (arith, l, length-words_from b 8 (count_word b), count) in
-          let at : 8 + 2 * j ≡ 2 * (4 + j) = omega arith in let lt = ap length t in
-          get_or-words_from b 8 (count_word b) j (omega (arith, count)) ∙ ap (word b) at ∙ head-word a (4 + j) (omega (arith, lt, m)) ∙ get_or-append-add (length a.elements ∷ a.element_size ∷ 0 ∷ 8 ∷ []) (table a) j 0
+          let at : 8 + 2 * j ≡ 2 * (4 + j) = omega arith in
+          let lt = ap length t in
+          get_or-words_from b 8 (count_word b) j (omega (arith, count)) ∙ ap (word b) at ∙ head-word a (4 + j) (omega (arith, lt, m))
+          ∙ get_or-append-add (length a.elements ∷ a.element_size ∷ 0 ∷ 8 ∷ []) (table a) j 0
           ∙ ap (λ xs. get_or xs j 0) t) in
           let back = offsets-back b (first_at a) a.elements rest (omega (arith, long)) in
           let top : 8 + 2 * count_word b ≡ first_at a = omega (arith, count, first) in
-          let holds : are_varying b ≡ true = ap (λ xs. are_offsets xs (8 + 2 * count_word b) (length b)) words ∙ ap (λ x. are_offsets (offsets (first_at a) a.elements) x (length b)) top ∙ back.0 in
+          let holds : are_varying b ≡ true = ap (λ xs. are_offsets xs (8 + 2 * count_word b) (length b)) words
+          ∙ ap (λ x. are_offsets (offsets (first_at a) a.elements) x (length b)) top ∙ back.0 in
           let elements : elements_in b ≡ a.elements = (let q = eq-eqb (size_word b) 0 (size ∙ none) in rw q (ap (parts_from b) words ∙ back.1)) in
-          varying-array b h (size ∙ none) holds ∙ ap (λ x. Some (record { element_size = x; elements = elements_in b })) size ∙ ap (λ x. Some (record { element_size = a.element_size; elements = x })) elements)
+          varying-array b h (size ∙ none) holds ∙ ap (λ x. Some (record { element_size = x; elements = elements_in b })) size
+          ∙ ap (λ x. Some (record { element_size = a.element_size; elements = x })) elements)
       | inr some ↦ (let first = first-fixed a some in let k = a.element_size in let wide = all-size k a.elements (equal some) in
           let same : length b ≡ 8 + length a.elements * k = omega (arith, long, first, wide) in
-          let holds : are_equal b ≡ true = eq-eqb (length b) (8 + count_word b * size_word b) (same ∙ ap (λ x. 8 + x * k) (sym count) ∙ ap (λ x. 8 + count_word b * x) (sym size)) in
+          let holds : are_equal b ≡ true = eq-eqb (length b) (8 + count_word b * size_word b)
+          (same ∙ ap (λ x. 8 + x * k) (sym count) ∙ ap (λ x. 8 + count_word b * x) (sym size)) in
           let ne : size_word b ≢ 0 = (λ e. some (sym size ∙ e)) in
           let elements : elements_in b ≡ a.elements = (let q = ne_eqb (size_word b) 0 ne in
-          rw q (ap (λ x. equal_parts x (count_word b) (drop 8 b)) size ∙ ap (λ x. equal_parts k x (drop 8 b)) count ∙ ap (equal_parts k (length a.elements)) (ap (λ x. drop x b) (sym first) ∙ rest) ∙ equal-back k a.elements (equal some))) in
-          equal-array b h ne holds ∙ ap (λ x. Some (record { element_size = x; elements = elements_in b })) size ∙ ap (λ x. Some (record { element_size = k; elements = x })) elements)
+          rw q (ap (λ x. equal_parts x (count_word b) (drop 8 b)) size ∙ ap (λ x. equal_parts k x (drop 8 b)) count
+          ∙ ap (equal_parts k (length a.elements)) (ap (λ x. drop x b) (sym first) ∙ rest) ∙ equal-back k a.elements (equal some))) in
+          equal-array b h ne holds ∙ ap (λ x. Some (record { element_size = x; elements = elements_in b })) size
+          ∙ ap (λ x. Some (record { element_size = k; elements = x })) elements)
     ]
 
 -- and the bytes of an array are those that it spells

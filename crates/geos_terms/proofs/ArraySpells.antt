@@ -67,7 +67,8 @@ head-cases a (suc (suc (suc (suc i)))) h = Offset i (omega arith) (omega arith)
 -- an offset of the table
 pub offset-at : (a : Array) (i : ℕ) → i < length (table a) → (a.element_size ≡ 0) × (i < length a.elements) × (get_or (table a) i 0 ≡ element_at a i)
 offset-at a i h = elim (cases_eq a.element_size 0) [
-  | inl e ↦ (let t = table-varying a e in let l = ap length t ∙ length-offsets (first_at a) a.elements in let small : i < length a.elements = omega (arith, l) in
+  | inl e ↦ (let t = table-varying a e in let l = ap length t ∙ length-offsets (first_at a) a.elements in
+      let small : i < length a.elements = omega (arith, l) in
       (e, small, ap (λ xs. get_or xs i 0) t ∙ get_or-offsets (first_at a) a.elements i small ∙ sym (element-at a i)))
   | inr ne ↦ absurd (let l = ap length (table-fixed a ne) in omega (arith, l))
 ]
@@ -84,6 +85,8 @@ spells bytes a s =
       | Zero e ↦ ap (λ k. word bytes (2 * k)) e ∙ s.zero ∙ ap (λ k. get_or (head_words a) k 0) (sym e)
       | Eight e ↦ ap (λ k. word bytes (2 * k)) e ∙ s.eight ∙ ap (λ k. get_or (head_words a) k 0) (sym e)
       | Offset i e l ↦ (let o = offset-at a i l in let at : 2 * j ≡ 8 + 2 * i = omega arith in
-          ap (λ k. word bytes k) at ∙ s.offsets o.0 i o.1 ∙ sym o.2 ∙ sym (get_or-append-add (length a.elements ∷ a.element_size ∷ 0 ∷ 8 ∷ []) (table a) i 0) ∙ ap (λ k. get_or (head_words a) k 0) (sym e))
+          ap (λ k. word bytes k) at ∙ s.offsets o.0 i o.1 ∙ sym o.2
+          ∙ sym (get_or-append-add (length a.elements ∷ a.element_size ∷ 0 ∷ 8 ∷ []) (table a) i 0) ∙ ap (λ k. get_or (head_words a) k 0) (sym e))
     ]) in
-    sym (take-append-drop (first_at a) bytes) ∙ ap (λ xs. xs ++ drop (first_at a) bytes) (ap (λ m. take m bytes) (sym n) ∙ head) ∙ ap (λ xs. flat_map word_bytes (head_words a) ++ xs) s.rest
+    sym (take-append-drop (first_at a) bytes) ∙ ap (λ xs. xs ++ drop (first_at a) bytes) (ap (λ m. take m bytes) (sym n) ∙ head)
+    ∙ ap (λ xs. flat_map word_bytes (head_words a) ++ xs) s.rest

@@ -22,26 +22,32 @@ module _ (cs : List (Option (List ℕ))) (c : ℕ) (bytes : List ℕ) (a : Array
   array-passes more =
       let known : is_none (chunk_of cs c) ≡ false = ap is_none there in
       let found : is_none (arr (bytes_of cs c)) ≡ false = ap (λ x. is_none (arr (unwrap_or x []))) there ∙ ap is_none is in
-      ap (λ t. first_refusal ((t, BadChunk) ∷ (is_none (arr (bytes_of cs c)), BadArray) ∷ more)) known ∙ ap (λ t. first_refusal ((t, BadArray) ∷ more)) found
+      ap (λ t. first_refusal ((t, BadChunk) ∷ (is_none (arr (bytes_of cs c)), BadArray) ∷ more)) known
+      ∙ ap (λ t. first_refusal ((t, BadArray) ∷ more)) found
 
   -- an index below the count is that of an element, and no other
   pub element-passes : (i : ℕ) → i < length a.elements → first_refusal (no_element cs c i) ≡ None
-  element-passes i h = array-passes (is_past cs c i ∷ []) ∙ ap (λ t. first_refusal ((t, BadElement) ∷ [])) (lt-leb (count_of cs c) i (omega (arith, count-of, h)))
+  element-passes i h = array-passes (is_past cs c i ∷ []) ∙ ap (λ t. first_refusal ((t, BadElement) ∷ []))
+      (lt-leb (count_of cs c) i (omega (arith, count-of, h)))
 
   -- where an element is put in, the count is an index too
   pub insert-passes : (i : ℕ) → i ≤ length a.elements → first_refusal (no_array cs c ++ ((nat_lt (count_of cs c) i, BadElement) ∷ [])) ≡ None
-  insert-passes i h = array-passes ((nat_lt (count_of cs c) i, BadElement) ∷ []) ∙ ap (λ t. first_refusal ((t, BadElement) ∷ [])) (le-ltb (count_of cs c) i (omega (arith, count-of, h)))
+  insert-passes i h = array-passes ((nat_lt (count_of cs c) i, BadElement) ∷ [])
+      ∙ ap (λ t. first_refusal ((t, BadElement) ∷ [])) (le-ltb (count_of cs c) i (omega (arith, count-of, h)))
 
   -- an element gets another size where sizes vary
   pub fixed-refused : (more : List (Bool × Refusal)) → a.element_size ≢ 0 → first_refusal (no_array cs c ++ (is_fixed cs c ∷ more)) ≡ Some BadArray
   fixed-refused more ne =
       let same : (array_of cs c).element_size ≡ a.element_size = ap (λ (x : Array). x.element_size) array-of in
-      array-passes (is_fixed cs c ∷ more) ∙ ap (λ t. first_refusal ((not t, BadArray) ∷ more)) (ne_eqb (array_of cs c).element_size 0 (λ e. ne (sym same ∙ e)))
+      array-passes (is_fixed cs c ∷ more) ∙ ap (λ t. first_refusal ((not t, BadArray) ∷ more))
+      (ne_eqb (array_of cs c).element_size 0 (λ e. ne (sym same ∙ e)))
 
   varying-passes : (more : List (Bool × Refusal)) → a.element_size ≡ 0 → first_refusal (no_array cs c ++ (is_fixed cs c ∷ more)) ≡ first_refusal more
   varying-passes more e =
       let same : (array_of cs c).element_size ≡ a.element_size = ap (λ (x : Array). x.element_size) array-of in
       array-passes (is_fixed cs c ∷ more) ∙ ap (λ t. first_refusal ((not t, BadArray) ∷ more)) (eq-eqb (array_of cs c).element_size 0 (same ∙ e))
 
-  pub resize-passes : (i : ℕ) → a.element_size ≡ 0 → i < length a.elements → first_refusal (no_array cs c ++ (is_fixed cs c ∷ is_past cs c i ∷ [])) ≡ None
-  resize-passes i e h = varying-passes (is_past cs c i ∷ []) e ∙ ap (λ t. first_refusal ((t, BadElement) ∷ [])) (lt-leb (count_of cs c) i (omega (arith, count-of, h)))
+  pub resize-passes : (i : ℕ) → a.element_size ≡ 0 → i < length a.elements
+      → first_refusal (no_array cs c ++ (is_fixed cs c ∷ is_past cs c i ∷ [])) ≡ None
+  resize-passes i e h = varying-passes (is_past cs c i ∷ []) e ∙ ap (λ t. first_refusal ((t, BadElement) ∷ []))
+      (lt-leb (count_of cs c) i (omega (arith, count-of, h)))

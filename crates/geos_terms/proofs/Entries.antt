@@ -66,7 +66,8 @@ place-nothing b e h = rw h refl
 pub place-none : (b : List ℕ) (e : ℕ) → e ≡ 0 → place_at b e ≡ None
 place-none b e h = rw h refl
 
-picks-place : (b : List ℕ) (c : ℕ) (x y : Option Place) → 16 ≤ c → c % 2 ≡ 0 → (c - 16) / 2 < entries b → x ≡ y → (if nat_le 16 c && (c % 2 == 0) && nat_lt (entry_of c) (entries b) then x else None) ≡ y
+picks-place : (b : List ℕ) (c : ℕ) (x y : Option Place) → 16 ≤ c → c % 2 ≡ 0 → (c - 16) / 2 < entries b → x ≡ y
+    → (if nat_le 16 c && (c % 2 == 0) && nat_lt (entry_of c) (entries b) then x else None) ≡ y
 picks-place b c x y low even known e = grind (arith, nat_tests)
 
 -- the place of a handle is that of its entry
@@ -74,9 +75,11 @@ pub place-in : (b : List ℕ) (c i : ℕ) → c ≡ handle_of i → i < entries 
 place-in b c i is known = picks-place b c _ _ (omega arith) (omega arith) (omega arith) (ap (λ x. place_at b (word b x)) is)
 
 -- an entry that is an offset lies in the block, behind the table, and its chunk too
-pub told-within : (b : List ℕ) (i : ℕ) → IsHeap b → i < entries b → IsOffset (entry b i) → (18 ≤ entry b i) × (2 ≤ word b (entry b i - 2)) × (entry b i + (word b (entry b i - 2) - 2) ≤ length b)
+pub told-within : (b : List ℕ) (i : ℕ) → IsHeap b → i < entries b → IsOffset (entry b i) → (18 ≤ entry b i)
+    × (2 ≤ word b (entry b i - 2)) × (entry b i + (word b (entry b i - 2) - 2) ≤ length b)
 told-within b i heap h t =
-    let l = told b i heap h t in let wide = cost-least l.n l.some in
+    let l = told b i heap h t in
+    let wide = cost-least l.n l.some in
     (omega (arith, l.from), omega (arith, l.says), omega (arith, l.says, l.upto, wide))
 
 -- the chunk of a handle is that of its entry

@@ -20,7 +20,19 @@ fresh_chunks = refl
 fresh_is_heap : IsHeap fresh
 unfolding word cost
 fresh_is_heap = (
-  record { table = refl; flags = refl; kind = refl; size = refl; least = lit≤ tt; most = lit≤ tt; sixteens = refl; pairs = refl; some = lit≤ tt; fits = lit≤ tt },
+  record {
+    table = refl;
+    flags = refl;
+    kind = refl;
+    size = refl;
+    least = lit≤ tt;
+    most = lit≤ tt;
+    sixteens =
+        refl;
+    pairs = refl;
+    some = lit≤ tt;
+    fits = lit≤ tt;
+  },
   (Free 44 ∷ [], record { tiles = (lit< tt, refl, refl, refl, (λ e. absurd (omega arith)), (refl, refl)); all = all; total = refl }),
 )
   where
@@ -31,7 +43,8 @@ fresh_is_heap = (
 
 -- 44 bytes are free; a chunk of 10 bytes is 16, and 32 are left; one of 30 is 18, and none is
 -- left
-fresh_bytes_left : (used_bytes (None ∷ None ∷ []) + 44 ≡ 64) × (used_bytes (with_new (None ∷ None ∷ []) 10) + 32 ≡ 64) × (used_bytes (with_new (with_new (None ∷ None ∷ []) 10) 30) + 0 ≡ 64)
+fresh_bytes_left : (used_bytes (None ∷ None ∷ []) + 44 ≡ 64) × (used_bytes (with_new (None ∷ None ∷ []) 10) + 32 ≡ 64)
+    × (used_bytes (with_new (with_new (None ∷ None ∷ []) 10) 30) + 0 ≡ 64)
 unfolding cost
 fresh_bytes_left = (refl, refl, refl)
 
@@ -40,7 +53,9 @@ fresh_handles = (refl, refl)
 
 -- a third chunk, of one byte, is 20 and makes the table larger: 80 bytes are needed, of which
 -- 8 are left
-third_chunk_needs : (need (with_new (with_new (with_new (None ∷ None ∷ []) 10) 30) 1) ≡ 80) × (used_bytes (with_new (with_new (with_new (None ∷ None ∷ []) 10) 30) 1) + 8 ≡ 80) × (new_handle (with_new (with_new (None ∷ None ∷ []) 10) 30) ≡ 20)
+third_chunk_needs : (need (with_new (with_new (with_new (None ∷ None ∷ []) 10) 30) 1) ≡ 80)
+    × (used_bytes (with_new (with_new (with_new (None ∷ None ∷ []) 10) 30) 1) + 8 ≡ 80)
+    × (new_handle (with_new (with_new (None ∷ None ∷ []) 10) 30) ≡ 20)
 unfolding cost
 third_chunk_needs = (refl, refl, refl)
 
@@ -52,25 +67,46 @@ largest_block = (refl, refl, refl)
 
 -- after two chunks of 10 bytes, the first of which is free again
 abbrev freed : List ℕ
-freed = ((1 ∷ 0 ∷ 16 ∷ 0 ∷ 0 ∷ 0 ∷ 0 ∷ 0 ∷ 64 ∷ 0 ∷ 2 ∷ 0 ∷ 20 ∷ 0 ∷ 32 ∷ 0 ∷ 0 ∷ 0 ∷ 34 ∷ 0 ∷ 12 ∷ 0 ∷ 44 ∷ 0 ∷ []) ++ replicate 8 0) ++ ((12 ∷ 0 ∷ []) ++ (7 ∷ []) ++ replicate 9 0 ++ (20 ∷ 0 ∷ 0 ∷ 0 ∷ []) ++ replicate 16 0)
+freed = ((1 ∷ 0 ∷ 16 ∷ 0 ∷ 0 ∷ 0 ∷ 0 ∷ 0 ∷ 64 ∷ 0 ∷ 2 ∷ 0 ∷ 20 ∷ 0 ∷ 32 ∷ 0 ∷ 0 ∷ 0 ∷ 34 ∷ 0 ∷ 12 ∷ 0 ∷ 44 ∷ 0 ∷ []) ++ replicate 8 0)
+    ++ ((12 ∷ 0 ∷ []) ++ (7 ∷ []) ++ replicate 9 0 ++ (20 ∷ 0 ∷ 0 ∷ 0 ∷ []) ++ replicate 16 0)
 
 freed_chunks : chunks freed ≡ None ∷ Some (7 ∷ replicate 9 0) ∷ []
 unfolding word
 freed_chunks = refl
 
-freed_places : (place_of freed 16 ≡ None) × (place_of freed 18 ≡ Some (record { at = 34; len = 10 })) × (place_of freed 17 ≡ None) × (place_of freed 20 ≡ None)
+freed_places : (place_of freed 16 ≡ None) × (place_of freed 18 ≡ Some (record { at = 34; len = 10 }))
+    × (place_of freed 17 ≡ None) × (place_of freed 20 ≡ None)
 unfolding word
 freed_places = (refl, refl, refl, refl)
 
 freed_is_heap : IsHeap freed
 unfolding word cost
 freed_is_heap = (
-  record { table = refl; flags = refl; kind = refl; size = refl; least = lit≤ tt; most = lit≤ tt; sixteens = refl; pairs = refl; some = lit≤ tt; fits = lit≤ tt },
+  record {
+    table = refl;
+    flags = refl;
+    kind = refl;
+    size = refl;
+    least = lit≤ tt;
+    most = lit≤ tt;
+    sixteens =
+        refl;
+    pairs = refl;
+    some = lit≤ tt;
+    fits = lit≤ tt;
+  },
   (Free 12 ∷ Used 1 10 ∷ Free 20 ∷ [], record { tiles = tiles; all = all; total = refl }),
 )
   where
     tiles : Tiles freed (table_end freed) (first_free freed) (Free 12 ∷ Used 1 10 ∷ Free 20 ∷ []) 64 0
-    tiles = (lit< tt, refl, refl, refl, (λ e. absurd (omega arith)), (lit< tt, lit< tt, refl, refl, (lit< tt, refl, refl, refl, (λ e. absurd (omega arith)), (refl, refl))))
+    tiles = (
+      lit< tt,
+      refl,
+      refl,
+      refl,
+      (λ e. absurd (omega arith)),
+      (lit< tt, lit< tt, refl, refl, (lit< tt, refl, refl, refl, (λ e. absurd (omega arith)), (refl, refl))),
+    )
 
     all : (i : ℕ) → i < 2 → IsOffset (entry freed i) → HasChunk i (Free 12 ∷ Used 1 10 ∷ Free 20 ∷ [])
     all zero h t = absurd (t.0 refl)

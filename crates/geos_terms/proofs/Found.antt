@@ -23,10 +23,47 @@ find b at f [] end next i s h = absurd h
 find b at f (Used j n ∷ ps) end next i s (inl e) =
     let is : entry b i ≡ at + 2 = ap (λ x. entry b x) e ∙ s.2 in
     let back : at ≡ entry b i - 2 = omega (arith, is) in
-    record { pre = []; n = n; post = ps; g = f; is = ap (λ x. Used x n ∷ ps) (sym e); some = s.0; low = omega (arith, is); before = (back, refl); size = ap (word b) (sym back) ∙ s.3; behind = subst (λ (x : ℕ). Tiles b (x + cost n) f ps end next) back s.4 }
+    record {
+      pre = [];
+      n = n;
+      post = ps;
+      g = f;
+      is = ap (λ x. Used x n ∷ ps) (sym e);
+      some = s.0;
+      low =
+          omega (arith, is);
+      before = (back, refl);
+      size = ap (word b) (sym back)
+          ∙ s.3;
+      behind = subst (λ (x : ℕ). Tiles b (x + cost n) f ps end next) back s.4;
+    }
 find b at f (Used j n ∷ ps) end next i s (inr h) =
     let r = find b (at + cost n) f ps end next i s.4 h in
-    record { pre = Used j n ∷ r.pre; n = r.n; post = r.post; g = r.g; is = ap (λ xs. Used j n ∷ xs) r.is; some = r.some; low = omega arith; before = (s.0, s.1, s.2, s.3, r.before); size = r.size; behind = r.behind }
+    record {
+      pre = Used j n ∷ r.pre;
+      n = r.n;
+      post = r.post;
+      g = r.g;
+      is = ap (λ xs. Used j n ∷ xs) r.is;
+      some =
+          r.some;
+      low = omega arith;
+      before = (s.0, s.1, s.2, s.3, r.before);
+      size = r.size;
+      behind = r.behind;
+    }
 find b at f (Free m ∷ ps) end next i s h =
     let r = find b (at + m) (word b (at + 2)) ps end next i s.5 h in
-    record { pre = Free m ∷ r.pre; n = r.n; post = r.post; g = r.g; is = ap (λ xs. Free m ∷ xs) r.is; some = r.some; low = omega arith; before = (s.0, s.1, s.2, s.3, s.4, r.before); size = r.size; behind = r.behind }
+    record {
+      pre = Free m ∷ r.pre;
+      n = r.n;
+      post = r.post;
+      g = r.g;
+      is = ap (λ xs. Free m ∷ xs) r.is;
+      some =
+          r.some;
+      low = omega arith;
+      before = (s.0, s.1, s.2, s.3, s.4, r.before);
+      size = r.size;
+      behind = r.behind;
+    }

@@ -53,9 +53,27 @@ pub first-piece : (b : List ℕ) (at f : ℕ) (ps : List Piece) (end : ℕ) → 
 first-piece b at f [] end st ne = absurd (ne st.1)
 first-piece b at f (Used i n ∷ ps) end st ne =
     let r = first-piece b (at + cost n) f ps end st.4 ne in
-    record { pre = Used i n ∷ r.pre; s = r.s; rest = r.rest; is = ap (λ xs. Used i n ∷ xs) r.is; used = r.used; before = (st.0, st.1, st.2, st.3, r.before); here = r.here }
+    record {
+      pre = Used i n ∷ r.pre;
+      s = r.s;
+      rest = r.rest;
+      is = ap (λ xs. Used i n ∷ xs) r.is;
+      used = r.used;
+      before =
+          (st.0, st.1, st.2, st.3, r.before);
+      here = r.here;
+    }
 first-piece b at f (Free m ∷ ps) end st ne =
-    record { pre = []; s = m; rest = ps; is = refl; used = tt; before = (sym st.2, refl); here = subst (λ (x : ℕ). Tiles b x f (Free m ∷ ps) end 0) (sym st.2) st }
+    record {
+      pre = [];
+      s = m;
+      rest = ps;
+      is = refl;
+      used = tt;
+      before = (sym st.2, refl);
+      here =
+          subst (λ (x : ℕ). Tiles b x f (Free m ∷ ps) end 0) (sym st.2) st;
+    }
 
 -- and it is within
 pub first-within : (b : List ℕ) (at f : ℕ) (ps : List Piece) (end : ℕ) → Tiles b at f ps end 0 → f ≤ end
@@ -72,7 +90,8 @@ none-free b at (Free m ∷ ps) end low st = absurd (omega (arith, st.2))
 -- the first free chunk lies in the block
 pub first-room : (b : List ℕ) (f : ℕ) → IsHeap b → f ≡ first_free b → f ≢ 0 → (table_end b ≤ f) × (4 ≤ word b f) × (f + word b f ≤ length b)
 first-room b f heap is ne =
-    let r = first-piece b (table_end b) f heap.1.0 (length b) (subst (λ (x : ℕ). Tiles b (table_end b) x heap.1.0 (length b) 0) (sym is) heap.1.1.tiles) ne in
+    let r = first-piece b (table_end b) f heap.1.0 (length b)
+    (subst (λ (x : ℕ). Tiles b (table_end b) x heap.1.0 (length b) 0) (sym is) heap.1.1.tiles) ne in
     let low = tiles-le b (table_end b) f r.pre f f r.before in
     let high = tiles-le b (f + r.s) (word b (f + 2)) r.rest (length b) 0 r.here.5 in
     let some : 4 ≤ r.s = omega (arith, r.here.0, r.here.1) in

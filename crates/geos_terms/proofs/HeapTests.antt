@@ -53,9 +53,18 @@ header-sound b h = record {
 
 pub header-complete : (b : List ℕ) → IsHeader b → is_header b ≡ true
 header-complete b h =
-    let t1 = h.table in let t2 = h.flags in let t3 = h.kind in let t4 = h.size in let t5 = h.least in
-    let t6 = h.most in let t7 = h.sixteens in let t8 = h.pairs in let t9 = h.some in let t10 = h.fits in
-    and-true _ _ (and-true _ _ (and-true _ _ (and-true _ _ (and-true _ _ (and-true _ _ (and-true _ _ (eq-eqb _ _ t1) (eq-eqb _ _ t2)) (eq-eqb _ _ t3)) (eq-eqb _ _ t4))
+    let t1 = h.table in
+    let t2 = h.flags in
+    let t3 = h.kind in
+    let t4 = h.size in
+    let t5 = h.least in
+    let t6 = h.most in
+    let t7 = h.sixteens in
+    let t8 = h.pairs in
+    let t9 = h.some in
+    let t10 = h.fits in
+    and-true _ _ (and-true _ _
+    (and-true _ _ (and-true _ _ (and-true _ _ (and-true _ _ (and-true _ _ (eq-eqb _ _ t1) (eq-eqb _ _ t2)) (eq-eqb _ _ t3)) (eq-eqb _ _ t4))
     (and-true _ _ (and-true _ _ (le-leb _ _ t5) (le-leb _ _ t6)) (eq-eqb _ _ t7))) (eq-eqb _ _ t8)) (le-leb _ _ t9)) (le-leb _ _ t10)
 
 -- the entry that is found holds the offset
@@ -63,7 +72,8 @@ entry-sound : (b : List ℕ) (e n i : ℕ) → entry_with b e n ≡ Some i → (
 entry-sound b e zero i h = cc
 entry-sound b e (suc n) i h = by (entry-sound b e n i) (eqb (entry b n) e) refl h
   where
-    by : (entry_with b e n ≡ Some i → (i < n) × (entry b i ≡ e)) → (t : Bool) → eqb (entry b n) e ≡ t → cond t (Some n) (entry_with b e n) ≡ Some i → (i < suc n) × (entry b i ≡ e)
+    by : (entry_with b e n ≡ Some i → (i < n) × (entry b i ≡ e)) → (t : Bool) → eqb (entry b n) e ≡ t
+        → cond t (Some n) (entry_with b e n) ≡ Some i → (i < suc n) × (entry b i ≡ e)
     by below true is h = let same : n ≡ i = cc in (omega arith, ap (entry b) (sym same) ∙ eqb-true _ _ is)
     by below false is h = let r = below h in (omega (arith, r.0), r.1)
 
@@ -83,18 +93,27 @@ entry-none b e (suc n) h i l q = by (λ g l'. entry-none b e n g i l' q) (eqb (e
 pub tiles-sound : (b : List ℕ) (at f : ℕ) (ps : List Piece) → are_tiles b at f ps ≡ true → Tiles b at f ps (length b) 0
 tiles-sound b at f [] h = let h1 = both _ _ h in (eqb-true _ _ h1.0, eqb-true _ _ h1.1)
 tiles-sound b at f (Used i n ∷ ps) h =
-    let h1 = both _ _ h in let h2 = both _ _ h1.0 in let h3 = both _ _ h2.0 in let h4 = both _ _ h3.0 in
+    let h1 = both _ _ h in
+    let h2 = both _ _ h1.0 in
+    let h3 = both _ _ h2.0 in
+    let h4 = both _ _ h3.0 in
     (ltb-true _ _ h4.0, ltb-true _ _ h4.1, eqb-true _ _ h3.1, eqb-true _ _ h2.1, tiles-sound b (at + cost n) f ps h1.1)
 tiles-sound b at f (Free s ∷ ps) h =
-    let h1 = both _ _ h in let h2 = both _ _ h1.0 in let h3 = both _ _ h2.0 in let h4 = both _ _ h3.0 in let h5 = both _ _ h4.0 in
+    let h1 = both _ _ h in
+    let h2 = both _ _ h1.0 in
+    let h3 = both _ _ h2.0 in
+    let h4 = both _ _ h3.0 in
+    let h5 = both _ _ h4.0 in
     (ltb-true _ _ h5.0, eqb-true _ _ h5.1, eqb-true _ _ h4.1, eqb-true _ _ h3.1, not-eqb _ _ h2.1, tiles-sound b (at + s) (word b (at + 2)) ps h1.1)
 
 pub tiles-complete : (b : List ℕ) (at f : ℕ) (ps : List Piece) → Tiles b at f ps (length b) 0 → are_tiles b at f ps ≡ true
 tiles-complete b at f [] s = and-true _ _ (eq-eqb _ _ s.0) (eq-eqb _ _ s.1)
 tiles-complete b at f (Used i n ∷ ps) s =
-    and-true _ _ (and-true _ _ (and-true _ _ (and-true _ _ (lt-ltb _ _ s.0) (lt-ltb _ _ s.1)) (eq-eqb _ _ s.2)) (eq-eqb _ _ s.3)) (tiles-complete b (at + cost n) f ps s.4)
+    and-true _ _ (and-true _ _ (and-true _ _ (and-true _ _ (lt-ltb _ _ s.0) (lt-ltb _ _ s.1)) (eq-eqb _ _ s.2)) (eq-eqb _ _ s.3))
+    (tiles-complete b (at + cost n) f ps s.4)
 tiles-complete b at f (Free m ∷ ps) s =
-    and-true _ _ (and-true _ _ (and-true _ _ (and-true _ _ (and-true _ _ (lt-ltb _ _ s.0) (eq-eqb _ _ s.1)) (eq-eqb _ _ s.2)) (eq-eqb _ _ s.3)) (ne-not _ _ s.4))
+    and-true _ _ (and-true _ _ (and-true _ _ (and-true _ _ (and-true _ _ (lt-ltb _ _ s.0) (eq-eqb _ _ s.1)) (eq-eqb _ _ s.2)) (eq-eqb _ _ s.3))
+    (ne-not _ _ s.4))
     (tiles-complete b (at + m) (word b (at + 2)) ps s.5)
 
 chunk-sound : (i : ℕ) (ps : List Piece) → has_chunk i ps ≡ true → HasChunk i ps
@@ -120,7 +139,8 @@ chunks-sound zero b ps h i l t = absurd (omega arith)
 chunks-sound (suc n) b ps h i l t =
     let h1 = both _ _ h in
     elim (cases_eq i n) [
-      | inl same ↦ (let T : ℕ → Type 0 = λ x. IsOffset (entry b x) in let H : ℕ → Type 0 = λ x. HasChunk x ps in subst H (sym same) (here (subst T same t) h1.0))
+      | inl same ↦ (let T : ℕ → Type 0 = λ x. IsOffset (entry b x) in let H : ℕ → Type 0 = λ x. HasChunk x ps in
+          subst H (sym same) (here (subst T same t) h1.0))
       | inr other ↦ chunks-sound n b ps h1.1 i (omega arith) t
     ]
   where
@@ -144,10 +164,12 @@ chunks-complete (suc n) b ps all = and-true _ _ here (chunks-complete n b ps (λ
     ]
 
 -- a step of the walk, where it is not at the end
-step : (k : ℕ) (b : List ℕ) (at : ℕ) (o : Option ℕ) → (at ≡ length b → ⊥) → entry_with b (at + 2) (entries b) ≡ o → pieces_from (suc k) b at ≡ piece_at b at o ∷ pieces_from k b (at + piece_size (piece_at b at o))
+step : (k : ℕ) (b : List ℕ) (at : ℕ) (o : Option ℕ) → (at ≡ length b → ⊥) → entry_with b (at + 2) (entries b) ≡ o
+    → pieces_from (suc k) b at ≡ piece_at b at o ∷ pieces_from k b (at + piece_size (piece_at b at o))
 step k b at o inside found =
     let p = piece_at b at (entry_with b (at + 2) (entries b)) in
-    let past : cond (eqb at (length b)) [] (p ∷ pieces_from k b (at + piece_size p)) ≡ p ∷ pieces_from k b (at + piece_size p) = ap (λ t. cond t [] (p ∷ pieces_from k b (at + piece_size p))) (ne_eqb _ _ inside) in
+    let past : cond (eqb at (length b)) [] (p ∷ pieces_from k b (at + piece_size p)) ≡ p ∷ pieces_from k b (at + piece_size p) =
+    ap (λ t. cond t [] (p ∷ pieces_from k b (at + piece_size p))) (ne_eqb _ _ inside) in
     past ∙ ap (λ x. piece_at b at x ∷ pieces_from k b (at + piece_size (piece_at b at x))) found
 
 -- what tiles a block is what the walk over it finds
@@ -157,10 +179,12 @@ walk zero b at f [] small far s all = refl
 walk (suc k) b at f [] small far s all =
     let p = piece_at b at (entry_with b (at + 2) (entries b)) in
     ap (λ t. cond t [] (p ∷ pieces_from k b (at + piece_size p))) (eq-eqb _ _ s.0)
-walk zero b at f (Used i n ∷ ps) small far s all = let le = tiles-le b (at + cost n) f ps (length b) 0 s.4 in let wide = cost-four n s.0 in absurd (omega (arith, le, wide))
+walk zero b at f (Used i n ∷ ps) small far s all = let le = tiles-le b (at + cost n) f ps (length b) 0 s.4 in
+    let wide = cost-four n s.0 in absurd (omega (arith, le, wide))
 walk zero b at f (Free m ∷ ps) small far s all = let le = tiles-le b (at + m) (word b (at + 2)) ps (length b) 0 s.5 in absurd (omega (arith, le, s.0))
 walk (suc k) b at f (Used i n ∷ ps) small far s all =
-    let le = tiles-le b (at + cost n) f ps (length b) 0 s.4 in let wide = cost-four n s.0 in
+    let le = tiles-le b (at + cost n) f ps (length b) 0 s.4 in
+    let wide = cost-four n s.0 in
     let inside : at ≡ length b → ⊥ = (λ e. omega (arith, le, wide)) in
     let size : word b at - 2 ≡ n = omega (arith, s.3) in
     let rest = walk k b (at + cost n) f ps small (omega (arith, wide)) s.4 (λ j l t low. elim (all j l t (omega arith)) [
@@ -175,7 +199,8 @@ walk (suc k) b at f (Used i n ∷ ps) small far s all =
     by None e = absurd (entry-none b (at + 2) (entries b) e i s.1 s.2)
     by (Some j) e =
         let r = entry-sound b (at + 2) (entries b) j e in
-        let le = tiles-le b (at + cost n) f ps (length b) 0 s.4 in let wide = cost-four n s.0 in
+        let le = tiles-le b (at + cost n) f ps (length b) 0 s.4 in
+        let wide = cost-four n s.0 in
         elim (all j r.0 ((λ z. omega (arith, r.1)), (λ z. omega (arith, r.1, le, wide))) (omega (arith, r.1))) [
           | inl same ↦ ap Some same
           | inr more ↦ (let l = lies b (at + cost n) f ps (length b) 0 j s.4 more in absurd (omega (arith, l.from, r.1, wide)))
@@ -193,7 +218,8 @@ walk (suc k) b at f (Free m ∷ ps) small far s all =
     by (Some j) e =
         let r = entry-sound b (at + 2) (entries b) j e in
         let le = tiles-le b (at + m) (word b (at + 2)) ps (length b) 0 s.5 in
-        let l = lies b (at + m) (word b (at + 2)) ps (length b) 0 j s.5 (all j r.0 ((λ z. omega (arith, r.1)), (λ z. omega (arith, r.1, le, s.0))) (omega (arith, r.1))) in
+        let l = lies b (at + m) (word b (at + 2)) ps (length b) 0 j s.5
+        (all j r.0 ((λ z. omega (arith, r.1)), (λ z. omega (arith, r.1, le, s.0))) (omega (arith, r.1))) in
         absurd (omega (arith, l.from, r.1, s.0))
 
 -- the test holds exactly of the bytes of a heap
@@ -201,12 +227,28 @@ pub heap-sound : (b : List ℕ) → is_heap b ≡ true → IsHeap b
 unfolding is_heap
 heap-sound b h =
     let ps = pieces_from (length b) b (table_end b) in
-    let h1 = both _ _ h in let h2 = both _ _ h1.0 in let h3 = both _ _ h2.0 in
-    (header-sound b h3.0, (ps, record { tiles = tiles-sound b (table_end b) (first_free b) ps h3.1; all = chunks-sound (entries b) b ps h2.1; total = eqb-true _ _ h1.1 }))
+    let h1 = both _ _ h in
+    let h2 = both _ _ h1.0 in
+    let h3 = both _ _ h2.0 in (
+      header-sound b h3.0,
+      (
+        ps,
+        record {
+          tiles = tiles-sound b (table_end b) (first_free b) ps h3.1;
+          all =
+              chunks-sound (entries b) b ps h2.1;
+          total = eqb-true _ _ h1.1;
+        },
+      ),
+    )
 
 pub heap-complete : (b : List ℕ) → IsHeap b → is_heap b ≡ true
 unfolding is_heap
 heap-complete b (header, (ps, t)) =
-    let same : pieces_from (length b) b (table_end b) ≡ ps = walk (length b) b (table_end b) (first_free b) ps header.most (omega arith) t.tiles (λ i l u low. t.all i l u) in
-    let P : List Piece → Type 0 = λ qs. (is_header b && are_tiles b (table_end b) (first_free b) qs && have_chunks (entries b) b qs && (eqb (total_free b) (free_bytes qs))) ≡ true in
-    subst P (sym same) (and-true _ _ (and-true _ _ (and-true _ _ (header-complete b header) (tiles-complete b (table_end b) (first_free b) ps t.tiles)) (chunks-complete (entries b) b ps t.all)) (eq-eqb _ _ t.total))
+    let same : pieces_from (length b) b (table_end b) ≡ ps = walk (length b) b (table_end b) (first_free b) ps header.most
+    (omega arith) t.tiles (λ i l u low. t.all i l u) in
+    let P : List Piece → Type 0 = λ qs. (is_header b && are_tiles b (table_end b) (first_free b) qs && have_chunks
+    (entries b) b qs && (eqb (total_free b) (free_bytes qs))) ≡ true in
+    subst P (sym same) (and-true _ _
+    (and-true _ _ (and-true _ _ (header-complete b header) (tiles-complete b (table_end b) (first_free b) ps t.tiles))
+    (chunks-complete (entries b) b ps t.all)) (eq-eqb _ _ t.total))

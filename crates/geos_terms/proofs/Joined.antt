@@ -34,7 +34,8 @@ unfolding word
 word-behind x y bs j k e =
     let low : get_or (x ∷ y ∷ bs) j 0 ≡ get_or bs k 0 = ap (λ m. get_or (x ∷ y ∷ bs) m 0) e ∙ get_or-append-add (x ∷ y ∷ []) bs k 0 in
     let next : j + 1 ≡ 2 + (k + 1) = omega arith in
-    let high : get_or (x ∷ y ∷ bs) (j + 1) 0 ≡ get_or bs (k + 1) 0 = ap (λ m. get_or (x ∷ y ∷ bs) m 0) next ∙ get_or-append-add (x ∷ y ∷ []) bs (k + 1) 0 in
+    let high : get_or (x ∷ y ∷ bs) (j + 1) 0 ≡ get_or bs (k + 1) 0 = ap (λ m. get_or (x ∷ y ∷ bs) m 0) next
+    ∙ get_or-append-add (x ∷ y ∷ []) bs (k + 1) 0 in
     omega (arith, low, high)
 
 word-first : (x y : ℕ) (bs : List ℕ) → word (x ∷ y ∷ bs) 0 ≡ x + 256 * y
@@ -45,10 +46,12 @@ word-first x y bs = refl
 pub word-word_bytes : (ws zs : List ℕ) (j : ℕ) → j < length ws → word (flat_map word_bytes ws ++ zs) (2 * j) ≡ get_or ws j 0
 word-word_bytes [] zs j h = absurd (omega arith)
 word-word_bytes (w ∷ ws) zs zero h = omega (arith, word-first (w % 256) (w / 256) (flat_map word_bytes ws ++ zs))
-word-word_bytes (w ∷ ws) zs (suc j) h = word-behind (w % 256) (w / 256) (flat_map word_bytes ws ++ zs) (2 * suc j) (2 * j) (omega arith) ∙ word-word_bytes ws zs j (omega arith)
+word-word_bytes (w ∷ ws) zs (suc j) h = word-behind (w % 256) (w / 256) (flat_map word_bytes ws ++ zs) (2 * suc j) (2 * j) (omega arith)
+    ∙ word-word_bytes ws zs j (omega arith)
 
 -- bytes whose words are these
-pub take-words : (bs ws : List ℕ) → ((k : ℕ) → get_or bs k 0 < 256) → 2 * length ws ≤ length bs → ((j : ℕ) → j < length ws → word bs (2 * j) ≡ get_or ws j 0) → take (2 * length ws) bs ≡ flat_map word_bytes ws
+pub take-words : (bs ws : List ℕ) → ((k : ℕ) → get_or bs k 0 < 256) → 2 * length ws ≤ length bs
+    → ((j : ℕ) → j < length ws → word bs (2 * j) ≡ get_or ws j 0) → take (2 * length ws) bs ≡ flat_map word_bytes ws
 take-words bs [] small fits are = refl
 take-words [] (w ∷ ws) small fits are = absurd (omega arith)
 take-words (x ∷ []) (w ∷ ws) small fits are = absurd (omega arith)
@@ -59,5 +62,7 @@ take-words (x ∷ (y ∷ bs)) (w ∷ ws) small fits are =
     let low : x ≡ w % 256 = omega arith in
     let high : y ≡ w / 256 = omega arith in
     let rest : take (2 * length ws) bs ≡ flat_map word_bytes ws =
-    take-words bs ws (λ k. small (suc (suc k))) (omega arith) (λ j h. sym (word-behind x y bs (2 * suc j) (2 * j) (omega arith)) ∙ are (suc j) (omega arith)) in
-    ap (λ n. take n (x ∷ y ∷ bs)) two ∙ ap (λ z. z ∷ y ∷ take (2 * length ws) bs) low ∙ ap (λ z. w % 256 ∷ z ∷ take (2 * length ws) bs) high ∙ ap (λ zs. w % 256 ∷ w / 256 ∷ zs) rest
+    take-words bs ws (λ k. small (suc (suc k))) (omega arith) (λ j h. sym (word-behind x y bs (2 * suc j) (2 * j) (omega arith))
+    ∙ are (suc j) (omega arith)) in
+    ap (λ n. take n (x ∷ y ∷ bs)) two ∙ ap (λ z. z ∷ y ∷ take (2 * length ws) bs) low ∙ ap (λ z. w % 256 ∷ z ∷ take (2 * length ws) bs) high
+    ∙ ap (λ zs. w % 256 ∷ w / 256 ∷ zs) rest

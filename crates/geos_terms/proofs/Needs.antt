@@ -17,7 +17,8 @@ pub need-sixteens : (cs : List (Option (List ℕ))) → need cs % 16 ≡ 0
 need-sixteens cs = omega arith
 
 -- an entry whose chunk takes less than the one before
-pub used-less : (cs : List (Option (List ℕ))) (i : ℕ) (x : Option (List ℕ)) → cost_of x ≤ cost_of (get_or cs i None) → used_bytes (set cs i x) ≤ used_bytes cs
+pub used-less : (cs : List (Option (List ℕ))) (i : ℕ) (x : Option (List ℕ)) → cost_of x ≤ cost_of (get_or cs i None)
+    → used_bytes (set cs i x) ≤ used_bytes cs
 used-less cs i x h = elim (cases_lt i (length cs)) [
   | inl l ↦ omega (arith, used-set cs i x l)
   | inr l ↦ (let s = ap used_bytes (set_past cs i x l) in omega (arith, s))
@@ -29,10 +30,12 @@ cost-if true None = omega (arith, cost-zero)
 cost-if true (Some bytes) = omega arith
 cost-if false x = omega (arith, cost-zero)
 
-pub need-with_bytes : (cs : List (Option (List ℕ))) (c : ℕ) (bytes : List ℕ) → length bytes ≤ length (bytes_of cs c) → need (with_bytes cs c bytes) ≤ need cs
+pub need-with_bytes : (cs : List (Option (List ℕ))) (c : ℕ) (bytes : List ℕ) → length bytes ≤ length (bytes_of cs c)
+    → need (with_bytes cs c bytes) ≤ need cs
 need-with_bytes cs c bytes h =
     let new = cost-mono (length bytes) (length (bytes_of cs c)) h in
-    sixteens-mono (used_bytes (with_bytes cs c bytes)) (used_bytes cs) (used-less cs (entry_of c) (Some bytes) (omega (arith, cost-if (nat_le 16 c && (c % 2 == 0)) (get_or cs (entry_of c) None), new)))
+    sixteens-mono (used_bytes (with_bytes cs c bytes)) (used_bytes cs)
+    (used-less cs (entry_of c) (Some bytes) (omega (arith, cost-if (nat_le 16 c && (c % 2 == 0)) (get_or cs (entry_of c) None), new)))
 
 pub need-without : (cs : List (Option (List ℕ))) (c : ℕ) → need (without cs c) ≤ need cs
 need-without cs c = sixteens-mono (used_bytes (without cs c)) (used_bytes cs) (used-less cs (entry_of c) None (omega arith))

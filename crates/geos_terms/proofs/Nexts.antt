@@ -23,7 +23,8 @@ no-chunk b h zero = elim (cases_lt h 16) [
 pub some-chunk : (b : List ℕ) (i h : ℕ) → i < entries b → entry b i ≢ 0 → h ≡ 16 + 2 * i → IsSome (chunk_of (chunks b) h)
 some-chunk b i h l ne is =
     let index : (h - 16) / 2 ≡ i = omega arith in
-    let at : chunk_of (chunks b) h ≡ chunk_at b (entry b i) = chunk-in b h (entry b i) (omega arith) (omega arith) (omega arith) (ap (word b) (sym is)) in
+    let at : chunk_of (chunks b) h ≡ chunk_at b (entry b i) = chunk-in b h (entry b i) (omega arith) (omega arith)
+    (omega arith) (ap (word b) (sym is)) in
     let S : Option (List ℕ) → Type 0 = λ o. IsSome o in
     elim (cases_eq (entry b i) 65535) [
       | inl d ↦ subst S (sym (at ∙ chunk-nothing b (entry b i) d)) refl

@@ -25,7 +25,8 @@ lies b at f (Used j n ∷ ps) end next i s (inl e) =
     let le = tiles-le b (at + cost n) f ps end next s.4 in
     let is : at + 2 ≡ entry b i = sym (ap (λ k. entry b k) e ∙ s.2) in
     let back : at + 2 - 2 ≡ at = omega arith in
-    subst (λ (x : ℕ). LiesWithin b x at end) is (record { n = n; some = s.0; from = omega arith; says = ap (word b) back ∙ s.3; upto = omega (arith, le) })
+    subst (λ (x : ℕ). LiesWithin b x at end) is
+    (record { n = n; some = s.0; from = omega arith; says = ap (word b) back ∙ s.3; upto = omega (arith, le) })
 lies b at f (Used j n ∷ ps) end next i s (inr h) =
     let l = lies b (at + cost n) f ps end next i s.4 h in
     record { n = l.n; some = l.some; from = omega (arith, l.from); says = l.says; upto = l.upto }
@@ -34,7 +35,8 @@ lies b at f (Free m ∷ ps) end next i s h =
     record { n = l.n; some = l.some; from = omega (arith, l.from); says = l.says; upto = l.upto }
 
 -- pieces in two runs
-pub tiles-split : (b : List ℕ) (at f : ℕ) (ps qs : List Piece) (end next : ℕ) → Tiles b at f (ps ++ qs) end next → (mid : ℕ) × ((g : ℕ) × (Tiles b at f ps mid g × Tiles b mid g qs end next))
+pub tiles-split : (b : List ℕ) (at f : ℕ) (ps qs : List Piece) (end next : ℕ) → Tiles b at f (ps ++ qs) end next
+    → (mid : ℕ) × ((g : ℕ) × (Tiles b at f ps mid g × Tiles b mid g qs end next))
 tiles-split b at f [] qs end next s = (at, (f, ((refl, refl), s)))
 tiles-split b at f (Used i n ∷ ps) qs end next s =
     let r = tiles-split b (at + cost n) f ps qs end next s.4 in
@@ -43,7 +45,8 @@ tiles-split b at f (Free m ∷ ps) qs end next s =
     let r = tiles-split b (at + m) (word b (at + 2)) ps qs end next s.5 in
     (r.0, (r.1.0, ((s.0, s.1, s.2, s.3, s.4, r.1.1.0), r.1.1.1)))
 
-pub tiles-join : (b : List ℕ) (at f : ℕ) (ps qs : List Piece) (mid g end next : ℕ) → Tiles b at f ps mid g → Tiles b mid g qs end next → Tiles b at f (ps ++ qs) end next
+pub tiles-join : (b : List ℕ) (at f : ℕ) (ps qs : List Piece) (mid g end next : ℕ) → Tiles b at f ps mid g
+    → Tiles b mid g qs end next → Tiles b at f (ps ++ qs) end next
 tiles-join b at f [] qs mid g end next s t = rw (s.0, s.1) t
 tiles-join b at f (Used i n ∷ ps) qs mid g end next s t = (s.0, s.1, s.2, s.3, tiles-join b (at + cost n) f ps qs mid g end next s.4 t)
 tiles-join b at f (Free m ∷ ps) qs mid g end next s t = (s.0, s.1, s.2, s.3, s.4, tiles-join b (at + m) (word b (at + 2)) ps qs mid g end next s.5 t)

@@ -47,7 +47,8 @@ place-entry b c p is = elim (handle-cases b c) [
 ]
 
 -- every place stays where the places of all entries do
-pub places-same : (b d : List ℕ) → entries d ≡ entries b → ((i : ℕ) → i < entries b → place_at d (entry d i) ≡ place_at b (entry b i)) → (c : ℕ) → place_of d c ≡ place_of b c
+pub places-same : (b d : List ℕ) → entries d ≡ entries b → ((i : ℕ) → i < entries b → place_at d (entry d i) ≡ place_at b (entry b i))
+    → (c : ℕ) → place_of d c ≡ place_of b c
 places-same b d n each c = elim (handle-cases b c) [
   | Known i h ↦ (place-in d c i h.is (omega (arith, n)) ∙ each i h.known ∙ sym (place-in b c i h.is h.known))
   | Unknown u ↦ elim (handle-cases d c) [
@@ -67,8 +68,10 @@ pub placed-length : (b : List ℕ) (p : Place) → p.at + p.len ≤ length b →
 placed-length b p h = omega (arith, length-take p.len (drop p.at b), length-drop p.at b)
 
 -- the length of an entry's chunk is that of its place
-pub entry-length : (b : List ℕ) (i : ℕ) (p : Place) → i < entries b → place_at b (entry b i) ≡ Some p → p.at + p.len ≤ length b → length (entry_bytes (chunks b) i) ≡ p.len
+pub entry-length : (b : List ℕ) (i : ℕ) (p : Place) → i < entries b → place_at b (entry b i) ≡ Some p → p.at + p.len ≤ length b
+    → length (entry_bytes (chunks b) i) ≡ p.len
 entry-length b i p h is fits = ap length (placed-bytes b i p h is) ∙ placed-length b p fits
 
-pub placed-cost : (b : List ℕ) (i : ℕ) (p : Place) → i < entries b → place_at b (entry b i) ≡ Some p → p.at + p.len ≤ length b → cost_of (get_or (chunks b) i None) ≡ cost p.len
+pub placed-cost : (b : List ℕ) (i : ℕ) (p : Place) → i < entries b → place_at b (entry b i) ≡ Some p → p.at + p.len ≤ length b
+    → cost_of (get_or (chunks b) i None) ≡ cost p.len
 placed-cost b i p h is fits = ap cost_of (placed-chunk b i p h is) ∙ ap cost (placed-length b p fits)

@@ -21,7 +21,8 @@ tot g (suc n) = tot g n + g n
 sum-tot : {A : Type 0} (w : A → ℕ) (f : ℕ → A) (n : ℕ) → sum_by w (map f (range_with_len 0 n)) ≡ tot (λ i. w (f i)) n
 unfolding tot
 sum-tot w f zero = refl
-sum-tot w f (suc n) = let e : suc n ≡ n + 1 = omega arith in ap (λ m. sum_by w (map f (range_with_len 0 m))) e ∙ (sum_by-map-range_with_len_more w f 0 n n (omega arith) ∙ ap (λ x. x + w (f n)) (sum-tot w f n))
+sum-tot w f (suc n) = let e : suc n ≡ n + 1 = omega arith in ap (λ m. sum_by w (map f (range_with_len 0 m))) e
+    ∙ (sum_by-map-range_with_len_more w f 0 n n (omega arith) ∙ ap (λ x. x + w (f n)) (sum-tot w f n))
 
 tot-ext : (g h : ℕ → ℕ) (n : ℕ) → ((k : ℕ) → k < n → g k ≡ h k) → tot g n ≡ tot h n
 unfolding tot
@@ -42,7 +43,8 @@ unfolding tot
 tot-without g zero i h = absurd (omega arith)
 tot-without g (suc n) i h = elim (cases_eq n i) [
   | inl e ↦ (let a : tot g n ≡ tot (without i g) n = tot-ext g (without i g) n (λ k l. sym (without-other i k g (λ q. absurd (omega arith)))) in
-      let z : without i g n ≡ 0 = without-same i n g e in let s : g n ≡ g i = ap g e in omega (arith, a, z, s))
+      let z : without i g n ≡ 0 = without-same i n g e in
+      let s : g n ≡ g i = ap g e in omega (arith, a, z, s))
   | inr ne ↦ (let a = tot-without g n i (omega arith) in let z : without i g n ≡ g n = without-other i n g ne in omega (arith, a, z))
 ]
 
@@ -59,7 +61,13 @@ Gives g n (Free s ∷ ps) = Gives g n ps
 
 gives-without : (g : ℕ → ℕ) (n j : ℕ) (ps : List Piece) → Gives g n ps → (HasChunk j ps → ⊥) → Gives (without j g) n ps
 gives-without g n j [] h out = tt
-gives-without g n j (Used i m ∷ ps) h out = (h.0, without-other j i g (λ e. out (inl (sym e))) ∙ h.1, h.2, gives-without g n j ps h.3 (λ x. out (inr x)))
+gives-without g n j (Used i m ∷ ps) h out = (
+  h.0,
+  without-other j i g (λ e. out (inl (sym e)))
+      ∙ h.1,
+  h.2,
+  gives-without g n j ps h.3 (λ x. out (inr x)),
+)
 gives-without g n j (Free s ∷ ps) h out = gives-without g n j ps h out
 
 all-zero : (g : ℕ → ℕ) (m : ℕ) → ((j : ℕ) → j < m → g j ≡ 0) → tot g m ≡ 0
@@ -88,7 +96,8 @@ span b at f (Free m ∷ ps) end next s = omega (arith, span b (at + m) (word b (
 abbrev cost_at : List ℕ → ℕ → ℕ
 cost_at b i = cost_of (chunk_at b (entry b i))
 
-cost-told : (b : List ℕ) (i at n : ℕ) → entry b i ≡ at + 2 → word b at ≡ n + 2 → at + 2 + n ≤ length b → length b ≤ 65520 → 0 < n → cost_at b i ≡ cost n
+cost-told : (b : List ℕ) (i at n : ℕ) → entry b i ≡ at + 2 → word b at ≡ n + 2 → at + 2 + n ≤ length b → length b ≤ 65520
+    → 0 < n → cost_at b i ≡ cost n
 cost-told b i at n is says fits most some =
     let tells : IsOffset (at + 2) = ((λ e. absurd (omega arith)), (λ e. absurd (omega arith))) in
     let back : at + 2 - 2 ≡ at = omega arith in
@@ -96,11 +105,13 @@ cost-told b i at n is says fits most some =
     let long : length (part b (at + 2) n) ≡ n = omega (arith, length-take n (drop (at + 2) b), length-drop (at + 2) b) in
     ap (λ x. cost_of (chunk_at b x)) is ∙ ap cost_of (chunk-told b (at + 2) tells) ∙ ap (λ x. cost (length (part b (at + 2) x))) m ∙ ap cost long
 
-gives-stands : (b : List ℕ) (at f : ℕ) (ps : List Piece) (end next : ℕ) → Tiles b at f ps end next → end ≤ length b → length b ≤ 65520 → Gives (cost_at b) (entries b) ps
+gives-stands : (b : List ℕ) (at f : ℕ) (ps : List Piece) (end next : ℕ) → Tiles b at f ps end next → end ≤ length b
+    → length b ≤ 65520 → Gives (cost_at b) (entries b) ps
 gives-stands b at f [] end next s l most = tt
 gives-stands b at f (Free m ∷ ps) end next s l most = gives-stands b (at + m) (word b (at + 2)) ps end next s.5 l most
 gives-stands b at f (Used i n ∷ ps) end next s l most =
-    let wide = cost-least n s.0 in let le = tiles-le b (at + cost n) f ps end next s.4 in (
+    let wide = cost-least n s.0 in
+    let le = tiles-le b (at + cost n) f ps end next s.4 in (
       s.1,
       cost-told b i at n s.2 s.3 (omega arith) most s.0,
       (λ h. absurd (omega (arith, (lies b (at + cost n) f ps end next i s.4 h).from, s.2, wide, s.0))),

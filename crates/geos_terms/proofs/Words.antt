@@ -23,13 +23,15 @@ get_or-with_part_behind (b ∷ bs) zero (w ∷ ws) (suc k) h = get_or-with_part_
 get_or-with_part_behind (b ∷ bs) (suc at) ws zero h = absurd (omega arith)
 get_or-with_part_behind (b ∷ bs) (suc at) ws (suc k) h = get_or-with_part_behind bs at ws k (omega arith)
 
-pub get_or-with_part_within : (bs : List ℕ) (at : ℕ) (ws : List ℕ) (j k : ℕ) → j ≡ at + k → k < length ws → j < length bs → get_or (with_part bs at ws) j 0 ≡ get_or ws k 0
+pub get_or-with_part_within : (bs : List ℕ) (at : ℕ) (ws : List ℕ) (j k : ℕ) → j ≡ at + k → k < length ws → j < length bs
+    → get_or (with_part bs at ws) j 0 ≡ get_or ws k 0
 get_or-with_part_within [] at ws j k e h l = absurd (omega arith)
 get_or-with_part_within (b ∷ bs) zero [] j k e h l = absurd (omega arith)
 get_or-with_part_within (b ∷ bs) zero (w ∷ ws) zero zero e h l = refl
 get_or-with_part_within (b ∷ bs) zero (w ∷ ws) zero (suc k) e h l = absurd (omega arith)
 get_or-with_part_within (b ∷ bs) zero (w ∷ ws) (suc j) zero e h l = absurd (omega arith)
-get_or-with_part_within (b ∷ bs) zero (w ∷ ws) (suc j) (suc k) e h l = get_or-with_part_within bs zero ws j k (omega arith) (omega arith) (omega arith)
+get_or-with_part_within (b ∷ bs) zero (w ∷ ws) (suc j) (suc k) e h l = get_or-with_part_within bs zero ws j k
+    (omega arith) (omega arith) (omega arith)
 get_or-with_part_within (b ∷ bs) (suc at) ws zero k e h l = absurd (omega arith)
 get_or-with_part_within (b ∷ bs) (suc at) ws (suc j) k e h l = get_or-with_part_within bs at ws j k (omega arith) h (omega arith)
 
@@ -37,8 +39,10 @@ get_or-with_part_within (b ∷ bs) (suc at) ws (suc j) k e h l = get_or-with_par
 pub word-same : (bs : List ℕ) (at w : ℕ) → w < 65536 → at + 2 ≤ length bs → word (with_word bs at w) at ≡ w
 unfolding word with_word
 word-same bs at w small h =
-    let low : get_or (with_part bs at (word_bytes w)) at 0 ≡ w % 256 = get_or-with_part_within bs at (word_bytes w) at 0 (omega arith) (omega arith) (omega arith) in
-    let high : get_or (with_part bs at (word_bytes w)) (at + 1) 0 ≡ w / 256 = get_or-with_part_within bs at (word_bytes w) (at + 1) 1 refl (omega arith) (omega arith) in
+    let low : get_or (with_part bs at (word_bytes w)) at 0 ≡ w % 256 = get_or-with_part_within bs at (word_bytes w) at 0
+    (omega arith) (omega arith) (omega arith) in
+    let high : get_or (with_part bs at (word_bytes w)) (at + 1) 0 ≡ w / 256 = get_or-with_part_within bs at (word_bytes w)
+    (at + 1) 1 refl (omega arith) (omega arith) in
     omega (arith, low, high)
 
 -- a word that lies apart from a written part
@@ -78,7 +82,8 @@ word-words_before bs at [] j h = refl
 word-words_before bs at (w ∷ ws) j h = word-words_before (with_word bs at w) (at + 2) ws j (omega arith) ∙ word-other bs at w j (inl h)
 
 -- the words that were written
-pub words-written : (bs : List ℕ) (at : ℕ) (ws : List ℕ) → at + 2 * length ws ≤ length bs → ((k : ℕ) → get_or ws k 0 < 65536) → AreWords (with_words bs at ws) at ws
+pub words-written : (bs : List ℕ) (at : ℕ) (ws : List ℕ) → at + 2 * length ws ≤ length bs → ((k : ℕ) → get_or ws k 0 < 65536)
+    → AreWords (with_words bs at ws) at ws
 words-written bs at [] h small = tt
 words-written bs at (w ∷ ws) h small =
     let fits : at + 2 ≤ length bs = omega arith in
@@ -94,23 +99,29 @@ byte-other b at w k (inl h) = get_or-with_part_before b at (word_bytes w) k h
 byte-other b at w k (inr h) = get_or-with_part_behind b at (word_bytes w) k h
 
 -- words are their two bytes
-pub word-bytes : (old new : List ℕ) (j k : ℕ) → get_or new j 0 ≡ get_or old k 0 → get_or new (j + 1) 0 ≡ get_or old (k + 1) 0 → word new j ≡ word old k
+pub word-bytes : (old new : List ℕ) (j k : ℕ) → get_or new j 0 ≡ get_or old k 0 → get_or new (j + 1) 0 ≡ get_or old (k + 1) 0
+    → word new j ≡ word old k
 unfolding word
 word-bytes old new j k low high = omega (arith, low, high)
 
 -- a word that was shifted
-pub word-shifted : (b c : List ℕ) (down up lo hi j k : ℕ) → IsShifted b c down up lo hi → j + down ≡ k + up → lo ≤ k → k + 2 ≤ hi → word c j ≡ word b k
-word-shifted b c down up lo hi j k shifted e low high = word-bytes b c j k (shifted j k e low (omega arith)) (shifted (j + 1) (k + 1) (omega arith) (omega arith) (omega arith))
+pub word-shifted : (b c : List ℕ) (down up lo hi j k : ℕ) → IsShifted b c down up lo hi → j + down ≡ k + up → lo ≤ k
+    → k + 2 ≤ hi → word c j ≡ word b k
+word-shifted b c down up lo hi j k shifted e low high = word-bytes b c j k (shifted j k e low (omega arith))
+    (shifted (j + 1) (k + 1) (omega arith) (omega arith) (omega arith))
 
 -- a part that was shifted
-pub part-shifted : (b c : List ℕ) (down up lo hi j k n : ℕ) → IsShifted b c down up lo hi → j + down ≡ k + up → lo ≤ k → k + n ≤ hi → k + n ≤ length b → j + n ≤ length c → part c j n ≡ part b k n
+pub part-shifted : (b c : List ℕ) (down up lo hi j k n : ℕ) → IsShifted b c down up lo hi → j + down ≡ k + up → lo ≤ k
+    → k + n ≤ hi → k + n ≤ length b → j + n ≤ length c → part c j n ≡ part b k n
 part-shifted b c down up lo hi j k n shifted e low high fits_b fits_c =
-    let same_length : length (part c j n) ≡ length (part b k n) = omega (arith, length-take n (drop j c), length-drop j c, length-take n (drop k b), length-drop k b) in
+    let same_length : length (part c j n) ≡ length (part b k n) =
+    omega (arith, length-take n (drop j c), length-drop j c, length-take n (drop k b), length-drop k b) in
     same_lists _ _ same_length (λ q d l.
     let small : q < n = omega (arith, length-take n (drop j c), length-drop j c) in
     let in_c : j + q < length c = omega arith in
     let in_b : k + q < length b = omega arith in
-    get_or-take n (drop j c) q d small ∙ get_or-drop j c q d ∙ get_or_default c (j + q) d 0 in_c ∙ shifted (j + q) (k + q) (omega arith) (omega arith) (omega arith)
+    get_or-take n (drop j c) q d small ∙ get_or-drop j c q d ∙ get_or_default c (j + q) d 0 in_c
+    ∙ shifted (j + q) (k + q) (omega arith) (omega arith) (omega arith)
     ∙ sym (get_or_default b (k + q) d 0 in_b) ∙ sym (get_or-drop k b q d) ∙ sym (get_or-take n (drop k b) q d small))
 
 -- part of what was shifted
@@ -119,13 +130,16 @@ shifted-within b c down up lo hi lo' hi' shifted low high j k e g r = shifted j 
 
 -- the bytes outside a written part stay
 pub kept-before : (b : List ℕ) (at : ℕ) (ws : List ℕ) (lo hi : ℕ) → hi ≤ at → IsShifted b (with_part b at ws) 0 0 lo hi
-kept-before b at ws lo hi h j k e g r = let same : j ≡ k = omega arith in ap (λ x. get_or (with_part b at ws) x 0) same ∙ get_or-with_part_before b at ws k (omega arith)
+kept-before b at ws lo hi h j k e g r = let same : j ≡ k = omega arith in ap (λ x. get_or (with_part b at ws) x 0) same
+    ∙ get_or-with_part_before b at ws k (omega arith)
 
 pub kept-behind : (b : List ℕ) (at : ℕ) (ws : List ℕ) (lo hi : ℕ) → at + length ws ≤ lo → IsShifted b (with_part b at ws) 0 0 lo hi
-kept-behind b at ws lo hi h j k e g r = let same : j ≡ k = omega arith in ap (λ x. get_or (with_part b at ws) x 0) same ∙ get_or-with_part_behind b at ws k (omega arith)
+kept-behind b at ws lo hi h j k e g r = let same : j ≡ k = omega arith in ap (λ x. get_or (with_part b at ws) x 0) same
+    ∙ get_or-with_part_behind b at ws k (omega arith)
 
 -- bytes that moved are those from before
-pub part-moved : (b d : List ℕ) (from to n : ℕ) → from + n ≤ length b → to + n ≤ length b → d ≡ with_part b to (part b from n) → IsShifted b d from to from (from + n)
+pub part-moved : (b d : List ℕ) (from to n : ℕ) → from + n ≤ length b → to + n ≤ length b → d ≡ with_part b to (part b from n)
+    → IsShifted b d from to from (from + n)
 part-moved b d from to n source target made j k e low high =
     let ws = part b from n in
     let long : length ws ≡ n = omega (arith, length-take n (drop from b), length-drop from b) in

@@ -72,7 +72,8 @@ is_array bytes = has_header bytes && (if size_word bytes == 0 then are_varying b
 
 -- the elements of an array
 abbrev pub elements_in : List ℕ → List (List ℕ)
-elements_in bytes = if size_word bytes == 0 then parts_from bytes (offset_words bytes) else equal_parts (size_word bytes) (count_word bytes) (drop 8 bytes)
+elements_in bytes = if size_word bytes == 0 then parts_from bytes (offset_words bytes) else equal_parts (size_word bytes)
+    (count_word bytes) (drop 8 bytes)
 
 -- the array that bytes spell, or none
 unfoldable pub arr : List ℕ → Option Array

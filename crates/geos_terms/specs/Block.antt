@@ -42,7 +42,8 @@ pub record Place : Type 0 where
 -- where an entry's chunk stands: 0 is no chunk, 0xFFFF a chunk of no byte, else the entry is
 -- the offset of the first byte, behind the size word
 abbrev pub place_at : List ℕ → ℕ → Option Place
-place_at block e = if e == 0 then None else (if e == 65535 then Some (record { at = 0; len = 0 }) else Some (record { at = e; len = word block (e - 2) - 2 }))
+place_at block e = if e == 0 then None else (if e == 65535 then Some (record { at = 0; len = 0 }) else Some
+    (record { at = e; len = word block (e - 2) - 2 }))
 
 -- the bytes of a place
 abbrev pub bytes_at : List ℕ → Place → List ℕ

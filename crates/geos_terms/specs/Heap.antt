@@ -18,7 +18,8 @@ Tiles block at free [] end next = (at ≡ end) × (free ≡ next)
 Tiles block at free (Used i n ∷ rest) end next =
     (0 < n) × (i < entries block) × (entry block i ≡ at + 2) × (word block at ≡ n + 2) × Tiles block (at + cost n) free rest end next
 Tiles block at free (Free s ∷ rest) end next =
-    (0 < s) × (s % 4 ≡ 0) × (free ≡ at) × (word block at ≡ s) × (word block (at + 2) ≢ at + s) × Tiles block (at + s) (word block (at + 2)) rest end next
+    (0 < s) × (s % 4 ≡ 0) × (free ≡ at) × (word block at ≡ s) × (word block (at + 2) ≢ at + s)
+    × Tiles block (at + s) (word block (at + 2)) rest end next
 
 -- the chunk of an entry is among the pieces
 abbrev pub HasChunk : ℕ → List Piece → Type 0

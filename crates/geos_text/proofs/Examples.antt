@@ -39,4 +39,15 @@ pub record Numbers : Type 0 where
   pub malformed : number_up_to 15 (codes "99x") ≡ Err Malformed
 
 numbers_computed : Numbers
-numbers_computed = record { zeros = refl; greatest = refl; over = refl; none = refl; plus = refl; hex = refl; large = refl; within = refl; malformed = refl }
+numbers_computed = record {
+  zeros = refl;
+  greatest = refl;
+  over = refl;
+  none = refl;
+  plus = refl;
+  hex = refl;
+  large =
+      refl;
+  within = refl;
+  malformed = refl;
+}

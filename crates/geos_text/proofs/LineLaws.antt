@@ -15,7 +15,8 @@ chosen n k false e le = grind arith
 
 -- the first place at which a test passes, or the length, in the words of `position`
 pub position_or_else : {X : Type 0} (p : X → Bool) (xs : List X) → unwrap_or (position p xs) (length xs) ≡ position_or_len p xs
-position_or_else p xs = chosen (length xs) (position_or_len p xs) (nat_lt (position_or_len p xs) (length xs)) refl (prefix_len-le-length (λ x. not (p x)) xs)
+position_or_else p xs = chosen (length xs) (position_or_len p xs) (nat_lt (position_or_len p xs) (length xs))
+    refl (prefix_len-le-length (λ x. not (p x)) xs)
 
 -- the same, in the words of `memchr`
 pub first_byte_or_else : (p : ℕ → Bool) (xs : List ℕ) (r : Option ℕ) → IsFirstByte p xs r → unwrap_or r (length xs) ≡ position_or_len p xs
@@ -26,7 +27,8 @@ first_byte_or_else p xs (Some k) found =
     sym (position_or_len_is p xs k 0 (omega (arith, first.high)) (λ j lt. false_from_ne_true _ (first.before j (omega arith) lt)) (λ lt. found.1))
 
 -- a part with others behind it loses its carriage return
-parts-first : (line : List ℕ) (parts : List (List ℕ)) → 0 < length parts → lines_of_parts (line ∷ parts) ≡ strip_carriage_return line ∷ lines_of_parts parts
+parts-first : (line : List ℕ) (parts : List (List ℕ)) → 0 < length parts
+    → lines_of_parts (line ∷ parts) ≡ strip_carriage_return line ∷ lines_of_parts parts
 parts-first line [] some = absurd (omega (arith, some))
 parts-first line (part ∷ parts) some = refl
 

@@ -32,11 +32,13 @@ within-over : (greatest n : ℕ) (digits : List ℕ) → greatest < n → if_wit
 within-over greatest n digits over = grind (arith, value-grows n digits)
 
 -- numbers above the greatest one are all alike
-number_after-over : (greatest n m : ℕ) (digits : List ℕ) → greatest < n → greatest < m → number_after greatest n digits ≡ number_after greatest m digits
+number_after-over : (greatest n m : ℕ) (digits : List ℕ) → greatest < n → greatest < m
+    → number_after greatest n digits ≡ number_after greatest m digits
 number_after-over greatest n m digits over past =
     rw (within-over greatest n digits over, within-over greatest m digits past) refl
 
-cut-by : (greatest n cut : ℕ) (digits : List ℕ) (within : Bool) → nat_le n greatest ≡ within → (n ≤ greatest → cut ≡ n) → (greatest < n → greatest < cut)
+cut-by : (greatest n cut : ℕ) (digits : List ℕ) (within : Bool) → nat_le n greatest ≡ within → (n ≤ greatest → cut ≡ n)
+    → (greatest < n → greatest < cut)
     → number_after greatest n digits ≡ number_after greatest cut digits
 cut-by greatest n cut digits true e same past =
     let le : n ≤ greatest = grind arith in

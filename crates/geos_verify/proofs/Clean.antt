@@ -56,7 +56,8 @@ stay-set slots a state held k h =
       | inr other ↦ ap is_empty (get_or-set_other slots a k state Empty (λ e. other (sym e))) ∙ h
     ]
   where
-    at-k : (slots : List SlotState) (k : ℕ) (state : SlotState) → is_empty state ≡ false → is_empty (get_or slots k Empty) ≡ false → is_empty (get_or (set slots k state) k Empty) ≡ false
+    at-k : (slots : List SlotState) (k : ℕ) (state : SlotState) → is_empty state ≡ false → is_empty (get_or slots k Empty) ≡ false
+        → is_empty (get_or (set slots k state) k Empty) ≡ false
     at-k [] k state held h = h
     at-k (s ∷ slots) zero state held h = held
     at-k (s ∷ slots) (suc k) state held h = at-k slots k state held h
@@ -80,7 +81,8 @@ held-some VmBlock marked = refl
 held-some DbGroup marked = refl
 
 -- pointers of which some are dropped
-one-dropped : (slots : List SlotState) (test : ℕ → Bool) (p : Option Pointer) → leads_nowhere slots p ≡ false → leads_nowhere slots (stale_where test p) ≡ false
+one-dropped : (slots : List SlotState) (test : ℕ → Bool) (p : Option Pointer) → leads_nowhere slots p ≡ false
+    → leads_nowhere slots (stale_where test p) ≡ false
 one-dropped slots test None h = refl
 one-dropped slots test (Some p) h = go (test p.slot)
   where
@@ -88,14 +90,17 @@ one-dropped slots test (Some p) h = go (test p.slot)
     go true = refl
     go false = h
 
-all-dropped : (slots : List SlotState) (test : ℕ → Bool) (pointers : List (Option Pointer)) → Held slots pointers → Held slots (map (stale_where test) pointers)
+all-dropped : (slots : List SlotState) (test : ℕ → Bool) (pointers : List (Option Pointer)) → Held slots pointers
+    → Held slots (map (stale_where test) pointers)
 all-dropped slots test [] h = refl
 all-dropped slots test (p ∷ pointers) h =
     let parts = or_parts (leads_nowhere slots p) (list_any (leads_nowhere slots) pointers) h in
-    neither (leads_nowhere slots (stale_where test p)) (list_any (leads_nowhere slots) (map (stale_where test) pointers)) (one-dropped slots test p parts.0) (all-dropped slots test pointers parts.1)
+    neither (leads_nowhere slots (stale_where test p)) (list_any (leads_nowhere slots) (map (stale_where test) pointers))
+    (one-dropped slots test p parts.0) (all-dropped slots test pointers parts.1)
 
 -- those of a slot are dropped that is emptied
-one-freed : (slots : List SlotState) (a : ℕ) (p : Option Pointer) → leads_nowhere slots p ≡ false → leads_nowhere (set slots a Empty) (stale_where (λ b. b == a) p) ≡ false
+one-freed : (slots : List SlotState) (a : ℕ) (p : Option Pointer) → leads_nowhere slots p ≡ false
+    → leads_nowhere (set slots a Empty) (stale_where (λ b. b == a) p) ≡ false
 one-freed slots a None h = refl
 one-freed slots a (Some p) h = go (p.slot == a) refl
   where
@@ -103,7 +108,8 @@ one-freed slots a (Some p) h = go (p.slot == a) refl
     go true e = refl
     go false e = ap is_empty (get_or-set_other slots a p.slot Empty Empty (λ same. false≢true (sym e ∙ eq-eqb p.slot a same))) ∙ h
 
-all-freed : (slots : List SlotState) (a : ℕ) (pointers : List (Option Pointer)) → Held slots pointers → Held (set slots a Empty) (map (stale_where (λ b. b == a)) pointers)
+all-freed : (slots : List SlotState) (a : ℕ) (pointers : List (Option Pointer)) → Held slots pointers
+    → Held (set slots a Empty) (map (stale_where (λ b. b == a)) pointers)
 all-freed slots a [] h = refl
 all-freed slots a (p ∷ pointers) h =
     let parts = or_parts (leads_nowhere slots p) (list_any (leads_nowhere slots) pointers) h in
@@ -121,29 +127,35 @@ kept-held i Compares row h = h
 kept-held i LooksAt row h = h
 kept-held i Commits row h = h
 
-set-held : (slots : List SlotState) (pointers : List (Option Pointer)) (b : ℕ) (p : Option Pointer) → leads_nowhere slots p ≡ false → Held slots pointers → Held slots (set pointers b p)
+set-held : (slots : List SlotState) (pointers : List (Option Pointer)) (b : ℕ) (p : Option Pointer)
+    → leads_nowhere slots p ≡ false → Held slots pointers → Held slots (set pointers b p)
 set-held slots [] b p here h = refl
-set-held slots (q ∷ pointers) zero p here h = neither (leads_nowhere slots p) (list_any (leads_nowhere slots) pointers) here ((or_parts (leads_nowhere slots q) (list_any (leads_nowhere slots) pointers) h).1)
+set-held slots (q ∷ pointers) zero p here h = neither (leads_nowhere slots p) (list_any (leads_nowhere slots) pointers) here
+    ((or_parts (leads_nowhere slots q) (list_any (leads_nowhere slots) pointers) h).1)
 set-held slots (q ∷ pointers) (suc b) p here h =
     let parts = or_parts (leads_nowhere slots q) (list_any (leads_nowhere slots) pointers) h in
     neither (leads_nowhere slots q) (list_any (leads_nowhere slots) (set pointers b p)) parts.0 (set-held slots pointers b p here parts.1)
 
-get-held : (slots : List SlotState) (pointers : List (Option Pointer)) (b : ℕ) → Held slots pointers → leads_nowhere slots (get_or pointers b None) ≡ false
+get-held : (slots : List SlotState) (pointers : List (Option Pointer)) (b : ℕ) → Held slots pointers
+    → leads_nowhere slots (get_or pointers b None) ≡ false
 get-held slots [] b h = refl
 get-held slots (q ∷ pointers) zero h = (or_parts (leads_nowhere slots q) (list_any (leads_nowhere slots) pointers) h).0
 get-held slots (q ∷ pointers) (suc b) h = get-held slots pointers b ((or_parts (leads_nowhere slots q) (list_any (leads_nowhere slots) pointers) h).1)
 
-with-held : (i : Instr) (pointer : PointerUse) (slots : List SlotState) (pointers : List (Option Pointer)) → (pointer ≡ Sets → is_empty (get_or slots i.a Empty) ≡ false) → Held slots pointers → Held slots (with_pointer i pointer pointers)
+with-held : (i : Instr) (pointer : PointerUse) (slots : List SlotState) (pointers : List (Option Pointer))
+    → (pointer ≡ Sets → is_empty (get_or slots i.a Empty) ≡ false) → Held slots pointers → Held slots (with_pointer i pointer pointers)
 with-held i Sets slots pointers sets h = set-held slots pointers i.b (Some (record { slot = i.a; least = i.imm })) (sets refl) h
 with-held i Duplicates slots pointers sets h = set-held slots pointers i.a (get_or pointers i.b None) (get-held slots pointers i.b h) h
 with-held i _ slots pointers sets h = h
 
 -- a pointer is set into a slot that is held, or that is locked into
-sets-held : (opcode : Opcode) (i : Instr) (slots : List SlotState) → FieldsFit opcode i → length slots ≡ 4 → (uses_of opcode).pointer ≡ Sets → ((uses_of opcode).slot ≡ LooksAt → is_empty (get_or slots i.a Empty) ≡ false)
+sets-held : (opcode : Opcode) (i : Instr) (slots : List SlotState) → FieldsFit opcode i → length slots ≡ 4
+    → (uses_of opcode).pointer ≡ Sets → ((uses_of opcode).slot ≡ LooksAt → is_empty (get_or slots i.a Empty) ≡ false)
     → is_empty (get_or (slots_after i (uses_of opcode).slot slots) i.a Empty) ≡ false
 sets-held op.Deref i slots fields four e looks = looks refl
 sets-held op.Caelt i slots fields four e looks = looks refl
-sets-held op.Ilock i slots fields four e looks = ap is_empty (get_or-set_same slots i.a (held_state DbGroup false) Empty (omega (arith, fields.0, four)))
+sets-held op.Ilock i slots fields four e looks =
+    ap is_empty (get_or-set_same slots i.a (held_state DbGroup false) Empty (omega (arith, fields.0, four)))
 sets-held _ i slots fields four e looks = absurd cc
 
 -- the word that a result comes to leaves slots and pointers
@@ -165,7 +177,8 @@ result-slots : (i : Instr) (opcode : Opcode) (yields : Yields) (row : Row) → (
 result-slots i opcode Computed row = computed-slots i opcode row
 result-slots i opcode _ row = refl
 
-looks-held : (i : Instr) (slot : SlotUse) (row : Row) → misuses_slot i slot row ≡ false → slot ≡ LooksAt → is_empty (get_or row.slots i.a Empty) ≡ false
+looks-held : (i : Instr) (slot : SlotUse) (row : Row) → misuses_slot i slot row ≡ false → slot ≡ LooksAt
+    → is_empty (get_or row.slots i.a Empty) ≡ false
 looks-held i LooksAt row h e = h
 looks-held i _ row h e = absurd cc
 
@@ -181,26 +194,31 @@ pub record IsClean (row : Row) : Type 0 where
   pub clean : names_empty_slot row ≡ false
   pub four : length row.slots ≡ 4
 
-used-clean : (i : Instr) (opcode : Opcode) (row : Row) → FieldsFit opcode i → IsClean row → misuses_slot i (uses_of opcode).slot row ≡ false → IsClean (used i (uses_of opcode) row)
+used-clean : (i : Instr) (opcode : Opcode) (row : Row) → FieldsFit opcode i → IsClean row → misuses_slot i (uses_of opcode).slot row ≡ false
+    → IsClean (used i (uses_of opcode) row)
 unfolding names_empty_slot
 used-clean i opcode row fields h held =
     let slot = (uses_of opcode).slot in
     let slots = slots_after i slot row.slots in
     record {
-      clean = with-held i (uses_of opcode).pointer slots (pointers_kept i slot row) (λ sets. sets-held opcode i row.slots fields h.four sets (looks-held i slot row held)) (kept-held i slot row h.clean);
+      clean = with-held i (uses_of opcode).pointer slots (pointers_kept i slot row)
+          (λ sets. sets-held opcode i row.slots fields h.four sets (looks-held i slot row held)) (kept-held i slot row h.clean);
       four = slots-four i slot row.slots ∙ h.four;
     }
 
 misuse-slots : (i : Instr) (slot : SlotUse) (r s : Row) → r.slots ≡ s.slots → misuses_slot i slot s ≡ false → misuses_slot i slot r ≡ false
-misuse-slots i (Unlocks kind) r s e h = subst (λ (xs : List SlotState). (not (holds_kind kind (get_or xs i.a Empty)) || not (is_own (get_or xs i.a Empty))) ≡ false) (sym e) h
+misuse-slots i (Unlocks kind) r s e h =
+    subst (λ (xs : List SlotState). (not (holds_kind kind (get_or xs i.a Empty)) || not (is_own (get_or xs i.a Empty))) ≡ false) (sym e) h
 misuse-slots i (Marks kind) r s e h = subst (λ (xs : List SlotState). not (holds_kind kind (get_or xs i.a Empty)) ≡ false) (sym e) h
-misuse-slots i Compares r s e h = subst (λ (xs : List SlotState). (is_empty (get_or xs i.a Empty) || not (are_alike (get_or xs i.a Empty) (get_or xs i.b Empty))) ≡ false) (sym e) h
+misuse-slots i Compares r s e h =
+    subst (λ (xs : List SlotState). (is_empty (get_or xs i.a Empty) || not (are_alike (get_or xs i.a Empty) (get_or xs i.b Empty))) ≡ false) (sym e) h
 misuse-slots i Moves r s e h = subst (λ (xs : List SlotState). is_empty (get_or xs i.a Empty) ≡ false) (sym e) h
 misuse-slots i LooksAt r s e h = subst (λ (xs : List SlotState). is_empty (get_or xs i.a Empty) ≡ false) (sym e) h
 misuse-slots i _ r s e h = refl
 
 -- after an instruction too, where exit rows are so
-pub along-clean : (image : Parts) (i : Instr) (opcode : Opcode) (row : Row) → i.opcode ≡ opcode → FieldsFit opcode i → ((routine : Routine) → slice_get image.routines i.imm ≡ Some routine → IsClean routine.exit) → IsClean row → wrong_slot i row ≡ false
+pub along-clean : (image : Parts) (i : Instr) (opcode : Opcode) (row : Row) → i.opcode ≡ opcode → FieldsFit opcode i
+    → ((routine : Routine) → slice_get image.routines i.imm ≡ Some routine → IsClean routine.exit) → IsClean row → wrong_slot i row ≡ false
     → IsClean (row_along image i opcode row)
 unfolding wrong_slot
 along-clean image i opcode row is fields exits h held = by_test (calls opcode) refl
@@ -217,7 +235,8 @@ along-clean image i opcode row is fields exits h held = by_test (calls opcode) r
         let slots : (bounded i opcode row).slots ≡ row.slots = result-slots i opcode yields row in
         let clean : IsClean (bounded i opcode row) = record { clean = result-clean i opcode yields row ∙ h.clean; four = ap length slots ∙ h.four } in
         let right : misuses_slot i (uses_of opcode).slot row ≡ false = subst (λ o. misuses_slot i (uses_of o).slot row ≡ false) is held in
-        rw (row_along-used image i opcode row no_call) (used-clean i opcode (bounded i opcode row) fields clean (misuse-slots i (uses_of opcode).slot (bounded i opcode row) row slots right))
+        rw (row_along-used image i opcode row no_call) (used-clean i opcode (bounded i opcode row) fields clean
+        (misuse-slots i (uses_of opcode).slot (bounded i opcode row) row slots right))
       where
         called : opcode ≡ op.Call → calls opcode ≡ false → ⊥
         called same e = (let at_call : calls op.Call ≡ false = rw same at e in absurd cc)

@@ -34,14 +34,16 @@ module _ (slots wanted : List SlotState) (fit : all2 slot_fits slots wanted ≡ 
       let same = eqb-true p.slot u.slot ((and_parts (p.slot == u.slot) (nat_le u.least p.least) j).0) in
       ap (λ k. is_empty (get_or wanted k Empty)) (sym same) ∙ sym (empty-at slots wanted p.slot fit) ∙ e
 
-  all-nowhere : (ps us : List (Option Pointer)) → all2 pointer_fits ps us ≡ true → list_any (leads_nowhere slots) ps ≡ false → list_any (leads_nowhere wanted) us ≡ false
+  all-nowhere : (ps us : List (Option Pointer)) → all2 pointer_fits ps us ≡ true → list_any (leads_nowhere slots) ps ≡ false
+      → list_any (leads_nowhere wanted) us ≡ false
   all-nowhere [] [] j e = refl
   all-nowhere [] (u ∷ us) j e = absurd cc
   all-nowhere (p ∷ ps) [] j e = absurd cc
   all-nowhere (p ∷ ps) (u ∷ us) j e =
       let fits_here = and_parts (pointer_fits p u) (all2 pointer_fits ps us) j in
       let parts = or_parts (leads_nowhere slots p) (list_any (leads_nowhere slots) ps) e in
-      neither (leads_nowhere wanted u) (list_any (leads_nowhere wanted) us) (one-nowhere p u fits_here.0 parts.0) (all-nowhere ps us fits_here.1 parts.1)
+      neither (leads_nowhere wanted u) (list_any (leads_nowhere wanted) us) (one-nowhere p u fits_here.0 parts.0)
+      (all-nowhere ps us fits_here.1 parts.1)
 
 -- a row that such a row fits has no pointer into an empty slot either
 clean-weaker : (r s : Row) → fits r s ≡ true → names_empty_slot r ≡ false → names_empty_slot s ≡ false
@@ -50,9 +52,11 @@ clean-weaker r s h e = let p = fitting r s h in all-nowhere r.slots s.slots p.sl
 
 -- each edge but a LOOP's to its target leads where fewer steps are left
 steps-asked : (asked : Asked) (p : Potential) → is_paid asked p ≡ true → asked.steps ≤ left_with asked.counter p
-steps-asked asked p h = leb-true asked.steps (left_with asked.counter p) ((and_parts (nat_le asked.steps (left_with asked.counter p)) (all2 nat_le asked.coefficients p.coefficients) h).0)
+steps-asked asked p h = leb-true asked.steps (left_with asked.counter p)
+    ((and_parts (nat_le asked.steps (left_with asked.counter p)) (all2 nat_le asked.coefficients p.coefficients) h).0)
 
-fewer-along : (image : Parts) (i : Instr) (opcode : Opcode) (row : Row) (p q : Potential) → pays_along image i opcode row p q ≡ true → q.constant + 1 ≤ p.constant
+fewer-along : (image : Parts) (i : Instr) (opcode : Opcode) (row : Row) (p q : Potential) → pays_along image i opcode row p q ≡ true
+    → q.constant + 1 ≤ p.constant
 fewer-along image i Setk row p q h = let paid = steps-asked (asks_setting i.a i.imm q) p h in omega (arith, paid)
 fewer-along image i Setkw row p q h = let paid = steps-asked (asks_setting i.a (bound row i.b) q) p h in omega (arith, paid)
 fewer-along image i Loop row p q h = let paid = steps-asked (asks_setting i.a 0 q) p h in omega (arith, paid)
@@ -70,7 +74,8 @@ ends-so _ e = absurd cc
 module _ (image : Parts) (checked : IsAcceptable image) (r : ℕ) (routine : Routine) where
   -- at a place that does not return, control goes on where fewer steps are left
   abbrev GoesOn : Place → Type 0
-  GoesOn p = (returns p.instr.opcode ≡ true) ⊎ ((to : ℕ) × (q : Place) × HasPoint image r routine to q × (q.potential.constant + 1 ≤ p.potential.constant))
+  GoesOn p = (returns p.instr.opcode ≡ true) ⊎ ((to : ℕ) × (q : Place) × HasPoint image r routine to q
+      × (q.potential.constant + 1 ≤ p.potential.constant))
 
   goes-on : (pc : ℕ) (p : Place) → HasPoint image r routine pc p → GoesOn p
   goes-on pc p has = by_test (falls_through p.instr.opcode) refl
@@ -87,7 +92,8 @@ module _ (image : Parts) (checked : IsAcceptable image) (r : ℕ) (routine : Rou
           inr (pc + 1, L.point, L.has, fewer-along image p.instr p.instr.opcode p.row p.potential L.point.potential L.pays)
       by_test false e = by_ends (ends-so p.instr.opcode e)
 
-  returns-at : (n pc : ℕ) (p : Place) → HasPoint image r routine pc p → p.potential.constant ≤ n → (to : ℕ) × (q : Place) × HasPoint image r routine to q × (returns q.instr.opcode ≡ true)
+  returns-at : (n pc : ℕ) (p : Place) → HasPoint image r routine pc p → p.potential.constant ≤ n → (to : ℕ) × (q : Place)
+      × HasPoint image r routine to q × (returns q.instr.opcode ≡ true)
   returns-at zero pc p has le = by_step (goes-on pc p has)
     where
       by_step : GoesOn p → (to : ℕ) × (q : Place) × HasPoint image r routine to q × (returns q.instr.opcode ≡ true)
@@ -95,7 +101,8 @@ module _ (image : Parts) (checked : IsAcceptable image) (r : ℕ) (routine : Rou
       by_step (inr on) = absurd (omega (arith, on.3, le))
   returns-at (suc n) pc p has le = by_step (goes-on pc p has) (λ to q there less. returns-at n to q there less)
     where
-      by_step : GoesOn p → ((to : ℕ) (q : Place) → HasPoint image r routine to q → q.potential.constant ≤ n → (to : ℕ) × (q : Place) × HasPoint image r routine to q × (returns q.instr.opcode ≡ true))
+      by_step : GoesOn p → ((to : ℕ) (q : Place) → HasPoint image r routine to q → q.potential.constant ≤ n → (to : ℕ)
+          × (q : Place) × HasPoint image r routine to q × (returns q.instr.opcode ≡ true))
           → (to : ℕ) × (q : Place) × HasPoint image r routine to q × (returns q.instr.opcode ≡ true)
       by_step (inl is) later = (pc, p, has, is)
       by_step (inr on) later = later on.0 on.1 on.2 (omega (arith, on.3, le))

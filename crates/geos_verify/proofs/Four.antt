@@ -14,7 +14,8 @@ grouped true false c d = refl
 grouped false b c d = refl
 
 pub all2_four : {X Y : Type 0} (test : X → Y → Bool) (xs : List X) (ys : List Y) (d : X) (e : Y) → length xs ≡ 4 → length ys ≡ 4
-    → all2 test xs ys ≡ (((test (get_or xs 0 d) (get_or ys 0 e) && test (get_or xs 1 d) (get_or ys 1 e)) && test (get_or xs 2 d) (get_or ys 2 e)) && test (get_or xs 3 d) (get_or ys 3 e))
+    → all2 test xs ys ≡ (((test (get_or xs 0 d) (get_or ys 0 e) && test (get_or xs 1 d) (get_or ys 1 e)) && test (get_or xs 2 d) (get_or ys 2 e))
+    && test (get_or xs 3 d) (get_or ys 3 e))
 all2_four test (a ∷ b ∷ c ∷ g ∷ []) (h ∷ i ∷ j ∷ k ∷ []) d e p q = grouped (test a h) (test b i) (test c j) (test g k)
 all2_four test (a ∷ b ∷ c ∷ g ∷ []) [] d e p q = absurd (omega arith)
 all2_four test (a ∷ b ∷ c ∷ g ∷ []) (h ∷ []) d e p q = absurd (omega arith)

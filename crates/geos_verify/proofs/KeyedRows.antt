@@ -35,7 +35,17 @@ module _ (image : Parts) (checked : IsAcceptable image) (all : image.keyed ≡ f
   pub stands : (pc : ℕ) (p : Place) → HasPoint image r routine pc p → MayStand image r routine p.instr p.row
   stands pc p has =
       let pass = passes pc p has in
-      record { fresh = pass.fresh; within = pass.within; marked = pass.marked; unheld = pass.unheld; held = pass.held; freed = pass.freed; call = pass.call; exit = pass.exit }
+      record {
+        fresh = pass.fresh;
+        within = pass.within;
+        marked = pass.marked;
+        unheld = pass.unheld;
+        held =
+            pass.held;
+        freed = pass.freed;
+        call = pass.call;
+        exit = pass.exit;
+      }
 
   four : (pc : ℕ) (p : Place) → slice_get (places image) pc ≡ Some p → length p.row.slots ≡ 4
   four pc p read =
@@ -46,7 +56,8 @@ module _ (image : Parts) (checked : IsAcceptable image) (all : image.keyed ≡ f
   clean-given : (pc : ℕ) (p : Place) → HasPoint image r routine pc p → gives (keyed_of image) pc ≡ true → CleanAs pc p
   unfolding known-given
   clean-given pc p has is =
-      let clean : names_empty_slot p.row ≡ false = (passed (tests image r routine (start_of image.routines r) pc p) (checked.1 r pc routine p has)).1.0 in
+      let clean : names_empty_slot p.row ≡ false =
+      (passed (tests image r routine (start_of image.routines r) pc p) (checked.1 r pc routine p has)).1.0 in
       record { known = known-given image checked.0 all pc p has.read is; clean = record { clean = clean; four = four pc p has.read } }
 
   fields : (pc : ℕ) (p : Place) → slice_get (places image) pc ≡ Some p → FieldsFit p.instr.opcode p.instr
@@ -55,7 +66,8 @@ module _ (image : Parts) (checked : IsAcceptable image) (all : image.keyed ≡ f
       subst (λ (i : Instr). FieldsFit i.opcode i) (sym found.2.instr) ((formed_fits true image pc found.0 checked.0 found.1).0)
 
   -- what goes on from an accepted place fits what is known behind it
-  fits-along : (pc : ℕ) (p q : Place) → HasPoint image r routine pc p → falls_through p.instr.opcode ≡ true → slice_get (places image) (suc pc) ≡ Some q → fits (row_along image p.instr p.instr.opcode p.row) q.row ≡ true
+  fits-along : (pc : ℕ) (p q : Place) → HasPoint image r routine pc p → falls_through p.instr.opcode ≡ true
+      → slice_get (places image) (suc pc) ≡ Some q → fits (row_along image p.instr p.instr.opcode p.row) q.row ≡ true
   fits-along pc p q has falls read =
       let L = leads-along true image checked.0 checked.1 r pc routine p has p.instr.opcode refl falls in
       let plus : suc pc ≡ pc + 1 = omega arith in
@@ -64,7 +76,8 @@ module _ (image : Parts) (checked : IsAcceptable image) (all : image.keyed ≡ f
       subst (λ (x : Place). fits (row_along image p.instr p.instr.opcode p.row) x.row ≡ true) is L.fits
 
   -- where no row is given, nothing leads there but the instruction before
-  clean-next : (q : ℕ) (p : Place) → HasPoint image r routine (suc q) p → gives (keyed_of image) (suc q) ≡ false → ((before : Place) → HasPoint image r routine q before → CleanAs q before) → CleanAs (suc q) p
+  clean-next : (q : ℕ) (p : Place) → HasPoint image r routine (suc q) p → gives (keyed_of image) (suc q) ≡ false
+      → ((before : Place) → HasPoint image r routine q before → CleanAs q before) → CleanAs (suc q) p
   unfolding known-next
   clean-next q p has bare earlier =
       let start = start_of image.routines r in
@@ -78,16 +91,20 @@ module _ (image : Parts) (checked : IsAcceptable image) (all : image.keyed ≡ f
       ] in
       let found = item_at (places image) q (omega (arith, found-within (places image) (suc q) p has.read)) in
       let before : Place = found.0 in
-      let has_before : HasPoint image r routine q before = record { there = has.there; within = place_true start routine.count q above (omega (arith, bounds.1)); read = found.1 } in
+      let has_before : HasPoint image r routine q before =
+      record { there = has.there; within = place_true start routine.count q above (omega (arith, bounds.1)); read = found.1 } in
       let C = earlier before has_before in
       let K = C.known in
       let i = before.instr in
       let falls = falls-there image checked.0 all q before p found.1 has.read bare in
       let held = (may_stand-mono image r routine i K.row before.row K.fit (stands q before has_before)).held in
-      let clean = along-clean image i i.opcode K.row refl (fields q before found.1) (λ callee there. record { clean = exit-clean image checked i.imm callee there; four = four-exit image checked.0 i.imm callee there }) C.clean held in
+      let clean = along-clean image i i.opcode K.row refl (fields q before found.1)
+      (λ callee there. record { clean = exit-clean image checked i.imm callee there; four = four-exit image checked.0 i.imm callee there })
+      C.clean held in
       record { known = known-next image checked.0 all q before p has.read K bare (fits-along q before p has_before falls has.read); clean = clean }
 
-  clean-by : (q : ℕ) (p : Place) → HasPoint image r routine (suc q) p → (b : Bool) → gives (keyed_of image) (suc q) ≡ b → ((before : Place) → HasPoint image r routine q before → CleanAs q before) → CleanAs (suc q) p
+  clean-by : (q : ℕ) (p : Place) → HasPoint image r routine (suc q) p → (b : Bool) → gives (keyed_of image) (suc q) ≡ b
+      → ((before : Place) → HasPoint image r routine q before → CleanAs q before) → CleanAs (suc q) p
   clean-by q p has true e earlier = clean-given (suc q) p has e
   clean-by q p has false e earlier = clean-next q p has e earlier
 
@@ -128,7 +145,8 @@ module _ (image : Parts) (checked : IsAcceptable image) (all : image.keyed ≡ f
       at_place-is (keyed_of image) i.target (record L.point { row = N.row }) (λ x. fits X x.row) N.there ∙ fit
 
   -- the rule on edges passes
-  pub edges-pass : (pc : ℕ) (p : Place) → HasPoint image r routine pc p → (C : CleanAs pc p) → edge_misfits (keyed_of image) pc p.instr C.known.row ≡ false
+  pub edges-pass : (pc : ℕ) (p : Place) → HasPoint image r routine pc p → (C : CleanAs pc p)
+      → edge_misfits (keyed_of image) pc p.instr C.known.row ≡ false
   unfolding edge_misfits misfits_at
   edges-pass pc p has C =
       let i = p.instr in

@@ -21,11 +21,13 @@ use Rattle.geos_verify.proofs.Places.{item_at, if_some, found-within, places-len
 some-is : {A : Type 0} (o : Option A) (x y : A) → o ≡ Some x → o ≡ Some y → x ≡ y
 some-is o x y e f = let both : Some x ≡ Some y = sym e ∙ f in cc
 
-pub at_place-is : (image : Parts) (to : ℕ) (place : Place) (test : Place → Bool) → slice_get (places image) to ≡ Some place → at_place image to test ≡ test place
+pub at_place-is : (image : Parts) (to : ℕ) (place : Place) (test : Place → Bool) → slice_get (places image) to ≡ Some place
+    → at_place image to test ≡ test place
 at_place-is image to place test e = rw (e, at_place) refl
 
 -- what is known at the next place, by what is given there
-pub next-row : (image : Parts) (pc : ℕ) (i : Instr) (row : Row) (next : Point) → IfSome (slice_get image.points pc) (λ point. i ≡ point.instr) → RowAt image pc row → pc < length image.points → slice_get image.points (pc + 1) ≡ Some next
+pub next-row : (image : Parts) (pc : ℕ) (i : Instr) (row : Row) (next : Point) → IfSome (slice_get image.points pc) (λ point. i ≡ point.instr)
+    → RowAt image pc row → pc < length image.points → slice_get image.points (pc + 1) ≡ Some next
     → slice_get (places image) (pc + 1) ≡ Some (place_of next (row_along image i i.opcode row))
 next-row image pc i row next here known lt there =
     let found = item_at image.points pc lt in
@@ -34,26 +36,32 @@ next-row image pc i row next here known lt there =
     let row_is : at.0.row ≡ row = if_some (λ place. place.row ≡ row) (slice_get (places image) pc) at.0 at.1 known in
     let plus : suc pc ≡ pc + 1 = omega arith in
     let step = place-next image pc at.0 next at.1 (ap (slice_get image.points) plus ∙ there) in
-    sym (ap (slice_get (places image)) plus) ∙ step ∙ ap (λ (j : Instr). Some (place_of next (row_along image j j.opcode at.0.row))) (sym i_is) ∙ ap (λ (r : Row). Some (place_of next (row_along image i i.opcode r))) row_is
+    sym (ap (slice_get (places image)) plus) ∙ step ∙ ap (λ (j : Instr). Some (place_of next (row_along image j j.opcode at.0.row))) (sym i_is)
+    ∙ ap (λ (r : Row). Some (place_of next (row_along image i i.opcode r))) row_is
 
 -- the row that control goes on with fits what is known there where no row is given
-pub goes-on-fits : (image : Parts) (pc : ℕ) (i : Instr) (row : Row) (given : Option Row) → IfSome (slice_get image.points pc) (λ point. i ≡ point.instr) → RowAt image pc row → pc + 1 < length image.points
-    → IfSome (slice_get image.points (pc + 1)) (λ point. given ≡ point.row) → given ≡ None → false ≡ misfits_at image (pc + 1) (row_along image i i.opcode row)
+pub goes-on-fits : (image : Parts) (pc : ℕ) (i : Instr) (row : Row) (given : Option Row)
+    → IfSome (slice_get image.points pc) (λ point. i ≡ point.instr) → RowAt image pc row → pc + 1 < length image.points
+    → IfSome (slice_get image.points (pc + 1)) (λ point. given ≡ point.row) → given ≡ None
+    → false ≡ misfits_at image (pc + 1) (row_along image i i.opcode row)
 unfolding misfits_at
 goes-on-fits image pc i row given here known lt next none =
     let found = item_at image.points (pc + 1) lt in
     let row_is : found.0.row ≡ None = sym (if_some (λ point. given ≡ point.row) (slice_get image.points (pc + 1)) found.0 found.1 next) ∙ none in
     let at = next-row image pc i row found.0 here known (omega (arith, lt)) found.1 in
     let next_row = row_along image i i.opcode row in
-    sym (ap not (at_place-is image (pc + 1) (place_of found.0 next_row) (λ place. fits next_row place.row) at) ∙ ap (λ (o : Option Row). not (fits next_row (or_row o next_row))) row_is ∙ ap not (fits-refl next_row))
+    sym (ap not (at_place-is image (pc + 1) (place_of found.0 next_row) (λ place. fits next_row place.row) at)
+    ∙ ap (λ (o : Option Row). not (fits next_row (or_row o next_row))) row_is ∙ ap not (fits-refl next_row))
 
 -- where one is given, it has to fit that
-pub goes-on-given : (image : Parts) (pc : ℕ) (row given : Row) → IfSome (slice_get image.points pc) (λ point. Some given ≡ point.row) → pc < length image.points → misfits_at image pc row ≡ not (fits row given)
+pub goes-on-given : (image : Parts) (pc : ℕ) (row given : Row) → IfSome (slice_get image.points pc) (λ point. Some given ≡ point.row)
+    → pc < length image.points → misfits_at image pc row ≡ not (fits row given)
 unfolding misfits_at
 goes-on-given image pc row given next lt =
     let found = item_at image.points pc lt in
     let at = place-at image pc found.0 found.1 in
-    let row_is : at.0.row ≡ given = at.2.row given (sym (if_some (λ point. Some given ≡ point.row) (slice_get image.points pc) found.0 found.1 next)) in
+    let row_is : at.0.row ≡ given =
+    at.2.row given (sym (if_some (λ point. Some given ≡ point.row) (slice_get image.points pc) found.0 found.1 next)) in
     ap not (at_place-is image pc at.0 (λ place. fits row place.row) at.1) ∙ ap (λ (r : Row). not (fits row r)) row_is
 
 -- ---- what is known at a place, as the verifier carries it on
@@ -68,41 +76,50 @@ row-past image pc row le = go (slice_get (places image) pc) refl
 row-at : (image : Parts) (pc : ℕ) (place : Place) (row : Row) → slice_get (places image) pc ≡ Some place → place.row ≡ row → RowAt image pc row
 row-at image pc place row e same = subst (λ (o : Option Place). IfSome o (λ p. p.row ≡ row)) (sym e) same
 
-pub row-given : (image : Parts) (pc : ℕ) (given : Row) → IfSome (slice_get image.points pc) (λ point. Some given ≡ point.row) → pc < length image.points → RowAt image pc given
+pub row-given : (image : Parts) (pc : ℕ) (given : Row) → IfSome (slice_get image.points pc) (λ point. Some given ≡ point.row)
+    → pc < length image.points → RowAt image pc given
 row-given image pc given next lt =
     let found = item_at image.points pc lt in
     let at = place-at image pc found.0 found.1 in
-    row-at image pc at.0 given at.1 (at.2.row given (sym (if_some (λ point. Some given ≡ point.row) (slice_get image.points pc) found.0 found.1 next)))
+    row-at image pc at.0 given at.1
+    (at.2.row given (sym (if_some (λ point. Some given ≡ point.row) (slice_get image.points pc) found.0 found.1 next)))
 
-row-after : (image : Parts) (pc : ℕ) (row : Row) → RowAt image pc row → pc + 1 < length image.points → IfSome (slice_get image.points (pc + 1)) (λ point. None ≡ point.row) → RowAt image (pc + 1) (after image pc row false)
+row-after : (image : Parts) (pc : ℕ) (row : Row) → RowAt image pc row → pc + 1 < length image.points
+    → IfSome (slice_get image.points (pc + 1)) (λ point. None ≡ point.row) → RowAt image (pc + 1) (after image pc row false)
 row-after image pc row known lt next =
     let found = item_at image.points (pc + 1) lt in
     let before = item_at image.points pc (omega (arith, lt)) in
     let i = before.0.instr in
-    let here : IfSome (slice_get image.points pc) (λ point. i ≡ point.instr) = subst (λ (o : Option Point). IfSome o (λ point. i ≡ point.instr)) (sym before.1) refl in
+    let here : IfSome (slice_get image.points pc) (λ point. i ≡ point.instr) =
+    subst (λ (o : Option Point). IfSome o (λ point. i ≡ point.instr)) (sym before.1) refl in
     let row_is : found.0.row ≡ None = sym (if_some (λ point. None ≡ point.row) (slice_get image.points (pc + 1)) found.0 found.1 next) in
     let at = next-row image pc i row found.0 here known (omega (arith, lt)) found.1 in
     let after_is : after image pc row false ≡ row_along image i i.opcode row = rw (before.1, after) refl in
-    row-at image (pc + 1) (place_of found.0 (row_along image i i.opcode row)) (after image pc row false) at (ap (λ (o : Option Row). or_row o (row_along image i i.opcode row)) row_is ∙ sym after_is)
+    row-at image (pc + 1) (place_of found.0 (row_along image i i.opcode row)) (after image pc row false) at
+    (ap (λ (o : Option Row). or_row o (row_along image i i.opcode row)) row_is ∙ sym after_is)
 
 -- what is known at the next place: the row that is given there, or else what was computed
 pub row-chosen : (image : Parts) (pc : ℕ) (row : Row) (given : Option Row) (computed : Row) → RowAt image pc row → pc + 1 < length image.points
-    → IfSome (slice_get image.points (pc + 1)) (λ point. given ≡ point.row) → (given ≡ None → computed ≡ after image pc row false) → RowAt image (pc + 1) (or_row given computed)
+    → IfSome (slice_get image.points (pc + 1)) (λ point. given ≡ point.row) → (given ≡ None → computed ≡ after image pc row false)
+    → RowAt image (pc + 1) (or_row given computed)
 row-chosen image pc row (Some r) computed known lt next computed_is = row-given image (pc + 1) r next lt
-row-chosen image pc row None computed known lt next computed_is = subst (RowAt image (pc + 1)) (sym (computed_is refl)) (row-after image pc row known lt next)
+row-chosen image pc row None computed known lt next computed_is = subst (RowAt image (pc + 1)) (sym (computed_is refl))
+    (row-after image pc row known lt next)
 
 or-gives : (b : Bool) → (b ≡ false → ⊥) → b ≡ true
 or-gives true h = refl
 or-gives false h = absurd (h refl)
 
 -- where no row is given behind an instruction, control goes on there
-pub goes-on : (image : Parts) → is_image image ≡ true → (pc : ℕ) (given : Option Row) → pc + 1 < length image.points → IfSome (slice_get image.points (pc + 1)) (λ point. given ≡ point.row) → given ≡ None → HasEdge image pc false
+pub goes-on : (image : Parts) → is_image image ≡ true → (pc : ℕ) (given : Option Row) → pc + 1 < length image.points
+    → IfSome (slice_get image.points (pc + 1)) (λ point. given ≡ point.row) → given ≡ None → HasEdge image pc false
 goes-on image legal pc given lt next none =
     let found = item_at image.points (pc + 1) lt in
     let before = item_at image.points pc (omega (arith, lt)) in
     let row_is : found.0.row ≡ None = sym (if_some (λ point. given ≡ point.row) (slice_get image.points (pc + 1)) found.0 found.1 next) ∙ none in
     let none_there : gives image (pc + 1) ≡ false = rw (found.1, gives) (ap is_some row_is) in
-    let falls : falls_through before.0.instr.opcode ≡ true = or-gives (falls_through before.0.instr.opcode) (λ no. let yes = gives-cut image legal pc before.0 before.1 no lt in absurd cc) in
+    let falls : falls_through before.0.instr.opcode ≡ true = or-gives (falls_through before.0.instr.opcode)
+    (λ no. let yes = gives-cut image legal pc before.0 before.1 no lt in absurd cc) in
     rw (before.1, at_point) falls
 
 -- a row is given only where there is a point
@@ -114,7 +131,8 @@ gives-within image pc h = go image.points pc h
     go (point ∷ points) zero h = omega arith
     go (point ∷ points) (suc pc) h = let ih = go points pc h in omega (arith, ih)
 
-pub place-is : (p : Place) (i : Instr) (row : Row) (potential : Potential) → i ≡ p.instr → p.row ≡ row → potential ≡ p.potential → record { instr = i; row = row; potential = potential } ≡ p
+pub place-is : (p : Place) (i : Instr) (row : Row) (potential : Potential) → i ≡ p.instr → p.row ≡ row
+    → potential ≡ p.potential → record { instr = i; row = row; potential = potential } ≡ p
 place-is p i row potential e f g =
     let A : Instr → Place = λ i. record { instr = i; row = row; potential = potential } in
     let B : Row → Place = λ r. record { instr = p.instr; row = r; potential = potential } in
@@ -122,18 +140,22 @@ place-is p i row potential e f g =
     ap A e ∙ ap B (sym f) ∙ ap C g
 
 -- the place at a pc, from its parts
-pub by-parts : (image : Parts) (pc : ℕ) (i : Instr) (row : Row) (potential : Potential) (P : Place → Type 0) → IfSome (slice_get image.points pc) (λ point. i ≡ point.instr) → RowAt image pc row
-    → IfSome (slice_get image.points pc) (λ point. potential ≡ point.potential) → pc < length image.points → P (record { instr = i; row = row; potential = potential }) → IfSome (slice_get (places image) pc) P
+pub by-parts : (image : Parts) (pc : ℕ) (i : Instr) (row : Row) (potential : Potential) (P : Place → Type 0)
+    → IfSome (slice_get image.points pc) (λ point. i ≡ point.instr) → RowAt image pc row
+    → IfSome (slice_get image.points pc) (λ point. potential ≡ point.potential) → pc < length image.points
+    → P (record { instr = i; row = row; potential = potential }) → IfSome (slice_get (places image) pc) P
 by-parts image pc i row potential P here known paid lt h =
     let found = item_at image.points pc lt in
     let at = place-at image pc found.0 found.1 in
     let i_is : i ≡ at.0.instr = if_some (λ point. i ≡ point.instr) (slice_get image.points pc) found.0 found.1 here ∙ sym at.2.instr in
     let row_is : at.0.row ≡ row = if_some (λ place. place.row ≡ row) (slice_get (places image) pc) at.0 at.1 known in
-    let potential_is : potential ≡ at.0.potential = if_some (λ point. potential ≡ point.potential) (slice_get image.points pc) found.0 found.1 paid ∙ sym at.2.potential in
+    let potential_is : potential ≡ at.0.potential = if_some (λ point. potential ≡ point.potential) (slice_get image.points pc) found.0 found.1 paid
+    ∙ sym at.2.potential in
     subst (λ (o : Option Place). IfSome o P) (sym at.1) (subst P (place-is at.0 i row potential i_is row_is potential_is) h)
 
 -- one more place behind those before it
-pub places-more : (image : Parts) (pc : ℕ) (place : Place) → IfSome (slice_get (places image) pc) (λ p. place ≡ p) → pc < length image.points → take pc (places image) ++ place ∷ [] ≡ take (pc + 1) (places image)
+pub places-more : (image : Parts) (pc : ℕ) (place : Place) → IfSome (slice_get (places image) pc) (λ p. place ≡ p)
+    → pc < length image.points → take pc (places image) ++ place ∷ [] ≡ take (pc + 1) (places image)
 places-more image pc place here lt =
     let found = item_at (places image) pc (omega (arith, lt, places-length image)) in
     let same : place ≡ found.0 = if_some (λ p. place ≡ p) (slice_get (places image) pc) found.0 found.1 here in

@@ -17,7 +17,8 @@ use Rattle.geos_verify.proofs.Passed.{none-refuses}
 use Rattle.geos_verify.proofs.Places.{place_true, place_bounds, place-at, point-of}
 
 -- tests that agree on each element find alike
-pub list_any-same : {A : Type 0} (f g : A → Bool) (xs : List A) → ((j : ℕ) (x : A) → slice_get xs j ≡ Some x → f x ≡ g x) → list_any f xs ≡ list_any g xs
+pub list_any-same : {A : Type 0} (f g : A → Bool) (xs : List A) → ((j : ℕ) (x : A) → slice_get xs j ≡ Some x → f x ≡ g x)
+    → list_any f xs ≡ list_any g xs
 list_any-same f g [] same = refl
 list_any-same f g (x ∷ xs) same = rw (same 0 x refl, list_any-same f g xs (λ j y e. same (suc j) y e)) refl
 
@@ -41,7 +42,8 @@ and-false true x e h = e
 and-false false x e h = absurd cc
 
 -- a point among those of a routine has a place there
-points_of-has : (image : Parts) (r j : ℕ) (routine : Routine) (point : Point) → slice_get image.routines r ≡ Some routine → slice_get (points_of image r) j ≡ Some point
+points_of-has : (image : Parts) (r j : ℕ) (routine : Routine) (point : Point) → slice_get image.routines r ≡ Some routine
+    → slice_get (points_of image r) j ≡ Some point
     → (place : Place) × HasPoint image r routine (start_of image.routines r + j) place × (place.instr ≡ point.instr)
 points_of-has image r j routine point there e =
     let start = start_of image.routines r in
@@ -59,10 +61,12 @@ points_of-has image r j routine point there e =
 
 -- the calls of the routines below a limit go to lower routines
 abbrev pub CallsGoDown : Parts → ℕ → Type 0
-CallsGoDown image limit = (c pc : ℕ) (routine : Routine) (place : Place) → c < limit → HasPoint image c routine pc place → calls place.instr.opcode ≡ true → place.instr.imm < c
+CallsGoDown image limit = (c pc : ℕ) (routine : Routine) (place : Place) → c < limit → HasPoint image c routine pc place
+    → calls place.instr.opcode ≡ true → place.instr.imm < c
 
 -- so do those of each point among those of a routine
-goes-down : (image : Parts) (limit : ℕ) → CallsGoDown image limit → (c j : ℕ) (point : Point) → c < limit → slice_get (points_of image c) j ≡ Some point → calls point.instr.opcode ≡ true → point.instr.imm < c
+goes-down : (image : Parts) (limit : ℕ) → CallsGoDown image limit → (c j : ℕ) (point : Point) → c < limit
+    → slice_get (points_of image c) j ≡ Some point → calls point.instr.opcode ≡ true → point.instr.imm < c
 goes-down image limit down c j point lt e is = by_routine (slice_get image.routines c) refl
   where
     by_routine : (o : Option Routine) → slice_get image.routines c ≡ o → point.instr.imm < c
@@ -82,28 +86,37 @@ module _ (image : Parts) (limit : ℕ) (down : CallsGoDown image limit) (k : ℕ
   stable (suc d) zero c lt ld le = absurd (omega arith)
   stable (suc d) (suc e) c lt ld le = each c lt (λ b low. stable d e b (omega arith) (omega (arith, low)) (omega (arith, low)))
     where
-      each : (c : ℕ) → c < limit → ((b : ℕ) → b < c → touches_within d image k b ≡ touches_within e image k b) → touches_within (suc d) image k c ≡ touches_within (suc e) image k c
+      each : (c : ℕ) → c < limit → ((b : ℕ) → b < c → touches_within d image k b ≡ touches_within e image k b)
+          → touches_within (suc d) image k c ≡ touches_within (suc e) image k c
       each c lt below =
-          list_any-same (λ point. touches_here (touches_within d image k) k point.instr) (λ point. touches_here (touches_within e image k) k point.instr) (points_of image c)
+          list_any-same (λ point. touches_here (touches_within d image k) k point.instr)
+          (λ point. touches_here (touches_within e image k) k point.instr) (points_of image c)
           (λ j point there.
-          touches_here-same (touches_within d image k) (touches_within e image k) k point.instr (λ is. below point.instr.imm (goes-down image limit down c j point lt there is)))
+          touches_here-same (touches_within d image k) (touches_within e image k) k point.instr
+          (λ is. below point.instr.imm (goes-down image limit down c j point lt there is)))
 
   -- what a routine touches, by what the routines that it calls do
-  pub touches-step : (r : ℕ) → r < limit → r < length image.routines → touches image k r ≡ list_any (λ point. touches_here (touches image k) k point.instr) (points_of image r)
+  pub touches-step : (r : ℕ) → r < limit → r < length image.routines
+      → touches image k r ≡ list_any (λ point. touches_here (touches image k) k point.instr) (points_of image r)
   touches-step r lt within = by_depth (length image.routines) within refl
     where
-      by_depth : (n : ℕ) → r < n → length image.routines ≡ n → touches_within n image k r ≡ list_any (λ point. touches_here (touches_within n image k) k point.instr) (points_of image r)
+      by_depth : (n : ℕ) → r < n → length image.routines ≡ n → touches_within n image k r ≡ list_any
+          (λ point. touches_here (touches_within n image k) k point.instr) (points_of image r)
       by_depth zero le is = absurd (omega arith)
       by_depth (suc n) le is =
-          list_any-same (λ point. touches_here (touches_within n image k) k point.instr) (λ point. touches_here (touches_within (suc n) image k) k point.instr) (points_of image r) at_point
+          list_any-same (λ point. touches_here (touches_within n image k) k point.instr)
+          (λ point. touches_here (touches_within (suc n) image k) k point.instr) (points_of image r) at_point
         where
-          at_point : (j : ℕ) (point : Point) → slice_get (points_of image r) j ≡ Some point → touches_here (touches_within n image k) k point.instr ≡ touches_here (touches_within (suc n) image k) k point.instr
+          at_point : (j : ℕ) (point : Point) → slice_get (points_of image r) j ≡ Some point
+              → touches_here (touches_within n image k) k point.instr ≡ touches_here (touches_within (suc n) image k) k point.instr
           at_point j point there =
               touches_here-same (touches_within n image k) (touches_within (suc n) image k) k point.instr
-              (λ is. let lower = goes-down image limit down r j point lt there is in stable n (suc n) point.instr.imm (omega (arith, lower)) (omega (arith, lower)) (omega (arith, lower)))
+              (λ is. let lower = goes-down image limit down r j point lt there is in
+              stable n (suc n) point.instr.imm (omega (arith, lower)) (omega (arith, lower)) (omega (arith, lower)))
 
 -- where nothing is refused, calls go down
-pub calls-go_down : (image : Parts) (r limit : ℕ) → AcceptedBelow image limit → ((c : ℕ) (routine : Routine) → c < r → slice_get image.routines c ≡ Some routine → start_of image.routines c + routine.count ≤ limit)
+pub calls-go_down : (image : Parts) (r limit : ℕ) → AcceptedBelow image limit
+    → ((c : ℕ) (routine : Routine) → c < r → slice_get image.routines c ≡ Some routine → start_of image.routines c + routine.count ≤ limit)
     → CallsGoDown image r
 unfolding call_misfits
 calls-go_down image r limit accepted ends c pc routine point lt has is =
@@ -117,31 +130,42 @@ calls-go_down image r limit accepted ends c pc routine point lt has is =
 pub notes-more : (image : Parts) (table : List (List Bool)) (r : ℕ) → CallsGoDown image (suc r) → r < length image.routines → NotesBelow image table r
     → (k : ℕ) → k < 4 → touches_by image table k r ≡ touches image k r
 notes-more image table r down within notes k few =
-    list_any-same (λ point. touches_here (noted table k) k point.instr) (λ point. touches_here (touches image k) k point.instr) (points_of image r) at_point
+    list_any-same (λ point. touches_here (noted table k) k point.instr) (λ point. touches_here (touches image k) k point.instr)
+    (points_of image r) at_point
     ∙ sym (touches-step image (suc r) down k r (omega arith) within)
   where
-    at_point : (j : ℕ) (point : Point) → slice_get (points_of image r) j ≡ Some point → touches_here (noted table k) k point.instr ≡ touches_here (touches image k) k point.instr
+    at_point : (j : ℕ) (point : Point) → slice_get (points_of image r) j ≡ Some point
+        → touches_here (noted table k) k point.instr ≡ touches_here (touches image k) k point.instr
     at_point j point there =
-        touches_here-same (noted table k) (touches image k) k point.instr (λ is. notes point.instr.imm k (goes-down image (suc r) down r j point (omega arith) there is) few)
+        touches_here-same (noted table k) (touches image k) k point.instr
+        (λ is. notes point.instr.imm k (goes-down image (suc r) down r j point (omega arith) there is) few)
 
 -- what is noted of a routine, as a list
 pub noted-all : (image : Parts) (table : List (List Bool)) (r c : ℕ) → NotesBelow image table r → c < r
     → noted table 0 c ∷ noted table 1 c ∷ noted table 2 c ∷ noted table 3 c ∷ [] ≡ touched_by image c
-noted-all image table r c notes lt = rw (notes c 0 lt (omega arith), notes c 1 lt (omega arith), notes c 2 lt (omega arith), notes c 3 lt (omega arith)) refl
+noted-all image table r c notes lt = rw (
+  notes c 0 lt (omega arith),
+  notes c 1 lt (omega arith),
+  notes c 2 lt (omega arith),
+  notes c 3 lt (omega arith),
+) refl
 
 -- a table says of the routines below r what it said before the entry of r was written
-pub notes-kept : (image : Parts) (table : List (List Bool)) (r : ℕ) (touched : List Bool) → NotesBelow image table r → NotesBelow image (set table r touched) r
+pub notes-kept : (image : Parts) (table : List (List Bool)) (r : ℕ) (touched : List Bool) → NotesBelow image table r
+    → NotesBelow image (set table r touched) r
 notes-kept image table r touched notes c k lt few = rw (get_or-set_other table r c touched [] (omega arith)) (notes c k lt few)
 
 -- where nothing is refused up to the end of routine r, the table that its own touched counters were written into
 -- says what the routines up to it touch
-pub notes-next : (image : Parts) (table : List (List Bool)) (r : ℕ) (touched : List Bool) → AcceptedBelow image (start_of image.routines (r + 1)) → NotesBelow image table r
+pub notes-next : (image : Parts) (table : List (List Bool)) (r : ℕ) (touched : List Bool)
+    → AcceptedBelow image (start_of image.routines (r + 1)) → NotesBelow image table r
     → (r < length table) × (r < length image.routines) → touched ≡ noted_by image table r → NotesBelow image (set table r touched) (r + 1)
 notes-next image table r touched accepted notes within is c k lt few = by_order (cases_lt c r)
   where
     down : CallsGoDown image (suc r)
     down = calls-go_down image (suc r) (start_of image.routines (r + 1)) accepted
-        (λ b routine le there. let next = start_of-next image.routines b routine there in let later = start_of-le image.routines (suc b) (r + 1) (omega (arith, le)) in omega (arith, next, later))
+        (λ b routine le there. let next = start_of-next image.routines b routine there in
+        let later = start_of-le image.routines (suc b) (r + 1) (omega (arith, le)) in omega (arith, next, later))
 
     own : (k : ℕ) → k < 4 → slice_index_or (noted_by image table r) k false ≡ touches_by image table k r
     own zero few = refl
@@ -173,7 +197,8 @@ has-points_of image r pc routine place has =
     let found = point-of image pc place has.read in (
       found.0,
       rw (has.there, points_of)
-          (slice_get-take_within (drop start image.points) routine.count (pc - start) (omega (arith, bounds.0, bounds.1)) ∙ slice_get-drop image.points start (pc - start) ∙ ap (slice_get image.points) at ∙ found.1),
+          (slice_get-take_within (drop start image.points) routine.count (pc - start) (omega (arith, bounds.0, bounds.1))
+          ∙ slice_get-drop image.points start (pc - start) ∙ ap (slice_get image.points) at ∙ found.1),
       found.2.instr,
     )
 
@@ -187,20 +212,25 @@ list_any-found test (y ∷ xs) zero x e h = let same : y ≡ x = cc in rw (same,
 list_any-found test (y ∷ xs) (suc j) x e h = rw (list_any-found test xs j x e h) (or-true (test y))
 
 -- a routine touches the counters that it names
-pub touches-own : (image : Parts) (r pc : ℕ) (routine : Routine) (place : Place) → HasPoint image r routine pc place → counts place.instr.opcode ≡ true → touches image place.instr.a r ≡ true
+pub touches-own : (image : Parts) (r pc : ℕ) (routine : Routine) (place : Place) → HasPoint image r routine pc place
+    → counts place.instr.opcode ≡ true → touches image place.instr.a r ≡ true
 touches-own image r pc routine place has is =
     let found = has-points_of image r pc routine place has in
     let counts_there : counts found.0.instr.opcode ≡ true = ap (λ (i : Instr). counts i.opcode) (sym found.2) ∙ is in
-    subst (λ (i : Instr). touches image i.a r ≡ true) (sym found.2) (by_depth found.0 found.1 counts_there (length image.routines) (slice_get_within image.routines r routine has.there))
+    subst (λ (i : Instr). touches image i.a r ≡ true) (sym found.2)
+    (by_depth found.0 found.1 counts_there (length image.routines) (slice_get_within image.routines r routine has.there))
   where
-    by_depth : (point : Point) → slice_get (points_of image r) (pc - start_of image.routines r) ≡ Some point → counts point.instr.opcode ≡ true → (n : ℕ) → r < n → touches_within n image point.instr.a r ≡ true
+    by_depth : (point : Point) → slice_get (points_of image r) (pc - start_of image.routines r) ≡ Some point
+        → counts point.instr.opcode ≡ true → (n : ℕ) → r < n → touches_within n image point.instr.a r ≡ true
     by_depth point there is zero lt = absurd (omega arith)
     by_depth point there is (suc n) lt =
-        list_any-found (λ other. touches_here (touches_within n image point.instr.a) point.instr.a other.instr) (points_of image r) (pc - start_of image.routines r) point there
+        list_any-found (λ other. touches_here (touches_within n image point.instr.a) point.instr.a other.instr)
+        (points_of image r) (pc - start_of image.routines r) point there
         (rw (is, eq-eqb point.instr.a point.instr.a refl) refl)
 
 -- and those that a routine touches that it calls
-pub touches-called : (image : Parts) → CallsGoDown image (length image.routines) → (r pc : ℕ) (routine : Routine) (place : Place) → HasPoint image r routine pc place → calls place.instr.opcode ≡ true
+pub touches-called : (image : Parts) → CallsGoDown image (length image.routines) → (r pc : ℕ) (routine : Routine) (place : Place)
+    → HasPoint image r routine pc place → calls place.instr.opcode ≡ true
     → (k : ℕ) → touches image k place.instr.imm ≡ true → touches image k r ≡ true
 touches-called image down r pc routine place has is k touched =
     let within = slice_get_within image.routines r routine has.there in
@@ -208,4 +238,5 @@ touches-called image down r pc routine place has is k touched =
     let calls_there : calls found.0.instr.opcode ≡ true = ap (λ (i : Instr). calls i.opcode) (sym found.2) ∙ is in
     let touched_there : touches image k found.0.instr.imm ≡ true = ap (λ (i : Instr). touches image k i.imm) (sym found.2) ∙ touched in
     touches-step image (length image.routines) down k r within within
-    ∙ list_any-found (λ point. touches_here (touches image k) k point.instr) (points_of image r) (pc - start_of image.routines r) found.0 found.1 (rw (calls_there, touched_there) (or-true _))
+    ∙ list_any-found (λ point. touches_here (touches image k) k point.instr) (points_of image r)
+    (pc - start_of image.routines r) found.0 found.1 (rw (calls_there, touched_there) (or-true _))

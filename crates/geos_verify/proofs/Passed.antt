@@ -32,7 +32,8 @@ pub record NoneRefuses (image : Parts) (r : ℕ) (routine : Routine) (start pc :
   pub paid : edge_unpaid image pc point.instr point.row point.potential ≡ false
   pub budget : over_budget routine start pc point.potential ≡ false
 
-pub none-refuses : (image : Parts) (r : ℕ) (routine : Routine) (start pc : ℕ) (point : Place) → refusal image r routine start pc point ≡ None → NoneRefuses image r routine start pc point
+pub none-refuses : (image : Parts) (r : ℕ) (routine : Routine) (start pc : ℕ) (point : Place)
+    → refusal image r routine start pc point ≡ None → NoneRefuses image r routine start pc point
 none-refuses image r routine start pc point e =
     let p = passed (tests image r routine start pc point) e in
     let q = p.1.1.1 in

@@ -122,14 +122,16 @@ module _ (i : Instr) (r s : Row) (h : fits r s ≡ true) where
   past-mono (Stores width offset) e = within i.b (reach i width offset r) (reach i width offset s) (reach-mono width offset) e
   past-mono Copies e =
       let parts = or_parts (nat_lt (least_at s i.a) i.imm) (nat_lt (least_at s i.b) i.imm) e in
-      neither (nat_lt (least_at r i.a) i.imm) (nat_lt (least_at r i.b) i.imm) (within i.a i.imm i.imm (omega arith) parts.0) (within i.b i.imm i.imm (omega arith) parts.1)
+      neither (nat_lt (least_at r i.a) i.imm) (nat_lt (least_at r i.b) i.imm) (within i.a i.imm i.imm (omega arith) parts.0)
+      (within i.b i.imm i.imm (omega arith) parts.1)
   past-mono _ e = e
 
   -- a pointer of which the weaker row knows where it leads leads there
   pointed-mono : (p : ℕ) → is_stale (pointer_at s p) ≡ false → is_unmarked (pointed_state s p) ≡ false → is_unmarked (pointed_state r p) ≡ false
   pointed-mono p e unmarked = by_pointers (pointer_at r p) (pointer_at s p) (pointer-mono r s p h) e unmarked
     where
-      by_pointers : (x y : Option Pointer) → pointer_fits x y ≡ true → is_stale y ≡ false → is_unmarked (elim y [ None ↦ Empty | Some q ↦ slot_state s q.slot ]) ≡ false
+      by_pointers : (x y : Option Pointer) → pointer_fits x y ≡ true → is_stale y ≡ false
+          → is_unmarked (elim y [ None ↦ Empty | Some q ↦ slot_state s q.slot ]) ≡ false
           → is_unmarked (elim x [ None ↦ Empty | Some q ↦ slot_state r q.slot ]) ≡ false
       by_pointers x None fit e unmarked = absurd cc
       by_pointers None (Some y) fit e unmarked = refl
@@ -175,7 +177,8 @@ module _ (i : Instr) (r s : Row) (h : fits r s ≡ true) where
   called : (image : Parts) (callee : ℕ) (o : Option Routine) → slice_get image.routines callee ≡ o
       → at_routine image callee (λ routine. fits s routine.entry) ≡ true → at_routine image callee (λ routine. fits r routine.entry) ≡ true
   called image callee None there e = rw (there, at_routine) refl
-  called image callee (Some routine) there e = (let fit : fits s routine.entry ≡ true = rw (there, at_routine) at e in rw (there, at_routine) (fits-trans r s routine.entry h fit))
+  called image callee (Some routine) there e = (let fit : fits s routine.entry ≡ true = rw (there, at_routine) at e in
+      rw (there, at_routine) (fits-trans r s routine.entry h fit))
 
   calls-mono : (image : Parts) (index : ℕ) → call_misfits image index i s ≡ false → call_misfits image index i r ≡ false
   unfolding call_misfits
@@ -202,7 +205,8 @@ pub record MayStand (image : Parts) (index : ℕ) (routine : Routine) (i : Instr
   pub exit : exit_misfits routine i row ≡ false
 
 -- it may where a row is known that fits that one
-pub may_stand-mono : (image : Parts) (index : ℕ) (routine : Routine) (i : Instr) (r s : Row) → fits r s ≡ true → MayStand image index routine i s → MayStand image index routine i r
+pub may_stand-mono : (image : Parts) (index : ℕ) (routine : Routine) (i : Instr) (r s : Row) → fits r s ≡ true
+    → MayStand image index routine i s → MayStand image index routine i r
 unfolding stale_pointer passes_end changes_unmarked locks_into_held wrong_slot commits_with_held
 may_stand-mono image index routine i r s h M =
     let slot = (uses_of i.opcode).slot in
@@ -211,7 +215,8 @@ may_stand-mono image index routine i r s h M =
     record {
       fresh = stale-mono i r s h pointer M.fresh;
       within = past-mono i r s h pointer M.within;
-      marked = neither (writes_unmarked i pointer r) (moves_unmarked i slot r) (writes-mono i r s h pointer M.fresh marks.0) (moves-mono i r s h slot marks.1);
+      marked = neither (writes_unmarked i pointer r) (moves_unmarked i slot r) (writes-mono i r s h pointer M.fresh marks.0)
+          (moves-mono i r s h slot marks.1);
       unheld = locks-same i r s h slot ∙ M.unheld;
       held = misuses-same i r s h slot ∙ M.held;
       freed = commits-same i r s h slot ∙ M.freed;

@@ -25,7 +25,8 @@ pub place_true : (start count pc : ℕ) → start ≤ pc → pc < start + count 
 place_true start count pc h k = rw (le-leb start pc h, lt-ltb pc (start + count) k) refl
 
 -- a pc is in one routine
-pub one_routine : (routines : List Routine) (q r pc : ℕ) (before after : Routine) → slice_get routines q ≡ Some before → slice_get routines r ≡ Some after
+pub one_routine : (routines : List Routine) (q r pc : ℕ) (before after : Routine) → slice_get routines q ≡ Some before
+    → slice_get routines r ≡ Some after
     → has_place (start_of routines q) before.count pc ≡ true → has_place (start_of routines r) after.count pc ≡ true → q ≡ r
 one_routine routines q r pc before after e f h k =
     elim (cases_lt q r) [
@@ -42,13 +43,15 @@ one_routine routines q r pc before after e f h k =
     hr : (start_of routines r ≤ pc) × (pc < start_of routines r + after.count)
     hr = place_bounds (start_of routines r) after.count pc k
 
-    apart : (a b m : ℕ) (first : Routine) → a < b → slice_get routines a ≡ Some first → (start_of routines a ≤ pc) × (pc < start_of routines a + first.count) → (start_of routines b ≤ pc) × (pc < m) → ⊥
+    apart : (a b m : ℕ) (first : Routine) → a < b → slice_get routines a ≡ Some first → (start_of routines a ≤ pc)
+        × (pc < start_of routines a + first.count) → (start_of routines b ≤ pc) × (pc < m) → ⊥
     apart a b m first lt there x y =
         let next = start_of-next routines a first there in
         let later = start_of-le routines (suc a) b (omega arith) in
         omega (arith, next, later, x.1, y.0)
 
-module _ (image : Parts) (r start : ℕ) (routine : Routine) (there : slice_get image.routines r ≡ Some routine) (start_is : start ≡ start_of image.routines r) where
+module _ (image : Parts) (r start : ℕ) (routine : Routine) (there : slice_get image.routines r ≡ Some routine)
+    (start_is : start ≡ start_of image.routines r) where
   -- nothing is refused before the routine, nor in it before a limit
   pub accepted-before : (limit : ℕ) → limit ≤ start + routine.count → AcceptedBelow image start
       → RefusesNone image r routine start limit → AcceptedBelow image limit
@@ -60,7 +63,8 @@ module _ (image : Parts) (r start : ℕ) (routine : Routine) (there : slice_get 
     where
       at_this : start ≤ pc → refusal image q other (start_of image.routines q) pc point ≡ None
       at_this above =
-          let in_this : has_place (start_of image.routines r) routine.count pc ≡ true = rw (← start_is) (place_true start routine.count pc above (omega arith)) in
+          let in_this : has_place (start_of image.routines r) routine.count pc ≡ true =
+          rw (← start_is) (place_true start routine.count pc above (omega arith)) in
           let same = one_routine image.routines q r pc other routine has.there there has.within in_this in
           let same_routine = some_routine other routine (sym has.there ∙ ap (slice_get image.routines) same ∙ there) in
           let same_start : start_of image.routines q ≡ start = ap (start_of image.routines) same ∙ sym start_is in
@@ -78,7 +82,8 @@ if_some P (Some y) x e h = let same : y ≡ x = cc in subst P same h
 
 places_from-length : (image : Parts) (before : Row) (points : List Point) → length (places_from image before points) ≡ length points
 places_from-length image before [] = refl
-places_from-length image before (point ∷ points) = ap suc (places_from-length image (row_along image point.instr point.instr.opcode (or_row point.row before)) points)
+places_from-length image before (point ∷ points) =
+    ap suc (places_from-length image (row_along image point.instr point.instr.opcode (or_row point.row before)) points)
 
 -- there are as many places as points
 pub places-length : (image : Parts) → length (places image) ≡ length image.points
@@ -93,19 +98,23 @@ pub record IsPlaceOf (place : Place) (point : Point) : Type 0 where
 place_of-is : (point : Point) (before : Row) → IsPlaceOf (place_of point before) point
 place_of-is point before = record { instr = refl; potential = refl; row = λ r e. rw e refl }
 
-from-point : (image : Parts) (before : Row) (points : List Point) (pc : ℕ) (point : Point) → slice_get points pc ≡ Some point → (place : Place) × (slice_get (places_from image before points) pc ≡ Some place) × IsPlaceOf place point
+from-point : (image : Parts) (before : Row) (points : List Point) (pc : ℕ) (point : Point) → slice_get points pc ≡ Some point
+    → (place : Place) × (slice_get (places_from image before points) pc ≡ Some place) × IsPlaceOf place point
 from-point image before [] pc point e = absurd cc
 from-point image before (x ∷ points) zero point e =
     let same : x ≡ point = cc in
     (place_of x before, refl, subst (IsPlaceOf (place_of x before)) same (place_of-is x before))
-from-point image before (x ∷ points) (suc pc) point e = from-point image (row_along image x.instr x.instr.opcode (or_row x.row before)) points pc point e
+from-point image before (x ∷ points) (suc pc) point e = from-point image (row_along image x.instr x.instr.opcode (or_row x.row before))
+    points pc point e
 
 -- each point has its place
-pub place-at : (image : Parts) (pc : ℕ) (point : Point) → slice_get image.points pc ≡ Some point → (place : Place) × (slice_get (places image) pc ≡ Some place) × IsPlaceOf place point
+pub place-at : (image : Parts) (pc : ℕ) (point : Point) → slice_get image.points pc ≡ Some point → (place : Place)
+    × (slice_get (places image) pc ≡ Some place) × IsPlaceOf place point
 place-at image pc point e = from-point image open_row image.points pc point e
 
 -- a row that is given is what is known there
-pub given-place : (image : Parts) (pc : ℕ) (i : Instr) (row : Row) (potential : Potential) → slice_get image.points pc ≡ Some (record { instr = i; row = Some row; potential = potential })
+pub given-place : (image : Parts) (pc : ℕ) (i : Instr) (row : Row) (potential : Potential)
+    → slice_get image.points pc ≡ Some (record { instr = i; row = Some row; potential = potential })
     → slice_get (places image) pc ≡ Some (record { instr = i; row = row; potential = potential })
 given-place image pc i row potential e =
     let found = place-at image pc (record { instr = i; row = Some row; potential = potential }) e in
@@ -114,18 +123,22 @@ given-place image pc i row potential e =
     let C : Potential → Place = λ q. record { instr = i; row = row; potential = q } in
     found.1 ∙ ap (λ (p : Place). Some p) (ap A found.2.instr ∙ ap B (found.2.row row refl) ∙ ap C found.2.potential)
 
-from-next : (image : Parts) (before : Row) (points : List Point) (pc : ℕ) (place : Place) (next : Point) → slice_get (places_from image before points) pc ≡ Some place → slice_get points (suc pc) ≡ Some next
+from-next : (image : Parts) (before : Row) (points : List Point) (pc : ℕ) (place : Place) (next : Point)
+    → slice_get (places_from image before points) pc ≡ Some place → slice_get points (suc pc) ≡ Some next
     → slice_get (places_from image before points) (suc pc) ≡ Some (place_of next (row_along image place.instr place.instr.opcode place.row))
 from-next image before [] pc place next e f = absurd cc
 from-next image before (x ∷ []) zero place next e f = absurd cc
 from-next image before (x ∷ y ∷ points) zero place next e f =
     let same : place_of x before ≡ place = cc in
     let same_next : y ≡ next = cc in
-    ap (λ (q : Place). Some (place_of y (row_along image q.instr q.instr.opcode q.row))) same ∙ ap (λ (z : Point). Some (place_of z (row_along image place.instr place.instr.opcode place.row))) same_next
-from-next image before (x ∷ points) (suc pc) place next e f = from-next image (row_along image x.instr x.instr.opcode (or_row x.row before)) points pc place next e f
+    ap (λ (q : Place). Some (place_of y (row_along image q.instr q.instr.opcode q.row))) same
+    ∙ ap (λ (z : Point). Some (place_of z (row_along image place.instr place.instr.opcode place.row))) same_next
+from-next image before (x ∷ points) (suc pc) place next e f = from-next image (row_along image x.instr x.instr.opcode (or_row x.row before))
+    points pc place next e f
 
 -- where no row is given, it is what is known behind the instruction before
-pub place-next : (image : Parts) (pc : ℕ) (place : Place) (next : Point) → slice_get (places image) pc ≡ Some place → slice_get image.points (suc pc) ≡ Some next
+pub place-next : (image : Parts) (pc : ℕ) (place : Place) (next : Point) → slice_get (places image) pc ≡ Some place
+    → slice_get image.points (suc pc) ≡ Some next
     → slice_get (places image) (suc pc) ≡ Some (place_of next (row_along image place.instr place.instr.opcode place.row))
 place-next image pc place next e f = from-next image open_row image.points pc place next e f
 
@@ -136,7 +149,8 @@ found-within (y ∷ xs) zero x e = omega arith
 found-within (y ∷ xs) (suc k) x e = let ih = found-within xs k x e in omega (arith, ih)
 
 -- each place has its point
-pub point-of : (image : Parts) (pc : ℕ) (place : Place) → slice_get (places image) pc ≡ Some place → (point : Point) × (slice_get image.points pc ≡ Some point) × IsPlaceOf place point
+pub point-of : (image : Parts) (pc : ℕ) (place : Place) → slice_get (places image) pc ≡ Some place → (point : Point)
+    × (slice_get image.points pc ≡ Some point) × IsPlaceOf place point
 point-of image pc place e =
     let found = item_at image.points pc (omega (arith, found-within (places image) pc place e, places-length image)) in
     let there = place-at image pc found.0 found.1 in
@@ -145,7 +159,8 @@ point-of image pc place e =
     (found.0, found.1, subst (λ (q : Place). IsPlaceOf q found.0) same there.2)
 
 -- a refusal in a routine before which nothing is refused is the first one
-pub is_first : (image : Parts) (r start : ℕ) (routine : Routine) (reject : Reject) → slice_get image.routines r ≡ Some routine → start ≡ start_of image.routines r → AcceptedBelow image start
+pub is_first : (image : Parts) (r start : ℕ) (routine : Routine) (reject : Reject) → slice_get image.routines r ≡ Some routine
+    → start ≡ start_of image.routines r → AcceptedBelow image start
     → start + routine.count ≤ length image.points → (start ≤ reject.pc) × (reject.pc < start + routine.count)
     → Refuses image r routine start reject → RefusesNone image r routine start reject.pc → FirstRefusal image reject
 is_first image r start routine reject there start_is earlier end within refuses first =
@@ -159,12 +174,14 @@ is_first image r start routine reject there start_is earlier end within refuses 
           routine = routine;
           place = point;
           has = record { there = there; within = rw (← start_is) (place_true start routine.count reject.pc within.0 within.1); read = read };
-          refuses = subst P start_is (if_some (λ x. refusal image r routine start reject.pc x ≡ Some reject.rule) (slice_get (places image) reject.pc) point read refuses);
+          refuses = subst P start_is (if_some (λ x. refusal image r routine start reject.pc x ≡ Some reject.rule)
+              (slice_get (places image) reject.pc) point read refuses);
           before = accepted-before image r start routine there start_is reject.pc (omega (arith, within.1)) earlier first;
         }
 
 -- where nothing is refused up to the last routine's end, nothing is refused
-pub all_accepted : (image : Parts) (r start : ℕ) → length image.routines ≤ r → start ≡ start_of image.routines r → AcceptedBelow image start → Accepted image
+pub all_accepted : (image : Parts) (r start : ℕ) → length image.routines ≤ r → start ≡ start_of image.routines r
+    → AcceptedBelow image start → Accepted image
 all_accepted image r start past start_is earlier q pc routine point has =
     let end = start_of-end image.routines q routine has.there in
     let all = start_of-all image.routines r past in

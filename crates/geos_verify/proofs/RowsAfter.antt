@@ -68,8 +68,10 @@ module _ (i : Instr) (r s : Row) (h : fits r s ≡ true) where
   computed-mono And =
       let b = bound-mono r s i.b h in
       with_bound-mono r s i.a (min (bound r i.b) i.imm) (min (bound s i.b) i.imm) h (omega arith)
-  computed-mono Shr = with_bound-mono r s i.a (bound r i.b / 2 ^ i.imm) (bound s i.b / 2 ^ i.imm) h (shift-mono (bound r i.b) (bound s i.b) i.imm (bound-mono r s i.b h))
-  computed-mono Muli = with_bound-mono r s i.a (or_any (bound r i.b * i.imm)) (or_any (bound s i.b * i.imm)) h (product-mono (bound r i.b) (bound s i.b) i.imm (bound-mono r s i.b h))
+  computed-mono Shr = with_bound-mono r s i.a (bound r i.b / 2 ^ i.imm) (bound s i.b / 2 ^ i.imm) h
+      (shift-mono (bound r i.b) (bound s i.b) i.imm (bound-mono r s i.b h))
+  computed-mono Muli = with_bound-mono r s i.a (or_any (bound r i.b * i.imm)) (or_any (bound s i.b * i.imm)) h
+      (product-mono (bound r i.b) (bound s i.b) i.imm (bound-mono r s i.b h))
   computed-mono Chk =
       let a = bound-mono r s i.a h in
       with_bound-mono r s i.a (min (bound r i.a) i.imm) (min (bound s i.a) i.imm) h (omega arith)
@@ -114,9 +116,12 @@ marked-mono (Vm a l) (Vm b m) h = (and_parts (mark_fits a b) (same_flag l m) h).
 marked-mono (Db a) (Db b) h = refl
 marked-mono _ _ h = absurd (false≢true h)
 
-slots_after-mono : (i : Instr) (slot : SlotUse) (xs ys : List SlotState) → all2 slot_fits xs ys ≡ true → all2 slot_fits (slots_after i slot xs) (slots_after i slot ys) ≡ true
-slots_after-mono i (LocksNew kind) xs ys h = all2-set slot_fits xs ys i.a (held_state kind true) (held_state kind true) h (slot-refl (held_state kind true))
-slots_after-mono i (Locks kind) xs ys h = all2-set slot_fits xs ys i.a (held_state kind false) (held_state kind false) h (slot-refl (held_state kind false))
+slots_after-mono : (i : Instr) (slot : SlotUse) (xs ys : List SlotState) → all2 slot_fits xs ys ≡ true
+    → all2 slot_fits (slots_after i slot xs) (slots_after i slot ys) ≡ true
+slots_after-mono i (LocksNew kind) xs ys h = all2-set slot_fits xs ys i.a (held_state kind true) (held_state kind true) h
+    (slot-refl (held_state kind true))
+slots_after-mono i (Locks kind) xs ys h = all2-set slot_fits xs ys i.a (held_state kind false) (held_state kind false) h
+    (slot-refl (held_state kind false))
 slots_after-mono i (Unlocks kind) xs ys h = all2-set slot_fits xs ys i.a Empty Empty h refl
 slots_after-mono i (Marks kind) xs ys h =
     let x = get_or xs i.a Empty in
@@ -147,7 +152,8 @@ pair-same false false e = refl
 pair-same true false e = refl
 pair-same false true e = absurd cc
 
-each_pair-mono : (f g : Bool → ℕ × ℕ → Bool) → ((known wanted : Bool) (pair : ℕ × ℕ) → pair_fits known wanted ≡ true → pair_fits (f known pair) (g wanted pair) ≡ true)
+each_pair-mono : (f g : Bool → ℕ × ℕ → Bool) → ((known wanted : Bool) (pair : ℕ × ℕ) → pair_fits known wanted ≡ true
+    → pair_fits (f known pair) (g wanted pair) ≡ true)
     → (xs ys : List Bool) (pairs : List (ℕ × ℕ)) → all2 pair_fits xs ys ≡ true → all2 pair_fits (each_pair f xs pairs) (each_pair g ys pairs) ≡ true
 each_pair-mono f g m [] [] pairs h = refl
 each_pair-mono f g m [] (y ∷ ys) pairs h = absurd cc
@@ -155,40 +161,49 @@ each_pair-mono f g m (x ∷ xs) [] pairs h = absurd cc
 each_pair-mono f g m (x ∷ xs) (y ∷ ys) [] h = refl
 each_pair-mono f g m (x ∷ xs) (y ∷ ys) (pair ∷ pairs) h =
     let p = and_parts (pair_fits x y) (all2 pair_fits xs ys) h in
-    both (pair_fits (f x pair) (g y pair)) (all2 pair_fits (each_pair f xs pairs) (each_pair g ys pairs)) (m x y pair p.0) (each_pair-mono f g m xs ys pairs p.1)
+    both (pair_fits (f x pair) (g y pair)) (all2 pair_fits (each_pair f xs pairs) (each_pair g ys pairs)) (m x y pair p.0)
+    (each_pair-mono f g m xs ys pairs p.1)
 
-has_pair-mono : (a b : ℕ) (xs ys : List Bool) (pairs : List (ℕ × ℕ)) → all2 pair_fits xs ys ≡ true → pair_fits (has_pair a b xs pairs) (has_pair a b ys pairs) ≡ true
+has_pair-mono : (a b : ℕ) (xs ys : List Bool) (pairs : List (ℕ × ℕ)) → all2 pair_fits xs ys ≡ true
+    → pair_fits (has_pair a b xs pairs) (has_pair a b ys pairs) ≡ true
 has_pair-mono a b [] [] pairs h = refl
 has_pair-mono a b [] (y ∷ ys) pairs h = absurd cc
 has_pair-mono a b (x ∷ xs) [] pairs h = absurd cc
 has_pair-mono a b (x ∷ xs) (y ∷ ys) [] h = refl
 has_pair-mono a b (x ∷ xs) (y ∷ ys) (pair ∷ pairs) h =
     let p = and_parts (pair_fits x y) (all2 pair_fits xs ys) h in
-    or-mono (x && is_pair a b pair) (has_pair a b xs pairs) (y && is_pair a b pair) (has_pair a b ys pairs) (and-mono x y (is_pair a b pair) p.0) (has_pair-mono a b xs ys pairs p.1)
+    or-mono (x && is_pair a b pair) (has_pair a b xs pairs) (y && is_pair a b pair) (has_pair a b ys pairs)
+    (and-mono x y (is_pair a b pair) p.0) (has_pair-mono a b xs ys pairs p.1)
 
 -- what is known of a pair once a new block of the kind is locked into slot a: it is none that another slot of its
 -- kind holds
 abbrev with_new : ℕ → Kind → Row → Bool → ℕ × ℕ → Bool
-with_new a kind row known pair = known || (pair.0 == a && holds_kind kind (slot_state row (pair.1))) || (pair.1 == a && holds_kind kind (slot_state row (pair.0)))
+with_new a kind row known pair = known || (pair.0 == a && holds_kind kind (slot_state row (pair.1))) ||
+    (pair.1 == a && holds_kind kind (slot_state row (pair.0)))
 
-new-mono : (r s : Row) (a : ℕ) (kind : Kind) → fits r s ≡ true → (known wanted : Bool) (pair : ℕ × ℕ) → pair_fits known wanted ≡ true → pair_fits (with_new a kind r known pair) (with_new a kind s wanted pair) ≡ true
+new-mono : (r s : Row) (a : ℕ) (kind : Kind) → fits r s ≡ true → (known wanted : Bool) (pair : ℕ × ℕ)
+    → pair_fits known wanted ≡ true → pair_fits (with_new a kind r known pair) (with_new a kind s wanted pair) ≡ true
 new-mono r s a kind h known wanted pair j =
     let first : Row → Bool = λ row. pair.0 == a && holds_kind kind (slot_state row (pair.1)) in
     let second : Row → Bool = λ row. pair.1 == a && holds_kind kind (slot_state row (pair.0)) in
     let first_same : first r ≡ first s = ap (λ b. pair.0 == a && b) (same-holds r s kind (pair.1) h) in
     let second_same : second r ≡ second s = ap (λ b. pair.1 == a && b) (same-holds r s kind (pair.0) h) in
-    or-mono (known || first r) (second r) (wanted || first s) (second s) (or-mono known (first r) wanted (first s) j (pair-same (first r) (first s) first_same)) (pair-same (second r) (second s) second_same)
+    or-mono (known || first r) (second r) (wanted || first s) (second s)
+    (or-mono known (first r) wanted (first s) j (pair-same (first r) (first s) first_same)) (pair-same (second r) (second s) second_same)
 
 dropped-mono : (a : ℕ) (xs ys : List Bool) → all2 pair_fits xs ys ≡ true → all2 pair_fits (without_slot a xs) (without_slot a ys) ≡ true
-dropped-mono a xs ys h = each_pair-mono (λ known pair. known && not (has_slot a pair)) (λ known pair. known && not (has_slot a pair)) (λ known wanted pair j. and-mono known wanted (not (has_slot a pair)) j) xs ys slot_pairs h
+dropped-mono a xs ys h = each_pair-mono (λ known pair. known && not (has_slot a pair)) (λ known pair. known && not (has_slot a pair))
+    (λ known wanted pair j. and-mono known wanted (not (has_slot a pair)) j) xs ys slot_pairs h
 
 pairs_after-mono : (i : Instr) (slot : SlotUse) (r s : Row) → fits r s ≡ true → all2 pair_fits (pairs_after i slot r) (pairs_after i slot s) ≡ true
-pairs_after-mono i (LocksNew kind) r s h = each_pair-mono (with_new i.a kind r) (with_new i.a kind s) (new-mono r s i.a kind h) r.pairs s.pairs slot_pairs ((fitting r s h).pairs)
+pairs_after-mono i (LocksNew kind) r s h = each_pair-mono (with_new i.a kind r) (with_new i.a kind s)
+    (new-mono r s i.a kind h) r.pairs s.pairs slot_pairs ((fitting r s h).pairs)
 pairs_after-mono i (Locks kind) r s h = dropped-mono i.a r.pairs s.pairs ((fitting r s h).pairs)
 pairs_after-mono i (Unlocks kind) r s h = dropped-mono i.a r.pairs s.pairs ((fitting r s h).pairs)
 pairs_after-mono i Compares r s h =
     each_pair-mono (λ known pair. known || is_pair i.a i.b pair) (λ known pair. known || is_pair i.a i.b pair)
-    (λ known wanted pair j. or-mono known (is_pair i.a i.b pair) wanted (is_pair i.a i.b pair) j (pair-same (is_pair i.a i.b pair) (is_pair i.a i.b pair) refl)) r.pairs s.pairs slot_pairs ((fitting r s h).pairs)
+    (λ known wanted pair j. or-mono known (is_pair i.a i.b pair) wanted (is_pair i.a i.b pair) j
+    (pair-same (is_pair i.a i.b pair) (is_pair i.a i.b pair) refl)) r.pairs s.pairs slot_pairs ((fitting r s h).pairs)
 pairs_after-mono i _ r s h = (fitting r s h).pairs
 
 -- Pointers
@@ -207,7 +222,8 @@ same-fewer : (r s : Row) (a b : ℕ) → fits r s ≡ true → may_be_same s a b
 same-fewer r s a b h e =
     let alike = same-alike r s b a h in
     let apart = has_pair-mono a b r.pairs s.pairs slot_pairs ((fitting r s h).pairs) in
-    let here : (are_alike (slot_state r b) (slot_state r a) && not (are_apart a b s.pairs)) ≡ false = ap (λ k. k && not (are_apart a b s.pairs)) alike ∙ e in
+    let here : (are_alike (slot_state r b) (slot_state r a) && not (are_apart a b s.pairs)) ≡ false =
+    ap (λ k. k && not (are_apart a b s.pairs)) alike ∙ e in
     apart-fewer (are_alike (slot_state r b) (slot_state r a)) (are_apart a b r.pairs) (are_apart a b s.pairs) apart here
 
 -- pointers that stay in the weaker row stay in the stronger one
@@ -226,26 +242,34 @@ module _ (lost gone : ℕ → Bool) (fewer : (b : ℕ) → gone b ≡ false → 
           let stays : lost p.slot ≡ false = fewer p.slot (ap gone slots ∙ e) in
           rw (e, stays) j
 
-  all-stale_where : (ps qs : List (Option Pointer)) → all2 pointer_fits ps qs ≡ true → all2 pointer_fits (map (stale_where lost) ps) (map (stale_where gone) qs) ≡ true
+  all-stale_where : (ps qs : List (Option Pointer)) → all2 pointer_fits ps qs ≡ true
+      → all2 pointer_fits (map (stale_where lost) ps) (map (stale_where gone) qs) ≡ true
   all-stale_where [] [] j = refl
   all-stale_where [] (q ∷ qs) j = absurd cc
   all-stale_where (p ∷ ps) [] j = absurd cc
   all-stale_where (p ∷ ps) (q ∷ qs) j =
       let a = and_parts (pointer_fits p q) (all2 pointer_fits ps qs) j in
-      both (pointer_fits (stale_where lost p) (stale_where gone q)) (all2 pointer_fits (map (stale_where lost) ps) (map (stale_where gone) qs)) (stale_where-mono p q a.0) (all-stale_where ps qs a.1)
+      both (pointer_fits (stale_where lost p) (stale_where gone q)) (all2 pointer_fits (map (stale_where lost) ps) (map (stale_where gone) qs))
+      (stale_where-mono p q a.0) (all-stale_where ps qs a.1)
 
-pointers_kept-mono : (i : Instr) (slot : SlotUse) (r s : Row) → fits r s ≡ true → all2 pointer_fits (pointers_kept i slot r) (pointers_kept i slot s) ≡ true
-pointers_kept-mono i Moves r s h = all-stale_where (may_be_same r i.a) (may_be_same s i.a) (λ b e. same-fewer r s i.a b h e) r.pointers s.pointers ((fitting r s h).pointers)
-pointers_kept-mono i (Unlocks kind) r s h = all-stale_where (λ b. b == i.a) (λ b. b == i.a) (λ b e. e) r.pointers s.pointers ((fitting r s h).pointers)
+pointers_kept-mono : (i : Instr) (slot : SlotUse) (r s : Row) → fits r s ≡ true
+    → all2 pointer_fits (pointers_kept i slot r) (pointers_kept i slot s) ≡ true
+pointers_kept-mono i Moves r s h = all-stale_where (may_be_same r i.a) (may_be_same s i.a) (λ b e. same-fewer r s i.a b h e)
+    r.pointers s.pointers ((fitting r s h).pointers)
+pointers_kept-mono i (Unlocks kind) r s h = all-stale_where (λ b. b == i.a) (λ b. b == i.a) (λ b e. e) r.pointers
+    s.pointers ((fitting r s h).pointers)
 pointers_kept-mono i MovesGroup r s h =
-    all-stale_where (λ b. holds_kind DbGroup (slot_state r b)) (λ b. holds_kind DbGroup (slot_state s b)) (λ b e. same-holds r s DbGroup b h ∙ e) r.pointers s.pointers ((fitting r s h).pointers)
+    all-stale_where (λ b. holds_kind DbGroup (slot_state r b)) (λ b. holds_kind DbGroup (slot_state s b))
+    (λ b e. same-holds r s DbGroup b h ∙ e) r.pointers s.pointers ((fitting r s h).pointers)
 pointers_kept-mono i _ r s h = (fitting r s h).pointers
 
-with_pointer-mono : (i : Instr) (pointer : PointerUse) (ps qs : List (Option Pointer)) → all2 pointer_fits ps qs ≡ true → all2 pointer_fits (with_pointer i pointer ps) (with_pointer i pointer qs) ≡ true
+with_pointer-mono : (i : Instr) (pointer : PointerUse) (ps qs : List (Option Pointer)) → all2 pointer_fits ps qs ≡ true
+    → all2 pointer_fits (with_pointer i pointer ps) (with_pointer i pointer qs) ≡ true
 with_pointer-mono i Sets ps qs h =
     let set_to : Option Pointer = Some (record { slot = i.a; least = i.imm }) in
     all2-set pointer_fits ps qs i.b set_to set_to h (pointer-refl set_to)
-with_pointer-mono i Duplicates ps qs h = all2-set pointer_fits ps qs i.a (get_or ps i.b None) (get_or qs i.b None) h (all2-get pointer_fits ps qs i.b None refl h)
+with_pointer-mono i Duplicates ps qs h = all2-set pointer_fits ps qs i.a (get_or ps i.b None) (get_or qs i.b None) h
+    (all2-get pointer_fits ps qs i.b None refl h)
 with_pointer-mono i _ ps qs h = h
 
 -- After an instruction
@@ -260,7 +284,8 @@ used-mono i uses r s h =
       pairs = pairs_after-mono i uses.slot r s h;
     })
 
-exit-mono : (image : Parts) (callee : ℕ) (r s : Row) (o : Option Routine) → slice_get image.routines callee ≡ o → fits r s ≡ true → fits (exit_row image callee r) (exit_row image callee s) ≡ true
+exit-mono : (image : Parts) (callee : ℕ) (r s : Row) (o : Option Routine) → slice_get image.routines callee ≡ o
+    → fits r s ≡ true → fits (exit_row image callee r) (exit_row image callee s) ≡ true
 exit-mono image callee r s None e h = rw (e, exit_row) h
 exit-mono image callee r s (Some routine) e h = rw (e, exit_row) (fits-refl routine.exit)
 
@@ -268,14 +293,16 @@ pub is-call : (opcode : Opcode) → calls opcode ≡ true → opcode ≡ Call
 is-call Call e = refl
 is-call _ e = absurd (false≢true e)
 
-pub along-mono : (image : Parts) (i : Instr) (opcode : Opcode) (r s : Row) → fits r s ≡ true → fits (row_along image i opcode r) (row_along image i opcode s) ≡ true
+pub along-mono : (image : Parts) (i : Instr) (opcode : Opcode) (r s : Row) → fits r s ≡ true
+    → fits (row_along image i opcode r) (row_along image i opcode s) ≡ true
 along-mono image i opcode r s h = by_test (calls opcode) refl
   where
     by_test : (b : Bool) → calls opcode ≡ b → fits (row_along image i opcode r) (row_along image i opcode s) ≡ true
     by_test true e = rw (is-call opcode e) (exit-mono image i.imm r s (slice_get image.routines i.imm) refl h)
     by_test false e =
         let no_call : opcode ≡ Call → ⊥ = (λ same. absurd (called same e)) in
-        rw (row_along-used image i opcode r no_call, row_along-used image i opcode s no_call) (used-mono i (uses_of opcode) (bounded i opcode r) (bounded i opcode s) (bounded-mono i r s h opcode))
+        rw (row_along-used image i opcode r no_call, row_along-used image i opcode s no_call)
+        (used-mono i (uses_of opcode) (bounded i opcode r) (bounded i opcode s) (bounded-mono i r s h opcode))
       where
         called : opcode ≡ Call → calls opcode ≡ false → ⊥
         called same e = (let at_call : calls Call ≡ false = rw same at e in absurd cc)
@@ -290,7 +317,8 @@ refused-mono i slot r s h =
       pairs = p.pairs;
     })
 
-branch-mono : (i : Instr) (refusable : Bool) (slot : SlotUse) (r s : Row) → fits r s ≡ true → fits (if refusable then refused i slot r else r) (if refusable then refused i slot s else s) ≡ true
+branch-mono : (i : Instr) (refusable : Bool) (slot : SlotUse) (r s : Row) → fits r s ≡ true
+    → fits (if refusable then refused i slot r else r) (if refusable then refused i slot s else s) ≡ true
 branch-mono i true slot r s h = refused-mono i slot r s h
 branch-mono i false slot r s h = h
 

@@ -112,7 +112,8 @@ pointer-trans None (Some q) (Some o) h j = absurd cc
 pointer-trans (Some p) (Some q) (Some o) h j =
     let a = and_parts (p.slot == q.slot) (nat_le q.least p.least) h in
     let b = and_parts (q.slot == o.slot) (nat_le o.least q.least) j in
-    both (p.slot == o.slot) (nat_le o.least p.least) (eq-eqb p.slot o.slot (eqb-true p.slot q.slot a.0 ∙ eqb-true q.slot o.slot b.0)) (le-trans o.least q.least p.least b.1 a.1)
+    both (p.slot == o.slot) (nat_le o.least p.least) (eq-eqb p.slot o.slot (eqb-true p.slot q.slot a.0 ∙ eqb-true q.slot o.slot b.0))
+    (le-trans o.least q.least p.least b.1 a.1)
 
 -- Pairs
 

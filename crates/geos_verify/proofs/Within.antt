@@ -15,7 +15,8 @@ label_of : (operand : Operand) → is_label operand ≡ true → operand ≡ Lab
 label_of Label e = refl
 label_of _ e = absurd cc
 
-pub goes-within : (image : Parts) (r start pc : ℕ) (routine : Routine) (i : Instr) → start + routine.count ≤ length image.points → length image.points ≤ 4096 → pc < length image.points
+pub goes-within : (image : Parts) (r start pc : ℕ) (routine : Routine) (i : Instr) → start + routine.count ≤ length image.points
+    → length image.points ≤ 4096 → pc < length image.points
     → FieldsFit i.opcode i → TargetFits (length image.points) i → CalleeFits (length image.routines) i
     → (falls_through i.opcode ≡ true → pc + 1 < start + routine.count) → (calls i.opcode ≡ true → i.imm < r) → GoesWithin image r pc i
 goes-within image r start pc routine i end short there fields target callee stays lower = record {

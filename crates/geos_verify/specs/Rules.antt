@@ -162,7 +162,8 @@ commits_with_held i row = commits_held (uses_of i.opcode).slot row
 
 -- one of the rules on what an instruction does with slots and pointers refuses it
 unfoldable pub misuses : Instr → Row → Bool
-misuses i row = stale_pointer i row || passes_end i row || changes_unmarked i row || locks_into_held i row || wrong_slot i row || commits_with_held i row
+misuses i row = stale_pointer i row || passes_end i row || changes_unmarked i row || locks_into_held i row || wrong_slot
+    i row || commits_with_held i row
 
 -- what holds of a routine; of no routine, nothing is asked
 abbrev pub at_routine : Parts → ℕ → (Routine → Bool) → Bool
@@ -248,7 +249,8 @@ RefusesNone image r routine start limit = (pc : ℕ) (place : Place) → start �
 
 -- the rule refuses the place at the pc, if there is one, in a routine that begins at start
 abbrev pub Refuses : Parts → ℕ → Routine → ℕ → Reject → Type 0
-Refuses image r routine start reject = IfSome (slice_get (places image) reject.pc) (λ place. refusal image r routine start reject.pc place ≡ Some reject.rule)
+Refuses image r routine start reject = IfSome (slice_get (places image) reject.pc)
+    (λ place. refusal image r routine start reject.pc place ≡ Some reject.rule)
 
 -- routine r has the place at pc
 pub record HasPoint (image : Parts) (r : ℕ) (routine : Routine) (pc : ℕ) (place : Place) : Type 0 where

@@ -27,7 +27,11 @@ calls _ = false
 
 -- the points of a routine
 abbrev pub points_of : Parts → ℕ → List Point
-points_of image r = elim (slice_get image.routines r) [ None ↦ [] | Some routine ↦ take routine.count (drop (start_of image.routines r) image.points) ]
+points_of image r = elim (slice_get image.routines r) [
+  | None ↦ []
+  | Some routine ↦ take routine.count
+      (drop (start_of image.routines r) image.points)
+]
 
 -- the instruction names counter k, or calls a routine that is said to touch it
 abbrev pub touches_here : (ℕ → Bool) → ℕ → Instr → Bool

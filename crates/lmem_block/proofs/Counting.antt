@@ -37,7 +37,8 @@ marks-le starts from end le = by (end - from) from (omega arith)
     ]
 
 -- no mark among places
-pub marks-same : (starts : List Bool) (from end : ℕ) → from ≤ end → ((k : ℕ) → from ≤ k → k < end → get_or starts k false ≡ true → ⊥) → marks_from starts from ≡ marks_from starts end
+pub marks-same : (starts : List Bool) (from end : ℕ) → from ≤ end → ((k : ℕ) → from ≤ k → k < end → get_or starts k false ≡ true → ⊥)
+    → marks_from starts from ≡ marks_from starts end
 marks-same starts from end le clear = by (end - from) from (omega arith) (omega arith)
   where
     by : (d k : ℕ) → k + d ≡ end → from ≤ k → marks_from starts k ≡ marks_from starts end
@@ -47,7 +48,8 @@ marks-same starts from end le clear = by (end - from) from (omega arith) (omega 
       | inr unset ↦ marks-no starts k unset ∙ by d (k + 1) (omega arith) (omega arith)
     ]
 
-pub marks-clear : (starts : List Bool) (from end k : ℕ) → marks_from starts from ≡ marks_from starts end → from ≤ k → k < end → get_or starts k false ≡ true → ⊥
+pub marks-clear : (starts : List Bool) (from end k : ℕ) → marks_from starts from ≡ marks_from starts end → from ≤ k
+    → k < end → get_or starts k false ≡ true → ⊥
 marks-clear starts from end k same low high is_set =
     let a = marks-le starts from k low in
     let b = marks-yes starts k is_set in
@@ -56,9 +58,11 @@ marks-clear starts from end k same low high is_set =
 
 -- no mark from a place on
 pub marks-none_from : (starts : List Bool) (n : ℕ) → ((k : ℕ) → n ≤ k → get_or starts k false ≡ true → ⊥) → marks_from starts n ≡ 0
-marks-none_from starts n clear = marks-same starts n (n + length starts) (omega arith) (λ k low high is_set. clear k low is_set) ∙ past starts (n + length starts) (omega arith)
+marks-none_from starts n clear = marks-same starts n (n + length starts) (omega arith) (λ k low high is_set. clear k low is_set)
+    ∙ past starts (n + length starts) (omega arith)
 
-pub marks-set : (starts : List Bool) (k : ℕ) → k < length starts → get_or starts k false ≡ false → marks_from (set starts k true) 0 ≡ marks_from starts 0 + 1
+pub marks-set : (starts : List Bool) (k : ℕ) → k < length starts → get_or starts k false ≡ false
+    → marks_from (set starts k true) 0 ≡ marks_from starts 0 + 1
 unfolding marks_from
 marks-set starts k l e =
     let s = sum_by-set (λ x. cond x 1 0) starts k true false l in

@@ -50,9 +50,11 @@ fresh-heap b h n long least most sixteens w =
       ),
     )
 
-pub fresh-chunks : (b : List ℕ) (h n : ℕ) → AreWords b 0 (h ∷ 16 ∷ 0 ∷ 0 ∷ n ∷ 2 ∷ 20 ∷ (n - 20) ∷ 0 ∷ 0 ∷ (n - 20) ∷ 0 ∷ []) → chunks b ≡ None ∷ None ∷ []
+pub fresh-chunks : (b : List ℕ) (h n : ℕ) → AreWords b 0 (h ∷ 16 ∷ 0 ∷ 0 ∷ n ∷ 2 ∷ 20 ∷ (n - 20) ∷ 0 ∷ 0 ∷ (n - 20) ∷ 0 ∷ [])
+    → chunks b ≡ None ∷ None ∷ []
 fresh-chunks b h n w =
     let w10 : entries b ≡ 2 = w.1.1.1.1.1.0 in
     let w16 : word b 16 ≡ 0 = w.1.1.1.1.1.1.1.1.0 in
     let w18 : word b 18 ≡ 0 = w.1.1.1.1.1.1.1.1.1.0 in
-    ap (λ m. map (λ i. chunk_at b (entry b i)) (range_with_len 0 m)) w10 ∙ ap (λ x. x ∷ chunk_at b (word b 18) ∷ []) (chunk-none b (word b 16) w16) ∙ ap (λ x. None ∷ x ∷ []) (chunk-none b (word b 18) w18)
+    ap (λ m. map (λ i. chunk_at b (entry b i)) (range_with_len 0 m)) w10 ∙ ap (λ x. x ∷ chunk_at b (word b 18) ∷ []) (chunk-none b (word b 16) w16)
+    ∙ ap (λ x. None ∷ x ∷ []) (chunk-none b (word b 18) w18)

@@ -17,7 +17,8 @@ aligned b at f (Used j n ∷ ps) end next i z s (inr h) = aligned b (at + cost n
 aligned b at f (Free m ∷ ps) end next i z s h = aligned b (at + m) (word b (at + 2)) ps end next i (omega arith) s.5 h
 
 -- two entries do not tell of one chunk
-pub one-entry : (b : List ℕ) (at f : ℕ) (ps : List Piece) (end next i j : ℕ) → Tiles b at f ps end next → HasChunk i ps → HasChunk j ps → entry b i ≡ entry b j → i ≡ j
+pub one-entry : (b : List ℕ) (at f : ℕ) (ps : List Piece) (end next i j : ℕ) → Tiles b at f ps end next → HasChunk i ps
+    → HasChunk j ps → entry b i ≡ entry b j → i ≡ j
 one-entry b at f [] end next i j s h g e = absurd h
 one-entry b at f (Used k n ∷ ps) end next i j s (inl h) (inl g) e = h ∙ sym g
 one-entry b at f (Used k n ∷ ps) end next i j s (inl h) (inr g) e =
@@ -30,14 +31,16 @@ one-entry b at f (Used k n ∷ ps) end next i j s (inr h) (inr g) e = one-entry 
 one-entry b at f (Free m ∷ ps) end next i j s h g e = one-entry b (at + m) (word b (at + 2)) ps end next i j s.5 h g e
 
 -- what each entry of a block that is full keeps to
-pub entry-place : (b : List ℕ) (i : ℕ) → IsHeader b → IsTiled b → i < entries b → IsOffset (entry b i) → (table_end b + 2 ≤ entry b i) × (entry b i % 4 ≡ 2) × (entry b i < length b)
+pub entry-place : (b : List ℕ) (i : ℕ) → IsHeader b → IsTiled b → i < entries b → IsOffset (entry b i)
+    → (table_end b + 2 ≤ entry b i) × (entry b i % 4 ≡ 2) × (entry b i < length b)
 entry-place b i header full h t =
     let start : table_end b % 4 ≡ 0 = omega (arith, header.pairs) in
     let has = full.1.all i h t in
     let l = lies b (table_end b) (word b 12) full.0 (length b) 0 i full.1.tiles has in
     (l.from, aligned b (table_end b) (word b 12) full.0 (length b) 0 i start full.1.tiles has, omega (arith, l.upto, cost-four l.n l.some))
 
-pub entry-once : (b : List ℕ) (i j : ℕ) → IsTiled b → i < entries b → j < entries b → IsOffset (entry b i) → IsOffset (entry b j) → entry b i ≡ entry b j → i ≡ j
+pub entry-once : (b : List ℕ) (i j : ℕ) → IsTiled b → i < entries b → j < entries b → IsOffset (entry b i)
+    → IsOffset (entry b j) → entry b i ≡ entry b j → i ≡ j
 entry-once b i j full h g t u e = one-entry b (table_end b) (word b 12) full.0 (length b) 0 i j full.1.tiles (full.1.all i h t) (full.1.all j g u) e
 
 pub blank : (n k : ℕ) → get_or (replicate n false) k false ≡ false
@@ -70,13 +73,15 @@ marks-skip b i starts m silent =
     }
 
 -- the mark of one more entry
-pub marks-add : (b : List ℕ) (i e : ℕ) (starts : List Bool) → Marks b i starts → e ≡ entry b i → IsOffset e → table_end b + 2 ≤ e → e % 4 ≡ 2 → e < length b → e / 4 < length starts →
+pub marks-add : (b : List ℕ) (i e : ℕ) (starts : List Bool) → Marks b i starts → e ≡ entry b i → IsOffset e
+    → table_end b + 2 ≤ e → e % 4 ≡ 2 → e < length b → e / 4 < length starts →
     get_or starts (e / 4) false ≡ false → Marks b (i + 1) (set starts (e / 4) true)
 marks-add b i e starts m is t low fours high fits free =
     let T : ℕ → Type 0 = λ x. IsOffset x in
     let told : (j : ℕ) → j ≡ i → entry b j ≡ e = (λ j d. ap (λ x. entry b x) d ∙ sym is) in
     let same : get_or (set starts (e / 4) true) (e / 4) false ≡ true = get_or-set_same starts (e / 4) true false fits in
-    let apart : (j : ℕ) → j < i → IsOffset (entry b j) → entry b j ≡ e → ⊥ = (λ j l u d. false≢true (sym free ∙ ap (λ x. get_or starts (x / 4) false) (sym d) ∙ m.marked j l u)) in
+    let apart : (j : ℕ) → j < i → IsOffset (entry b j) → entry b j ≡ e
+    → ⊥ = (λ j l u d. false≢true (sym free ∙ ap (λ x. get_or starts (x / 4) false) (sym d) ∙ m.marked j l u)) in
     record {
       sound = (λ k h. elim (cases_eq k (e / 4)) [
         | inl d ↦ (i, omega arith, subst T is t, sym is ∙ omega arith)
@@ -89,7 +94,8 @@ marks-add b i e starts m is t low fours high fits free =
         ]
         | inr d ↦ ap (λ x. get_or (set starts (e / 4) true) (x / 4) false) (told j d) ∙ same
       ]);
-      place = (λ j h u. elim (below-more i j h) [ inl l ↦ m.place j l u | inr d ↦ (let k = told j d in (omega (arith, k), omega (arith, k), omega (arith, k))) ]);
+      place = (λ j h u. elim (below-more i j h)
+          [ inl l ↦ m.place j l u | inr d ↦ (let k = told j d in (omega (arith, k), omega (arith, k), omega (arith, k))) ]);
       once = (λ j k h g u d. elim (below-more i j h) [
         | inl l ↦ elim (below-more i k g) [
           | inl r ↦ m.once j k l r u d

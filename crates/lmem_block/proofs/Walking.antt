@@ -11,10 +11,12 @@ use Rattle.lmem_block.proofs.Counting.{marks-yes, marks-no, marks-le, marks-same
 use Rattle.lmem_block.specs.Check.{CanTile, Goes, IsTiled, Marks, marks_from}
 
 -- an entry that tells of a chunk at a marked place
-pub marked-start : (b : List ℕ) (at n : ℕ) (starts : List Bool) → Marks b n starts → at % 4 ≡ 0 → get_or starts (at / 4) false ≡ true → (i : ℕ) × (i < n) × IsOffset (entry b i) × (entry b i ≡ at + 2)
+pub marked-start : (b : List ℕ) (at n : ℕ) (starts : List Bool) → Marks b n starts → at % 4 ≡ 0 → get_or starts (at / 4) false ≡ true
+    → (i : ℕ) × (i < n) × IsOffset (entry b i) × (entry b i ≡ at + 2)
 marked-start b at n starts m fours h = let s = m.sound (at / 4) h in (s.0, s.1, s.2, s.3 ∙ omega arith)
 
-pub unmarked-start : (b : List ℕ) (at n : ℕ) (starts : List Bool) → Marks b n starts → at % 4 ≡ 0 → get_or starts (at / 4) false ≡ false → (i : ℕ) → i < n → IsOffset (entry b i) → entry b i ≡ at + 2 → ⊥
+pub unmarked-start : (b : List ℕ) (at n : ℕ) (starts : List Bool) → Marks b n starts → at % 4 ≡ 0
+    → get_or starts (at / 4) false ≡ false → (i : ℕ) → i < n → IsOffset (entry b i) → entry b i ≡ at + 2 → ⊥
 unmarked-start b at n starts m fours h i l t e =
     let q : entry b i / 4 ≡ at / 4 = ap (λ x. x / 4) e ∙ omega arith in
     false≢true (sym h ∙ ap (λ x. get_or starts x false) (sym q) ∙ m.marked i l t)
@@ -26,14 +28,16 @@ Clear starts at size = (k : ℕ) → at / 4 + 1 ≤ k → k < (at + size) / 4 �
 -- where the pieces from `at` on begin with one of this size, no entry tells of a place within
 -- it
 clear : (b : List ℕ) (at f size : ℕ) (ps : List Piece) (starts : List Bool) → Marks b (entries b) starts → at % 4 ≡ 0 → size % 4 ≡ 0 →
-    ((i : ℕ) → i < entries b → IsOffset (entry b i) → at + 2 < entry b i → HasChunk i ps) → Tiles b (at + size) f ps (length b) 0 → Clear starts at size
+    ((i : ℕ) → i < entries b → IsOffset (entry b i) → at + 2 < entry b i → HasChunk i ps) → Tiles b (at + size) f ps (length b) 0
+    → Clear starts at size
 clear b at f size ps starts m fours four all s k low high h =
     let e = m.sound k h in
     let l = lies b (at + size) f ps (length b) 0 e.0 s (all e.0 e.1 e.2 (omega (arith, e.3))) in
     absurd (omega (arith, l.from, e.3))
 
 -- behind a piece in which no chunk starts
-covered : (b : List ℕ) (at size : ℕ) (ps : List Piece) (starts : List Bool) → Marks b (entries b) starts → at % 4 ≡ 0 → size % 4 ≡ 0 → Clear starts at size →
+covered : (b : List ℕ) (at size : ℕ) (ps : List Piece) (starts : List Bool) → Marks b (entries b) starts → at % 4 ≡ 0
+    → size % 4 ≡ 0 → Clear starts at size →
     ((i : ℕ) → i < entries b → IsOffset (entry b i) → at + size ≤ entry b i → HasChunk i ps) →
     (i : ℕ) → i < entries b → IsOffset (entry b i) → at ≤ entry b i → (entry b i ≡ at + 2) ⊎ HasChunk i ps
 covered b at size ps starts m fours four free all i l t low =
@@ -52,7 +56,8 @@ pub used-forward : (b : List ℕ) (at free sum w : ℕ) (starts : List Bool) →
     (3 ≤ w) × (at + (w + 3) / 4 * 4 ≤ length b) × Clear starts at ((w + 3) / 4 * 4) × CanTile b (at + (w + 3) / 4 * 4) free sum
 used-forward b at free sum w starts m fours inside is h (ps, left) = by ps left.tiles left.all left.total
   where
-    by : (ps : List Piece) → Tiles b at free ps (length b) 0 → ((i : ℕ) → i < entries b → IsOffset (entry b i) → at ≤ entry b i → HasChunk i ps) → sum + free_bytes ps ≡ word b 14 →
+    by : (ps : List Piece) → Tiles b at free ps (length b) 0 → ((i : ℕ) → i < entries b → IsOffset (entry b i) → at ≤ entry b i → HasChunk i ps)
+        → sum + free_bytes ps ≡ word b 14 →
         (3 ≤ w) × (at + (w + 3) / 4 * 4 ≤ length b) × Clear starts at ((w + 3) / 4 * 4) × CanTile b (at + (w + 3) / 4 * 4) free sum
     by [] s all total = absurd (omega arith)
     by (Free k ∷ ps) s all total =
@@ -64,7 +69,8 @@ used-forward b at free sum w starts m fours inside is h (ps, left) = by ps left.
         let more : Tiles b (at + (w + 3) / 4 * 4) free ps (length b) 0 = (subst (λ (k : ℕ). Tiles b (at + k) free ps (length b) 0) size s.4) in
         let fits = tiles-le b (at + (w + 3) / 4 * 4) free ps (length b) 0 more in
         let wide = cost-four n s.0 in
-        let rest : (i : ℕ) → i < entries b → IsOffset (entry b i) → at + 2 < entry b i → HasChunk i ps = (λ i l t low. elim (all i l t (omega arith)) [
+        let rest : (i : ℕ) → i < entries b → IsOffset (entry b i) → at + 2 < entry b i → HasChunk i ps =
+        (λ i l t low. elim (all i l t (omega arith)) [
           | inl e ↦ (let d : entry b i ≡ at + 2 = ap (λ x. entry b x) e ∙ s.2 in absurd (omega arith))
           | inr g ↦ g
         ]) in (
@@ -102,8 +108,10 @@ used-goes b at free sum w end starts m fours inside is h least ends fits =
     let T : ℕ → Type 0 = λ e. CanTile b e free sum in
     let C : ℕ → Type 0 = λ e. (k : ℕ) → from ≤ k → k < e / 4 → get_or starts k false ≡ true → ⊥ in
     record {
-      forward = (λ can. let f = used-forward b at free sum w starts m fours inside is h can in let same = marks-same starts from (end / 4) le (subst C same_end f.2) in (subst T same_end f.3, omega arith));
-      back = (λ can same. used-back b at free sum w starts m fours is least h (subst C (sym same_end) (λ k low high. marks-clear starts from (end / 4) k (omega arith) low high)) (subst T (sym same_end) can));
+      forward = (λ can. let f = used-forward b at free sum w starts m fours inside is h can in
+          let same = marks-same starts from (end / 4) le (subst C same_end f.2) in (subst T same_end f.3, omega arith));
+      back = (λ can same. used-back b at free sum w starts m fours is least h
+          (subst C (sym same_end) (λ k low high. marks-clear starts from (end / 4) k (omega arith) low high)) (subst T (sym same_end) can));
       marks = omega arith;
       some = omega arith;
       fours = omega arith;
@@ -112,12 +120,14 @@ used-goes b at free sum w end starts m fours inside is h least ends fits =
     }
 
 -- at a place with no mark stands a free chunk, the first one from here on
-pub free-forward : (b : List ℕ) (at free sum w next : ℕ) (starts : List Bool) → Marks b (entries b) starts → at % 4 ≡ 0 → 16 ≤ at → at < length b → w ≡ word b at → next ≡ word b (at + 2) →
+pub free-forward : (b : List ℕ) (at free sum w next : ℕ) (starts : List Bool) → Marks b (entries b) starts → at % 4 ≡ 0
+    → 16 ≤ at → at < length b → w ≡ word b at → next ≡ word b (at + 2) →
     get_or starts (at / 4) false ≡ false → CanTile b at free sum →
     (free ≡ at) × (0 < w) × (w % 4 ≡ 0) × (next ≢ at + w) × (at + w ≤ length b) × Clear starts at w × CanTile b (at + w) next (sum + w)
 free-forward b at free sum w next starts m fours low inside is next_is h (ps, left) = by ps left.tiles left.all left.total
   where
-    by : (ps : List Piece) → Tiles b at free ps (length b) 0 → ((i : ℕ) → i < entries b → IsOffset (entry b i) → at ≤ entry b i → HasChunk i ps) → sum + free_bytes ps ≡ word b 14 →
+    by : (ps : List Piece) → Tiles b at free ps (length b) 0 → ((i : ℕ) → i < entries b → IsOffset (entry b i) → at ≤ entry b i → HasChunk i ps)
+        → sum + free_bytes ps ≡ word b 14 →
         (free ≡ at) × (0 < w) × (w % 4 ≡ 0) × (next ≢ at + w) × (at + w ≤ length b) × Clear starts at w × CanTile b (at + w) next (sum + w)
     by [] s all total = absurd (omega arith)
     by (Used j n ∷ ps) s all total =
@@ -138,8 +148,10 @@ free-forward b at free sum w next starts m fours low inside is next_is h (ps, le
           (ps, record { tiles = more; all = (λ i l t lt. all i l t (omega arith)); total = omega (arith, total, size) }),
         )
 
-pub free-back : (b : List ℕ) (at free sum w next : ℕ) (starts : List Bool) → Marks b (entries b) starts → at % 4 ≡ 0 → w ≡ word b at → next ≡ word b (at + 2) →
-    get_or starts (at / 4) false ≡ false → free ≡ at → 0 < w → w % 4 ≡ 0 → next ≢ at + w → Clear starts at w → CanTile b (at + w) next (sum + w) → CanTile b at free sum
+pub free-back : (b : List ℕ) (at free sum w next : ℕ) (starts : List Bool) → Marks b (entries b) starts → at % 4 ≡ 0
+    → w ≡ word b at → next ≡ word b (at + 2) →
+    get_or starts (at / 4) false ≡ false → free ≡ at → 0 < w → w % 4 ≡ 0 → next ≢ at + w → Clear starts at w
+    → CanTile b (at + w) next (sum + w) → CanTile b at free sum
 free-back b at free sum w next starts m fours is next_is h first some four apart free_of (ps, left) = (
   Free w ∷ ps,
   record {
@@ -152,15 +164,19 @@ free-back b at free sum w next starts m fours is next_is h first some four apart
   },
 )
 
-pub free-goes : (b : List ℕ) (at free sum w next : ℕ) (starts : List Bool) → Marks b (entries b) starts → at % 4 ≡ 0 → 16 ≤ at → at < length b → w ≡ word b at → next ≡ word b (at + 2) →
-    get_or starts (at / 4) false ≡ false → free ≡ at → 0 < w → w % 4 ≡ 0 → next ≢ at + w → at + w ≤ length b → Goes b starts at free sum (at + w) 0 next (sum + w)
+pub free-goes : (b : List ℕ) (at free sum w next : ℕ) (starts : List Bool) → Marks b (entries b) starts → at % 4 ≡ 0
+    → 16 ≤ at → at < length b → w ≡ word b at → next ≡ word b (at + 2) →
+    get_or starts (at / 4) false ≡ false → free ≡ at → 0 < w → w % 4 ≡ 0 → next ≢ at + w → at + w ≤ length b
+    → Goes b starts at free sum (at + w) 0 next (sum + w)
 free-goes b at free sum w next starts m fours low inside is next_is h first some four apart fits =
     let no = marks-no starts (at / 4) h in
     let le : at / 4 + 1 ≤ (at + w) / 4 = omega arith in
     let fewer = marks-le starts (at / 4 + 1) ((at + w) / 4) le in
     record {
-      forward = (λ can. let f = free-forward b at free sum w next starts m fours low inside is next_is h can in let same = marks-same starts (at / 4 + 1) ((at + w) / 4) le f.5 in (f.6, omega arith));
-      back = (λ can same. free-back b at free sum w next starts m fours is next_is h first some four apart (λ k l high. marks-clear starts (at / 4 + 1) ((at + w) / 4) k (omega arith) l high) can);
+      forward = (λ can. let f = free-forward b at free sum w next starts m fours low inside is next_is h can in
+          let same = marks-same starts (at / 4 + 1) ((at + w) / 4) le f.5 in (f.6, omega arith));
+      back = (λ can same. free-back b at free sum w next starts m fours is next_is h first some four apart
+          (λ k l high. marks-clear starts (at / 4 + 1) ((at + w) / 4) k (omega arith) l high) can);
       marks = omega arith;
       some = omega arith;
       fours = omega arith;
@@ -169,10 +185,13 @@ free-goes b at free sum w next starts m fours low inside is next_is h first some
     }
 
 -- at the table's end, where no place is passed
-pub before : (b : List ℕ) (at : ℕ) (starts : List Bool) → Marks b (entries b) starts → at % 4 ≡ 0 → at ≡ table_end b → marks_from starts 0 ≡ marks_from starts (at / 4)
-before b at starts m fours is = marks-same starts 0 (at / 4) (omega arith) (λ k low high h. let s = m.sound k h in absurd (omega (arith, s.3, (m.place s.0 s.1 s.2).0)))
+pub before : (b : List ℕ) (at : ℕ) (starts : List Bool) → Marks b (entries b) starts → at % 4 ≡ 0 → at ≡ table_end b
+    → marks_from starts 0 ≡ marks_from starts (at / 4)
+before b at starts m fours is = marks-same starts 0 (at / 4) (omega arith) (λ k low high h. let s = m.sound k h in
+    absurd (omega (arith, s.3, (m.place s.0 s.1 s.2).0)))
 
-pub start : (b : List ℕ) (at free : ℕ) (starts : List Bool) → Marks b (entries b) starts → at ≡ table_end b → free ≡ word b 12 → IsTiled b ↔ CanTile b at free 0
+pub start : (b : List ℕ) (at free : ℕ) (starts : List Bool) → Marks b (entries b) starts → at ≡ table_end b
+    → free ≡ word b 12 → IsTiled b ↔ CanTile b at free 0
 start b at free starts m is first =
     let P : ℕ → ℕ → List Piece → Type 0 = λ x y ps. Tiles b x y ps (length b) 0 in (
       (λ full. (
@@ -203,7 +222,8 @@ end-forward b at free sum past (ps, left) = by ps left.tiles left.total
         absurd (omega (arith, tiles-le b (at + cost n) free ps (length b) 0 s.4, cost-four n s.0))
     by (Free k ∷ ps) s total = absurd (omega (arith, tiles-le b (at + k) (word b (at + 2)) ps (length b) 0 s.5, s.0))
 
-pub end-back : (b : List ℕ) (at free sum : ℕ) (starts : List Bool) → Marks b (entries b) starts → at ≡ length b → free ≡ 0 → sum ≡ word b 14 → CanTile b at free sum
+pub end-back : (b : List ℕ) (at free sum : ℕ) (starts : List Bool) → Marks b (entries b) starts → at ≡ length b
+    → free ≡ 0 → sum ≡ word b 14 → CanTile b at free sum
 end-back b at free sum starts m is none total = (
   [],
   record {
@@ -214,4 +234,5 @@ end-back b at free sum starts m is none total = (
 )
 
 pub behind : (b : List ℕ) (at : ℕ) (starts : List Bool) → Marks b (entries b) starts → length b ≤ at → at % 4 ≡ 0 → marks_from starts (at / 4) ≡ 0
-behind b at starts m past fours = marks-none_from starts (at / 4) (λ k low h. let s = m.sound k h in absurd (omega (arith, s.3, (m.place s.0 s.1 s.2).2)))
+behind b at starts m past fours = marks-none_from starts (at / 4) (λ k low h. let s = m.sound k h in
+    absurd (omega (arith, s.3, (m.place s.0 s.1 s.2).2)))

@@ -44,5 +44,6 @@ IsTiled block = (pieces : List Piece) × IsTiledBy block pieces
 pub record Marks (block : List ℕ) (n : ℕ) (starts : List Bool) : Type 0 where
   pub sound : (k : ℕ) → slice_index_or starts k false ≡ true → (i : ℕ) × (i < n) × IsOffset (entry block i) × (entry block i ≡ 4 * k + 2)
   pub marked : (i : ℕ) → i < n → IsOffset (entry block i) → slice_index_or starts (entry block i / 4) false ≡ true
-  pub place : (i : ℕ) → i < n → IsOffset (entry block i) → (table_end block + 2 ≤ entry block i) × (entry block i % 4 ≡ 2) × (entry block i < length block)
+  pub place : (i : ℕ) → i < n → IsOffset (entry block i) → (table_end block + 2 ≤ entry block i) × (entry block i % 4 ≡ 2)
+      × (entry block i < length block)
   pub once : (i j : ℕ) → i < n → j < n → IsOffset (entry block i) → entry block i ≡ entry block j → i ≡ j

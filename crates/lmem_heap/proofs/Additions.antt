@@ -33,7 +33,8 @@ grown-header b c p fits k =
       fits = omega (arith, k.count, k.long);
     }
 
-grown-up : (b c : List ℕ) (i : ℕ) → GrowsTable b c → i < entries b → table_end b < entry b i → entry b i < chunks_end b → entry c i + table_end b ≡ entry b i + (table_end b + 4)
+grown-up : (b c : List ℕ) (i : ℕ) → GrowsTable b c → i < entries b → table_end b < entry b i → entry b i < chunks_end b
+    → entry c i + table_end b ≡ entry b i + (table_end b + 4)
 grown-up b c i k h low high = let e = k.places i h ∙ moved-in (table_end b) (chunks_end b) (table_end b + 4) (entry b i) low high in omega (arith, e)
 
 pub grown-packed : (b c : List ℕ) → IsPacked b → 4 ≤ total_free b → GrowsTable b c → IsPacked c
@@ -43,7 +44,8 @@ grown-packed b c p fits k =
     let at_is : p.at ≡ at = omega arith in
     let tiles : Tiles b end 0 p.pre at 0 = subst (λ (x : ℕ). Tiles b end 0 p.pre x 0) at_is p.tiles in
     let low = tiles-le b end 0 p.pre at 0 tiles in
-    let up : Tiles c (end + 4) 0 p.pre (at + 4) 0 = tiles-shifted b c end (end + 4) end 0 p.pre at 0 (end + 4) 0 (at + 4) p.used tiles (omega arith) (omega arith) k.moved (omega (arith, k.count))
+    let up : Tiles c (end + 4) 0 p.pre (at + 4) 0 = tiles-shifted b c end (end + 4) end 0 p.pre at 0 (end + 4) 0
+    (at + 4) p.used tiles (omega arith) (omega arith) k.moved (omega (arith, k.count))
     (λ i l a z. grown-up b c i k l (omega arith) z) in
     let start : end + 4 ≡ table_end c = omega (arith, k.count) in
     record {
@@ -79,11 +81,13 @@ grown-chunks b c p fits k =
     let G : ℕ → Option (List ℕ) = λ i. chunk_at b (entry b i) in
     let each : (i : ℕ) → 0 ≤ i → i < 0 + n → F i ≡ G i = (λ i z l.
     let h : i < n = omega arith in
-    chunk-cases b c (entry b i) (entry c i) (λ e. k.places i h ∙ moved-low end at (end + 4) (entry b i) (omega (arith, e)) ∙ e) (λ e. k.places i h ∙ moved-high end at (end + 4) (entry b i) (omega (arith, e)) ∙ e) (λ t.
+    chunk-cases b c (entry b i) (entry c i) (λ e. k.places i h ∙ moved-low end at (end + 4) (entry b i) (omega (arith, e)) ∙ e)
+    (λ e. k.places i h ∙ moved-high end at (end + 4) (entry b i) (omega (arith, e)) ∙ e) (λ t.
     let r = lies b end 0 p.pre at 0 i tiles (p.all i h t) in
     let wide = cost-four r.n r.some in
     let d = grown-up b c i k h (omega arith) (omega arith) in
-    chunk-shifted b c end (end + 4) end at (at + 4) (entry b i) (entry c i) r k.moved d (omega arith) (omega arith) (omega arith) (omega (arith, k.long)) t ((λ e. absurd (omega (arith, e))), (λ e. absurd (omega (arith, e)))))) in
+    chunk-shifted b c end (end + 4) end at (at + 4) (entry b i) (entry c i) r k.moved d (omega arith) (omega arith)
+    (omega arith) (omega (arith, k.long)) t ((λ e. absurd (omega (arith, e))), (λ e. absurd (omega (arith, e)))))) in
     let e0 : F n ≡ None = chunk-none c (entry c n) k.fresh.0 in
     let q : 16 + 2 * (n + 1) ≡ end + 2 = omega arith in
     let e1 : F (n + 1) ≡ None = chunk-none c (entry c (n + 1)) (ap (word c) q ∙ k.fresh.1) in

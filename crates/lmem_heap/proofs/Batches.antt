@@ -51,13 +51,16 @@ pub slides-more : (old c d : List ℕ) (ss : List Slide) (gap : Gap) → SlidesG
     SlidesGaps old d (ss ++ (slide_of gap ∷ []))
 slides-more old c d ss gap s g small is =
     let p = g.has s.heap s.slid.but in
-    let reach : first_free c + word c (first_free c) ≡ gap.first + gap.size = ap (λ x. x + word c x) (sym g.first) ∙ ap (λ x. gap.first + x) (sym g.size) in
+    let reach : first_free c + word c (first_free c) ≡ gap.first + gap.size = ap (λ x. x + word c x) (sym g.first)
+    ∙ ap (λ x. gap.first + x) (sym g.size) in
     let on = slid-on c s.heap d ss gap s.high s.slid p small s.order (omega (arith, s.below, reach)) is in
     let count = head-word s.heap on.next 12 10 on.closed.head (omega arith) in
     let low = tiles-le s.heap (table_end s.heap) gap.first p.pre gap.first gap.first p.before in
     let new_first : first_free d ≡ gap.end - gap.size = but-head d on.next 12 on.slid.but (omega arith) ∙ on.closed.first in
-    let new_size : word d (gap.end - gap.size) ≡ gap.size + gap.more = but-behind d on.next (gap.end - gap.size) on.slid.but (omega (arith, count, low, g.inner)) ∙ on.closed.size in
-    let new_reach : first_free d + word d (first_free d) ≡ gap.end - gap.size + (gap.size + gap.more) = ap (λ x. x + word d x) new_first ∙ ap (λ x. gap.end - gap.size + x) new_size in
+    let new_size : word d (gap.end - gap.size) ≡ gap.size + gap.more = but-behind d on.next (gap.end - gap.size) on.slid.but
+    (omega (arith, count, low, g.inner)) ∙ on.closed.size in
+    let new_reach : first_free d + word d (first_free d) ≡ gap.end - gap.size + (gap.size + gap.more) = ap (λ x. x + word d x) new_first
+    ∙ ap (λ x. gap.end - gap.size + x) new_size in
     record {
       heap = on.next;
       slid = on.slid;
@@ -80,12 +83,18 @@ pub record SlidOneMore (old d : List ℕ) (ss : List Slide) : Type 0 where
   pub so_far : SlidesGaps old d ss
   pub some : 0 < length ss
 
-pub slides-one-more : (old c d : List ℕ) (ss after : List Slide) (gap : Gap) (s : Slide) → SlidesGaps old c ss → IsFirstGap c gap → gap.after < 65536 → d ≡ slid c gap → s ≡ slide_of gap → after ≡ ss ++ (s ∷ []) → SlidOneMore old d after
+pub slides-one-more : (old c d : List ℕ) (ss after : List Slide) (gap : Gap) (s : Slide) → SlidesGaps old c ss
+    → IsFirstGap c gap → gap.after < 65536 → d ≡ slid c gap → s ≡ slide_of gap → after ≡ ss ++ (s ∷ []) → SlidOneMore old d after
 slides-one-more old c d ss after gap s so_far g small bytes run is =
     let added : after ≡ ss ++ (slide_of gap ∷ []) = is ∙ ap (λ x. ss ++ (x ∷ [])) run in
-    record { so_far = subst (λ (x : List Slide). SlidesGaps old d x) (sym added) (slides-more old c d ss gap so_far g small bytes); some = (let n = ap length added in omega (arith, n, length-append ss (slide_of gap ∷ []))) }
+    record {
+      so_far = subst (λ (x : List Slide). SlidesGaps old d x) (sym added) (slides-more old c d ss gap so_far g small bytes);
+      some =
+          (let n = ap length added in omega (arith, n, length-append ss (slide_of gap ∷ [])));
+    }
 
-pub slides-done : (old c d : List ℕ) (ss : List Slide) → SlidesGaps old c ss → IsHeap old → (IsCompact old → ⊥) → 0 < length ss → MapsEntries c d (entry_slid ss) 0 (entries c) → ClosesGaps old d
+pub slides-done : (old c d : List ℕ) (ss : List Slide) → SlidesGaps old c ss → IsHeap old → (IsCompact old → ⊥)
+    → 0 < length ss → MapsEntries c d (entry_slid ss) 0 (entries c) → ClosesGaps old d
 slides-done old c d ss s heap open_still some m =
     let w = written c s.heap d ss s.slid m in
     let same = but-head c s.heap 12 s.slid.but (omega arith) in

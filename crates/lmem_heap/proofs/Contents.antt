@@ -16,23 +16,28 @@ length-zeros d c from m is = ap length is ∙ length-with_part d from (replicate
 -- a byte beside them
 pub beside-zeros : (d c : List ℕ) (from m k : ℕ) → c ≡ with_part d from (replicate m 0) → (k < from) ⊎ (from + m ≤ k) → get_or c k 0 ≡ get_or d k 0
 beside-zeros d c from m k is (inl h) = ap (λ x. get_or x k 0) is ∙ get_or-with_part_before d from (replicate m 0) k h
-beside-zeros d c from m k is (inr h) = ap (λ x. get_or x k 0) is ∙ get_or-with_part_behind d from (replicate m 0) k (omega (arith, length-replicate {A = ℕ} m 0, h))
+beside-zeros d c from m k is (inr h) = ap (λ x. get_or x k 0) is ∙ get_or-with_part_behind d from (replicate m 0) k
+    (omega (arith, length-replicate {A = ℕ} m 0, h))
 
 -- one of them
-pub within-zeros : (d c : List ℕ) (from m k : ℕ) → c ≡ with_part d from (replicate m 0) → from + m ≤ length d → from ≤ k → k < from + m → get_or c k 0 ≡ 0
+pub within-zeros : (d c : List ℕ) (from m k : ℕ) → c ≡ with_part d from (replicate m 0) → from + m ≤ length d → from ≤ k
+    → k < from + m → get_or c k 0 ≡ 0
 within-zeros d c from m k is fits low high =
     let z = length-replicate {A = ℕ} m 0 in
-    ap (λ x. get_or x k 0) is ∙ get_or-with_part_within d from (replicate m 0) k (k - from) (omega arith) (omega (arith, z)) (omega (arith, z)) ∙ zero-at m (k - from)
+    ap (λ x. get_or x k 0) is ∙ get_or-with_part_within d from (replicate m 0) k (k - from) (omega arith) (omega (arith, z)) (omega (arith, z))
+    ∙ zero-at m (k - from)
 
 -- the bytes of a chunk of which the first ones are kept, as far as it has room, and the others are zeros
 pub kept-bytes : (old c : List ℕ) (at keep n : ℕ) → at + n ≤ length c → (n ≤ keep) ⊎ (length old ≤ keep) →
-    ((q : ℕ) → q < keep → q < n → get_or c (at + q) 0 ≡ get_or old q 0) → ((q : ℕ) → keep ≤ q → q < n → get_or c (at + q) 0 ≡ 0) → part c at n ≡ resized old n
+    ((q : ℕ) → q < keep → q < n → get_or c (at + q) 0 ≡ get_or old q 0) → ((q : ℕ) → keep ≤ q → q < n → get_or c (at + q) 0 ≡ 0)
+    → part c at n ≡ resized old n
 kept-bytes old c at keep n fits exact kept zeros =
     let nc = length-part c at n fits in
     same_number_lists (part c at n) (resized old n) (nc ∙ sym (length-resized old n)) (λ q l.
     let small : q < n = omega (arith, l, nc) in
     get_or-take n (drop at c) q 0 small ∙ get_or-drop at c q 0 ∙ (elim (cases_lt q keep) [
       | inl stays ↦ kept q stays small
-      | inr new ↦ zeros q new small ∙ sym (get_or_past old q 0 (elim exact [ inl z ↦ absurd (omega (arith, z, small, new)) | inr z ↦ omega (arith, z, new) ]))
+      | inr new ↦ zeros q new small
+          ∙ sym (get_or_past old q 0 (elim exact [ inl z ↦ absurd (omega (arith, z, small, new)) | inr z ↦ omega (arith, z, new) ]))
     ])
     ∙ sym (get_or-resized old n q small))

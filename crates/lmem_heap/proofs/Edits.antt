@@ -54,7 +54,8 @@ split b i p h t =
       high = omega arith;
       room = omega arith;
       before = used-any b (table_end b) 0 0 r.pre (e - 2) r.g pre_used r.before;
-      behind = subst (λ (x : ℕ). Tiles b (chunk_end b i) 0 r.post x 0) at (subst (λ (x : ℕ). Tiles b x 0 r.post p.at 0) end (used-any b (e - 2 + cost r.n) r.g 0 r.post p.at 0 post_used r.behind));
+      behind = subst (λ (x : ℕ). Tiles b (chunk_end b i) 0 r.post x 0) at
+          (subst (λ (x : ℕ). Tiles b x 0 r.post p.at 0) end (used-any b (e - 2 + cost r.n) r.g 0 r.post p.at 0 post_used r.behind));
       has = (λ j l u. has-split j r.pre (Used i r.n ∷ r.post) (subst (λ (ps : List Piece). HasChunk j ps) r.is (p.all j l u)));
     }
 
@@ -67,7 +68,8 @@ pub record Edited (b c : List ℕ) (i to : ℕ) (s : Split b i) : Type 0 where
   pub has : (j : ℕ) → j < entries b → j ≢ i → IsOffset (entry c j) → HasChunk j s.pre ⊎ HasChunk j s.post
   pub others : (j : ℕ) → j < entries b → j ≢ i → chunk_at c (entry c j) ≡ chunk_at b (entry b j)
 
-pub edited : (b c : List ℕ) (i to : ℕ) → IsPacked b → i < entries b → IsOffset (entry b i) → (s : Split b i) → table_end b ≤ to → to + (chunks_end b - chunk_end b i) ≤ length b → EditsChunk b c i to → Edited b c i to s
+pub edited : (b c : List ℕ) (i to : ℕ) → IsPacked b → i < entries b → IsOffset (entry b i) → (s : Split b i)
+    → table_end b ≤ to → to + (chunks_end b - chunk_end b i) ≤ length b → EditsChunk b c i to → Edited b c i to s
 edited b c i to p h t s low' fits k =
     let e = entry b i in
     let end = chunk_end b i in
@@ -76,20 +78,26 @@ edited b c i to p h t s low' fits k =
     let n : entries c ≡ entries b = head-word b c 12 10 k.head (omega arith) in
     let start : table_end b ≡ table_end c = ap (λ x. 16 + 2 * x) (sym n) in
     let apart : (j : ℕ) → (entry b j ≡ e → ⊥) → j ≢ i = (λ j ne is. ne (ap (λ x. entry b x) is)) in
-    let low_entry : (j : ℕ) → j < entries b → j ≢ i → entry b j ≤ end → entry c j ≡ entry b j = (λ j l ne le. k.others j l ne ∙ moved-low end at to (entry b j) le) in
-    let high_entry : (j : ℕ) → j < entries b → j ≢ i → at ≤ entry b j → entry c j ≡ entry b j = (λ j l ne le. k.others j l ne ∙ moved-high end at to (entry b j) le) in
-    let moved_entry : (j : ℕ) → j < entries b → j ≢ i → end < entry b j → entry b j < at → entry c j + end ≡ entry b j + to = (λ j l ne a z. let q = k.others j l ne ∙ moved-in end at to (entry b j) a z in omega (arith, q)) in
+    let low_entry : (j : ℕ) → j < entries b → j ≢ i → entry b j ≤ end → entry c j ≡ entry b j =
+    (λ j l ne le. k.others j l ne ∙ moved-low end at to (entry b j) le) in
+    let high_entry : (j : ℕ) → j < entries b → j ≢ i → at ≤ entry b j → entry c j ≡ entry b j =
+    (λ j l ne le. k.others j l ne ∙ moved-high end at to (entry b j) le) in
+    let moved_entry : (j : ℕ) → j < entries b → j ≢ i → end < entry b j → entry b j < at → entry c j + end ≡ entry b j + to =
+    (λ j l ne a z. let q = k.others j l ne ∙ moved-in end at to (entry b j) a z in omega (arith, q)) in
     let pre : Tiles c (table_end b) 0 s.pre (e - 2) 0 = tiles-kept b c (table_end b) 0 s.pre (e - 2) 0 s.before k.before (omega (arith, n))
     (λ j l a z. low_entry j l (apart j (λ is. absurd (omega arith))) (omega arith)) in
     record {
       header = same-header b c p.header k.long k.head;
       count = n;
       before = subst (λ (x : ℕ). Tiles c x 0 s.pre (e - 2) 0) start pre;
-      behind = tiles-shifted b c end to end 0 s.post at 0 to 0 (to + (at - end)) s.post_used s.behind (omega arith) (omega arith) k.moved (omega (arith, n))
+      behind = tiles-shifted b c end to end 0 s.post at 0 to 0 (to + (at - end)) s.post_used s.behind (omega arith)
+          (omega arith) k.moved (omega (arith, n))
           (λ j l a z. moved_entry j l (apart j (λ is. absurd (omega arith))) (omega arith) z);
-      has = (λ j l ne told. let told_b : IsOffset (entry b j) = ((λ z. told.0 (low_entry j l ne (omega (arith, z)) ∙ z)), (λ z. told.1 (high_entry j l ne (omega (arith, z)) ∙ z))) in
+      has = (λ j l ne told. let told_b : IsOffset (entry b j) =
+          ((λ z. told.0 (low_entry j l ne (omega (arith, z)) ∙ z)), (λ z. told.1 (high_entry j l ne (omega (arith, z)) ∙ z))) in
           elim (s.has j l told_b) [ inl x ↦ inl x | inr x ↦ elim x [ inl is ↦ absurd (ne is) | inr y ↦ inr y ] ]);
-      others = (λ j l ne. chunk-cases b c (entry b j) (entry c j) (λ z. low_entry j l ne (omega (arith, z)) ∙ z) (λ z. high_entry j l ne (omega (arith, z)) ∙ z) (λ told.
+      others = (λ j l ne. chunk-cases b c (entry b j) (entry c j) (λ z. low_entry j l ne (omega (arith, z)) ∙ z)
+          (λ z. high_entry j l ne (omega (arith, z)) ∙ z) (λ told.
           elim (s.has j l told) [
             | inl x ↦ (let y = lies b (table_end b) 0 s.pre (e - 2) 0 j s.before x in let wide_j = cost-four y.n y.some in
                 let d = low_entry j l ne (omega arith) in
@@ -97,11 +105,13 @@ edited b c i to p h t s low' fits k =
             | inr (inl is) ↦ absurd (ne is)
             | inr (inr y') ↦ (let y = lies b end 0 s.post at 0 j s.behind y' in let wide_j = cost-four y.n y.some in
                 let d = moved_entry j l ne (omega arith) (omega arith) in
-                chunk-shifted b c end to end at (to + (at - end)) (entry b j) (entry c j) y k.moved d (omega arith) (omega arith) (omega arith) (omega (arith, k.long)) told ((λ z. absurd (omega (arith, z))), (λ z. absurd (omega (arith, z)))))
+                chunk-shifted b c end to end at (to + (at - end)) (entry b j) (entry c j) y k.moved d (omega arith)
+                (omega arith) (omega arith) (omega (arith, k.long)) told ((λ z. absurd (omega (arith, z))), (λ z. absurd (omega (arith, z)))))
           ]));
     }
 
-pub resized-packed : (b c : List ℕ) (i n : ℕ) → IsPacked b → i < entries b → IsOffset (entry b i) → 0 < n → cost n ≤ total_free b + cost (chunk_length b i) → EditsChunk b c i (entry b i - 2 + cost n) → HasResized b c i n → IsPacked c
+pub resized-packed : (b c : List ℕ) (i n : ℕ) → IsPacked b → i < entries b → IsOffset (entry b i) → 0 < n
+    → cost n ≤ total_free b + cost (chunk_length b i) → EditsChunk b c i (entry b i - 2 + cost n) → HasResized b c i n → IsPacked c
 resized-packed b c i n p h t some_n fits k here =
     let s = split b i p h t in
     let wide = cost-least (chunk_length b i) s.some in
@@ -114,17 +124,20 @@ resized-packed b c i n p h t some_n fits k here =
       pre = s.pre ++ (Used i n ∷ s.post);
       at = to + (chunks_end b - chunk_end b i);
       used = used-both s.pre (Used i n ∷ s.post) s.pre_used s.post_used;
-      tiles = tiles-join c (table_end c) 0 s.pre (Used i n ∷ s.post) (entry b i - 2) 0 (to + (chunks_end b - chunk_end b i)) 0 d.before (some_n, omega (arith, d.count), here.place ∙ omega arith, here.size, d.behind);
+      tiles = tiles-join c (table_end c) 0 s.pre (Used i n ∷ s.post) (entry b i - 2) 0 (to + (chunks_end b - chunk_end b i))
+          0 d.before (some_n, omega (arith, d.count), here.place ∙ omega arith, here.size, d.behind);
       room = k.total;
       fours = omega arith;
       all = (λ j l told. elim (cases_eq j i) [
         | inl is ↦ has-right j s.pre (Used i n ∷ s.post) (inl is)
-        | inr ne ↦ elim (d.has j (omega (arith, d.count)) ne told) [ inl x ↦ has-left j s.pre (Used i n ∷ s.post) x | inr x ↦ has-right j s.pre (Used i n ∷ s.post) (inr x) ]
+        | inr ne ↦ elim (d.has j (omega (arith, d.count)) ne told)
+            [ inl x ↦ has-left j s.pre (Used i n ∷ s.post) x | inr x ↦ has-right j s.pre (Used i n ∷ s.post) (inr x) ]
       ]);
       ends = k.ends;
     }
 
-pub resized-chunks : (b c : List ℕ) (i n : ℕ) → IsPacked b → i < entries b → IsOffset (entry b i) → 0 < n → cost n ≤ total_free b + cost (chunk_length b i) → EditsChunk b c i (entry b i - 2 + cost n) → HasResized b c i n →
+pub resized-chunks : (b c : List ℕ) (i n : ℕ) → IsPacked b → i < entries b → IsOffset (entry b i) → 0 < n
+    → cost n ≤ total_free b + cost (chunk_length b i) → EditsChunk b c i (entry b i - 2 + cost n) → HasResized b c i n →
     chunks c ≡ set (chunks b) i (Some (resized (part b (entry b i) (chunk_length b i)) n))
 resized-chunks b c i n p h t some_n fits k here =
     let s = split b i p h t in
@@ -134,13 +147,16 @@ resized-chunks b c i n p h t some_n fits k here =
     let told : IsOffset (entry c i) = ((λ z. t.0 (sym here.place ∙ z)), (λ z. t.1 (sym here.place ∙ z))) in
     let size : word c (entry c i - 2) - 2 ≡ n = ap (λ x. word c (x - 2) - 2) here.place ∙ ap (λ x. x - 2) here.size ∙ omega arith in
     chunks-set b c i (Some (resized (part b (entry b i) (chunk_length b i)) n)) d.count h
-    (chunk-told c (entry c i) told ∙ ap (λ x. Some (part c (entry c i) x)) size ∙ ap (λ x. Some (part c x n)) here.place ∙ ap (λ x. Some x) here.bytes) d.others
+    (chunk-told c (entry c i) told ∙ ap (λ x. Some (part c (entry c i) x)) size ∙ ap (λ x. Some (part c x n)) here.place
+    ∙ ap (λ x. Some x) here.bytes) d.others
 
 -- the bytes of an entry's chunk, and what they take
-pub chunk-bytes : (b : List ℕ) (i : ℕ) → i < entries b → IsOffset (entry b i) → get_or (chunks b) i None ≡ Some (part b (entry b i) (chunk_length b i))
+pub chunk-bytes : (b : List ℕ) (i : ℕ) → i < entries b → IsOffset (entry b i)
+    → get_or (chunks b) i None ≡ Some (part b (entry b i) (chunk_length b i))
 chunk-bytes b i h t = chunks-at b i h ∙ chunk-told b (entry b i) t
 
-pub chunk-cost : (b : List ℕ) (i : ℕ) → IsPacked b → i < entries b → IsOffset (entry b i) → cost_of (get_or (chunks b) i None) ≡ cost (chunk_length b i)
+pub chunk-cost : (b : List ℕ) (i : ℕ) → IsPacked b → i < entries b → IsOffset (entry b i)
+    → cost_of (get_or (chunks b) i None) ≡ cost (chunk_length b i)
 chunk-cost b i p h t =
     let s = split b i p h t in
     let wide = cost-least (chunk_length b i) s.some in

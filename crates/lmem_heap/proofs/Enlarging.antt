@@ -20,7 +20,8 @@ record Longer (b e c : List ℕ) (old : ℕ) : Type 0 where
 longer : (b c : List ℕ) (old : ℕ) → old ≤ length b → length b ≤ 65520 → 16 ≤ old → c ≡ with_word b 8 (length b) → Longer b (take old b) c old
 longer b c old fits most low made =
     let e = take old b in
-    let byte : (k : ℕ) → k < old → (k < 8) ⊎ (10 ≤ k) → get_or c k 0 ≡ get_or e k 0 = (λ k l out. ap (λ x. get_or x k 0) made ∙ byte-other b 8 (length b) k out ∙ sym (get_or-take old b k 0 l)) in
+    let byte : (k : ℕ) → k < old → (k < 8) ⊎ (10 ≤ k) → get_or c k 0 ≡ get_or e k 0 =
+    (λ k l out. ap (λ x. get_or x k 0) made ∙ byte-other b 8 (length b) k out ∙ sym (get_or-take old b k 0 l)) in
     record {
       long = ap length made ∙ length-with_word b 8 (length b);
       size = ap (λ x. word x 8) made ∙ word-same b 8 (length b) (omega arith) (omega arith);
@@ -37,14 +38,16 @@ pub record Enlarged (b e c : List ℕ) (old : ℕ) : Type 0 where
   pub chunks : chunks c ≡ chunks e
   pub handle : handle_word c ≡ handle_word b
 
-pub enlarges : (b c : List ℕ) (old : ℕ) → IsHeap (take old b) → old ≤ length b → IsBlockSize (length b) → c ≡ with_word b 8 (length b) → Enlarged b (take old b) c old
+pub enlarges : (b c : List ℕ) (old : ℕ) → IsHeap (take old b) → old ≤ length b → IsBlockSize (length b)
+    → c ≡ with_word b 8 (length b) → Enlarged b (take old b) c old
 enlarges b c old heap fits legal made =
     let e = take old b in
     let long : length e ≡ old = omega (arith, fits, length-take old b) in
     let k = longer b c old fits legal.1 (omega arith) made in
     let n : entries c ≡ entries e = k.words 10 (omega arith) (inr (omega arith)) in
     let each : (i : ℕ) → i < entries e → entry c i ≡ entry e i = (λ i l. k.words (16 + 2 * i) (omega arith) (inr (omega arith))) in
-    let tiles : Tiles e (table_end e) (first_free e) heap.1.0 old 0 = subst (λ (x : ℕ). Tiles e (table_end e) (first_free e) heap.1.0 x 0) long heap.1.1.tiles in
+    let tiles : Tiles e (table_end e) (first_free e) heap.1.0 old 0 =
+    subst (λ (x : ℕ). Tiles e (table_end e) (first_free e) heap.1.0 x 0) long heap.1.1.tiles in
     let kept : IsShifted e c 0 0 (table_end e) old = (λ j q z g r. k.kept j q z (omega arith) r) in
     let start : table_end e ≡ table_end c = ap (λ x. 16 + 2 * x) (sym n) in
     let first : first_free e ≡ word c 12 = sym (k.words 12 (omega arith) (inr (omega arith))) in
@@ -69,14 +72,18 @@ enlarges b c old heap fits legal made =
         next = 0;
         behind = [];
         linked = inl (record { is = refl; none = refl; start = refl });
-        tiles_ahead = subst (λ (x : ℕ). Tiles c (table_end c) x heap.1.0 old 0) first (subst (λ (x : ℕ). Tiles c x (first_free e) heap.1.0 old 0) start (tiles-kept e c (table_end e) (first_free e) heap.1.0 old 0 tiles kept (omega (arith, n)) (λ i l a z. each i l)));
+        tiles_ahead = subst (λ (x : ℕ). Tiles c (table_end c) x heap.1.0 old 0) first
+            (subst (λ (x : ℕ). Tiles c x (first_free e) heap.1.0 old 0) start
+            (tiles-kept e c (table_end e) (first_free e) heap.1.0 old 0 tiles kept (omega (arith, n)) (λ i l a z. each i l)));
         tiles_behind = (sym k.long, refl);
         order = fits;
         fours = omega (arith, heap.0.sixteens, long);
-        all = (λ i l told. let lb : i < entries e = omega (arith, n) in let d = each i lb in inr (inl (heap.1.1.all i lb ((λ z. told.0 (d ∙ z)), (λ z. told.1 (d ∙ z))))));
+        all = (λ i l told. let lb : i < entries e = omega (arith, n) in let d = each i lb in
+            inr (inl (heap.1.1.all i lb ((λ z. told.0 (d ∙ z)), (λ z. told.1 (d ∙ z))))));
         total = omega (arith, heap.1.1.total, total);
       };
-      chunks = chunks-same e c n (λ i l. chunk-kept e c i (table_end e) old (omega arith) (omega arith) (each i l) (λ t. lies e (table_end e) (first_free e) heap.1.0 old 0 i tiles (heap.1.1.all i l t)) kept);
+      chunks = chunks-same e c n (λ i l. chunk-kept e c i (table_end e) old (omega arith) (omega arith) (each i l)
+          (λ t. lies e (table_end e) (first_free e) heap.1.0 old 0 i tiles (heap.1.1.all i l t)) kept);
       handle = ap (λ x. word x 0) made ∙ word-other b 8 (length b) 0 (inl (omega arith));
     }
 

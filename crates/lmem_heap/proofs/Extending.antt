@@ -10,7 +10,8 @@ use Rattle.lmem_heap.specs.Packed.{chunk_end, chunk_length}
 use Rattle.lmem_heap.specs.Extents.{HasExtent, IsExtent}
 
 -- a chunk that lies behind the table, and in the block
-pub lies-there : (b : List ℕ) (i : ℕ) → i < entries b → 0 < chunk_length b i → table_end b + 2 ≤ entry b i → chunk_end b i ≤ length b → length b ≤ 65520 → HasExtent b i
+pub lies-there : (b : List ℕ) (i : ℕ) → i < entries b → 0 < chunk_length b i → table_end b + 2 ≤ entry b i
+    → chunk_end b i ≤ length b → length b ≤ 65520 → HasExtent b i
 lies-there b i h some low high most =
     let wide = cost-least (chunk_length b i) some in
     record {

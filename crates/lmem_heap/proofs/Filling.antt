@@ -57,13 +57,17 @@ left-hole b c i heap h t is =
     let far : (lo hi : ℕ) → table_end b ≤ lo → IsShifted b c 0 0 lo hi = (λ lo hi g j k q u v. let same : j ≡ k = omega arith in
     ap (λ x. get_or c x 0) same ∙ ap (λ x. get_or x k 0) is ∙ byte-other b (16 + 2 * i) 0 k (inr (omega arith))) in
     let apart : (j : ℕ) → (entry b j ≡ e → ⊥) → j ≢ i = (λ j no same. no (ap (λ x. entry b x) same)) in
-    let pre : Tiles c (table_end b) (word b 12) r.pre (e - 2) r.g = tiles-kept b c (table_end b) (word b 12) r.pre (e - 2) r.g r.before (far (table_end b) (e - 2) (omega arith)) (omega (arith, n)) (λ j l a z. each j (apart j (λ q. absurd (omega arith)))) in
-    let post : Tiles c (e - 2 + cost r.n) r.g r.post (length b) 0 = tiles-kept b c (e - 2 + cost r.n) r.g r.post (length b) 0 r.behind (far (e - 2 + cost r.n) (length b) (omega arith)) (omega (arith, n)) (λ j l a z. each j (apart j (λ q. absurd (omega arith)))) in
+    let pre : Tiles c (table_end b) (word b 12) r.pre (e - 2) r.g = tiles-kept b c (table_end b) (word b 12) r.pre
+    (e - 2) r.g r.before (far (table_end b) (e - 2) (omega arith)) (omega (arith, n)) (λ j l a z. each j (apart j (λ q. absurd (omega arith)))) in
+    let post : Tiles c (e - 2 + cost r.n) r.g r.post (length b) 0 = tiles-kept b c (e - 2 + cost r.n) r.g r.post
+    (length b) 0 r.behind (far (e - 2 + cost r.n) (length b) (omega arith)) (omega (arith, n))
+    (λ j l a z. each j (apart j (λ q. absurd (omega arith)))) in
     let first : word b 12 ≡ word c 12 = sym (ap (λ x. word x 12) is ∙ word-other b (16 + 2 * i) 0 12 (inl (omega arith))) in
     let total : total_free c ≡ total_free b = ap (λ x. word x 14) is ∙ word-other b (16 + 2 * i) 0 14 (inl (omega arith)) in
     let start_fours : table_end b % 4 ≡ 0 = omega (arith, heap.0.pairs) in
     let split : (j : ℕ) → j < entries b → IsOffset (entry b j) → j ≢ i → HasChunk j r.pre ⊎ HasChunk j r.post = (λ j l u ne.
-    elim (has-split j r.pre (Used i r.n ∷ r.post) (subst (λ (ps : List Piece). HasChunk j ps) r.is (heap.1.1.all j l u))) [ inl x ↦ inl x | inr x ↦ elim x [ inl z ↦ absurd (ne z) | inr y ↦ inr y ] ]) in
+    elim (has-split j r.pre (Used i r.n ∷ r.post) (subst (λ (ps : List Piece). HasChunk j ps) r.is (heap.1.1.all j l u)))
+    [ inl x ↦ inl x | inr x ↦ elim x [ inl z ↦ absurd (ne z) | inr y ↦ inr y ] ]) in
     record {
       is = record {
         header = same-header b c heap.0 long head;
@@ -74,7 +78,8 @@ left-hole b c i heap h t is =
         behind = r.post;
         linked = inl (record { is = refl; none = refl; start = omega (arith, n) });
         tiles_ahead = subst (λ (x : ℕ). Tiles c (table_end b) x r.pre (e - 2) r.g) first pre;
-        tiles_behind = subst (λ (x : ℕ). Tiles c (chunk_end b i) r.g r.post x 0) (sym long) (subst (λ (x : ℕ). Tiles c x r.g r.post (length b) 0) end post);
+        tiles_behind = subst (λ (x : ℕ). Tiles c (chunk_end b i) r.g r.post x 0) (sym long)
+            (subst (λ (x : ℕ). Tiles c x r.g r.post (length b) 0) end post);
         order = omega (arith, end);
         fours = tiles-fours b (table_end b) (word b 12) r.pre (e - 2) r.g r.before start_fours;
         all = (λ j l u. let ne : j ≢ i = (λ q. u.0 (ap (λ x. entry c x) q ∙ here)) in let d = each j ne in
@@ -86,7 +91,9 @@ left-hole b c i heap h t is =
       low = r.low;
       high = omega (arith, end);
       fours = tiles-fours b (table_end b) (word b 12) r.pre (e - 2) r.g r.before start_fours;
-      chunks = chunks-set b c i None n h (chunk-none c (entry c i) here) (λ j l ne. chunk-kept b c j (table_end b) (length b) (omega arith) (omega (arith, long)) (each j ne) (told b j heap l) (far (table_end b) (length b) (omega arith)));
+      chunks = chunks-set b c i None n h (chunk-none c (entry c i) here)
+          (λ j l ne. chunk-kept b c j (table_end b) (length b) (omega arith) (omega (arith, long)) (each j ne)
+          (told b j heap l) (far (table_end b) (length b) (omega arith)));
       handle = ap (λ x. word x 0) is ∙ word-other b (16 + 2 * i) 0 0 (inl (omega arith));
       count = n;
       here = here;
@@ -105,7 +112,8 @@ pub record HasPut (b c : List ℕ) (i at to : ℕ) (bytes : List ℕ) : Type 0 w
   pub total : total_free c ≡ total_free b
   pub chunk : chunk_at c (entry c i) ≡ Some bytes
 
-pub has-put : (b c : List ℕ) (i at to n : ℕ) (bytes : List ℕ) → i < entries b → table_end b ≤ at → at ≤ 65520 → ((k : ℕ) → k < at → Apart k (16 + 2 * i) → get_or c k 0 ≡ get_or b k 0) → KeepsBack b c to →
+pub has-put : (b c : List ℕ) (i at to n : ℕ) (bytes : List ℕ) → i < entries b → table_end b ≤ at → at ≤ 65520
+    → ((k : ℕ) → k < at → Apart k (16 + 2 * i) → get_or c k 0 ≡ get_or b k 0) → KeepsBack b c to →
     entry c i ≡ at + 2 → word c at ≡ n + 2 → part c (at + 2) n ≡ bytes → HasPut b c i at to bytes
 has-put b c i at to n bytes h low most keep back here says content =
     let head : SameHead b c 12 = (λ q l. keep q (omega arith) (inl (omega arith))) in
@@ -116,14 +124,17 @@ has-put b c i at to n bytes h low most keep back here says content =
       head = head;
       count = head-word b c 12 10 head (omega arith);
       each = (λ j l ne. elim (cases_lt j i) [
-        | inl a ↦ word-bytes b c (16 + 2 * j) (16 + 2 * j) (keep (16 + 2 * j) (omega arith) (inl (omega arith))) (keep (16 + 2 * j + 1) (omega arith) (inl (omega arith)))
-        | inr a ↦ word-bytes b c (16 + 2 * j) (16 + 2 * j) (keep (16 + 2 * j) (omega arith) (inr (omega arith))) (keep (16 + 2 * j + 1) (omega arith) (inr (omega arith)))
+        | inl a ↦ word-bytes b c (16 + 2 * j) (16 + 2 * j) (keep (16 + 2 * j) (omega arith) (inl (omega arith)))
+            (keep (16 + 2 * j + 1) (omega arith) (inl (omega arith)))
+        | inr a ↦ word-bytes b c (16 + 2 * j) (16 + 2 * j) (keep (16 + 2 * j) (omega arith) (inr (omega arith)))
+            (keep (16 + 2 * j + 1) (omega arith) (inr (omega arith)))
       ]);
       front = (λ lo hi g l j q e u v. let same : j ≡ q = omega arith in ap (λ x. get_or c x 0) same ∙ keep q (omega arith) (inr (omega arith)));
       rear = (λ lo hi g j q e u v. let same : j ≡ q = omega arith in ap (λ x. get_or c x 0) same ∙ back q (omega arith));
       first = word-bytes b c 12 12 (keep 12 (omega arith) (inl (omega arith))) (keep 13 (omega arith) (inl (omega arith)));
       total = word-bytes b c 14 14 (keep 14 (omega arith) (inl (omega arith))) (keep 15 (omega arith) (inl (omega arith)));
-      chunk = chunk-told c (entry c i) told ∙ ap (λ x. Some (part c (entry c i) x)) size ∙ ap (λ x. Some (part c x n)) here ∙ ap (λ x. Some x) content;
+      chunk = chunk-told c (entry c i) told ∙ ap (λ x. Some (part c (entry c i) x)) size ∙ ap (λ x. Some (part c x n)) here
+          ∙ ap (λ x. Some x) content;
     }
 
 -- what the front of a hole is as a chunk
@@ -134,8 +145,10 @@ pub record Filled (b c : List ℕ) (link at end i n : ℕ) (bytes : List ℕ) (o
   pub handle : word c 0 ≡ word b 0
   pub same_link : word c link ≡ word b link
 
-pub filled : (b c : List ℕ) (link at end i n : ℕ) (bytes : List ℕ) → (o : IsOpen b link at end) → 0 < n → at + cost n ≤ end → i < entries b → entry b i ≡ 0 → length c ≡ length b →
-    ((k : ℕ) → k < at → Apart k (16 + 2 * i) → get_or c k 0 ≡ get_or b k 0) → KeepsBack b c (at + cost n) → entry c i ≡ at + 2 → word c at ≡ n + 2 → part c (at + 2) n ≡ bytes → Filled b c link at end i n bytes o
+pub filled : (b c : List ℕ) (link at end i n : ℕ) (bytes : List ℕ) → (o : IsOpen b link at end) → 0 < n → at + cost n ≤ end
+    → i < entries b → entry b i ≡ 0 → length c ≡ length b →
+    ((k : ℕ) → k < at → Apart k (16 + 2 * i) → get_or c k 0 ≡ get_or b k 0) → KeepsBack b c (at + cost n)
+    → entry c i ≡ at + 2 → word c at ≡ n + 2 → part c (at + 2) n ≡ bytes → Filled b c link at end i n bytes o
 filled b c link at end i n bytes o some fits h none long keep back here says content =
     let p = open-place b link at end o in
     let k = link-place b link o.upto o.before o.linked in
@@ -144,7 +157,8 @@ filled b c link at end i n bytes o some fits h none long keep back here says con
     let le = tiles-le b o.upto (word b link) o.ahead at o.next o.tiles_ahead in
     let w = has-put b c i at (at + cost n) n bytes h p.low (omega arith) keep back here says content in
     let rear = w.rear end (length b) fits in
-    let apart : (j : ℕ) → table_end b + 2 ≤ entry b j → j ≢ i = (λ j a q. let z : entry b j ≡ 0 = ap (λ x. entry b x) q ∙ none in absurd (omega (arith, a, z))) in
+    let apart : (j : ℕ) → table_end b + 2 ≤ entry b j → j ≢ i = (λ j a q. let z : entry b j ≡ 0 = ap (λ x. entry b x) q
+    ∙ none in absurd (omega (arith, a, z))) in
     let link_same : word c link ≡ word b link = elim p.link_out [
       | inl e ↦ word-bytes b c link link (keep link (omega arith) (inl (omega (arith, e)))) (keep (link + 1) (omega arith) (inl (omega (arith, e))))
       | inr f ↦ word-bytes b c link link (keep link (omega arith) (inr (omega (arith, f)))) (keep (link + 1) (omega arith) (inr (omega (arith, f))))
@@ -154,13 +168,16 @@ filled b c link at end i n bytes o some fits h none long keep back here says con
       head = w.head;
       each = (λ j l a z. w.each j l (apart j a));
       low = w.front (table_end b) (link - 2) (omega arith) (omega arith);
-      says = (λ f. word-bytes b c (link - 2) (link - 2) (keep (link - 2) (omega arith) (inr (omega arith))) (keep (link - 2 + 1) (omega arith) (inr (omega arith))));
+      says = (λ f. word-bytes b c (link - 2) (link - 2) (keep (link - 2) (omega arith) (inr (omega arith)))
+          (keep (link - 2 + 1) (omega arith) (inr (omega arith))));
       first = (λ f. w.first);
       apart = (λ f e. elim o.linked [ inl k1 ↦ (absurd (omega (arith, k1.is, f))) | inr k1 ↦ k1.apart (sym link_same ∙ e) ]);
       mid = w.front o.upto at k.start (omega arith);
     } in
-    let ahead : Tiles c o.upto (word b link) o.ahead at o.next = tiles-kept b c o.upto (word b link) o.ahead at o.next o.tiles_ahead r.mid (omega (arith, w.count)) (λ j l a z. w.each j l (apart j (omega arith))) in
-    let behind : Tiles c end o.next o.behind (length b) 0 = tiles-kept b c end o.next o.behind (length b) 0 o.tiles_behind rear (omega (arith, w.count)) (λ j l a z. w.each j l (apart j (omega arith))) in
+    let ahead : Tiles c o.upto (word b link) o.ahead at o.next = tiles-kept b c o.upto (word b link) o.ahead at o.next
+    o.tiles_ahead r.mid (omega (arith, w.count)) (λ j l a z. w.each j l (apart j (omega arith))) in
+    let behind : Tiles c end o.next o.behind (length b) 0 = tiles-kept b c end o.next o.behind (length b) 0 o.tiles_behind rear
+    (omega (arith, w.count)) (λ j l a z. w.each j l (apart j (omega arith))) in
     let mine : Tiles c at o.next (Used i n ∷ []) (at + cost n) o.next = (some, omega (arith, w.count), here, says, (refl, refl)) in
     record {
       is = record {
@@ -171,21 +188,25 @@ filled b c link at end i n bytes o some fits h none long keep back here says con
         next = o.next;
         behind = o.behind;
         linked = relinked b c link at o.upto o.before o.header o.linked le r;
-        tiles_ahead = tiles-join c o.upto (word c link) o.ahead (Used i n ∷ []) at o.next (at + cost n) o.next (subst (λ (x : ℕ). Tiles c o.upto x o.ahead at o.next) (sym link_same) ahead) mine;
+        tiles_ahead = tiles-join c o.upto (word c link) o.ahead (Used i n ∷ []) at o.next (at + cost n) o.next
+            (subst (λ (x : ℕ). Tiles c o.upto x o.ahead at o.next) (sym link_same) ahead) mine;
         tiles_behind = subst (λ (x : ℕ). Tiles c end o.next o.behind x 0) (sym long) behind;
         order = fits;
         fours = omega (arith, four, o.fours);
         all = (λ j l u. elim (cases_eq j i) [
           | inl q ↦ inr (inl (has-right j o.ahead (Used i n ∷ []) (inl q)))
-          | inr ne ↦ (let lb : j < entries b = omega (arith, w.count) in let d = w.each j lb ne in elim (o.all j lb ((λ z. u.0 (d ∙ z)), (λ z. u.1 (d ∙ z)))) [
-            | inl x ↦ inl x
-            | inr x ↦ inr (elim x [ inl y ↦ inl (has-left j o.ahead (Used i n ∷ []) y) | inr y ↦ inr y ])
-          ])
+          | inr ne ↦ (let lb : j < entries b = omega (arith, w.count) in let d = w.each j lb ne in
+              elim (o.all j lb ((λ z. u.0 (d ∙ z)), (λ z. u.1 (d ∙ z)))) [
+                | inl x ↦ inl x
+                | inr x ↦ inr (elim x [ inl y ↦ inl (has-left j o.ahead (Used i n ∷ []) y) | inr y ↦ inr y ])
+              ])
         ]);
         total = omega (arith, o.total, free_bytes-append o.ahead (Used i n ∷ []), w.total);
       };
       used = (λ u. used-both o.ahead (Used i n ∷ []) u tt);
-      chunks = chunks-set b c i (Some bytes) w.count h w.chunk (λ j l ne. kept-chunk b c link at end end j o long r.low r.mid rear (λ x. lies b end o.next o.behind (length b) 0 j o.tiles_behind x) l (w.each j l ne));
+      chunks = chunks-set b c i (Some bytes) w.count h w.chunk
+          (λ j l ne. kept-chunk b c link at end end j o long r.low r.mid rear (λ x. lies b end o.next o.behind (length b) 0 j o.tiles_behind x) l
+          (w.each j l ne));
       handle = head-word b c 12 0 w.head (omega arith);
       same_link = link_same;
     }

@@ -39,13 +39,32 @@ pub record Reached (b : List ℕ) (at f : ℕ) (ps : List Piece) (end next : ℕ
   pub front : Tiles b at f pre f f
   pub here : Tiles b f f (Free size ∷ rest) end next
 
-pub reach : (b : List ℕ) (at f : ℕ) (ps : List Piece) (end next : ℕ) → Tiles b at f ps end next → f < end → (next ≡ 0) ⊎ (end ≤ next) → f ≢ 0 → Reached b at f ps end next
+pub reach : (b : List ℕ) (at f : ℕ) (ps : List Piece) (end next : ℕ) → Tiles b at f ps end next → f < end
+    → (next ≡ 0) ⊎ (end ≤ next) → f ≢ 0 → Reached b at f ps end next
 reach b at f [] end next s l n ne = absurd (elim n [ inl z ↦ ne (s.1 ∙ z) | inr g ↦ omega (arith, g, s.1, l) ])
 reach b at f (Used i m ∷ ps) end next s l n ne =
     let r = reach b (at + cost m) f ps end next s.4 l n ne in
-    record { pre = Used i m ∷ r.pre; size = r.size; rest = r.rest; is = ap (λ xs. Used i m ∷ xs) r.is; used = r.used; front = (s.0, s.1, s.2, s.3, r.front); here = r.here }
+    record {
+      pre = Used i m ∷ r.pre;
+      size = r.size;
+      rest = r.rest;
+      is = ap (λ xs. Used i m ∷ xs) r.is;
+      used =
+          r.used;
+      front = (s.0, s.1, s.2, s.3, r.front);
+      here = r.here;
+    }
 reach b at f (Free m ∷ ps) end next s l n ne =
-    record { pre = []; size = m; rest = ps; is = refl; used = tt; front = (sym s.2, refl); here = subst (λ (x : ℕ). Tiles b x f (Free m ∷ ps) end next) (sym s.2) s }
+    record {
+      pre = [];
+      size = m;
+      rest = ps;
+      is = refl;
+      used = tt;
+      front = (sym s.2, refl);
+      here =
+          subst (λ (x : ℕ). Tiles b x f (Free m ∷ ps) end next) (sym s.2) s;
+    }
 
 -- free pieces take no more than their place
 pub free-le : (b : List ℕ) (at f : ℕ) (ps : List Piece) (end next : ℕ) → Tiles b at f ps end next → at + free_bytes ps ≤ end
@@ -60,22 +79,27 @@ tiles-fours b at f (Used i n ∷ ps) end next s h = tiles-fours b (at + cost n) 
 tiles-fours b at f (Free m ∷ ps) end next s h = tiles-fours b (at + m) (word b (at + 2)) ps end next s.5 (omega (arith, s.1, h))
 
 -- the pieces of a link
-pub link-tiles : (b : List ℕ) (link upto : ℕ) (before : List Piece) → IsLink b link upto before → Tiles b (table_end b) (first_free b) before upto (word b link)
+pub link-tiles : (b : List ℕ) (link upto : ℕ) (before : List Piece) → IsLink b link upto before
+    → Tiles b (table_end b) (first_free b) before upto (word b link)
 link-tiles b link upto before (inl k) =
     subst (λ (ps : List Piece). Tiles b (table_end b) (first_free b) ps upto (word b link)) (sym k.none) (sym k.start, ap (word b) (sym k.is))
 link-tiles b link upto before (inr k) =
     let place : link - 2 + 2 ≡ link = omega arith in
     let w : word b (link - 2 + 2) ≡ word b link = ap (word b) place in
-    let here : Tiles b (link - 2) (link - 2) (Free k.size ∷ []) upto (word b link) = (k.some, k.fours, refl, k.says, (λ e. k.apart (sym w ∙ e ∙ sym k.ends)), (sym k.ends, w)) in
-    subst (λ (ps : List Piece). Tiles b (table_end b) (first_free b) ps upto (word b link)) (sym k.is) (tiles-join b (table_end b) (first_free b) k.pre (Free k.size ∷ []) (link - 2) (link - 2) upto (word b link) k.front here)
+    let here : Tiles b (link - 2) (link - 2) (Free k.size ∷ []) upto (word b link) =
+    (k.some, k.fours, refl, k.says, (λ e. k.apart (sym w ∙ e ∙ sym k.ends)), (sym k.ends, w)) in
+    subst (λ (ps : List Piece). Tiles b (table_end b) (first_free b) ps upto (word b link)) (sym k.is)
+    (tiles-join b (table_end b) (first_free b) k.pre (Free k.size ∷ []) (link - 2) (link - 2) upto (word b link) k.front here)
 
 -- its chunks lie before it
-pub link-lies : (b : List ℕ) (link upto : ℕ) (before : List Piece) (j : ℕ) → IsLink b link upto before → HasChunk j before → LiesWithin b (entry b j) (table_end b) (link - 2)
+pub link-lies : (b : List ℕ) (link upto : ℕ) (before : List Piece) (j : ℕ) → IsLink b link upto before → HasChunk j before
+    → LiesWithin b (entry b j) (table_end b) (link - 2)
 link-lies b link upto before j (inl k) h =
     let no : HasChunk j [] = subst (λ (ps : List Piece). HasChunk j ps) k.none h in
     absurd no
 link-lies b link upto before j (inr k) h =
-    elim (has-split j k.pre (Free k.size ∷ []) (subst (λ (ps : List Piece). HasChunk j ps) k.is h)) [ inl x ↦ lies b (table_end b) (first_free b) k.pre (link - 2) (link - 2) j k.front x | inr x ↦ absurd x ]
+    elim (has-split j k.pre (Free k.size ∷ []) (subst (λ (ps : List Piece). HasChunk j ps) k.is h))
+    [ inl x ↦ lies b (table_end b) (first_free b) k.pre (link - 2) (link - 2) j k.front x | inr x ↦ absurd x ]
 
 -- where a link lies
 pub record LinkPlace (b : List ℕ) (link upto : ℕ) : Type 0 where
@@ -118,11 +142,13 @@ open-heap b link at o =
       (
         ps,
         record {
-          tiles = tiles-join b (table_end b) (first_free b) o.before (o.ahead ++ o.behind) o.upto (word b link) (length b) 0 (link-tiles b link o.upto o.before o.linked)
+          tiles = tiles-join b (table_end b) (first_free b) o.before (o.ahead ++ o.behind) o.upto (word b link)
+              (length b) 0 (link-tiles b link o.upto o.before o.linked)
               (tiles-join b o.upto (word b link) o.ahead o.behind at o.next (length b) 0 o.tiles_ahead o.tiles_behind);
           all = (λ i h t. elim (o.all i h t) [
             | inl x ↦ has-left i o.before (o.ahead ++ o.behind) x
-            | inr x ↦ has-right i o.before (o.ahead ++ o.behind) (elim x [ inl y ↦ has-left i o.ahead o.behind y | inr y ↦ has-right i o.ahead o.behind y ])
+            | inr x ↦ has-right i o.before (o.ahead ++ o.behind)
+                (elim x [ inl y ↦ has-left i o.ahead o.behind y | inr y ↦ has-right i o.ahead o.behind y ])
           ]);
           total = omega (arith, o.total, free_bytes-append o.before (o.ahead ++ o.behind), free_bytes-append o.ahead o.behind);
         },
@@ -148,11 +174,22 @@ open-place b link at end o =
     let f1 = free-le b (table_end b) (first_free b) o.before o.upto (word b link) (link-tiles b link o.upto o.before o.linked) in
     let f2 = free-le b o.upto (word b link) o.ahead at o.next o.tiles_ahead in
     let f3 = free-le b end o.next o.behind (length b) 0 o.tiles_behind in
-    record { link_low = k.low; link_high = omega (arith, k.within, a); link_out = k.out; low = omega (arith, k.start, a); table = omega (arith, o.header.some); high = z; most = o.header.most; room = omega (arith, f1, f2, f3, o.total, o.order) }
+    record {
+      link_low = k.low;
+      link_high = omega (arith, k.within, a);
+      link_out = k.out;
+      low = omega (arith, k.start, a);
+      table =
+          omega (arith, o.header.some);
+      high = z;
+      most = o.header.most;
+      room = omega (arith, f1, f2, f3, o.total, o.order);
+    }
 
 -- what the last free chunk before the hole leaves
 next-behind : (b : List ℕ) (link at end : ℕ) → (o : IsOpen b link at end) → (o.next ≡ 0) ⊎ (at ≤ o.next)
-next-behind b link at end o = elim (first-behind b end o.next o.behind (length b) o.tiles_behind) [ inl e ↦ inl e | inr h ↦ (inr (omega (arith, h, o.order))) ]
+next-behind b link at end o = elim (first-behind b end o.next o.behind (length b) o.tiles_behind)
+    [ inl e ↦ inl e | inr h ↦ (inr (omega (arith, h, o.order))) ]
 
 -- the next free chunk before the hole
 pub record NextChunk (b : List ℕ) (link at end : ℕ) : Type 0 where
@@ -171,8 +208,10 @@ open-next b link at end o ne l =
     let q = tiles-le b (f + r.size) (word b (f + 2)) r.rest at o.next r.here.5 in
     let start_fours : table_end b % 4 ≡ 0 = omega (arith, o.header.pairs) in
     let back : f + 2 - 2 ≡ f = omega arith in
-    let front : Tiles b (table_end b) (first_free b) (o.before ++ r.pre) f f = tiles-join b (table_end b) (first_free b) o.before r.pre o.upto f f f (link-tiles b link o.upto o.before o.linked) r.front in
-    let split : (i : ℕ) → HasChunk i o.ahead → HasChunk i r.pre ⊎ HasChunk i (Free r.size ∷ r.rest) = (λ i h. has-split i r.pre (Free r.size ∷ r.rest) (subst (λ (ps : List Piece). HasChunk i ps) r.is h)) in
+    let front : Tiles b (table_end b) (first_free b) (o.before ++ r.pre) f f = tiles-join b (table_end b)
+    (first_free b) o.before r.pre o.upto f f f (link-tiles b link o.upto o.before o.linked) r.front in
+    let split : (i : ℕ) → HasChunk i o.ahead → HasChunk i r.pre ⊎ HasChunk i (Free r.size ∷ r.rest) =
+    (λ i h. has-split i r.pre (Free r.size ∷ r.rest) (subst (λ (ps : List Piece). HasChunk i ps) r.is h)) in
     record {
       is = record {
         header = o.header;
@@ -205,7 +244,8 @@ open-next b link at end o ne l =
           ]
           | inr (inr y) ↦ inr (inr y)
         ]);
-        total = (let u = ap free_bytes r.is ∙ free_bytes-append r.pre (Free r.size ∷ r.rest) in omega (arith, o.total, free_bytes-append (o.before ++ r.pre) (Free r.size ∷ []), free_bytes-append o.before r.pre, u));
+        total = (let u = ap free_bytes r.is ∙ free_bytes-append r.pre (Free r.size ∷ r.rest) in
+            omega (arith, o.total, free_bytes-append (o.before ++ r.pre) (Free r.size ∷ []), free_bytes-append o.before r.pre, u));
       };
       above = omega (arith, k.within, p);
       inside = omega (arith, q, r.here.3);
@@ -227,7 +267,8 @@ free-below b at f (Free m ∷ ps) end next s z ne =
     omega (arith, tiles-le b (at + m) (word b (at + 2)) ps end next s.5, s.2, s.0)
 
 -- the next free chunk of a heap, behind an empty hole
-pub open-fits : (b : List ℕ) (link : ℕ) → IsOpen b link (length b) (length b) → word b link ≢ 0 → (size : ℕ) → size ≤ word b (word b link) → FitsBehind b link (word b link) (word b link) size
+pub open-fits : (b : List ℕ) (link : ℕ) → IsOpen b link (length b) (length b) → word b link ≢ 0 → (size : ℕ)
+    → size ≤ word b (word b link) → FitsBehind b link (word b link) (word b link) size
 open-fits b link o ne size fits =
     let f = word b link in
     let end = length b in
@@ -237,7 +278,8 @@ open-fits b link o ne size fits =
     let l : f < end = free-below b o.upto f o.ahead end o.next o.tiles_ahead next ne in
     let r = reach b o.upto f o.ahead end o.next o.tiles_ahead l (inl next) ne in
     let start_fours : table_end b % 4 ≡ 0 = omega (arith, o.header.pairs) in
-    let upto_fours : o.upto % 4 ≡ 0 = tiles-fours b (table_end b) (first_free b) o.before o.upto f (link-tiles b link o.upto o.before o.linked) start_fours in
+    let upto_fours : o.upto % 4 ≡ 0 = tiles-fours b (table_end b) (first_free b) o.before o.upto f
+    (link-tiles b link o.upto o.before o.linked) start_fours in
     record {
       beside = record {
         is = record {
@@ -255,11 +297,13 @@ open-fits b link o ne size fits =
           all = (λ i h t. elim (o.all i h t) [
             | inl x ↦ inl x
             | inr x ↦ inr (elim x [
-              | inl y ↦ (elim (has-split i r.pre (Free r.size ∷ r.rest) (subst (λ (ps : List Piece). HasChunk i ps) r.is y)) [ inl z ↦ inl z | inr z ↦ inr (has-left i (Free r.size ∷ r.rest) o.behind z) ])
+              | inl y ↦ (elim (has-split i r.pre (Free r.size ∷ r.rest) (subst (λ (ps : List Piece). HasChunk i ps) r.is y))
+                  [ inl z ↦ inl z | inr z ↦ inr (has-left i (Free r.size ∷ r.rest) o.behind z) ])
               | inr y ↦ inr (has-right i (Free r.size ∷ r.rest) o.behind y)
             ])
           ]);
-          total = (let u = ap free_bytes r.is ∙ free_bytes-append r.pre (Free r.size ∷ r.rest) in omega (arith, o.total, u, free_bytes-append (Free r.size ∷ r.rest) o.behind));
+          total = (let u = ap free_bytes r.is ∙ free_bytes-append r.pre (Free r.size ∷ r.rest) in
+              omega (arith, o.total, u, free_bytes-append (Free r.size ∷ r.rest) o.behind));
         };
         used = r.used;
       };

@@ -19,13 +19,23 @@ pub moved-high : (from end to e : ℕ) → end ≤ e → entry_moved from end to
 moved-high from end to e h = grind (arith, nat_tests)
 
 -- entries of which the function changes none
-pub entries-kept : (old : List ℕ) (f : ℕ → ℕ) (from end : ℕ) → ((j : ℕ) → from ≤ j → j < end → f (entry old j) ≡ entry old j) → MapsEntries old old f from end
-entries-kept old f from end same = record { mapped = (λ j g h. sym (same j g h)); rest = (λ j h l. refl); head = (λ k h. refl); behind = (λ k h. refl); long = refl }
+pub entries-kept : (old : List ℕ) (f : ℕ → ℕ) (from end : ℕ) → ((j : ℕ) → from ≤ j → j < end → f (entry old j) ≡ entry old j)
+    → MapsEntries old old f from end
+entries-kept old f from end same = record {
+  mapped = (λ j g h. sym (same j g h));
+  rest = (λ j h l. refl);
+  head =
+      (λ k h. refl);
+  behind = (λ k h. refl);
+  long = refl;
+}
 
-pub entries-more : (old b : List ℕ) (f : ℕ → ℕ) (from i w : ℕ) → MapsEntries old b f from i → from ≤ i → i < entries old → table_end old ≤ length old →
+pub entries-more : (old b : List ℕ) (f : ℕ → ℕ) (from i w : ℕ) → MapsEntries old b f from i → from ≤ i → i < entries old
+    → table_end old ≤ length old →
     w ≡ f (word b (16 + 2 * i)) → w < 65536 → MapsEntries old (with_word b (16 + 2 * i) w) f from (i + 1)
 entries-more old b f from i w l up h fits is small =
-    let here : entry (with_word b (16 + 2 * i) w) i ≡ f (entry old i) = word-same b (16 + 2 * i) w small (omega (arith, l.long)) ∙ is ∙ ap f (l.rest i (inr (omega arith)) h) in
+    let here : entry (with_word b (16 + 2 * i) w) i ≡ f (entry old i) = word-same b (16 + 2 * i) w small (omega (arith, l.long))
+    ∙ is ∙ ap f (l.rest i (inr (omega arith)) h) in
     let other : (j : ℕ) → j ≢ i → entry (with_word b (16 + 2 * i) w) j ≡ entry b j = (λ j ne. elim (cases_lt j i) [
       | inl a ↦ word-other b (16 + 2 * i) w (16 + 2 * j) (inl (omega arith))
       | inr a ↦ word-other b (16 + 2 * i) w (16 + 2 * j) (inr (omega arith))
@@ -49,7 +59,8 @@ pub entries-count : (a b : List ℕ) (f : ℕ → ℕ) (from end : ℕ) → Maps
 entries-count a b f from end x = word-bytes a b 10 10 (x.head 10 (omega arith)) (x.head 11 (omega arith))
 
 -- entries one run after the other
-pub entries-join : (a b c : List ℕ) (f : ℕ → ℕ) (from mid end : ℕ) → from ≤ mid → mid ≤ end → end ≤ entries a → MapsEntries a b f from mid → MapsEntries b c f mid end → MapsEntries a c f from end
+pub entries-join : (a b c : List ℕ) (f : ℕ → ℕ) (from mid end : ℕ) → from ≤ mid → mid ≤ end → end ≤ entries a
+    → MapsEntries a b f from mid → MapsEntries b c f mid end → MapsEntries a c f from end
 entries-join a b c f from mid end up up' fits x y =
     let count = entries-count a b f from mid x in
     record {
@@ -67,7 +78,8 @@ entries-join a b c f from mid end up up' fits x y =
     }
 
 -- the bytes first, and then the entries
-pub run-moved : (b c d : List ℕ) (from end to : ℕ) → table_end b ≤ from → table_end b ≤ to → from ≤ end → end ≤ length b → to + (end - from) ≤ length b →
+pub run-moved : (b c d : List ℕ) (from end to : ℕ) → table_end b ≤ from → table_end b ≤ to → from ≤ end → end ≤ length b
+    → to + (end - from) ≤ length b →
     c ≡ with_part b to (part b from (end - from)) → MapsEntries c d (entry_moved from end to) 0 (entries c) → MovesRun b d from end to
 run-moved b c d from end to low low' ordered fits fits' is m =
     let ws = part b from (end - from) in
@@ -78,14 +90,17 @@ run-moved b c d from end to low low' ordered fits fits' is m =
     record {
       long = m.long ∙ ap length is ∙ length-with_part b to ws;
       head = (λ k h. m.head k h ∙ low_byte k (omega arith));
-      entries = (λ i h. m.mapped i (omega arith) (omega (arith, count)) ∙ ap (entry_moved from end to) (word-bytes b c (16 + 2 * i) (16 + 2 * i) (low_byte (16 + 2 * i) (omega arith)) (low_byte (16 + 2 * i + 1) (omega arith))));
+      entries = (λ i h. m.mapped i (omega arith) (omega (arith, count))
+          ∙ ap (entry_moved from end to) (word-bytes b c (16 + 2 * i) (16 + 2 * i) (low_byte (16 + 2 * i) (omega arith))
+          (low_byte (16 + 2 * i + 1) (omega arith))));
       moved = (λ j k e g r. m.behind j (omega (arith, count)) ∙ part-moved b c from to (end - from) (omega arith) fits' is j k e g (omega arith));
       before = (λ k g l r. m.behind k (omega (arith, count)) ∙ low_byte k r);
       behind = (λ k g l. m.behind k (omega (arith, count)) ∙ byte k ∙ get_or-with_part_behind b to ws k (omega (arith, n)));
     }
 
 -- the table stays in the block where bytes behind it moved
-pub run-table : (b c : List ℕ) (from end to : ℕ) → table_end b ≤ from → table_end b ≤ to → from ≤ end → end ≤ length b → c ≡ with_part b to (part b from (end - from)) → table_end c ≤ length c
+pub run-table : (b c : List ℕ) (from end to : ℕ) → table_end b ≤ from → table_end b ≤ to → from ≤ end → end ≤ length b
+    → c ≡ with_part b to (part b from (end - from)) → table_end c ≤ length c
 run-table b c from end to low low' ordered fits is =
     let ws = part b from (end - from) in
     let low_byte : (k : ℕ) → k < to → get_or c k 0 ≡ get_or b k 0 = (λ k h. ap (λ x. get_or x k 0) is ∙ get_or-with_part_before b to ws k h) in

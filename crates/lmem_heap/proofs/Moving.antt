@@ -30,12 +30,14 @@ pub data Side (b : List ℕ) (link at end i : ℕ) (o : IsOpen b link at end) : 
 
 -- the pieces before a hole
 front : (b : List ℕ) (link at end : ℕ) → (o : IsOpen b link at end) → Tiles b (table_end b) (first_free b) (o.before ++ o.ahead) at o.next
-front b link at end o = tiles-join b (table_end b) (first_free b) o.before o.ahead o.upto (word b link) at o.next (link-tiles b link o.upto o.before o.linked) o.tiles_ahead
+front b link at end o = tiles-join b (table_end b) (first_free b) o.before o.ahead o.upto (word b link) at o.next
+    (link-tiles b link o.upto o.before o.linked) o.tiles_ahead
 
 pub side : (b : List ℕ) (link at end i : ℕ) → (o : IsOpen b link at end) → i < entries b → IsOffset (entry b i) → Side b link at end i o
 side b link at end i o h t = elim (o.all i h t) [
   | inl x ↦ Before (find b (table_end b) (first_free b) (o.before ++ o.ahead) at o.next i (front b link at end o) (has-left i o.before o.ahead x))
-  | inr (inl y) ↦ Before (find b (table_end b) (first_free b) (o.before ++ o.ahead) at o.next i (front b link at end o) (has-right i o.before o.ahead y))
+  | inr (inl y) ↦ Before (find b (table_end b) (first_free b) (o.before ++ o.ahead) at o.next i (front b link at end o)
+      (has-right i o.before o.ahead y))
   | inr (inr y) ↦ Behind (find b end o.next o.behind (length b) 0 i o.tiles_behind y)
 ]
 
@@ -53,10 +55,24 @@ aside b link at end i o h t =
     elim (side b link at end i o h t) [
       | Before r ↦ (let n : r.n ≡ chunk_length b i = omega (arith, r.size) in let c = ap cost n in
           let le = tiles-le b (entry b i - 2 + cost r.n) r.g r.post at o.next r.behind in
-          record { some = omega (arith, r.some, n); size = omega (arith, r.size, n); low = r.low; out = inl (omega (arith, le, c)); high = omega (arith, le, c, p.high, o.order) })
+          record {
+            some = omega (arith, r.some, n);
+            size = omega (arith, r.size, n);
+            low = r.low;
+            out =
+                inl (omega (arith, le, c));
+            high = omega (arith, le, c, p.high, o.order);
+          })
       | Behind r ↦ (let n : r.n ≡ chunk_length b i = omega (arith, r.size) in let c = ap cost n in
           let le = tiles-le b (entry b i - 2 + cost r.n) r.g r.post (length b) 0 r.behind in
-          record { some = omega (arith, r.some, n); size = omega (arith, r.size, n); low = omega (arith, r.low, p.low, o.order); out = inr r.low; high = omega (arith, le, c) })
+          record {
+            some = omega (arith, r.some, n);
+            size = omega (arith, r.size, n);
+            low = omega (arith, r.low, p.low, o.order);
+            out =
+                inr r.low;
+            high = omega (arith, le, c);
+          })
     ]
 
 -- what a chunk that moved into the hole leaves
@@ -65,8 +81,10 @@ pub record Redirects (b c : List ℕ) (i : ℕ) (bytes : List ℕ) : Type 0 wher
   pub chunks : chunks c ≡ set (chunks b) i (Some bytes)
   pub handle : word c 0 ≡ word b 0
 
-pub redirects : (b c : List ℕ) (link at end i n : ℕ) (bytes : List ℕ) → (o : IsOpen b link at end) → i < entries b → IsOffset (entry b i) → 0 < n → at + cost n ≡ end → length c ≡ length b →
-    ((k : ℕ) → k < at → Apart k (16 + 2 * i) → get_or c k 0 ≡ get_or b k 0) → KeepsBack b c end → entry c i ≡ at + 2 → word c at ≡ n + 2 → part c (at + 2) n ≡ bytes → Redirects b c i bytes
+pub redirects : (b c : List ℕ) (link at end i n : ℕ) (bytes : List ℕ) → (o : IsOpen b link at end) → i < entries b
+    → IsOffset (entry b i) → 0 < n → at + cost n ≡ end → length c ≡ length b →
+    ((k : ℕ) → k < at → Apart k (16 + 2 * i) → get_or c k 0 ≡ get_or b k 0) → KeepsBack b c end → entry c i ≡ at + 2
+    → word c at ≡ n + 2 → part c (at + 2) n ≡ bytes → Redirects b c i bytes
 redirects b c link at end i n bytes o h t some whole long keep back here says content =
     let p = open-place b link at end o in
     let e = entry b i in
@@ -77,10 +95,16 @@ redirects b c link at end i n bytes o h t some whole long keep back here says co
     let apart : (j : ℕ) → (entry b j ≡ e → ⊥) → j ≢ i = (λ j no same. no (ap (λ x. entry b x) same)) in
     let start_is : table_end b ≡ table_end c = ap (λ x. 16 + 2 * x) (sym m) in
     let first = sym w.first in
-    let spelled = chunks-set b c i (Some bytes) m h w.chunk (λ j l ne. kept-chunk b c link at end end j o long (w.front (table_end b) (link - 2) (omega arith) (omega arith)) (w.front o.upto at k.start (omega arith)) (w.rear end (length b) (omega arith))
+    let spelled = chunks-set b c i (Some bytes) m h w.chunk (λ j l ne. kept-chunk b c link at end end j o long
+    (w.front (table_end b) (link - 2) (omega arith) (omega arith)) (w.front o.upto at k.start (omega arith)) (w.rear end (length b) (omega arith))
     (λ x. lies b end o.next o.behind (length b) 0 j o.tiles_behind x) l (w.each j l ne)) in
-    let kept : (j : ℕ) → j < entries c → IsOffset (entry c j) → j ≢ i → HasChunk j (o.before ++ o.ahead) ⊎ HasChunk j o.behind = (λ j l u ne. let lb : j < entries b = omega (arith, m) in let d = w.each j lb ne in
-    elim (o.all j lb ((λ z. u.0 (d ∙ z)), (λ z. u.1 (d ∙ z)))) [ inl x ↦ inl (has-left j o.before o.ahead x) | inr x ↦ elim x [ inl y ↦ inl (has-right j o.before o.ahead y) | inr y ↦ inr y ] ]) in
+    let kept : (j : ℕ) → j < entries c → IsOffset (entry c j) → j ≢ i → HasChunk j (o.before ++ o.ahead) ⊎ HasChunk j o.behind =
+    (λ j l u ne. let lb : j < entries b = omega (arith, m) in let d = w.each j lb ne in
+    elim (o.all j lb ((λ z. u.0 (d ∙ z)), (λ z. u.1 (d ∙ z)))) [
+      | inl x ↦ inl (has-left j o.before o.ahead x)
+      | inr
+          x ↦ elim x [ inl y ↦ inl (has-right j o.before o.ahead y) | inr y ↦ inr y ]
+    ]) in
     let start_fours : table_end b % 4 ≡ 0 = omega (arith, o.header.pairs) in
     let mine_room : at + cost n ≡ end = whole in
     let app = free_bytes-append o.before o.ahead in
@@ -92,10 +116,16 @@ redirects b c link at end i n bytes o h t some whole long keep back here says co
           let n_is : r.n ≡ chunk_length b i = omega (arith, r.size) in
           let end_is : e - 2 + cost r.n ≡ chunk_end b i = ap (λ x. e - 2 + cost x) n_is in
           let le = tiles-le b (e - 2 + cost r.n) r.g r.post at o.next r.behind in
-          let pre : Tiles c (table_end b) (first_free b) r.pre (e - 2) r.g = tiles-kept b c (table_end b) (first_free b) r.pre (e - 2) r.g r.before (w.front (table_end b) (e - 2) (omega arith) (omega arith)) (omega (arith, m)) (λ j l a z. w.each j l (apart j (λ q. absurd (omega arith)))) in
-          let post : Tiles c (e - 2 + cost r.n) r.g r.post at o.next = tiles-kept b c (e - 2 + cost r.n) r.g r.post at o.next r.behind (w.front (e - 2 + cost r.n) at (omega arith) (omega arith)) (omega (arith, m)) (λ j l a z. w.each j l (apart j (λ q. absurd (omega arith)))) in
-          let behind : Tiles c end o.next o.behind (length b) 0 = tiles-kept b c end o.next o.behind (length b) 0 o.tiles_behind (w.rear end (length b) (omega arith)) (omega (arith, m)) (λ j l a z. w.each j l (apart j (λ q. absurd (omega arith)))) in
-          let mine : Tiles c at o.next (Used i n ∷ o.behind) (length b) 0 = (some, omega (arith, m), here, says, subst (λ (x : ℕ). Tiles c x o.next o.behind (length b) 0) (sym whole) behind) in
+          let pre : Tiles c (table_end b) (first_free b) r.pre (e - 2) r.g = tiles-kept b c (table_end b)
+          (first_free b) r.pre (e - 2) r.g r.before (w.front (table_end b) (e - 2) (omega arith) (omega arith))
+          (omega (arith, m)) (λ j l a z. w.each j l (apart j (λ q. absurd (omega arith)))) in
+          let post : Tiles c (e - 2 + cost r.n) r.g r.post at o.next = tiles-kept b c (e - 2 + cost r.n) r.g r.post
+          at o.next r.behind (w.front (e - 2 + cost r.n) at (omega arith) (omega arith)) (omega (arith, m))
+          (λ j l a z. w.each j l (apart j (λ q. absurd (omega arith)))) in
+          let behind : Tiles c end o.next o.behind (length b) 0 = tiles-kept b c end o.next o.behind (length b) 0
+          o.tiles_behind (w.rear end (length b) (omega arith)) (omega (arith, m)) (λ j l a z. w.each j l (apart j (λ q. absurd (omega arith)))) in
+          let mine : Tiles c at o.next (Used i n ∷ o.behind) (length b) 0 =
+          (some, omega (arith, m), here, says, subst (λ (x : ℕ). Tiles c x o.next o.behind (length b) 0) (sym whole) behind) in
           let rest = tiles-join c (e - 2 + cost r.n) r.g r.post (Used i n ∷ o.behind) at o.next (length b) 0 post mine in
           record {
             is = record {
@@ -107,7 +137,8 @@ redirects b c link at end i n bytes o h t some whole long keep back here says co
               behind = r.post ++ (Used i n ∷ o.behind);
               linked = inl (record { is = refl; none = refl; start = start_is });
               tiles_ahead = subst (λ (x : ℕ). Tiles c (table_end b) x r.pre (e - 2) r.g) first pre;
-              tiles_behind = subst (λ (x : ℕ). Tiles c (chunk_end b i) r.g (r.post ++ (Used i n ∷ o.behind)) x 0) (sym long) (subst (λ (x : ℕ). Tiles c x r.g (r.post ++ (Used i n ∷ o.behind)) (length b) 0) end_is rest);
+              tiles_behind = subst (λ (x : ℕ). Tiles c (chunk_end b i) r.g (r.post ++ (Used i n ∷ o.behind)) x 0)
+                  (sym long) (subst (λ (x : ℕ). Tiles c x r.g (r.post ++ (Used i n ∷ o.behind)) (length b) 0) end_is rest);
               order = omega (arith, end_is);
               fours = tiles-fours b (table_end b) (first_free b) r.pre (e - 2) r.g r.before start_fours;
               all = (λ j l u. inr (elim (cases_eq j i) [
@@ -120,7 +151,8 @@ redirects b c link at end i n bytes o h t some whole long keep back here says co
                   | inr x ↦ inr (has-right j r.post (Used i n ∷ o.behind) (inr x))
                 ]
               ]));
-              total = (let g = ap free_bytes r.is ∙ free_bytes-append r.pre (Used i r.n ∷ r.post) in omega (arith, o.total, app, g, free_bytes-append r.post (Used i n ∷ o.behind), w.total));
+              total = (let g = ap free_bytes r.is ∙ free_bytes-append r.pre (Used i r.n ∷ r.post) in
+                  omega (arith, o.total, app, g, free_bytes-append r.post (Used i n ∷ o.behind), w.total));
             };
             chunks = spelled;
             handle = handle;
@@ -129,10 +161,16 @@ redirects b c link at end i n bytes o h t some whole long keep back here says co
           let n_is : r.n ≡ chunk_length b i = omega (arith, r.size) in
           let end_is : e - 2 + cost r.n ≡ chunk_end b i = ap (λ x. e - 2 + cost x) n_is in
           let le = tiles-le b (e - 2 + cost r.n) r.g r.post (length b) 0 r.behind in
-          let pre : Tiles c end o.next r.pre (e - 2) r.g = tiles-kept b c end o.next r.pre (e - 2) r.g r.before (w.rear end (e - 2) (omega arith)) (omega (arith, m)) (λ j l a z. w.each j l (apart j (λ q. absurd (omega arith)))) in
-          let post : Tiles c (e - 2 + cost r.n) r.g r.post (length b) 0 = tiles-kept b c (e - 2 + cost r.n) r.g r.post (length b) 0 r.behind (w.rear (e - 2 + cost r.n) (length b) (omega arith)) (omega (arith, m)) (λ j l a z. w.each j l (apart j (λ q. absurd (omega arith)))) in
-          let pieces : Tiles c (table_end b) (first_free b) P at o.next = tiles-kept b c (table_end b) (first_free b) P at o.next whole_front (w.front (table_end b) at (omega arith) (omega arith)) (omega (arith, m)) (λ j l a z. w.each j l (apart j (λ q. absurd (omega arith)))) in
-          let mine : Tiles c at o.next (Used i n ∷ r.pre) (e - 2) r.g = (some, omega (arith, m), here, says, subst (λ (x : ℕ). Tiles c x o.next r.pre (e - 2) r.g) (sym whole) pre) in
+          let pre : Tiles c end o.next r.pre (e - 2) r.g = tiles-kept b c end o.next r.pre (e - 2) r.g r.before
+          (w.rear end (e - 2) (omega arith)) (omega (arith, m)) (λ j l a z. w.each j l (apart j (λ q. absurd (omega arith)))) in
+          let post : Tiles c (e - 2 + cost r.n) r.g r.post (length b) 0 = tiles-kept b c (e - 2 + cost r.n) r.g r.post
+          (length b) 0 r.behind (w.rear (e - 2 + cost r.n) (length b) (omega arith)) (omega (arith, m))
+          (λ j l a z. w.each j l (apart j (λ q. absurd (omega arith)))) in
+          let pieces : Tiles c (table_end b) (first_free b) P at o.next = tiles-kept b c (table_end b) (first_free b)
+          P at o.next whole_front (w.front (table_end b) at (omega arith) (omega arith)) (omega (arith, m))
+          (λ j l a z. w.each j l (apart j (λ q. absurd (omega arith)))) in
+          let mine : Tiles c at o.next (Used i n ∷ r.pre) (e - 2) r.g =
+          (some, omega (arith, m), here, says, subst (λ (x : ℕ). Tiles c x o.next r.pre (e - 2) r.g) (sym whole) pre) in
           let ahead = tiles-join c (table_end b) (first_free b) P (Used i n ∷ r.pre) at o.next (e - 2) r.g pieces mine in
           record {
             is = record {
@@ -144,7 +182,8 @@ redirects b c link at end i n bytes o h t some whole long keep back here says co
               behind = r.post;
               linked = inl (record { is = refl; none = refl; start = start_is });
               tiles_ahead = subst (λ (x : ℕ). Tiles c (table_end b) x (P ++ (Used i n ∷ r.pre)) (e - 2) r.g) first ahead;
-              tiles_behind = subst (λ (x : ℕ). Tiles c (chunk_end b i) r.g r.post x 0) (sym long) (subst (λ (x : ℕ). Tiles c x r.g r.post (length b) 0) end_is post);
+              tiles_behind = subst (λ (x : ℕ). Tiles c (chunk_end b i) r.g r.post x 0) (sym long)
+                  (subst (λ (x : ℕ). Tiles c x r.g r.post (length b) 0) end_is post);
               order = omega (arith, end_is);
               fours = tiles-fours c (table_end b) (first_free b) (P ++ (Used i n ∷ r.pre)) (e - 2) r.g ahead start_fours;
               all = (λ j l u. inr (elim (cases_eq j i) [
@@ -157,7 +196,8 @@ redirects b c link at end i n bytes o h t some whole long keep back here says co
                   ])
                 ]
               ]));
-              total = (let g = ap free_bytes r.is ∙ free_bytes-append r.pre (Used i r.n ∷ r.post) in omega (arith, o.total, app, g, free_bytes-append P (Used i n ∷ r.pre), w.total));
+              total = (let g = ap free_bytes r.is ∙ free_bytes-append r.pre (Used i r.n ∷ r.post) in
+                  omega (arith, o.total, app, g, free_bytes-append P (Used i n ∷ r.pre), w.total));
             };
             chunks = spelled;
             handle = handle;
@@ -166,8 +206,10 @@ redirects b c link at end i n bytes o h t some whole long keep back here says co
 
 -- the writes that move a chunk into a hole: its entry, the size word, the bytes that it keeps,
 -- and zeros
-pub moved-in-hole : (b d1 d2 d3 c : List ℕ) (link at end i keep n : ℕ) → (o : IsOpen b link at end) → i < entries b → IsOffset (entry b i) → 0 < n → at + cost n ≡ end → keep ≤ n → keep ≤ chunk_length b i → (n ≤ keep) ⊎ (chunk_length b i ≤ keep) →
-    d1 ≡ with_word b (16 + 2 * i) (at + 2) → d2 ≡ with_word d1 at (n + 2) → d3 ≡ with_part d2 (at + 2) (part d2 (entry b i) keep) → c ≡ with_part d3 (at + 2 + keep) (replicate (n - keep) 0) →
+pub moved-in-hole : (b d1 d2 d3 c : List ℕ) (link at end i keep n : ℕ) → (o : IsOpen b link at end) → i < entries b
+    → IsOffset (entry b i) → 0 < n → at + cost n ≡ end → keep ≤ n → keep ≤ chunk_length b i → (n ≤ keep) ⊎ (chunk_length b i ≤ keep) →
+    d1 ≡ with_word b (16 + 2 * i) (at + 2) → d2 ≡ with_word d1 at (n + 2) → d3 ≡ with_part d2 (at + 2) (part d2 (entry b i) keep)
+    → c ≡ with_part d3 (at + 2 + keep) (replicate (n - keep) 0) →
     Redirects b c i (resized (part b (entry b i) (chunk_length b i)) n)
 moved-in-hole b d1 d2 d3 c link at end i keep n o h t some whole keep_n keep_len exact e1 e2 e3 e4 =
     let p = open-place b link at end o in
@@ -182,22 +224,32 @@ moved-in-hole b d1 d2 d3 c link at end i keep n o h t some whole keep_n keep_len
     let n3 : length d3 ≡ length d2 = ap length e3 ∙ length-with_part d2 (at + 2) moved in
     let n4 = length-zeros d3 c (at + 2 + keep) (n - keep) e4 in
     let nm : length moved ≡ keep = length-part d2 e keep (omega (arith, n1, n2)) in
-    let byte4 : (k : ℕ) → (k < at + 2 + keep) ⊎ (at + 2 + n ≤ k) → get_or c k 0 ≡ get_or d3 k 0 = (λ k out. beside-zeros d3 c (at + 2 + keep) (n - keep) k e4 (elim out [ inl l ↦ inl l | inr g ↦ inr (omega arith) ])) in
+    let byte4 : (k : ℕ) → (k < at + 2 + keep) ⊎ (at + 2 + n ≤ k) → get_or c k 0 ≡ get_or d3 k 0 =
+    (λ k out. beside-zeros d3 c (at + 2 + keep) (n - keep) k e4 (elim out [ inl l ↦ inl l | inr g ↦ inr (omega arith) ])) in
     let byte3 : (k : ℕ) → (k < at + 2) ⊎ (at + 2 + keep ≤ k) → get_or d3 k 0 ≡ get_or d2 k 0 = (λ k out. ap (λ x. get_or x k 0) e3 ∙ elim out [
       | inl l ↦ get_or-with_part_before d2 (at + 2) moved k l
       | inr g ↦ get_or-with_part_behind d2 (at + 2) moved k (omega (arith, nm))
     ]) in
-    let byte2 : (k : ℕ) → Apart k at → Apart k (16 + 2 * i) → get_or d2 k 0 ≡ get_or b k 0 = (λ k u v. other d1 d2 at (n + 2) k e2 u ∙ other b d1 (16 + 2 * i) (at + 2) k e1 v) in
-    let back : KeepsBack b c end = (λ k l. byte4 k (inr (omega arith)) ∙ byte3 k (inr (omega arith)) ∙ byte2 k (inr (omega arith)) (inr (omega arith))) in
-    let keeps : (k : ℕ) → k < at → Apart k (16 + 2 * i) → get_or c k 0 ≡ get_or b k 0 = (λ k l u. byte4 k (inl (omega arith)) ∙ byte3 k (inl (omega arith)) ∙ byte2 k (inl l) u) in
-    let words : (j : ℕ) → j + 2 ≤ at + 2 → word c j ≡ word d2 j = (λ j l. word-bytes d2 c j j (byte4 j (inl (omega arith)) ∙ byte3 j (inl (omega arith))) (byte4 (j + 1) (inl (omega arith)) ∙ byte3 (j + 1) (inl (omega arith)))) in
-    let here : entry c i ≡ at + 2 = words (16 + 2 * i) (omega arith) ∙ clear d1 d2 at (n + 2) (16 + 2 * i) e2 (inl (omega arith)) ∙ put b d1 (16 + 2 * i) (at + 2) e1 (omega arith) (omega arith) in
+    let byte2 : (k : ℕ) → Apart k at → Apart k (16 + 2 * i) → get_or d2 k 0 ≡ get_or b k 0 =
+    (λ k u v. other d1 d2 at (n + 2) k e2 u ∙ other b d1 (16 + 2 * i) (at + 2) k e1 v) in
+    let back : KeepsBack b c end = (λ k l. byte4 k (inr (omega arith)) ∙ byte3 k (inr (omega arith))
+    ∙ byte2 k (inr (omega arith)) (inr (omega arith))) in
+    let keeps : (k : ℕ) → k < at → Apart k (16 + 2 * i) → get_or c k 0 ≡ get_or b k 0 =
+    (λ k l u. byte4 k (inl (omega arith)) ∙ byte3 k (inl (omega arith)) ∙ byte2 k (inl l) u) in
+    let words : (j : ℕ) → j + 2 ≤ at + 2 → word c j ≡ word d2 j =
+    (λ j l. word-bytes d2 c j j (byte4 j (inl (omega arith)) ∙ byte3 j (inl (omega arith)))
+    (byte4 (j + 1) (inl (omega arith)) ∙ byte3 (j + 1) (inl (omega arith)))) in
+    let here : entry c i ≡ at + 2 = words (16 + 2 * i) (omega arith) ∙ clear d1 d2 at (n + 2) (16 + 2 * i) e2 (inl (omega arith))
+    ∙ put b d1 (16 + 2 * i) (at + 2) e1 (omega arith) (omega arith) in
     let says : word c at ≡ n + 2 = words at (omega arith) ∙ put d1 d2 at (n + 2) e2 (omega arith) (omega (arith, n1)) in
     let old = part b e len in
     let no = length-part b e len (omega arith) in
     let from : (q : ℕ) → q < keep → Apart (e + q) at = (λ q l. elim a.out [ inl z ↦ inl (omega (arith, z)) | inr z ↦ inr (omega (arith, z)) ]) in
-    let content : part c (at + 2) n ≡ resized old n = kept-bytes old c (at + 2) keep n (omega (arith, n1, n2, n3, n4)) (elim exact [ inl z ↦ inl z | inr z ↦ inr (omega (arith, no, z)) ])
-    (λ q stays small. byte4 (at + 2 + q) (inl (omega arith)) ∙ ap (λ x. get_or x (at + 2 + q) 0) e3 ∙ get_or-with_part_within d2 (at + 2) moved (at + 2 + q) q refl (omega (arith, nm)) (omega (arith, n1, n2))
-    ∙ get_or-take keep (drop e d2) q 0 stays ∙ get_or-drop e d2 q 0 ∙ byte2 (e + q) (from q stays) (inr (omega arith)) ∙ sym (get_or-take len (drop e b) q 0 (omega arith) ∙ get_or-drop e b q 0))
+    let content : part c (at + 2) n ≡ resized old n = kept-bytes old c (at + 2) keep n (omega (arith, n1, n2, n3, n4))
+    (elim exact [ inl z ↦ inl z | inr z ↦ inr (omega (arith, no, z)) ])
+    (λ q stays small. byte4 (at + 2 + q) (inl (omega arith)) ∙ ap (λ x. get_or x (at + 2 + q) 0) e3
+    ∙ get_or-with_part_within d2 (at + 2) moved (at + 2 + q) q refl (omega (arith, nm)) (omega (arith, n1, n2))
+    ∙ get_or-take keep (drop e d2) q 0 stays ∙ get_or-drop e d2 q 0 ∙ byte2 (e + q) (from q stays) (inr (omega arith))
+    ∙ sym (get_or-take len (drop e b) q 0 (omega arith) ∙ get_or-drop e b q 0))
     (λ q new small. within-zeros d3 c (at + 2 + keep) (n - keep) (at + 2 + q) e4 (omega (arith, n1, n2, n3)) (omega arith) (omega arith)) in
     redirects b c link at end i n (resized old n) o h t some whole (n4 ∙ n3 ∙ n2 ∙ n1) keeps back here says content

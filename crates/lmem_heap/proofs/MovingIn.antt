@@ -24,9 +24,13 @@ pub open-room : (b : List ℕ) (link at end n : ℕ) → IsOpen b link at end �
 open-room b link at end n o some fits = let p = open-place b link at end o in (omega (arith, cost-least n some, p.high, fits), p.most)
 
 -- what the writes leave
-pub moved-in : (b d1 d2 d3 c : List ℕ) (link at end i keep n : ℕ) (x : Extent) → IsOpen b link at end → i < entries b → IsOffset (entry b i) → IsExtent b i x → 0 < n → at + cost n ≡ end → keep ≡ min x.len n →
-    d1 ≡ with_word b (16 + 2 * i) (at + 2) → d2 ≡ with_word d1 at (n + 2) → d3 ≡ with_part d2 (at + 2) (part d2 (x.begin + 2) keep) → c ≡ with_part d3 (at + 2 + keep) (replicate (n - keep) 0) →
+pub moved-in : (b d1 d2 d3 c : List ℕ) (link at end i keep n : ℕ) (x : Extent) → IsOpen b link at end → i < entries b
+    → IsOffset (entry b i) → IsExtent b i x → 0 < n → at + cost n ≡ end → keep ≡ min x.len n →
+    d1 ≡ with_word b (16 + 2 * i) (at + 2) → d2 ≡ with_word d1 at (n + 2) → d3 ≡ with_part d2 (at + 2) (part d2 (x.begin + 2) keep)
+    → c ≡ with_part d3 (at + 2 + keep) (replicate (n - keep) 0) →
     Redirects b c i (resized (part b (entry b i) (chunk_length b i)) n)
 moved-in b d1 d2 d3 c link at end i keep n x o h t k some fits least e1 e2 e3 e4 =
-    let exact : (n ≤ keep) ⊎ (chunk_length b i ≤ keep) = elim (cases_lt n (chunk_length b i)) [ inl l ↦ inl (omega (arith, least, k.len, l)) | inr g ↦ inr (omega (arith, least, k.len, g)) ] in
-    moved-in-hole b d1 d2 d3 c link at end i keep n o h t some fits (omega (arith, least)) (omega (arith, least, k.len)) exact e1 e2 (subst (λ (y : ℕ). d3 ≡ with_part d2 (at + 2) (part d2 y keep)) (sym k.entry) e3) e4
+    let exact : (n ≤ keep) ⊎ (chunk_length b i ≤ keep) = elim (cases_lt n (chunk_length b i))
+    [ inl l ↦ inl (omega (arith, least, k.len, l)) | inr g ↦ inr (omega (arith, least, k.len, g)) ] in
+    moved-in-hole b d1 d2 d3 c link at end i keep n o h t some fits (omega (arith, least)) (omega (arith, least, k.len))
+    exact e1 e2 (subst (λ (y : ℕ). d3 ≡ with_part d2 (at + 2) (part d2 y keep)) (sym k.entry) e3) e4

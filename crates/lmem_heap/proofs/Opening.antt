@@ -26,9 +26,11 @@ first-gap b f heap open_still is =
     record { some = some; four = r.1; within = r.2; inner = (λ e. open_still (inr (ap (λ x. x + word b x) (sym is) ∙ e))) }
 
 -- where no free chunk is behind it
-pub gap-last : (b : List ℕ) (f g : ℕ) → IsHeap b → f ≡ first_free b → f ≢ 0 → g ≡ word b (f + 2) → g ≡ 0 → HasGap b (gap_of f (word b f) (length b) 0 0)
+pub gap-last : (b : List ℕ) (f g : ℕ) → IsHeap b → f ≡ first_free b → f ≢ 0 → g ≡ word b (f + 2) → g ≡ 0
+    → HasGap b (gap_of f (word b f) (length b) 0 0)
 gap-last b f g heap is ne next none =
-    let r = first-piece b (table_end b) f heap.1.0 (length b) (subst (λ (x : ℕ). Tiles b (table_end b) x heap.1.0 (length b) 0) (sym is) heap.1.1.tiles) ne in
+    let r = first-piece b (table_end b) f heap.1.0 (length b)
+    (subst (λ (x : ℕ). Tiles b (table_end b) x heap.1.0 (length b) 0) (sym is) heap.1.1.tiles) ne in
     let rest : Tiles b (f + r.s) 0 r.rest (length b) 0 = (subst (λ (x : ℕ). Tiles b (f + r.s) x r.rest (length b) 0) (sym next ∙ none) r.here.5) in
     let low = tiles-le b (table_end b) f r.pre f f r.before in
     let high = tiles-le b (f + r.s) 0 r.rest (length b) 0 rest in
@@ -45,16 +47,20 @@ gap-last b f g heap is ne next none =
       middle = rest;
       behind = (omega arith, refl);
       apart = (λ e. absurd (omega arith));
-      all = (λ i h t. elim (has-split i r.pre (Free r.s ∷ r.rest) (subst (λ (ps : List Piece). HasChunk i ps) r.is (heap.1.1.all i h t))) [ inl x ↦ inl x | inr x ↦ inr (inl x) ]);
-      total = (let e = ap free_bytes r.is ∙ free_bytes-append r.pre (Free r.s ∷ r.rest) in omega (arith, e, used-free r.pre r.used, used-free r.rest mid_used, heap.1.1.total));
+      all = (λ i h t. elim (has-split i r.pre (Free r.s ∷ r.rest) (subst (λ (ps : List Piece). HasChunk i ps) r.is (heap.1.1.all i h t)))
+          [ inl x ↦ inl x | inr x ↦ inr (inl x) ]);
+      total = (let e = ap free_bytes r.is ∙ free_bytes-append r.pre (Free r.s ∷ r.rest) in
+          omega (arith, e, used-free r.pre r.used, used-free r.rest mid_used, heap.1.1.total));
       places = (omega arith, high, omega arith);
     } in
     subst (λ (x : ℕ). HasGap b (gap_of f x (length b) 0 0)) {y = word b f} size got
 
 -- where another one is
-pub gap-inner : (b : List ℕ) (f g : ℕ) → IsHeap b → f ≡ first_free b → f ≢ 0 → g ≡ word b (f + 2) → g ≢ 0 → HasGap b (gap_of f (word b f) g (word b g) (word b (g + 2))) × (f + word b f < g) × (g + 4 ≤ length b)
+pub gap-inner : (b : List ℕ) (f g : ℕ) → IsHeap b → f ≡ first_free b → f ≢ 0 → g ≡ word b (f + 2) → g ≢ 0
+    → HasGap b (gap_of f (word b f) g (word b g) (word b (g + 2))) × (f + word b f < g) × (g + 4 ≤ length b)
 gap-inner b f g heap is ne next some =
-    let r = first-piece b (table_end b) f heap.1.0 (length b) (subst (λ (x : ℕ). Tiles b (table_end b) x heap.1.0 (length b) 0) (sym is) heap.1.1.tiles) ne in
+    let r = first-piece b (table_end b) f heap.1.0 (length b)
+    (subst (λ (x : ℕ). Tiles b (table_end b) x heap.1.0 (length b) 0) (sym is) heap.1.1.tiles) ne in
     let q = first-piece b (f + r.s) g r.rest (length b) (subst (λ (x : ℕ). Tiles b (f + r.s) x r.rest (length b) 0) (sym next) r.here.5) some in
     let low = tiles-le b (table_end b) f r.pre f f r.before in
     let mid = tiles-le b (f + r.s) g q.pre g g q.before in
@@ -72,14 +78,20 @@ gap-inner b f g heap is ne next some =
       middle = used-any b (f + r.s) g 0 q.pre g g q.used q.before;
       behind = q.here.5;
       apart = q.here.4;
-      all = (λ i h t. let H : List Piece → Type 0 = λ ps. HasChunk i ps in elim (has-split i r.pre (Free r.s ∷ r.rest) (subst H {y = r.pre ++ (Free r.s ∷ r.rest)} r.is (heap.1.1.all i h t))) [
-        | inl x ↦ inl x
-        | inr x ↦ inr (has-split i q.pre (Free q.s ∷ q.rest) (subst H q.is x))
-      ]);
-      total = (let e = ap free_bytes r.is ∙ free_bytes-append r.pre (Free r.s ∷ r.rest) in let d = ap free_bytes q.is ∙ free_bytes-append q.pre (Free q.s ∷ q.rest) in
+      all = (λ i h t. let H : List Piece → Type 0 = λ ps. HasChunk i ps in
+          elim (has-split i r.pre (Free r.s ∷ r.rest) (subst H {y = r.pre ++ (Free r.s ∷ r.rest)} r.is (heap.1.1.all i h t))) [
+            | inl x ↦ inl x
+            | inr x ↦ inr (has-split i q.pre (Free q.s ∷ q.rest) (subst H q.is x))
+          ]);
+      total = (let e = ap free_bytes r.is ∙ free_bytes-append r.pre (Free r.s ∷ r.rest) in let d = ap free_bytes q.is
+          ∙ free_bytes-append q.pre (Free q.s ∷ q.rest) in
           omega (arith, e, d, used-free r.pre r.used, used-free q.pre q.used, heap.1.1.total));
       places = (omega arith, mid, high);
     } in
     let apart : g ≢ f + r.s = (λ e. r.here.4 (sym next ∙ e)) in
-    let four : 4 ≤ q.s = omega (arith, q.here.0, q.here.1) in
-    (subst (λ (y : ℕ). HasGap b (gap_of f (word b f) g y (word b (g + 2)))) {y = word b g} more (subst (λ (x : ℕ). HasGap b (gap_of f x g q.s (word b (g + 2)))) {y = word b f} size got), omega (arith, size), omega (arith, high, four))
+    let four : 4 ≤ q.s = omega (arith, q.here.0, q.here.1) in (
+      subst (λ (y : ℕ). HasGap b (gap_of f (word b f) g y (word b (g + 2)))) {y = word b g} more
+          (subst (λ (x : ℕ). HasGap b (gap_of f x g q.s (word b (g + 2)))) {y = word b f} size got),
+      omega (arith, size),
+      omega (arith, high, four),
+    )

@@ -36,8 +36,10 @@ packed-tail b heap ne last =
     let size : word b f ≡ r.s = r.here.3 in
     let rest : r.rest ≡ [] = nothing-left b (f + r.s) (word b (f + 2)) r.rest (length b) 0 (omega (arith, last, size)) r.here.5 in
     let is : heap.1.0 ≡ r.pre ++ (Free r.s ∷ []) = r.is ∙ ap (λ xs. r.pre ++ (Free r.s ∷ xs)) rest in
-    let total : total_free b ≡ r.s = (let e = heap.1.1.total ∙ ap free_bytes is ∙ free_bytes-append r.pre (Free r.s ∷ []) in omega (arith, e, used-free r.pre r.used)) in
-    let next : word b (f + 2) ≡ 0 = (let t : Tiles b (f + r.s) (word b (f + 2)) [] (length b) 0 = subst (λ (ps : List Piece). Tiles b (f + r.s) (word b (f + 2)) ps (length b) 0) rest r.here.5 in t.1) in
+    let total : total_free b ≡ r.s = (let e = heap.1.1.total ∙ ap free_bytes is ∙ free_bytes-append r.pre (Free r.s ∷ []) in
+    omega (arith, e, used-free r.pre r.used)) in
+    let next : word b (f + 2) ≡ 0 = (let t : Tiles b (f + r.s) (word b (f + 2)) [] (length b) 0 =
+    subst (λ (ps : List Piece). Tiles b (f + r.s) (word b (f + 2)) ps (length b) 0) rest r.here.5 in t.1) in
     record {
       header = heap.0;
       pre = r.pre;
@@ -46,7 +48,8 @@ packed-tail b heap ne last =
       tiles = used-any b (table_end b) f 0 r.pre f f r.used r.before;
       room = omega (arith, last, size, total);
       fours = ap (λ x. x % 4) total ∙ r.here.1;
-      all = (λ i h t. elim (has-split i r.pre (Free r.s ∷ []) (subst (λ (ps : List Piece). HasChunk i ps) is (heap.1.1.all i h t))) [ inl x ↦ x | inr x ↦ absurd x ]);
+      all = (λ i h t. elim (has-split i r.pre (Free r.s ∷ []) (subst (λ (ps : List Piece). HasChunk i ps) is (heap.1.1.all i h t)))
+          [ inl x ↦ x | inr x ↦ absurd x ]);
       ends = record { none = (λ z. absurd (omega (arith, z, total))); some = (λ h. (refl, size ∙ sym total, next)) };
     }
 
@@ -60,13 +63,24 @@ pub packed-heap : (b : List ℕ) → IsPacked b → IsHeap b
 packed-heap b p = elim (cases_eq (total_free b) 0) [
   | inl z ↦ (let first : first_free b ≡ 0 = p.ends.none z in
       let at : p.at ≡ length b = omega arith in
-      let u = used-free p.pre p.used in
-      (p.header, (p.pre, record { tiles = subst (λ (x : ℕ). Tiles b (table_end b) x p.pre (length b) 0) (sym first) (subst (λ (x : ℕ). Tiles b (table_end b) 0 p.pre x 0) at p.tiles); all = p.all; total = z ∙ sym u })))
+      let u = used-free p.pre p.used in (
+        p.header,
+        (
+          p.pre,
+          record {
+            tiles = subst (λ (x : ℕ). Tiles b (table_end b) x p.pre (length b) 0) (sym first)
+                (subst (λ (x : ℕ). Tiles b (table_end b) 0 p.pre x 0) at p.tiles);
+            all = p.all;
+            total = z ∙ sym u;
+          },
+        ),
+      ))
   | inr nz ↦ (let some = p.ends.some (omega arith) in
       let s = total_free b in
       let f = first_free b in
       let low = tiles-le b (table_end b) 0 p.pre p.at 0 p.tiles in
-      let here : Tiles b p.at p.at (Free s ∷ []) (length b) 0 = (omega arith, p.fours, refl, some.1, (λ e. absurd (omega (arith, e, some.2))), (p.room, some.2)) in
+      let here : Tiles b p.at p.at (Free s ∷ []) (length b) 0 =
+      (omega arith, p.fours, refl, some.1, (λ e. absurd (omega (arith, e, some.2))), (p.room, some.2)) in
       let whole : Tiles b (table_end b) p.at (p.pre ++ (Free s ∷ [])) (length b) 0 =
       tiles-join b (table_end b) p.at p.pre (Free s ∷ []) p.at p.at (length b) 0 (used-any b (table_end b) 0 p.at p.pre p.at 0 p.used p.tiles) here in (
         p.header,

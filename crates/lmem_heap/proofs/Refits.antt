@@ -15,7 +15,8 @@ use Rattle.lmem_heap.proofs.Extending.{heap-extent}
 
 -- bytes that get the length they have
 pub resized-same : (bs : List ℕ) (n : ℕ) → length bs ≡ n → resized bs n ≡ bs
-resized-same bs n e = same_number_lists (resized bs n) bs (length-resized bs n ∙ sym e) (λ k l. get_or-resized bs n k (omega (arith, l, length-resized bs n)))
+resized-same bs n e = same_number_lists (resized bs n) bs (length-resized bs n ∙ sym e)
+    (λ k l. get_or-resized bs n k (omega (arith, l, length-resized bs n)))
 
 -- an item that is written again
 pub set-same : {A : Type 0} (xs : List A) (i : ℕ) (x d : A) → i < length xs → get_or xs i d ≡ x → set xs i x ≡ xs
@@ -41,7 +42,8 @@ placed-length b i heap h t =
     ap length (placed b i h t) ∙ length-part b (entry b i) (chunk_length b i) (omega (arith, k.entry, k.len, k.wide, k.high))
 
 -- an entry that is an offset is one in a block with the same chunks
-pub offset-same : (b d : List ℕ) (i : ℕ) → IsHeap b → chunks d ≡ chunks b → i < entries b → IsOffset (entry b i) → (i < entries d) × IsOffset (entry d i)
+pub offset-same : (b d : List ℕ) (i : ℕ) → IsHeap b → chunks d ≡ chunks b → i < entries b → IsOffset (entry b i)
+    → (i < entries d) × IsOffset (entry d i)
 offset-same b d i heap same h t =
     let u = in-use-same b d i same h t.0 in
     let k = (heap-extent b i heap h t).is in (

@@ -45,14 +45,16 @@ pub record Relinks (b c : List ℕ) (link at upto : ℕ) : Type 0 where
   pub apart : table_end b + 2 ≤ link → word c link ≢ upto
   pub mid : IsShifted b c 0 0 upto at
 
-pub relinked : (b c : List ℕ) (link at upto : ℕ) (before : List Piece) → IsHeader b → IsLink b link upto before → upto ≤ at → Relinks b c link at upto → IsLink c link upto before
+pub relinked : (b c : List ℕ) (link at upto : ℕ) (before : List Piece) → IsHeader b → IsLink b link upto before
+    → upto ≤ at → Relinks b c link at upto → IsLink c link upto before
 relinked b c link at upto before header (inl k) le r =
     let n : entries c ≡ entries b = head-word b c 12 10 r.head (omega arith) in
     inl (record { is = k.is; none = k.none; start = omega (arith, k.start, n) })
 relinked b c link at upto before header (inr k) le r =
     let n : entries c ≡ entries b = head-word b c 12 10 r.head (omega arith) in
     let front : Tiles c (table_end b) (first_free b) k.pre (link - 2) (link - 2) =
-    tiles-kept b c (table_end b) (first_free b) k.pre (link - 2) (link - 2) k.front r.low (omega (arith, n)) (λ j l a z. r.each j l a (omega (arith, k.ends))) in
+    tiles-kept b c (table_end b) (first_free b) k.pre (link - 2) (link - 2) k.front r.low (omega (arith, n))
+    (λ j l a z. r.each j l a (omega (arith, k.ends))) in
     let start : table_end b ≡ table_end c = ap (λ x. 16 + 2 * x) (sym n) in
     inr (record {
       pre = k.pre;
@@ -60,7 +62,8 @@ relinked b c link at upto before header (inr k) le r =
       is = k.is;
       some = k.some;
       fours = k.fours;
-      front = subst (λ (x : ℕ). Tiles c (table_end c) x k.pre (link - 2) (link - 2)) (sym (r.first k.low)) (subst (λ (x : ℕ). Tiles c x (first_free b) k.pre (link - 2) (link - 2)) start front);
+      front = subst (λ (x : ℕ). Tiles c (table_end c) x k.pre (link - 2) (link - 2)) (sym (r.first k.low))
+          (subst (λ (x : ℕ). Tiles c x (first_free b) k.pre (link - 2) (link - 2)) start front);
       low = omega (arith, k.low, n);
       says = r.says k.low ∙ k.says;
       apart = r.apart k.low;
@@ -68,7 +71,8 @@ relinked b c link at upto before header (inr k) le r =
     })
 
 -- a hole whose other side is another
-pub reopened : (b c : List ℕ) (link at end end' : ℕ) (behind : List Piece) → (s : IsBeside b link at end) → Relinks b c link at s.is.upto → Tiles c end' (word c link) behind (length c) 0 → at ≤ end' →
+pub reopened : (b c : List ℕ) (link at end end' : ℕ) (behind : List Piece) → (s : IsBeside b link at end)
+    → Relinks b c link at s.is.upto → Tiles c end' (word c link) behind (length c) 0 → at ≤ end' →
     ((i : ℕ) → i < entries c → IsOffset (entry c i) → HasChunk i s.is.before ⊎ (HasChunk i s.is.ahead ⊎ HasChunk i behind)) →
     total_free c + free_bytes s.is.behind ≡ total_free b + free_bytes behind → IsBeside c link at end'
 reopened b c link at end end' behind s r tiles order all total =
@@ -107,10 +111,12 @@ KeepsBack b c lo = (k : ℕ) → lo ≤ k → get_or c k 0 ≡ get_or b k 0
 pub kept-entry : (b c : List ℕ) (link at end j : ℕ) → IsOpen b link at end → KeepsFront b c link at → j < entries b → entry c j ≡ entry b j
 kept-entry b c link at end j o keep h =
     let p = open-place b link at end o in
-    let byte : (k : ℕ) → 16 ≤ k → k < table_end b → get_or c k 0 ≡ get_or b k 0 = (λ k g l. keep k (omega arith) (elim p.link_out [ inl e ↦ inr (omega (arith, e)) | inr f ↦ inl (omega (arith, f)) ]) (inr (omega arith))) in
+    let byte : (k : ℕ) → 16 ≤ k → k < table_end b → get_or c k 0 ≡ get_or b k 0 =
+    (λ k g l. keep k (omega arith) (elim p.link_out [ inl e ↦ inr (omega (arith, e)) | inr f ↦ inl (omega (arith, f)) ]) (inr (omega arith))) in
     word-bytes b c (16 + 2 * j) (16 + 2 * j) (byte (16 + 2 * j) (omega arith) (omega arith)) (byte (16 + 2 * j + 1) (omega arith) (omega arith))
 
-pub relinks : (b c : List ℕ) (link at end : ℕ) → (o : IsOpen b link at end) → length c ≡ length b → KeepsFront b c link at → (table_end b + 2 ≤ link → word c link ≢ o.upto) → Relinks b c link at o.upto
+pub relinks : (b c : List ℕ) (link at end : ℕ) → (o : IsOpen b link at end) → length c ≡ length b → KeepsFront b c link at
+    → (table_end b + 2 ≤ link → word c link ≢ o.upto) → Relinks b c link at o.upto
 relinks b c link at end o same keep apart =
     let p = open-place b link at end o in
     let k = link-place b link o.upto o.before o.linked in
@@ -119,8 +125,10 @@ relinks b c link at end o same keep apart =
       head = (λ q h. keep q (omega arith) (inl (omega arith)) (inl (omega arith)));
       each = (λ j h a z. kept-entry b c link at end j o keep h);
       low = (λ j q e g l. let is : j ≡ q = omega arith in ap (λ x. get_or c x 0) is ∙ keep q (omega arith) (inl (omega arith)) (inr (omega arith)));
-      says = (λ far. word-bytes b c (link - 2) (link - 2) (keep (link - 2) (omega arith) (inl (omega arith)) (inr (omega arith))) (keep (link - 2 + 1) (omega arith) (inl (omega arith)) (inr (omega arith))));
-      first = (λ far. word-bytes b c 12 12 (keep 12 (omega arith) (inl (omega arith)) (inl (omega arith))) (keep 13 (omega arith) (inl (omega arith)) (inl (omega arith))));
+      says = (λ far. word-bytes b c (link - 2) (link - 2) (keep (link - 2) (omega arith) (inl (omega arith)) (inr (omega arith)))
+          (keep (link - 2 + 1) (omega arith) (inl (omega arith)) (inr (omega arith))));
+      first = (λ far. word-bytes b c 12 12 (keep 12 (omega arith) (inl (omega arith)) (inl (omega arith)))
+          (keep 13 (omega arith) (inl (omega arith)) (inl (omega arith))));
       apart = apart;
       mid = (λ j q e g l. let is : j ≡ q = omega arith in ap (λ x. get_or c x 0) is ∙ keep q l (inr (omega arith)) (inr (omega arith)));
     }
@@ -138,13 +146,17 @@ mid-kept b c link at end o keep =
     (λ j q e g l. let is : j ≡ q = omega arith in ap (λ x. get_or c x 0) is ∙ keep q l (inr (omega arith)) (inr (omega arith)))
 
 -- a chunk whose bytes and entry stay
-pub kept-chunk : (b c : List ℕ) (link at end lo j : ℕ) → (o : IsOpen b link at end) → length c ≡ length b → IsShifted b c 0 0 (table_end b) (link - 2) → IsShifted b c 0 0 o.upto at → IsShifted b c 0 0 lo (length b) →
-    (HasChunk j o.behind → LiesWithin b (entry b j) lo (length b)) → j < entries b → entry c j ≡ entry b j → chunk_at c (entry c j) ≡ chunk_at b (entry b j)
+pub kept-chunk : (b c : List ℕ) (link at end lo j : ℕ) → (o : IsOpen b link at end) → length c ≡ length b
+    → IsShifted b c 0 0 (table_end b) (link - 2) → IsShifted b c 0 0 o.upto at → IsShifted b c 0 0 lo (length b) →
+    (HasChunk j o.behind → LiesWithin b (entry b j) lo (length b)) → j < entries b → entry c j ≡ entry b j
+    → chunk_at c (entry c j) ≡ chunk_at b (entry b j)
 kept-chunk b c link at end lo j o same front mid rear lies_behind h d =
     let p = open-place b link at end o in
     chunk-cases b c (entry b j) (entry c j) (λ z. d ∙ z) (λ z. d ∙ z) (λ u. elim (o.all j h u) [
-      | inl x ↦ chunk-stays b c (table_end b) (link - 2) (entry b j) (entry c j) (link-lies b link o.upto o.before j o.linked x) front d (omega arith) (omega (arith, same)) u
-      | inr (inl x) ↦ chunk-stays b c o.upto at (entry b j) (entry c j) (lies b o.upto (word b link) o.ahead at o.next j o.tiles_ahead x) mid d (omega arith) (omega (arith, same)) u
+      | inl x ↦ chunk-stays b c (table_end b) (link - 2) (entry b j) (entry c j) (link-lies b link o.upto o.before j o.linked x)
+          front d (omega arith) (omega (arith, same)) u
+      | inr (inl x) ↦ chunk-stays b c o.upto at (entry b j) (entry c j) (lies b o.upto (word b link) o.ahead at o.next j o.tiles_ahead x) mid d
+          (omega arith) (omega (arith, same)) u
       | inr (inr x) ↦ chunk-stays b c lo (length b) (entry b j) (entry c j) (lies_behind x) rear d (omega arith) (omega (arith, same)) u
     ])
 
@@ -155,9 +167,11 @@ pub record FreeBehind (b : List ℕ) (link at end : ℕ) (o : IsOpen b link at e
   pub is : o.behind ≡ Free size ∷ rest
   pub here : Tiles b end end (Free size ∷ rest) (length b) 0
 
-free-at : (b : List ℕ) (at : ℕ) (ps : List Piece) (end : ℕ) → Tiles b at at ps end 0 → 0 < at → (size : ℕ) × ((rest : List Piece) × (ps ≡ Free size ∷ rest))
+free-at : (b : List ℕ) (at : ℕ) (ps : List Piece) (end : ℕ) → Tiles b at at ps end 0 → 0 < at → (size : ℕ)
+    × ((rest : List Piece) × (ps ≡ Free size ∷ rest))
 free-at b at [] end s low = absurd (omega (arith, s.1))
-free-at b at (Used i n ∷ ps) end s low = let four = cost-four n s.0 in absurd (elim (first-behind b (at + cost n) at ps end s.4) [ inl e ↦ omega (arith, e) | inr h ↦ omega (arith, h, four) ])
+free-at b at (Used i n ∷ ps) end s low = let four = cost-four n s.0 in
+    absurd (elim (first-behind b (at + cost n) at ps end s.4) [ inl e ↦ omega (arith, e) | inr h ↦ omega (arith, h, four) ])
 free-at b at (Free m ∷ ps) end s low = (m, (ps, refl))
 
 pub free-behind : (b : List ℕ) (link at end : ℕ) → (s : IsBeside b link at end) → word b link ≡ end → FreeBehind b link at end s.is

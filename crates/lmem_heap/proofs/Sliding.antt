@@ -32,7 +32,8 @@ order-le low [] high o = o
 order-le low (s ∷ ss) high o = omega (arith, o.0, o.1, order-le s.end ss high o.3)
 
 -- one more run behind the others
-pub order-more : (low : ℕ) (ss : List Slide) (high : ℕ) (s : Slide) → AreInOrder low ss high → high ≤ s.from → s.from ≤ s.end → s.to ≤ s.from → AreInOrder low (ss ++ (s ∷ [])) s.end
+pub order-more : (low : ℕ) (ss : List Slide) (high : ℕ) (s : Slide) → AreInOrder low ss high → high ≤ s.from
+    → s.from ≤ s.end → s.to ≤ s.from → AreInOrder low (ss ++ (s ∷ [])) s.end
 order-more low [] high s o h e t = (omega (arith, o, h), e, t, omega arith)
 order-more low (x ∷ ss) high s o h e t = (o.0, o.1, o.2, order-more x.end ss high s o.3 h e t)
 
@@ -48,7 +49,8 @@ order-first : (low : ℕ) (ss : List Slide) (high : ℕ) → AreInOrder low ss h
 order-first low [] high o some = absurd (omega (arith, some))
 order-first low (s ∷ ss) high o some = (omega arith, o.1, o.2, o.3)
 
-pub order-ends : (low : ℕ) (ss : List Slide) (high k : ℕ) → AreInOrder low ss high → length ss ≡ k + 1 → AreInOrder (run_at ss 0).from ss (run_at ss k).end
+pub order-ends : (low : ℕ) (ss : List Slide) (high k : ℕ) → AreInOrder low ss high → length ss ≡ k + 1
+    → AreInOrder (run_at ss 0).from ss (run_at ss k).end
 order-ends low ss high k o n = order-last (run_at ss 0).from ss high k (order-first low ss high o (omega (arith, n))) n
 
 -- an entry below all runs, and behind all
@@ -61,7 +63,8 @@ slid-behind low [] high e o h = refl
 slid-behind low (s ∷ ss) high e o h = slid-high s ss e (omega (arith, order-le s.end ss high o.3, h)) ∙ slid-behind s.end ss high e o.3 h
 
 -- where one more run moves, behind the others, it moves what the others left
-pub slid-more : (low : ℕ) (ss : List Slide) (high : ℕ) (s : Slide) (e : ℕ) → AreInOrder low ss high → high ≤ s.from → entry_slid (ss ++ (s ∷ [])) e ≡ entry_moved s.from s.end s.to (entry_slid ss e)
+pub slid-more : (low : ℕ) (ss : List Slide) (high : ℕ) (s : Slide) (e : ℕ) → AreInOrder low ss high → high ≤ s.from
+    → entry_slid (ss ++ (s ∷ [])) e ≡ entry_moved s.from s.end s.to (entry_slid ss e)
 slid-more low [] high s e o h = refl
 slid-more low (x ∷ ss) high s e o h =
     let M : ℕ → ℕ = λ y. entry_moved s.from s.end s.to y in
@@ -70,12 +73,15 @@ slid-more low (x ∷ ss) high s e o h =
       | inr out ↦ slid-low x (ss ++ (s ∷ [])) e out ∙ rest ∙ sym (ap M (slid-low x ss e out))
       | inl above ↦ elim (cases_lt e x.end) [
         | inr out ↦ slid-high x (ss ++ (s ∷ [])) e out ∙ rest ∙ sym (ap M (slid-high x ss e out))
-        | inl within ↦ slid-here x (ss ++ (s ∷ [])) e above within ∙ sym (ap M (slid-here x ss e above within) ∙ moved-low s.from s.end s.to (e - x.from + x.to) (omega (arith, order-le x.end ss high o.3, h, o.2, above, within)))
+        | inl within ↦ slid-here x (ss ++ (s ∷ [])) e above within
+            ∙ sym (ap M (slid-here x ss e above within) ∙ moved-low s.from s.end s.to (e - x.from + x.to)
+            (omega (arith, order-le x.end ss high o.3, h, o.2, above, within)))
       ]
     ]
 
 -- a run begins where the bounds say
-order-at : (low : ℕ) (ss : List Slide) (high k : ℕ) → AreInOrder low ss high → k < length ss → (low ≤ (run_at ss k).from) × ((run_at ss k).to ≤ (run_at ss k).from)
+order-at : (low : ℕ) (ss : List Slide) (high k : ℕ) → AreInOrder low ss high → k < length ss → (low ≤ (run_at ss k).from)
+    × ((run_at ss k).to ≤ (run_at ss k).from)
 order-at low [] high k o h = absurd (omega (arith, h))
 order-at low (s ∷ ss) high zero o h = (o.0, o.2)
 order-at low (s ∷ ss) high (suc k) o h = let r = order-at s.end ss high k o.3 (omega (arith, h)) in (omega (arith, o.0, o.1, r.0), r.1)
@@ -89,7 +95,8 @@ slid-next low [] high e o h = refl
 slid-next low (s ∷ ss) high e o h = let below : e ≤ s.from = h (omega arith) in slid-below s.from (s ∷ ss) high e (omega arith, o.1, o.2, o.3) below
 
 -- the last run that begins below an entry says where it is
-pub slid-at : (low : ℕ) (ss : List Slide) (high k j e : ℕ) → AreInOrder low ss high → j ≡ k + 1 → k < length ss → (0 < k → (run_at ss k).from < e) → (j < length ss → e ≤ (run_at ss j).from) →
+pub slid-at : (low : ℕ) (ss : List Slide) (high k j e : ℕ) → AreInOrder low ss high → j ≡ k + 1 → k < length ss
+    → (0 < k → (run_at ss k).from < e) → (j < length ss → e ≤ (run_at ss j).from) →
     entry_slid ss e ≡ entry_moved (run_at ss k).from (run_at ss k).end (run_at ss k).to e
 slid-at low [] high k j e o n known below next = absurd (omega (arith, known))
 slid-at low (s ∷ ss) high k zero e o n known below next = absurd (omega (arith, n))
@@ -107,8 +114,11 @@ slid-at low (s ∷ ss) high zero (suc zero) e o n known below next =
 slid-at low (s ∷ ss) high (suc k) (suc (suc j)) e o n known below next =
     let here : (run_at ss k).from < e = below (omega arith) in
     let place = order-at s.end ss high k o.3 (omega (arith, known)) in
-    slid-high s ss e (omega (arith, here, place.0)) ∙ slid-at s.end ss high k (suc j) e o.3 (omega (arith, n)) (omega (arith, known)) (λ z. here) (λ l. next (omega (arith, l)))
+    slid-high s ss e (omega (arith, here, place.0)) ∙ slid-at s.end ss high k (suc j) e o.3 (omega (arith, n))
+    (omega (arith, known)) (λ z. here) (λ l. next (omega (arith, l)))
 
 -- entries of chunks that stood below the runs or behind them
-pub entries-apart : (low : ℕ) (ss : List Slide) (high : ℕ) (b : List ℕ) (from end : ℕ) → AreInOrder low ss high → ((k : ℕ) → from ≤ k → k < end → (entry b k ≤ low) ⊎ (high ≤ entry b k)) → MapsEntries b b (entry_slid ss) from end
-entries-apart low ss high b from end o apart = entries-kept b (entry_slid ss) from end (λ k g h. elim (apart k g h) [ inl l ↦ slid-below low ss high (entry b k) o l | inr l ↦ slid-behind low ss high (entry b k) o l ])
+pub entries-apart : (low : ℕ) (ss : List Slide) (high : ℕ) (b : List ℕ) (from end : ℕ) → AreInOrder low ss high
+    → ((k : ℕ) → from ≤ k → k < end → (entry b k ≤ low) ⊎ (high ≤ entry b k)) → MapsEntries b b (entry_slid ss) from end
+entries-apart low ss high b from end o apart = entries-kept b (entry_slid ss) from end
+    (λ k g h. elim (apart k g h) [ inl l ↦ slid-below low ss high (entry b k) o l | inr l ↦ slid-behind low ss high (entry b k) o l ])

@@ -42,24 +42,30 @@ but-heap c b but each =
     let start : table_end b ≡ table_end c = ap (λ x. 16 + 2 * x) (sym n) in
     let first : first_free b ≡ first_free c = sym (but-head c b 12 but (omega arith)) in
     let total : word c 14 ≡ word b 14 = but-head c b 14 but (omega arith) in
-    let kept : IsShifted b c 0 0 (table_end b) (length b) = (λ j k e g r. let same : j ≡ k = omega arith in ap (λ x. get_or c x 0) same ∙ but.same k (inr g)) in
-    let tiles : Tiles c (table_end b) (first_free b) ps (length b) 0 = tiles-kept b c (table_end b) (first_free b) ps (length b) 0 but.is.1.1.tiles kept (omega (arith, n)) (λ i l low high. each i l) in (
+    let kept : IsShifted b c 0 0 (table_end b) (length b) = (λ j k e g r. let same : j ≡ k = omega arith in
+    ap (λ x. get_or c x 0) same ∙ but.same k (inr g)) in
+    let tiles : Tiles c (table_end b) (first_free b) ps (length b) 0 = tiles-kept b c (table_end b) (first_free b) ps
+    (length b) 0 but.is.1.1.tiles kept (omega (arith, n)) (λ i l low high. each i l) in (
       (
         same-header b c but.is.0 but.long (λ k l. but.same k (inl (omega arith))),
         (
           ps,
           record {
-            tiles = subst (λ (x : ℕ). Tiles c (table_end c) (first_free c) ps x 0) (sym but.long) (subst (λ (x : ℕ). Tiles c (table_end c) x ps (length b) 0) first (subst (λ (x : ℕ). Tiles c x (first_free b) ps (length b) 0) start tiles));
+            tiles = subst (λ (x : ℕ). Tiles c (table_end c) (first_free c) ps x 0) (sym but.long)
+                (subst (λ (x : ℕ). Tiles c (table_end c) x ps (length b) 0) first
+                (subst (λ (x : ℕ). Tiles c x (first_free b) ps (length b) 0) start tiles));
             all = (λ i l told. let h : i < entries b = omega (arith, n) in but.is.1.1.all i h (subst (λ (x : ℕ). IsOffset x) (each i h) told));
             total = total ∙ but.is.1.1.total;
           },
         ),
       ),
-      chunks-same b c n (λ i h. chunk-kept b c i (table_end b) (length b) (omega arith) (omega (arith, but.long)) (each i h) (told b i but.is h) kept),
+      chunks-same b c n (λ i h. chunk-kept b c i (table_end b) (length b) (omega arith) (omega (arith, but.long))
+          (each i h) (told b i but.is h) kept),
     )
 
 -- once the runs are written into the table, the block is the heap
-pub written : (c b d : List ℕ) (ss : List Slide) → HasSlid c b ss → MapsEntries c d (entry_slid ss) 0 (entries c) → IsHeap d × (chunks d ≡ chunks b) × (handle_word d ≡ handle_word b) × (first_free d ≡ first_free b)
+pub written : (c b d : List ℕ) (ss : List Slide) → HasSlid c b ss → MapsEntries c d (entry_slid ss) 0 (entries c)
+    → IsHeap d × (chunks d ≡ chunks b) × (handle_word d ≡ handle_word b) × (first_free d ≡ first_free b)
 written c b d ss s m =
     let n : entries c ≡ entries b = but-head c b 10 s.but (omega arith) in
     let but : IsButForEntries d b = record {
@@ -71,16 +77,21 @@ written c b d ss s m =
     (r.0, r.1, but-head d b 0 but (omega arith), but-head d b 12 but (omega arith))
 
 -- a table whose entries are what a function makes of them
-mapped-table : (b : List ℕ) (f : ℕ → ℕ) (n : ℕ) → n ≤ entries b → table_end b ≤ length b → ((i : ℕ) → i < n → f (entry b i) < 65536) → (d : List ℕ) × MapsEntries b d f 0 n
+mapped-table : (b : List ℕ) (f : ℕ → ℕ) (n : ℕ) → n ≤ entries b → table_end b ≤ length b → ((i : ℕ) → i < n → f (entry b i) < 65536)
+    → (d : List ℕ) × MapsEntries b d f 0 n
 mapped-table b f zero h fits small = (b, entries-kept b f 0 0 (λ j g l. absurd (omega arith)))
 mapped-table b f (suc n) h fits small =
     let r = mapped-table b f n (omega arith) fits (λ i l. small i (omega arith)) in
     let e : entry r.0 n ≡ entry b n = r.1.rest n (inr (omega arith)) (omega arith) in
-    let same : n + 1 ≡ suc n = omega arith in
-    (with_word r.0 (16 + 2 * n) (f (entry b n)), subst (λ (x : ℕ). MapsEntries b (with_word r.0 (16 + 2 * n) (f (entry b n))) f 0 x) same (entries-more b r.0 f 0 n (f (entry b n)) r.1 (omega arith) (omega arith) fits (sym (ap f e)) (small n (omega arith))))
+    let same : n + 1 ≡ suc n = omega arith in (
+      with_word r.0 (16 + 2 * n) (f (entry b n)),
+      subst (λ (x : ℕ). MapsEntries b (with_word r.0 (16 + 2 * n) (f (entry b n))) f 0 x) same
+          (entries-more b r.0 f 0 n (f (entry b n)) r.1 (omega arith) (omega arith) fits (sym (ap f e)) (small n (omega arith))),
+    )
 
 -- the same write to two lists that have the same byte somewhere
-same-part : (x y : List ℕ) (at : ℕ) (ws : List ℕ) (k : ℕ) → length x ≡ length y → get_or x k 0 ≡ get_or y k 0 → get_or (with_part x at ws) k 0 ≡ get_or (with_part y at ws) k 0
+same-part : (x y : List ℕ) (at : ℕ) (ws : List ℕ) (k : ℕ) → length x ≡ length y → get_or x k 0 ≡ get_or y k 0
+    → get_or (with_part x at ws) k 0 ≡ get_or (with_part y at ws) k 0
 same-part [] [] at ws k n e = refl
 same-part [] (b ∷ y) at ws k n e = absurd (omega (arith, n))
 same-part (a ∷ x) [] at ws k n e = absurd (omega (arith, n))
@@ -90,11 +101,13 @@ same-part (a ∷ x) (b ∷ y) zero (w ∷ ws) (suc k) n e = same-part x y zero w
 same-part (a ∷ x) (b ∷ y) (suc at) ws zero n e = e
 same-part (a ∷ x) (b ∷ y) (suc at) ws (suc k) n e = same-part x y at ws k (omega (arith, n)) e
 
-same-word : (x y : List ℕ) (at w k : ℕ) → length x ≡ length y → get_or x k 0 ≡ get_or y k 0 → get_or (with_word x at w) k 0 ≡ get_or (with_word y at w) k 0
+same-word : (x y : List ℕ) (at w k : ℕ) → length x ≡ length y → get_or x k 0 ≡ get_or y k 0
+    → get_or (with_word x at w) k 0 ≡ get_or (with_word y at w) k 0
 unfolding with_word
 same-word x y at w k n e = same-part x y at (word_bytes w) k n e
 
-same-closing : (x y : List ℕ) (gap : Gap) (k : ℕ) → length x ≡ length y → get_or x k 0 ≡ get_or y k 0 → get_or (closing_words x gap) k 0 ≡ get_or (closing_words y gap) k 0
+same-closing : (x y : List ℕ) (gap : Gap) (k : ℕ) → length x ≡ length y → get_or x k 0 ≡ get_or y k 0
+    → get_or (closing_words x gap) k 0 ≡ get_or (closing_words y gap) k 0
 unfolding closing_words
 same-closing x y gap k n e =
     let at = gap.end - gap.size in
@@ -121,7 +134,8 @@ pub record SlidOn (c b : List ℕ) (ss : List Slide) (gap : Gap) : Type 0 where
   pub slid : HasSlid c next ss
   pub closed : ClosesGap b next gap
 
-pub slid-on : (c b d : List ℕ) (ss : List Slide) (gap : Gap) (high : ℕ) → HasSlid c b ss → HasGap b gap → gap.after < 65536 → AreInOrder 0 ss high → high ≤ gap.first + gap.size → d ≡ slid c gap → SlidOn d b (ss ++ (slide_of gap ∷ [])) gap
+pub slid-on : (c b d : List ℕ) (ss : List Slide) (gap : Gap) (high : ℕ) → HasSlid c b ss → HasGap b gap → gap.after < 65536
+    → AreInOrder 0 ss high → high ≤ gap.first + gap.size → d ≡ slid c gap → SlidOn d b (ss ++ (slide_of gap ∷ [])) gap
 slid-on c b d ss gap high s p small order below is =
     let f = gap.first in
     let from = gap.first + gap.size in
@@ -129,27 +143,33 @@ slid-on c b d ss gap high s p small order below is =
     let four : 4 ≤ gap.size = omega arith in
     let low = tiles-le b (table_end b) f p.pre f f p.before in
     let ws = part b from n in
-    let kept : IsShifted b c 0 0 from gap.end = (λ j k e g r. let same : j ≡ k = omega arith in ap (λ x. get_or c x 0) same ∙ s.but.same k (inr (omega arith))) in
-    let same_part : part c from n ≡ ws = part-shifted b c 0 0 from gap.end from from n kept refl (omega arith) (omega arith) (omega arith) (omega arith) in
+    let kept : IsShifted b c 0 0 from gap.end = (λ j k e g r. let same : j ≡ k = omega arith in ap (λ x. get_or c x 0) same
+    ∙ s.but.same k (inr (omega arith))) in
+    let same_part : part c from n ≡ ws = part-shifted b c 0 0 from gap.end from from n kept refl (omega arith)
+    (omega arith) (omega arith) (omega arith) in
     let c0 = with_part c f (part c from n) in
     let b0 = with_part b f ws in
     let low_byte : (k : ℕ) → k < f → get_or b0 k 0 ≡ get_or b k 0 = (λ k h. get_or-with_part_before b f ws k h) in
     let count0 : entries b0 ≡ entries b = word-bytes b b0 10 10 (low_byte 10 (omega arith)) (low_byte 11 (omega arith)) in
-    let entry0 : (i : ℕ) → i < entries b → entry b0 i ≡ entry b i = (λ i h. word-bytes b b0 (16 + 2 * i) (16 + 2 * i) (low_byte (16 + 2 * i) (omega arith)) (low_byte (16 + 2 * i + 1) (omega arith))) in
+    let entry0 : (i : ℕ) → i < entries b → entry b0 i ≡ entry b i =
+    (λ i h. word-bytes b b0 (16 + 2 * i) (16 + 2 * i) (low_byte (16 + 2 * i) (omega arith)) (low_byte (16 + 2 * i + 1) (omega arith))) in
     let fits = run-table b b0 from gap.end f (omega arith) low (omega arith) (omega arith) refl in
     let F : ℕ → ℕ = entry_moved from gap.end f in
-    let t = mapped-table b0 F (entries b0) (omega arith) fits (λ i h. let l : i < entries b = omega (arith, count0) in let q = entry0 i l in let a = s.small i l in let v = moved-le from gap.end f (entry b0 i) (omega arith) in omega (arith, q, a, v)) in
+    let t = mapped-table b0 F (entries b0) (omega arith) fits (λ i h. let l : i < entries b = omega (arith, count0) in
+    let q = entry0 i l in let a = s.small i l in let v = moved-le from gap.end f (entry b0 i) (omega arith) in omega (arith, q, a, v)) in
     let m : MovesRun b t.0 from gap.end f = run-moved b b0 t.0 from gap.end f (omega arith) low (omega arith) (omega arith) (omega arith) refl t.1 in
     let next = closing_words t.0 gap in
     let k : ClosesGap b next gap = closes b t.0 next gap s.but.is.0 p small m refl in
     let count : entries next ≡ entries b = head-word b next 12 10 k.head (omega arith) in
     let long_c0 : length c0 ≡ length c = length-with_part c f (part c from n) in
     let long_d : length d ≡ length c = ap length is ∙ long-closing c0 gap ∙ long_c0 in
-    let byte : (q : ℕ) → (q < 16) ⊎ (table_end b ≤ q) → get_or c0 q 0 ≡ get_or t.0 q 0 = (λ q h. ap (λ x. get_or (with_part c f x) q 0) same_part ∙ same-part c b f ws q s.but.long (s.but.same q h)
+    let byte : (q : ℕ) → (q < 16) ⊎ (table_end b ≤ q) → get_or c0 q 0 ≡ get_or t.0 q 0 =
+    (λ q h. ap (λ x. get_or (with_part c f x) q 0) same_part ∙ same-part c b f ws q s.but.long (s.but.same q h)
     ∙ sym (elim h [ inl l ↦ t.1.head q l | inr l ↦ t.1.behind q (omega (arith, count0, l)) ])) in
     let long_t : length c0 ≡ length t.0 = long_c0 ∙ s.but.long ∙ sym m.long in
     let kept_entry : (i : ℕ) → i < entries b → entry d i ≡ entry c i = (λ i h. let q = 16 + 2 * i in
-    let one : (q : ℕ) → 16 ≤ q → q < table_end b → get_or d q 0 ≡ get_or c q 0 = (λ q g l. ap (λ x. get_or x q 0) is ∙ words-byte c0 gap q (inr (inl (omega arith, omega arith))) (omega arith) ∙ get_or-with_part_before c f (part c from n) q (omega arith)) in
+    let one : (q : ℕ) → 16 ≤ q → q < table_end b → get_or d q 0 ≡ get_or c q 0 = (λ q g l. ap (λ x. get_or x q 0) is
+    ∙ words-byte c0 gap q (inr (inl (omega arith, omega arith))) (omega arith) ∙ get_or-with_part_before c f (part c from n) q (omega arith)) in
     word-bytes c d q q (one q (omega arith) (omega arith)) (one (q + 1) (omega arith) (omega arith))) in
     record {
       next = next;
@@ -157,11 +177,14 @@ slid-on c b d ss gap high s p small order below is =
         but = record {
           is = closed-heap b next gap s.but.is.0 p k;
           long = long_d ∙ s.but.long ∙ sym k.long;
-          same = (λ q h. ap (λ x. get_or x q 0) is ∙ same-closing c0 t.0 gap q long_t (byte q (elim h [ inl l ↦ inl l | inr l ↦ inr (omega (arith, count, l)) ])));
+          same = (λ q h. ap (λ x. get_or x q 0) is
+              ∙ same-closing c0 t.0 gap q long_t (byte q (elim h [ inl l ↦ inl l | inr l ↦ inr (omega (arith, count, l)) ])));
         };
         says = (λ i h. let l : i < entries b = omega (arith, count) in
-            k.places i l ∙ ap F (s.says i l) ∙ sym (slid-more 0 ss high (slide_of gap) (entry c i) order below) ∙ ap (entry_slid (ss ++ (slide_of gap ∷ []))) (sym (kept_entry i l)));
-        small = (λ i h. let l : i < entries b = omega (arith, count) in let e = k.places i l in let a = s.small i l in let v = moved-le from gap.end f (entry b i) (omega arith) in omega (arith, e, a, v));
+            k.places i l ∙ ap F (s.says i l) ∙ sym (slid-more 0 ss high (slide_of gap) (entry c i) order below)
+            ∙ ap (entry_slid (ss ++ (slide_of gap ∷ []))) (sym (kept_entry i l)));
+        small = (λ i h. let l : i < entries b = omega (arith, count) in let e = k.places i l in let a = s.small i l in
+            let v = moved-le from gap.end f (entry b i) (omega arith) in omega (arith, e, a, v));
       };
       closed = k;
     }
@@ -174,7 +197,8 @@ but-compact c b but compact =
       | inl none ↦ inl (first ∙ none)
       | inr some ↦ elim compact [
         | inl none ↦ absurd (some none)
-        | inr ends ↦ (let r = first-room b (first_free b) but.is refl some in let same = but-behind c b (first_free b) but r.0 in inr (ap (λ x. x + word c x) first ∙ ap (λ x. first_free b + x) same ∙ ends ∙ sym but.long))
+        | inr ends ↦ (let r = first-room b (first_free b) but.is refl some in let same = but-behind c b (first_free b) but r.0 in
+            inr (ap (λ x. x + word c x) first ∙ ap (λ x. first_free b + x) same ∙ ends ∙ sym but.long))
       ]
     ]
 
@@ -204,8 +228,17 @@ but-inner c b f g but q next some =
     let size : word b f ≡ word c f = sym q.size in
     let more : word b g ≡ word c g = sym (but-behind c b g but (omega (arith, n.1, r.0))) in
     let after : word b (g + 2) ≡ word c (g + 2) = sym (but-behind c b (g + 2) but (omega (arith, n.1, r.0))) in
-    record { gap = subst (λ (x : ℕ). HasGap b (gap_of f (word c f) g (word c g) x)) after (subst (λ (x : ℕ). HasGap b (gap_of f (word c f) g x (word b (g + 2)))) more (subst (λ (x : ℕ). HasGap b (gap_of f x g (word b g) (word b (g + 2)))) size n.0)); inner = omega (arith, n.1, size); within = omega (arith, n.2, q.long) }
+    record {
+      gap = subst (λ (x : ℕ). HasGap b (gap_of f (word c f) g (word c g) x)) after
+          (subst (λ (x : ℕ). HasGap b (gap_of f (word c f) g x (word b (g + 2)))) more
+          (subst (λ (x : ℕ). HasGap b (gap_of f x g (word b g) (word b (g + 2)))) size n.0));
+      inner = omega (arith, n.1, size);
+      within =
+          omega (arith, n.2, q.long);
+    }
 
-pub but-last : (c b : List ℕ) (f g : ℕ) → IsButForEntries c b → ButFirst c b f → g ≡ word c (f + 2) → g ≡ 0 → HasGap b (gap_of f (word c f) (length c) 0 0)
+pub but-last : (c b : List ℕ) (f g : ℕ) → IsButForEntries c b → ButFirst c b f → g ≡ word c (f + 2) → g ≡ 0
+    → HasGap b (gap_of f (word c f) (length c) 0 0)
 but-last c b f g but q next none =
-    subst (λ (x : ℕ). HasGap b (gap_of f (word c f) x 0 0)) (sym q.long) (subst (λ (x : ℕ). HasGap b (gap_of f x (length b) 0 0)) (sym q.size) (gap-last b f g but.is q.is q.gap.some (next ∙ q.next) none))
+    subst (λ (x : ℕ). HasGap b (gap_of f (word c f) x 0 0)) (sym q.long)
+    (subst (λ (x : ℕ). HasGap b (gap_of f x (length b) 0 0)) (sym q.size) (gap-last b f g but.is q.is q.gap.some (next ∙ q.next) none))

@@ -49,7 +49,8 @@ pub record ClosesGap (old new : List ℕ) (gap : Gap) : Type 0 where
 
 -- the words of the free chunk behind the chunks that moved, and the header's word for it
 unfoldable pub closing_words : List ℕ → Gap → List ℕ
-closing_words block gap = with_word (with_word (with_word block (gap.end - gap.size) (gap.size + gap.more)) (gap.end - gap.size + 2) gap.after) 12 (gap.end - gap.size)
+closing_words block gap = with_word (with_word (with_word block (gap.end - gap.size) (gap.size + gap.more)) (gap.end - gap.size + 2) gap.after) 12
+    (gap.end - gap.size)
 
 -- the bytes of the chunks behind the gap stand where it began, and behind them the words of the
 -- free chunk; the table is as it was

@@ -68,20 +68,28 @@ module _ {D : Type 0} (v : VmState D) (d : Directory) (blocks : List Block) (leg
   long-held : length (map (held_in d) (range_with_len 1 1024)) ≡ 1024
   long-held = length-map-range_with_len (held_in d) 1 1024
 
-  uid-some : (P : ℕ → Type 0) (read : List ℕ) (o : Option Entry) → IsSomeAnd (option_map as_held o) (λ (e : Held). P e.uid) → IsSomeAnd (option_map (λ (b : KeptBlock). b.uid) (option_map (stored_block read) o)) P
+  uid-some : (P : ℕ → Type 0) (read : List ℕ) (o : Option Entry) → IsSomeAnd (option_map as_held o) (λ (e : Held). P e.uid)
+      → IsSomeAnd (option_map (λ (b : KeptBlock). b.uid) (option_map (stored_block read) o)) P
   uid-some P read None some = some
   uid-some P read (Some e) some = some
 
-  listed-uid : (P : ℕ → Type 0) (h : ℕ) → IsSomeAnd (held_at begun h) (λ (e : Held). P e.uid) → IsSomeAnd (option_map (λ (b : KeptBlock). b.uid) (at_handle None (map stored_at (range_with_len 1 1024)) h)) P
+  listed-uid : (P : ℕ → Type 0) (h : ℕ) → IsSomeAnd (held_at begun h) (λ (e : Held). P e.uid)
+      → IsSomeAnd (option_map (λ (b : KeptBlock). b.uid) (at_handle None (map stored_at (range_with_len 1 1024)) h)) P
   listed-uid P h some = elim (handle-or {X = ℕ} 0 h) [
     | inl p ↦ subst (λ o. IsSomeAnd (option_map (λ (b : KeptBlock). b.uid) o) P) (sym (table-made None stored_at h p))
-        (uid-some P (bytes_of_block blocks h) (entry_at d h) (subst (λ o. IsSomeAnd o (λ (e : Held). P e.uid)) (table-made None (held_in d) h p) some))
-    | inr past ↦ absurd (subst (λ o. IsSomeAnd o (λ (e : Held). P e.uid)) (table-past None (map (held_in d) (range_with_len 1 1024)) h long-held past) some)
+        (uid-some P (bytes_of_block blocks h) (entry_at d h)
+        (subst (λ o. IsSomeAnd o (λ (e : Held). P e.uid)) (table-made None (held_in d) h p) some))
+    | inr past ↦ absurd (subst (λ o. IsSomeAnd o (λ (e : Held). P e.uid)) (table-past None (map (held_in d) (range_with_len 1 1024)) h long-held past)
+        some)
   ]
 
   kept-legal-at : (h : ℕ) (o : Option Entry) → entry_at d h ≡ o → IfSome (option_map (stored_block (bytes_of_block blocks h)) o) IsLegalKept
   kept-legal-at h None is = tt
-  kept-legal-at h (Some e) is = record { uid = found-each (λ x. x.uid < 65536) h d.entries.items e words.uids is; heap = read-legal e.len (bytes_of_block blocks h) (found_entry d.entries.items 0 h e (legal_from d legal).entries is).1.size }
+  kept-legal-at h (Some e) is = record {
+    uid = found-each (λ x. x.uid < 65536) h d.entries.items e words.uids is;
+    heap =
+        read-legal e.len (bytes_of_block blocks h) (found_entry d.entries.items 0 h e (legal_from d legal).entries is).1.size;
+  }
 
   pub stored-legal : IsStored (stored_directory d blocks)
   stored-legal =
@@ -104,7 +112,8 @@ module _ {D : Type 0} (v : VmState D) (d : Directory) (blocks : List Block) (leg
 module _ {D : Type 0} (image : D → List ℕ) (v : VmState D) where
   read-legal-pair : (at : ℕ) (bytes : List ℕ) (r : Result Pair ℕ) → AreBytes bytes → pair_at at bytes ≡ r → IsPair (stored_pair (or_empty r))
   read-legal-pair at bytes (Ok p) each is =
-      let read = pair_ok at bytes p is in let words = read-words at bytes p each is in (
+      let read = pair_ok at bytes p is in
+      let words = read-words at bytes p each is in (
         stored-legal v (listed p.cur) p.cur.blocks (both _ _ read.cur).0 words.cur,
         stored-legal v (listed p.saved) p.saved.blocks (both _ _ read.saved).0 words.saved,
       )
@@ -117,11 +126,14 @@ module _ {D : Type 0} (image : D → List ℕ) (v : VmState D) where
   other-legal each =
       let base = base_of v.file.area (not v.file.second) in
       let area = area_of (image v.file.device) v.file.area (not v.file.second) in
-      read-legal-pair base area (pair_at base area) (All-take (λ b. b < 256) v.file.area _ (All-drop (λ b. b < 256) base (image v.file.device) each)) refl
+      read-legal-pair base area (pair_at base area) (All-take (λ b. b < 256) v.file.area _ (All-drop (λ b. b < 256) base (image v.file.device) each))
+      refl
 
 -- the file, as the device holds it
-module _ {D : Type 0} (medium : Medium D) (v : VmState D) (s : Store) (lists : IsListOf v v.file.current) (none : NoneResident s) (bytes : AreBytes (medium.image v.file.device))
-    (cur_legal : is_directory v.file.current ≡ true) (saved_legal : is_directory v.file.saved ≡ true) (cur_words : AreWords v.file.current) (saved_words : AreWords v.file.saved) where
+module _ {D : Type 0} (medium : Medium D) (v : VmState D) (s : Store) (lists : IsListOf v v.file.current)
+    (none : NoneResident s) (bytes : AreBytes (medium.image v.file.device))
+    (cur_legal : is_directory v.file.current ≡ true) (saved_legal : is_directory v.file.saved ≡ true)
+    (cur_words : AreWords v.file.current) (saved_words : AreWords v.file.saved) where
   abbrev cur : model.Directory KeptBlock
   cur = stored_directory v.file.current (pair_of medium.image v.file).cur.blocks
 
@@ -142,7 +154,8 @@ module _ {D : Type 0} (medium : Medium D) (v : VmState D) (s : Store) (lists : I
 
   -- what it keeps
   abbrev kept-if : Bool → Kept
-  kept-if b = if b then Sure (opened_pair medium.image v.file) else Unsure (opened_pair medium.image v.file) (stored_pair (other_pair medium.image v.file))
+  kept-if b = if b then Sure (opened_pair medium.image v.file) else Unsure (opened_pair medium.image v.file)
+      (stored_pair (other_pair medium.image v.file))
 
   kept-opened : (b : Bool) → v.file.sure ≡ b → IsKeptOf medium.image medium.honest v.file (kept-if b)
   kept-opened true is = (is, record { cur = one; saved = two })
@@ -156,9 +169,12 @@ module _ {D : Type 0} (medium : Medium D) (v : VmState D) (s : Store) (lists : I
   pub memory-opened : IsMemoryOf medium v s (opened_memory medium.image v.file s)
   memory-opened =
       let fair = medium.honest v.file.device in
-      let each : (h : ℕ) → IsHandle h → IsListedAs fair (bytes_read medium.image v.file h) (held_at v h) (block_at s (vm_slot h)) (at_handle None (with_each idle_block cur).blocks h) =
-      (λ h p. subst (λ x. IsListedAs fair (bytes_read medium.image v.file h) x (block_at s (vm_slot h)) (at_handle None (with_each idle_block cur).blocks h)) (sym (lists.each h p))
-      (subst (λ x. IsListedAs fair (bytes_read medium.image v.file h) (held_in v.file.current h) x (at_handle None (with_each idle_block cur).blocks h)) (sym (none h p))
+      let each : (h : ℕ) → IsHandle h → IsListedAs fair (bytes_read medium.image v.file h) (held_at v h)
+      (block_at s (vm_slot h)) (at_handle None (with_each idle_block cur).blocks h) =
+      (λ h p. subst (λ x. IsListedAs fair (bytes_read medium.image v.file h) x (block_at s (vm_slot h))
+      (at_handle None (with_each idle_block cur).blocks h)) (sym (lists.each h p))
+      (subst (λ x. IsListedAs fair (bytes_read medium.image v.file h) (held_in v.file.current h) x
+      (at_handle None (with_each idle_block cur).blocks h)) (sym (none h p))
       (subst (IsListedAs fair (bytes_read medium.image v.file h) (held_in v.file.current h) None) (sym (entry-each idle_block cur.blocks h))
       (idle-away fair (bytes_read medium.image v.file h) (entry_at v.file.current h) (at_handle None cur.blocks h) (one.each h p))))) in
       record {

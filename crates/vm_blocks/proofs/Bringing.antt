@@ -39,18 +39,33 @@ use Rattle.vm_blocks.proofs.Wanting.{always-listed, discards-remain, listed-more
 module _ {D : Type 0} (medium : Medium D) where
   -- it was asked nothing
   pub reads-nothing : (fails : Type 0) (f : FileState D) → (fails → ⊥) → ReadsDevice medium fails f f
-  reads-nothing fails f never = record { pair = refl; reads = reads_none medium f.device; cause = λ good failed. absurd (never failed); counted = λ passed. refl; steadily = λ steady room. (room, refl) }
+  reads-nothing fails f never = record {
+    pair = refl;
+    reads = reads_none medium f.device;
+    cause =
+        λ good failed. absurd (never failed);
+    counted = λ passed. refl;
+    steadily = λ steady room. (room, refl);
+  }
 
   -- it failed in the same cases
   pub reads-as : {P Q : Type 0} (f g : FileState D) → (Q → P) → (P → Q) → ReadsDevice medium P f g → ReadsDevice medium Q f g
-  reads-as f g back forth r = record { pair = r.pair; reads = r.reads; cause = λ good fails. r.cause good (back fails); counted = λ never. r.counted (λ p. never (forth p)); steadily = r.steadily }
+  reads-as f g back forth r = record {
+    pair = r.pair;
+    reads = r.reads;
+    cause = λ good fails. r.cause good (back fails);
+    counted =
+        λ never. r.counted (λ p. never (forth p));
+    steadily = r.steadily;
+  }
 
 -- Nothing was done
 
 pub not-changed : (s : Store) (h : ℕ) → NotBrought s s h
 not-changed s h = record { stays = λ there. refl; absent = λ none. no-block (block_at s (vm_slot h)) none }
 
-pub nothing-brings : {D E : Type 0} (medium : Medium D) (room disk : E) (h : ℕ) (r : Result (Unit {0}) E) (v : VmState D) (s : Store) → IsTied medium v s → OnErr r (NotBrought s s h) → (r ≡ Err room → ⊥) → (r ≡ Err disk → ⊥)
+pub nothing-brings : {D E : Type 0} (medium : Medium D) (room disk : E) (h : ℕ) (r : Result (Unit {0}) E) (v : VmState D) (s : Store)
+    → IsTied medium v s → OnErr r (NotBrought s s h) → (r ≡ Err room → ⊥) → (r ≡ Err disk → ⊥)
     → BringsBlock medium room disk h r v v s s
 nothing-brings medium room disk h r v s tied err roomy never = record {
   tied = tied;
@@ -67,7 +82,8 @@ nothing-brings medium room disk h r v s tied err roomy never = record {
 
 -- The same refusal, as another error
 
-pub brings-as : {D E F : Type 0} (medium : Medium D) (room disk a : E) (room' disk' b : F) (h : ℕ) (v w : VmState D) (s t : Store) → (b ≡ room' → a ≡ room) → (b ≡ disk' → a ≡ disk) → (a ≡ disk → b ≡ disk')
+pub brings-as : {D E F : Type 0} (medium : Medium D) (room disk a : E) (room' disk' b : F) (h : ℕ) (v w : VmState D) (s t : Store)
+    → (b ≡ room' → a ≡ room) → (b ≡ disk' → a ≡ disk) → (a ≡ disk → b ≡ disk')
     → BringsBlock medium room disk h (Err a) v w s t → BringsBlock medium room' disk' h (Err b) v w s t
 brings-as medium room disk a room' disk' b h v w s t for_room for_disk so b_is = record {
   tied = b_is.tied;
@@ -79,11 +95,13 @@ brings-as medium room disk a room' disk' b h v w s t for_room for_disk so b_is =
   keeps = b_is.keeps;
   no_room = λ is. b_is.no_room (ap Err (for_room (let e : b ≡ room' = cc in e)));
   wanted = b_is.wanted;
-  device = reads-as medium v.file w.file (λ is. ap Err (for_disk (let e : b ≡ disk' = cc in e))) (λ is. ap Err (so (let e : a ≡ disk = cc in e))) b_is.device;
+  device = reads-as medium v.file w.file (λ is. ap Err (for_disk (let e : b ≡ disk' = cc in e)))
+      (λ is. ap Err (so (let e : a ≡ disk = cc in e))) b_is.device;
 }
 
 -- nothing was refused, by whatever errors
-pub brings-on : {D E F : Type 0} (medium : Medium D) (room disk : E) (room' disk' : F) (h : ℕ) (v w : VmState D) (s t : Store) → BringsBlock medium room disk h (Ok tt) v w s t → BringsBlock medium room' disk' h (Ok tt) v w s t
+pub brings-on : {D E F : Type 0} (medium : Medium D) (room disk : E) (room' disk' : F) (h : ℕ) (v w : VmState D) (s t : Store)
+    → BringsBlock medium room disk h (Ok tt) v w s t → BringsBlock medium room' disk' h (Ok tt) v w s t
 brings-on medium room disk room' disk' h v w s t b = record {
   tied = b.tied;
   same = b.same;
@@ -113,9 +131,12 @@ pub record Fetches {D : Type 0} (medium : Medium D) (h : ℕ) (r : Result (Unit 
   pub ok : OnOk r (Brought s t h)
   pub row : DoesRow medium (bring h) (of_bring r) v s w t
 
-module _ {D : Type 0} (medium : Medium D) (v : VmState D) (s : Store) (h : ℕ) (e : Held) (q : IsHandle h) (tied : IsTied medium v s) (listed : held_at v h ≡ Some e) (absent : IsThere s (vm_slot h) → ⊥) where
-  fetches : (r : Result (Unit {0}) BringError) (w : VmState D) (t : Store) → IsTied medium w t → w ≡ with_device v w.file.device → Keeps v s t h → locks_of t (vm_slot h) ≡ 0 → AreBytes (bytes_of t (vm_slot h))
-      → (r ≡ Err error.BadHandle → ⊥) → OnOk r (IsThere t (vm_slot h)) → OnErr r (IsThere t (vm_slot h) → ⊥) → (r ≡ Err error.NoRoom → LacksRoom v s t (vm h) e.len) → RemainOrNoRoom s t h e.len
+module _ {D : Type 0} (medium : Medium D) (v : VmState D) (s : Store) (h : ℕ) (e : Held) (q : IsHandle h)
+    (tied : IsTied medium v s) (listed : held_at v h ≡ Some e) (absent : IsThere s (vm_slot h) → ⊥) where
+  fetches : (r : Result (Unit {0}) BringError) (w : VmState D) (t : Store) → IsTied medium w t → w ≡ with_device v w.file.device
+      → Keeps v s t h → locks_of t (vm_slot h) ≡ 0 → AreBytes (bytes_of t (vm_slot h))
+      → (r ≡ Err error.BadHandle → ⊥) → OnOk r (IsThere t (vm_slot h)) → OnErr r (IsThere t (vm_slot h) → ⊥)
+      → (r ≡ Err error.NoRoom → LacksRoom v s t (vm h) e.len) → RemainOrNoRoom s t h e.len
       → ReadsDevice medium (r ≡ Err error.Disk) v.file w.file → Fetches medium h r v w s t
   fetches r w t now same keeps free bytes known there gone no_room wanted device = record {
     brings = record {
@@ -144,28 +165,39 @@ module _ {D : Type 0} (medium : Medium D) (v : VmState D) (s : Store) (h : ℕ) 
       not (Err why) gone = record { stays = λ was. absurd (absent was); absent = λ none. no-block (block_at t (vm_slot h)) gone }
 
       brought : (r : Result (Unit {0}) BringError) → OnOk r (IsThere t (vm_slot h)) → OnOk r (Brought s t h)
-      brought (Ok done) there = record { there = there; locks = free ∙ sym (ap locks_in (no-block (block_at s (vm_slot h)) absent)); stays = λ was. absurd (absent was) }
+      brought (Ok done) there = record {
+        there = there;
+        locks = free ∙ sym (ap locks_in (no-block (block_at s (vm_slot h)) absent));
+        stays =
+            λ was. absurd (absent was);
+      }
       brought (Err why) there = tt
 
   -- there was no room
-  pub lacks-fetches : (t : Store) → LacksRoom v s t (vm h) e.len → DiscardsForRoom v s t h (vm_slot h) e.len → Fetches medium h (Err error.NoRoom) v v s t
+  pub lacks-fetches : (t : Store) → LacksRoom v s t (vm h) e.len → DiscardsForRoom v s t h (vm_slot h) e.len
+      → Fetches medium h (Err error.NoRoom) v v s t
   lacks-fetches t lacks wanted =
       let gone : IsThere t (vm_slot h) → ⊥ = thins-absent v s t h (vm_slot h) lacks.thins absent in
-      fetches (Err error.NoRoom) v t (tied-thins medium v s t h tied lacks.thins) refl (thins-keeps v s t h lacks.thins) (ap locks_in (no-block (block_at t (vm_slot h)) gone)) (absent-bytes (block_at t (vm_slot h)) gone)
+      fetches (Err error.NoRoom) v t (tied-thins medium v s t h tied lacks.thins) refl (thins-keeps v s t h lacks.thins)
+      (ap locks_in (no-block (block_at t (vm_slot h)) gone)) (absent-bytes (block_at t (vm_slot h)) gone)
       (λ is. absurd cc) tt gone (λ is. lacks) (discards-remain s t h e.len v wanted) (reads-nothing medium _ v.file (λ is. absurd cc))
 
   -- room was made, and it was read
-  pub read-fetches : (m t : Store) (f : FileState D) (r : Result (Unit {0}) BringError) → DiscardsAndMakes v s m (vm h) e.len → f ≡ record v.file { device = f.device }
-      → OnOk r (Fills m t h) → (medium.honest v.file.device → OnOk r (bytes_of t (vm_slot h) ≡ bytes_read medium.image v.file h)) → OnOk r (AreBytes (bytes_of t (vm_slot h))) → OnErr r (Drops m t h) → OnErr r (r ≡ Err error.Disk)
+  pub read-fetches : (m t : Store) (f : FileState D) (r : Result (Unit {0}) BringError) → DiscardsAndMakes v s m (vm h) e.len
+      → f ≡ record v.file { device = f.device }
+      → OnOk r (Fills m t h) → (medium.honest v.file.device → OnOk r (bytes_of t (vm_slot h) ≡ bytes_read medium.image v.file h))
+      → OnOk r (AreBytes (bytes_of t (vm_slot h))) → OnErr r (Drops m t h) → OnErr r (r ≡ Err error.Disk)
       → ReadsDevice medium (r ≡ Err error.Disk) v.file f → Fetches medium h r v (record v { file = f }) s t
   read-fetches m t f (Ok done) made same fills read values drops disk device =
-      fetches (Ok done) (record v { file = f }) t (read-tied medium v s h e q tied listed absent m t made fills read f same device.pair device.reads.was) (ap (λ x. let w : VmState D = record v { file = x } in w) same)
+      fetches (Ok done) (record v { file = f }) t (read-tied medium v s h e q tied listed absent m t made fills read
+      f same device.pair device.reads.was) (ap (λ x. let w : VmState D = record v { file = x } in w) same)
       (filled-keeps medium v s h e q tied listed absent m t made fills) (filled-locks medium v s h e q tied listed absent m t made fills) values
       (λ is. absurd cc) (filled-there medium v s h e q tied listed absent m t made fills) tt (λ is. absurd cc)
       (remain-more s m h e.len t q (fills-others m t h fills) (made-remain v s m h e.len q made)) device
   read-fetches m t f (Err why) made same fills read values drops disk device =
       let gone : IsThere t (vm_slot h) → ⊥ = λ there. subst IsBlock drops.gone there in
-      fetches (Err why) (record v { file = f }) t (dropped-tied medium v s h e q tied listed absent m t made drops f same device.pair device.reads.was) (ap (λ x. let w : VmState D = record v { file = x } in w) same)
+      fetches (Err why) (record v { file = f }) t (dropped-tied medium v s h e q tied listed absent m t made drops
+      f same device.pair device.reads.was) (ap (λ x. let w : VmState D = record v { file = x } in w) same)
       (dropped-keeps medium v s h e q tied listed absent m t made drops) (ap locks_in drops.gone) (absent-bytes (block_at t (vm_slot h)) gone)
       (λ is. absurd cc) tt gone (λ is. absurd cc)
       (remain-more s m h e.len t q drops.others (made-remain v s m h e.len q made)) device
@@ -182,7 +214,8 @@ pub record Locks {D : Type 0} (medium : Medium D) (h : ℕ) (r : Result (Unit {0
 
 module _ {D : Type 0} (medium : Medium D) (v w : VmState D) (s t : Store) (h : ℕ) where
   -- one that was brought, and whose count is not full
-  pub brought-locks : (u : Store) → BringsBlock medium error.NoRoom error.Disk h (Ok tt) v w s t → (held_at v h ≡ None → ⊥) → Brought s t h → DoesRow medium (bring h) (Ok tt) v s w t
+  pub brought-locks : (u : Store) → BringsBlock medium error.NoRoom error.Disk h (Ok tt) v w s t → (held_at v h ≡ None → ⊥)
+      → Brought s t h → DoesRow medium (bring h) (Ok tt) v s w t
       → locks_of t (vm_slot h) ≢ 65535 → u ≡ with_locks t (vm_slot h) (locks_of t (vm_slot h) + 1) → Locks medium h (Ok tt) v w s u
   brought-locks u b listed brought row few is =
       let n : ℕ = locks_of t (vm_slot h) + 1 in
@@ -197,7 +230,8 @@ module _ {D : Type 0} (medium : Medium D) (v w : VmState D) (s t : Store) (h : �
           err = tt;
           keeps = keeps-locked v s t u h n b.keeps brought.there is;
           no_room = λ fails. absurd cc;
-          wanted = listed-more (λ held. RemainOrNoRoom s t h held.len) (λ held. RemainOrNoRoom s u h held.len) (held_at v h) (λ held. locked-remain s t u h held.len n handle is) b.wanted;
+          wanted = listed-more (λ held. RemainOrNoRoom s t h held.len) (λ held. RemainOrNoRoom s u h held.len)
+              (held_at v h) (λ held. locked-remain s t u h held.len n handle is) b.wanted;
           device = reads-as medium v.file w.file (λ fails. absurd cc) (λ fails. absurd cc) b.device;
         };
         bad_handle = ((λ fails. absurd cc), (λ none. absurd (listed none)));
@@ -207,24 +241,28 @@ module _ {D : Type 0} (medium : Medium D) (v w : VmState D) (s t : Store) (h : �
       }
 
   -- one that was not brought
-  pub not-brought-locks : (why : BringError) → BringsBlock medium error.NoRoom error.Disk h (Err why) v w s t → ((let r : Result (Unit {0}) BringError = Err why in r ≡ Err error.BadHandle) ↔ (held_at v h ≡ None))
+  pub not-brought-locks : (why : BringError) → BringsBlock medium error.NoRoom error.Disk h (Err why) v w s t
+      → ((let r : Result (Unit {0}) BringError = Err why in r ≡ Err error.BadHandle) ↔ (held_at v h ≡ None))
       → DoesRow medium (bring h) (of_bring (Err why)) v s w t → locks_of s (vm_slot h) ≢ 65535 → Locks medium h (Err (lock_error_of why)) v w s t
   not-brought-locks error.BadHandle b bad row few = record {
-    brings = brings-as medium error.NoRoom error.Disk error.BadHandle lock.NoRoom lock.Disk lock.BadHandle h v w s t (λ is. absurd cc) (λ is. absurd cc) (λ is. absurd cc) b;
+    brings = brings-as medium error.NoRoom error.Disk error.BadHandle lock.NoRoom lock.Disk lock.BadHandle h v w s t
+        (λ is. absurd cc) (λ is. absurd cc) (λ is. absurd cc) b;
     bad_handle = ((λ is. bad.0 refl), (λ none. refl));
     locked = ((λ is. absurd cc), (λ full. absurd (few full)));
     ok = tt;
     row = lock-refused medium v w s t h b.tied (not-brought-few s t h b.err few) refusal.BadHandle row;
   }
   not-brought-locks error.NoRoom b bad row few = record {
-    brings = brings-as medium error.NoRoom error.Disk error.NoRoom lock.NoRoom lock.Disk lock.NoRoom h v w s t (λ is. refl) (λ is. absurd cc) (λ is. absurd cc) b;
+    brings = brings-as medium error.NoRoom error.Disk error.NoRoom lock.NoRoom lock.Disk lock.NoRoom h v w s t
+        (λ is. refl) (λ is. absurd cc) (λ is. absurd cc) b;
     bad_handle = ((λ is. absurd cc), (λ none. (let other = bad.1 none in absurd cc)));
     locked = ((λ is. absurd cc), (λ full. absurd (few full)));
     ok = tt;
     row = lock-refused medium v w s t h b.tied (not-brought-few s t h b.err few) refusal.NoRoom row;
   }
   not-brought-locks error.Disk b bad row few = record {
-    brings = brings-as medium error.NoRoom error.Disk error.Disk lock.NoRoom lock.Disk lock.Disk h v w s t (λ is. absurd cc) (λ is. refl) (λ is. refl) b;
+    brings = brings-as medium error.NoRoom error.Disk error.Disk lock.NoRoom lock.Disk lock.Disk h v w s t
+        (λ is. absurd cc) (λ is. refl) (λ is. refl) b;
     bad_handle = ((λ is. absurd cc), (λ none. (let other = bad.1 none in absurd cc)));
     locked = ((λ is. absurd cc), (λ full. absurd (few full)));
     ok = tt;
@@ -237,10 +275,12 @@ module _ {D : Type 0} (medium : Medium D) (v : VmState D) (s t : Store) (h : ℕ
   listed-there there none = (let k = known medium v s h tied there in let no = sym none ∙ k.listed in absurd cc)
 
   -- one that was in memory
-  pub there-locks : IsThere s (vm_slot h) → locks_of s (vm_slot h) ≢ 65535 → t ≡ with_locks s (vm_slot h) (locks_of s (vm_slot h) + 1) → Locks medium h (Ok tt) v v s t
+  pub there-locks : IsThere s (vm_slot h) → locks_of s (vm_slot h) ≢ 65535 → t ≡ with_locks s (vm_slot h) (locks_of s (vm_slot h) + 1)
+      → Locks medium h (Ok tt) v v s t
   there-locks there few is =
       let k = known medium v s h tied there in
-      brought-locks medium v v s s h t (nothing-brings medium error.NoRoom error.Disk h (Ok tt) v s tied tt (λ is. absurd cc) (λ is. absurd cc)) (listed-there there)
+      brought-locks medium v v s s h t (nothing-brings medium error.NoRoom error.Disk h (Ok tt) v s tied tt (λ is. absurd cc) (λ is. absurd cc))
+      (listed-there there)
       (record { there = there; locks = refl; stays = λ was. refl }) (bring-there medium v s h tied k.handle k.held k.listed) few is
 
   -- one whose count is full

@@ -24,15 +24,18 @@ use Rattle.vm_blocks.proofs.Slots.{slot-one, slot-is, freed, no-block, some-bloc
 use Rattle.vm_blocks.proofs.Thinning.{gone-tied}
 
 -- a block that was filled and is freed is gone
-pub drops : (old mid new : Store) (h : ℕ) (ws : List ℕ) → IsThere mid (vm_slot h) → mid ≡ with_bytes old (vm_slot h) ws → new ≡ without mid (vm_slot h) → Drops old new h
+pub drops : (old mid new : Store) (h : ℕ) (ws : List ℕ) → IsThere mid (vm_slot h) → mid ≡ with_bytes old (vm_slot h) ws
+    → new ≡ without mid (vm_slot h) → Drops old new h
 drops old mid new h ws there m n =
     let slot : ℕ = vm_slot h in
     record {
       gone = elim (cases_lt slot (length mid.blocks)) [
         | inl small ↦ ap (λ t. block_at t slot) n ∙ with_block-same mid slot None 0 small
-        | inr past ↦ ap (λ t. block_at t slot) n ∙ get_or_past (set mid.blocks slot None) slot None (omega (arith, past, length-set mid.blocks slot None))
+        | inr past ↦ ap (λ t. block_at t slot) n ∙ get_or_past (set mid.blocks slot None) slot None
+            (omega (arith, past, length-set mid.blocks slot None))
       ];
-      others = λ j ne. ap (λ t. block_at t j) n ∙ with_block-other mid slot None 0 j ne ∙ ap (λ t. block_at t j) m ∙ others-same old slot j ws (λ e. ne (sym e));
+      others = λ j ne. ap (λ t. block_at t j) n ∙ with_block-other mid slot None 0 j ne ∙ ap (λ t. block_at t j) m
+          ∙ others-same old slot j ws (λ e. ne (sym e));
       places = λ j ne. ap (λ t. place_of t j) n ∙ get_or-set_other mid.places slot j 0 0 ne ∙ ap (λ t. place_of t j) m;
       laid = λ laid. subst IsLaidOut (sym n) (laid-without mid (subst IsLaidOut (sym m) (laid-with_bytes old laid slot ws)) slot there);
       len = ap (λ (t : Store). t.len) n ∙ ap (λ (t : Store). t.len) m;
@@ -40,7 +43,8 @@ drops old mid new h ws there m n =
 
 module _ {D : Type 0} (medium : Medium D) (v : VmState D) where
   -- what is kept stays tied
-  pub kept-tied : (s t : Store) (h k : ℕ) → IsHandle k → IsTied medium v s → KeptOrGoes v s t h (vm_slot k) → TiedAt medium v.file k (held_at v k) (block_at t (vm_slot k))
+  pub kept-tied : (s t : Store) (h k : ℕ) → IsHandle k → IsTied medium v s → KeptOrGoes v s t h (vm_slot k)
+      → TiedAt medium v.file k (held_at v k) (block_at t (vm_slot k))
   kept-tied s t h k p tied (inl u) = subst (TiedAt medium v.file k (held_at v k)) (sym u.0) (tied.each k p)
   kept-tied s t h k p tied (inr g) =
       let one : k ≡ g.h = slot-one k g.h p g.handle g.slot_is in
@@ -48,7 +52,8 @@ module _ {D : Type 0} (medium : Medium D) (v : VmState D) where
       subst (TiedAt medium v.file k (held_at v k)) (sym g.gone) (gone-tied medium v k (held_at v k) (block_at s (vm_slot k)) i (tied.each k p))
 
   -- and so is all, where the one is
-  pub tied-keeps : (s t : Store) (h : ℕ) → IsHandle h → IsTied medium v s → Keeps v s t h → TiedAt medium v.file h (held_at v h) (block_at t (vm_slot h)) → IsTied medium v t
+  pub tied-keeps : (s t : Store) (h : ℕ) → IsHandle h → IsTied medium v s → Keeps v s t h
+      → TiedAt medium v.file h (held_at v h) (block_at t (vm_slot h)) → IsTied medium v t
   tied-keeps s t h q tied keeps own = record {
     laid = keeps.laid;
     long = tied.long;
@@ -60,8 +65,16 @@ module _ {D : Type 0} (medium : Medium D) (v : VmState D) where
   }
 
   -- another file that keeps the same current pair and lists it
-  pub tied-file : (s : Store) (f : FileState D) → f.current ≡ v.file.current → (medium.honest f.device → medium.honest v.file.device) → (medium.honest v.file.device → pair_of medium.image f ≡ pair_of medium.image v.file) → IsTied medium v s → IsTied medium (record v { file = f }) s
-  tied-file s f listed was pair tied = record { laid = tied.laid; long = tied.long; each = λ h p. on h (held_at v h) (block_at s (vm_slot h)) (tied.each h p); maps = record { block = tied.maps.block; group = tied.maps.group; no_item = tied.maps.no_item } }
+  pub tied-file : (s : Store) (f : FileState D) → f.current ≡ v.file.current → (medium.honest f.device → medium.honest v.file.device)
+      → (medium.honest v.file.device → pair_of medium.image f ≡ pair_of medium.image v.file) → IsTied medium v s
+      → IsTied medium (record v { file = f }) s
+  tied-file s f listed was pair tied = record {
+    laid = tied.laid;
+    long = tied.long;
+    each = λ h p. on h (held_at v h)
+        (block_at s (vm_slot h)) (tied.each h p);
+    maps = record { block = tied.maps.block; group = tied.maps.group; no_item = tied.maps.no_item };
+  }
     where
       on : (h : ℕ) (e : Option Held) (b : Option Block) → TiedAt medium v.file h e b → TiedAt medium f h e b
       on h None None t = t
@@ -72,7 +85,11 @@ module _ {D : Type 0} (medium : Medium D) (v : VmState D) where
         heap = t.heap;
         handle = t.handle;
         kept = λ m. subst (λ d. HasBlock d h e.len) (sym listed) (t.kept m);
-        clean = λ m. record { long = (t.clean m).long; same = λ good. (t.clean m).same (was good) ∙ sym (ap (λ q. bytes_of_block q.cur.blocks h) (pair (was good))) };
+        clean = λ m. record {
+          long = (t.clean m).long;
+          same = λ good. (t.clean m).same (was good)
+              ∙ sym (ap (λ q. bytes_of_block q.cur.blocks h) (pair (was good)));
+        };
       }
 
 -- room that was made keeps the others
@@ -92,23 +109,43 @@ module _ {D : Type 0} (v : VmState D) (old new : Store) (h size : ℕ) (q : IsHa
   pub made-keeps : Keeps v old new h
   made-keeps = record { each = λ slot ne. on slot ne (made.thins.each slot); laid = made.makes.laid; len = made.makes.len ∙ made.thins.len }
     where
-      on : (slot : ℕ) → slot ≢ vm_slot h → StaysOrGoes v old made.mid h slot → ((block_at new slot ≡ block_at old slot) × (0 < locks_of old slot → place_of new slot ≡ place_of old slot)) ⊎ Goes v old new h slot
+      on : (slot : ℕ) → slot ≢ vm_slot h → StaysOrGoes v old made.mid h slot
+          → ((block_at new slot ≡ block_at old slot) × (0 < locks_of old slot → place_of new slot ≡ place_of old slot)) ⊎ Goes v old new h slot
       on slot ne (inl u) = inl (made-other slot ne ∙ u.0, λ some. made.makes.stay slot ne (subst (λ o. 0 < locks_in o) (sym u.0) some) ∙ u.1)
-      on slot ne (inr g) = inr (record { h = g.h; handle = g.handle; slot_is = g.slot_is; other = g.other; idle = g.idle; gone = made-other slot ne ∙ g.gone })
+      on slot ne (inr g) = inr (record {
+        h = g.h;
+        handle = g.handle;
+        slot_is = g.slot_is;
+        other = g.other;
+        idle =
+            g.idle;
+        gone = made-other slot ne ∙ g.gone;
+      })
 
 -- room for a name is room for its handle
-pub made-room : {D : Type 0} {size : ℕ} (v : VmState D) (old new : Store) (name : Name) (h : ℕ) → name ≡ vm h → DiscardsAndMakes v old new name size → DiscardsAndMakes v old new (vm h) size
+pub made-room : {D : Type 0} {size : ℕ} (v : VmState D) (old new : Store) (name : Name) (h : ℕ) → name ≡ vm h
+    → DiscardsAndMakes v old new name size → DiscardsAndMakes v old new (vm h) size
 made-room {D} {size} v old new name h is made = subst (λ n. DiscardsAndMakes v old new n size) is made
 
 -- what keeps others, and then changes the one alone, keeps them
-pub keeps-more : {D : Type 0} (v : VmState D) (a b c : Store) (h : ℕ) → Keeps v a b h → ((slot : ℕ) → slot ≢ vm_slot h → block_at c slot ≡ block_at b slot) → ((slot : ℕ) → slot ≢ vm_slot h → place_of c slot ≡ place_of b slot)
+pub keeps-more : {D : Type 0} (v : VmState D) (a b c : Store) (h : ℕ) → Keeps v a b h
+    → ((slot : ℕ) → slot ≢ vm_slot h → block_at c slot ≡ block_at b slot) → ((slot : ℕ) → slot ≢ vm_slot h → place_of c slot ≡ place_of b slot)
     → IsLaidOut c → c.len ≡ b.len → Keeps v a c h
 keeps-more {D} v a b c h first same place laid len = record { each = λ slot ne. on slot ne (first.each slot ne); laid = laid; len = len ∙ first.len }
   where
-    on : (slot : ℕ) → slot ≢ vm_slot h → ((block_at b slot ≡ block_at a slot) × (0 < locks_of a slot → place_of b slot ≡ place_of a slot)) ⊎ Goes v a b h slot
+    on : (slot : ℕ) → slot ≢ vm_slot h → ((block_at b slot ≡ block_at a slot) × (0 < locks_of a slot → place_of b slot ≡ place_of a slot))
+        ⊎ Goes v a b h slot
         → ((block_at c slot ≡ block_at a slot) × (0 < locks_of a slot → place_of c slot ≡ place_of a slot)) ⊎ Goes v a c h slot
     on slot ne (inl u) = inl (same slot ne ∙ u.0, λ some. place slot ne ∙ u.1 some)
-    on slot ne (inr g) = inr (record { h = g.h; handle = g.handle; slot_is = g.slot_is; other = g.other; idle = g.idle; gone = same slot ne ∙ g.gone })
+    on slot ne (inr g) = inr (record {
+      h = g.h;
+      handle = g.handle;
+      slot_is = g.slot_is;
+      other = g.other;
+      idle =
+          g.idle;
+      gone = same slot ne ∙ g.gone;
+    })
 
 -- a block with other bytes, as many
 filled-list : (bs : List (Option Block)) (i : ℕ) (ws : List ℕ) (b : Block) → get_or bs i None ≡ Some b → length ws ≡ length b.bytes
@@ -122,12 +159,15 @@ filled-list (Some x ∷ bs) zero ws b e long =
 filled-list (None ∷ bs) (suc i) ws b e long = filled-list bs i ws b e long
 filled-list (Some x ∷ bs) (suc i) ws b e long = filled-list bs i ws b e long
 
-pub filled-at : (old new : Store) (slot : ℕ) (ws : List ℕ) (b : Block) → block_at old slot ≡ Some b → length ws ≡ size_of old slot → new ≡ with_bytes old slot ws → block_at new slot ≡ Some (record { locks = b.locks; bytes = ws })
+pub filled-at : (old new : Store) (slot : ℕ) (ws : List ℕ) (b : Block) → block_at old slot ≡ Some b → length ws ≡ size_of old slot
+    → new ≡ with_bytes old slot ws → block_at new slot ≡ Some (record { locks = b.locks; bytes = ws })
 filled-at old new slot ws b is long e = ap (λ t. block_at t slot) e ∙ filled-list old.blocks slot ws b is (long ∙ ap (λ o. length (bytes_in o)) is)
 
 -- a block into which nothing was read is gone
-pub read-failed : (old new : Store) (h : ℕ) (one other : Name) (ws : List ℕ) (r : Result (Unit {0}) HandleError) → one ≡ vm h → other ≡ vm h → IsThere old (vm_slot h) → locks_of old (vm_slot h) ≡ 0 → length ws ≡ size_of old (slot_of one)
-    → OnOk r (new ≡ without (with_bytes old (slot_of one) ws) (slot_of other)) → ((r ≡ Err BadHandle) ↔ (IsThere (with_bytes old (slot_of one) ws) (slot_of other) → ⊥))
+pub read-failed : (old new : Store) (h : ℕ) (one other : Name) (ws : List ℕ) (r : Result (Unit {0}) HandleError)
+    → one ≡ vm h → other ≡ vm h → IsThere old (vm_slot h) → locks_of old (vm_slot h) ≡ 0 → length ws ≡ size_of old (slot_of one)
+    → OnOk r (new ≡ without (with_bytes old (slot_of one) ws) (slot_of other))
+    → ((r ≡ Err BadHandle) ↔ (IsThere (with_bytes old (slot_of one) ws) (slot_of other) → ⊥))
     → ((r ≡ Err Locked) ↔ (0 < locks_of (with_bytes old (slot_of one) ws) (slot_of other))) → Drops old new h
 read-failed old new h one other ws r e f there free long ok bad locked =
     let i : slot_of one ≡ vm_slot h = ap slot_of e in
@@ -145,7 +185,8 @@ pub fills-others : (old new : Store) (h : ℕ) → Fills old new h → (slot : �
 fills-others old new h fills slot ne = ap (λ u. block_at u slot) fills.is ∙ others-same old (vm_slot h) slot fills.bytes (λ e. ne (sym e))
 
 -- a listed block that is not in memory
-module _ {D : Type 0} (medium : Medium D) (v : VmState D) (s : Store) (h : ℕ) (e : Held) (q : IsHandle h) (tied : IsTied medium v s) (listed : held_at v h ≡ Some e) (absent : IsThere s (vm_slot h) → ⊥) where
+module _ {D : Type 0} (medium : Medium D) (v : VmState D) (s : Store) (h : ℕ) (e : Held) (q : IsHandle h)
+    (tied : IsTied medium v s) (listed : held_at v h ≡ Some e) (absent : IsThere s (vm_slot h) → ⊥) where
   none-there : block_at s (vm_slot h) ≡ None
   none-there = no-block (block_at s (vm_slot h)) absent
 
@@ -169,7 +210,8 @@ module _ {D : Type 0} (medium : Medium D) (v : VmState D) (s : Store) (h : ℕ) 
       own = record { locks = 0; bytes = fills.bytes }
 
       filled-is : block_at t (vm_slot h) ≡ Some own
-      filled-is = filled-at m t (vm_slot h) fills.bytes (record { locks = 0; bytes = replicate e.len 0 }) (made-block v s m h e.len q made) fills.long fills.is
+      filled-is = filled-at m t (vm_slot h) fills.bytes (record { locks = 0; bytes = replicate e.len 0 })
+          (made-block v s m h e.len q made) fills.long fills.is
 
       pub filled-locks : locks_of t (vm_slot h) ≡ 0
       filled-locks = ap locks_in filled-is
@@ -188,9 +230,11 @@ module _ {D : Type 0} (medium : Medium D) (v : VmState D) (s : Store) (h : ℕ) 
         }
 
         filled-tied : IsTied medium v t
-        filled-tied = tied-keeps medium v s t h q tied filled-keeps (subst (TiedAt medium v.file h (held_at v h)) (sym filled-is) (subst (λ o. TiedAt medium v.file h o (Some own)) (sym listed) own-tied))
+        filled-tied = tied-keeps medium v s t h q tied filled-keeps
+            (subst (TiedAt medium v.file h (held_at v h)) (sym filled-is) (subst (λ o. TiedAt medium v.file h o (Some own)) (sym listed) own-tied))
 
-        module _ (f : FileState D) (same : f ≡ record v.file { device = f.device }) (pair : pair_of medium.image f ≡ pair_of medium.image v.file) (was : medium.honest f.device → medium.honest v.file.device) where
+        module _ (f : FileState D) (same : f ≡ record v.file { device = f.device }) (pair : pair_of medium.image f ≡ pair_of medium.image v.file)
+            (was : medium.honest f.device → medium.honest v.file.device) where
           pub read-tied : IsTied medium (record v { file = f }) t
           read-tied = tied-file medium v t f (ap (λ (g : FileState D). g.current) same) was (λ good. pair) filled-tied
 
@@ -199,5 +243,7 @@ module _ {D : Type 0} (medium : Medium D) (v : VmState D) (s : Store) (h : ℕ) 
       pub dropped-keeps : Keeps v s t h
       dropped-keeps = keeps-more v s m t h (made-keeps v s m h e.len q made) drops.others drops.places (drops.laid made.makes.laid) drops.len
 
-      pub dropped-tied : (f : FileState D) → f ≡ record v.file { device = f.device } → pair_of medium.image f ≡ pair_of medium.image v.file → (medium.honest f.device → medium.honest v.file.device) → IsTied medium (record v { file = f }) t
-      dropped-tied f same pair was = tied-file medium v t f (ap (λ (g : FileState D). g.current) same) was (λ good. pair) (tied-keeps medium v s t h q tied dropped-keeps (own-none t drops.gone))
+      pub dropped-tied : (f : FileState D) → f ≡ record v.file { device = f.device } → pair_of medium.image f ≡ pair_of medium.image v.file
+          → (medium.honest f.device → medium.honest v.file.device) → IsTied medium (record v { file = f }) t
+      dropped-tied f same pair was = tied-file medium v t f (ap (λ (g : FileState D). g.current) same) was (λ good. pair)
+          (tied-keeps medium v s t h q tied dropped-keeps (own-none t drops.gone))

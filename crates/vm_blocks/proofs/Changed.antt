@@ -58,7 +58,8 @@ module _ {D : Type 0} (medium : Medium D) (v : VmState D) (s t : Store) (m : Mem
   }
 
   -- the device was read
-  pub memory-device : (d : D) → medium.image d ≡ medium.image v.file.device → (medium.honest d → medium.honest v.file.device) → IsMemoryOf medium (with_device v d) s m
+  pub memory-device : (d : D) → medium.image d ≡ medium.image v.file.device → (medium.honest d → medium.honest v.file.device)
+      → IsMemoryOf medium (with_device v d) s m
   memory-device d same was = record { blocks = is.blocks; file = file-device medium v d same was s m.file is.file; region = is.region }
 
   module _ (h : ℕ) (p : IsHandle h) (tied : IsTied medium v s) (keeps : Keeps v s t h) where
@@ -74,9 +75,12 @@ module _ {D : Type 0} (medium : Medium D) (v : VmState D) (s t : Store) (m : Mem
     module _ (w : VmState D) (file : w.file ≡ v.file) (others : (k : ℕ) → k ≢ h → held_at w k ≡ held_at v k) where
       other : (k : ℕ) → IsHandle k → k ≢ h → IsListedIn medium w t k (at_handle None m.file.cur.blocks k)
       other k q ne =
-          let was = others-listed medium v s t h k (at_handle None m.file.cur.blocks k) p q ne tied keeps (is.file.legal.cur.blocks k) (is.file.cur.each k q) in
-          subst (λ (x : FileState D). IsListedAs (medium.honest x.device) (bytes_read medium.image x k) (held_at w k) (block_at t (vm_slot k)) (at_handle None m.file.cur.blocks k)) (sym file)
-          (subst (λ e. IsListedAs (medium.honest v.file.device) (bytes_read medium.image v.file k) e (block_at t (vm_slot k)) (at_handle None m.file.cur.blocks k)) (sym (others k ne)) was)
+          let was = others-listed medium v s t h k (at_handle None m.file.cur.blocks k) p q ne tied keeps
+          (is.file.legal.cur.blocks k) (is.file.cur.each k q) in
+          subst (λ (x : FileState D). IsListedAs (medium.honest x.device) (bytes_read medium.image x k) (held_at w k)
+          (block_at t (vm_slot k)) (at_handle None m.file.cur.blocks k)) (sym file)
+          (subst (λ e. IsListedAs (medium.honest v.file.device) (bytes_read medium.image v.file k) e (block_at t (vm_slot k))
+          (at_handle None m.file.cur.blocks k)) (sym (others k ne)) was)
 
       pub memory-entry : (a b c : ℕ) (x : Option VmBlock) → (a ≡ w.map_block) × (b ≡ w.map_item.0) × (c ≡ w.map_item.1) → IsListedIn medium w t h x
           → IsCurrent (record { blocks = with_entry_at m.file.cur.blocks h x; map_block = a; map_group = b; map_item = c })
@@ -98,29 +102,36 @@ module _ {D : Type 0} (medium : Medium D) (v : VmState D) (s t : Store) (m : Mem
 
       pub listed-there : listed_at m h ≡ Some own_listed
       listed-there = subst (λ o. IsListedAs (medium.honest v.file.device) (bytes_read medium.image v.file h) o (Some b) (listed_at m h)) listed
-          (subst (λ o. IsListedAs (medium.honest v.file.device) (bytes_read medium.image v.file h) (held_at v h) o (listed_at m h)) there (is.file.cur.each h p))
+          (subst (λ o. IsListedAs (medium.honest v.file.device) (bytes_read medium.image v.file h) (held_at v h) o (listed_at m h)) there
+          (is.file.cur.each h p))
 
       pub own-legal : IsLegalListed own_listed
       own-legal = subst (λ o. IfSome o IsLegalListed) listed-there (is.file.legal.cur.blocks h)
 
       -- it has other bytes, or is locked so often
-      pub memory-changed : (change : ModelBlock → ModelBlock) (c : Block) → block_at t (vm_slot h) ≡ Some c → change (spelled b.locks b.bytes) ≡ spelled c.locks c.bytes → IsLegalBlock (spelled c.locks c.bytes)
+      pub memory-changed : (change : ModelBlock → ModelBlock) (c : Block) → block_at t (vm_slot h) ≡ Some c
+          → change (spelled b.locks b.bytes) ≡ spelled c.locks c.bytes → IsLegalBlock (spelled c.locks c.bytes)
           → IsMemoryOf medium v t (with_block m (vm h) (option_map change (block_of m (vm h))))
       memory-changed change c now same legal =
           let cur = m.file.cur in
           let x : Option VmBlock = option_map (relisted (listed_at m h)) (option_map change (block_of m (vm h))) in
           let after : VmBlock = record { uid = e.uid; marked = e.marked; block = spelled c.locks c.bytes } in
-          let x_is : x ≡ Some after = relisted-changed change (listed_at m h) ∙ ap (option_map (changed_in change)) listed-there ∙ (λ k. Some (record { uid = e.uid; marked = e.marked; block = same k })) in
+          let x_is : x ≡ Some after = relisted-changed change (listed_at m h) ∙ ap (option_map (changed_in change)) listed-there
+          ∙ (λ k. Some (record { uid = e.uid; marked = e.marked; block = same k })) in
           let own : IsListedIn medium v t h x =
           subst (λ o. IsListedAs (medium.honest v.file.device) (bytes_read medium.image v.file h) o (block_at t (vm_slot h)) x) (sym listed)
           (subst (λ o. IsListedAs (medium.honest v.file.device) (bytes_read medium.image v.file h) (Some e) o x) (sym now) x_is) in
-          let good : IfSome x IsLegalListed = subst (λ o. IfSome o IsLegalListed) (sym x_is) (let l : IsLegalListed after = record { uid = own-legal.uid; block = legal } in l) in
-          let uid : option_map (λ (l : VmBlock). l.uid) x ≡ option_map (λ (l : VmBlock). l.uid) (listed_at m h) = ap (option_map (λ (l : VmBlock). l.uid)) x_is ∙ sym (ap (option_map (λ (l : VmBlock). l.uid)) listed-there) in
-          memory-entry v refl (λ k ne. refl) cur.map_block cur.map_group cur.map_item x (is.file.cur.map_block, is.file.cur.map_group, is.file.cur.map_item) own
+          let good : IfSome x IsLegalListed = subst (λ o. IfSome o IsLegalListed) (sym x_is)
+          (let l : IsLegalListed after = record { uid = own-legal.uid; block = legal } in l) in
+          let uid : option_map (λ (l : VmBlock). l.uid) x ≡ option_map (λ (l : VmBlock). l.uid) (listed_at m h) =
+          ap (option_map (λ (l : VmBlock). l.uid)) x_is ∙ sym (ap (option_map (λ (l : VmBlock). l.uid)) listed-there) in
+          memory-entry v refl (λ k ne. refl) cur.map_block cur.map_group cur.map_item x
+          (is.file.cur.map_block, is.file.cur.map_group, is.file.cur.map_item) own
           (entry-legal IsLegalListed (λ (l : VmBlock). l.uid) cur is.file.legal.cur h x good uid)
 
       -- it is marked, or not, and else as it was
-      pub memory-marked : (w : VmState D) (marked : Bool) → w.file ≡ v.file → ((k : ℕ) → k ≢ h → held_at w k ≡ held_at v k) → (w.map_block ≡ v.map_block) → (w.map_item ≡ v.map_item)
+      pub memory-marked : (w : VmState D) (marked : Bool) → w.file ≡ v.file → ((k : ℕ) → k ≢ h → held_at w k ≡ held_at v k)
+          → (w.map_block ≡ v.map_block) → (w.map_item ≡ v.map_item)
           → held_at w h ≡ Some (record e { marked = marked }) → block_at t (vm_slot h) ≡ Some b → IsMemoryOf medium w t (with_mark m h marked)
       memory-marked w marked file others map_block map_item held now =
           let cur = m.file.cur in
@@ -129,9 +140,16 @@ module _ {D : Type 0} (medium : Medium D) (v : VmState D) (s t : Store) (m : Mem
           let x_is : x ≡ Some after = ap (option_map (marked_block marked)) listed-there in
           let own : IsListedIn medium w t h x =
           subst (λ o. IsListedAs (medium.honest w.file.device) (bytes_read medium.image w.file h) o (block_at t (vm_slot h)) x) (sym held)
-          (subst (λ o. IsListedAs (medium.honest w.file.device) (bytes_read medium.image w.file h) (Some (record e { marked = marked })) o x) (sym now) x_is) in
-          let good : IfSome x IsLegalListed = subst (λ o. IfSome o IsLegalListed) (sym x_is) (let l : IsLegalListed after = record { uid = own-legal.uid; block = own-legal.block } in l) in
-          let uid : option_map (λ (l : VmBlock). l.uid) x ≡ option_map (λ (l : VmBlock). l.uid) (listed_at m h) = ap (option_map (λ (l : VmBlock). l.uid)) x_is ∙ sym (ap (option_map (λ (l : VmBlock). l.uid)) listed-there) in
-          memory-entry w file others cur.map_block cur.map_group cur.map_item x
-          (is.file.cur.map_block ∙ sym map_block, is.file.cur.map_group ∙ sym (ap (λ (i : ℕ × ℕ). i.0) map_item), is.file.cur.map_item ∙ sym (ap (λ (i : ℕ × ℕ). i.1) map_item)) own
+          (subst (λ o. IsListedAs (medium.honest w.file.device) (bytes_read medium.image w.file h) (Some (record e { marked = marked })) o x)
+          (sym now) x_is) in
+          let good : IfSome x IsLegalListed = subst (λ o. IfSome o IsLegalListed) (sym x_is)
+          (let l : IsLegalListed after = record { uid = own-legal.uid; block = own-legal.block } in l) in
+          let uid : option_map (λ (l : VmBlock). l.uid) x ≡ option_map (λ (l : VmBlock). l.uid) (listed_at m h) =
+          ap (option_map (λ (l : VmBlock). l.uid)) x_is ∙ sym (ap (option_map (λ (l : VmBlock). l.uid)) listed-there) in
+          memory-entry w file others cur.map_block cur.map_group cur.map_item x (
+            is.file.cur.map_block ∙ sym map_block,
+            is.file.cur.map_group ∙ sym (ap (λ (i : ℕ × ℕ). i.0) map_item),
+            is.file.cur.map_item
+                ∙ sym (ap (λ (i : ℕ × ℕ). i.1) map_item),
+          ) own
           (entry-legal IsLegalListed (λ (l : VmBlock). l.uid) cur is.file.legal.cur h x good uid)

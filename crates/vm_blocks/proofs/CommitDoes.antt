@@ -41,16 +41,20 @@ module _ (m : Memory) (how : How) where
   abbrev pair : model_file.Pair
   pair = pair_to_keep (keeper_of how) m
 
-  went : model_file.is_unsure m.file.kept ≡ false → nat_lt m.file.area (model_file.pair_length pair) ≡ false → outcome (effect_of (commit (keeper_of how)) (offered false false false) m) ≡ (Ok tt, committed m pair)
+  went : model_file.is_unsure m.file.kept ≡ false → nat_lt m.file.area (model_file.pair_length pair) ≡ false
+      → outcome (effect_of (commit (keeper_of how)) (offered false false false) m) ≡ (Ok tt, committed m pair)
   went sure fits = rw (sure, fits) refl
 
-  doubtful : model_file.is_unsure m.file.kept ≡ true → outcome (effect_of (commit (keeper_of how)) (offered false false false) m) ≡ (Err refusal.Unsure, m)
+  doubtful : model_file.is_unsure m.file.kept ≡ true
+      → outcome (effect_of (commit (keeper_of how)) (offered false false false) m) ≡ (Err refusal.Unsure, m)
   doubtful unsure = rw unsure refl
 
-  too-big : model_file.is_unsure m.file.kept ≡ false → nat_lt m.file.area (model_file.pair_length pair) ≡ true → outcome (effect_of (commit (keeper_of how)) (offered false false false) m) ≡ (Err refusal.TooBig, m)
+  too-big : model_file.is_unsure m.file.kept ≡ false → nat_lt m.file.area (model_file.pair_length pair) ≡ true
+      → outcome (effect_of (commit (keeper_of how)) (offered false false false) m) ≡ (Err refusal.TooBig, m)
   too-big sure big = rw (sure, big) refl
 
-  no-memory : model_file.is_unsure m.file.kept ≡ false → nat_lt m.file.area (model_file.pair_length pair) ≡ false → outcome (effect_of (commit (keeper_of how)) (offered true false false) m) ≡ (Err refusal.Memory, m)
+  no-memory : model_file.is_unsure m.file.kept ≡ false → nat_lt m.file.area (model_file.pair_length pair) ≡ false
+      → outcome (effect_of (commit (keeper_of how)) (offered true false false) m) ≡ (Err refusal.Memory, m)
   no-memory sure fits = rw (sure, fits) refl
 
   failed-row : (unsure : Bool) → model_file.is_unsure m.file.kept ≡ false → nat_lt m.file.area (model_file.pair_length pair) ≡ false
@@ -60,27 +64,33 @@ module _ (m : Memory) (how : How) where
 -- A state of which nothing but the device and its doubt changed
 
 module _ {D : Type 0} (medium : Medium D) (v w : VmState D) (s : Store) (m : Memory) (is : IsMemoryOf medium v s m)
-    (state : w ≡ record v { file = record v.file { device = w.file.device; sure = w.file.sure } }) (was : medium.honest w.file.device → medium.honest v.file.device) (same : medium.honest w.file.device → pair_of medium.image w.file ≡ pair_of medium.image v.file) where
+    (state : w ≡ record v { file = record v.file { device = w.file.device; sure = w.file.sure } })
+    (was : medium.honest w.file.device → medium.honest v.file.device) (same : medium.honest w.file.device
+    → pair_of medium.image w.file ≡ pair_of medium.image v.file) where
   abbrev now : VmState D
   now = record v { file = record v.file { device = w.file.device; sure = w.file.sure } }
 
   pair-same : medium.honest now.file.device → pair_of medium.image now.file ≡ pair_of medium.image v.file
   pair-same g = ap (λ (x : VmState D). pair_of medium.image x.file) (sym state) ∙ same g
 
-  memory-doubted : (kept : Kept) → IsKeptOf medium.image medium.honest now.file kept → ArePairs kept → IsMemoryOf medium w s (record m { file = record m.file { kept = kept } })
+  memory-doubted : (kept : Kept) → IsKeptOf medium.image medium.honest now.file kept → ArePairs kept
+      → IsMemoryOf medium w s (record m { file = record m.file { kept = kept } })
   memory-doubted kept k legal = subst (λ x. IsMemoryOf medium x s (record m { file = record m.file { kept = kept } })) (sym state) (record {
     blocks = is.blocks;
     file = record {
       area = is.file.area;
       cur = record {
         handles = is.file.cur.handles;
-        each = λ h p. listed-on (medium.honest v.file.device) (medium.honest now.file.device) was (bytes_read medium.image v.file h) (bytes_read medium.image now.file h) (held_at v h) (block_at s (vm_slot h)) (at_handle None m.file.cur.blocks h)
+        each = λ h p. listed-on (medium.honest v.file.device) (medium.honest now.file.device) was (bytes_read medium.image v.file h)
+            (bytes_read medium.image now.file h) (held_at v h) (block_at s (vm_slot h)) (at_handle None m.file.cur.blocks h)
             (λ g. ap (λ (q : Pair). bytes_of_block q.cur.blocks h) (pair-same g)) (is.file.cur.each h p);
         map_block = is.file.cur.map_block;
         map_group = is.file.cur.map_group;
         map_item = is.file.cur.map_item;
       };
-      saved = directory-on (medium.honest v.file.device) (medium.honest now.file.device) was v.file.saved (pair_of medium.image v.file).saved.blocks (pair_of medium.image now.file).saved.blocks m.file.saved (λ g. ap (λ (q : Pair). q.saved.blocks) (pair-same g)) is.file.saved;
+      saved = directory-on (medium.honest v.file.device) (medium.honest now.file.device) was v.file.saved
+          (pair_of medium.image v.file).saved.blocks (pair_of medium.image now.file).saved.blocks m.file.saved
+          (λ g. ap (λ (q : Pair). q.saved.blocks) (pair-same g)) is.file.saved;
       kept = k;
       legal = record { cur = is.file.legal.cur; saved = is.file.legal.saved; kept = legal };
     };
@@ -90,8 +100,10 @@ module _ {D : Type 0} (medium : Medium D) (v w : VmState D) (s : Store) (m : Mem
 -- The call
 
 module _ {D : Type 0} (medium : Medium D) (v w : VmState D) (s t : Store) (how : How)
-    (tied : IsTied medium v s) (now_tied : IsTied medium w t) (free : NoneLocked s) (cur_legal : is_directory (directory_of v s) ≡ true) (old_legal : is_directory v.file.saved ≡ true)
-    (whole : medium.honest v.file.device → (listed (kept_after medium.image (resident_of s) how (directory_of v s) v.file).cur ≡ current_after how (directory_of v s) v.file.saved)
+    (tied : IsTied medium v s) (now_tied : IsTied medium w t) (free : NoneLocked s) (cur_legal : is_directory (directory_of v s) ≡ true)
+    (old_legal : is_directory v.file.saved ≡ true)
+    (whole : medium.honest v.file.device
+    → (listed (kept_after medium.image (resident_of s) how (directory_of v s) v.file).cur ≡ current_after how (directory_of v s) v.file.saved)
     × (listed (kept_after medium.image (resident_of s) how (directory_of v s) v.file).saved ≡ saved_after how (directory_of v s) v.file.saved)) where
   abbrev Commits : Result (Unit {0}) CommitError → Type 0
   Commits r = CommitsFile medium how (resident_of s) (directory_of v s) v.file w.file r
@@ -159,7 +171,8 @@ module _ {D : Type 0} (medium : Medium D) (v w : VmState D) (s t : Store) (how :
       )
 
   -- what is in doubt after a fault
-  other-told : v.file.sure ≡ true → w.file.sure ≡ false → (after : Pair) → KeepsAfter error.Disk after (kept_of medium.image v.file) (kept_of medium.image w.file) → other_pair medium.image w.file ≡ after
+  other-told : v.file.sure ≡ true → w.file.sure ≡ false → (after : Pair)
+      → KeepsAfter error.Disk after (kept_of medium.image v.file) (kept_of medium.image w.file) → other_pair medium.image w.file ≡ after
   other-told sure doubt after keeps = on keeps
     where
       old : kept_of medium.image v.file ≡ SureOf (pair_of medium.image v.file)
@@ -169,8 +182,10 @@ module _ {D : Type 0} (medium : Medium D) (v w : VmState D) (s t : Store) (how :
       new = rw doubt refl
 
       on : KeepsAfter error.Disk after (kept_of medium.image v.file) (kept_of medium.image w.file) → other_pair medium.image w.file ≡ after
-      on (inl e) = absurd (let x : UnsureBetween (pair_of medium.image w.file) (other_pair medium.image w.file) ≡ SureOf (pair_of medium.image v.file) = sym new ∙ e ∙ old in cc)
-      on (inr x) = let y : UnsureBetween (pair_of medium.image w.file) (other_pair medium.image w.file) ≡ UnsureBetween x.0 after = sym new ∙ x.2 in ap second y
+      on (inl e) = absurd (let x : UnsureBetween (pair_of medium.image w.file) (other_pair medium.image w.file) ≡ SureOf
+          (pair_of medium.image v.file) = sym new ∙ e ∙ old in cc)
+      on (inr x) = let y : UnsureBetween (pair_of medium.image w.file) (other_pair medium.image w.file) ≡ UnsureBetween x.0 after = sym new
+          ∙ x.2 in ap second y
         where
           second : file.Kept → Pair
           second (SureOf p) = p
@@ -183,33 +198,48 @@ module _ {D : Type 0} (medium : Medium D) (v w : VmState D) (s t : Store) (how :
     whole-state : w ≡ record v { file = record v.file { device = w.file.device; sure = w.file.sure } }
     whole-state = state ∙ ap (λ (x : FileState D). let y : VmState D = record v { file = x } in y) c.refused
 
-    old-pair : (p : model_file.Pair) → IsPairOf (medium.honest v.file.device) v.file.current v.file.saved (pair_of medium.image v.file) p → IsPairOf (medium.honest w.file.device) v.file.current v.file.saved (pair_of medium.image (now medium v w s m is whole-state c.was (λ g. c.pair (c.was g))).file) p
-    old-pair p is_p = pair-on (medium.honest v.file.device) (medium.honest w.file.device) c.was v.file.current v.file.saved (pair_of medium.image v.file) (pair_of medium.image (now medium v w s m is whole-state c.was (λ g. c.pair (c.was g))).file) p
+    old-pair : (p : model_file.Pair) → IsPairOf (medium.honest v.file.device) v.file.current v.file.saved (pair_of medium.image v.file) p
+        → IsPairOf (medium.honest w.file.device) v.file.current v.file.saved
+        (pair_of medium.image (now medium v w s m is whole-state c.was (λ g. c.pair (c.was g))).file) p
+    old-pair p is_p = pair-on (medium.honest v.file.device) (medium.honest w.file.device) c.was v.file.current v.file.saved
+        (pair_of medium.image v.file) (pair_of medium.image (now medium v w s m is whole-state c.was (λ g. c.pair (c.was g))).file) p
         (pair-same medium v w s m is whole-state c.was (λ g. c.pair (c.was g))) is_p
 
     -- what is kept where it is still sure, and where it is not
-    kept-sure : w.file.sure ≡ true → (k : Kept) → IsKeptOf medium.image medium.honest v.file k → IsKeptOf medium.image medium.honest (now medium v w s m is whole-state c.was (λ g. c.pair (c.was g))).file k
+    kept-sure : w.file.sure ≡ true → (k : Kept) → IsKeptOf medium.image medium.honest v.file k
+        → IsKeptOf medium.image medium.honest (now medium v w s m is whole-state c.was (λ g. c.pair (c.was g))).file k
     kept-sure sure (Sure p) k = (sure, old-pair p k.1)
     kept-sure sure (Unsure p q) k = absurd (let x : true ≡ false = sym sure-then ∙ k.0 in cc)
 
     new-pair : w.file.sure ≡ false → medium.honest w.file.device → pair m how ≡ stored_pair (other_pair medium.image w.file)
     new-pair doubt g =
         let fair = c.was g in
-        let cur = current_after how (directory_of v s) v.file.saved in let saved = saved_after how (directory_of v s) v.file.saved in
+        let cur = current_after how (directory_of v s) v.file.saved in
+        let saved = saved_after how (directory_of v s) v.file.saved in
         let after = kept_after medium.image (resident_of s) how (directory_of v s) v.file in
-        let from : IsPairOf (Unit {0}) cur saved after (pair m how) = pair-on (medium.honest v.file.device) (Unit {0}) (λ u. fair) cur saved after after (pair m how) (λ u. refl) (kept-is medium v s m is how) in
+        let from : IsPairOf (Unit {0}) cur saved after (pair m how) = pair-on (medium.honest v.file.device) (Unit {0})
+        (λ u. fair) cur saved after after (pair m how) (λ u. refl) (kept-is medium v s m is how) in
         let e = whole fair in
         pair-one cur saved after (pair m how) e.0 e.1 from ∙ sym (ap stored_pair (other-told sure-then doubt after (c.kept fair)))
 
-    kept-doubted : w.file.sure ≡ false → (k : Kept) → IsKeptOf medium.image medium.honest v.file k → IsKeptOf medium.image medium.honest (now medium v w s m is whole-state c.was (λ g. c.pair (c.was g))).file (doubted k (pair m how))
-    kept-doubted doubt (Sure p) k = (doubt, old-pair p k.1, λ g. new-pair doubt g ∙ ap (λ (x : VmState D). stored_pair (other_pair medium.image x.file)) whole-state)
+    kept-doubted : w.file.sure ≡ false → (k : Kept) → IsKeptOf medium.image medium.honest v.file k
+        → IsKeptOf medium.image medium.honest (now medium v w s m is whole-state c.was (λ g. c.pair (c.was g))).file (doubted k (pair m how))
+    kept-doubted doubt (Sure p) k = (
+      doubt,
+      old-pair p k.1,
+      λ g. new-pair doubt g
+          ∙ ap (λ (x : VmState D). stored_pair (other_pair medium.image x.file)) whole-state,
+    )
     kept-doubted doubt (Unsure p q) k = absurd (let x : true ≡ false = sym sure-then ∙ k.0 in cc)
 
     disk-memory : (b : Bool) → w.file.sure ≡ b → IsMemoryOf medium w t (faulted (offered false true (not b)) m (pair m how))
     disk-memory true sure = subst (λ u. IsMemoryOf medium w u m) (sym store)
-        (memory-doubted medium v w s m is whole-state c.was (λ g. c.pair (c.was g)) m.file.kept (kept-sure sure m.file.kept is.file.kept) is.file.legal.kept)
-    disk-memory false doubt = subst (λ u. IsMemoryOf medium w u (record m { file = record m.file { kept = doubted m.file.kept (pair m how) } })) (sym store)
-        (memory-doubted medium v w s m is whole-state c.was (λ g. c.pair (c.was g)) (doubted m.file.kept (pair m how)) (kept-doubted doubt m.file.kept is.file.kept)
+        (memory-doubted medium v w s m is whole-state c.was (λ g. c.pair (c.was g)) m.file.kept
+        (kept-sure sure m.file.kept is.file.kept) is.file.legal.kept)
+    disk-memory false doubt = subst (λ u. IsMemoryOf medium w u (record m { file = record m.file { kept = doubted m.file.kept (pair m how) } }))
+        (sym store)
+        (memory-doubted medium v w s m is whole-state c.was (λ g. c.pair (c.was g)) (doubted m.file.kept (pair m how))
+        (kept-doubted doubt m.file.kept is.file.kept)
         (doubted-legal m.file.kept (pair m how) is.file.legal.kept (kept-legal medium v s m is how)))
 
   disk-row : Commits (Err error.Disk) → w ≡ record v { file = w.file } → t ≡ s → Row (Err error.Disk)
@@ -223,7 +253,8 @@ module _ {D : Type 0} (medium : Medium D) (v w : VmState D) (s t : Store) (how :
       )
 
   -- whatever it answers
-  pub commit-does : (r : Result (Unit {0}) CommitError) → Commits r → OnOk r (IsListOf w w.file.current) → OnOk r (StoreAfter how s t) → OnErr r ((w ≡ record v { file = w.file }) × (t ≡ s)) → Row r
+  pub commit-does : (r : Result (Unit {0}) CommitError) → Commits r → OnOk r (IsListOf w w.file.current)
+      → OnOk r (StoreAfter how s t) → OnErr r ((w ≡ record v { file = w.file }) × (t ≡ s)) → Row r
   commit-does (Ok done) c lists store refused = done-row done c lists store
   commit-does (Err error.Unsure) c lists store refused = unsure-row c refused.0 refused.1
   commit-does (Err error.TooBig) c lists store refused = big-row c refused.0 refused.1

@@ -53,8 +53,10 @@ module _ {D : Type 0} (medium : Medium D) (v : VmState D) (s : Store) (m : Memor
   length-told =
       let kept = kept-is medium v s m is how in
       let from = kept_after medium.image (resident_of s) how (directory_of v s) v.file in
-      let one = length-same (medium.honest v.file.device) (current_after how (directory_of v s) v.file.saved) from.cur.blocks pair_now.cur (current_legal how (directory_of v s) v.file.saved cur_legal old_legal) kept.cur in
-      let two = length-same (medium.honest v.file.device) (saved_after how (directory_of v s) v.file.saved) from.saved.blocks pair_now.saved (saved_legal how (directory_of v s) v.file.saved cur_legal old_legal) kept.saved in
+      let one = length-same (medium.honest v.file.device) (current_after how (directory_of v s) v.file.saved)
+      from.cur.blocks pair_now.cur (current_legal how (directory_of v s) v.file.saved cur_legal old_legal) kept.cur in
+      let two = length-same (medium.honest v.file.device) (saved_after how (directory_of v s) v.file.saved)
+      from.saved.blocks pair_now.saved (saved_legal how (directory_of v s) v.file.saved cur_legal old_legal) kept.saved in
       λ k. one k + two k
 
   pub sure-test : v.file.sure ≡ true → is_unsure m.file.kept ≡ false
@@ -64,7 +66,9 @@ module _ {D : Type 0} (medium : Medium D) (v : VmState D) (s : Store) (m : Memor
   unsure-test sure = unsure-told medium v.file m.file.kept is.file.kept ∙ ap not sure
 
   pub area-test : (v.file.area < length_after how (directory_of v s) v.file.saved → ⊥) → nat_lt m.file.area (pair_length pair_now) ≡ false
-  area-test none = ap (λ n. nat_lt n (pair_length pair_now)) is.file.area ∙ ap (nat_lt v.file.area) length-told ∙ not-over v.file.area (length_after how (directory_of v s) v.file.saved) none
+  area-test none = ap (λ n. nat_lt n (pair_length pair_now)) is.file.area ∙ ap (nat_lt v.file.area) length-told
+      ∙ not-over v.file.area (length_after how (directory_of v s) v.file.saved) none
 
   pub big-test : v.file.area < length_after how (directory_of v s) v.file.saved → nat_lt m.file.area (pair_length pair_now) ≡ true
-  big-test big = ap (λ n. nat_lt n (pair_length pair_now)) is.file.area ∙ ap (nat_lt v.file.area) length-told ∙ over v.file.area (length_after how (directory_of v s) v.file.saved) big
+  big-test big = ap (λ n. nat_lt n (pair_length pair_now)) is.file.area ∙ ap (nat_lt v.file.area) length-told
+      ∙ over v.file.area (length_after how (directory_of v s) v.file.saved) big

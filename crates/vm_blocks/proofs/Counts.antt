@@ -21,12 +21,14 @@ use Rattle.vm_blocks.proofs.Table.{maps-alike, length-with, held-other, held-sam
 use Rattle.vm_blocks.proofs.Brings.{keeps-more}
 
 -- another count of locks of a block that is there
-module _ {D : Type 0} (medium : Medium D) (v : VmState D) (s t : Store) (h n : ℕ) (q : IsHandle h) (tied : IsTied medium v s) (there : IsThere s (vm_slot h)) (is : t ≡ with_locks s (vm_slot h) n) where
+module _ {D : Type 0} (medium : Medium D) (v : VmState D) (s t : Store) (h n : ℕ) (q : IsHandle h) (tied : IsTied medium v s)
+    (there : IsThere s (vm_slot h)) (is : t ≡ with_locks s (vm_slot h) n) where
   small : vm_slot h < length s.blocks
   small = omega (arith, there_small s (vm_slot h) tied.laid there, tied.laid.slots)
 
   own-is : (b : Block) → block_at s (vm_slot h) ≡ Some b → block_at t (vm_slot h) ≡ Some (record { locks = n; bytes = b.bytes })
-  own-is b e = ap (λ u. block_at u (vm_slot h)) is ∙ with_locks-same s (vm_slot h) n small ∙ ap (λ o. Some (record { locks = n; bytes = bytes_in o })) e
+  own-is b e = ap (λ u. block_at u (vm_slot h)) is ∙ with_locks-same s (vm_slot h) n small
+      ∙ ap (λ o. Some (record { locks = n; bytes = bytes_in o })) e
 
   other-is : (k : ℕ) → IsHandle k → k ≢ h → block_at t (vm_slot k) ≡ block_at s (vm_slot k)
   other-is k p ne = ap (λ u. block_at u (vm_slot k)) is ∙ with_locks-other s (vm_slot h) n (vm_slot k) (λ e. ne (slot-one k h p q e))
@@ -50,10 +52,12 @@ module _ {D : Type 0} (medium : Medium D) (v : VmState D) (s t : Store) (h n : �
       here =
           let b = some-block (block_at s (vm_slot h)) there in
           let c : Block = record { locks = n; bytes = b.0.bytes } in
-          subst (TiedAt medium v.file h (held_at v h)) (sym (own-is b.0 b.1)) (one-tied (held_at v h) b.0 c refl (subst (TiedAt medium v.file h (held_at v h)) b.1 (tied.each h q)))
+          subst (TiedAt medium v.file h (held_at v h)) (sym (own-is b.0 b.1))
+          (one-tied (held_at v h) b.0 c refl (subst (TiedAt medium v.file h (held_at v h)) b.1 (tied.each h q)))
 
 -- a mark on a block that is there
-module _ {D : Type 0} (medium : Medium D) (v : VmState D) (s : Store) (h : ℕ) (e : Held) (q : IsHandle h) (tied : IsTied medium v s) (there : IsThere s (vm_slot h)) (listed : held_at v h ≡ Some e) where
+module _ {D : Type 0} (medium : Medium D) (v : VmState D) (s : Store) (h : ℕ) (e : Held) (q : IsHandle h)
+    (tied : IsTied medium v s) (there : IsThere s (vm_slot h)) (listed : held_at v h ≡ Some e) where
   abbrev w : VmState D
   w = with_held v h (Some (marked e))
 
@@ -80,17 +84,20 @@ module _ {D : Type 0} (medium : Medium D) (v : VmState D) (s : Store) (h : ℕ) 
       | inl same ↦ subst (λ j. TiedAt medium v.file j (held_at w j) (block_at s (vm_slot j))) (sym same)
           (subst (λ o. TiedAt medium v.file h o (block_at s (vm_slot h))) (sym own)
           (with-mark h (block_at s (vm_slot h)) there (subst (λ o. TiedAt medium v.file h o (block_at s (vm_slot h))) listed (tied.each h q))))
-      | inr other ↦ subst (λ o. TiedAt medium v.file k o (block_at s (vm_slot k))) (sym (held-other v.entries h k (Some (marked e)) other)) (tied.each k p)
+      | inr other ↦ subst (λ o. TiedAt medium v.file k o (block_at s (vm_slot k))) (sym (held-other v.entries h k (Some (marked e)) other))
+          (tied.each k p)
     ];
   }
 
 -- a block that was brought and is locked then is locked once more
-pub locks-more : (old mid new : Store) (h : ℕ) → IsLaidOut mid → Brought old mid h → new ≡ with_locks mid (vm_slot h) (locks_of mid (vm_slot h) + 1) → LockedMore old new h
+pub locks-more : (old mid new : Store) (h : ℕ) → IsLaidOut mid → Brought old mid h
+    → new ≡ with_locks mid (vm_slot h) (locks_of mid (vm_slot h) + 1) → LockedMore old new h
 locks-more old mid new h laid brought is =
     let small : vm_slot h < length mid.blocks = omega (arith, there_small mid (vm_slot h) laid brought.there, laid.slots) in
     let b = some-block (block_at mid (vm_slot h)) brought.there in
     let n : ℕ = locks_of mid (vm_slot h) + 1 in
-    let at_h : block_at new (vm_slot h) ≡ Some (record { locks = n; bytes = bytes_of mid (vm_slot h) }) = ap (λ u. block_at u (vm_slot h)) is ∙ with_locks-same mid (vm_slot h) n small in
+    let at_h : block_at new (vm_slot h) ≡ Some (record { locks = n; bytes = bytes_of mid (vm_slot h) }) = ap (λ u. block_at u (vm_slot h)) is
+    ∙ with_locks-same mid (vm_slot h) n small in
     record {
       there = subst IsBlock (sym at_h) tt;
       locks = ap locks_in at_h ∙ ap (λ k. k + 1) brought.locks;
@@ -99,14 +106,17 @@ locks-more old mid new h laid brought is =
     }
 
 -- a block whose count is not full is locked once more
-pub locked-more : (old new : Store) (slot : ℕ) (r : Result (Unit {0}) HandleError) → OnOk r (new ≡ with_lock_more old slot) → ((r ≡ Err BadHandle) ↔ (IsThere old slot → ⊥)) → ((r ≡ Err Locked) ↔ (locks_of old slot ≡ 65535))
+pub locked-more : (old new : Store) (slot : ℕ) (r : Result (Unit {0}) HandleError) → OnOk r (new ≡ with_lock_more old slot)
+    → ((r ≡ Err BadHandle) ↔ (IsThere old slot → ⊥)) → ((r ≡ Err Locked) ↔ (locks_of old slot ≡ 65535))
     → IsThere old slot → locks_of old slot ≢ 65535 → new ≡ with_locks old slot (locks_of old slot + 1)
 locked-more old new slot (Ok done) ok bad full there some = ok
 locked-more old new slot (Err BadHandle) ok bad full there some = absurd (bad.0 refl there)
 locked-more old new slot (Err Locked) ok bad full there some = absurd (some (full.0 refl))
 
 -- another count keeps the others
-pub keeps-locked : {D : Type 0} (v : VmState D) (a b c : Store) (h n : ℕ) → Keeps v a b h → IsThere b (vm_slot h) → c ≡ with_locks b (vm_slot h) n → Keeps v a c h
+pub keeps-locked : {D : Type 0} (v : VmState D) (a b c : Store) (h n : ℕ) → Keeps v a b h → IsThere b (vm_slot h)
+    → c ≡ with_locks b (vm_slot h) n → Keeps v a c h
 keeps-locked {D} v a b c h n keeps there is =
-    keeps-more v a b c h keeps (λ slot ne. ap (λ u. block_at u slot) is ∙ with_locks-other b (vm_slot h) n slot ne) (λ slot ne. ap (λ u. place_of u slot) is) (subst IsLaidOut (sym is) (laid-with_locks b keeps.laid (vm_slot h) there n))
+    keeps-more v a b c h keeps (λ slot ne. ap (λ u. block_at u slot) is ∙ with_locks-other b (vm_slot h) n slot ne)
+    (λ slot ne. ap (λ u. place_of u slot) is) (subst IsLaidOut (sym is) (laid-with_locks b keeps.laid (vm_slot h) there n))
     (ap (λ (u : Store). u.len) is)

@@ -24,7 +24,8 @@ use Rattle.vm_blocks.specs.Listed.{resident_of, len_now, entries_in, entries_of,
 use Rattle.vm_blocks.proofs.Mapping.{find-any, or-true}
 
 is-size : (n : ℕ) → IsBlockSize n → is_block_size n ≡ true
-is-size n s = and-true (leb 64 n && leb n 65520) (eqb (n % 16) 0) (and-true (leb 64 n) (leb n 65520) (le-leb 64 n s.0) (le-leb n 65520 s.1)) (eq-eqb (n % 16) 0 s.2)
+is-size n s = and-true (leb 64 n && leb n 65520) (eqb (n % 16) 0) (and-true (leb 64 n) (leb n 65520) (le-leb 64 n s.0) (le-leb n 65520 s.1))
+    (eq-eqb (n % 16) 0 s.2)
 
 -- a handle under which something is held is one
 pub some-held : (es : List (Option Held)) (h : ℕ) (P : Held → Type 0) → length es ≡ 1024 → IsSomeAnd (at_handle None es h) P → IsHandle h
@@ -35,11 +36,13 @@ some-held es (suc h) P long some = elim (cases_lt h 1024) [
 ]
 
 module _ {D : Type 0} (v : VmState D) (s : Store) where
-  found-front : (k h : ℕ) (o : Option Held) (b : Option Block) (rest : List Entry) → k ≢ h → find (λ e. eqb e.h h) (entries_in k o b ++ rest) ≡ find (λ e. eqb e.h h) rest
+  found-front : (k h : ℕ) (o : Option Held) (b : Option Block) (rest : List Entry) → k ≢ h
+      → find (λ e. eqb e.h h) (entries_in k o b ++ rest) ≡ find (λ e. eqb e.h h) rest
   found-front k h None b rest ne = refl
   found-front k h (Some e) b rest ne = rw (ne_eqb k h ne) refl
 
-  found-here : (h : ℕ) (e : Held) (b : Option Block) (rest : List Entry) → find (λ x. eqb x.h h) (entries_in h (Some e) b ++ rest) ≡ Some (record { h = h; uid = e.uid; len = len_now e b })
+  found-here : (h : ℕ) (e : Held) (b : Option Block) (rest : List Entry)
+      → find (λ x. eqb x.h h) (entries_in h (Some e) b ++ rest) ≡ Some (record { h = h; uid = e.uid; len = len_now e b })
   found-here h e b rest = rw (eq-eqb h h refl) refl
 
   -- what a directory lists of what is held
@@ -49,28 +52,37 @@ module _ {D : Type 0} (v : VmState D) (s : Store) where
 
   found-none : (a n h : ℕ) → h < a → find (λ x. eqb x.h h) (flat_map (entries_of v s) (range_with_len a n)) ≡ None
   found-none a zero h low = refl
-  found-none a (suc n) h low = found-front a h (held_at v a) (block_at s (vm_slot a)) (flat_map (entries_of v s) (range_with_len (a + 1) n)) (λ e. omega (arith, e, low)) ∙ found-none (a + 1) n h (omega (arith, low))
+  found-none a (suc n) h low = found-front a h (held_at v a) (block_at s (vm_slot a)) (flat_map (entries_of v s) (range_with_len (a + 1) n))
+      (λ e. omega (arith, e, low)) ∙ found-none (a + 1) n h (omega (arith, low))
 
-  found-at : (a n h : ℕ) (o : Option Held) → held_at v a ≡ o → a ≡ h → find (λ x. eqb x.h h) (entries_in a o (block_at s (vm_slot a)) ++ flat_map (entries_of v s) (range_with_len (a + 1) n)) ≡ entry_for h o (block_at s (vm_slot h))
+  found-at : (a n h : ℕ) (o : Option Held) → held_at v a ≡ o → a ≡ h
+      → find (λ x. eqb x.h h) (entries_in a o (block_at s (vm_slot a)) ++ flat_map (entries_of v s) (range_with_len (a + 1) n)) ≡ entry_for h o
+      (block_at s (vm_slot h))
   found-at a n h None is same = found-none (a + 1) n h (omega (arith, same))
-  found-at a n h (Some e) is same = subst (λ k. find (λ x. eqb x.h k) (entries_in a (Some e) (block_at s (vm_slot a)) ++ flat_map (entries_of v s) (range_with_len (a + 1) n)) ≡ entry_for k (Some e) (block_at s (vm_slot k))) same
+  found-at a n h (Some e) is same =
+      subst (λ k. find (λ x. eqb x.h k) (entries_in a (Some e) (block_at s (vm_slot a)) ++ flat_map (entries_of v s)
+      (range_with_len (a + 1) n)) ≡ entry_for k (Some e) (block_at s (vm_slot k))) same
       (found-here a e (block_at s (vm_slot a)) (flat_map (entries_of v s) (range_with_len (a + 1) n)))
 
-  found-from : (a n h : ℕ) → a ≤ h → h < a + n → find (λ x. eqb x.h h) (flat_map (entries_of v s) (range_with_len a n)) ≡ entry_for h (held_at v h) (block_at s (vm_slot h))
+  found-from : (a n h : ℕ) → a ≤ h → h < a + n → find (λ x. eqb x.h h) (flat_map (entries_of v s) (range_with_len a n)) ≡ entry_for h
+      (held_at v h) (block_at s (vm_slot h))
   found-from a zero h low high = absurd (omega (arith, low, high))
   found-from a (suc n) h low high = elim (cases_eq a h) [
     | inl same ↦ found-at a n h (held_at v a) refl same ∙ ap (λ k. entry_for h (held_at v k) (block_at s (vm_slot h))) same
-    | inr ne ↦ found-front a h (held_at v a) (block_at s (vm_slot a)) (flat_map (entries_of v s) (range_with_len (a + 1) n)) ne ∙ found-from (a + 1) n h (omega (arith, low, ne)) (omega (arith, high))
+    | inr ne ↦ found-front a h (held_at v a) (block_at s (vm_slot a)) (flat_map (entries_of v s) (range_with_len (a + 1) n)) ne
+        ∙ found-from (a + 1) n h (omega (arith, low, ne)) (omega (arith, high))
   ]
 
   pub found : (h : ℕ) → IsHandle h → find (λ x. eqb x.h h) (entries_to v s 1024) ≡ entry_for h (held_at v h) (block_at s (vm_slot h))
   found h p = found-from 1 1024 h p.0 (omega (arith, p.1))
 
-  pub found-some : (h : ℕ) (e : Held) → IsHandle h → held_at v h ≡ Some e → find (λ x. eqb x.h h) (entries_to v s 1024) ≡ Some (record { h = h; uid = e.uid; len = len_now e (block_at s (vm_slot h)) })
+  pub found-some : (h : ℕ) (e : Held) → IsHandle h → held_at v h ≡ Some e
+      → find (λ x. eqb x.h h) (entries_to v s 1024) ≡ Some (record { h = h; uid = e.uid; len = len_now e (block_at s (vm_slot h)) })
   found-some h e p is = found h p ∙ ap (λ o. entry_for h o (block_at s (vm_slot h))) is
 
   -- what the current directory lists under a handle, as it is held after a commit
-  pub listed-held : (h : ℕ) → IsHandle h → held_in (directory_of v s) h ≡ option_map (λ e. cleaned (len_now e (block_at s (vm_slot h))) e) (held_at v h)
+  pub listed-held : (h : ℕ) → IsHandle h → held_in (directory_of v s) h ≡ option_map (λ e. cleaned (len_now e (block_at s (vm_slot h))) e)
+      (held_at v h)
   listed-held h p = ap (option_map as_held) (found h p) ∙ on (held_at v h) (block_at s (vm_slot h))
     where
       on : (o : Option Held) (b : Option Block) → option_map as_held (entry_for h o b) ≡ option_map (λ e. cleaned (len_now e b) e) o
@@ -82,8 +94,10 @@ module _ {D : Type 0} (v : VmState D) (s : Store) where
   has-held h e p is = rw (found-some h e p is) refl
 
   -- its bytes are those that are in memory, else those that were kept
-  pub bytes-held : (kept : List file.Block) (h : ℕ) (e : Held) → IsHandle h → held_at v h ≡ Some e → bytes_of_block (map (block_from (resident_of s) kept) (entries_to v s 1024)) h ≡ unwrap_or (resident_of s h) (bytes_of_block kept h)
-  bytes-held kept h e p is = bytes_found (resident_of s) kept (entries_to v s 1024) h (record { h = h; uid = e.uid; len = len_now e (block_at s (vm_slot h)) }) (found-some h e p is)
+  pub bytes-held : (kept : List file.Block) (h : ℕ) (e : Held) → IsHandle h → held_at v h ≡ Some e
+      → bytes_of_block (map (block_from (resident_of s) kept) (entries_to v s 1024)) h ≡ unwrap_or (resident_of s h) (bytes_of_block kept h)
+  bytes-held kept h e p is = bytes_found (resident_of s) kept (entries_to v s 1024) h
+      (record { h = h; uid = e.uid; len = len_now e (block_at s (vm_slot h)) }) (found-some h e p is)
 
   module _ (medium : Medium D) (tied : IsTied medium v s) where
     sized : (h : ℕ) (e : Held) (b : Option Block) → block_at s (vm_slot h) ≡ b → TiedAt medium v.file h (Some e) b → IsBlockSize (len_now e b)
@@ -92,21 +106,30 @@ module _ {D : Type 0} (v : VmState D) (s : Store) where
 
     ascend : (a n last : ℕ) → last < a → 1 ≤ a → a + n ≤ 1025 → are_entries last (flat_map (entries_of v s) (range_with_len a n)) ≡ true
     ascend a zero last low some high = refl
-    ascend a (suc n) last low some high = on (held_at v a) (tied.each a (some, omega (arith, high))) (ascend (a + 1) n a (omega arith) (omega arith) (omega (arith, high))) (ascend (a + 1) n last (omega (arith, low)) (omega arith) (omega (arith, high)))
+    ascend a (suc n) last low some high = on (held_at v a) (tied.each a (some, omega (arith, high)))
+        (ascend (a + 1) n a (omega arith) (omega arith) (omega (arith, high)))
+        (ascend (a + 1) n last (omega (arith, low)) (omega arith) (omega (arith, high)))
       where
-        on : (o : Option Held) → TiedAt medium v.file a o (block_at s (vm_slot a)) → are_entries a (flat_map (entries_of v s) (range_with_len (a + 1) n)) ≡ true → are_entries last (flat_map (entries_of v s) (range_with_len (a + 1) n)) ≡ true
+        on : (o : Option Held) → TiedAt medium v.file a o (block_at s (vm_slot a))
+            → are_entries a (flat_map (entries_of v s) (range_with_len (a + 1) n)) ≡ true
+            → are_entries last (flat_map (entries_of v s) (range_with_len (a + 1) n)) ≡ true
             → are_entries last (entries_in a o (block_at s (vm_slot a)) ++ flat_map (entries_of v s) (range_with_len (a + 1) n)) ≡ true
         on None t behind more = more
         on (Some e) t behind more =
-            and-true (is_entry last (record { h = a; uid = e.uid; len = len_now e (block_at s (vm_slot a)) })) (are_entries a (flat_map (entries_of v s) (range_with_len (a + 1) n)))
-            (and-true (ltb last a && leb a 1024) (is_block_size (len_now e (block_at s (vm_slot a)))) (and-true (ltb last a) (leb a 1024) (lt-ltb last a low) (le-leb a 1024 (omega (arith, high)))) (is-size _ (sized a e (block_at s (vm_slot a)) refl t))) behind
+            and-true (is_entry last (record { h = a; uid = e.uid; len = len_now e (block_at s (vm_slot a)) }))
+            (are_entries a (flat_map (entries_of v s) (range_with_len (a + 1) n)))
+            (and-true (ltb last a && leb a 1024) (is_block_size (len_now e (block_at s (vm_slot a))))
+            (and-true (ltb last a) (leb a 1024) (lt-ltb last a low) (le-leb a 1024 (omega (arith, high))))
+            (is-size _ (sized a e (block_at s (vm_slot a)) refl t))) behind
 
-    any-held : (p : Entry → Bool) (P : Held → Type 0) (h : ℕ) → ((e : Held) (len : ℕ) → P e → p (record { h = h; uid = e.uid; len = len }) ≡ true) → IsSomeAnd (held_at v h) P → list_any (λ e. eqb e.h h && p e) (entries_to v s 1024) ≡ true
+    any-held : (p : Entry → Bool) (P : Held → Type 0) (h : ℕ) → ((e : Held) (len : ℕ) → P e → p (record { h = h; uid = e.uid; len = len }) ≡ true)
+        → IsSomeAnd (held_at v h) P → list_any (λ e. eqb e.h h && p e) (entries_to v s 1024) ≡ true
     any-held p P h f some = on (held_at v h) refl some
       where
         on : (o : Option Held) → held_at v h ≡ o → IsSomeAnd o P → list_any (λ e. eqb e.h h && p e) (entries_to v s 1024) ≡ true
         on None is x = absurd x
-        on (Some e) is x = find-any p (entries_to v s 1024) h (record { h = h; uid = e.uid; len = len_now e (block_at s (vm_slot h)) }) (found-some h e (some-held v.entries h P tied.long some) is) (f e (len_now e (block_at s (vm_slot h))) x)
+        on (Some e) is x = find-any p (entries_to v s 1024) h (record { h = h; uid = e.uid; len = len_now e (block_at s (vm_slot h)) })
+            (found-some h e (some-held v.entries h P tied.long some) is) (f e (len_now e (block_at s (vm_slot h))) x)
 
     or-first : (a b : Bool) → a ≡ true → (a || b) ≡ true
     or-first true b t = refl
@@ -118,11 +141,14 @@ module _ {D : Type 0} (v : VmState D) (s : Store) where
       maps = (
         elim (cases_eq v.map_block 0) [
           | inl z ↦ or-first (eqb v.map_block 0) (has_block (entries_to v s 1024) v.map_block) (eq-eqb v.map_block 0 z)
-          | inr some ↦ or-true (eqb v.map_block 0) (has_block (entries_to v s 1024) v.map_block) (any-held (λ e. not (eqb e.uid 65280)) (λ e. e.uid ≢ 65280) v.map_block (λ e len ne. ap not (ne_eqb e.uid 65280 ne)) (tied.maps.block some))
+          | inr some ↦ or-true (eqb v.map_block 0) (has_block (entries_to v s 1024) v.map_block)
+              (any-held (λ e. not (eqb e.uid 65280)) (λ e. e.uid ≢ 65280) v.map_block (λ e len ne. ap not (ne_eqb e.uid 65280 ne))
+              (tied.maps.block some))
         ],
         elim (cases_eq v.map_item.0 0) [
           | inl z ↦ or-first (eqb v.map_item.0 0) (has_group (entries_to v s 1024) v.map_item.0) (eq-eqb v.map_item.0 0 z)
-          | inr some ↦ or-true (eqb v.map_item.0 0) (has_group (entries_to v s 1024) v.map_item.0) (any-held (λ e. eqb e.uid 65280) (λ e. e.uid ≡ 65280) v.map_item.0 (λ e len same. eq-eqb e.uid 65280 same) (tied.maps.group some))
+          | inr some ↦ or-true (eqb v.map_item.0 0) (has_group (entries_to v s 1024) v.map_item.0)
+              (any-held (λ e. eqb e.uid 65280) (λ e. e.uid ≡ 65280) v.map_item.0 (λ e len same. eq-eqb e.uid 65280 same) (tied.maps.group some))
         ],
         elim (cases_eq v.map_item.0 0) [
           | inl z ↦ or-true (not (eqb v.map_item.0 0)) (eqb v.map_item.1 0) (eq-eqb v.map_item.1 0 (tied.maps.no_item z))

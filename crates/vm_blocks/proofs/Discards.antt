@@ -14,8 +14,10 @@ use Rattle.vm_blocks.specs.Room.{Thins, is_idle, there_count}
 use Rattle.vm_blocks.proofs.Slots.{idle, freed, count-gone}
 use Rattle.vm_blocks.proofs.Thinning.{thins-one}
 
-module _ {D : Type 0} (v : VmState D) (old new : Store) (h : ℕ) (name : Name) (r : Result (Unit {0}) HandleError) (e : name ≡ vm h) (i : is_idle v old h ≡ true) where
-  pub discarded : OnOk r (new ≡ without old (slot_of name)) → ((r ≡ Err BadHandle) ↔ (IsThere old (slot_of name) → ⊥)) → ((r ≡ Err Locked) ↔ (0 < locks_of old (slot_of name))) → new ≡ without old (vm_slot h)
+module _ {D : Type 0} (v : VmState D) (old new : Store) (h : ℕ) (name : Name) (r : Result (Unit {0}) HandleError)
+    (e : name ≡ vm h) (i : is_idle v old h ≡ true) where
+  pub discarded : OnOk r (new ≡ without old (slot_of name)) → ((r ≡ Err BadHandle) ↔ (IsThere old (slot_of name) → ⊥))
+      → ((r ≡ Err Locked) ↔ (0 < locks_of old (slot_of name))) → new ≡ without old (vm_slot h)
   discarded ok bad locked =
       let d = idle (held_at v h) (block_at old (vm_slot h)) i in
       let slot : vm_slot h ≡ slot_of name = ap slot_of (sym e) in

@@ -34,19 +34,32 @@ without-drops s h there =
 
 -- what is not there is gone as it is
 pub absent-drops : (s : Store) (h : ℕ) → (IsThere s (vm_slot h) → ⊥) → Drops s s h
-absent-drops s h absent = record { gone = no-block (block_at s (vm_slot h)) absent; others = λ j ne. refl; places = λ j ne. refl; laid = λ laid. laid; len = refl }
+absent-drops s h absent = record {
+  gone = no-block (block_at s (vm_slot h)) absent;
+  others = λ j ne. refl;
+  places =
+      λ j ne. refl;
+  laid = λ laid. laid;
+  len = refl;
+}
 
 -- freed where it is there, and not locked
-pub free-drops : (old new : Store) (h : ℕ) (name : Name) (r : Result (Unit {0}) HandleError) → name ≡ vm h → OnOk r (IsThere old (slot_of name)) → OnOk r (new ≡ without old (slot_of name))
-    → ((r ≡ Err BadHandle) ↔ (IsThere old (slot_of name) → ⊥)) → ((r ≡ Err Locked) ↔ (0 < locks_of old (slot_of name))) → OnErr r (new ≡ old) → locks_of old (vm_slot h) ≡ 0 → Drops old new h
+pub free-drops : (old new : Store) (h : ℕ) (name : Name) (r : Result (Unit {0}) HandleError) → name ≡ vm h
+    → OnOk r (IsThere old (slot_of name)) → OnOk r (new ≡ without old (slot_of name))
+    → ((r ≡ Err BadHandle) ↔ (IsThere old (slot_of name) → ⊥)) → ((r ≡ Err Locked) ↔ (0 < locks_of old (slot_of name)))
+    → OnErr r (new ≡ old) → locks_of old (vm_slot h) ≡ 0 → Drops old new h
 free-drops old new h name r is there ok bad full err none = on r there ok bad.0 full.0 err
   where
     slot : slot_of name ≡ vm_slot h
     slot = ap slot_of is
 
-    on : (q : Result (Unit {0}) HandleError) → OnOk q (IsThere old (slot_of name)) → OnOk q (new ≡ without old (slot_of name)) → (q ≡ Err BadHandle → IsThere old (slot_of name) → ⊥) → (q ≡ Err Locked → 0 < locks_of old (slot_of name)) → OnErr q (new ≡ old) → Drops old new h
-    on (Ok done) there ok bad full err = subst (λ t. Drops old t h) (sym (ok ∙ ap (without old) slot)) (without-drops old h (subst (IsThere old) slot there))
-    on (Err BadHandle) there ok bad full err = subst (λ t. Drops old t h) (sym err) (absent-drops old h (λ t. bad refl (subst (IsThere old) (sym slot) t)))
+    on : (q : Result (Unit {0}) HandleError) → OnOk q (IsThere old (slot_of name)) → OnOk q (new ≡ without old (slot_of name))
+        → (q ≡ Err BadHandle → IsThere old (slot_of name) → ⊥) → (q ≡ Err Locked → 0 < locks_of old (slot_of name))
+        → OnErr q (new ≡ old) → Drops old new h
+    on (Ok done) there ok bad full err = subst (λ t. Drops old t h) (sym (ok ∙ ap (without old) slot))
+        (without-drops old h (subst (IsThere old) slot there))
+    on (Err BadHandle) there ok bad full err = subst (λ t. Drops old t h) (sym err)
+        (absent-drops old h (λ t. bad refl (subst (IsThere old) (sym slot) t)))
     on (Err Locked) there ok bad full err = absurd (let some = full refl in let same = ap (locks_of old) slot in omega (arith, some, same, none))
 
 -- the blocks of handles below one are gone, and every other block is as it was
@@ -71,4 +84,5 @@ drops-more a b c n q first later = record {
 
 -- a block that is not yet gone is locked as often as it was
 pub still-free : (old now : Store) (n : ℕ) → IsHandle n → NoneLocked old → DropsTo old now n → locks_of now (vm_slot n) ≡ 0
-still-free old now n q free drops = ap locks_in (drops.others (vm_slot n) (λ h p less e. let same = slot-one n h q p e in omega (arith, same, less))) ∙ free n q
+still-free old now n q free drops = ap locks_in (drops.others (vm_slot n) (λ h p less e. let same = slot-one n h q p e in omega (arith, same, less)))
+    ∙ free n q

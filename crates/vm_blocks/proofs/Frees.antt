@@ -40,11 +40,13 @@ module _ {D : Type 0} (v : VmState D) (h : ℕ) where
   maps-less maps = record {
     block = λ some. elim (cases_eq v.map_block h) [
       | inl same ↦ absurd (some (block-gone same))
-      | inr ne ↦ subst (λ k. IsSomeAnd (held_at w k) (λ e. e.uid ≢ 65280)) (sym (block-left ne)) (one-left (λ e. e.uid ≢ 65280) v.map_block ne (maps.block (λ z. some (block-left ne ∙ z))))
+      | inr ne ↦ subst (λ k. IsSomeAnd (held_at w k) (λ e. e.uid ≢ 65280)) (sym (block-left ne))
+          (one-left (λ e. e.uid ≢ 65280) v.map_block ne (maps.block (λ z. some (block-left ne ∙ z))))
     ];
     group = λ some. elim (cases_eq v.map_item.0 h) [
       | inl same ↦ absurd (some (ap (λ p. p.0) (item-gone same)))
-      | inr ne ↦ subst (λ k. IsSomeAnd (held_at w k) (λ e. e.uid ≡ 65280)) (sym (ap (λ p. p.0) (item-left ne))) (one-left (λ e. e.uid ≡ 65280) v.map_item.0 ne (maps.group (λ z. some (ap (λ p. p.0) (item-left ne) ∙ z))))
+      | inr ne ↦ subst (λ k. IsSomeAnd (held_at w k) (λ e. e.uid ≡ 65280)) (sym (ap (λ p. p.0) (item-left ne)))
+          (one-left (λ e. e.uid ≡ 65280) v.map_item.0 ne (maps.group (λ z. some (ap (λ p. p.0) (item-left ne) ∙ z))))
     ];
     no_item = λ z. elim (cases_eq v.map_item.0 h) [
       | inl same ↦ ap (λ p. p.1) (item-gone same)
@@ -53,7 +55,8 @@ module _ {D : Type 0} (v : VmState D) (h : ℕ) where
   }
 
 -- without a block the others are tied
-pub freed-tied : {D : Type 0} (medium : Medium D) (v : VmState D) (s t : Store) (h : ℕ) → IsHandle h → IsTied medium v s → Drops s t h → IsTied medium (without_held v h) t
+pub freed-tied : {D : Type 0} (medium : Medium D) (v : VmState D) (s t : Store) (h : ℕ) → IsHandle h → IsTied medium v s
+    → Drops s t h → IsTied medium (without_held v h) t
 freed-tied medium v s t h q tied drops = record {
   laid = drops.laid tied.laid;
   long = length-with v.entries h None ∙ tied.long;

@@ -65,7 +65,8 @@ nothing-at (suc k) = refl
 
 -- The block that came
 
-module _ (good : Type 0) (read : List ℕ) (e : Held) (l : VmBlock) (away : IsAway good read e l) (clean : e.marked ≡ false) (bytes : List ℕ) (long : length bytes ≡ e.len) (legal : IsLegalHeap (heap_in bytes)) where
+module _ (good : Type 0) (read : List ℕ) (e : Held) (l : VmBlock) (away : IsAway good read e l) (clean : e.marked ≡ false)
+    (bytes : List ℕ) (long : length bytes ≡ e.len) (legal : IsLegalHeap (heap_in bytes)) where
   -- what it is in memory
   abbrev came : VmBlock
   came = record { uid = e.uid; marked = e.marked; block = spelled 0 bytes }
@@ -73,26 +74,37 @@ module _ (good : Type 0) (read : List ℕ) (e : Held) (l : VmBlock) (away : IsAw
   holds : (not (is_held l) && can_hold l.block.heap.size (chunks bytes)) ≡ true
   holds =
       let size : length bytes ≡ l.block.heap.size = long ∙ sym away.heap.size in
-      let room : can_hold l.block.heap.size (chunks bytes) ≡ true = subst (λ n. can_hold n (chunks bytes) ≡ true) size (can-hold (heap_in bytes) legal) in
+      let room : can_hold l.block.heap.size (chunks bytes) ≡ true = subst (λ n. can_hold n (chunks bytes) ≡ true) size
+      (can-hold (heap_in bytes) legal) in
       rw (away.marked, away.locks, room) refl
 
   -- given its chunks, the block that is listed becomes that
   given-came : given_chunks (chunks bytes) l ≡ came
   given-came =
-      let uid = away.uid in let marked : l.marked ≡ e.marked = away.marked ∙ sym clean in let locks = away.locks in
+      let uid = away.uid in
+      let marked : l.marked ≡ e.marked = away.marked ∙ sym clean in
+      let locks = away.locks in
       let size : l.block.heap.size ≡ length bytes = away.heap.size ∙ sym long in
-      rw holds (λ k. record { uid = uid k; marked = marked k; block = record { locks = locks k; heap = record { chunks = chunks bytes; size = size k } } })
+      rw holds (λ k. record {
+        uid = uid k;
+        marked = marked k;
+        block =
+            record { locks = locks k; heap = record { chunks = chunks bytes; size = size k } };
+      })
 
   -- it is that where it holds the same chunks
   came-same : l.block.heap.chunks ≡ chunks bytes → l ≡ came
   came-same same =
-      let uid = away.uid in let marked : l.marked ≡ e.marked = away.marked ∙ sym clean in let locks = away.locks in
+      let uid = away.uid in
+      let marked : l.marked ≡ e.marked = away.marked ∙ sym clean in
+      let locks = away.locks in
       let size : l.block.heap.size ≡ length bytes = away.heap.size ∙ sym long in
       λ k. record { uid = uid k; marked = marked k; block = record { locks = locks k; heap = record { chunks = same k; size = size k } } }
 
   -- on an honest device it does
   honest-same : (good → bytes ≡ read) → good → l.block.heap.chunks ≡ chunks bytes
-  honest-same same g = ap (λ (x : model.Heap). x.chunks) (away.heap.same g ∙ ap (heap_read e.len) (sym (same g)) ∙ read-spelled e.len bytes long legal)
+  honest-same same g = ap (λ (x : model.Heap). x.chunks) (away.heap.same g ∙ ap (heap_read e.len) (sym (same g))
+      ∙ read-spelled e.len bytes long legal)
 
   -- what is given, so that it becomes that: nothing for another block
   pub record Gift (h : ℕ) : Type 0 where
@@ -124,10 +136,12 @@ module _ (good : Type 0) (read : List ℕ) (e : Held) (l : VmBlock) (away : IsAw
 abbrev pub given_file : List (Option (List (Option (List ℕ)))) → VmFile → VmFile
 given_file given f = record f { cur = record f.cur { blocks = given_entries given f.cur.blocks } }
 
-module _ {D : Type 0} (medium : Medium D) (v : VmState D) (s t : Store) (h : ℕ) (p : IsHandle h) (f : VmFile) (tied : IsTied medium v s) (keeps : Keeps v s t h) (is : IsFileOf medium.image medium.honest v s f) where
+module _ {D : Type 0} (medium : Medium D) (v : VmState D) (s t : Store) (h : ℕ) (p : IsHandle h) (f : VmFile)
+    (tied : IsTied medium v s) (keeps : Keeps v s t h) (is : IsFileOf medium.image medium.honest v s f) where
   -- the file with something given for one block, which then matches
   pub file-given : (given : List (Option (List (Option (List ℕ))))) → ((k : ℕ) → k ≢ h → at_handle None given k ≡ None)
-      → IsListedIn medium v t h (given_entry (at_handle None given h) (at_handle None f.cur.blocks h)) → IsFileOf medium.image medium.honest v t (given_file given f)
+      → IsListedIn medium v t h (given_entry (at_handle None given h) (at_handle None f.cur.blocks h))
+      → IsFileOf medium.image medium.honest v t (given_file given f)
   file-given given others own =
       let legal = directory-given given f.cur is.legal.cur in
       let cur : IsCurrentOf medium.image medium.honest v t (record f.cur { blocks = given_entries given f.cur.blocks }) = record {
@@ -154,27 +168,35 @@ module _ {D : Type 0} (medium : Medium D) (v : VmState D) (s t : Store) (h : ℕ
   gives-nothing same = record {
     given = [];
     nothing = λ g. refl;
-    file = file-given [] (λ k ne. nothing-at k) (subst (λ g. IsListedIn medium v t h (given_entry g (at_handle None f.cur.blocks h))) (sym (nothing-at h))
-        (subst (λ b. IsListedAs (medium.honest v.file.device) (bytes_read medium.image v.file h) (held_at v h) b (at_handle None f.cur.blocks h)) (sym same) (is.cur.each h p)));
+    file = file-given [] (λ k ne. nothing-at k)
+        (subst (λ g. IsListedIn medium v t h (given_entry g (at_handle None f.cur.blocks h))) (sym (nothing-at h))
+        (subst (λ b. IsListedAs (medium.honest v.file.device) (bytes_read medium.image v.file h) (held_at v h) b (at_handle None f.cur.blocks h))
+        (sym same) (is.cur.each h p)));
   }
 
   -- the chunks of a block that came
   module _ (e : Held) (listed : held_at v h ≡ Some e) (absent : block_at s (vm_slot h) ≡ None) (clean : e.marked ≡ false) (bytes : List ℕ)
-      (there : block_at t (vm_slot h) ≡ Some (let b : Block = record { locks = 0; bytes = bytes } in b)) (long : length bytes ≡ e.len) (legal : IsLegalHeap (heap_in bytes)) (same : medium.honest v.file.device → bytes ≡ bytes_read medium.image v.file h) where
+      (there : block_at t (vm_slot h) ≡ Some (let b : Block = record { locks = 0; bytes = bytes } in b))
+      (long : length bytes ≡ e.len) (legal : IsLegalHeap (heap_in bytes)) (same : medium.honest v.file.device
+      → bytes ≡ bytes_read medium.image v.file h) where
     -- what is listed in the model was away
-    on : (o : Option VmBlock) → at_handle None f.cur.blocks h ≡ o → IsListedAs (medium.honest v.file.device) (bytes_read medium.image v.file h) (Some e) None o → GivesFile
+    on : (o : Option VmBlock) → at_handle None f.cur.blocks h ≡ o → IsListedAs (medium.honest v.file.device)
+        (bytes_read medium.image v.file h) (Some e) None o → GivesFile
     on None at away = absurd away
     on (Some l) at away =
         let g = gift-is (medium.honest v.file.device) (bytes_read medium.image v.file h) e l away clean bytes long legal h p same in
         let own : IsListedIn medium v t h (given_entry (at_handle None g.given h) (at_handle None f.cur.blocks h)) =
         subst (λ x. IsListedIn medium v t h (given_entry (at_handle None g.given h) x)) (sym at)
-        (subst (λ x. IsListedAs (medium.honest v.file.device) (bytes_read medium.image v.file h) x (block_at t (vm_slot h)) (given_entry (at_handle None g.given h) (Some l))) (sym listed)
-        (subst (λ b. IsListedAs (medium.honest v.file.device) (bytes_read medium.image v.file h) (Some e) b (given_entry (at_handle None g.given h) (Some l))) (sym there) g.own)) in
+        (subst (λ x. IsListedAs (medium.honest v.file.device) (bytes_read medium.image v.file h) x (block_at t (vm_slot h))
+        (given_entry (at_handle None g.given h) (Some l))) (sym listed)
+        (subst (λ b. IsListedAs (medium.honest v.file.device) (bytes_read medium.image v.file h) (Some e) b
+        (given_entry (at_handle None g.given h) (Some l))) (sym there) g.own)) in
         record { given = g.given; nothing = g.nothing; file = file-given g.given g.others own }
 
     pub gives-came : GivesFile
     gives-came =
         let at_h : IsListedAs (medium.honest v.file.device) (bytes_read medium.image v.file h) (Some e) None (at_handle None f.cur.blocks h) =
         subst (λ x. IsListedAs (medium.honest v.file.device) (bytes_read medium.image v.file h) x None (at_handle None f.cur.blocks h)) listed
-        (subst (λ b. IsListedAs (medium.honest v.file.device) (bytes_read medium.image v.file h) (held_at v h) b (at_handle None f.cur.blocks h)) absent (is.cur.each h p)) in
+        (subst (λ b. IsListedAs (medium.honest v.file.device) (bytes_read medium.image v.file h) (held_at v h) b (at_handle None f.cur.blocks h))
+        absent (is.cur.each h p)) in
         on (at_handle None f.cur.blocks h) refl at_h

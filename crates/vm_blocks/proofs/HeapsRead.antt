@@ -19,7 +19,8 @@ use Rattle.vm_blocks.specs.Spelled.{heap_in, heap_read, empty_heap}
 
 tested : {X : Type 0} (test : X → Bool) (P : X → Type 0) → ((x : X) → P x → test x ≡ true) → (xs : List X) → All P xs → list_all test xs ≡ true
 tested test P each [] all = refl
-tested test P each (x ∷ xs) all = and-true (test x) (list_all test xs) (each x (all 0 x (omega arith))) (tested test P each xs (λ k d l. all (suc k) d (omega (arith, l))))
+tested test P each (x ∷ xs) all = and-true (test x) (list_all test xs) (each x (all 0 x (omega arith)))
+    (tested test P each xs (λ k d l. all (suc k) d (omega (arith, l))))
 
 byte-test : (b : ℕ) → b < 256 → is_byte b ≡ true
 byte-test b l = grind (arith, nat_tests)
@@ -37,13 +38,16 @@ same-test n m e = grind (arith, nat_tests)
 -- a block can hold what a legal heap of its size holds
 pub can-hold : (heap : Heap) → IsLegalHeap heap → can_hold heap.size heap.chunks ≡ true
 can-hold heap legal =
-    let cs = heap.chunks in let are = legal.chunks in
-    and-true _ _ (and-true _ _ (and-true _ _ (tested is_chunk IsChunk chunk-test cs are.bytes) (same-test (length cs % 2) 0 are.pairs)) (least-test 2 (length cs) are.some)) (least-test (need cs) heap.size legal.fits)
+    let cs = heap.chunks in
+    let are = legal.chunks in
+    and-true _ _ (and-true _ _ (and-true _ _ (tested is_chunk IsChunk chunk-test cs are.bytes) (same-test (length cs % 2) 0 are.pairs))
+    (least-test 2 (length cs) are.some)) (least-test (need cs) heap.size legal.fits)
 
 -- an empty heap of a legal size is legal
 empty-legal : (size : ℕ) → IsBlockSize size → IsLegalHeap (empty_heap size)
 empty-legal size is =
-    let fits = new_heap-legal.fits in let least = is.0 in
+    let fits = new_heap-legal.fits in
+    let least = is.0 in
     record { chunks = new_heap-legal.chunks; least = is.0; most = is.1; sixteens = is.2; fits = omega (arith, fits, least) }
 
 -- what is read of a block of a legal size is legal
@@ -52,7 +56,8 @@ read-legal size bytes is = on (can_hold size (chunks bytes)) refl
   where
     on : (b : Bool) → can_hold size (chunks bytes) ≡ b → IsLegalHeap (if b then record { chunks = chunks bytes; size = size } else empty_heap size)
     on false e = empty-legal size is
-    on true e = let fits = can_hold-legal size (chunks bytes) e in record { chunks = fits.0; least = is.0; most = is.1; sixteens = is.2; fits = fits.1 }
+    on true e = let fits = can_hold-legal size (chunks bytes) e in
+        record { chunks = fits.0; least = is.0; most = is.1; sixteens = is.2; fits = fits.1 }
 
 pub read-size : (size : ℕ) (bytes : List ℕ) → (heap_read size bytes).size ≡ size
 read-size size bytes = on (can_hold size (chunks bytes))

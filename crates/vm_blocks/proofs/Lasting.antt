@@ -23,9 +23,17 @@ module _ {D : Type 0} (medium : Medium D) (v : VmState D) (s t : Store) (tied : 
   clash : (b : Held) → b.marked ≡ true → b.marked ≡ false → ⊥
   clash b is not = let e : true ≡ false = sym is ∙ not in absurd cc
 
-  marked-tied-at : (h : ℕ) (e : Held) (b : Option Block) (c : Block) → e.marked ≡ true → IsHeap c.bytes → handle_word c.bytes ≡ h → TiedAt medium v.file h (Some e) b → TiedAt medium v.file h (Some e) (Some c)
+  marked-tied-at : (h : ℕ) (e : Held) (b : Option Block) (c : Block) → e.marked ≡ true → IsHeap c.bytes
+      → handle_word c.bytes ≡ h → TiedAt medium v.file h (Some e) b → TiedAt medium v.file h (Some e) (Some c)
   marked-tied-at h e None c is heap word u = absurd (clash e is u.clean)
-  marked-tied-at h e (Some b) c is heap word u = record { size = u.size; heap = heap; handle = word; kept = λ other. absurd (clash e is other); clean = λ other. absurd (clash e is other) }
+  marked-tied-at h e (Some b) c is heap word u = record {
+    size = u.size;
+    heap = heap;
+    handle = word;
+    kept =
+        λ other. absurd (clash e is other);
+    clean = λ other. absurd (clash e is other);
+  }
 
   pub marked-changes : (h : ℕ) → SameBut s t h → IsMarkedHeap v t h → IsTied medium v t
   marked-changes h same own = record {
@@ -35,7 +43,8 @@ module _ {D : Type 0} (medium : Medium D) (v : VmState D) (s t : Store) (tied : 
       | inl here ↦ subst (λ j. TiedAt medium v.file j (held_at v j) (block_at t (vm_slot j))) (sym here)
           (subst (TiedAt medium v.file h (held_at v h)) (sym own.at)
           (subst (λ o. TiedAt medium v.file h o (Some own.block)) (sym own.listed)
-          (marked-tied-at h own.held (block_at s (vm_slot h)) own.block own.marked own.heap own.word (subst (λ o. TiedAt medium v.file h o (block_at s (vm_slot h))) own.listed (tied.each h own.handle)))))
+          (marked-tied-at h own.held (block_at s (vm_slot h)) own.block own.marked own.heap own.word
+          (subst (λ o. TiedAt medium v.file h o (block_at s (vm_slot h))) own.listed (tied.each h own.handle)))))
       | inr other ↦ subst (TiedAt medium v.file k (held_at v k)) (sym (same k p other)) (tied.each k p)
     ];
     maps = tied.maps;

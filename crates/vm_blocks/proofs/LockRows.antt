@@ -49,7 +49,8 @@ locked-there : (o : Option Block) → 0 < locks_in o → IsBlock o
 locked-there None some = absurd (omega (arith, some))
 locked-there (Some b) some = tt
 
-listed-some : {D : Type 0} (medium : Medium D) (x : FileState D) (h : ℕ) (o : Option Held) (b : Option Block) → IsBlock b → TiedAt medium x h o b → (e : Held) × (o ≡ Some e)
+listed-some : {D : Type 0} (medium : Medium D) (x : FileState D) (h : ℕ) (o : Option Held) (b : Option Block)
+    → IsBlock b → TiedAt medium x h o b → (e : Held) × (o ≡ Some e)
 listed-some medium x h None None there t = absurd there
 listed-some medium x h None (Some b) there t = absurd t
 listed-some medium x h (Some e) b there t = (e, refl)
@@ -71,13 +72,15 @@ known medium v s h tied there =
 
 -- How often it is locked
 
-counted : (good : Type 0) (read : List ℕ) (o : Option Held) (b : Option Block) (l : Option VmBlock) → (o ≡ None → b ≡ None) → IsListedAs good read o b l → model.locks_in (option_map (λ (x : VmBlock). x.block) l) ≡ locks_in b
+counted : (good : Type 0) (read : List ℕ) (o : Option Held) (b : Option Block) (l : Option VmBlock) → (o ≡ None → b ≡ None)
+    → IsListedAs good read o b l → model.locks_in (option_map (λ (x : VmBlock). x.block) l) ≡ locks_in b
 counted good read None b l absent is = ap (λ x. model.locks_in (option_map (λ (x : VmBlock). x.block) x)) is ∙ sym (ap locks_in (absent refl))
 counted good read (Some e) (Some b) l absent is = ap (λ x. model.locks_in (option_map (λ (x : VmBlock). x.block) x)) is
 counted good read (Some e) None None absent is = absurd is
 counted good read (Some e) None (Some l) absent is = is.locks
 
-unlisted-absent : {D : Type 0} (medium : Medium D) (x : FileState D) (h : ℕ) (e : Option Held) (b : Option Block) → TiedAt medium x h e b → e ≡ None → b ≡ None
+unlisted-absent : {D : Type 0} (medium : Medium D) (x : FileState D) (h : ℕ) (e : Option Held) (b : Option Block)
+    → TiedAt medium x h e b → e ≡ None → b ≡ None
 unlisted-absent medium x h None None t none = refl
 unlisted-absent medium x h None (Some b) t none = absurd t
 unlisted-absent medium x h (Some e) b t none = absurd cc
@@ -85,13 +88,16 @@ unlisted-absent medium x h (Some e) b t none = absurd cc
 free-or : (n : ℕ) → (n ≡ 0) ⊎ (0 < n)
 free-or n = elim (cases_lt 0 n) [ inl l ↦ inr l | inr l ↦ inl (omega (arith, l)) ]
 
-module _ {D : Type 0} (medium : Medium D) (v : VmState D) (s : Store) (h : ℕ) (tied : IsTied medium v s) (m : Memory) (is : IsMemoryOf medium v s m) where
+module _ {D : Type 0} (medium : Medium D) (v : VmState D) (s : Store) (h : ℕ) (tied : IsTied medium v s) (m : Memory)
+    (is : IsMemoryOf medium v s m) where
   -- the model knows how often
   pub locks-told : memory.locks_of m (vm h) ≡ locks_of s (vm_slot h)
   locks-told = elim (handle-or {X = ℕ} 0 h) [
-    | inl p ↦ counted (medium.honest v.file.device) (bytes_read medium.image v.file h) (held_at v h) (block_at s (vm_slot h)) (listed_at m h) (unlisted-absent medium v.file h (held_at v h) (block_at s (vm_slot h)) (tied.each h p)) (is.file.cur.each h p)
+    | inl p ↦ counted (medium.honest v.file.device) (bytes_read medium.image v.file h) (held_at v h) (block_at s (vm_slot h))
+        (listed_at m h) (unlisted-absent medium v.file h (held_at v h) (block_at s (vm_slot h)) (tied.each h p)) (is.file.cur.each h p)
     | inr past ↦ (
-        let none : memory.locks_of m (vm h) ≡ 0 = ap (λ x. model.locks_in (option_map (λ (x : VmBlock). x.block) x)) (table-past None m.file.cur.blocks h is.file.cur.handles past) in
+        let none : memory.locks_of m (vm h) ≡ 0 = ap (λ x. model.locks_in (option_map (λ (x : VmBlock). x.block) x))
+        (table-past None m.file.cur.blocks h is.file.cur.handles past) in
         none ∙ sym (no-lock past (free-or (locks_of s (vm_slot h))))
         )
   ]
@@ -110,15 +116,26 @@ module _ {D : Type 0} (medium : Medium D) (v : VmState D) (s : Store) (h : ℕ) 
     small = omega (arith, there_small s (vm_slot h) tied.laid there, tied.laid.slots)
 
     keeps : Keeps v s (with_locks s (vm_slot h) n) h
-    keeps = record { each = λ slot ne. inl (with_locks-other s (vm_slot h) n slot ne, λ some. refl); laid = laid-with_locks s tied.laid (vm_slot h) there n; len = refl }
+    keeps = record {
+      each = λ slot ne. inl (with_locks-other s (vm_slot h) n slot ne, λ some. refl);
+      laid =
+          laid-with_locks s tied.laid (vm_slot h) there n;
+      len = refl;
+    }
 
     pub memory-locked : IsMemoryOf medium v (with_locks s (vm_slot h) n) (memory.with_locks m (vm h) n)
     memory-locked =
         let k = known medium v s h tied there in
         let c : Block = record { locks = n; bytes = k.block.bytes } in
-        let now : block_at (with_locks s (vm_slot h) n) (vm_slot h) ≡ Some c = with_locks-same s (vm_slot h) n small ∙ ap (λ o. Some (record { locks = n; bytes = bytes_in o })) k.there in
-        let legal : IsLegalBlock (spelled n k.block.bytes) = record { heap = (own-legal medium v s (with_locks s (vm_slot h) n) m is h k.handle tied keeps k.held k.listed k.block k.there).block.heap; few = few } in
-        memory-changed medium v s (with_locks s (vm_slot h) n) m is h k.handle tied keeps k.held k.listed k.block k.there (locked_block n) c now refl legal
+        let now : block_at (with_locks s (vm_slot h) n) (vm_slot h) ≡ Some c = with_locks-same s (vm_slot h) n small
+        ∙ ap (λ o. Some (record { locks = n; bytes = bytes_in o })) k.there in
+        let legal : IsLegalBlock (spelled n k.block.bytes) =
+        record {
+          heap = (own-legal medium v s (with_locks s (vm_slot h) n) m is h k.handle tied keeps k.held k.listed k.block k.there).block.heap;
+          few = few;
+        } in
+        memory-changed medium v s (with_locks s (vm_slot h) n) m is h k.handle tied keeps k.held k.listed k.block k.there
+        (locked_block n) c now refl legal
 
     pub few-locks : locks_of s (vm_slot h) ≤ 65535
     few-locks =
@@ -139,22 +156,32 @@ module _ {D : Type 0} (medium : Medium D) (v : VmState D) (s : Store) (h : ℕ) 
       let few = few-locks medium v s h tied m is there 0 (omega arith) in
       let told = locks-told medium v s h tied m is in
       let after = memory-locked medium v s h tied m is there n (omega (arith, few)) in
-      let same : memory.with_locks m (vm h) n ≡ memory.with_locks m (vm h) (memory.locks_of m (vm h) - 1) = ap (λ k. memory.with_locks m (vm h) (k - 1)) (sym told) in (
+      let same : memory.with_locks m (vm h) n ≡ memory.with_locks m (vm h) (memory.locks_of m (vm h) - 1) =
+      ap (λ k. memory.with_locks m (vm h) (k - 1)) (sym told) in (
         chosen false false [],
         record { given = λ g. refl; device = λ g t. absurd cc },
         memory.with_locks m (vm h) (memory.locks_of m (vm h) - 1),
-        subst (λ u. IsMemoryOf medium v u (memory.with_locks m (vm h) (memory.locks_of m (vm h) - 1))) (sym is_t) (subst (IsMemoryOf medium v (with_lock_less s (vm_slot h))) same after),
+        subst (λ u. IsMemoryOf medium v u (memory.with_locks m (vm h) (memory.locks_of m (vm h) - 1))) (sym is_t)
+            (subst (IsMemoryOf medium v (with_lock_less s (vm_slot h))) same after),
         refl,
       )
 
-  pub dirty-row : (w : VmState D) → IsThere s (vm_slot h) → w ≡ with_held v h (option_map marked (held_at v h)) → DoesRow medium (vdirty h) (Ok tt) v s w s
+  pub dirty-row : (w : VmState D) → IsThere s (vm_slot h) → w ≡ with_held v h (option_map marked (held_at v h))
+      → DoesRow medium (vdirty h) (Ok tt) v s w s
   dirty-row w there same m is =
       let k = known medium v s h tied there in
       let x : VmState D = with_held v h (option_map marked (held_at v h)) in
       let keeps : Keeps v s s h = record { each = λ slot ne. inl (refl, λ some. refl); laid = tied.laid; len = refl } in
-      let held : held_at x h ≡ Some (record k.held { marked = true }) = table-own None (option_map marked (held_at v h)) v.entries h tied.long k.handle ∙ ap (option_map marked) k.listed in
-      let after = memory-marked medium v s s m is h k.handle tied keeps k.held k.listed k.block k.there x true refl (λ j ne. entry-other None (option_map marked (held_at v h)) v.entries h j ne) refl refl held k.there in
-      (chosen false false [], record { given = λ g. refl; device = λ g t. absurd cc }, memory.with_mark m h true, subst (λ y. IsMemoryOf medium y s (memory.with_mark m h true)) (sym same) after, refl)
+      let held : held_at x h ≡ Some (record k.held { marked = true }) = table-own None (option_map marked (held_at v h))
+      v.entries h tied.long k.handle ∙ ap (option_map marked) k.listed in
+      let after = memory-marked medium v s s m is h k.handle tied keeps k.held k.listed k.block k.there x true
+      refl (λ j ne. entry-other None (option_map marked (held_at v h)) v.entries h j ne) refl refl held k.there in (
+        chosen false false [],
+        record { given = λ g. refl; device = λ g t. absurd cc },
+        memory.with_mark m h true,
+        subst (λ y. IsMemoryOf medium y s (memory.with_mark m h true)) (sym same) after,
+        refl,
+      )
 
 -- Locking
 
@@ -165,7 +192,8 @@ full : (n : ℕ) → n ≡ 65535 → (n == 65535) ≡ true
 full n e = grind (arith, nat_tests, e)
 
 -- a test that does not hold may stand behind the first
-same-tests : (x y : Bool) (a b : Refusal) (rest : List (Bool × Refusal)) → y ≡ false → first_refusal ((x, a) ∷ (y, b) ∷ rest) ≡ first_refusal ((x, a) ∷ rest)
+same-tests : (x y : Bool) (a b : Refusal) (rest : List (Bool × Refusal)) → y ≡ false
+    → first_refusal ((x, a) ∷ (y, b) ∷ rest) ≡ first_refusal ((x, a) ∷ rest)
 same-tests true y a b rest e = refl
 same-tests false true a b rest e = absurd cc
 same-tests false false a b rest e = refl
@@ -183,7 +211,8 @@ come-err : (o : Option Refusal) (m : Memory) (r : Refusal) → (come_to {A = Uni
 come-err None m r e = absurd cc
 come-err (Some x) m r e = cc
 
-module _ {D : Type 0} (medium : Medium D) (v w : VmState D) (s t : Store) (h : ℕ) (now : IsTied medium w t) (few : locks_of t (vm_slot h) ≢ 65535) where
+module _ {D : Type 0} (medium : Medium D) (v w : VmState D) (s t : Store) (h : ℕ) (now : IsTied medium w t)
+    (few : locks_of t (vm_slot h) ≢ 65535) where
   -- the tests of the row are those of bringing the block
   lock-tests : (choice : Choice) (m : Memory) → IsMemoryOf medium w t (given_memory choice.given m)
       → first_refusal (effect_of (lock_listed h) choice m).refusals ≡ first_refusal (effect_of (bring h) choice m).refusals
@@ -204,7 +233,8 @@ module _ {D : Type 0} (medium : Medium D) (v w : VmState D) (s t : Store) (h : �
       (b.0, b.1, n, n_is, ap (λ x. come_to {A = Unit {0}} x (unchanged n) tt (memory.with_locks n (vm h) (memory.locks_of n (vm h) + 1))) came)
 
   -- it was, and is locked once more
-  pub lock-done : (u : Store) → IsThere t (vm_slot h) → u ≡ with_locks t (vm_slot h) (locks_of t (vm_slot h) + 1) → DoesRow medium (bring h) (Ok tt) v s w t → DoesRow medium (lock_listed h) (Ok tt) v s w u
+  pub lock-done : (u : Store) → IsThere t (vm_slot h) → u ≡ with_locks t (vm_slot h) (locks_of t (vm_slot h) + 1)
+      → DoesRow medium (bring h) (Ok tt) v s w t → DoesRow medium (lock_listed h) (Ok tt) v s w u
   lock-done u there is_u row m is =
       let b = row m is in
       let n = given_memory b.0.given m in
@@ -215,11 +245,13 @@ module _ {D : Type 0} (medium : Medium D) (v w : VmState D) (s t : Store) (h : �
       let most = few-locks medium w t h now n n_is there 0 (omega arith) in
       let more : locks_of t (vm_slot h) + 1 ≤ 65535 = omega (arith, most, few) in
       let after = memory-locked medium w t h now n n_is there (locks_of t (vm_slot h) + 1) more in
-      let locks : memory.with_locks n (vm h) (locks_of t (vm_slot h) + 1) ≡ memory.with_locks n (vm h) (memory.locks_of n (vm h) + 1) = ap (λ k. memory.with_locks n (vm h) (k + 1)) (sym (locks-told medium w t h now n n_is)) in (
+      let locks : memory.with_locks n (vm h) (locks_of t (vm_slot h) + 1) ≡ memory.with_locks n (vm h) (memory.locks_of n (vm h) + 1) =
+      ap (λ k. memory.with_locks n (vm h) (k + 1)) (sym (locks-told medium w t h now n n_is)) in (
         b.0,
         b.1,
         memory.with_locks n (vm h) (memory.locks_of n (vm h) + 1),
-        subst (λ x. IsMemoryOf medium w x (memory.with_locks n (vm h) (memory.locks_of n (vm h) + 1))) (sym is_u) (subst (IsMemoryOf medium w (with_locks t (vm_slot h) (locks_of t (vm_slot h) + 1))) locks after),
+        subst (λ x. IsMemoryOf medium w x (memory.with_locks n (vm h) (memory.locks_of n (vm h) + 1))) (sym is_u)
+            (subst (IsMemoryOf medium w (with_locks t (vm_slot h) (locks_of t (vm_slot h) + 1))) locks after),
         ap (λ x. come_to {A = Unit {0}} x (unchanged n) tt (memory.with_locks n (vm h) (memory.locks_of n (vm h) + 1))) none,
       )
 
@@ -230,7 +262,8 @@ lock-full medium v s h tied many m is =
     let there = locked-there (block_at s (vm_slot h)) (omega (arith, many)) in
     let k = known medium v s h tied there in
     let keeps : Keeps v s s h = record { each = λ slot ne. inl (refl, λ some. refl); laid = tied.laid; len = refl } in
-    let listed : is_none (listed_at m h) ≡ false = ap is_none (listed-there medium v s s m is h k.handle tied keeps k.held k.listed k.block k.there) in
+    let listed : is_none (listed_at m h) ≡ false =
+    ap is_none (listed-there medium v s s m is h k.handle tied keeps k.held k.listed k.block k.there) in
     let test : (memory.locks_of m (vm h) == 65535) ≡ true = full (memory.locks_of m (vm h)) (locks-told medium v s h tied m is ∙ many) in
     (chosen false false [], record { given = λ g. refl; device = λ g t. absurd cc }, m, is, rw (listed, test) refl)
 

@@ -20,7 +20,8 @@ use Rattle.vm_blocks.proofs.Told.{uid-some}
 
 -- the tests of rows
 
-a-block : (l : Option VmBlock) → IsSomeAnd (option_map (λ (x : VmBlock). x.uid) l) (λ u. u ≢ group_uid) → (is_none l ≡ false) × ((uid_in l == group_uid) ≡ false)
+a-block : (l : Option VmBlock) → IsSomeAnd (option_map (λ (x : VmBlock). x.uid) l) (λ u. u ≢ group_uid) → (is_none l ≡ false)
+    × ((uid_in l == group_uid) ≡ false)
 a-block None some = absurd some
 a-block (Some l) other = (refl, grind (arith, nat_tests, other))
 
@@ -32,13 +33,24 @@ no-zero : (k : ℕ) → (suc k == 0) ≡ false
 no-zero k = grind (arith, nat_tests)
 
 module _ {D : Type 0} (medium : Medium D) (v : VmState D) (s : Store) (tied : IsTied medium v s) where
-  pub set-map-row : (h : ℕ) → (h ≢ 0 → IsSomeAnd (held_at v h) (λ e. e.uid ≢ group_uid)) → DoesRow medium (vsetmap h) (Ok tt) v s (record v { map_block = h }) s
+  pub set-map-row : (h : ℕ) → (h ≢ 0 → IsSomeAnd (held_at v h) (λ e. e.uid ≢ group_uid))
+      → DoesRow medium (vsetmap h) (Ok tt) v s (record v { map_block = h }) s
   set-map-row h block m is =
-      let cur : Directory VmBlock = record m.file.cur { map_block = h } in let maps = is.file.legal.cur.maps in
-      let listed : h ≢ 0 → IsSomeAnd (option_map (λ (x : VmBlock). x.uid) (listed_at m h)) (λ u. u ≢ group_uid) = (λ some. uid-some medium v s tied m is (λ u. u ≢ group_uid) h (block some)) in
+      let cur : Directory VmBlock = record m.file.cur { map_block = h } in
+      let maps = is.file.legal.cur.maps in
+      let listed : h ≢ 0 → IsSomeAnd (option_map (λ (x : VmBlock). x.uid) (listed_at m h)) (λ u. u ≢ group_uid) =
+      (λ some. uid-some medium v s tied m is (λ u. u ≢ group_uid) h (block some)) in
       let t = tests m h listed in
       let w : VmState D = record v { map_block = h } in
-      let now : IsCurrentOf medium.image medium.honest w s cur = record { handles = is.file.cur.handles; each = is.file.cur.each; map_block = refl; map_group = is.file.cur.map_group; map_item = is.file.cur.map_item } in
+      let now : IsCurrentOf medium.image medium.honest w s cur =
+      record {
+        handles = is.file.cur.handles;
+        each = is.file.cur.each;
+        map_block = refl;
+        map_group =
+            is.file.cur.map_group;
+        map_item = is.file.cur.map_item;
+      } in
       let legal : IsCurrent cur = record {
         handles = is.file.legal.cur.handles;
         blocks = is.file.legal.cur.blocks;
@@ -51,17 +63,22 @@ module _ {D : Type 0} (medium : Medium D) (v : VmState D) (s : Store) (tied : Is
         rw (t.0, t.1) refl,
       )
     where
-      tests : (m : Memory) (k : ℕ) → (k ≢ 0 → IsSomeAnd (option_map (λ (x : VmBlock). x.uid) (listed_at m k)) (λ u. u ≢ group_uid)) → ((not (k == 0) && is_none (listed_at m k)) ≡ false) × (is_group m k ≡ false)
+      tests : (m : Memory) (k : ℕ) → (k ≢ 0 → IsSomeAnd (option_map (λ (x : VmBlock). x.uid) (listed_at m k)) (λ u. u ≢ group_uid))
+          → ((not (k == 0) && is_none (listed_at m k)) ≡ false) × (is_group m k ≡ false)
       tests m zero listed = (refl, refl)
       tests m (suc k) listed = let t = a-block (listed_at m (suc k)) (listed (λ z. omega (arith, z))) in (rw (no-zero k, t.0) refl, t.1)
 
-  pub put-map-item-row : (g i : ℕ) → i < 65536 → (g ≢ 0 → IsSomeAnd (held_at v g) (λ e. e.uid ≡ group_uid)) → (g ≡ 0 → i ≡ 0) → DoesRow medium (isetmap g i) (Ok tt) v s (record v { map_item = (g, i) }) s
+  pub put-map-item-row : (g i : ℕ) → i < 65536 → (g ≢ 0 → IsSomeAnd (held_at v g) (λ e. e.uid ≡ group_uid))
+      → (g ≡ 0 → i ≡ 0) → DoesRow medium (isetmap g i) (Ok tt) v s (record v { map_item = (g, i) }) s
   put-map-item-row g i word group no_item m is =
-      let cur : Directory VmBlock = record m.file.cur { map_group = g; map_item = i } in let maps = is.file.legal.cur.maps in
-      let listed : g ≢ 0 → IsSomeAnd (option_map (λ (x : VmBlock). x.uid) (listed_at m g)) (λ u. u ≡ group_uid) = (λ some. uid-some medium v s tied m is (λ u. u ≡ group_uid) g (group some)) in
+      let cur : Directory VmBlock = record m.file.cur { map_group = g; map_item = i } in
+      let maps = is.file.legal.cur.maps in
+      let listed : g ≢ 0 → IsSomeAnd (option_map (λ (x : VmBlock). x.uid) (listed_at m g)) (λ u. u ≡ group_uid) =
+      (λ some. uid-some medium v s tied m is (λ u. u ≡ group_uid) g (group some)) in
       let t = tests m g listed no_item in
       let w : VmState D = record v { map_item = (g, i) } in
-      let now : IsCurrentOf medium.image medium.honest w s cur = record { handles = is.file.cur.handles; each = is.file.cur.each; map_block = is.file.cur.map_block; map_group = refl; map_item = refl } in
+      let now : IsCurrentOf medium.image medium.honest w s cur =
+      record { handles = is.file.cur.handles; each = is.file.cur.each; map_block = is.file.cur.map_block; map_group = refl; map_item = refl } in
       let legal : IsCurrent cur = record {
         handles = is.file.legal.cur.handles;
         blocks = is.file.legal.cur.blocks;
@@ -74,6 +91,8 @@ module _ {D : Type 0} (medium : Medium D) (v : VmState D) (s : Store) (tied : Is
         rw (t.0, t.1) refl,
       )
     where
-      tests : (m : Memory) (k : ℕ) → (k ≢ 0 → IsSomeAnd (option_map (λ (x : VmBlock). x.uid) (listed_at m k)) (λ u. u ≡ group_uid)) → (k ≡ 0 → i ≡ 0) → ((not (k == 0) && not (is_group m k)) ≡ false) × (((k == 0) && not (i == 0)) ≡ false)
+      tests : (m : Memory) (k : ℕ) → (k ≢ 0 → IsSomeAnd (option_map (λ (x : VmBlock). x.uid) (listed_at m k)) (λ u. u ≡ group_uid))
+          → (k ≡ 0 → i ≡ 0) → ((not (k == 0) && not (is_group m k)) ≡ false) × (((k == 0) && not (i == 0)) ≡ false)
       tests m zero listed none = (refl, rw (none refl) refl)
-      tests m (suc k) listed none = let t = a-group (listed_at m (suc k)) (listed (λ z. omega (arith, z))) in (rw (no-zero k, t) refl, rw (no-zero k) refl)
+      tests m (suc k) listed none = let t = a-group (listed_at m (suc k)) (listed (λ z. omega (arith, z))) in
+          (rw (no-zero k, t) refl, rw (no-zero k) refl)

@@ -14,11 +14,13 @@ or-true true b e = refl
 or-true false b e = e
 
 -- what is found and is such a one is one of such
-pub find-any : (p : Entry → Bool) (es : List Entry) (h : ℕ) (x : Entry) → find (λ e. eqb e.h h) es ≡ Some x → p x ≡ true → list_any (λ e. eqb e.h h && p e) es ≡ true
+pub find-any : (p : Entry → Bool) (es : List Entry) (h : ℕ) (x : Entry) → find (λ e. eqb e.h h) es ≡ Some x → p x ≡ true
+    → list_any (λ e. eqb e.h h && p e) es ≡ true
 find-any p [] h x found such = absurd cc
 find-any p (e ∷ es) h x found such = on (eqb e.h h) refl (find-any p es h x) found
   where
-    on : (b : Bool) → eqb e.h h ≡ b → (find (λ y. eqb y.h h) es ≡ Some x → p x ≡ true → list_any (λ y. eqb y.h h && p y) es ≡ true) → cond b (Some e) (find (λ y. eqb y.h h) es) ≡ Some x
+    on : (b : Bool) → eqb e.h h ≡ b → (find (λ y. eqb y.h h) es ≡ Some x → p x ≡ true → list_any (λ y. eqb y.h h && p y) es ≡ true)
+        → cond b (Some e) (find (λ y. eqb y.h h) es) ≡ Some x
         → ((b && p e) || list_any (λ y. eqb y.h h && p y) es) ≡ true
     on true is more same = let q : e ≡ x = cc in let here : p e ≡ true = ap p q ∙ such in ap (λ b. b || list_any (λ y. eqb y.h h && p y) es) here
     on false is more rest = more rest such
@@ -32,13 +34,15 @@ first-true true b e t = refl
 first-true false b e t = absurd cc
 
 -- of entries in ascending order, the one that is found is the one that is such
-pub any-find : (p : Entry → Bool) (es : List Entry) (last h : ℕ) → are_entries last es ≡ true → list_any (λ e. eqb e.h h && p e) es ≡ true → IsSomeAnd (find (λ e. eqb e.h h) es) (λ e. p e ≡ true)
+pub any-find : (p : Entry → Bool) (es : List Entry) (last h : ℕ) → are_entries last es ≡ true
+    → list_any (λ e. eqb e.h h && p e) es ≡ true → IsSomeAnd (find (λ e. eqb e.h h) es) (λ e. p e ≡ true)
 any-find p [] last h legal any = absurd cc
 any-find p (e ∷ es) last h legal any =
     let s = both (is_entry last e) (are_entries e.h es) legal in
     on (eqb e.h h) refl s.1 (any-find p es e.h h s.1) any
   where
-    on : (b : Bool) → eqb e.h h ≡ b → are_entries e.h es ≡ true → (list_any (λ y. eqb y.h h && p y) es ≡ true → IsSomeAnd (find (λ y. eqb y.h h) es) (λ y. p y ≡ true))
+    on : (b : Bool) → eqb e.h h ≡ b → are_entries e.h es ≡ true
+        → (list_any (λ y. eqb y.h h && p y) es ≡ true → IsSomeAnd (find (λ y. eqb y.h h) es) (λ y. p y ≡ true))
         → ((b && p e) || list_any (λ y. eqb y.h h && p y) es) ≡ true → IsSomeAnd (cond b (Some e) (find (λ y. eqb y.h h) es)) (λ y. p y ≡ true)
     on true is behind more any =
         let same : e.h ≡ h = eqb-true e.h h is in

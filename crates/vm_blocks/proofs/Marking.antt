@@ -33,7 +33,15 @@ keeps-as {D} v w s t h same keeps = record { each = λ slot ne. on slot (keeps.e
   where
     on : (slot : ℕ) → KeptOrGoes v s t h slot → KeptOrGoes w s t h slot
     on slot (inl p) = inl p
-    on slot (inr x) = inr (record { h = x.h; handle = x.handle; slot_is = x.slot_is; other = x.other; idle = subst (λ e. is_idle_in e (block_at s (vm_slot x.h)) ≡ true) (sym (same x.h x.other)) x.idle; gone = x.gone })
+    on slot (inr x) = inr (record {
+      h = x.h;
+      handle = x.handle;
+      slot_is = x.slot_is;
+      other = x.other;
+      idle =
+          subst (λ e. is_idle_in e (block_at s (vm_slot x.h)) ≡ true) (sym (same x.h x.other)) x.idle;
+      gone = x.gone;
+    })
 
 module _ {D : Type 0} (medium : Medium D) (v : VmState D) (s : Store) (h : ℕ) (c : IsChanged medium v s h) where
   -- what it was before
@@ -60,8 +68,10 @@ module _ {D : Type 0} (medium : Medium D) (v : VmState D) (s : Store) (h : ℕ) 
   pub changed-tied : IsTied medium w s
   changed-tied =
       let same : with_held v h (Some (marked was.held)) ≡ w = ap (λ o. with_held v h (option_map marked o)) (sym was.listed) in
-      let before : IsTied medium w c.before = subst (λ x. IsTied medium x c.before) same (marked-tied medium v c.before h was.held was.handle c.tied c.was was.listed) in
-      let r : IsResident medium v.file h was.held was.block.bytes = subst (λ o. TiedAt medium v.file h o (Some was.block)) was.listed (subst (TiedAt medium v.file h (held_at v h)) was.there (c.tied.each h was.handle)) in
+      let before : IsTied medium w c.before = subst (λ x. IsTied medium x c.before) same
+      (marked-tied medium v c.before h was.held was.handle c.tied c.was was.listed) in
+      let r : IsResident medium v.file h was.held was.block.bytes = subst (λ o. TiedAt medium v.file h o (Some was.block))
+      was.listed (subst (TiedAt medium v.file h (held_at v h)) was.there (c.tied.each h was.handle)) in
       let at_h : IsResident medium v.file h (marked was.held) block.bytes = record {
         size = r.size;
         heap = subst (λ o. IsHeap (bytes_in o)) now_at.1 c.heap;
@@ -98,15 +108,18 @@ module _ {D : Type 0} (medium : Medium D) (v : VmState D) (s : Store) (h : ℕ) 
         (subst (λ o. IsListedAs good (bytes_read medium.image v.file h) (Some (marked was.held)) o x) (sym now_at.1) x-is)
 
     others : (k : ℕ) → IsHandle k → k ≢ h → IsListedIn medium w s k (at_handle None m.file.cur.blocks k)
-    others k q ne = subst (λ o. IsListedAs good (bytes_read medium.image v.file k) o (block_at s (vm_slot k)) (at_handle None m.file.cur.blocks k)) (sym (other k ne)) (is.file.cur.each k q)
+    others k q ne = subst (λ o. IsListedAs good (bytes_read medium.image v.file k) o (block_at s (vm_slot k)) (at_handle None m.file.cur.blocks k))
+        (sym (other k ne)) (is.file.cur.each k q)
 
     pub changed-memory : IsMemoryOf medium w s (with_mark m h true)
     changed-memory =
         let cur = m.file.cur in
         let f = is.file in
         let legal : IsLegalListed now = subst (λ o. IfSome o IsLegalListed) told (f.legal.cur.blocks h) in
-        let legal_x : IfSome x IsLegalListed = subst (λ o. IfSome o IsLegalListed) (sym x-is) (let l : IsLegalListed after = record { uid = legal.uid; block = legal.block } in l) in
-        let uid : option_map (λ (l : VmBlock). l.uid) x ≡ option_map (λ (l : VmBlock). l.uid) (listed_at m h) = ap (option_map (λ (l : VmBlock). l.uid)) x-is ∙ sym (ap (option_map (λ (l : VmBlock). l.uid)) told) in
+        let legal_x : IfSome x IsLegalListed = subst (λ o. IfSome o IsLegalListed) (sym x-is)
+        (let l : IsLegalListed after = record { uid = legal.uid; block = legal.block } in l) in
+        let uid : option_map (λ (l : VmBlock). l.uid) x ≡ option_map (λ (l : VmBlock). l.uid) (listed_at m h) =
+        ap (option_map (λ (l : VmBlock). l.uid)) x-is ∙ sym (ap (option_map (λ (l : VmBlock). l.uid)) told) in
         record {
           blocks = is.blocks;
           file = file-cur medium v w s s m.file (record cur { blocks = with_entry_at cur.blocks h x }) refl
@@ -116,10 +129,12 @@ module _ {D : Type 0} (medium : Medium D) (v : VmState D) (s : Store) (h : ℕ) 
         }
 
 -- a block that is in memory and as it was has changed into itself
-pub stays-changed : {D : Type 0} (medium : Medium D) (v : VmState D) (s : Store) (h : ℕ) → IsTied medium v s → IsThere s (vm_slot h) → IsChanged medium v s h
+pub stays-changed : {D : Type 0} (medium : Medium D) (v : VmState D) (s : Store) (h : ℕ) → IsTied medium v s
+    → IsThere s (vm_slot h) → IsChanged medium v s h
 stays-changed medium v s h tied there =
     let k = known medium v s h tied there in
-    let r : IsResident medium v.file h k.held k.block.bytes = subst (λ o. TiedAt medium v.file h o (Some k.block)) k.listed (subst (TiedAt medium v.file h (held_at v h)) k.there (tied.each h k.handle)) in
+    let r : IsResident medium v.file h k.held k.block.bytes = subst (λ o. TiedAt medium v.file h o (Some k.block))
+    k.listed (subst (TiedAt medium v.file h (held_at v h)) k.there (tied.each h k.handle)) in
     record {
       before = s;
       tied = tied;

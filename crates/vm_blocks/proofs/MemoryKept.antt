@@ -34,7 +34,12 @@ use Rattle.vm_blocks.proofs.Tightness.{tight-mem, tight-vm}
 module _ {D : Type 0} (medium : Medium D) (v : VmState D) where
   -- memory over a store, with a file that is the model's there
   memory-of : (t : Store) (n : Memory) (file : VmFile) → IsFileOf medium.image medium.honest v t file → IsSpelled t file n → IsMemoryOf medium v t n
-  memory-of t n file is over = record { blocks = over.blocks; file = subst (IsFileOf medium.image medium.honest v t) (sym over.file) is; region = over.region }
+  memory-of t n file is over = record {
+    blocks = over.blocks;
+    file = subst (IsFileOf medium.image medium.honest v t)
+        (sym over.file) is;
+    region = over.region;
+  }
 
   pub others-may-change : OthersMayChange medium v
   others-may-change s t m n is same over =
@@ -46,7 +51,8 @@ module _ {D : Type 0} (medium : Medium D) (v : VmState D) where
   pub room-may-want : RoomMayWant medium v
   room-may-want s m name size tied is p none crowded = on name.owner none crowded
     where
-      on : (owner : Owner) → NoneIdle v s (own_handle_of owner name.h) → IsCrowded s (slot_of (record { owner = owner; h = name.h })) size → is_tight m (record { owner = owner; h = name.h }) size ≡ true
+      on : (owner : Owner) → NoneIdle v s (own_handle_of owner name.h) → IsCrowded s (slot_of (record { owner = owner; h = name.h })) size
+          → is_tight m (record { owner = owner; h = name.h }) size ≡ true
       on Vm none crowded = tight-vm medium v s m tied is name.h size p none crowded
       on Mem none crowded =
           let first : 0 + (name.h - 1) ≡ name.h - 1 = omega arith in
@@ -59,21 +65,33 @@ module _ {D : Type 0} (medium : Medium D) (v : VmState D) where
 
   pub marked-may-change : MarkedMayChange medium v
   marked-may-change s t m n h tied is same own few are over =
-      let p = own.handle in let e = own.held in let cur = m.file.cur in let good = medium.honest v.file.device in let read = bytes_read medium.image v.file h in
-      let was = marked-there h e (block_at s (vm_slot h)) own.marked (subst (λ o. TiedAt medium v.file h o (block_at s (vm_slot h))) own.listed (tied.each h p)) in
+      let p = own.handle in
+      let e = own.held in
+      let cur = m.file.cur in
+      let good = medium.honest v.file.device in
+      let read = bytes_read medium.image v.file h in
+      let was = marked-there h e (block_at s (vm_slot h)) own.marked
+      (subst (λ o. TiedAt medium v.file h o (block_at s (vm_slot h))) own.listed (tied.each h p)) in
       let before : VmBlock = record { uid = e.uid; marked = e.marked; block = spelled was.0.locks was.0.bytes } in
-      let listed : listed_at m h ≡ Some before = subst (λ o. IsListedAs good read o (Some was.0) (listed_at m h)) own.listed (subst (λ o. IsListedAs good read (held_at v h) o (listed_at m h)) was.1 (is.file.cur.each h p)) in
+      let listed : listed_at m h ≡ Some before = subst (λ o. IsListedAs good read o (Some was.0) (listed_at m h))
+      own.listed (subst (λ o. IsListedAs good read (held_at v h) o (listed_at m h)) was.1 (is.file.cur.each h p)) in
       let block : ModelBlock = spelled own.block.locks own.block.bytes in
       let x : Option VmBlock = Some (relisted (listed_at m h) block) in
       let after : VmBlock = record { uid = e.uid; marked = e.marked; block = block } in
       let x_is : x ≡ Some after = ap (λ l. Some (relisted l block)) listed in
-      let at_h : IsListedIn medium v t h x = subst (λ o. IsListedAs good read o (block_at t (vm_slot h)) x) (sym own.listed) (subst (λ o. IsListedAs good read (Some e) o x) (sym own.at) x_is) in
+      let at_h : IsListedIn medium v t h x = subst (λ o. IsListedAs good read o (block_at t (vm_slot h)) x)
+      (sym own.listed) (subst (λ o. IsListedAs good read (Some e) o x) (sym own.at) x_is) in
       let others : (k : ℕ) → IsHandle k → k ≢ h → IsListedIn medium v t k (at_handle None cur.blocks k) =
-      (λ k q ne. subst (λ o. IsListedAs good (bytes_read medium.image v.file k) (held_at v k) o (at_handle None cur.blocks k)) (sym (same k q ne)) (is.file.cur.each k q)) in
-      let now = current-entry medium v t cur h p x is.file.cur.handles (is.file.cur.map_block, is.file.cur.map_group, is.file.cur.map_item) at_h others in
+      (λ k q ne. subst (λ o. IsListedAs good (bytes_read medium.image v.file k) (held_at v k) o (at_handle None cur.blocks k))
+      (sym (same k q ne)) (is.file.cur.each k q)) in
+      let now = current-entry medium v t cur h p x is.file.cur.handles (is.file.cur.map_block, is.file.cur.map_group, is.file.cur.map_item)
+      at_h others in
       let own_legal : IsLegalListed before = subst (λ o. IfSome o IsLegalListed) listed (is.file.legal.cur.blocks h) in
-      let legal_after : IsLegalListed after = record { uid = own_legal.uid; block = record { heap = spelled-legal own.block.bytes own.heap are; few = few } } in
+      let legal_after : IsLegalListed after =
+      record { uid = own_legal.uid; block = record { heap = spelled-legal own.block.bytes own.heap are; few = few } } in
       let legal_x : IfSome x IsLegalListed = subst (λ o. IfSome o IsLegalListed) (sym x_is) legal_after in
-      let uid : option_map (λ (l : VmBlock). l.uid) x ≡ option_map (λ (l : VmBlock). l.uid) (listed_at m h) = ap (option_map (λ (l : VmBlock). l.uid)) x_is ∙ sym (ap (option_map (λ (l : VmBlock). l.uid)) listed) in
+      let uid : option_map (λ (l : VmBlock). l.uid) x ≡ option_map (λ (l : VmBlock). l.uid) (listed_at m h) =
+      ap (option_map (λ (l : VmBlock). l.uid)) x_is ∙ sym (ap (option_map (λ (l : VmBlock). l.uid)) listed) in
       let legal = entry-legal IsLegalListed (λ (l : VmBlock). l.uid) cur is.file.legal.cur h x legal_x uid in
-      memory-of t n (with_block m (vm h) (Some block)).file (file-cur medium v v s t m.file (record cur { blocks = with_entry_at cur.blocks h x }) refl now legal is.file) over
+      memory-of t n (with_block m (vm h) (Some block)).file
+      (file-cur medium v v s t m.file (record cur { blocks = with_entry_at cur.blocks h x }) refl now legal is.file) over

@@ -24,12 +24,14 @@ use Rattle.vm_blocks.proofs.Brings.{filled-at, fills-others, keeps-more, kept-ti
 use Rattle.vm_blocks.proofs.Counts.{keeps-locked}
 
 -- nothing is in memory under a handle that is not listed
-none-in : {D : Type 0} (medium : Medium D) (f : FileState D) (h : ℕ) (o : Option Held) (b : Option Block) → o ≡ None → TiedAt medium f h o b → IsBlock b → ⊥
+none-in : {D : Type 0} (medium : Medium D) (f : FileState D) (h : ℕ) (o : Option Held) (b : Option Block) → o ≡ None
+    → TiedAt medium f h o b → IsBlock b → ⊥
 none-in medium f h None None e t there = there
 none-in medium f h None (Some b) e t there = t
 none-in medium f h (Some x) b e t there = absurd cc
 
-pub none-there : {D : Type 0} (medium : Medium D) (v : VmState D) (s : Store) (h : ℕ) → IsHandle h → IsTied medium v s → held_at v h ≡ None → IsThere s (vm_slot h) → ⊥
+pub none-there : {D : Type 0} (medium : Medium D) (v : VmState D) (s : Store) (h : ℕ) → IsHandle h → IsTied medium v s
+    → held_at v h ≡ None → IsThere s (vm_slot h) → ⊥
 none-there medium v s h q tied free = none-in medium v.file h (held_at v h) (block_at s (vm_slot h)) free (tied.each h q)
 
 -- room was made for a block, and it is a heap
@@ -41,7 +43,8 @@ module _ {D : Type 0} (v : VmState D) (s m t : Store) (h : ℕ) (q : IsHandle h)
     pub begun-new : IsNew t h 0
     begun-new = record {
       block = record { locks = 0; bytes = begins.fills.bytes };
-      at = filled-at m t (vm_slot h) begins.fills.bytes (record { locks = 0; bytes = replicate 64 0 }) (made-block v s m h 64 q made) begins.fills.long begins.fills.is;
+      at = filled-at m t (vm_slot h) begins.fills.bytes (record { locks = 0; bytes = replicate 64 0 })
+          (made-block v s m h 64 q made) begins.fills.long begins.fills.is;
       locks = refl;
       long = begins.fills.long ∙ new-size;
       heap = begins.fills.heap;
@@ -71,7 +74,8 @@ maps-more {D} v h x free maps = record {
     ]
 
 -- a new block is listed
-module _ {D : Type 0} (medium : Medium D) (v : VmState D) (s t : Store) (h uid : ℕ) (q : IsHandle h) (tied : IsTied medium v s) (free : held_at v h ≡ None) (keeps : Keeps v s t h) (new : IsNew t h 0) where
+module _ {D : Type 0} (medium : Medium D) (v : VmState D) (s t : Store) (h uid : ℕ) (q : IsHandle h) (tied : IsTied medium v s)
+    (free : held_at v h ≡ None) (keeps : Keeps v s t h) (new : IsNew t h 0) where
   abbrev w : VmState D
   w = with_held v h (Some (new_held uid))
 
@@ -100,7 +104,8 @@ pub locks-new : (t : Store) (h n : ℕ) → IsNew t h n → locks_of t (vm_slot 
 locks-new t h n new = ap locks_in new.at ∙ new.locks
 
 -- and is locked then
-pub locked-adds : {D : Type 0} (v w : VmState D) (s t u : Store) (uid h : ℕ) → Adds v w s t uid 0 h → u ≡ with_locks t (vm_slot h) 1 → Adds v w s u uid 1 h
+pub locked-adds : {D : Type 0} (v w : VmState D) (s t u : Store) (uid h : ℕ) → Adds v w s t uid 0 h
+    → u ≡ with_locks t (vm_slot h) 1 → Adds v w s u uid 1 h
 locked-adds v w s t u uid h adds is =
     let there = there-new t h 0 adds.is in
     let small : vm_slot h < length t.blocks = omega (arith, there_small t (vm_slot h) adds.keeps.laid there, adds.keeps.laid.slots) in
@@ -110,7 +115,8 @@ locked-adds v w s t u uid h adds is =
       keeps = keeps-locked v s t u h 1 adds.keeps there is;
       is = record {
         block = record { locks = 1; bytes = adds.is.block.bytes };
-        at = ap (λ x. block_at x (vm_slot h)) is ∙ with_locks-same t (vm_slot h) 1 small ∙ ap (λ o. Some (record { locks = 1; bytes = bytes_in o })) adds.is.at;
+        at = ap (λ x. block_at x (vm_slot h)) is ∙ with_locks-same t (vm_slot h) 1 small
+            ∙ ap (λ o. Some (record { locks = 1; bytes = bytes_in o })) adds.is.at;
         locks = refl;
         long = adds.is.long;
         heap = adds.is.heap;

@@ -19,21 +19,26 @@ use Rattle.vm_blocks.specs.Listed.{IsListOf, as_held}
 use Rattle.vm_blocks.proofs.Mapping.{any-find}
 
 -- a handle under which something is found is one
-some-handle : (es : List Entry) (h : ℕ) (P : Entry → Type 0) (d : Directory) → d.entries.items ≡ es → is_directory d ≡ true → IsSomeAnd (find (λ e. eqb e.h h) es) P → IsHandle h
-some-handle es h P d same legal some = on (find (λ e. eqb e.h h) d.entries.items) refl (subst (λ l. IsSomeAnd (find (λ e. eqb e.h h) l) P) (sym same) some)
+some-handle : (es : List Entry) (h : ℕ) (P : Entry → Type 0) (d : Directory) → d.entries.items ≡ es → is_directory d ≡ true
+    → IsSomeAnd (find (λ e. eqb e.h h) es) P → IsHandle h
+some-handle es h P d same legal some = on (find (λ e. eqb e.h h) d.entries.items)
+    refl (subst (λ l. IsSomeAnd (find (λ e. eqb e.h h) l) P) (sym same) some)
   where
     on : (o : Option Entry) → find (λ e. eqb e.h h) d.entries.items ≡ o → IsSomeAnd o P → IsHandle h
     on None is some = absurd some
     on (Some e) is some =
         let f = found_entry d.entries.items 0 h e (legal_from d legal).entries is in
-        let above = f.1.above in let most = f.1.most in let same = f.0 in
+        let above = f.1.above in
+        let most = f.1.most in
+        let same = f.0 in
         (omega (arith, above, same), omega (arith, most, same))
 
 or-later : (a b : Bool) → a ≡ false → (a || b) ≡ true → b ≡ true
 or-later true b e t = absurd cc
 or-later false b e t = t
 
-held-some-and : (P : Entry → Type 0) (Q : Held → Type 0) (o : Option Entry) → ((e : Entry) → P e → Q (as_held e)) → IsSomeAnd o P → IsSomeAnd (option_map as_held o) Q
+held-some-and : (P : Entry → Type 0) (Q : Held → Type 0) (o : Option Entry) → ((e : Entry) → P e → Q (as_held e))
+    → IsSomeAnd o P → IsSomeAnd (option_map as_held o) Q
 held-some-and P Q None f s = s
 held-some-and P Q (Some e) f s = f e s
 
@@ -59,7 +64,9 @@ module _ {D : Type 0} (v : VmState D) (d : Directory) (legal : is_directory d �
             let is = any-find (λ e. not (eqb e.uid 65280)) d.entries.items 0 d.map_block l.entries any in
             let q = some-handle d.entries.items d.map_block (λ e. not (eqb e.uid 65280) ≡ true) d refl legal is in
             subst (λ h. IsSomeAnd (held_at v h) (λ e. e.uid ≢ 65280)) (sym lists.map_block)
-            (subst (λ o. IsSomeAnd o (λ e. e.uid ≢ 65280)) (sym (lists.each d.map_block q)) (held-some-and (λ e. not (eqb e.uid 65280) ≡ true) (λ e. e.uid ≢ 65280) (find (λ e. eqb e.h d.map_block) d.entries.items) (λ e t. not-same e.uid 65280 t) is));
+            (subst (λ o. IsSomeAnd o (λ e. e.uid ≢ 65280)) (sym (lists.each d.map_block q))
+            (held-some-and (λ e. not (eqb e.uid 65280) ≡ true) (λ e. e.uid ≢ 65280) (find (λ e. eqb e.h d.map_block) d.entries.items)
+            (λ e t. not-same e.uid 65280 t) is));
         group = λ some.
             let same : v.map_item.0 ≡ d.map_item.0 = ap (λ p. p.0) lists.map_item in
             let some-d : d.map_item.0 ≢ 0 = λ z. some (same ∙ z) in
@@ -67,19 +74,23 @@ module _ {D : Type 0} (v : VmState D) (d : Directory) (legal : is_directory d �
             let is = any-find (λ e. eqb e.uid 65280) d.entries.items 0 d.map_item.0 l.entries any in
             let q = some-handle d.entries.items d.map_item.0 (λ e. eqb e.uid 65280 ≡ true) d refl legal is in
             subst (λ h. IsSomeAnd (held_at v h) (λ e. e.uid ≡ 65280)) (sym same)
-            (subst (λ o. IsSomeAnd o (λ e. e.uid ≡ 65280)) (sym (lists.each d.map_item.0 q)) (held-some-and (λ e. eqb e.uid 65280 ≡ true) (λ e. e.uid ≡ 65280) (find (λ e. eqb e.h d.map_item.0) d.entries.items) (λ e t. eqb-true e.uid 65280 t) is));
+            (subst (λ o. IsSomeAnd o (λ e. e.uid ≡ 65280)) (sym (lists.each d.map_item.0 q))
+            (held-some-and (λ e. eqb e.uid 65280 ≡ true) (λ e. e.uid ≡ 65280) (find (λ e. eqb e.h d.map_item.0) d.entries.items)
+            (λ e t. eqb-true e.uid 65280 t) is));
         no_item = λ z.
             let same : v.map_item.0 ≡ d.map_item.0 = ap (λ p. p.0) lists.map_item in
             ap (λ p. p.1) lists.map_item ∙ no-group d.map_item.0 d.map_item.1 (sym same ∙ z) l.maps.2;
       }
 
 -- a file of which no block is in memory is tied to the region
-pub opened-tied : {D : Type 0} (medium : Medium D) (v : VmState D) (s : Store) → length v.entries ≡ 1024 → is_directory v.file.current ≡ true → IsListOf v v.file.current → IsLaidOut s → NoneResident s → IsTied medium v s
+pub opened-tied : {D : Type 0} (medium : Medium D) (v : VmState D) (s : Store) → length v.entries ≡ 1024
+    → is_directory v.file.current ≡ true → IsListOf v v.file.current → IsLaidOut s → NoneResident s → IsTied medium v s
 opened-tied medium v s long legal lists laid none = record {
   laid = laid;
   long = long;
   each = λ h p.
-      subst (TiedAt medium v.file h (held_at v h)) (sym (none h p)) (subst (λ o. TiedAt medium v.file h o None) (sym (lists.each h p)) (on h (find (λ e. eqb e.h h) v.file.current.entries.items) refl));
+      subst (TiedAt medium v.file h (held_at v h)) (sym (none h p))
+      (subst (λ o. TiedAt medium v.file h o None) (sym (lists.each h p)) (on h (find (λ e. eqb e.h h) v.file.current.entries.items) refl));
   maps = list-maps v v.file.current legal lists;
 }
   where

@@ -65,7 +65,8 @@ count-gone (Some b ∷ bs) (suc i) there = more (count_there (set bs i None)) (c
     more m n less = omega (arith, less)
 
 -- a block that is there and not locked is freed
-pub freed : (old new : Store) (slot : ℕ) (r : Result (Unit {0}) HandleError) → OnOk r (new ≡ without old slot) → ((r ≡ Err BadHandle) ↔ (IsThere old slot → ⊥)) → ((r ≡ Err Locked) ↔ (0 < locks_of old slot))
+pub freed : (old new : Store) (slot : ℕ) (r : Result (Unit {0}) HandleError) → OnOk r (new ≡ without old slot)
+    → ((r ≡ Err BadHandle) ↔ (IsThere old slot → ⊥)) → ((r ≡ Err Locked) ↔ (0 < locks_of old slot))
     → IsThere old slot → locks_of old slot ≡ 0 → new ≡ without old slot
 freed old new slot (Ok done) ok bad locked there free = ok
 freed old new slot (Err BadHandle) ok bad locked there free = absurd (bad.0 refl there)

@@ -34,18 +34,24 @@ stored-one read None k is = is
 stored-one read (Some e) None is = absurd is
 stored-one read (Some e) (Some k) is = ap Some (stored-block read e k is)
 
-pub directory-one : (d : Directory) (blocks : List Block) (x : model.Directory KeptBlock) → IsDirectoryOf (Unit {0}) d blocks x → x ≡ stored_directory d blocks
+pub directory-one : (d : Directory) (blocks : List Block) (x : model.Directory KeptBlock) → IsDirectoryOf (Unit {0}) d blocks x
+    → x ≡ stored_directory d blocks
 directory-one d blocks x is =
     let f : ℕ → Option KeptBlock = λ h. option_map (stored_block (bytes_of_block blocks h)) (entry_at d h) in
     let same : x.blocks ≡ map f (range_with_len 1 1024) =
-    table-same None x.blocks (map f (range_with_len 1 1024)) is.handles (length-map-range_with_len f 1 1024) (λ h p. stored-one (bytes_of_block blocks h) (entry_at d h) (at_handle None x.blocks h) (is.each h p) ∙ sym (table-made None f h p)) in
-    let b = is.map_block in let g = is.map_group in let i = is.map_item in
+    table-same None x.blocks (map f (range_with_len 1 1024)) is.handles (length-map-range_with_len f 1 1024)
+    (λ h p. stored-one (bytes_of_block blocks h) (entry_at d h) (at_handle None x.blocks h) (is.each h p) ∙ sym (table-made None f h p)) in
+    let b = is.map_block in
+    let g = is.map_group in
+    let i = is.map_item in
     λ k. record { blocks = same k; map_block = b k; map_group = g k; map_item = i k }
 
-pub pair-one : (c d : Directory) (from : Pair) (p : model_file.Pair) → listed from.cur ≡ c → listed from.saved ≡ d → IsPairOf (Unit {0}) c d from p → p ≡ stored_pair from
+pub pair-one : (c d : Directory) (from : Pair) (p : model_file.Pair) → listed from.cur ≡ c → listed from.saved ≡ d
+    → IsPairOf (Unit {0}) c d from p → p ≡ stored_pair from
 pair-one c d from p cur saved is =
     let one : p.cur ≡ stored from.cur = directory-one c from.cur.blocks p.cur is.cur ∙ ap (λ x. stored_directory x from.cur.blocks) (sym cur) in
-    let two : p.saved ≡ stored from.saved = directory-one d from.saved.blocks p.saved is.saved ∙ ap (λ x. stored_directory x from.saved.blocks) (sym saved) in
+    let two : p.saved ≡ stored from.saved = directory-one d from.saved.blocks p.saved is.saved
+    ∙ ap (λ x. stored_directory x from.saved.blocks) (sym saved) in
     λ k. record { cur = one k; saved = two k }
 
 -- It is one
@@ -59,7 +65,8 @@ directory-is good d blocks =
     let f : ℕ → Option KeptBlock = λ h. option_map (stored_block (bytes_of_block blocks h)) (entry_at d h) in
     record {
       handles = length-map-range_with_len f 1 1024;
-      each = λ h p. subst (IsStoredAs good (bytes_of_block blocks h) (entry_at d h)) (sym (table-made None f h p)) (stored-is good (bytes_of_block blocks h) (entry_at d h));
+      each = λ h p. subst (IsStoredAs good (bytes_of_block blocks h) (entry_at d h)) (sym (table-made None f h p))
+          (stored-is good (bytes_of_block blocks h) (entry_at d h));
       map_block = refl;
       map_group = refl;
       map_item = refl;
@@ -78,7 +85,8 @@ total-more f g j x zero less own none same = absurd (omega (arith, less))
 total-more f g j x (suc n) less own none same = elim (cases_eq n j) [
   | inl here ↦ (
       let rest : total n f ≡ total n g = total-same n n (omega arith) here in
-      let f_n : f n ≡ x = ap f here ∙ own in let g_n : g n ≡ 0 = ap g here ∙ none in
+      let f_n : f n ≡ x = ap f here ∙ own in
+      let g_n : g n ≡ 0 = ap g here ∙ none in
       omega (arith, rest, f_n, g_n)
       )
   | inr ne ↦ (let rest = total-more f g j x n (omega (arith, less, ne)) own none same in let f_n = same n ne in omega (arith, rest, f_n))
@@ -86,7 +94,8 @@ total-more f g j x (suc n) less own none same = elim (cases_eq n j) [
   where
     total-same : (m k : ℕ) → m ≤ k → k ≡ j → total m f ≡ total m g
     total-same zero k le at = refl
-    total-same (suc m) k le at = let rest = total-same m k (omega (arith, le)) at in let f_m = same m (λ e. omega (arith, le, at, e)) in omega (arith, rest, f_m)
+    total-same (suc m) k le at = let rest = total-same m k (omega (arith, le)) at in let f_m = same m (λ e. omega (arith, le, at, e)) in
+        omega (arith, rest, f_m)
 
 -- what is not there is not found
 pub not-found : (es : List Entry) (h : ℕ) → HasNone h es → find (λ e. e.h == h) es ≡ None
@@ -115,16 +124,20 @@ same-test a b e = grind (arith, nat_tests, e)
 same-least : (n : ℕ) → n ≤ n
 same-least n = omega arith
 
-entries-sum : (n : ℕ) → 1024 ≤ n → (es : List Entry) (last : ℕ) → are_entries last es ≡ true → total n (λ i. taken (find (λ e. e.h == (i + 1)) es)) ≡ entries_length es
+entries-sum : (n : ℕ) → 1024 ≤ n → (es : List Entry) (last : ℕ) → are_entries last es ≡ true
+    → total n (λ i. taken (find (λ e. e.h == (i + 1)) es)) ≡ entries_length es
 entries-sum n most [] last legal = total-none n
 entries-sum n most (e ∷ es) last legal =
     let s = both (is_entry last e) (are_entries e.h es) legal in
     let b = behind_from last e s.0 in
     let j : ℕ = e.h - 1 in
     let j_is : j + 1 ≡ e.h = before e.h last b.above in
-    let own : taken (find (λ x. x.h == (j + 1)) (e ∷ es)) ≡ 6 + e.len = (let same : (e.h == (j + 1)) ≡ true = same-test e.h (j + 1) j_is in rw same refl) in
-    let none : taken (find (λ x. x.h == (j + 1)) es) ≡ 0 = ap taken (ap (λ h. find (λ x. x.h == h) es) j_is ∙ not-found es e.h (none_below es e.h e.h s.1 (same-least e.h))) in
-    let more = total-more (λ i. taken (find (λ x. x.h == (i + 1)) (e ∷ es))) (λ i. taken (find (λ x. x.h == (i + 1)) es)) j (6 + e.len) n (within e.h last n b.above b.most most) own none
+    let own : taken (find (λ x. x.h == (j + 1)) (e ∷ es)) ≡ 6 + e.len =
+    (let same : (e.h == (j + 1)) ≡ true = same-test e.h (j + 1) j_is in rw same refl) in
+    let none : taken (find (λ x. x.h == (j + 1)) es) ≡ 0 = ap taken (ap (λ h. find (λ x. x.h == h) es) j_is
+    ∙ not-found es e.h (none_below es e.h e.h s.1 (same-least e.h))) in
+    let more = total-more (λ i. taken (find (λ x. x.h == (i + 1)) (e ∷ es))) (λ i. taken (find (λ x. x.h == (i + 1)) es)) j
+    (6 + e.len) n (within e.h last n b.above b.most most) own none
     (λ i ne. (let other : (e.h == (i + 1)) ≡ false = apart e.h i j j_is ne in rw other refl)) in
     more ∙ ap (λ k. (6 + e.len) + k) (entries-sum n most es e.h s.1)
 
@@ -135,11 +148,13 @@ taken-as good read (Some e) (Some k) is = ap (λ n. 6 + n) (sym is.heap.size)
 
 -- a table takes what entries do
 entries-taken : (n : ℕ) → 1024 ≤ n → (xs : List (Option KeptBlock)) (es : List Entry) → length xs ≡ n → are_entries 0 es ≡ true
-    → ((i : ℕ) → i < n → taken (find (λ e. e.h == (i + 1)) es) ≡ model.entry_length (get_or xs i None)) → sum_by model.entry_length xs ≡ entries_length es
+    → ((i : ℕ) → i < n → taken (find (λ e. e.h == (i + 1)) es) ≡ model.entry_length (get_or xs i None))
+    → sum_by model.entry_length xs ≡ entries_length es
 entries-taken n most xs es long legal at =
     let some : n ≤ length xs = subst (λ k. n ≤ k) (sym long) (same-least n) in
     let all : take n xs ≡ xs = take_all n xs (subst (λ k. k ≤ n) (sym long) (same-least n)) in
-    ap (sum_by model.entry_length) (sym all) ∙ sym (total_sum model.entry_length xs None (λ i. taken (find (λ e. e.h == (i + 1)) es)) n some at) ∙ entries-sum n most es 0 legal
+    ap (sum_by model.entry_length) (sym all) ∙ sym (total_sum model.entry_length xs None (λ i. taken (find (λ e. e.h == (i + 1)) es)) n some at)
+    ∙ entries-sum n most es 0 legal
 
 next : (i : ℕ) → i + 1 ≡ suc i
 next i = omega arith
@@ -148,9 +163,11 @@ handle-of : (i : ℕ) → i < 1024 → IsHandle (suc i)
 handle-of i l = (omega arith, omega (arith, l))
 
 -- a directory of the model takes what that of the device does
-pub length-same : (good : Type 0) (d : Directory) (blocks : List Block) (x : model.Directory KeptBlock) → is_directory d ≡ true → IsDirectoryOf good d blocks x → model.directory_length x ≡ directory_length d
+pub length-same : (good : Type 0) (d : Directory) (blocks : List Block) (x : model.Directory KeptBlock)
+    → is_directory d ≡ true → IsDirectoryOf good d blocks x → model.directory_length x ≡ directory_length d
 length-same good d blocks x legal is =
     ap (λ n. 8 + n) (entries-taken 1024 (same-least 1024) x.blocks d.entries.items is.handles (legal_from d legal).entries at)
   where
     at : (i : ℕ) → i < 1024 → taken (find (λ e. e.h == (i + 1)) d.entries.items) ≡ model.entry_length (get_or x.blocks i None)
-    at i less = ap (λ h. taken (entry_at d h)) (next i) ∙ taken-as good (bytes_of_block blocks (suc i)) (entry_at d (suc i)) (at_handle None x.blocks (suc i)) (is.each (suc i) (handle-of i less))
+    at i less = ap (λ h. taken (entry_at d h)) (next i) ∙ taken-as good (bytes_of_block blocks (suc i)) (entry_at d (suc i))
+        (at_handle None x.blocks (suc i)) (is.each (suc i) (handle-of i less))

@@ -22,18 +22,22 @@ held-other es zero k x ne = refl
 held-other es (suc h) zero x ne = refl
 held-other es (suc h) (suc k) x ne = get_or-set_other es h k x None (λ same. ne (ap suc same))
 
-same-uid : (P : ℕ → Type 0) (a b : Option Held) → option_map (λ (x : Held). x.uid) b ≡ option_map (λ (x : Held). x.uid) a → IsSomeAnd a (λ e. P e.uid) → IsSomeAnd b (λ e. P e.uid)
+same-uid : (P : ℕ → Type 0) (a b : Option Held) → option_map (λ (x : Held). x.uid) b ≡ option_map (λ (x : Held). x.uid) a
+    → IsSomeAnd a (λ e. P e.uid) → IsSomeAnd b (λ e. P e.uid)
 same-uid P None b same s = absurd s
 same-uid P (Some a) None same s = absurd cc
 same-uid P (Some a) (Some b) same s = let e : b.uid ≡ a.uid = cc in subst P (sym e) s
 
 -- where each handle has the user ID that it had, and the same is mapped, it still may be
-pub maps-alike : {D : Type 0} (v w : VmState D) → ((k : ℕ) → option_map (λ (x : Held). x.uid) (held_at w k) ≡ option_map (λ (x : Held). x.uid) (held_at v k))
+pub maps-alike : {D : Type 0} (v w : VmState D)
+    → ((k : ℕ) → option_map (λ (x : Held). x.uid) (held_at w k) ≡ option_map (λ (x : Held). x.uid) (held_at v k))
     → w.map_block ≡ v.map_block → w.map_item ≡ v.map_item → AreMapped v → AreMapped w
 maps-alike v w uids block item maps =
     let group : w.map_item.0 ≡ v.map_item.0 = ap (λ p. p.0) item in
     record {
-      block = λ some. same-uid (λ u. u ≢ 65280) (held_at v w.map_block) (held_at w w.map_block) (uids w.map_block) (subst (λ k. IsSomeAnd (held_at v k) (λ e. e.uid ≢ 65280)) (sym block) (maps.block (λ z. some (block ∙ z))));
-      group = λ some. same-uid (λ u. u ≡ 65280) (held_at v w.map_item.0) (held_at w w.map_item.0) (uids w.map_item.0) (subst (λ k. IsSomeAnd (held_at v k) (λ e. e.uid ≡ 65280)) (sym group) (maps.group (λ z. some (group ∙ z))));
+      block = λ some. same-uid (λ u. u ≢ 65280) (held_at v w.map_block) (held_at w w.map_block) (uids w.map_block)
+          (subst (λ k. IsSomeAnd (held_at v k) (λ e. e.uid ≢ 65280)) (sym block) (maps.block (λ z. some (block ∙ z))));
+      group = λ some. same-uid (λ u. u ≡ 65280) (held_at v w.map_item.0) (held_at w w.map_item.0) (uids w.map_item.0)
+          (subst (λ k. IsSomeAnd (held_at v k) (λ e. e.uid ≡ 65280)) (sym group) (maps.group (λ z. some (group ∙ z))));
       no_item = λ z. ap (λ p. p.1) item ∙ maps.no_item (sym group ∙ z);
     }

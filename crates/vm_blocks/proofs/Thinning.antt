@@ -25,7 +25,12 @@ module _ {D : Type 0} (v : VmState D) where
 
   -- first some, then others
   pub thins-more : (a b c : Store) (but : ℕ) → Thins v a b but → Thins v b c but → Thins v a c but
-  thins-more a b c but first later = record { each = λ slot. on slot (first.each slot) (later.each slot); laid = later.laid; len = later.len ∙ first.len }
+  thins-more a b c but first later = record {
+    each = λ slot. on slot (first.each slot) (later.each slot);
+    laid =
+        later.laid;
+    len = later.len ∙ first.len;
+  }
     where
       on : (slot : ℕ) → StaysOrGoes v a b but slot → StaysOrGoes v b c but slot → StaysOrGoes v a c but slot
       on slot (inl p) (inl q) = inl (q.0 ∙ p.0, q.1 ∙ p.1)
@@ -54,7 +59,15 @@ module _ {D : Type 0} (v : VmState D) where
 
       on : (slot : ℕ) → StaysOrGoes v s (without s (vm_slot h)) but slot
       on slot = elim (cases_eq slot (vm_slot h)) [
-        | inl same ↦ inr (record { h = h; handle = p; slot_is = same; other = ne; idle = i; gone = subst (λ j. block_at (without s (vm_slot h)) j ≡ None) (sym same) (with_block-same s (vm_slot h) None 0 small) })
+        | inl same ↦ inr (record {
+          h = h;
+          handle = p;
+          slot_is = same;
+          other = ne;
+          idle = i;
+          gone =
+              subst (λ j. block_at (without s (vm_slot h)) j ≡ None) (sym same) (with_block-same s (vm_slot h) None 0 small);
+        })
         | inr other ↦ inl (with_block-other s (vm_slot h) None 0 slot other, get_or-set_other s.places (vm_slot h) slot 0 0 other)
       ]
 
@@ -76,10 +89,12 @@ module _ {D : Type 0} (medium : Medium D) (v : VmState D) where
 
 -- a block does not go while room is made for it
 own-slot : (owner : Owner) (k h : ℕ) → IsHandle k → IsHandle h → h ≢ own_handle_of owner k → slot_of (record { owner = owner; h = k }) ≢ vm_slot h
-own-slot Mem k h p q ne same = let low = slot_of-handle Mem k p in let most = p.1 in let some = q.0 in let high = slot-is h q in omega (arith, low, most, some, high, same)
+own-slot Mem k h p q ne same = let low = slot_of-handle Mem k p in let most = p.1 in let some = q.0 in
+    let high = slot-is h q in omega (arith, low, most, some, high, same)
 own-slot Vm k h p q ne same = ne (sym (slot-one k h p q same))
 
-pub thins-own : {D : Type 0} (v : VmState D) (s t : Store) (name : Name) → IsHandle name.h → Thins v s t (own_handle name) → block_at t (slot_of name) ≡ block_at s (slot_of name)
+pub thins-own : {D : Type 0} (v : VmState D) (s t : Store) (name : Name) → IsHandle name.h → Thins v s t (own_handle name)
+    → block_at t (slot_of name) ≡ block_at s (slot_of name)
 thins-own {D} v s t name p thins = on (thins.each (slot_of name))
   where
     on : StaysOrGoes v s t (own_handle name) (slot_of name) → block_at t (slot_of name) ≡ block_at s (slot_of name)

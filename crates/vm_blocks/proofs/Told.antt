@@ -29,13 +29,15 @@ use Rattle.vm_blocks.proofs.Tables.{handle-or, table-past}
 
 -- One block
 
-uid-one : (good : Type 0) (read : List ℕ) (o : Option Held) (b : Option Block) (l : Option VmBlock) → IsListedAs good read o b l → option_map (λ (x : VmBlock). x.uid) l ≡ option_map uid_of o
+uid-one : (good : Type 0) (read : List ℕ) (o : Option Held) (b : Option Block) (l : Option VmBlock) → IsListedAs good read o b l
+    → option_map (λ (x : VmBlock). x.uid) l ≡ option_map uid_of o
 uid-one good read None b l is = ap (option_map (λ (x : VmBlock). x.uid)) is
 uid-one good read (Some e) (Some b) l is = ap (option_map (λ (x : VmBlock). x.uid)) is
 uid-one good read (Some e) None None is = absurd is
 uid-one good read (Some e) None (Some l) is = ap Some is.uid
 
-mark-one : {D : Type 0} (medium : Medium D) (f : FileState D) (h : ℕ) (good : Type 0) (read : List ℕ) (o : Option Held) (b : Option Block) (l : Option VmBlock) → TiedAt medium f h o b → IsListedAs good read o b l
+mark-one : {D : Type 0} (medium : Medium D) (f : FileState D) (h : ℕ) (good : Type 0) (read : List ℕ) (o : Option Held)
+    (b : Option Block) (l : Option VmBlock) → TiedAt medium f h o b → IsListedAs good read o b l
     → model.is_marked_in l ≡ is_marked_in o
 mark-one medium f h good read None b l tied is = ap model.is_marked_in is
 mark-one medium f h good read (Some e) (Some b) l tied is = ap model.is_marked_in is
@@ -60,8 +62,10 @@ module _ {D : Type 0} (medium : Medium D) (v : VmState D) (s : Store) (tied : Is
   -- the user ID that is listed under a number, if one is
   pub uid-told : (h : ℕ) → option_map (λ (x : VmBlock). x.uid) (listed_at m h) ≡ option_map uid_of (held_at v h)
   uid-told h = elim (handle-or {X = ℕ} 0 h) [
-    | inl p ↦ uid-one (medium.honest v.file.device) (bytes_read medium.image v.file h) (held_at v h) (block_at s (vm_slot h)) (listed_at m h) (is.file.cur.each h p)
-    | inr past ↦ ap (option_map (λ (x : VmBlock). x.uid)) (table-past None m.file.cur.blocks h is.file.cur.handles past) ∙ sym (ap (option_map uid_of) (table-past None v.entries h tied.long past))
+    | inl p ↦ uid-one (medium.honest v.file.device) (bytes_read medium.image v.file h) (held_at v h) (block_at s (vm_slot h))
+        (listed_at m h) (is.file.cur.each h p)
+    | inr past ↦ ap (option_map (λ (x : VmBlock). x.uid)) (table-past None m.file.cur.blocks h is.file.cur.handles past)
+        ∙ sym (ap (option_map uid_of) (table-past None v.entries h tied.long past))
   ]
 
   -- it is so in the model as it is in the table
@@ -74,8 +78,10 @@ module _ {D : Type 0} (medium : Medium D) (v : VmState D) (s : Store) (tied : Is
   -- whether it is marked
   pub mark-told : (h : ℕ) → is_marked m h ≡ is_marked_in (held_at v h)
   mark-told h = elim (handle-or {X = ℕ} 0 h) [
-    | inl p ↦ mark-one medium v.file h (medium.honest v.file.device) (bytes_read medium.image v.file h) (held_at v h) (block_at s (vm_slot h)) (listed_at m h) (tied.each h p) (is.file.cur.each h p)
-    | inr past ↦ ap model.is_marked_in (table-past None m.file.cur.blocks h is.file.cur.handles past) ∙ sym (ap is_marked_in (table-past None v.entries h tied.long past))
+    | inl p ↦ mark-one medium v.file h (medium.honest v.file.device) (bytes_read medium.image v.file h) (held_at v h)
+        (block_at s (vm_slot h)) (listed_at m h) (tied.each h p) (is.file.cur.each h p)
+    | inr past ↦ ap model.is_marked_in (table-past None m.file.cur.blocks h is.file.cur.handles past)
+        ∙ sym (ap is_marked_in (table-past None v.entries h tied.long past))
   ]
 
   -- Blocks with a user ID
@@ -107,21 +113,28 @@ module _ {D : Type 0} (medium : Medium D) (v : VmState D) (s : Store) (tied : Is
 
       found-told : (r : ℕ) → IsNextWith v start uid r → unwrap_or (found_above start uid m.file.cur.blocks) 0 ≡ r
       found-told r next =
-          let above = next.above in let low = next.handle.1 in
+          let above = next.above in
+          let low = next.handle.1 in
           let i : ℕ = r - start - 1 in
           let r_is : start + suc i ≡ r = omega (arith, above) in
           let inside : i < length behind = omega (arith, behind-long, above, low) in
-          let here : has_uid uid (get_or behind i None) ≡ true = ap (has_uid uid) (behind-at i) ∙ ap (λ k. has_uid uid (listed_at m k)) r_is ∙ has-told r next.has in
-          let before : (j : ℕ) → j < i → has_uid uid (get_or behind j None) ≡ false = (λ j l. ap (has_uid uid) (behind-at j) ∙ hasnt-told (start + suc j) (next.first (start + suc j) (omega arith) (omega (arith, l, r_is)))) in
-          let first : position_or_len (has_uid uid) behind ≡ i = position_or_len_is (has_uid uid) behind i None (omega (arith, inside)) before (λ l. here) in
+          let here : has_uid uid (get_or behind i None) ≡ true = ap (has_uid uid) (behind-at i)
+          ∙ ap (λ k. has_uid uid (listed_at m k)) r_is ∙ has-told r next.has in
+          let before : (j : ℕ) → j < i → has_uid uid (get_or behind j None) ≡ false =
+          (λ j l. ap (has_uid uid) (behind-at j)
+          ∙ hasnt-told (start + suc j) (next.first (start + suc j) (omega arith) (omega (arith, l, r_is)))) in
+          let first : position_or_len (has_uid uid) behind ≡ i = position_or_len_is (has_uid uid) behind i None
+          (omega (arith, inside)) before (λ l. here) in
           let within : nat_lt i (length behind) ≡ true = less-test i (length behind) inside in
           rw (first, within) r_is
 
       none-told : NoneWith v start uid → unwrap_or (found_above start uid m.file.cur.blocks) 0 ≡ 0
       none-told none =
           let n : ℕ = length behind in
-          let before : (j : ℕ) → j < n → has_uid uid (get_or behind j None) ≡ false = (λ j l. ap (has_uid uid) (behind-at j) ∙ hasnt-told (start + suc j) (none (start + suc j) (omega arith))) in
-          let last : position_or_len (has_uid uid) behind ≡ n = position_or_len_is (has_uid uid) behind n None (omega arith) before (λ l. absurd (omega (arith, l))) in
+          let before : (j : ℕ) → j < n → has_uid uid (get_or behind j None) ≡ false =
+          (λ j l. ap (has_uid uid) (behind-at j) ∙ hasnt-told (start + suc j) (none (start + suc j) (omega arith))) in
+          let last : position_or_len (has_uid uid) behind ≡ n = position_or_len_is (has_uid uid) behind n None
+          (omega arith) before (λ l. absurd (omega (arith, l))) in
           let past : nat_lt n n ≡ false = same-test n in
           rw (last, past) refl
 
@@ -129,11 +142,13 @@ module _ {D : Type 0} (medium : Medium D) (v : VmState D) (s : Store) (tied : Is
 
 module _ {D : Type 0} (medium : Medium D) (v : VmState D) (s : Store) (tied : IsTied medium v s) where
   -- a call that nothing comes into from outside, and that leaves memory as it was
-  tells-row : {A : Type 0} (call : Call A) (r : Result A Refusal) → ((m : Memory) → IsMemoryOf medium v s m → outcome (effect_of call (chosen false false []) m) ≡ (r, m)) → DoesRow medium call r v s v s
+  tells-row : {A : Type 0} (call : Call A) (r : Result A Refusal)
+      → ((m : Memory) → IsMemoryOf medium v s m → outcome (effect_of call (chosen false false []) m) ≡ (r, m)) → DoesRow medium call r v s v s
   tells-row call r same m is = (chosen false false [], record { given = λ g. refl; device = λ g t. absurd cc }, m, is, same m is)
 
   pub uid-row : (h : ℕ) → DoesRow medium (vuid h) (of_uid (option_map uid_of (held_at v h))) v s v s
-  uid-row h = tells-row (vuid h) (of_uid (option_map uid_of (held_at v h))) (λ m is. on m (held_at v h) (listed_at m h) refl (uid-told medium v s tied m is h))
+  uid-row h = tells-row (vuid h) (of_uid (option_map uid_of (held_at v h)))
+      (λ m is. on m (held_at v h) (listed_at m h) refl (uid-told medium v s tied m is h))
     where
       on : (m : Memory) (o : Option Held) (l : Option VmBlock) → listed_at m h ≡ l → option_map (λ (x : VmBlock). x.uid) l ≡ option_map uid_of o
           → outcome (effect_of (vuid h) (chosen false false []) m) ≡ (of_uid (option_map uid_of o), m)
@@ -146,13 +161,16 @@ module _ {D : Type 0} (medium : Medium D) (v : VmState D) (s : Store) (tied : Is
   map-row = tells-row vgetmap (Ok v.map_block) (λ m is. ap (λ u. (Ok u, m)) is.file.cur.map_block)
 
   pub map-item-row : DoesRow medium igetmap (Ok v.map_item) v s v s
-  map-item-row = tells-row igetmap (Ok v.map_item) (λ m is. (let group = is.file.cur.map_group in let item = is.file.cur.map_item in λ k. (Ok (group k, item k), m)))
+  map-item-row = tells-row igetmap (Ok v.map_item)
+      (λ m is. (let group = is.file.cur.map_group in let item = is.file.cur.map_item in λ k. (Ok (group k, item k), m)))
 
-  pub find-row : (start uid r : ℕ) → uid ≢ group_uid → (r ≢ 0 → IsNextWith v start uid r) → (r ≡ 0 → NoneWith v start uid) → DoesRow medium (vfind start uid) (Ok r) v s v s
+  pub find-row : (start uid r : ℕ) → uid ≢ group_uid → (r ≢ 0 → IsNextWith v start uid r) → (r ≡ 0 → NoneWith v start uid)
+      → DoesRow medium (vfind start uid) (Ok r) v s v s
   find-row start uid r other found none = tells-row (vfind start uid) (Ok r) (λ m is.
       let free : (uid == group_uid) ≡ false = grind (arith, nat_tests, other) in
       rw free (ap (λ k. (Ok k, m)) (on m is r found none)))
     where
-      on : (m : Memory) (is : IsMemoryOf medium v s m) (k : ℕ) → (k ≢ 0 → IsNextWith v start uid k) → (k ≡ 0 → NoneWith v start uid) → unwrap_or (found_above start uid m.file.cur.blocks) 0 ≡ k
+      on : (m : Memory) (is : IsMemoryOf medium v s m) (k : ℕ) → (k ≢ 0 → IsNextWith v start uid k)
+          → (k ≡ 0 → NoneWith v start uid) → unwrap_or (found_above start uid m.file.cur.blocks) 0 ≡ k
       on m is zero found none = none-told medium v s tied m is uid start (none refl)
       on m is (suc k) found none = found-told medium v s tied m is uid start (suc k) (found (λ z. omega (arith, z)))

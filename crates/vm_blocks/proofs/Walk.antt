@@ -44,17 +44,23 @@ passes-other i e es legal other =
     let a = both (ltb i e.h && leb e.h 1024) (is_block_size e.len) s.0 in
     let low = (behind_from i e s.0).above in
     let above : i + 1 < e.h = omega (arith, low, other) in
-    let entry = and-true (ltb (i + 1) e.h && leb e.h 1024) (is_block_size e.len) (and-true (ltb (i + 1) e.h) (leb e.h 1024) (lt-ltb (i + 1) e.h above) (both (ltb i e.h) (leb e.h 1024) a.0).1) a.1 in
+    let entry = and-true (ltb (i + 1) e.h && leb e.h 1024) (is_block_size e.len)
+    (and-true (ltb (i + 1) e.h) (leb e.h 1024) (lt-ltb (i + 1) e.h above) (both (ltb i e.h) (leb e.h 1024) a.0).1) a.1 in
     let rest : are_entries (i + 1) (e ∷ es) ≡ true = and-true (is_entry (i + 1) e) (are_entries e.h es) entry s.1 in
     record { rest = rest; found = not-found (e ∷ es) (i + 1) (none_below (e ∷ es) (i + 1) (i + 1) rest (omega arith)); behind = λ h high. refl }
 
 module _ (es : List Entry) (table : List (Option Held)) (i next : ℕ) (small : i < 1024) (w : Walks es table i next) where
   -- one more handle is listed
-  walks-more : (now : List (Option Held)) (to : ℕ) (found : Option Entry) → length now ≡ 1024 → ((k : ℕ) → k ≢ i → get_or now k None ≡ get_or table k None) → get_or now i None ≡ option_map as_held found
+  walks-more : (now : List (Option Held)) (to : ℕ) (found : Option Entry) → length now ≡ 1024
+      → ((k : ℕ) → k ≢ i → get_or now k None ≡ get_or table k None) → get_or now i None ≡ option_map as_held found
       → to ≤ length es → Passes i (drop next es) (drop to es) found → Walks es now (i + 1) to
   walks-more now to found long others own few passes = record {
     long = long;
-    done = λ k below. elim (cases_eq k i) [ inl same ↦ subst (λ j. get_or now j None ≡ option_map as_held (find (λ e. e.h == j + 1) es)) (sym same) here | inr ne ↦ others k ne ∙ w.done k (omega (arith, below, ne)) ];
+    done = λ k below. elim (cases_eq k i) [
+      | inl same ↦ subst (λ j. get_or now j None ≡ option_map as_held (find (λ e. e.h == j + 1) es))
+          (sym same) here
+      | inr ne ↦ others k ne ∙ w.done k (omega (arith, below, ne))
+    ];
     few = few;
     rest = passes.rest;
     front = λ h above. w.front h (omega (arith, above)) ∙ passes.behind h above;
@@ -67,12 +73,15 @@ module _ (es : List Entry) (table : List (Option Held)) (i next : ℕ) (small : 
   within = let long = w.long in omega arith
 
   -- the next entry is of the handle
-  pub walks-own : (d : Entry) → next < length es → (get_or es next d).h ≡ i + 1 → Walks es (set (set table i None) i (Some (as_held (get_or es next d)))) (i + 1) (next + 1)
+  pub walks-own : (d : Entry) → next < length es → (get_or es next d).h ≡ i + 1
+      → Walks es (set (set table i None) i (Some (as_held (get_or es next d)))) (i + 1) (next + 1)
   walks-own d more own =
       let held = Some (as_held (get_or es next d)) in
       let cut : drop next es ≡ get_or es next d ∷ drop (next + 1) es = at_drop_more (λ xs. xs) es next d more in
       let legal = subst (λ xs. are_entries i xs ≡ true) cut w.rest in
-      let passes : Passes i (drop next es) (drop (next + 1) es) (Some (get_or es next d)) = subst (λ xs. Passes i xs (drop (next + 1) es) (Some (get_or es next d))) (sym cut) (passes-own i (get_or es next d) (drop (next + 1) es) legal own) in
+      let passes : Passes i (drop next es) (drop (next + 1) es) (Some (get_or es next d)) =
+      subst (λ xs. Passes i xs (drop (next + 1) es) (Some (get_or es next d))) (sym cut)
+      (passes-own i (get_or es next d) (drop (next + 1) es) legal own) in
       let length_one = length-set table i None in
       let length_two = length-set (set table i None) i held in
       walks-more (set (set table i None) i held) (next + 1) (Some (get_or es next d)) (length_two ∙ length_one ∙ w.long)
@@ -80,7 +89,8 @@ module _ (es : List Entry) (table : List (Option Held)) (i next : ℕ) (small : 
       (get_or-set_same (set table i None) i held None (omega (arith, length_one, within))) (omega arith) passes
 
   walks-past : Passes i (drop next es) (drop next es) None → Walks es (set table i None) (i + 1) next
-  walks-past passes = walks-more (set table i None) next None (length-set table i None ∙ w.long) (λ k ne. get_or-set_other table i k None None ne) (get_or-set_same table i None None within) w.few passes
+  walks-past passes = walks-more (set table i None) next None (length-set table i None ∙ w.long)
+      (λ k ne. get_or-set_other table i k None None ne) (get_or-set_same table i None None within) w.few passes
 
   -- it is of another
   pub walks-other : (d : Entry) → next < length es → (get_or es next d).h ≢ i + 1 → Walks es (set table i None) (i + 1) next

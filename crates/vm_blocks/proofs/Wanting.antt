@@ -19,20 +19,24 @@ use Rattle.vm_blocks.proofs.Brings.{made-other}
 use Rattle.vm_blocks.proofs.Slots.{slot-one}
 
 -- a request of a legal size is refused for want of room alone
-pub refused-for-room : (size : ℕ) (why : RoomError) (r : Result (Unit {0}) RoomError) (P : Type 0) → r ≡ Err why → size ≤ most_block_bytes → (r ≡ Err NoRoom → P) → ((r ≡ Err TooBig) ↔ (most_block_bytes < size)) → P
+pub refused-for-room : (size : ℕ) (why : RoomError) (r : Result (Unit {0}) RoomError) (P : Type 0) → r ≡ Err why
+    → size ≤ most_block_bytes → (r ≡ Err NoRoom → P) → ((r ≡ Err TooBig) ↔ (most_block_bytes < size)) → P
 refused-for-room size NoRoom r P is fits no_room too_big = no_room is
 refused-for-room size TooBig r P is fits no_room too_big = absurd (omega (arith, fits, too_big.0 is))
 
 -- one more was discarded where there was no room
-pub discards-more : {D : Type 0} (v : VmState D) (a b c : Store) (but slot size : ℕ) → Thins v a b but → DiscardsForRoom v a b but slot size → HasNoRoom b slot size → DiscardsOne v b c but → DiscardsForRoom v a c but slot size
-discards-more {D} v a b c but slot size thins before no_room one = inr (record { first = first before; last = b; before = thins; wanted = no_room; one = one })
+pub discards-more : {D : Type 0} (v : VmState D) (a b c : Store) (but slot size : ℕ) → Thins v a b but
+    → DiscardsForRoom v a b but slot size → HasNoRoom b slot size → DiscardsOne v b c but → DiscardsForRoom v a c but slot size
+discards-more {D} v a b c but slot size thins before no_room one =
+    inr (record { first = first before; last = b; before = thins; wanted = no_room; one = one })
   where
     first : DiscardsForRoom v a b but slot size → HasNoRoom a slot size
     first (inl same) = subst (λ s. HasNoRoom s slot size) same no_room
     first (inr went) = went.first
 
 -- none is left that may be discarded, and there is no room
-pub lacks-room : {D : Type 0} (v : VmState D) (old now last new : Store) (name : Name) (size but : ℕ) → but ≡ own_handle name → last ≡ now → Thins v old now (own_handle name) → HasNoRoom now (slot_of name) size
+pub lacks-room : {D : Type 0} (v : VmState D) (old now last new : Store) (name : Name) (size but : ℕ) → but ≡ own_handle name
+    → last ≡ now → Thins v old now (own_handle name) → HasNoRoom now (slot_of name) size
     → (new ≡ last) × NoneIdle v last but → LacksRoom v old new name size
 lacks-room v old now last new name size but own same thins no_room none =
     let is : new ≡ now = none.0 ∙ same in
@@ -47,7 +51,8 @@ module _ (s t : Store) (h size : ℕ) where
   same-remain same = inl (λ k p ne there. subst (λ u. IsThere u (vm_slot k)) (sym same) there)
 
   -- and then the one alone changed
-  pub remain-more : (u : Store) → IsHandle h → ((slot : ℕ) → slot ≢ vm_slot h → block_at u slot ≡ block_at t slot) → RemainOrNoRoom s t h size → RemainOrNoRoom s u h size
+  pub remain-more : (u : Store) → IsHandle h → ((slot : ℕ) → slot ≢ vm_slot h → block_at u slot ≡ block_at t slot)
+      → RemainOrNoRoom s t h size → RemainOrNoRoom s u h size
   remain-more u q others (inl there) = inl (λ k p ne was. subst IsBlock (sym (others (vm_slot k) (λ e. ne (slot-one k h p q e)))) (there k p ne was))
   remain-more u q others (inr no_room) = inr no_room
 
@@ -56,7 +61,8 @@ module _ (s t : Store) (h size : ℕ) where
   discards-remain v (inr went) = inr went.first
 
 -- another count of locks of the one
-pub locked-remain : (s t u : Store) (h size n : ℕ) → IsHandle h → u ≡ with_locks t (vm_slot h) n → RemainOrNoRoom s t h size → RemainOrNoRoom s u h size
+pub locked-remain : (s t u : Store) (h size n : ℕ) → IsHandle h → u ≡ with_locks t (vm_slot h) n → RemainOrNoRoom s t h size
+    → RemainOrNoRoom s u h size
 locked-remain s t u h size n q is = remain-more s t h size u q (λ slot ne. ap (λ x. block_at x slot) is ∙ with_locks-other t (vm_slot h) n slot ne)
 
 -- what holds of whatever is listed
@@ -69,7 +75,8 @@ listed-more P Q None step h = tt
 listed-more P Q (Some e) step h = step e h
 
 -- room was made for a block
-pub made-remain : {D : Type 0} (v : VmState D) (s t : Store) (h size : ℕ) → IsHandle h → DiscardsAndMakes v s t (vm h) size → RemainOrNoRoom s t h size
+pub made-remain : {D : Type 0} (v : VmState D) (s t : Store) (h size : ℕ) → IsHandle h → DiscardsAndMakes v s t (vm h) size
+    → RemainOrNoRoom s t h size
 made-remain v s t h size q made = remain-more s made.mid h size t q (made-other v s t h size q made) (discards-remain s made.mid h size v made.wanted)
 
 -- where a handle is not listed, not all are

@@ -34,10 +34,17 @@ uids-small (b ∷ bs) all =
 -- a directory that bytes spell
 contents-words : (c : Contents) → AreBytes (contents_spelling c) → AreWords (listed c)
 contents-words c all =
-    let blocks = flat_map block_spelling c.blocks in let number = word_bytes (length c.blocks) in let item = word_bytes c.map_item.1 in
-    let group = word_bytes c.map_item.0 in let block = word_bytes c.map_block in
+    let blocks = flat_map block_spelling c.blocks in
+    let number = word_bytes (length c.blocks) in
+    let item = word_bytes c.map_item.1 in
+    let group = word_bytes c.map_item.0 in
+    let block = word_bytes c.map_block in
     let first = front (number ++ blocks) block (front (number ++ blocks ++ block) group (front (number ++ blocks ++ block ++ group) item all)) in
-    record { uids = uids-small c.blocks (back number blocks first); item = word-small c.map_item.1 [] (back (number ++ blocks ++ block ++ group) item all) }
+    record {
+      uids = uids-small c.blocks (back number blocks first);
+      item = word-small c.map_item.1 []
+          (back (number ++ blocks ++ block ++ group) item all);
+    }
 
 -- both directories of a pair that bytes are read as
 pub record ArePairWords (p : Pair) : Type 0 where

@@ -28,7 +28,8 @@ pub record Drops (old new : Store) (h : ℕ) : Type 0 where
 
 -- a slot has what it had, and it lies where it lay if it is locked; or it went
 abbrev pub KeptOrGoes : {D : Type 0} → VmState D → Store → Store → ℕ → ℕ → Type 0
-KeptOrGoes v old new h slot = ((block_at new slot ≡ block_at old slot) × (0 < locks_of old slot → place_of new slot ≡ place_of old slot)) ⊎ Goes v old new h slot
+KeptOrGoes v old new h slot = ((block_at new slot ≡ block_at old slot) × (0 < locks_of old slot → place_of new slot ≡ place_of old slot))
+    ⊎ Goes v old new h slot
 
 -- every block but that of a handle is as it was, and lies where it lay if it is locked; or it was discarded
 pub record Keeps {D : Type 0} (v : VmState D) (old new : Store) (h : ℕ) : Type 0 where

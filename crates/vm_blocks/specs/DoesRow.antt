@@ -19,10 +19,12 @@ pub record IsChosen {D : Type 0} (medium : Medium D) (old new : D) (choice : Cho
 abbrev pub DoesRow : {D : Type 0} → Medium D → {A : Type 0} → Call A → Result A Refusal → VmState D → Store → VmState D → Store → Type 0
 DoesRow medium call result v s w t =
     (m : Memory) → IsMemoryOf medium v s m
-    → (choice : Choice) × IsChosen medium v.file.device w.file.device choice × (n : Memory) × IsMemoryOf medium w t n × (outcome (effect_of call choice m) ≡ (result, n))
+    → (choice : Choice) × IsChosen medium v.file.device w.file.device choice × (n : Memory) × IsMemoryOf medium w t n
+    × (outcome (effect_of call choice m) ≡ (result, n))
 
 -- a call that has no part of the device does so: nothing is given, and the device refused nowhere
 abbrev pub DoesRowAlone : {D : Type 0} → Medium D → {A : Type 0} → Call A → Result A Refusal → VmState D → Store → VmState D → Store → Type 0
 DoesRowAlone medium call result v s w t =
     (m : Memory) → IsMemoryOf medium v s m
-    → (choice : Choice) × ((choice.given ≡ []) × (choice.device ≡ false)) × (n : Memory) × IsMemoryOf medium w t n × (outcome (call choice m) ≡ (result, n))
+    → (choice : Choice) × ((choice.given ≡ []) × (choice.device ≡ false)) × (n : Memory) × IsMemoryOf medium w t n
+    × (outcome (call choice m) ≡ (result, n))

@@ -18,9 +18,11 @@ use Rattle.vm_blocks.specs.Spelled.{block_in}
 use Rattle.vm_blocks.specs.Matches.{IsListedAs, IsDirectoryOf, IsPairOf, stored_pair}
 
 -- the model's current directory: of each handle, what is listed; and the same maps
-pub record IsCurrentOf {D : Type 0} (image : D → List ℕ) (honest : D → Type 0) (v : VmState D) (s : Store) (cur : model.Directory VmBlock) : Type 0 where
+pub record IsCurrentOf {D : Type 0} (image : D → List ℕ) (honest : D → Type 0) (v : VmState D) (s : Store)
+    (cur : model.Directory VmBlock) : Type 0 where
   pub handles : length cur.blocks ≡ 1024
-  pub each : (h : ℕ) → IsHandle h → IsListedAs (honest v.file.device) (bytes_read image v.file h) (held_at v h) (block_at s (vm_slot h)) (at_handle None cur.blocks h)
+  pub each : (h : ℕ) → IsHandle h → IsListedAs (honest v.file.device) (bytes_read image v.file h) (held_at v h)
+      (block_at s (vm_slot h)) (at_handle None cur.blocks h)
   pub map_block : cur.map_block ≡ v.map_block
   pub map_group : cur.map_group ≡ v.map_item.0
   pub map_item : cur.map_item ≡ v.map_item.1
@@ -29,7 +31,8 @@ pub record IsCurrentOf {D : Type 0} (image : D → List ℕ) (honest : D → Typ
 -- that of the other area
 abbrev pub IsKeptOf : {D : Type 0} → (D → List ℕ) → (D → Type 0) → FileState D → Kept → Type 0
 IsKeptOf image honest f (Sure p) = (f.sure ≡ true) × IsPairOf (honest f.device) f.current f.saved (pair_of image f) p
-IsKeptOf image honest f (Unsure p q) = (f.sure ≡ false) × IsPairOf (honest f.device) f.current f.saved (pair_of image f) p × (honest f.device → q ≡ stored_pair (other_pair image f))
+IsKeptOf image honest f (Unsure p q) = (f.sure ≡ false) × IsPairOf (honest f.device) f.current f.saved (pair_of image f) p
+    × (honest f.device → q ≡ stored_pair (other_pair image f))
 
 -- the model's VM file, a legal one
 pub record IsFileOf {D : Type 0} (image : D → List ℕ) (honest : D → Type 0) (v : VmState D) (s : Store) (f : VmFile) : Type 0 where

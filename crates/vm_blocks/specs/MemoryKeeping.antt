@@ -29,17 +29,20 @@ OthersMayChange medium v = (s t : Store) (m n : Memory) → IsMemoryOf medium v 
 
 -- blocks are discarded, but for that of one handle, 0 for none: the model's memory is the same
 abbrev pub BlocksMayGo : {D : Type 0} → Medium D → VmState D → Type 0
-BlocksMayGo medium v = (s t : Store) (but : ℕ) → IsTied medium v s → Thins v s t but → IsTied medium v t × ((m : Memory) → IsMemoryOf medium v s m → IsMemoryOf medium v t m)
+BlocksMayGo medium v = (s t : Store) (but : ℕ) → IsTied medium v s → Thins v s t but → IsTied medium v t
+    × ((m : Memory) → IsMemoryOf medium v s m → IsMemoryOf medium v t m)
 
 -- a marked block becomes another heap under its handle, and its count of locks another: the
 -- model's block is what the new bytes spell
 abbrev pub MarkedMayChange : {D : Type 0} → Medium D → VmState D → Type 0
 MarkedMayChange medium v =
-    (s t : Store) (m n : Memory) (h : ℕ) → IsTied medium v s → IsMemoryOf medium v s m → SameBut s t h → (own : IsMarkedHeap v t h) → own.block.locks ≤ 65535 → AreBytes own.block.bytes
+    (s t : Store) (m n : Memory) (h : ℕ) → IsTied medium v s → IsMemoryOf medium v s m → SameBut s t h
+    → (own : IsMarkedHeap v t h) → own.block.locks ≤ 65535 → AreBytes own.block.bytes
     → IsSpelled t (with_block m (vm h) (Some (spelled own.block.locks own.block.bytes))).file n → IsMemoryOf medium v t n
 
 -- where no other block may be discarded, and no stretch of the region has room, room may be
 -- wanting in the model too
 abbrev pub RoomMayWant : {D : Type 0} → Medium D → VmState D → Type 0
 RoomMayWant medium v =
-    (s : Store) (m : Memory) (name : Name) (size : ℕ) → IsTied medium v s → IsMemoryOf medium v s m → IsHandle name.h → NoneIdle v s (own_handle name) → IsCrowded s (slot_of name) size → is_tight m name size ≡ true
+    (s : Store) (m : Memory) (name : Name) (size : ℕ) → IsTied medium v s → IsMemoryOf medium v s m → IsHandle name.h
+    → NoneIdle v s (own_handle name) → IsCrowded s (slot_of name) size → is_tight m name size ≡ true

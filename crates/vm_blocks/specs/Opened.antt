@@ -17,7 +17,11 @@ pub record AreWords (d : Directory) : Type 0 where
 
 -- the pair of the area that is read
 abbrev pub opened_pair : {D : Type 0} → (D → List ℕ) → FileState D → Pair
-opened_pair image f = record { cur = stored_directory f.current (pair_of image f).cur.blocks; saved = stored_directory f.saved (pair_of image f).saved.blocks }
+opened_pair image f = record {
+  cur = stored_directory f.current (pair_of image f).cur.blocks;
+  saved =
+      stored_directory f.saved (pair_of image f).saved.blocks;
+}
 
 -- what the device holds: that pair or, where the file is unsure, that or the pair of the other area
 abbrev pub opened_kept : {D : Type 0} → (D → List ℕ) → FileState D → Kept
@@ -25,7 +29,8 @@ opened_kept image f = if f.sure then Sure (opened_pair image f) else Unsure (ope
 
 -- the file: each block as the device holds it, neither marked nor locked
 abbrev pub opened_file : {D : Type 0} → (D → List ℕ) → FileState D → VmFile
-opened_file image f = let pair = opened_pair image f in record { cur = with_each idle_block pair.cur; saved = pair.saved; kept = opened_kept image f; area = f.area }
+opened_file image f = let pair = opened_pair image f in
+    record { cur = with_each idle_block pair.cur; saved = pair.saved; kept = opened_kept image f; area = f.area }
 
 -- memory with that file, beside what the slots of global memory spell
 abbrev pub opened_memory : {D : Type 0} → (D → List ℕ) → FileState D → Store → Memory

@@ -28,25 +28,30 @@ pub some_length : (e : Entry) (o : Option (List ℕ)) (ws : List ℕ) → o ≡ 
 some_length e o ws is long = (let P : Option (List ℕ) → Type 0 = λ x. IfSome x (λ bytes. length bytes ≡ e.len) in subst P is long)
 
 -- an entry and, behind it, as many bytes as it says are a block
-pub block_appended : (e : Entry) (bytes ws old mid new : List ℕ) → bytes ≡ ws → length ws ≡ e.len → mid ≡ old ++ (word_bytes e.h ++ word_bytes e.uid ++ word_bytes e.len) → new ≡ mid ++ ws →
+pub block_appended : (e : Entry) (bytes ws old mid new : List ℕ) → bytes ≡ ws → length ws ≡ e.len
+    → mid ≡ old ++ (word_bytes e.h ++ word_bytes e.uid ++ word_bytes e.len) → new ≡ mid ++ ws →
     new ≡ old ++ block_spelling (let b : Block = record { h = e.h; uid = e.uid; bytes = bytes } in b)
 block_appended e bytes ws old mid new is long head body =
     let P : List ℕ → Type 0 = λ xs. new ≡ old ++ block_spelling (let b : Block = record { h = e.h; uid = e.uid; bytes = xs } in b) in
     let H : ℕ → Type 0 = λ n. mid ≡ old ++ (word_bytes e.h ++ word_bytes e.uid ++ word_bytes n) in
     let words = word_bytes e.h ++ word_bytes e.uid ++ word_bytes (length ws) in
-    let spelled : (old ++ words) ++ ws ≡ old ++ block_spelling (let b : Block = record { h = e.h; uid = e.uid; bytes = ws } in b) = append_assoc old words ws in
+    let spelled : (old ++ words) ++ ws ≡ old ++ block_spelling (let b : Block = record { h = e.h; uid = e.uid; bytes = ws } in b) =
+    append_assoc old words ws in
     subst P (sym is) (body ∙ ap (λ xs. xs ++ ws) (subst H (sym long) head) ∙ spelled)
 
 -- the count, the blocks and the maps behind what was there are a directory
-pub contents_appended : (c : Contents) (n : ℕ) (old one two new : List ℕ) → n ≡ length c.blocks → one ≡ old ++ word_bytes n → two ≡ one ++ flat_map block_spelling c.blocks →
+pub contents_appended : (c : Contents) (n : ℕ) (old one two new : List ℕ) → n ≡ length c.blocks → one ≡ old ++ word_bytes n
+    → two ≡ one ++ flat_map block_spelling c.blocks →
     new ≡ two ++ (word_bytes c.map_block ++ word_bytes c.map_item.0 ++ word_bytes c.map_item.1) → new ≡ old ++ contents_spelling c
 contents_appended c n old one two new count first second third =
-    let blocks = flat_map block_spelling c.blocks in let maps = word_bytes c.map_block ++ word_bytes c.map_item.0 ++ word_bytes c.map_item.1 in
+    let blocks = flat_map block_spelling c.blocks in
+    let maps = word_bytes c.map_block ++ word_bytes c.map_item.0 ++ word_bytes c.map_item.1 in
     let grouped : ((old ++ word_bytes (length c.blocks)) ++ blocks) ++ maps ≡ old ++ contents_spelling c = simp append_assoc in
     third ∙ ap (λ xs. xs ++ maps) (second ∙ ap (λ xs. xs ++ blocks) (first ∙ ap (λ k. old ++ word_bytes k) count)) ∙ grouped
 
 -- a block that is not resident is filled where its bytes are a heap under its handle
-pub filled_stored : (h uid : ℕ) (o : Option (List ℕ)) (stored : List ℕ) → o ≡ None → is_filled (let b : Block = record { h = h; uid = uid; bytes = unwrap_or o stored } in b) ≡ true →
+pub filled_stored : (h uid : ℕ) (o : Option (List ℕ)) (stored : List ℕ) → o ≡ None
+    → is_filled (let b : Block = record { h = h; uid = uid; bytes = unwrap_or o stored } in b) ≡ true →
     IsHeap stored × (handle_word stored ≡ h)
 filled_stored h uid o stored none filled =
     let P : Option (List ℕ) → Type 0 = λ x. is_filled (let b : Block = record { h = h; uid = uid; bytes = unwrap_or x stored } in b) ≡ true in
@@ -64,14 +69,16 @@ entry_fits es i d h = omega (arith, entries_length-more es i d h, entries_length
 
 module _ (f : Entry → Block) where
   -- one more block behind those that are written
-  spelled_more : (es : List Entry) (i : ℕ) (d : Entry) → i < length es → flat_map block_spelling (map f (take (suc i) es)) ≡ flat_map block_spelling (map f (take i es)) ++ block_spelling (f (get_or es i d))
+  spelled_more : (es : List Entry) (i : ℕ) (d : Entry) → i < length es
+      → flat_map block_spelling (map f (take (suc i) es)) ≡ flat_map block_spelling (map f (take i es)) ++ block_spelling (f (get_or es i d))
   spelled_more [] i d h = absurd (omega arith)
   spelled_more (e ∷ es) zero d h = append-nil (block_spelling (f e))
   spelled_more (e ∷ es) (suc i) d h =
       ap (λ xs. block_spelling (f e) ++ xs) (spelled_more es i d (omega arith))
       ∙ sym (append_assoc (block_spelling (f e)) (flat_map block_spelling (map f (take i es))) (block_spelling (f (get_or es i d))))
 
-  pub blocks_appended : (es : List Entry) (i : ℕ) (d : Entry) (old mid new : List ℕ) → i < length es → mid ≡ old ++ flat_map block_spelling (map f (take i es)) →
+  pub blocks_appended : (es : List Entry) (i : ℕ) (d : Entry) (old mid new : List ℕ) → i < length es
+      → mid ≡ old ++ flat_map block_spelling (map f (take i es)) →
       new ≡ mid ++ block_spelling (f (get_or es i d)) → new ≡ old ++ flat_map block_spelling (map f (take (i + 1) es))
   blocks_appended es i d old mid new h so_far one =
       let next : i + 1 ≡ suc i = omega arith in

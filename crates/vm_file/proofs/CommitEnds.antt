@@ -31,7 +31,8 @@ keeps_nothing Disk p k = inl refl
 module _ {D : Type 0} (medium : Medium D) (how : How) (resident : ℕ → Option (List ℕ)) (cur : Directory) (old : FileState D)
     (finds : medium.honest old.device → (c : List ℕ) → medium.may_leave old.device c → Finds medium.image old c) where
   not_begun : (e : CommitError) → (e ≡ Disk → ⊥) → ((let r : Result (Unit {0}) CommitError = Err e in r ≡ Err Unsure) ↔ (old.sure ≡ false))
-      → ((let r : Result (Unit {0}) CommitError = Err e in r ≡ Err TooBig) ↔ (old.sure ≡ true) × (old.area < length_after how cur old.saved)) → CommitsFile medium how resident cur old old (Err e)
+      → ((let r : Result (Unit {0}) CommitError = Err e in r ≡ Err TooBig) ↔ (old.sure ≡ true) × (old.area < length_after how cur old.saved))
+      → CommitsFile medium how resident cur old old (Err e)
   not_begun e other unsure too_big = record {
     unsure = unsure;
     too_big = too_big;
@@ -58,7 +59,8 @@ module _ {D : Type 0} (medium : Medium D) (how : How) (resident : ℕ → Option
       err e is = cc
 
   pub unsure_first : old.sure ≡ false → CommitsFile medium how resident cur old old (Err Unsure)
-  unsure_first unsure = not_begun Unsure (λ is. absurd cc) ((λ is. unsure), (λ is. refl)) ((λ is. absurd cc), (λ both. let sure = both.0 in absurd cc))
+  unsure_first unsure = not_begun Unsure (λ is. absurd cc) ((λ is. unsure), (λ is. refl))
+      ((λ is. absurd cc), (λ both. let sure = both.0 in absurd cc))
 
   module _ (sure : old.sure ≡ true) where
     pub too_big_first : old.area < length_after how cur old.saved → CommitsFile medium how resident cur old old (Err TooBig)
@@ -66,7 +68,8 @@ module _ {D : Type 0} (medium : Medium D) (how : How) (resident : ℕ → Option
 
     module _ (fits : length_after how cur old.saved ≤ old.area) where
       pub memory_first : CommitsFile medium how resident cur old old (Err Memory)
-      memory_first = not_begun Memory (λ is. absurd cc) ((λ is. absurd cc), (λ is. absurd cc)) ((λ is. absurd cc), (λ both. let big = both.1 in absurd (omega arith)))
+      memory_first = not_begun Memory (λ is. absurd cc) ((λ is. absurd cc), (λ is. absurd cc))
+          ((λ is. absurd cc), (λ both. let big = both.1 in absurd (omega arith)))
 
       -- what it needs is read: the file is as it was, but for its device
       module _ (mid : FileState D) {T E : Type 0} (outcome : Result T E) (r : ReadsFile medium old mid outcome) where
@@ -77,7 +80,8 @@ module _ {D : Type 0} (medium : Medium D) (how : How) (resident : ℕ → Option
         after = kept_after medium.image resident how cur old
 
         -- what is found then is what the file kept
-        reads_find : (new : FileState D) → medium.honest old.device → Passes medium.may_have_left old.device mid.device (FindsEither medium.image old new)
+        reads_find : (new : FileState D) → medium.honest old.device → Passes medium.may_have_left old.device mid.device
+            (FindsEither medium.image old new)
         reads_find new h = weaker medium.may_have_left old.device mid.device _ _ (λ x l. inl (finds h x l)) (reads.time h)
 
         pub read_failed : (medium.honest old.device → Rose (medium.failed old.device) (medium.failed mid.device))
@@ -117,7 +121,8 @@ module _ {D : Type 0} (medium : Medium D) (how : How) (resident : ℕ → Option
 
           either_then : medium.honest old.device → Passes medium.may_have_left old.device new.device (FindsEither medium.image old new)
           either_then h = goes_on medium.may_have_left old.device mid.device new.device _ (reads_find new h)
-              (weaker medium.may_have_left mid.device new.device _ _ (λ x l. ⊎_elim (λ was. inl (found_before medium.image old mid x r.same reads.same was)) (λ now. inr now) l) (either (reads.stays h)))
+              (weaker medium.may_have_left mid.device new.device _ _
+              (λ x l. ⊎_elim (λ was. inl (found_before medium.image old mid x r.same reads.same was)) (λ now. inr now) l) (either (reads.stays h)))
 
           counted : FailedOnce (medium.failed old.device) (medium.failed new.device)
           counted = subst (λ n. FailedOnce n (medium.failed new.device)) count once
@@ -125,17 +130,36 @@ module _ {D : Type 0} (medium : Medium D) (how : How) (resident : ℕ → Option
           steadily_on : Steadily medium old new
           steadily_on = steadily_then medium old mid new (steadily_read medium outcome old mid r) steadily
 
-          pub selected : new ≡ (let f : FileState D = record { device = new.device; area = mid.area; second = not mid.second; sure = true; current = current_after how cur mid.saved; saved = saved_after how cur mid.saved } in f)
-              → (medium.honest mid.device → pair_of medium.image new ≡ pair_in (current_after how cur mid.saved) (saved_after how cur mid.saved) bytes)
-              → (medium.honest mid.device → medium.image new.device ≡ image_after medium.image bytes mid) → medium.failed new.device ≡ medium.failed mid.device → CommitsFile medium how resident cur old new (Ok tt)
+          pub selected : new ≡ (let f : FileState D = record {
+            device = new.device;
+            area = mid.area;
+            second =
+                not mid.second;
+            sure = true;
+            current = current_after how cur mid.saved;
+            saved = saved_after how cur mid.saved;
+          } in f)
+              → (medium.honest mid.device → pair_of medium.image new ≡ pair_in (current_after how cur mid.saved)
+              (saved_after how cur mid.saved) bytes)
+              → (medium.honest mid.device → medium.image new.device ≡ image_after medium.image bytes mid)
+              → medium.failed new.device ≡ medium.failed mid.device → CommitsFile medium how resident cur old new (Ok tt)
           selected done now written ok = record {
             unsure = ((λ is. absurd cc), (λ is. absurd cc));
             too_big = ((λ is. absurd cc), (λ both. let big = both.1 in absurd (omega arith)));
-            done = subst (λ (f : FileState D). new ≡ record { device = new.device; area = f.area; second = not f.second; sure = true; current = current_after how cur f.saved; saved = saved_after how cur f.saved }) r.same done;
+            done = subst (λ (f : FileState D). new ≡ record {
+              device = new.device;
+              area = f.area;
+              second =
+                  not f.second;
+              sure = true;
+              current = current_after how cur f.saved;
+              saved = saved_after how cur f.saved;
+            }) r.same done;
             refused = tt;
             pair = λ h. now (reads.stays h) ∙ cut h;
             kept = λ h. kept_sure medium.image new _ (ap (λ (f : FileState D). f.sure) done) (now (reads.stays h) ∙ cut h);
-            bytes = λ h. subst (λ ws. medium.image new.device ≡ image_after medium.image ws mid) (spelled h).spelled (written (reads.stays h)) ∙ written_alike medium.image (pair_spelling after) old mid r.same reads.same;
+            bytes = λ h. subst (λ ws. medium.image new.device ≡ image_after medium.image ws mid) (spelled h).spelled (written (reads.stays h))
+                ∙ written_alike medium.image (pair_spelling after) old mid r.same reads.same;
             torn = λ h is. absurd cc;
             other = λ h was unsure. (let is = ap (λ (f : FileState D). f.sure) done in absurd cc);
             either = either_then;
@@ -150,9 +174,11 @@ module _ {D : Type 0} (medium : Medium D) (how : How) (resident : ℕ → Option
             steadily = steadily_on;
           }
 
-          pub not_selected : new ≡ (let f : FileState D = record mid { device = new.device; sure = new.sure } in f) → (medium.honest mid.device → pair_of medium.image new ≡ pair_of medium.image mid)
+          pub not_selected : new ≡ (let f : FileState D = record mid { device = new.device; sure = new.sure } in f)
+              → (medium.honest mid.device → pair_of medium.image new ≡ pair_of medium.image mid)
               → (medium.honest mid.device → MayHaveWritten medium.image mid new.sure (medium.image new.device))
-              → (medium.honest mid.device → new.sure ≡ false → IsOther medium.image new (pair_in (current_after how cur mid.saved) (saved_after how cur mid.saved) bytes))
+              → (medium.honest mid.device → new.sure ≡ false
+              → IsOther medium.image new (pair_in (current_after how cur mid.saved) (saved_after how cur mid.saved) bytes))
               → Rose (medium.failed mid.device) (medium.failed new.device) → CommitsFile medium how resident cur old new (Err Disk)
           not_selected left now torn other rose = record {
             unsure = ((λ is. absurd cc), (λ is. absurd cc));

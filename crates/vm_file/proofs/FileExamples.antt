@@ -46,7 +46,11 @@ abbrev block : List ℕ
 block = (1 ∷ 0 ∷ 16 ∷ 0 ∷ 0 ∷ 0 ∷ 0 ∷ 0 ∷ 64 ∷ 0 ∷ 2 ∷ 0 ∷ 24 ∷ 0 ∷ 40 ∷ 0 ∷ 22 ∷ 0 ∷ 0 ∷ 0 ∷ 4 ∷ 0 ∷ 77 ∷ 0 ∷ 40 ∷ 0 ∷ 0 ∷ 0 ∷ []) ++ replicate 36 0
 
 abbrev one_block : Pair
-one_block = record { cur = record { blocks = record { h = 1; uid = 5; bytes = block } ∷ []; map_block = 1; map_item = (0, 0) }; saved = empty_contents }
+one_block = record {
+  cur = record { blocks = record { h = 1; uid = 5; bytes = block } ∷ []; map_block = 1; map_item = (0, 0) };
+  saved =
+      empty_contents;
+}
 
 -- the file that holds it, in the second area
 abbrev updated : List ℕ

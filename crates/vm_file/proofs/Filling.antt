@@ -10,7 +10,8 @@ pub lent : (at k : ℕ) (bs : List ℕ) → k ≡ length bs - at → length (tak
 lent at k bs is = length-take k (drop at bs) ∙ omega (arith, is, length-drop at bs)
 
 -- a slice of which the bytes from an offset on were read from an image
-pub read_from : (at k from : ℕ) (bs ys image : List ℕ) → k ≡ length bs - at → at ≤ length bs → length ys ≡ length (take k (drop at bs)) → ys ≡ part image from (length (take k (drop at bs))) →
+pub read_from : (at k from : ℕ) (bs ys image : List ℕ) → k ≡ length bs - at → at ≤ length bs → length ys ≡ length (take k (drop at bs))
+    → ys ≡ part image from (length (take k (drop at bs))) →
     put_mid at k bs ys ≡ take at bs ++ part image from (length bs - at)
 read_from at k from bs ys image is fits long read =
     let size = lent at k bs is in

@@ -26,8 +26,10 @@ module _ {D : Type 0} (medium : Medium D) where
   abbrev pub Why : (Entry → Type 0) → D → D → Type 0
   Why of old new = Rose (medium.failed old) (medium.failed new) ⊎ FindsNoBlock medium of old new
 
-  pub why_on : (P Q : Entry → Type 0) (old mid new : D) → ((e : Entry) → P e → Q e) → ReadsOnly medium old mid → medium.failed mid ≡ medium.failed old → Why P mid new → Why Q old new
-  why_on P Q old mid new so only ok = ⊎_elim (λ rose. inl (subst (λ n. Rose n (medium.failed new)) ok rose)) (λ found. inr (finds_on P Q old mid new so only ok found))
+  pub why_on : (P Q : Entry → Type 0) (old mid new : D) → ((e : Entry) → P e → Q e) → ReadsOnly medium old mid
+      → medium.failed mid ≡ medium.failed old → Why P mid new → Why Q old new
+  why_on P Q old mid new so only ok = ⊎_elim (λ rose. inl (subst (λ n. Rose n (medium.failed new)) ok rose))
+      (λ found. inr (finds_on P Q old mid new so only ok found))
 
   pub why_more : (P Q : Entry → Type 0) (old new : D) → ((e : Entry) → P e → Q e) → Why P old new → Why Q old new
   why_more P Q old new so = why_on P Q old old new so (reads_none medium old) refl

@@ -11,7 +11,8 @@ pub entries_length-append : (es fs : List Entry) → entries_length (es ++ fs) �
 entries_length-append [] fs = omega arith
 entries_length-append (e ∷ es) fs = let h = entries_length-append es fs in omega (arith, h)
 
-pub entries_length-more : (es : List Entry) (i : ℕ) (d : Entry) → i < length es → entries_length (take (i + 1) es) ≡ entries_length (take i es) + (6 + (get_or es i d).len)
+pub entries_length-more : (es : List Entry) (i : ℕ) (d : Entry) → i < length es
+    → entries_length (take (i + 1) es) ≡ entries_length (take i es) + (6 + (get_or es i d).len)
 entries_length-more es i d h = ap entries_length (take_more es i d h) ∙ entries_length-append (take i es) (get_or es i d ∷ []) ∙ omega arith
 
 -- the handle of the last of these entries
@@ -24,7 +25,8 @@ last_handle-push last [] e = refl
 last_handle-push last (x ∷ es) e = last_handle-push x.h es e
 
 -- one more entry behind entries in ascending order
-pub are_entries-push : (last : ℕ) (es : List Entry) (e : Entry) → are_entries last es ≡ true → is_entry (last_handle last es) e ≡ true → are_entries last (es ++ e ∷ []) ≡ true
+pub are_entries-push : (last : ℕ) (es : List Entry) (e : Entry) → are_entries last es ≡ true → is_entry (last_handle last es) e ≡ true
+    → are_entries last (es ++ e ∷ []) ≡ true
 are_entries-push last [] e h l = and-true _ _ l refl
 are_entries-push last (x ∷ es) e h l = let s = both (is_entry last x) (are_entries x.h es) h in and-true _ _ s.0 (are_entries-push x.h es e s.1 l)
 
@@ -46,7 +48,8 @@ take-stretch xs at end n h = take-take n (end - at) (drop at xs) (omega arith)
 -- the bytes from 12 to 511, as many as there are
 pub clipped : (xs : List ℕ) (a b : ℕ) → a ≡ min (length xs) 12 → b ≡ min (length xs) 512 → take (b - a) (drop a xs) ≡ part xs 12 500
 clipped xs a b ea eb = elim (cases_lt (length xs) 12) [
-  | inl l ↦ (let e : a ≡ length xs = omega arith in ap (take (b - a)) (drop_all a xs (omega arith)) ∙ nothing (b - a) ∙ sym (ap (take 500) (drop_all 12 xs (omega arith))))
+  | inl l ↦ (let e : a ≡ length xs = omega arith in ap (take (b - a)) (drop_all a xs (omega arith)) ∙ nothing (b - a)
+      ∙ sym (ap (take 500) (drop_all 12 xs (omega arith))))
   | inr g ↦ (let e : a ≡ 12 = omega arith in ap (λ k. take (b - k) (drop k xs)) e ∙ (elim (cases_lt (length xs) 512) [
     | inl l ↦ take_all (b - 12) (drop 12 xs) (omega (arith, length-drop 12 xs)) ∙ sym (take_all 500 (drop 12 xs) (omega (arith, length-drop 12 xs)))
     | inr g2 ↦ (let n : b - 12 ≡ 500 = omega arith in ap (λ k. take k (drop 12 xs)) n)

@@ -16,7 +16,8 @@ entries_in (e ∷ entries) bytes fits =
     let rest = drop (6 + e.len) bytes in
     let behind : entries_length entries ≤ length rest = omega (arith, sum, fits, length-drop (6 + e.len) bytes) in
     let long : length (part bytes 6 e.len) ≡ e.len = length-take e.len (drop 6 bytes) ∙ omega (arith, sum, fits, length-drop 6 bytes) in
-    ap (λ n. let x : Entry = record { h = e.h; uid = e.uid; len = n } in x ∷ map entry_of (blocks_in entries rest)) long ∙ ap (λ es. e ∷ es) (entries_in entries rest behind)
+    ap (λ n. let x : Entry = record { h = e.h; uid = e.uid; len = n } in x ∷ map entry_of (blocks_in entries rest)) long
+    ∙ ap (λ es. e ∷ es) (entries_in entries rest behind)
 
 pub listed_in : (d : Directory) (bytes : List ℕ) → directory_length d ≤ length bytes → listed (contents_in d bytes) ≡ d
 listed_in d bytes fits =
@@ -27,8 +28,11 @@ listed_in d bytes fits =
 pub pair_listed : {D : Type 0} (medium : Medium D) (f : FileState D) → IsSound medium f →
     (listed (pair_of medium.image f).cur ≡ f.current) × (listed (pair_of medium.image f).saved ≡ f.saved)
 pair_listed medium f sound =
-    let bytes = area_of (medium.image f.device) f.area f.second in let n = directory_length f.current in
-    let fits = sound.fits in let within = sound.within in
+    let bytes = area_of (medium.image f.device) f.area f.second in
+    let n = directory_length f.current in
+    let fits = sound.fits in
+    let within = sound.within in
     let long = length-take f.area (drop (base_of f.area f.second) (medium.image f.device)) in
-    let enough : n + directory_length f.saved ≤ length bytes = omega (arith, long, fits, within, length-drop (base_of f.area f.second) (medium.image f.device)) in
+    let enough : n + directory_length f.saved ≤ length bytes =
+    omega (arith, long, fits, within, length-drop (base_of f.area f.second) (medium.image f.device)) in
     (listed_in f.current bytes (omega (arith, enough)), listed_in f.saved (drop n bytes) (omega (arith, enough, length-drop n bytes)))

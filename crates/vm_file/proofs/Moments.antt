@@ -14,7 +14,8 @@ module _ {D : Type 0} (left : D → D → List ℕ → Type 0) where
   goes_on old mid new P first second s c between = ⊎_elim (first s c) (λ now. inr now) (second s c between)
 
   -- what a stop at any moment of the whole run leaves
-  pub at_any_moment : (old new : D) (P : List ℕ → Type 0) → Passes left old new P → ((c : List ℕ) → left old old c → P c) → (c : List ℕ) → left old new c → P c
+  pub at_any_moment : (old new : D) (P : List ℕ → Type 0) → Passes left old new P → ((c : List ℕ) → left old old c → P c)
+      → (c : List ℕ) → left old new c → P c
   at_any_moment old new P passes here c between = ⊎_elim (here c) (λ now. now) (passes old c between)
 
 -- a call that makes none of the device, and calls that read one after the other
@@ -32,7 +33,8 @@ reads_then medium a b c r s = record {
 }
 
 -- the same up to the first call that fails
-pub reads_well : {D T E : Type 0} (medium : Medium D) (a b : D) (x : T) → ReadsOnly medium a b → medium.failed b ≡ medium.failed a → ReadsToFailure {E = E} medium a b (Ok x)
+pub reads_well : {D T E : Type 0} (medium : Medium D) (a b : D) (x : T) → ReadsOnly medium a b → medium.failed b ≡ medium.failed a
+    → ReadsToFailure {E = E} medium a b (Ok x)
 reads_well medium a b x only ok = record { only = only; ok = ok; once = inl ok; steady = λ s. ok }
 
 pub reads_on : {D T E : Type 0} (medium : Medium D) (a b c : D) (result : Result T E) → ReadsOnly medium a b → medium.failed b ≡ medium.failed a →

@@ -25,7 +25,8 @@ take_more : (n m : ℕ) (bytes : List ℕ) → take (n + m) bytes ≡ take n byt
 take_more zero m bytes = (let e : zero + m ≡ m = omega arith in ap (λ k. take k bytes) e)
 take_more (suc n) zero [] = (let e : suc n + zero ≡ suc n = omega arith in ap (λ k. take {A = ℕ} k []) e)
 take_more (suc n) (suc m) [] = (let e : suc n + suc m ≡ suc (n + suc m) = omega arith in ap (λ k. take {A = ℕ} k []) e)
-take_more (suc n) m (b ∷ bytes) = (let e : suc n + m ≡ suc (n + m) = omega arith in ap (λ k. take k (b ∷ bytes)) e ∙ ap (λ l. b ∷ l) (take_more n m bytes))
+take_more (suc n) m (b ∷ bytes) = (let e : suc n + m ≡ suc (n + m) = omega arith in ap (λ k. take k (b ∷ bytes)) e
+    ∙ ap (λ l. b ∷ l) (take_more n m bytes))
 
 -- the bytes of a word that is read are its two
 front_word : (bytes : List ℕ) → AreBytes bytes → 1 < length bytes → take 2 bytes ≡ word_bytes (word bytes 0)
@@ -34,7 +35,8 @@ front_word [] each long = absurd (omega arith)
 front_word (a ∷ []) each long = absurd (omega arith)
 front_word (a ∷ b ∷ bytes) each long =
     let low = each 0 0 (omega arith) in
-    let one : (a + 256 * b) % 256 ≡ a = omega (arith, low) in let two : (a + 256 * b) / 256 ≡ b = omega (arith, low) in
+    let one : (a + 256 * b) % 256 ≡ a = omega (arith, low) in
+    let two : (a + 256 * b) / 256 ≡ b = omega (arith, low) in
     ap (λ x. x ∷ b ∷ []) (sym one) ∙ ap (λ y. (a + 256 * b) % 256 ∷ y ∷ []) (sym two)
 
 -- a word further behind
@@ -45,10 +47,12 @@ word_behind k b bytes = let e : suc k + 1 ≡ suc (k + 1) = omega arith in ap (�
 word_there : (k : ℕ) (bytes : List ℕ) → AreBytes bytes → k + 1 < length bytes → take 2 (drop k bytes) ≡ word_bytes (word bytes k)
 word_there zero bytes each long = front_word bytes each (omega (arith, long))
 word_there (suc k) [] each long = absurd (omega arith)
-word_there (suc k) (b ∷ bytes) each long = word_there k bytes (λ i d l. each (suc i) d (omega arith)) (omega (arith, long)) ∙ ap word_bytes (sym (word_behind k b bytes))
+word_there (suc k) (b ∷ bytes) each long = word_there k bytes (λ i d l. each (suc i) d (omega arith)) (omega (arith, long))
+    ∙ ap word_bytes (sym (word_behind k b bytes))
 
 -- three words
-words_there : (a b c : ℕ) (bytes : List ℕ) → AreBytes bytes → 5 < length bytes → word bytes 0 ≡ a → word bytes 2 ≡ b → word bytes 4 ≡ c → take 6 bytes ≡ word_bytes a ++ word_bytes b ++ word_bytes c
+words_there : (a b c : ℕ) (bytes : List ℕ) → AreBytes bytes → 5 < length bytes → word bytes 0 ≡ a → word bytes 2 ≡ b
+    → word bytes 4 ≡ c → take 6 bytes ≡ word_bytes a ++ word_bytes b ++ word_bytes c
 words_there a b c bytes each long one two three =
     take_more 2 4 bytes
     ∙ ap (λ l. take 2 bytes ++ l) (take_more 2 2 (drop 2 bytes) ∙ ap (λ l. take 2 (drop 2 bytes) ++ take 2 l) (drop-drop 2 2 bytes))
@@ -57,7 +61,8 @@ words_there a b c bytes each long one two three =
     ∙ ap (λ l. word_bytes a ++ l ++ take 2 (drop 4 bytes)) (word_there 2 bytes each (omega (arith, long)) ∙ ap word_bytes two)
     ∙ ap (λ l. word_bytes a ++ word_bytes b ++ l) (word_there 4 bytes each (omega (arith, long)) ∙ ap word_bytes three)
 
-head_spelled : (last at : ℕ) (bytes : List ℕ) (e : Entry) → AreBytes bytes → head_at last at bytes ≡ Ok e → take 6 bytes ≡ word_bytes e.h ++ word_bytes e.uid ++ word_bytes e.len
+head_spelled : (last at : ℕ) (bytes : List ℕ) (e : Entry) → AreBytes bytes → head_at last at bytes ≡ Ok e
+    → take 6 bytes ≡ word_bytes e.h ++ word_bytes e.uid ++ word_bytes e.len
 unfolding head_at
 head_spelled last at bytes e each is =
     after (wanted at (λ h. ltb last h && leb h 1024) (word_at at bytes 0)) _ e is (λ h h_is rest.
@@ -69,7 +74,8 @@ head_spelled last at bytes e each is =
     let P : Entry → Type 0 = λ x. take 6 bytes ≡ word_bytes x.h ++ word_bytes x.uid ++ word_bytes x.len in
     subst P (ok_is _ e rest3) (words_there h uid len bytes each (omega (arith, three.0)) one.1 two.1 three.1))))
 
-block_spelled : (last at : ℕ) (bytes : List ℕ) (b : Block) → AreBytes bytes → block_at last at bytes ≡ Ok b → take (6 + length b.bytes) bytes ≡ block_spelling b
+block_spelled : (last at : ℕ) (bytes : List ℕ) (b : Block) → AreBytes bytes → block_at last at bytes ≡ Ok b
+    → take (6 + length b.bytes) bytes ≡ block_spelling b
 unfolding block_at
 block_spelled last at bytes b each is =
     after (head_at last at bytes) _ b is (λ e e_is rest.
@@ -86,7 +92,8 @@ block_spelled last at bytes b each is =
     ∙ ap (λ n. word_bytes e.h ++ word_bytes e.uid ++ word_bytes n ++ block) (sym long) in
     subst P (ok_is made b rest2) spelled))
 
-blocks_spelled : (n last at : ℕ) (bytes : List ℕ) (bs : List Block) → AreBytes bytes → blocks_at n last at bytes ≡ Ok bs → take (entries_length (map entry_of bs)) bytes ≡ flat_map block_spelling bs
+blocks_spelled : (n last at : ℕ) (bytes : List ℕ) (bs : List Block) → AreBytes bytes → blocks_at n last at bytes ≡ Ok bs
+    → take (entries_length (map entry_of bs)) bytes ≡ flat_map block_spelling bs
 blocks_spelled zero last at bytes bs each is =
     let P : List Block → Type 0 = λ x. take (entries_length (map entry_of x)) bytes ≡ flat_map block_spelling x in
     subst P (ok_is [] bs is) refl
@@ -102,7 +109,8 @@ blocks_spelled (suc n) last at bytes bs each is =
     ∙ ap (λ l. block_spelling b ++ l) more in
     subst P (ok_is (b ∷ others) bs rest2) spelled))
 
-maps_spelled : (es : List Entry) (at : ℕ) (bytes : List ℕ) (m : ℕ × (ℕ × ℕ)) → AreBytes bytes → maps_at es at bytes ≡ Ok m → take 6 bytes ≡ word_bytes m.0 ++ word_bytes m.1.0 ++ word_bytes m.1.1
+maps_spelled : (es : List Entry) (at : ℕ) (bytes : List ℕ) (m : ℕ × (ℕ × ℕ)) → AreBytes bytes → maps_at es at bytes ≡ Ok m
+    → take 6 bytes ≡ word_bytes m.0 ++ word_bytes m.1.0 ++ word_bytes m.1.1
 unfolding maps_at
 maps_spelled es at bytes m each is =
     after (wanted at (may_be_map_block es) (word_at at bytes 0)) _ m is (λ h h_is m2.
@@ -114,7 +122,8 @@ maps_spelled es at bytes m each is =
     let P : ℕ × (ℕ × ℕ) → Type 0 = λ x. take 6 bytes ≡ word_bytes x.0 ++ word_bytes x.1.0 ++ word_bytes x.1.1 in
     subst P (ok_is _ m m4) (words_there h g item bytes each (omega (arith, three.0)) one.1 two.1 three.1))))
 
-contents_spelled : (at : ℕ) (bytes : List ℕ) (c : Contents) → AreBytes bytes → contents_at at bytes ≡ Ok c → take (contents_length c) bytes ≡ contents_spelling c
+contents_spelled : (at : ℕ) (bytes : List ℕ) (c : Contents) → AreBytes bytes → contents_at at bytes ≡ Ok c
+    → take (contents_length c) bytes ≡ contents_spelling c
 unfolding contents_at
 contents_spelled at bytes c each is =
     after (count_at at bytes) _ c is (λ n n_is rest.
@@ -122,7 +131,8 @@ contents_spelled at bytes c each is =
     let size = entries_length (map entry_of bs) in
     after (maps_at (map entry_of bs) (at + 2 + size) (drop (2 + size) bytes)) _ c rest2 (λ maps maps_is rest3.
     let count = word_ok at bytes 0 n (wanted_ok at (λ m. leb m 1024) (word_at at bytes 0) n n_is).0 in
-    let number : take 2 bytes ≡ word_bytes (length bs) = word_there 0 bytes each count.0 ∙ ap word_bytes (count.1 ∙ sym (blocks_ok n 0 (at + 2) (drop 2 bytes) bs bs_is).count) in
+    let number : take 2 bytes ≡ word_bytes (length bs) = word_there 0 bytes each count.0
+    ∙ ap word_bytes (count.1 ∙ sym (blocks_ok n 0 (at + 2) (drop 2 bytes) bs bs_is).count) in
     let blocks = blocks_spelled n 0 (at + 2) (drop 2 bytes) bs (bytes_left 2 bytes each) bs_is in
     let mapped = maps_spelled (map entry_of bs) (at + 2 + size) (drop (2 + size) bytes) maps (bytes_left (2 + size) bytes each) maps_is in
     let made : Contents = record { blocks = bs; map_block = maps.0; map_item = maps.1 } in
@@ -163,6 +173,7 @@ one-spelling at bytes p each = (there, back)
 
     back : (is_pair p ≡ true) × (take (pair_length p) bytes ≡ pair_spelling p) → pair_at at bytes ≡ Ok p
     back (legal, begins) =
-        let parts = both _ _ legal in let rest = drop (pair_length p) bytes in
+        let parts = both _ _ legal in
+        let rest = drop (pair_length p) bytes in
         let whole : bytes ≡ pair_spelling p ++ rest = sym (take-append-drop (pair_length p) bytes) ∙ ap (λ l. l ++ rest) begins in
         ap (pair_at at) whole ∙ pair_again p at rest parts.0 parts.1

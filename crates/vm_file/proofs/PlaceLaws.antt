@@ -42,7 +42,8 @@ pub record PlacesFrom (es : List Entry) (i place : ℕ) (places : List ℕ) : Ty
   pub each : (h : ℕ) → h ≤ 1024 → get_or places h 0 ≡ place + place_in (drop i es) h
 
 -- past the last entry each place is what all take
-pub places-end : (es : List Entry) (i place n : ℕ) (places : List ℕ) → i ≡ length es → place ≡ entries_length es → n ≡ 1025 → places ≡ replicate n place → PlacesFrom es i place places
+pub places-end : (es : List Entry) (i place n : ℕ) (places : List ℕ) → i ≡ length es → place ≡ entries_length es
+    → n ≡ 1025 → places ≡ replicate n place → PlacesFrom es i place places
 places-end es i place n places i_is place_is n_is is = let past : drop i es ≡ [] = drop_all i es (omega arith) in record {
   within = omega arith;
   begins = ap (λ l. place + entries_length l) past ∙ omega arith;
@@ -62,16 +63,20 @@ module _ (es : List Entry) (i place : ℕ) (places : List ℕ) (d : Entry) (smal
   places-fit = (let a = ap entries_length first in let b = entries_length-drop es i in let c = p.begins in omega (arith, a, b, c))
 
   -- the place of the entry is written
-  pub places-more : (before : ℕ) (now : List ℕ) → here.h ≤ 1024 → before + (6 + here.len) ≡ place → now ≡ set places here.h (before + 6) → PlacesFrom es i before now
+  pub places-more : (before : ℕ) (now : List ℕ) → here.h ≤ 1024 → before + (6 + here.len) ≡ place
+      → now ≡ set places here.h (before + 6) → PlacesFrom es i before now
   places-more before now high is write = let long = p.long in record {
     within = omega arith;
     begins = (let a = ap entries_length first in let c = p.begins in omega (arith, a, c, is));
     long = ap length write ∙ length-set places here.h (before + 6) ∙ long;
     each = λ h low. ap (λ l. get_or l h 0) write ∙ elim (cases_eq h here.h) [
       | inl same ↦ subst (λ k. get_or (set places here.h (before + 6)) k 0 ≡ before + place_in (drop i es) k) (sym same)
-          (get_or-set_same places here.h (before + 6) 0 (omega (arith, long, high)) ∙ sym (ap (λ l. before + place_in l here.h) first ∙ ap (λ b. before + cond b 6 ((6 + here.len) + place_in (drop (i + 1) es) here.h)) (eq-eqb here.h here.h refl)))
+          (get_or-set_same places here.h (before + 6) 0 (omega (arith, long, high))
+          ∙ sym (ap (λ l. before + place_in l here.h) first
+          ∙ ap (λ b. before + cond b 6 ((6 + here.len) + place_in (drop (i + 1) es) here.h)) (eq-eqb here.h here.h refl)))
       | inr ne ↦ get_or-set_other places here.h h (before + 6) 0 ne ∙ p.each h low
-          ∙ sym (ap (λ l. before + place_in l h) first ∙ ap (λ b. before + cond b 6 ((6 + here.len) + place_in (drop (i + 1) es) h)) (ne_eqb here.h h (λ q. ne (sym q))) ∙ omega (arith, is))
+          ∙ sym (ap (λ l. before + place_in l h) first ∙ ap (λ b. before + cond b 6 ((6 + here.len) + place_in (drop (i + 1) es) h))
+          (ne_eqb here.h h (λ q. ne (sym q))) ∙ omega (arith, is))
     ];
   }
 

@@ -70,7 +70,8 @@ pub bytes_ok : (e : Entry) (at : ℕ) (bytes block : List ℕ) → bytes_at e at
 unfolding bytes_at
 bytes_ok e at bytes block is =
     let c = cond_ok _ at (take e.len bytes) block is in
-    let h1 = both _ _ c.0 in let h2 = both _ _ h1.0 in
+    let h1 = both _ _ c.0 in
+    let h2 = both _ _ h1.0 in
     let P : List ℕ → Type 0 = λ x. is_heap x && eqb (handle_word x) e.h ≡ true in
     (leb-le _ _ h2.0, subst P c.1 (and-true _ _ h2.1 h1.1), c.1)
 
@@ -95,7 +96,13 @@ block_ok last at bytes b is =
     let listed_is : e ≡ entry_of made = ap (λ l. let x : Entry = record { h = e.h; uid = e.uid; len = l } in x) (sym len) in
     let E : Entry → Type 0 = λ x. is_entry last x ≡ true in
     let P : Block → Type 0 = λ x. ReadBlock last bytes x in
-    subst P same (record { entry = subst E listed_is head.0; filled = body.1; long = omega (arith, len, n, body.0, head.1); there = ap (λ l. take l (drop 6 bytes)) len ∙ body.2 })))
+    subst P same (record {
+      entry = subst E listed_is head.0;
+      filled = body.1;
+      long = omega (arith, len, n, body.0, head.1);
+      there =
+          ap (λ l. take l (drop 6 bytes)) len ∙ body.2;
+    })))
 
 -- blocks that were read
 pub record ReadBlocks (last : ℕ) (bytes : List ℕ) (n : ℕ) (bs : List Block) : Type 0 where
@@ -118,7 +125,9 @@ blocks_ok (suc n) last at bytes bs is =
     let sum : entries_length (map entry_of (b ∷ others)) ≡ (6 + length b.bytes) + entries_length (map entry_of others) = refl in
     let same : b ∷ others ≡ bs = ok_is (b ∷ others) bs rest2 in
     let P : List Block → Type 0 = λ x. ReadBlocks last bytes (suc n) x in
-    let first : blocks_in (map entry_of (b ∷ others)) bytes ≡ b ∷ others = ap (λ x. let y : Block = record { h = b.h; uid = b.uid; bytes = x } in y ∷ blocks_in (map entry_of others) (drop (6 + length b.bytes) bytes)) one.there ∙ ap (λ xs. b ∷ xs) more.there in
+    let first : blocks_in (map entry_of (b ∷ others)) bytes ≡ b ∷ others =
+    ap (λ x. let y : Block = record { h = b.h; uid = b.uid; bytes = x } in y ∷ blocks_in (map entry_of others) (drop (6 + length b.bytes) bytes))
+    one.there ∙ ap (λ xs. b ∷ xs) more.there in
     subst P same (record {
       count = ap suc more.count;
       entries = and-true _ _ one.entry more.entries;
@@ -128,7 +137,8 @@ blocks_ok (suc n) last at bytes bs is =
     })))
 
 -- maps that were read, in six bytes
-pub maps_ok : (es : List Entry) (at : ℕ) (bytes : List ℕ) (m : ℕ × (ℕ × ℕ)) → maps_at es at bytes ≡ Ok m → (6 ≤ length bytes) × AreMaps es m.0 m.1.0 m.1.1
+pub maps_ok : (es : List Entry) (at : ℕ) (bytes : List ℕ) (m : ℕ × (ℕ × ℕ)) → maps_at es at bytes ≡ Ok m → (6 ≤ length bytes)
+    × AreMaps es m.0 m.1.0 m.1.1
 unfolding maps_at
 maps_ok es at bytes m is =
     after (wanted at (may_be_map_block es) (word_at at bytes 0)) _ m is (λ h h_is m2.
@@ -161,7 +171,9 @@ unfolding contents_at maps_at
 contents_ok at bytes c is =
     after (count_at at bytes) _ c is (λ n n_is rest.
     after (blocks_at n 0 (at + 2) (drop 2 bytes)) _ c rest (λ bs bs_is rest2.
-    let es = map entry_of bs in let to = at + 2 + entries_length es in let tail = drop (2 + entries_length es) bytes in
+    let es = map entry_of bs in
+    let to = at + 2 + entries_length es in
+    let tail = drop (2 + entries_length es) bytes in
     after (maps_at es to tail) _ c rest2 (λ maps maps_is rest3.
     after (wanted to (may_be_map_block es) (word_at to tail 0)) _ maps maps_is (λ h h_is m2.
     after (wanted (to + 2) (may_be_map_group es) (word_at to tail 2)) _ maps m2 (λ g g_is m3.
@@ -177,7 +189,8 @@ contents_ok at bytes c is =
     let made : Contents = record { blocks = bs; map_block = h; map_item = (g, item) } in
     let same : made ≡ c = ap (λ x. let y : Contents = record { blocks = bs; map_block = x.0; map_item = x.1 } in y) told ∙ ok_is _ c rest3 in
     let P : Contents → Type 0 = λ x. ReadContents bytes x in
-    let there : contents_in (listed made) bytes ≡ made = ap (λ x. let y : Contents = record { blocks = x; map_block = h; map_item = (g, item) } in y) blocks.there in
+    let there : contents_in (listed made) bytes ≡ made =
+    ap (λ x. let y : Contents = record { blocks = x; map_block = h; map_item = (g, item) } in y) blocks.there in
     subst P same (record {
       legal = and-true _ _ (and-true _ _ (and-true _ _ (and-true _ _ blocks.entries w1.1) w2.1) w3.1) blocks.filled;
       long = omega (arith, last.0, n1);
@@ -201,5 +214,13 @@ pair_ok at bytes p is =
     let made : Pair = record { cur = cur; saved = saved } in
     let same : made ≡ p = ok_is made p rest2 in
     let P : Pair → Type 0 = λ x. ReadPair bytes x in
-    let there : pair_in (listed cur) (listed saved) bytes ≡ made = ap (λ x. let y : Pair = record { cur = x; saved = contents_in (listed saved) (drop (contents_length cur) bytes) } in y) one.there ∙ ap (λ x. let y : Pair = record { cur = cur; saved = x } in y) two.there in
-    subst P same (record { cur = one.legal; saved = two.legal; long = omega (arith, one.long, two.long, length-drop (contents_length cur) bytes); there = there })))
+    let there : pair_in (listed cur) (listed saved) bytes ≡ made =
+    ap (λ x. let y : Pair = record { cur = x; saved = contents_in (listed saved) (drop (contents_length cur) bytes) } in y) one.there
+    ∙ ap (λ x. let y : Pair = record { cur = cur; saved = x } in y) two.there in
+    subst P same (record {
+      cur = one.legal;
+      saved = two.legal;
+      long =
+          omega (arith, one.long, two.long, length-drop (contents_length cur) bytes);
+      there = there;
+    })))

@@ -47,46 +47,57 @@ six : (a b c : ℕ) (rest : List ℕ) → length (word_bytes a ++ word_bytes b +
 six a b c rest = omega arith
 
 -- a head is read again
-pub head_again : (last at : ℕ) (e : Entry) (rest : List ℕ) → is_entry last e ≡ true → head_at last at (word_bytes e.h ++ word_bytes e.uid ++ word_bytes e.len ++ rest) ≡ Ok e
+pub head_again : (last at : ℕ) (e : Entry) (rest : List ℕ) → is_entry last e ≡ true
+    → head_at last at (word_bytes e.h ++ word_bytes e.uid ++ word_bytes e.len ++ rest) ≡ Ok e
 unfolding head_at
 head_again last at e rest legal =
-    let l = both _ _ legal in let bytes = word_bytes e.h ++ word_bytes e.uid ++ word_bytes e.len ++ rest in let n = six e.h e.uid e.len rest in
+    let l = both _ _ legal in
+    let bytes = word_bytes e.h ++ word_bytes e.uid ++ word_bytes e.len ++ rest in
+    let n = six e.h e.uid e.len rest in
     goes _ e.h _ _ (wanted_is at (λ h. ltb last h && leb h 1024) _ e.h (word_is at bytes 0 e.h (omega (arith, n)) (first e.h e.uid e.len rest)) l.0)
     (goes _ e.uid _ _ (word_is at bytes 2 e.uid (omega (arith, n)) (second e.h e.uid e.len rest))
     (goes _ e.len _ _ (wanted_is (at + 4) is_block_size _ e.len (word_is at bytes 4 e.len (omega (arith, n)) (third e.h e.uid e.len rest)) l.1) refl))
 
 -- a block is read again
-pub block_again : (last at : ℕ) (b : Block) (rest : List ℕ) → is_entry last (entry_of b) ≡ true → is_filled b ≡ true → block_at last at (block_spelling b ++ rest) ≡ Ok b
+pub block_again : (last at : ℕ) (b : Block) (rest : List ℕ) → is_entry last (entry_of b) ≡ true → is_filled b ≡ true
+    → block_at last at (block_spelling b ++ rest) ≡ Ok b
 unfolding block_at bytes_at
 block_again last at b rest legal filled =
     let e = entry_of b in
-    let spelled : block_spelling b ++ rest ≡ word_bytes b.h ++ word_bytes b.uid ++ word_bytes (length b.bytes) ++ (b.bytes ++ rest) = append_assoc (word_bytes b.h ++ word_bytes b.uid ++ word_bytes (length b.bytes)) b.bytes rest in
+    let spelled : block_spelling b ++ rest ≡ word_bytes b.h ++ word_bytes b.uid ++ word_bytes (length b.bytes) ++ (b.bytes ++ rest) =
+    append_assoc (word_bytes b.h ++ word_bytes b.uid ++ word_bytes (length b.bytes)) b.bytes rest in
     let f = both _ _ filled in
     let front : take (length b.bytes) (b.bytes ++ rest) ≡ b.bytes = take_at b.bytes rest (length b.bytes) refl in
     let long : length b.bytes ≤ length (b.bytes ++ rest) = omega (arith, length-append b.bytes rest) in
     let P : List ℕ → Type 0 = λ x. is_heap x && eqb (handle_word x) b.h ≡ true in
-    let body : leb (length b.bytes) (length (b.bytes ++ rest)) && is_heap (take (length b.bytes) (b.bytes ++ rest)) && eqb (handle_word (take (length b.bytes) (b.bytes ++ rest))) b.h ≡ true =
+    let body : leb (length b.bytes) (length (b.bytes ++ rest)) && is_heap (take (length b.bytes) (b.bytes ++ rest))
+    && eqb (handle_word (take (length b.bytes) (b.bytes ++ rest))) b.h ≡ true =
     and-true _ _ (and-true _ _ (le-leb _ _ long) (ap is_heap front ∙ f.0)) (ap (λ x. eqb (handle_word x) b.h) front ∙ f.1) in
     ap (block_at last at) spelled
     ∙ goes _ e _ _ (head_again last at e (b.bytes ++ rest) legal)
-    (goes _ b.bytes _ _ (ap (λ t. cond t (Ok (take (length b.bytes) (b.bytes ++ rest))) (Err (at + 6))) body ∙ ap (λ x. let y : Result (List ℕ) ℕ = Ok x in y) front) refl)
+    (goes _ b.bytes _ _ (ap (λ t. cond t (Ok (take (length b.bytes) (b.bytes ++ rest))) (Err (at + 6))) body
+    ∙ ap (λ x. let y : Result (List ℕ) ℕ = Ok x in y) front) refl)
 
 length-block : (b : Block) → length (block_spelling b) ≡ 6 + length b.bytes
 length-block b = omega (arith, length-append (word_bytes b.h ++ word_bytes b.uid ++ word_bytes (length b.bytes)) b.bytes)
 
 -- blocks are read again
-pub blocks_again : (bs : List Block) (n last at : ℕ) (rest : List ℕ) → n ≡ length bs → are_entries last (map entry_of bs) ≡ true → list_all is_filled bs ≡ true → blocks_at n last at (flat_map block_spelling bs ++ rest) ≡ Ok bs
+pub blocks_again : (bs : List Block) (n last at : ℕ) (rest : List ℕ) → n ≡ length bs → are_entries last (map entry_of bs) ≡ true
+    → list_all is_filled bs ≡ true → blocks_at n last at (flat_map block_spelling bs ++ rest) ≡ Ok bs
 blocks_again [] zero last at rest e legal filled = refl
 blocks_again [] (suc n) last at rest e legal filled = absurd (omega arith)
 blocks_again (b ∷ bs) zero last at rest e legal filled = absurd (omega arith)
 blocks_again (b ∷ bs) (suc n) last at rest e legal filled =
-    let l = both _ _ legal in let f = both _ _ filled in
+    let l = both _ _ legal in
+    let f = both _ _ filled in
     let more = flat_map block_spelling bs ++ rest in
-    let spelled : flat_map block_spelling (b ∷ bs) ++ rest ≡ block_spelling b ++ more = append_assoc (block_spelling b) (flat_map block_spelling bs) rest in
+    let spelled : flat_map block_spelling (b ∷ bs) ++ rest ≡ block_spelling b ++ more = append_assoc (block_spelling b)
+    (flat_map block_spelling bs) rest in
     let past : drop (6 + length b.bytes) (block_spelling b ++ more) ≡ more = drop_at (block_spelling b) more (6 + length b.bytes) (length-block b) in
     ap (blocks_at (suc n) last at) spelled
     ∙ goes _ b _ _ (block_again last at b more l.0 f.0)
-    (goes _ bs _ _ (ap (blocks_at n b.h (at + (6 + length b.bytes))) past ∙ blocks_again bs n b.h (at + (6 + length b.bytes)) rest (omega arith) l.1 f.1) refl)
+    (goes _ bs _ _ (ap (blocks_at n b.h (at + (6 + length b.bytes))) past
+    ∙ blocks_again bs n b.h (at + (6 + length b.bytes)) rest (omega arith) l.1 f.1) refl)
 
 length-blocks : (bs : List Block) → length (flat_map block_spelling bs) ≡ entries_length (map entry_of bs)
 length-blocks [] = refl
@@ -99,7 +110,8 @@ few : (last : ℕ) (es : List Entry) → are_entries last es ≡ true → last �
 few last [] h l = omega arith
 few last (e ∷ es) h l =
     let s = both (is_entry last e) (are_entries e.h es) h in
-    let t = both (ltb last e.h && leb e.h 1024) (is_block_size e.len) s.0 in let u = both (ltb last e.h) (leb e.h 1024) t.0 in
+    let t = both (ltb last e.h && leb e.h 1024) (is_block_size e.len) s.0 in
+    let u = both (ltb last e.h) (leb e.h 1024) t.0 in
     let most = leb-le e.h 1024 u.1 in
     omega (arith, ltb-true last e.h u.0, few e.h es s.1 most)
 
@@ -115,7 +127,10 @@ count_word n rest = halves n
 pub contents_again : (c : Contents) (at : ℕ) (rest : List ℕ) → is_contents c ≡ true → contents_at at (contents_spelling c ++ rest) ≡ Ok c
 unfolding contents_at maps_at
 contents_again c at rest legal =
-    let l1 = both _ _ legal in let l2 = both _ _ l1.0 in let l3 = both _ _ l2.0 in let l4 = both _ _ l3.0 in
+    let l1 = both _ _ legal in
+    let l2 = both _ _ l1.0 in
+    let l3 = both _ _ l2.0 in
+    let l4 = both _ _ l3.0 in
     let es = map entry_of c.blocks in
     let tail = word_bytes c.map_block ++ word_bytes c.map_item.0 ++ word_bytes c.map_item.1 ++ rest in
     let body = flat_map block_spelling c.blocks ++ tail in
@@ -125,14 +140,20 @@ contents_again c at rest legal =
     let n : length c.blocks ≤ 1024 = omega (arith, small, length-map c.blocks) in
     let w : word bytes 0 ≡ length c.blocks = count_word (length c.blocks) body in
     let to = at + 2 + entries_length es in
-    let past : drop (2 + entries_length es) bytes ≡ tail = (let two : 2 + entries_length es ≡ suc (suc (entries_length es)) = omega arith in ap (λ m. drop m bytes) two ∙ drop_at (flat_map block_spelling c.blocks) tail (entries_length es) (length-blocks c.blocks)) in
+    let past : drop (2 + entries_length es) bytes ≡ tail =
+    (let two : 2 + entries_length es ≡ suc (suc (entries_length es)) = omega arith in ap (λ m. drop m bytes) two
+    ∙ drop_at (flat_map block_spelling c.blocks) tail (entries_length es) (length-blocks c.blocks)) in
     let k = six c.map_block c.map_item.0 c.map_item.1 rest in
     let maps : maps_at es to tail ≡ Ok (c.map_block, (c.map_item.0, c.map_item.1)) =
-    goes _ c.map_block _ _ (wanted_is to (may_be_map_block es) _ c.map_block (word_is to tail 0 c.map_block (omega (arith, k)) (first c.map_block c.map_item.0 c.map_item.1 rest)) l4.1)
-    (goes _ c.map_item.0 _ _ (wanted_is (to + 2) (may_be_map_group es) _ c.map_item.0 (word_is to tail 2 c.map_item.0 (omega (arith, k)) (second c.map_block c.map_item.0 c.map_item.1 rest)) l3.1)
-    (goes _ c.map_item.1 _ _ (wanted_is (to + 4) (may_be_map_item c.map_item.0) _ c.map_item.1 (word_is to tail 4 c.map_item.1 (omega (arith, k)) (third c.map_block c.map_item.0 c.map_item.1 rest)) l2.1) refl)) in
+    goes _ c.map_block _ _ (wanted_is to (may_be_map_block es) _ c.map_block
+    (word_is to tail 0 c.map_block (omega (arith, k)) (first c.map_block c.map_item.0 c.map_item.1 rest)) l4.1)
+    (goes _ c.map_item.0 _ _ (wanted_is (to + 2) (may_be_map_group es) _ c.map_item.0
+    (word_is to tail 2 c.map_item.0 (omega (arith, k)) (second c.map_block c.map_item.0 c.map_item.1 rest)) l3.1)
+    (goes _ c.map_item.1 _ _ (wanted_is (to + 4) (may_be_map_item c.map_item.0) _ c.map_item.1
+    (word_is to tail 4 c.map_item.1 (omega (arith, k)) (third c.map_block c.map_item.0 c.map_item.1 rest)) l2.1) refl)) in
     ap (contents_at at) spelled
-    ∙ goes _ (length c.blocks) _ _ (wanted_is at (λ m. leb m 1024) _ (length c.blocks) (word_is at bytes 0 (length c.blocks) (omega arith) w) (le-leb _ _ n))
+    ∙ goes _ (length c.blocks) _ _ (wanted_is at (λ m. leb m 1024) _ (length c.blocks) (word_is at bytes 0 (length c.blocks) (omega arith) w)
+    (le-leb _ _ n))
     (goes _ c.blocks _ _ (blocks_again c.blocks (length c.blocks) 0 (at + 2) tail refl l4.0 l1.1)
     (goes _ (c.map_block, (c.map_item.0, c.map_item.1)) _ _ (ap (maps_at es to) past ∙ maps) refl))
 
@@ -149,12 +170,15 @@ length-contents c =
     )
 
 -- a pair is read again
-pub pair_again : (p : Pair) (at : ℕ) (rest : List ℕ) → is_contents p.cur ≡ true → is_contents p.saved ≡ true → pair_at at (pair_spelling p ++ rest) ≡ Ok p
+pub pair_again : (p : Pair) (at : ℕ) (rest : List ℕ) → is_contents p.cur ≡ true → is_contents p.saved ≡ true
+    → pair_at at (pair_spelling p ++ rest) ≡ Ok p
 unfolding pair_at
 pair_again p at rest cur saved =
     let more = contents_spelling p.saved ++ rest in
-    let spelled : pair_spelling p ++ rest ≡ contents_spelling p.cur ++ more = append_assoc (contents_spelling p.cur) (contents_spelling p.saved) rest in
-    let past : drop (contents_length p.cur) (contents_spelling p.cur ++ more) ≡ more = drop_at (contents_spelling p.cur) more (contents_length p.cur) (length-contents p.cur) in
+    let spelled : pair_spelling p ++ rest ≡ contents_spelling p.cur ++ more = append_assoc (contents_spelling p.cur)
+    (contents_spelling p.saved) rest in
+    let past : drop (contents_length p.cur) (contents_spelling p.cur ++ more) ≡ more = drop_at (contents_spelling p.cur) more
+    (contents_length p.cur) (length-contents p.cur) in
     ap (pair_at at) spelled
     ∙ goes _ p.cur _ _ (contents_again p.cur at more cur)
     (goes _ p.saved _ _ (ap (contents_at (at + contents_length p.cur)) past ∙ contents_again p.saved (at + contents_length p.cur) rest saved) refl)

@@ -41,32 +41,50 @@ unfolding file_at
 file_from image f parts =
     let sel : selector_at image ≡ Ok (get_or image 512 0) = ap (λ t. cond t (Ok (get_or image 512 0)) (Err 512)) (lt-ltb _ _ parts.long) in
     goes _ f.area _ _ parts.header (goes _ (get_or image 512 0) _ _ sel
-    (ap (λ b. pair_at (base_of f.area b) (area_of image f.area b) >>= λ p. Ok (let x : File = record { area = f.area; second = b; pair = p } in x)) parts.selector
+    (ap (λ b. pair_at (base_of f.area b) (area_of image f.area b) >>= λ p. Ok (let x : File = record { area = f.area; second = b; pair = p } in x))
+    parts.selector
     ∙ goes _ f.pair _ _ parts.pair refl))
 
 -- what was read is the pair that is cut from the area
 pub opened_is : (image : List ℕ) (o : Opened) → IsOkAnd (file_at image) (λ y. listed_file y ≡ o) →
-    file_at image ≡ Ok (let f : File = record { area = o.area; second = o.second; pair = pair_in o.current o.saved (area_of image o.area o.second) } in f)
+    file_at image ≡ Ok (let f : File = record {
+      area = o.area;
+      second = o.second;
+      pair = pair_in o.current o.saved
+          (area_of image o.area o.second);
+    } in f)
 opened_is image o read = by (file_at image) refl read
   where
-    by : (r : Result File ℕ) → file_at image ≡ r → IsOkAnd r (λ y. listed_file y ≡ o) → file_at image ≡ Ok (let f : File = record { area = o.area; second = o.second; pair = pair_in o.current o.saved (area_of image o.area o.second) } in f)
+    by : (r : Result File ℕ) → file_at image ≡ r → IsOkAnd r (λ y. listed_file y ≡ o)
+        → file_at image ≡ Ok (let f : File = record {
+          area = o.area;
+          second = o.second;
+          pair = pair_in o.current o.saved
+              (area_of image o.area o.second);
+        } in f)
     by (Err f) is h = absurd h
     by (Ok f) is h =
         let parts = file_parts image f is in
         let legal = pair_ok (base_of f.area f.second) (area_of image f.area f.second) f.pair parts.pair in
         is ∙ ap (λ p. let x : File = record { area = f.area; second = f.second; pair = p } in let r : Result File ℕ = Ok x in r) (sym legal.there)
-        ∙ ap (λ (y : Opened). let x : File = record { area = y.area; second = y.second; pair = pair_in y.current y.saved (area_of image y.area y.second) } in let r : Result File ℕ = Ok x in r) h
+        ∙ ap (λ (y : Opened). let x : File =
+        record { area = y.area; second = y.second; pair = pair_in y.current y.saved (area_of image y.area y.second) } in
+        let r : Result File ℕ = Ok x in r) h
 
 module _ {D : Type 0} (medium : Medium D) where
   -- a file that was opened
   abbrev pub opened : D → Opened → FileState D
   opened d o = record { device = d; area = o.area; second = o.second; sure = true; current = o.current; saved = o.saved }
 
-  pub opens : (old new : D) (o : Opened) → medium.image new ≡ medium.image old → IsOkAnd (file_at (medium.image old)) (λ y. listed_file y ≡ o) → file_at (medium.image old) ≡ Ok (file_of medium.image (opened new o))
+  pub opens : (old new : D) (o : Opened) → medium.image new ≡ medium.image old → IsOkAnd (file_at (medium.image old)) (λ y. listed_file y ≡ o)
+      → file_at (medium.image old) ≡ Ok (file_of medium.image (opened new o))
   opens old new o same read =
-      opened_is (medium.image old) o read ∙ ap (λ xs. let x : File = record { area = o.area; second = o.second; pair = pair_in o.current o.saved (area_of xs o.area o.second) } in let r : Result File ℕ = Ok x in r) (sym same)
+      opened_is (medium.image old) o read
+      ∙ ap (λ xs. let x : File = record { area = o.area; second = o.second; pair = pair_in o.current o.saved (area_of xs o.area o.second) } in
+      let r : Result File ℕ = Ok x in r) (sym same)
 
-  pub opens_sound : (old new : D) (o : Opened) → ReadsOnly medium old new → (medium.honest old → IsOkAnd (file_at (medium.image old)) (λ y. listed_file y ≡ o)) → IsOpened o (length (medium.image old)) →
+  pub opens_sound : (old new : D) (o : Opened) → ReadsOnly medium old new
+      → (medium.honest old → IsOkAnd (file_at (medium.image old)) (λ y. listed_file y ≡ o)) → IsOpened o (length (medium.image old)) →
       (medium.honest old → Only (medium.image new) (medium.may_leave new)) → IsSound medium (opened new o)
   opens_sound old new o reads read legal durable = record {
     area = legal.area;
@@ -82,7 +100,11 @@ module _ {D : Type 0} (medium : Medium D) where
           long = parts.long;
           header = parts.header;
           pair = parts.pair;
-          leaves = (parts.selector, (λ c l. subst (Touched (base_of o.area (not o.second)) o.area (medium.image new)) (sym (durable was c l)) (touched_not _ _ (medium.image new))));
+          leaves = (
+            parts.selector,
+            (λ c l. subst (Touched (base_of o.area (not o.second)) o.area (medium.image new))
+                (sym (durable was c l)) (touched_not _ _ (medium.image new))),
+          );
         });
   }
 
@@ -94,11 +116,17 @@ module _ {D : Type 0} (medium : Medium D) where
     read_leaves : medium.honest f.device → Leaves medium f → Leaves medium read_on
     read_leaves h = by f.sure
       where
-        by : (b : Bool) → MatchBool b ((is_second (get_or (medium.image f.device) 512 0) ≡ f.second) × ((c : List ℕ) → medium.may_leave f.device c → Touched (base_of f.area (not f.second)) f.area (medium.image f.device) c))
+        by : (b : Bool) → MatchBool b ((is_second (get_or (medium.image f.device) 512 0) ≡ f.second)
+            × ((c : List ℕ) → medium.may_leave f.device c → Touched (base_of f.area (not f.second)) f.area (medium.image f.device) c))
             (((q : Pair) × IsOther medium.image f q) × ((c : List ℕ) → medium.may_leave f.device c → Touched 512 1 (medium.image f.device) c)) →
-            MatchBool b ((is_second (get_or (medium.image new) 512 0) ≡ f.second) × ((c : List ℕ) → medium.may_leave new c → Touched (base_of f.area (not f.second)) f.area (medium.image new) c))
+            MatchBool b ((is_second (get_or (medium.image new) 512 0) ≡ f.second)
+            × ((c : List ℕ) → medium.may_leave new c → Touched (base_of f.area (not f.second)) f.area (medium.image new) c))
             (((q : Pair) × IsOther medium.image read_on q) × ((c : List ℕ) → medium.may_leave new c → Touched 512 1 (medium.image new) c))
-        by true s = (ap (λ xs. is_second (get_or xs 512 0)) reads.same ∙ s.0, (λ c l. subst (λ xs. Touched (base_of f.area (not f.second)) f.area xs c) (sym reads.same) (s.1 c (reads.stop h c l))))
+        by true s = (
+          ap (λ xs. is_second (get_or xs 512 0)) reads.same
+              ∙ s.0,
+          (λ c l. subst (λ xs. Touched (base_of f.area (not f.second)) f.area xs c) (sym reads.same) (s.1 c (reads.stop h c l))),
+        )
         by false s = (
           (s.0.0, ap (λ xs. pair_at (base_of f.area (not f.second)) (area_of xs f.area (not f.second))) reads.same ∙ s.0.1),
           (λ c l. subst (λ xs. Touched 512 1 xs c) (sym reads.same) (s.1 c (reads.stop h c l))),
@@ -117,7 +145,8 @@ module _ {D : Type 0} (medium : Medium D) where
           record {
             long = (let n = ap length reads.same in let long = was.long in omega (arith, long, n));
             header = ap (λ xs. header_at (take 512 xs)) reads.same ∙ was.header;
-            pair = ap (λ xs. pair_at (base_of f.area f.second) (area_of xs f.area f.second)) reads.same ∙ was.pair ∙ ap (λ xs. let r : Result Pair ℕ = Ok (cut xs) in r) (sym reads.same);
+            pair = ap (λ xs. pair_at (base_of f.area f.second) (area_of xs f.area f.second)) reads.same ∙ was.pair
+                ∙ ap (λ xs. let r : Result Pair ℕ = Ok (cut xs) in r) (sym reads.same);
             leaves = read_leaves (reads.was h) was.leaves;
           });
     }
@@ -125,16 +154,29 @@ module _ {D : Type 0} (medium : Medium D) where
   -- a file of which a call read the device, and one of which another did behind it
   module _ {T E : Type 0} (result : Result T E) where
     pub read_file : (f old : FileState D) (new : D) → f ≡ old → ReadsToFailure medium f.device new result →
-        ReadsFile medium old (let g : FileState D = record { device = new; area = f.area; second = f.second; sure = f.sure; current = f.current; saved = f.saved } in g) result
-    read_file f old new same read = subst (λ (g : FileState D). ReadsFile medium g (let x : FileState D = record { device = new; area = f.area; second = f.second; sure = f.sure; current = f.current; saved = f.saved } in x) result) same (record {
-      same = refl;
-      pair = ap (λ xs. pair_in f.current f.saved (area_of xs f.area f.second)) read.only.same;
-      read = read;
-    })
+        ReadsFile medium old (let g : FileState D = record {
+          device = new;
+          area = f.area;
+          second = f.second;
+          sure =
+              f.sure;
+          current = f.current;
+          saved = f.saved;
+        } in g) result
+    read_file f old new same read =
+        subst (λ (g : FileState D). ReadsFile medium g
+        (let x : FileState D = record { device = new; area = f.area; second = f.second; sure = f.sure; current = f.current; saved = f.saved } in x)
+        result) same (record {
+          same = refl;
+          pair = ap (λ xs. pair_in f.current f.saved (area_of xs f.area f.second)) read.only.same;
+          read = read;
+        })
 
-    pub file_on : (a b c : FileState D) {X : Type 0} (x : X) → ReadsFile {E = E} medium a b (Ok x) → ReadsFile medium b c result → ReadsFile medium a c result
+    pub file_on : (a b c : FileState D) {X : Type 0} (x : X) → ReadsFile {E = E} medium a b (Ok x) → ReadsFile medium b c result
+        → ReadsFile medium a c result
     file_on a b c x one two = record {
-      same = two.same ∙ ap (λ (g : FileState D). let f : FileState D = record { device = c.device; area = g.area; second = g.second; sure = g.sure; current = g.current; saved = g.saved } in f) one.same;
+      same = two.same ∙ ap (λ (g : FileState D). let f : FileState D =
+          record { device = c.device; area = g.area; second = g.second; sure = g.sure; current = g.current; saved = g.saved } in f) one.same;
       pair = two.pair ∙ one.pair;
       read = reads_on medium a.device b.device c.device result one.read.only one.read.ok two.read;
     }

@@ -29,7 +29,8 @@ part_behind c d m p n h e =
     subst (λ q. part c q n ≡ part d q n) k (ap (take n) (sym (drop-drop (p - m) m c) ∙ ap (drop (p - m)) e ∙ drop-drop (p - m) m d))
 
 -- the two areas lie apart, behind the selector
-pub areas_apart : (area : ℕ) (b : Bool) → (513 ≤ base_of area b) × ((base_of area b + area ≤ base_of area (not b)) ⊎ (base_of area (not b) + area ≤ base_of area b))
+pub areas_apart : (area : ℕ) (b : Bool) → (513 ≤ base_of area b)
+    × ((base_of area b + area ≤ base_of area (not b)) ⊎ (base_of area (not b) + area ≤ base_of area b))
 areas_apart area true = (omega arith, inr (omega arith))
 areas_apart area false = (omega arith, inl (omega arith))
 
@@ -45,10 +46,13 @@ found_from image f parts = goes _ f _ _ (file_from image f parts) refl
 
 module _ {D : Type 0} (medium : Medium D) (f : FileState D) where
   -- what was written in the other area does not matter
-  pub found_sure : (c : List ℕ) → 512 < length (medium.image f.device) → header_at (take 512 (medium.image f.device)) ≡ Ok f.area → is_second (get_or (medium.image f.device) 512 0) ≡ f.second →
-      pair_at (base_of f.area f.second) (area_of (medium.image f.device) f.area f.second) ≡ Ok (pair_of medium.image f) → Touched (base_of f.area (not f.second)) f.area (medium.image f.device) c → found c ≡ Ok (pair_of medium.image f)
+  pub found_sure : (c : List ℕ) → 512 < length (medium.image f.device) → header_at (take 512 (medium.image f.device)) ≡ Ok f.area
+      → is_second (get_or (medium.image f.device) 512 0) ≡ f.second →
+      pair_at (base_of f.area f.second) (area_of (medium.image f.device) f.area f.second) ≡ Ok (pair_of medium.image f)
+      → Touched (base_of f.area (not f.second)) f.area (medium.image f.device) c → found c ≡ Ok (pair_of medium.image f)
   found_sure c long header selector pair t =
-      let d = medium.image f.device in let base = base_of f.area f.second in
+      let d = medium.image f.device in
+      let base = base_of f.area f.second in
       let k = header_kept c d (base_of f.area (not f.second)) f.area (areas_apart f.area (not f.second)).0 t in
       let same : part c base f.area ≡ part d base f.area = elim (areas_apart f.area f.second).1 [
         | inl low ↦ part_before c d (base_of f.area (not f.second)) base f.area low t.before
@@ -64,19 +68,30 @@ module _ {D : Type 0} (medium : Medium D) (f : FileState D) where
 
   -- whatever the selector is, one of the two areas is found
   pub found_unsure : (c : List ℕ) (q : Pair) → 512 < length (medium.image f.device) → header_at (take 512 (medium.image f.device)) ≡ Ok f.area →
-      pair_at (base_of f.area f.second) (area_of (medium.image f.device) f.area f.second) ≡ Ok (pair_of medium.image f) → IsOther medium.image f q → Touched 512 1 (medium.image f.device) c → (found c ≡ Ok (pair_of medium.image f)) ⊎ (found c ≡ Ok q)
+      pair_at (base_of f.area f.second) (area_of (medium.image f.device) f.area f.second) ≡ Ok (pair_of medium.image f)
+      → IsOther medium.image f q → Touched 512 1 (medium.image f.device) c → (found c ≡ Ok (pair_of medium.image f)) ⊎ (found c ≡ Ok q)
   found_unsure c q long header pair other t = by f.second (is_second (get_or c 512 0)) refl pair other
     where
       kept : (b : Bool) → part c (base_of f.area b) f.area ≡ part (medium.image f.device) (base_of f.area b) f.area
       kept b = part_behind c (medium.image f.device) 513 (base_of f.area b) f.area (areas_apart f.area b).0 t.behind
 
-      read : (b : Bool) (p : Pair) → is_second (get_or c 512 0) ≡ b → pair_at (base_of f.area b) (area_of (medium.image f.device) f.area b) ≡ Ok p → found c ≡ Ok p
+      read : (b : Bool) (p : Pair) → is_second (get_or c 512 0) ≡ b → pair_at (base_of f.area b) (area_of (medium.image f.device) f.area b) ≡ Ok p
+          → found c ≡ Ok p
       read b p sel is =
           let n = t.long in
-          found_from c (record { area = f.area; second = b; pair = p }) (record { header = ap header_at t.before ∙ header; long = omega (arith, n, long); selector = sel; pair = ap (pair_at (base_of f.area b)) (kept b) ∙ is })
+          found_from c (record { area = f.area; second = b; pair = p })
+          (record {
+            header = ap header_at t.before ∙ header;
+            long = omega (arith, n, long);
+            selector = sel;
+            pair =
+                ap (pair_at (base_of f.area b)) (kept b) ∙ is;
+          })
 
-      by : (b s : Bool) → is_second (get_or c 512 0) ≡ s → pair_at (base_of f.area b) (area_of (medium.image f.device) f.area b) ≡ Ok (pair_of medium.image f) →
-          pair_at (base_of f.area (not b)) (area_of (medium.image f.device) f.area (not b)) ≡ Ok q → (found c ≡ Ok (pair_of medium.image f)) ⊎ (found c ≡ Ok q)
+      by : (b s : Bool) → is_second (get_or c 512 0) ≡ s → pair_at (base_of f.area b) (area_of (medium.image f.device) f.area b) ≡ Ok
+          (pair_of medium.image f) →
+          pair_at (base_of f.area (not b)) (area_of (medium.image f.device) f.area (not b)) ≡ Ok q
+          → (found c ≡ Ok (pair_of medium.image f)) ⊎ (found c ≡ Ok q)
       by true true sel p o = inl (read true (pair_of medium.image f) sel p)
       by true false sel p o = inr (read false q sel o)
       by false true sel p o = inr (read true q sel o)
@@ -86,7 +101,10 @@ module _ {D : Type 0} (medium : Medium D) (f : FileState D) where
   pub finds : Holds medium f → (c : List ℕ) → medium.may_leave f.device c → Finds medium.image f c
   finds h c l = by f.sure h.leaves
     where
-      by : (b : Bool) → MatchBool b ((is_second (get_or (medium.image f.device) 512 0) ≡ f.second) × ((x : List ℕ) → medium.may_leave f.device x → Touched (base_of f.area (not f.second)) f.area (medium.image f.device) x)) (((q : Pair) × IsOther medium.image f q) × ((x : List ℕ) → medium.may_leave f.device x → Touched 512 1 (medium.image f.device) x)) →
-          MatchBool b (found c ≡ Ok (pair_of medium.image f)) ((found c ≡ Ok (pair_of medium.image f)) ⊎ ((q : Pair) × IsOther medium.image f q × (found c ≡ Ok q)))
+      by : (b : Bool) → MatchBool b ((is_second (get_or (medium.image f.device) 512 0) ≡ f.second)
+          × ((x : List ℕ) → medium.may_leave f.device x → Touched (base_of f.area (not f.second)) f.area (medium.image f.device) x))
+          (((q : Pair) × IsOther medium.image f q) × ((x : List ℕ) → medium.may_leave f.device x → Touched 512 1 (medium.image f.device) x)) →
+          MatchBool b (found c ≡ Ok (pair_of medium.image f))
+          ((found c ≡ Ok (pair_of medium.image f)) ⊎ ((q : Pair) × IsOther medium.image f q × (found c ≡ Ok q)))
       by true s = found_sure c h.long h.header s.0 h.pair (s.1 c l)
       by false s = elim (found_unsure c s.0.0 h.long h.header h.pair s.0.1 (s.1 c l)) [ inl p ↦ inl p | inr q ↦ inr (s.0.0, s.0.1, q) ]

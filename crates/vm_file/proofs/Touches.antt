@@ -22,13 +22,23 @@ behind_part (b ∷ bs) (suc at) zero ws e = absurd (omega arith)
 behind_part (b ∷ bs) (suc at) (suc m) ws e = behind_part bs at m ws (omega arith)
 
 pub touched_part : (at : ℕ) (bs ws : List ℕ) → Touched at (length ws) bs (with_part bs at ws)
-touched_part at bs ws = record { long = length-with_part bs at ws; before = before_part bs at ws; behind = behind_part bs at (at + length ws) ws refl }
+touched_part at bs ws = record {
+  long = length-with_part bs at ws;
+  before = before_part bs at ws;
+  behind =
+      behind_part bs at (at + length ws) ws refl;
+}
 
 -- a range within another
 pub touched_more : (at n m : ℕ) (old new : List ℕ) → n ≤ m → Touched at n old new → Touched at m old new
 touched_more at n m old new le t =
     let k : at + n + (m - n) ≡ at + m = omega arith in
-    record { long = t.long; before = t.before; behind = subst (λ j. drop j new ≡ drop j old) k (sym (drop-drop (m - n) (at + n) new) ∙ ap (drop (m - n)) t.behind ∙ drop-drop (m - n) (at + n) old) }
+    record {
+      long = t.long;
+      before = t.before;
+      behind = subst (λ j. drop j new ≡ drop j old) k
+          (sym (drop-drop (m - n) (at + n) new) ∙ ap (drop (m - n)) t.behind ∙ drop-drop (m - n) (at + n) old);
+    }
 
 pub after_more : (at n m : ℕ) (images : List ℕ → Type 0) (c : List ℕ) → n ≤ m → AfterWrite at n images c → AfterWrite at m images c
 after_more at n m images c le after = (after.0, after.1, touched_more at n m after.0 c le after.2)

@@ -126,13 +126,15 @@ pub record CommitsFile {D : Type 0} (medium : Medium D)
     saved = saved_after how cur old.saved;
   })
   pub refused : IfErr result (λ e. IsAfter e old new)
-  pub pair : medium.honest old.device → MatchResult result (λ _. pair_of medium.image new ≡ kept_after medium.image resident how cur old) (λ _. pair_of medium.image new ≡ pair_of medium.image old)
+  pub pair : medium.honest old.device → MatchResult result (λ _. pair_of medium.image new ≡ kept_after medium.image resident how cur old)
+      (λ _. pair_of medium.image new ≡ pair_of medium.image old)
   -- it keeps the new pair or, where it was refused, what it kept; where the device failed, it may be unsure between that and the new pair
   pub kept : medium.honest old.device → MatchResult result
       (λ _. kept_of medium.image new ≡ SureOf (kept_after medium.image resident how cur old))
       (λ e. KeepsAfter e (kept_after medium.image resident how cur old) (kept_of medium.image old) (kept_of medium.image new))
   -- it has written the pair's bytes to the other area and its selector, and nothing else
-  pub bytes : medium.honest old.device → OnOk result (medium.image new.device ≡ image_after medium.image (pair_spelling (kept_after medium.image resident how cur old)) old)
+  pub bytes : medium.honest old.device
+      → OnOk result (medium.image new.device ≡ image_after medium.image (pair_spelling (kept_after medium.image resident how cur old)) old)
   -- where the device failed, nothing but that area may differ and, where the file turned unsure, the selector
   pub torn : medium.honest old.device → result ≡ Err Disk → MayHaveWritten medium.image old new.sure (medium.image new.device)
   -- where it turned unsure, the other area holds the new pair
@@ -148,7 +150,8 @@ pub record CommitsFile {D : Type 0} (medium : Medium D)
   pub once : FailedOnce (medium.failed old.device) (medium.failed new.device)
   pub cause : medium.honest old.device → result ≡ Err Disk → Rose (medium.failed old.device) (medium.failed new.device)
   -- on any device: a call of it failed, or the last one gave bytes that are no block of those that are kept
-  pub no_block : result ≡ Err Disk → Rose (medium.failed old.device) (medium.failed new.device) ⊎ FindsNoBlock medium (IsKept how cur old.saved) old.device new.device
+  pub no_block : result ≡ Err Disk → Rose (medium.failed old.device) (medium.failed new.device) ⊎ FindsNoBlock medium
+      (IsKept how cur old.saved) old.device new.device
   pub no_read : NeedsNoRead resident how cur old.saved → result ≡ Err Disk → Rose (medium.failed old.device) (medium.failed new.device)
   -- where no call within the device's length fails, and it has room for the file, none failed
   pub steadily : Steadily medium old new

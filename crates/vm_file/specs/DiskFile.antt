@@ -51,4 +51,14 @@ pub record Syncs (old : FileDevice) (result : Result (Unit {0}) Disk) (new : Fil
 
 -- such a device
 abbrev pub medium : Medium FileDevice
-medium = record { image = bytes_of; honest = IsHonest; failed = failures_of; may_leave = MayLeave; may_have_left = MayHaveLeft; reads = Reads; writes = Writes; syncs = Syncs }
+medium = record {
+  image = bytes_of;
+  honest = IsHonest;
+  failed = failures_of;
+  may_leave = MayLeave;
+  may_have_left =
+      MayHaveLeft;
+  reads = Reads;
+  writes = Writes;
+  syncs = Syncs;
+}

@@ -35,7 +35,8 @@ is_next_due device = is_due (one_more (calls_of device)) (call_of device) (rest_
 
 -- a call that fails counts once, whether it failed below or on order
 abbrev pub CountsOver : {D T E : Type 0} → (D → ℕ) → FaultDevice D → FaultDevice D → Result T E → Type 0
-CountsOver failed old new result = Counts (all_failures (failed (inner_of old)) (own_of old)) (all_failures (failed (inner_of new)) (own_of new)) result
+CountsOver failed old new result = Counts (all_failures (failed (inner_of old)) (own_of old))
+    (all_failures (failed (inner_of new)) (own_of new)) result
 
 -- a call was counted, and what is to fail stays
 pub record CountsCall {D : Type 0} (old new : FaultDevice D) : Type 0 where
@@ -44,7 +45,8 @@ pub record CountsCall {D : Type 0} (old new : FaultDevice D) : Type 0 where
   pub rest : rest_of new ≡ rest_of old
 
 -- a call went on to the device below, as one call of it: it fails where that does
-pub record PassesOn {D T E : Type 0} (failed : D → ℕ) (one_call : D → Result T E → D → Type 0) (old new : FaultDevice D) (result : Result T E) : Type 0 where
+pub record PassesOn {D T E : Type 0} (failed : D → ℕ) (one_call : D → Result T E → D → Type 0) (old new : FaultDevice D)
+    (result : Result T E) : Type 0 where
   pub call : one_call (inner_of old) result (inner_of new)
   pub counts : Counts (failed (inner_of old)) (failed (inner_of new)) result
   pub own : own_of new ≡ own_of old
@@ -57,7 +59,8 @@ pub record FailsAlone {D T E : Type 0} (old new : FaultDevice D) (result : Resul
 
 -- the first half of these bytes, rounded down, was written below
 pub record HalfWritten {D : Type 0} (medium : Medium D) (at : ℕ) (bytes : List ℕ) (old new : FaultDevice D) : Type 0 where
-  pub written : medium.honest (inner_of old) → medium.image (inner_of new) ≡ with_part (medium.image (inner_of old)) at (take (length bytes / 2) bytes)
+  pub written : medium.honest (inner_of old) → medium.image (inner_of new) ≡ with_part (medium.image (inner_of old)) at
+      (take (length bytes / 2) bytes)
   pub count : medium.failed (inner_of new) ≡ medium.failed (inner_of old)
   pub own : own_of new ≡ one_more (own_of old)
 

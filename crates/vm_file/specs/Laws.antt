@@ -11,4 +11,5 @@ is_pair p = is_contents p.cur && is_contents p.saved
 -- bytes are read as a pair exactly where it is legal and they begin with its spelling
 abbrev pub PairsHaveOneSpelling : Type 0
 PairsHaveOneSpelling =
-    (at : ℕ) (bytes : List ℕ) (p : Pair) → AreBytes bytes → (pair_at at bytes ≡ Ok p) ↔ ((is_pair p ≡ true) × (take (pair_length p) bytes ≡ pair_spelling p))
+    (at : ℕ) (bytes : List ℕ) (p : Pair) → AreBytes bytes → (pair_at at bytes ≡ Ok p)
+    ↔ ((is_pair p ≡ true) × (take (pair_length p) bytes ≡ pair_spelling p))

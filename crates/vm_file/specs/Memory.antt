@@ -45,4 +45,14 @@ pub record Syncs (old : MemoryDevice) (result : Result (Unit {0}) Disk) (new : M
 
 -- such a device
 abbrev pub medium : Medium MemoryDevice
-medium = record { image = bytes_of; honest = IsHonest; failed = failures_of; may_leave = MayLeave; may_have_left = MayHaveLeft; reads = Reads; writes = Writes; syncs = Syncs }
+medium = record {
+  image = bytes_of;
+  honest = IsHonest;
+  failed = failures_of;
+  may_leave = MayLeave;
+  may_have_left =
+      MayHaveLeft;
+  reads = Reads;
+  writes = Writes;
+  syncs = Syncs;
+}

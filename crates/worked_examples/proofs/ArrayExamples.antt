@@ -15,7 +15,8 @@ use Rattle.worked_examples.proofs.CallExamples.{one, after, answer}
 
 -- an array whose sizes vary, with elements of 3, 0 and 5 bytes
 abbrev pub three : Memory
-three = after (caadd (mem 1) 16 5 willing (after (caadd (mem 1) 16 0 willing (after (caadd (mem 1) 16 3 willing (after (canew (mem 1) 0 willing one)))))))
+three = after (caadd (mem 1) 16 5 willing
+    (after (caadd (mem 1) 16 0 willing (after (caadd (mem 1) 16 3 willing (after (canew (mem 1) 0 willing one)))))))
 
 -- two bytes more at index 1, and the first element goes
 abbrev pub changed : Memory
@@ -48,12 +49,30 @@ pub record Varying : Type 0 where
 
 varying_computed : Varying
 unfolding arr spelled cost word
-varying_computed = record { made = refl; count = refl; bytes = refl; first = refl; second = refl; third = refl; fourth = refl; short = refl; at_end = refl; past = refl; longer = refl; spoilt = refl; emptied = refl; too_big = refl; stale = refl }
+varying_computed = record {
+  made = refl;
+  count = refl;
+  bytes = refl;
+  first = refl;
+  second = refl;
+  third = refl;
+  fourth =
+      refl;
+  short = refl;
+  at_end = refl;
+  past = refl;
+  longer = refl;
+  spoilt = refl;
+  emptied = refl;
+  too_big = refl;
+  stale = refl;
+}
 
 -- two elements of four bytes, the second of which ends in the word 513: what is asked for is
 -- not used
 abbrev pub pair : Memory
-pair = after (store (part_of_array 12 4) 2 (1 ∷ 2 ∷ []) willing (after (caadd (mem 1) 16 99 willing (after (caadd (mem 1) 16 0 willing (after (canew (mem 1) 4 willing one)))))))
+pair = after (store (part_of_array 12 4) 2 (1 ∷ 2 ∷ []) willing
+    (after (caadd (mem 1) 16 99 willing (after (caadd (mem 1) 16 0 willing (after (canew (mem 1) 4 willing one)))))))
 
 pub record Fixed : Type 0 where
   pub bytes : chunks_at pair (mem 1) ≡ Some (2 ∷ 0 ∷ 4 ∷ 0 ∷ 0 ∷ 0 ∷ 8 ∷ 0 ∷ 0 ∷ 0 ∷ 0 ∷ 0 ∷ 0 ∷ 0 ∷ 1 ∷ 2 ∷ []) ∷ None ∷ []
@@ -69,7 +88,19 @@ pub record Fixed : Type 0 where
 
 fixed_computed : Fixed
 unfolding arr spelled cost word
-fixed_computed = record { bytes = refl; second = refl; read = refl; short = refl; no_resize = refl; no_resize_past = refl; absent = refl; removed = refl; emptied = refl; last_gone = refl }
+fixed_computed = record {
+  bytes = refl;
+  second = refl;
+  read = refl;
+  short = refl;
+  no_resize = refl;
+  no_resize_past =
+      refl;
+  absent = refl;
+  removed = refl;
+  emptied = refl;
+  last_gone = refl;
+}
 
 -- each way in which bytes are no array
 pub record NoArrays : Type 0 where
@@ -86,7 +117,19 @@ pub record NoArrays : Type 0 where
 
 no_arrays_computed : NoArrays
 unfolding arr word
-no_arrays_computed = record { short = refl; third_word = refl; fourth_word = refl; no_multiple = refl; too_many = refl; behind_none = refl; cut = refl; first = refl; falls = refl; past = refl }
+no_arrays_computed = record {
+  short = refl;
+  third_word = refl;
+  fourth_word = refl;
+  no_multiple = refl;
+  too_many =
+      refl;
+  behind_none = refl;
+  cut = refl;
+  first = refl;
+  falls = refl;
+  past = refl;
+}
 
 -- and what arrays are
 pub record SomeArrays : Type 0 where

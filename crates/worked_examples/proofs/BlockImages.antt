@@ -37,7 +37,12 @@ counted_from n (line ∷ lines) = point line.0 line.1 (potential n 0) ∷ counte
 
 -- a public routine that takes each instruction once at most
 abbrev pub once : List (Instr × Row) → Parts
-once lines = record { keyed = false; routines = routine (98 ∷ replicate 15 0) (length lines) (length lines) ∷ []; points = counted_from (length lines) lines }
+once lines = record {
+  keyed = false;
+  routines = routine (98 ∷ replicate 15 0) (length lines) (length lines) ∷ [];
+  points =
+      counted_from (length lines) lines;
+}
 
 -- a private routine of one instruction and `RET`, each with the row
 abbrev pub with_row : Row → Instr → Parts

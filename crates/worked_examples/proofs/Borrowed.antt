@@ -70,17 +70,23 @@ block-1-lent = record { each = ((refl, refl), (refl, (refl, (refl, tt)))); count
 pub record Borrowed : Type 0 where
   -- a run begins with the block in s0, and the other slots empty
   pub begins : (begin peek 0 (replicate 8 0) block_1 (lent_memory false 77)).slots ≡ holding_1 true ∷ None ∷ None ∷ None ∷ []
-  pub lends : (base_of (lent_memory false 77) (begin peek 0 (replicate 8 0) block_1 (lent_memory false 77)).slots).lends ≡ Some (vm 1) ∷ None ∷ None ∷ None ∷ []
+  pub lends : (base_of (lent_memory false 77) (begin peek 0 (replicate 8 0) block_1 (lent_memory false 77)).slots).lends ≡ Some
+      (vm 1) ∷ None ∷ None ∷ None ∷ []
   pub base : (base_of (lent_memory false 77) (begin peek 0 (replicate 8 0) block_1 (lent_memory false 77)).slots).locks (vm 1) ≡ 0
   -- a handle for a slot that is not borrowed means nothing
-  pub other_handle : begin peek 0 (replicate 8 0) (1 ∷ 1 ∷ 0 ∷ 0 ∷ []) (lent_memory false 77) ≡ begin peek 0 (replicate 8 0) block_1 (lent_memory false 77)
+  pub other_handle : begin peek 0 (replicate 8 0) (1 ∷ 1 ∷ 0 ∷ 0 ∷ []) (lent_memory false 77) ≡ begin peek 0
+      (replicate 8 0) block_1 (lent_memory false 77)
   -- peek puts the word out, and leaves the lock
   pub peek_runs : returned (ending peek 5 (replicate 8 0) block_1 (lent_memory false 77)) ≡ (5, 0 ∷ 16 ∷ 77 ∷ 0 ∷ 0 ∷ 0 ∷ 0 ∷ 0 ∷ [], 77 ∷ []) ∷ []
   pub peek_leaves : memory_at (lent_memory false 0) (ending peek 5 (replicate 8 0) block_1 (lent_memory false 77)) ≡ lent_memory false 77
   -- poke writes the word, and marks the block
   pub poke_leaves : memory_at (lent_memory false 0) (ending poke 5 (8 ∷ replicate 7 0) block_1 (lent_memory false 77)) ≡ lent_memory true 8
   -- a block that both slots hold is no two blocks: SNE goes to its label
-  pub two_of_one : returned (ending two_apart 6 (replicate 8 0) (1 ∷ 1 ∷ 0 ∷ 0 ∷ []) (lent_memory false 77)) ≡ (6, 0 ∷ 16 ∷ 4 ∷ 0 ∷ 0 ∷ 0 ∷ 0 ∷ 0 ∷ [], []) ∷ []
+  pub two_of_one : returned (ending two_apart 6 (replicate 8 0) (1 ∷ 1 ∷ 0 ∷ 0 ∷ []) (lent_memory false 77)) ≡ (
+    6,
+    0 ∷ 16 ∷ 4 ∷ 0 ∷ 0 ∷ 0 ∷ 0 ∷ 0 ∷ [],
+    [],
+  ) ∷ []
   -- two slots are not given a block that is locked once, nor is a block given that is not there, nor one to a slot that is not borrowed
   pub not_twice : AreLent two_slots (1 ∷ 1 ∷ 0 ∷ 0 ∷ []) (lent_memory false 77) → ⊥
   pub not_there : AreLent one_slot (2 ∷ 0 ∷ 0 ∷ 0 ∷ []) (lent_memory false 77) → ⊥

@@ -142,7 +142,8 @@ pub record BorrowedSpelled : Type 0 where
   pub marked_in_version_1 : image_at (set (set (spelling peek) 4 1) 48 7) ≡ Err 48
 
 pub spelled_examples : BorrowedSpelled
-unfolding image_at header_at routines_at routine_at name_at is_name_byte count_at row_at slot_at pointer_at instr_at fields_at bare_points_at keyed_at potential_at
+unfolding image_at header_at routines_at routine_at name_at is_name_byte count_at row_at slot_at pointer_at instr_at
+    fields_at bare_points_at keyed_at potential_at
 spelled_examples = record { byte = refl; read = refl; marked = refl; no_state = refl; in_version_1 = refl; marked_in_version_1 = refl }
 
 -- what the rules say of each pc

@@ -75,7 +75,11 @@ greatest_computed = record { over = refl; most = refl; empty = refl; entry = ref
 pub record Growing : Type 0 where
   pub first : outcome (lalloc (mem 1) 10 willing one) ≡ (Ok 16, block_with 64 (zeros 10 ∷ None ∷ []))
   pub second : outcome (lalloc (mem 1) 30 willing (block_with 64 (zeros 10 ∷ None ∷ []))) ≡ (Ok 18, block_with 64 (zeros 10 ∷ zeros 30 ∷ []))
-  pub third : outcome (lalloc (mem 1) 1 willing (block_with 64 (zeros 10 ∷ zeros 30 ∷ []))) ≡ (Ok 20, block_with 80 (zeros 10 ∷ zeros 30 ∷ zeros 1 ∷ None ∷ []))
+  pub third : outcome (lalloc (mem 1) 1 willing (block_with 64 (zeros 10 ∷ zeros 30 ∷ []))) ≡ (
+    Ok 20,
+    block_with 80
+        (zeros 10 ∷ zeros 30 ∷ zeros 1 ∷ None ∷ []),
+  )
   pub no_room : answer (lalloc (mem 1) 65000 unwilling (record one { region = 65000 })) ≡ Err NoRoom
   pub roomy : answer (lalloc (mem 1) 65000 unwilling one) ≡ Ok 16
 
@@ -103,7 +107,20 @@ pub record Offsets : Type 0 where
 
 offsets_computed : Offsets
 unfolding cost
-offsets_computed = record { odd = refl; absent = refl; short = refl; found = refl; past = refl; at_end = refl; too_many = refl; last_two = refl; shorter = refl; longer = refl; freed = refl }
+offsets_computed = record {
+  odd = refl;
+  absent = refl;
+  short = refl;
+  found = refl;
+  past = refl;
+  at_end = refl;
+  too_many =
+      refl;
+  last_two = refl;
+  shorter = refl;
+  longer = refl;
+  freed = refl;
+}
 
 -- n bytes of the chunk 16, from an offset on
 abbrev pub bytes_from : ℕ → ℕ → Reference
@@ -114,10 +131,22 @@ bytes_from start n = record { name = mem 1; chunk = 16; start = start; len = n }
 pub record Accesses : Type 0 where
   pub byte : outcome (load8 (bytes_from 2 4) 1 willing eight) ≡ (Ok 4, eight)
   pub word : answer (load16 (bytes_from 2 4) 1 willing eight) ≡ Ok (4 + 256 * 5)
-  pub last : outcome (store (bytes_from 2 4) 3 (9 ∷ []) willing eight) ≡ (Ok tt, block_with 64 (Some (1 ∷ 2 ∷ 3 ∷ 4 ∷ 5 ∷ 9 ∷ 7 ∷ 8 ∷ []) ∷ None ∷ []))
+  pub last : outcome (store (bytes_from 2 4) 3 (9 ∷ []) willing eight) ≡ (
+    Ok tt,
+    block_with 64
+        (Some (1 ∷ 2 ∷ 3 ∷ 4 ∷ 5 ∷ 9 ∷ 7 ∷ 8 ∷ []) ∷ None ∷ []),
+  )
   pub two : after (store (bytes_from 0 8) 6 (9 ∷ 10 ∷ []) willing eight) ≡ block_with 64 (Some (1 ∷ 2 ∷ 3 ∷ 4 ∷ 5 ∷ 6 ∷ 9 ∷ 10 ∷ []) ∷ None ∷ [])
-  pub up : outcome (copy (bytes_from 2 6) (bytes_from 0 8) 5 willing eight) ≡ (Ok tt, block_with 64 (Some (1 ∷ 2 ∷ 1 ∷ 2 ∷ 3 ∷ 4 ∷ 5 ∷ 8 ∷ []) ∷ None ∷ []))
-  pub down : outcome (copy (bytes_from 0 8) (bytes_from 2 6) 5 willing eight) ≡ (Ok tt, block_with 64 (Some (3 ∷ 4 ∷ 5 ∷ 6 ∷ 7 ∷ 6 ∷ 7 ∷ 8 ∷ []) ∷ None ∷ []))
+  pub up : outcome (copy (bytes_from 2 6) (bytes_from 0 8) 5 willing eight) ≡ (
+    Ok tt,
+    block_with 64
+        (Some (1 ∷ 2 ∷ 1 ∷ 2 ∷ 3 ∷ 4 ∷ 5 ∷ 8 ∷ []) ∷ None ∷ []),
+  )
+  pub down : outcome (copy (bytes_from 0 8) (bytes_from 2 6) 5 willing eight) ≡ (
+    Ok tt,
+    block_with 64
+        (Some (3 ∷ 4 ∷ 5 ∷ 6 ∷ 7 ∷ 6 ∷ 7 ∷ 8 ∷ []) ∷ None ∷ []),
+  )
   pub none : after (copy (bytes_from 0 8) (bytes_from 8 0) 0 willing eight) ≡ eight
 
 accesses_computed : Accesses

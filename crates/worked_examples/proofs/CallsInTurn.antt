@@ -66,7 +66,8 @@ bytes_in_file h c n = record { name = vm h; chunk = c; start = 0; len = n }
 -- a block of the VM file with this user ID, this size and no chunk, marked or not, and locked
 -- so often
 abbrev pub sized_in_file : ℕ → ℕ → Bool → ℕ → Option VmBlock
-sized_in_file uid size marked locks = Some (record { uid = uid; marked = marked; block = record { locks = locks; heap = record { chunks = None ∷ None ∷ []; size = size } } })
+sized_in_file uid size marked locks =
+    Some (record { uid = uid; marked = marked; block = record { locks = locks; heap = record { chunks = None ∷ None ∷ []; size = size } } })
 
 -- a new block of global memory of 65,024 bytes, which is not locked
 abbrev pub filled : Memory → Memory

@@ -62,7 +62,19 @@ pub record Keeping : Type 0 where
 
 keeping_computed : Keeping
 unfolding cost word
-keeping_computed = record { put_only = refl; saved = refl; not_yet = refl; both = refl; new_map = refl; new_word = refl; reverted = refl; old_map = refl; old_word = refl; gone = refl }
+keeping_computed = record {
+  put_only = refl;
+  saved = refl;
+  not_yet = refl;
+  both = refl;
+  new_map = refl;
+  new_word =
+      refl;
+  reverted = refl;
+  old_map = refl;
+  old_word = refl;
+  gone = refl;
+}
 
 -- a block that grows behind the save: two chunks more, for which its table has four entries
 abbrev pub grown : Memory
@@ -121,7 +133,8 @@ pub record Failing : Type 0 where
   pub read : got 2 (left_under failing_late vsave put_two) ≡ Ok 2
   pub memory : answer_under (record failing_late { memory = true }) vsave put_two ≡ Err refusal.Memory
   pub memory_kept : left_under (record failing_late { memory = true }) vsave put_two ≡ put_two
-  pub unsure_first : answer_under failing vsave (record (left_under failing_late vsave put_two) { file = record (left_under failing_late vsave put_two).file { area = 0 } }) ≡ Err refusal.Unsure
+  pub unsure_first : answer_under failing vsave
+      (record (left_under failing_late vsave put_two) { file = record (left_under failing_late vsave put_two).file { area = 0 } }) ≡ Err refusal.Unsure
 
 failing_computed : Failing
 unfolding cost word
@@ -154,7 +167,17 @@ pub record Stopping : Type 0 where
 
 stopping_computed : Stopping
 unfolding cost word
-stopping_computed = record { save_early = refl; then_update = refl; both_early = refl; save_late = refl; then_unsure = refl; update_early = refl; update_late = refl; done = refl }
+stopping_computed = record {
+  save_early = refl;
+  then_update = refl;
+  both_early = refl;
+  save_late = refl;
+  then_unsure =
+      refl;
+  update_early = refl;
+  update_late = refl;
+  done = refl;
+}
 
 -- a file whose area has 512 bytes
 abbrev pub in_512 : Memory
@@ -162,7 +185,12 @@ in_512 = record start { file = record start.file { area = 512 } }
 
 -- a marked block with a word
 abbrev pub marked_word : Option VmBlock
-marked_word = Some (record { uid = 5; marked = true; block = record { locks = 0; heap = record { chunks = Some (1 ∷ 0 ∷ []) ∷ None ∷ []; size = 64 } } })
+marked_word = Some (record {
+  uid = 5;
+  marked = true;
+  block =
+      record { locks = 0; heap = record { chunks = Some (1 ∷ 0 ∷ []) ∷ None ∷ []; size = 64 } };
+})
 
 -- four of them there, the last one of which is mapped
 abbrev pub four : Memory

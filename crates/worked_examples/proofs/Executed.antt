@@ -104,7 +104,8 @@ pub record Executed : Type 0 where
   pub out : stepped (instr Out 6 0 0 0 7) ≡ Next (state (words 500) (counters 5) 1 (8 ∷ 21845 ∷ []))
   pub out_1024th : step (alone (instr Out 6 0 0 0 7)) willing almost_full ≡ Next (state (words 500) (counters 5) 1 (replicate 1023 8 ++ 21845 ∷ []))
   -- w7 tells why, and nothing is put out
-  pub out_1025th : step (alone (instr Out 6 0 0 0 7)) willing (full (words 500)) ≡ Next (record (full (65535 ∷ 3 ∷ 500 ∷ 40961 ∷ 9 ∷ 9 ∷ 21845 ∷ 10 ∷ [])) { pc = 7 })
+  pub out_1025th : step (alone (instr Out 6 0 0 0 7)) willing (full (words 500)) ≡ Next
+      (record (full (65535 ∷ 3 ∷ 500 ∷ 40961 ∷ 9 ∷ 9 ∷ 21845 ∷ 10 ∷ [])) { pc = 7 })
   -- where there is no instruction
   pub past_the_end : step (alone (instr Ret 0 0 0 0 0)) willing (record before { pc = 1 }) ≡ Fault
 

@@ -16,7 +16,8 @@ use Rattle.worked_examples.proofs.CallsInTurn.{crowded, failing, start, answer_u
 
 -- a new block, of handle h, with the word w in its chunk 16, which becomes the map block
 abbrev pub put : ℕ → ℕ → Memory → Memory
-put h w memory = next (vunlock h) (next (vsetmap h) (next (store (bytes_in_file h 16 2) 0 (word_bytes w)) (next (lalloc (vm h) 2) (next (vnew 5) memory))))
+put h w memory = next (vunlock h)
+    (next (vsetmap h) (next (store (bytes_in_file h 16 2) 0 (word_bytes w)) (next (lalloc (vm h) 2) (next (vnew 5) memory))))
 
 -- the word that is read in the map block of handle h
 abbrev pub got : ℕ → Memory → Result ℕ Refusal
@@ -37,12 +38,25 @@ pub record Putting : Type 0 where
 
 putting_computed : Putting
 unfolding cost word
-putting_computed = record { made = refl; locked = refl; marked = refl; chunk = refl; found = refl; map = refl; unlocked = refl; full = refl; stays = refl; read = refl }
+putting_computed = record {
+  made = refl;
+  locked = refl;
+  marked = refl;
+  chunk = refl;
+  found = refl;
+  map = refl;
+  unlocked =
+      refl;
+  full = refl;
+  stays = refl;
+  read = refl;
+}
 
 -- user IDs, groups, handles and locks: what is refused
 pub record Refusing : Type 0 where
   pub reserved : says (vnew 65280) start ≡ Err Reserved
-  pub no_handle : answer_under crowded (vnew 5) (record start { file = record start.file { cur = listing (replicate 5 (sized_in_file 5 64 true 0)) } }) ≡ Err NoHandle
+  pub no_handle : answer_under crowded (vnew 5)
+      (record start { file = record start.file { cur = listing (replicate 5 (sized_in_file 5 64 true 0)) } }) ≡ Err NoHandle
   pub group : says (vlock 1) (next gnew start) ≡ Err Reserved
   pub zero : says (vlock 0) start ≡ Err BadHandle
   pub odd : says (deref (vm 1) 17 0) (next (lalloc (vm 1) 2) (next (vnew 5) start)) ≡ Err BadChunk
@@ -96,7 +110,20 @@ pub record Telling : Type 0 where
   pub clear : says vgetmap (next (vsetmap 0) (next (vsetmap 4) four)) ≡ Ok 0
 
 telling_computed : Telling
-telling_computed = record { uid = refl; group_uid = refl; first = refl; above = refl; none_above = refl; other = refl; never = refl; no_entry = refl; past = refl; map = refl; clear = refl }
+telling_computed = record {
+  uid = refl;
+  group_uid = refl;
+  first = refl;
+  above = refl;
+  none_above = refl;
+  other =
+      refl;
+  never = refl;
+  no_entry = refl;
+  past = refl;
+  map = refl;
+  clear = refl;
+}
 
 -- below the kernel a group is locked and freed as a block is
 pub record Below : Type 0 where
@@ -110,7 +137,17 @@ pub record Below : Type 0 where
   pub free_held : says (free_listed 3) (with_locks four (vm 3) 1) ≡ Err Locked
 
 below_computed : Below
-below_computed = record { lock_group = refl; lock_block = refl; lock_none = refl; lock_most = refl; lock_disk = refl; free_group = refl; free_none = refl; free_held = refl }
+below_computed = record {
+  lock_group = refl;
+  lock_block = refl;
+  lock_none = refl;
+  lock_most = refl;
+  lock_disk =
+      refl;
+  free_group = refl;
+  free_none = refl;
+  free_held = refl;
+}
 
 -- the lowest free handle is given again; blocks and groups share a range, and global memory has
 -- its own

@@ -34,7 +34,8 @@ no_chunks = None ∷ None ∷ []
 
 -- a block of 64 bytes as it is listed: its user ID, its mark, its locks and its chunks
 abbrev pub listed_as : ℕ → Bool → ℕ → List (Option (List ℕ)) → Option Listed
-listed_as uid marked locks chunks = Some (record { uid = uid; marked = marked; block = record { locks = locks; heap = record { chunks = chunks; size = 64 } } })
+listed_as uid marked locks chunks =
+    Some (record { uid = uid; marked = marked; block = record { locks = locks; heap = record { chunks = chunks; size = 64 } } })
 
 -- the same as the device holds it
 abbrev pub kept_as : ℕ → List (Option (List ℕ)) → Option KeptBlock
@@ -95,7 +96,8 @@ with_s3 kind h s = record s { slots = held 1 ∷ held 1 ∷ held 2 ∷ Some (rec
 -- p3 leads through it to the bytes of chunk 16
 abbrev pub with_p3 : ℕ → State → State
 with_p3 h s = record s {
-  pointers = leads 0 1 4 ∷ leads 1 1 4 ∷ leads 2 2 2 ∷ Some (record { slot = 3; reference = record { name = vm h; chunk = 16; start = 0; len = 4 } }) ∷ [];
+  pointers = leads 0 1 4 ∷ leads 1 1 4 ∷ leads 2 2 2 ∷ Some (record { slot = 3; reference = record { name = vm h; chunk = 16; start = 0; len = 4 } })
+      ∷ [];
 }
 
 -- the step under a choice, from such a state

@@ -18,7 +18,8 @@ use Rattle.worked_examples.proofs.CallsInTurn.{start, listing, answer_under, lef
 
 -- a block of 64 bytes with such chunks
 abbrev pub block_with : List (Option (List ℕ)) → Bool → ℕ → Option VmBlock
-block_with chunks marked locks = Some (record { uid = 5; marked = marked; block = record { locks = locks; heap = record { chunks = chunks; size = 64 } } })
+block_with chunks marked locks =
+    Some (record { uid = 5; marked = marked; block = record { locks = locks; heap = record { chunks = chunks; size = 64 } } })
 
 -- a word in the chunk 16
 abbrev pub word_of : ℕ → List (Option (List ℕ))
@@ -26,7 +27,10 @@ word_of w = Some (w ∷ 0 ∷ []) ∷ None ∷ []
 
 -- the first block is idle, the second locked and not marked, the third marked and not locked
 abbrev pub holding : List (Option (List ℕ)) → Memory
-holding chunks = record start { file = record start.file { cur = listing (block_with chunks false 0 ∷ block_with (word_of 22) false 1 ∷ block_with (word_of 33) true 0 ∷ None ∷ []) } }
+holding chunks = record start {
+  file = record start.file
+      { cur = listing (block_with chunks false 0 ∷ block_with (word_of 22) false 1 ∷ block_with (word_of 33) true 0 ∷ None ∷ []) };
+}
 
 abbrev pub three : Memory
 three = holding (word_of 11)
@@ -85,7 +89,8 @@ abbrev pub groups : List (Option (List ℕ)) → Bool → Memory
 groups chunks marked =
     record start {
       file = record start.file {
-        cur = listing (Some (entry_with 5 (word_of 11) false) ∷ None ∷ Some (entry_with 65280 (word_of 33) marked) ∷ Some (entry_with 65280 chunks false) ∷ []);
+        cur = listing (Some (entry_with 5 (word_of 11) false) ∷ None ∷ Some (entry_with 65280 (word_of 33) marked) ∷ Some
+            (entry_with 65280 chunks false) ∷ []);
       };
     }
 
@@ -110,4 +115,14 @@ pub record LyingOfGroups : Type 0 where
 
 lying_of_groups_computed : LyingOfGroups
 unfolding cost
-lying_of_groups_computed = record { given = refl; short = refl; item = refl; marked_item = refl; saves = refl; current = refl; saved = refl; kept = refl }
+lying_of_groups_computed = record {
+  given = refl;
+  short = refl;
+  item = refl;
+  marked_item = refl;
+  saves = refl;
+  current =
+      refl;
+  saved = refl;
+  kept = refl;
+}

@@ -32,11 +32,13 @@ with_lock a held s = record s {
 }
 
 -- the state stays sound
-pub lock-sound : (base : Base) (s : State) (a : ℕ) (held : Held) → held.borrowed ≡ false → Sound base s → a < 4 → slot s a ≡ None → IsOfKind s.memory held.kind (name_of held) → locks_of s.memory (name_of held) < 65535 → Sound base (with_lock a held s)
+pub lock-sound : (base : Base) (s : State) (a : ℕ) (held : Held) → held.borrowed ≡ false → Sound base s → a < 4
+    → slot s a ≡ None → IsOfKind s.memory held.kind (name_of held) → locks_of s.memory (name_of held) < 65535 → Sound base (with_lock a held s)
 lock-sound base s a held own S within empty is few =
     let name = name_of held in
     let n = locks_of s.memory name + 1 in
-    sound-locked base s a held (with_locks s.memory name n) S within empty (locks-into base s held own is (with_locks-legal s.memory name n (omega (arith, few)) S.memory))
+    sound-locked base s a held (with_locks s.memory name n) S within empty
+    (locks-into base s held own is (with_locks-legal s.memory name n (omega (arith, few)) S.memory))
 
 -- memory with no block, and with a block of the file under handle 1 and a group under handle 2,
 -- both marked
@@ -53,7 +55,8 @@ new-legal : (uid : ℕ) → uid < 65536 → IsLegalListed (new_listed uid 0)
 new-legal uid small = record { uid = small; block = record { heap = new_heap-legal; few = omega arith } }
 
 two-legal : IsMemory two
-two-legal = added_listed-legal one 2 (new_listed 65280 0) (new-legal 65280 (omega arith)) refl (added_listed-legal none 1 (new_listed 5 0) (new-legal 5 (omega arith)) refl (empty-legal 65536))
+two-legal = added_listed-legal one 2 (new_listed 65280 0) (new-legal 65280 (omega arith))
+    refl (added_listed-legal none 1 (new_listed 5 0) (new-legal 5 (omega arith)) refl (empty-legal 65536))
 
 -- no block of the file is locked in it
 abbrev IsIdle : Option directories.VmBlock → Type 0
@@ -63,11 +66,13 @@ none-idle : (h : ℕ) → IsIdle (at_handle None none.file.cur.blocks h)
 none-idle zero = refl
 none-idle (suc h) = elim (cases_lt h 1024) [
   | inl lt ↦ subst IsIdle (sym (get_or-replicate {A = Option directories.VmBlock} 1024 h None None lt)) refl
-  | inr past ↦ subst IsIdle (sym (get_or_past (replicate {A = Option directories.VmBlock} 1024 None) h None (omega (arith, past, length-replicate {A = Option directories.VmBlock} 1024 None)))) refl
+  | inr past ↦ subst IsIdle (sym (get_or_past (replicate {A = Option directories.VmBlock} 1024 None) h None
+      (omega (arith, past, length-replicate {A = Option directories.VmBlock} 1024 None)))) refl
 ]
 
 two-idle : (h : ℕ) → locks_of two (vm h) ≡ 0
-two-idle h = entry-kept IsIdle one.file.cur.blocks 2 h (Some (new_listed 65280 0)) None refl (entry-kept IsIdle none.file.cur.blocks 1 h (Some (new_listed 5 0)) None refl (none-idle h))
+two-idle h = entry-kept IsIdle one.file.cur.blocks 2 h (Some (new_listed 65280 0)) None
+    refl (entry-kept IsIdle none.file.cur.blocks 1 h (Some (new_listed 5 0)) None refl (none-idle h))
 
 -- nothing is held
 abbrev pub idle : State
@@ -117,7 +122,9 @@ pub record HeldOfFile : Type 0 where
 pub examples : HeldOfFile
 examples = record {
   sound = (
-      let idle_is = sound-lent idle empty (replicate 4 0) refl refl nothing-lent two-legal (omega arith, (omega arith, (omega arith, (omega arith, (omega arith, (omega arith, (omega arith, (omega arith, tt)))))))) (refl, (refl, (refl, (refl, tt)))) in
+      let idle_is = sound-lent idle empty (replicate 4 0) refl refl nothing-lent two-legal
+      (omega arith, (omega arith, (omega arith, (omega arith, (omega arith, (omega arith, (omega arith, (omega arith, tt))))))))
+      (refl, (refl, (refl, (refl, tt)))) in
       let first = lock-sound others idle 0 block_held refl idle_is (omega arith) refl (refl, refl) (omega arith) in
       lock-sound others (with_lock 0 block_held idle) 1 group_held refl first (omega arith) refl (refl, refl) (omega arith)
       );

@@ -18,7 +18,8 @@ judged_from image r routine start pc (place ∷ others) = refusal image r routin
 abbrev pub judged_routines : Parts → ℕ → ℕ → List Routine → List (Option Rule)
 judged_routines image r start [] = []
 judged_routines image r start (routine ∷ routines) =
-    judged_from image r routine start start (take routine.count (drop start (places image))) ++ judged_routines image (r + 1) (start + routine.count) routines
+    judged_from image r routine start start (take routine.count (drop start (places image))) ++ judged_routines image
+    (r + 1) (start + routine.count) routines
 
 -- the refusal at each pc
 abbrev pub judged : Parts → List (Option Rule)

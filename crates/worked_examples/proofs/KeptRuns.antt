@@ -82,6 +82,7 @@ abbrev pub two_blocks : Directory KeptBlock
 two_blocks = record (no_directory {B = KeptBlock}) { blocks = block ∷ block ∷ replicate 1022 None; map_block = 2 }
 
 -- nothing until the save; then block 1 mapped, in the saved directory too; and after the update block 2 mapped, beside block 1 in the saved one
-pub keeps-along-script : keeps ≡ replicate 7 (Sure (record { cur = no_directory; saved = no_directory })) ++ (replicate 7 (Sure (record { cur = one_block; saved = one_block })) ++ (Sure (record { cur = two_blocks; saved = one_block }) ∷ []))
+pub keeps-along-script : keeps ≡ replicate 7 (Sure (record { cur = no_directory; saved = no_directory }))
+    ++ (replicate 7 (Sure (record { cur = one_block; saved = one_block })) ++ (Sure (record { cur = two_blocks; saved = one_block }) ∷ []))
 unfolding cost
 keeps-along-script = refl

@@ -52,7 +52,8 @@ pub record KeyedSpelled : Type 0 where
   pub narrowed_read : image_at (set (set bytes 296 1) 297 0) ≡ Ok (keyed_add narrow)
 
 pub examples : KeyedSpelled
-unfolding image_at header_at routines_at routine_at name_at is_name_byte count_at row_at slot_at pointer_at instr_at fields_at bare_points_at keyed_at potential_at
+unfolding image_at header_at routines_at routine_at name_at is_name_byte count_at row_at slot_at pointer_at instr_at
+    fields_at bare_points_at keyed_at potential_at
 examples = record { spelled_len = refl; spelled_read = refl; cut_at_333 = refl; one_byte_more = refl; other_version = refl; narrowed_read = refl }
 
 -- what the rules say of each pc: what is computed behind the OUT, a sum of at most 5, does not fit a row that asks for less

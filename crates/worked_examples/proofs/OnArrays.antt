@@ -66,7 +66,8 @@ element chunk start len = Some (record { slot = 0; reference = record { name = m
 
 -- w0 to w7 are 16, 1, 2, 3, 44, 18, 43981 and 0; there is no chunk w6
 pub record OnArrays : Type 0 where
-  pub canew : stepped_here (instr Canew 2 6 0 5 7) ≡ with_w6 18 (record arrays { memory = with_arrays varying fixed (Some few_bytes ∷ Some (0 ∷ 0 ∷ 5 ∷ 0 ∷ 0 ∷ 0 ∷ 8 ∷ 0 ∷ []) ∷ []); pointers = moved_second })
+  pub canew : stepped_here (instr Canew 2 6 0 5 7) ≡ with_w6 18
+      (record arrays { memory = with_arrays varying fixed (Some few_bytes ∷ Some (0 ∷ 0 ∷ 5 ∷ 0 ∷ 0 ∷ 0 ∷ 8 ∷ 0 ∷ []) ∷ []); pointers = moved_second })
   -- a third chunk asks for more entries, and the block for 16 bytes more
   pub canew_no_room : refused_here (instr Canew 0 6 0 5 7) ≡ refused 4 moved
   -- w1 is 1
@@ -80,10 +81,12 @@ pub record OnArrays : Type 0 where
   -- 2 bytes at index 1
   pub cains : stepped_here (on_array Cains 1 2) ≡ on (varying_to (3 ∷ 0 ∷ 0 ∷ 0 ∷ 0 ∷ 0 ∷ 8 ∷ 0 ∷ 14 ∷ 0 ∷ 16 ∷ 0 ∷ 18 ∷ 0 ∷ 7 ∷ 8 ∷ 0 ∷ 0 ∷ 9 ∷ []))
   -- the count is an index here
-  pub cains_behind : stepped_here (on_array Cains 2 1) ≡ on (varying_to (3 ∷ 0 ∷ 0 ∷ 0 ∷ 0 ∷ 0 ∷ 8 ∷ 0 ∷ 14 ∷ 0 ∷ 16 ∷ 0 ∷ 17 ∷ 0 ∷ 7 ∷ 8 ∷ 9 ∷ 0 ∷ []))
+  pub cains_behind : stepped_here (on_array Cains 2 1) ≡ on
+      (varying_to (3 ∷ 0 ∷ 0 ∷ 0 ∷ 0 ∷ 0 ∷ 8 ∷ 0 ∷ 14 ∷ 0 ∷ 16 ∷ 0 ∷ 17 ∷ 0 ∷ 7 ∷ 8 ∷ 9 ∷ 0 ∷ []))
   -- 9 comes before 6
   pub cains_past : greatest_here (on_array Cains 3 6) ≡ greatest_refused 9 moved
-  pub cains_fixed : stepped_here (record (instr Cains 0 5 1 0 7) { d = 4 }) ≡ on (fixed_to (3 ∷ 0 ∷ 2 ∷ 0 ∷ 0 ∷ 0 ∷ 8 ∷ 0 ∷ 1 ∷ 2 ∷ 0 ∷ 0 ∷ 3 ∷ 4 ∷ []))
+  pub cains_fixed : stepped_here (record (instr Cains 0 5 1 0 7) { d = 4 }) ≡ on
+      (fixed_to (3 ∷ 0 ∷ 2 ∷ 0 ∷ 0 ∷ 0 ∷ 8 ∷ 0 ∷ 1 ∷ 2 ∷ 0 ∷ 0 ∷ 3 ∷ 4 ∷ []))
   pub cains_no_array : stepped_here (record (instr Cains 2 0 3 0 7) { d = 1 }) ≡ refused 8 moved_of_second
   pub cains_no_chunk : stepped_here (record (instr Cains 0 6 3 0 7) { d = 1 }) ≡ refused 2 moved
   pub cains_no_room : refused_here (on_array Cains 1 4) ≡ refused 4 moved
@@ -97,8 +100,10 @@ pub record OnArrays : Type 0 where
   pub cacount : stepped_here (instr Cacount 0 6 0 0 7) ≡ with_w6 2 arrays
   pub cacount_no_array : stepped_here (instr Cacount 2 6 0 0 7) ≡ refused 8 arrays
   pub cacount_no_chunk : stepped_here (instr Cacount 0 6 6 0 7) ≡ refused 2 arrays
-  pub caelt : stepped_here (record (instr Caelt 0 3 0 1 7) { d = 1 }) ≡ on (record arrays { pointers = leads 0 1 4 ∷ leads 1 1 4 ∷ leads 2 2 2 ∷ element 16 14 1 ∷ [] })
-  pub caelt_fixed : stepped_here (record (instr Caelt 0 3 5 2 7) { d = 1 }) ≡ on (record arrays { pointers = leads 0 1 4 ∷ leads 1 1 4 ∷ leads 2 2 2 ∷ element 18 10 2 ∷ [] })
+  pub caelt : stepped_here (record (instr Caelt 0 3 0 1 7) { d = 1 }) ≡ on
+      (record arrays { pointers = leads 0 1 4 ∷ leads 1 1 4 ∷ leads 2 2 2 ∷ element 16 14 1 ∷ [] })
+  pub caelt_fixed : stepped_here (record (instr Caelt 0 3 5 2 7) { d = 1 }) ≡ on
+      (record arrays { pointers = leads 0 1 4 ∷ leads 1 1 4 ∷ leads 2 2 2 ∷ element 18 10 2 ∷ [] })
   pub caelt_short : stepped_here (record (instr Caelt 0 3 0 2 7) { d = 1 }) ≡ refused 3 arrays
   -- 9 comes before 3
   pub caelt_past : stepped_here (record (instr Caelt 0 3 0 9 7) { d = 2 }) ≡ refused 9 arrays
@@ -109,7 +114,8 @@ pub record OnArrays : Type 0 where
   pub cazero_no_array : stepped_here (instr Cazero 2 0 0 0 7) ≡ refused 8 moved_of_second
   pub cazero_no_chunk : stepped_here (instr Cazero 0 6 0 0 7) ≡ refused 2 moved
   pub caresize_less : stepped_here (on_array Caresize 7 1) ≡ on (varying_to (2 ∷ 0 ∷ 0 ∷ 0 ∷ 0 ∷ 0 ∷ 8 ∷ 0 ∷ 12 ∷ 0 ∷ 13 ∷ 0 ∷ 7 ∷ 9 ∷ []))
-  pub caresize_more : stepped_here (on_array Caresize 1 3) ≡ on (varying_to (2 ∷ 0 ∷ 0 ∷ 0 ∷ 0 ∷ 0 ∷ 8 ∷ 0 ∷ 12 ∷ 0 ∷ 14 ∷ 0 ∷ 7 ∷ 8 ∷ 9 ∷ 0 ∷ 0 ∷ []))
+  pub caresize_more : stepped_here (on_array Caresize 1 3) ≡ on
+      (varying_to (2 ∷ 0 ∷ 0 ∷ 0 ∷ 0 ∷ 0 ∷ 8 ∷ 0 ∷ 12 ∷ 0 ∷ 14 ∷ 0 ∷ 7 ∷ 8 ∷ 9 ∷ 0 ∷ 0 ∷ []))
   -- 9 comes before 6
   pub caresize_past : greatest_here (on_array Caresize 2 6) ≡ greatest_refused 9 moved
   -- its elements have one size: that comes before an index that is past

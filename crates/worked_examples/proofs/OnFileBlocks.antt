@@ -33,7 +33,8 @@ pub record OnFileBlocks : Type 0 where
   -- what is held is in memory, and has its room
   pub vlock_held : stepped_from unwilling on_file (instr Vlock 3 3 0 0 7) ≡ refused 11 on_file
   pub vlock_no_device : stepped_from no_device on_file (instr Vlock 3 1 0 0 7) ≡ refused 11 on_file
-  pub vdirty : stepped_from willing (with_p3 1 held_clean) (instr Vdirty 3 0 0 0 0) ≡ on (with_p3 1 (with_s3 VmBlock 1 (listing (listed_as 18 true 1 one ∷ group ∷ dirty 1 ∷ None ∷ []))))
+  pub vdirty : stepped_from willing (with_p3 1 held_clean) (instr Vdirty 3 0 0 0 0) ≡ on
+      (with_p3 1 (with_s3 VmBlock 1 (listing (listed_as 18 true 1 one ∷ group ∷ dirty 1 ∷ None ∷ []))))
   pub vunlock : stepped_from willing (with_p3 1 held_clean) (instr Vunlock 3 0 0 0 0) ≡ on on_file
   -- it was the map block
   pub vfree : stepped_on (instr Vfree 1 0 0 0 7) ≡ on (with_file (file (directory (None ∷ group ∷ dirty 1 ∷ None ∷ []) 0 2 16)))

@@ -46,7 +46,8 @@ pub record OnItems : Type 0 where
   pub gfree_locked : stepped_from willing held_group (instr Gfree 2 0 0 0 7) ≡ refused 7 held_group
   -- the group may be held by a slot or not
   pub inew : stepped_held (instr Inew 6 2 2 0 7) ≡ with_w6 18 (moved (Some bytes ∷ Some (0 ∷ 0 ∷ []) ∷ []))
-  pub inew_idle : stepped_on (instr Inew 6 2 2 0 7) ≡ with_w6 18 (listing (clean ∷ listed_as 65280 true 0 (Some bytes ∷ Some (0 ∷ 0 ∷ []) ∷ []) ∷ dirty 1 ∷ None ∷ []))
+  pub inew_idle : stepped_on (instr Inew 6 2 2 0 7) ≡ with_w6 18
+      (listing (clean ∷ listed_as 65280 true 0 (Some bytes ∷ Some (0 ∷ 0 ∷ []) ∷ []) ∷ dirty 1 ∷ None ∷ []))
   pub inew_no_group : stepped_held (instr Inew 6 1 2 0 7) ≡ refused 1 held_group
   pub inew_no_place : stepped_from no_place on_file (instr Inew 6 2 2 0 7) ≡ refused 4 on_file
   pub inew_no_device : stepped_from no_device held_group (instr Inew 6 2 2 0 7) ≡ refused 11 left

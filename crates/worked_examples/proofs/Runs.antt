@@ -21,7 +21,8 @@ ending image r n = run image 0 (replicate n willing) 0 (begin image r (replicate
 -- refused or nothing
 abbrev pub ending_in_128 : Choice → Parts → ℕ → Ending
 ending_in_128 choice image n =
-    run image 0 (replicate n choice) 0 (begin image 0 (replicate 8 0) (replicate 4 0) (record { blocks = None ∷ []; file = empty_file 0; region = 128 }))
+    run image 0 (replicate n choice) 0
+    (begin image 0 (replicate 8 0) (replicate 4 0) (record { blocks = None ∷ []; file = empty_file 0; region = 128 }))
 
 -- the blocks that are left
 abbrev pub left : Ending → List (Option Block)

@@ -24,5 +24,15 @@ pub record Spelled : Type 0 where
   pub unused_field : image_at (set bytes 149 1) ≡ Err 149
 
 pub examples : Spelled
-unfolding image_at header_at routines_at routine_at name_at is_name_byte count_at row_at slot_at pointer_at instr_at fields_at points_at whole_at entry_at potential_at
-examples = record { spelled_len = refl; spelled_read = refl; cut_at_0 = refl; cut_at_30 = refl; cut_at_447 = refl; one_byte_more = refl; unused_field = refl }
+unfolding image_at header_at routines_at routine_at name_at is_name_byte count_at row_at slot_at pointer_at instr_at
+    fields_at points_at whole_at entry_at potential_at
+examples = record {
+  spelled_len = refl;
+  spelled_read = refl;
+  cut_at_0 = refl;
+  cut_at_30 = refl;
+  cut_at_447 =
+      refl;
+  one_byte_more = refl;
+  unused_field = refl;
+}

@@ -22,7 +22,8 @@ both n = record start {
   region = n;
   blocks = sized 64 1 ∷ sized 128 1 ∷ None ∷ [];
   file = record start.file {
-    cur = listing (sized_in_file 5 64 true 0 ∷ sized_in_file 5 256 false 0 ∷ sized_in_file 5 512 true 1 ∷ sized_in_file 65280 96 false 0 ∷ sized_in_file 65280 80 true 0 ∷ None ∷ []);
+    cur = listing (sized_in_file 5 64 true 0 ∷ sized_in_file 5 256 false 0 ∷ sized_in_file 5 512 true 1 ∷ sized_in_file
+        65280 96 false 0 ∷ sized_in_file 65280 80 true 0 ∷ None ∷ []);
   };
 }
 

@@ -13,5 +13,7 @@ returns c =
     record {
       heap = r.heap;
       handle = r.handle;
-      chunks = (λ bytes before a there h. r.chunks ∙ ap (with_bytes (chunks b) c.args.chunk) (c.spell_refitted.ensures before a (subst (λ (x : List ℕ). HasRefit x before a c.args.shape c.args.element c.args.n) (range-bytes b _ _ bytes (sym there ∙ p.bytes)) h)));
+      chunks = (λ bytes before a there h. r.chunks ∙ ap (with_bytes (chunks b) c.args.chunk)
+          (c.spell_refitted.ensures before a (subst (λ (x : List ℕ). HasRefit x before a c.args.shape c.args.element c.args.n)
+          (range-bytes b _ _ bytes (sym there ∙ p.bytes)) h)));
     }

@@ -23,10 +23,13 @@ put16-requires c =
 
 pub returns : goal.returns
 returns c before a h =
-    let d = c.put16.new.block in let w1 = c.args.shape.count + 1 in
+    let d = c.put16.new.block in
+    let w1 = c.args.shape.count + 1 in
     let small : (k : ℕ) → get_or d k 0 < 256 = (λ k. let t = c.type_inv.bytes k in omega arith) in
     elim c.if-shape-eq0.branch [
-      | then-shape-eq0 w ↦ spelled-varying c.args.bytes.now w.open_table.new.bytes d before a c.args.shape c.args.element w1 h w.if-shape-eq0.true w.open_table.ensures refl
+      | then-shape-eq0 w ↦ spelled-varying c.args.bytes.now w.open_table.new.bytes d before a c.args.shape c.args.element
+          w1 h w.if-shape-eq0.true w.open_table.ensures refl
           (c.put16.ensures ∙ ap (λ x. with_word x 0 w1) w.bytes-is) small
-      | else-shape-eq0 w ↦ spelled-fixed c.args.bytes.now d before a c.args.shape c.args.element w1 h w.if-shape-eq0.false refl (c.put16.ensures ∙ ap (λ x. with_word x 0 w1) w.bytes-is) small
+      | else-shape-eq0 w ↦ spelled-fixed c.args.bytes.now d before a c.args.shape c.args.element w1 h w.if-shape-eq0.false
+          refl (c.put16.ensures ∙ ap (λ x. with_word x 0 w1) w.bytes-is) small
     ]

@@ -7,7 +7,10 @@ use Rattle.chunk_array.proofs.look.find.Goals as goal
 
 pub returns-in-Some : goal.returns-in-Some
 returns-in-Some c =
-    let b = c.args.block.now in let p = c.in-Ok.ensures in let at = c.in-Ok.place.0 in let len = c.in-Ok.place.1 in
+    let b = c.args.block.now in
+    let p = c.in-Ok.ensures in
+    let at = c.in-Ok.place.0 in
+    let len = c.in-Ok.place.1 in
     let small = part-small b at len (λ k. let t = c.type_inv.block k in omega arith) in
     let e : at + len - at ≡ len = omega arith in
     let h = subst (λ (n : ℕ). HasShape (part b at n) c.in-Some.shape) e c.in-Some.ensures in

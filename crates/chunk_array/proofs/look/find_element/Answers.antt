@@ -7,10 +7,14 @@ use Rattle.chunk_array.proofs.look.find_element.Goals as goal
 
 pub returns-in-Err-BadChunk : goal.returns-in-Err-BadChunk
 returns-in-Err-BadChunk c =
-    let cs = chunks c.args.block.now in let tests = no_array cs c.args.chunk in
-    first-stays tests (is_past cs c.args.chunk c.args.index ∷ []) _ (subst (λ e. IsArrayError e tests) c.in-Err-BadChunk.field-0-is c.in-Err-BadChunk.ensures)
+    let cs = chunks c.args.block.now in
+    let tests = no_array cs c.args.chunk in
+    first-stays tests (is_past cs c.args.chunk c.args.index ∷ []) _
+    (subst (λ e. IsArrayError e tests) c.in-Err-BadChunk.field-0-is c.in-Err-BadChunk.ensures)
 
 pub returns-in-Err-BadArray : goal.returns-in-Err-BadArray
 returns-in-Err-BadArray c =
-    let cs = chunks c.args.block.now in let tests = no_array cs c.args.chunk in
-    first-stays tests (is_past cs c.args.chunk c.args.index ∷ []) _ (subst (λ e. IsArrayError e tests) c.in-Err-BadArray.field-0-is c.in-Err-BadArray.ensures)
+    let cs = chunks c.args.block.now in
+    let tests = no_array cs c.args.chunk in
+    first-stays tests (is_past cs c.args.chunk c.args.index ∷ []) _
+    (subst (λ e. IsArrayError e tests) c.in-Err-BadArray.field-0-is c.in-Err-BadArray.ensures)

@@ -6,5 +6,6 @@ use Rattle.chunk_array.proofs.make.put_empty.Goals as goal
 
 pub returns : goal.returns
 returns c =
-    let r = rewritten c.args.block.now c.args.chunk _ _ c.put_header.new.bytes c.requires.heap c.in-Ok.ensures.place c.in-Ok.ensures.within c.put_header.auto.bytes in
+    let r = rewritten c.args.block.now c.args.chunk _ _ c.put_header.new.bytes c.requires.heap c.in-Ok.ensures.place
+    c.in-Ok.ensures.within c.put_header.auto.bytes in
     record { heap = r.heap; handle = r.handle; chunks = r.chunks ∙ ap (with_bytes (chunks c.args.block.now) c.args.chunk) c.put_header.ensures }

@@ -11,10 +11,13 @@ shift_offsets-requires-clause-room c j l h =
 pub shift_offsets-requires-2-clause-room : goal.shift_offsets-requires-2-clause-room
 shift_offsets-requires-2-clause-room c j l h =
     let back : j - 1 + 1 ≡ j = omega arith in
-    let e = high-moves c.args.bytes.now c.move_bytes.new.block c.shift_offsets.new.bytes c.put16.new.block c.args.i c.args.at (c.args.at + 2) (j - 1) (omega arith) (omega arith) c.move_bytes.ensures c.shift_offsets.ensures c.put16.ensures (omega arith) in
-    let o = c.requires.offsets (j - 1) (omega arith) in let f = ap (offset c.put16.new.block) back in (omega arith, omega (arith, e, o, f))
+    let e = high-moves c.args.bytes.now c.move_bytes.new.block c.shift_offsets.new.bytes c.put16.new.block c.args.i
+    c.args.at (c.args.at + 2) (j - 1) (omega arith) (omega arith) c.move_bytes.ensures c.shift_offsets.ensures c.put16.ensures (omega arith) in
+    let o = c.requires.offsets (j - 1) (omega arith) in
+    let f = ap (offset c.put16.new.block) back in (omega arith, omega (arith, e, o, f))
 
 pub returns : goal.returns
 returns c =
-    opens c.args.bytes.now c.move_bytes.new.block c.shift_offsets.new.bytes c.put16.new.block c.shift_offsets-2.new.bytes c.args.count c.args.i c.args.at c.args.n c.requires.order c.requires.table c.requires.room (omega arith)
+    opens c.args.bytes.now c.move_bytes.new.block c.shift_offsets.new.bytes c.put16.new.block c.shift_offsets-2.new.bytes
+    c.args.count c.args.i c.args.at c.args.n c.requires.order c.requires.table c.requires.room (omega arith)
     c.move_bytes.ensures c.shift_offsets.ensures c.put16.ensures c.shift_offsets-2.ensures

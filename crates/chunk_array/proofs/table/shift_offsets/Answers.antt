@@ -21,5 +21,6 @@ loop-j-preserved c =
     let e = shifts-ahead c.args.bytes.now c.loop-j.bytes c.args.from j c.args.less c.args.more j c.loop-j.invariant (omega arith) in
     let r = c.requires.room j (omega arith) c.loop-j-test.true in
     let w = c.get16.result - c.args.less + c.args.more in
-    shifts-more c.args.bytes.now c.loop-j.bytes c.put16.new.block c.args.from j c.args.less c.args.more w c.loop-j.invariant (omega arith) (omega (arith, c.requires.within, c.loop-j-test.true)) c.put16.ensures
+    shifts-more c.args.bytes.now c.loop-j.bytes c.put16.new.block c.args.from j c.args.less c.args.more w c.loop-j.invariant
+    (omega arith) (omega (arith, c.requires.within, c.loop-j-test.true)) c.put16.ensures
     (omega (arith, e, r.0, r.1, c.get16.ensures)) (omega (arith, e, r.0, c.get16.ensures))

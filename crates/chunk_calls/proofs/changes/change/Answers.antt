@@ -23,10 +23,12 @@ returns-clause-carries g c =
     elim c.match-try_change.branch [
       | in-Ok w ↦ rw (w.blocks-is, w.done-is) (carries-done v grows edit old tried name c.requires.tied.laid tt w.in-Ok.ensures.tries)
       | in-Err-Refused w ↦ (let i = w.in-Err-Refused in
-          rw (w.blocks-is, w.done-is) (carries-refused v grows edit old tried name c.requires.tied.laid (change-asks c.args.change) i.refusal (subst (λ o. Tries edit old tried name (Err o)) i.field-0-is i.ensures.tries)))
+          rw (w.blocks-is, w.done-is) (carries-refused v grows edit old tried name c.requires.tied.laid
+          (change-asks c.args.change) i.refusal (subst (λ o. Tries edit old tried name (Err o)) i.field-0-is i.ensures.tries)))
       | in-Err-Room w ↦ (let i = w.in-Err-Room in let e = w.grow_and_change-done in
           let may = own-grows grows i.room (subst (λ o. IsOwn grows (Err o)) i.field-0-is i.ensures.own) in
-          rw (w.blocks-is, w.done-is) (carries-grown v grows edit old e.new.blocks name c.requires.tied.laid e.result may (subst (λ s. DiscardsAndEdits v edit s e.new.blocks name e.result) i.ensures.tries.1 e.ensures.comes)))
+          rw (w.blocks-is, w.done-is) (carries-grown v grows edit old e.new.blocks name c.requires.tied.laid e.result may
+          (subst (λ s. DiscardsAndEdits v edit s e.new.blocks name e.result) i.ensures.tries.1 e.ensures.comes)))
     ]
 
 pub returns-clause-calls : goal.returns-clause-calls
@@ -37,7 +39,8 @@ returns-clause-calls g c =
     let edit = change_edit c.args.change in
     let name = c.args.name in
     let old = c.args.blocks.now in
-    let done = c.match-try_change.done in let new = c.match-try_change.blocks in
+    let done = c.match-try_change.done in
+    let new = c.match-try_change.blocks in
     let carries = returns-clause-carries g c in
     let keeps = carries-keeps v edit old new name q.tied.laid q.heap (may_grow c.args.change) done carries in
     record {
@@ -48,7 +51,8 @@ returns-clause-calls g c =
       ];
       keeps = keeps;
       tied = λ marked. named-tied d.medium v old new name q.tied q.heap.there keeps marked;
-      row = carries-row d.medium v edit old new name q.tied q.heap (may_grow c.args.change) done carries (where_ok done (values-of new (slot_of name) c.region.result.now c.region.ensures.region c.region.ensures.bytes));
+      row = carries-row d.medium v edit old new name q.tied q.heap (may_grow c.args.change) done carries
+          (where_ok done (values-of new (slot_of name) c.region.result.now c.region.ensures.region c.region.ensures.bytes));
     }
 
 pub returns-clause-compact : goal.returns-clause-compact

@@ -9,7 +9,8 @@ use Rattle.chunk_calls.proofs.changes.contract.Goals as goal
 pub returns-clause-tries : goal.returns-clause-tries
 returns-clause-tries c =
     let e = c.contract.ensures in
-    lent-tried contract c.args.blocks.now c.args.name c.requires.there c.contract.new.block c.bytes_mut.result.now c.bytes_mut.ensures.value c.contract.auto.block e.heap e.handle tt refl refl e.chunks
+    lent-tried contract c.args.blocks.now c.args.name c.requires.there c.contract.new.block c.bytes_mut.result.now
+    c.bytes_mut.ensures.value c.contract.auto.block e.heap e.handle tt refl refl e.chunks
 
 pub returns-clause-compact : goal.returns-clause-compact
 returns-clause-compact c =

@@ -22,7 +22,8 @@ returns-clause-comes g c =
     elim c.match-try_make.branch [
       | in-Ok w ↦ rw (w.blocks-is, w.made-is) (comes-at_once v edit old name c.requires.tied.laid tried w.in-Ok.c w.in-Ok.ensures)
       | in-Err-Refused w ↦ (let i = w.in-Err-Refused in
-          rw (w.blocks-is, w.made-is) (comes-refused v edit old name c.requires.tied.laid (make-asks c.args.make) tried i.refusal (subst (λ o. Tries edit old tried name (Err o)) i.field-0-is i.ensures)))
+          rw (w.blocks-is, w.made-is) (comes-refused v edit old name c.requires.tied.laid (make-asks c.args.make)
+          tried i.refusal (subst (λ o. Tries edit old tried name (Err o)) i.field-0-is i.ensures)))
       | in-Err-Room w ↦ (let m = w.grow_and_make-made in
           rw (w.blocks-is, w.made-is) (subst (λ s. DiscardsAndEdits v edit s m.new.blocks name m.result) w.in-Err-Room.ensures.1 m.ensures.comes))
     ]
@@ -35,7 +36,8 @@ returns-clause-calls g c =
     let edit = make_edit c.args.make in
     let name = c.args.name in
     let old = c.args.blocks.now in
-    let made = c.match-try_make.made in let new = c.match-try_make.blocks in
+    let made = c.match-try_make.made in
+    let new = c.match-try_make.blocks in
     let comes = returns-clause-comes g c in
     let keeps = comes-keeps v edit old new name q.tied.laid q.heap made comes in
     record {
@@ -46,5 +48,6 @@ returns-clause-calls g c =
       ];
       keeps = keeps;
       tied = λ marked. named-tied d.medium v old new name q.tied q.heap.there keeps marked;
-      row = comes-row d.medium v edit old new name q.tied q.heap made comes (where_ok made (values-of new (slot_of name) c.region.result.now c.region.ensures.region c.region.ensures.bytes));
+      row = comes-row d.medium v edit old new name q.tied q.heap made comes
+          (where_ok made (values-of new (slot_of name) c.region.result.now c.region.ensures.region c.region.ensures.bytes));
     }

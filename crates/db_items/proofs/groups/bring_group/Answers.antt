@@ -51,7 +51,10 @@ err-same a b e = cc
 
 pub returns-then-not-is_group : goal.returns-then-not-is_group
 returns-then-not-is_group g c =
-    let d = g.D.Device in let now = c.args.vm.now in let s = c.args.blocks.now in let h = c.args.g in
+    let d = g.D.Device in
+    let now = c.args.vm.now in
+    let s = c.args.blocks.now in
+    let h = c.args.g in
     record {
       brings = nothing-brings d.medium refusal.NoRoom refusal.Disk h (Err refusal.BadHandle) now s c.requires (not-changed s h) bad-room bad-disk;
       no_group = λ none. (refl, refl, refl);
@@ -74,7 +77,8 @@ returns-in-Err g c =
     let e = c.in-Err.ensures in
     let group : IsGroup now h = c.if-not-is_group.ensures.0 refl in
     let refused : BringsGroup d.medium h (Err (why_not_brought why)) now w s t = record {
-      brings = brings-as d.medium error.NoRoom error.Disk why refusal.NoRoom refusal.Disk (why_not_brought why) h now w s t (room-why why) (disk-why why) (λ is. ap why_not_brought is) e.brings;
+      brings = brings-as d.medium error.NoRoom error.Disk why refusal.NoRoom refusal.Disk (why_not_brought why) h now w s t
+          (room-why why) (disk-why why) (λ is. ap why_not_brought is) e.brings;
       no_group = λ none. absurd (none group);
       known = tt;
       not_short = λ is. not-short why (err-same (why_not_brought why) refusal.Short is);
@@ -86,10 +90,12 @@ returns-in-Err g c =
 
 pub returns-in-Ok : goal.returns-in-Ok
 returns-in-Ok g c =
-    let d = g.D.Device in let e = c.in-Ok.ensures in
+    let d = g.D.Device in
+    let e = c.in-Ok.ensures in
     let group : IsGroup c.args.vm.now c.args.g = c.if-not-is_group.ensures.0 refl in
     record {
-      brings = brings-on d.medium error.NoRoom error.Disk refusal.NoRoom refusal.Disk c.args.g c.args.vm.now c.bring.new.self c.args.blocks.now c.bring.new.blocks e.brings;
+      brings = brings-on d.medium error.NoRoom error.Disk refusal.NoRoom refusal.Disk c.args.g c.args.vm.now
+          c.bring.new.self c.args.blocks.now c.bring.new.blocks e.brings;
       no_group = λ none. absurd (none group);
       known = group;
       not_short = done-not refusal.Short;

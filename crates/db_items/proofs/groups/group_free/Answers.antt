@@ -14,7 +14,8 @@ use Rattle.db_items.proofs.GroupRows.{free-row, free_no_group-row}
 use Rattle.db_items.proofs.groups.group_free.Goals as goal
 
 -- why it was not freed
-locked-why : (why : FreeError) → (◌≡◌ {A = Result (Unit {0}) Refusal} (Err (why_not_freed why)) (Err refusal.Locked)) ↔ (◌≡◌ {A = Result (Unit {0}) FreeError} (Err why) (Err error.Locked))
+locked-why : (why : FreeError) → (◌≡◌ {A = Result (Unit {0}) Refusal} (Err (why_not_freed why)) (Err refusal.Locked))
+    ↔ (◌≡◌ {A = Result (Unit {0}) FreeError} (Err why) (Err error.Locked))
 locked-why error.BadHandle = ((λ e. absurd cc), (λ e. absurd cc))
 locked-why error.Locked = ((λ e. refl), (λ e. refl))
 
@@ -42,7 +43,11 @@ returns-then-not-is_group g c =
 
 pub returns-in-Ok : goal.returns-in-Ok
 returns-in-Ok g c =
-    let d = g.D.Device in let v = c.args.vm.now in let s = c.args.blocks.now in let h = c.args.group in let e = c.in-Ok.ensures in
+    let d = g.D.Device in
+    let v = c.args.vm.now in
+    let s = c.args.blocks.now in
+    let h = c.args.group in
+    let e = c.in-Ok.ensures in
     let group : IsGroup v h = c.if-not-is_group.ensures.0 refl in
     record {
       tied = e.tied;
@@ -63,12 +68,15 @@ returns-in-Err g c =
     let w = c.vfree.new.self in
     let t = c.vfree.new.blocks in
     let h = c.args.group in
-    let why = c.in-Err.why in let e = c.in-Err.ensures in let by = locked-why why in
+    let why = c.in-Err.why in
+    let e = c.in-Err.ensures in
+    let by = locked-why why in
     let group : IsGroup v h = c.if-not-is_group.ensures.0 refl in
     let Locked : Refusal → Type 0 = λ r. (◌≡◌ {A = Result (Unit {0}) Refusal} (Err r) (Err refusal.Locked)) ↔ (0 < locks_of s (vm_slot h)) in
     record {
       tied = e.tied;
-      row = subst (λ (r : Refusal). DoesRow d.medium (gfree h) (Err r) v s w t) (sym c.refusal.ensures) (free-row d.medium v s h c.requires group w t (Err (why_not_freed why)) e.row);
+      row = subst (λ (r : Refusal). DoesRow d.medium (gfree h) (Err r) v s w t) (sym c.refusal.ensures)
+          (free-row d.medium v s h c.requires group w t (Err (why_not_freed why)) e.row);
       no_group = λ none. absurd (none group);
       locked = λ was. subst Locked (sym c.refusal.ensures) ((λ is. e.locked.0 (by.0 is)), (λ some. by.1 (e.locked.1 some)));
       state = tt;

@@ -17,11 +17,13 @@ only-two : (why : NewError) → (why_not_made why ≡ refusal.NoHandle) ⊎ (why
 only-two error.NoHandle = inl refl
 only-two error.NoRoom = inr refl
 
-room-why : (why : NewError) → ◌≡◌ {A = Result ℕ Refusal} (Err (why_not_made why)) (Err refusal.NoRoom) → ◌≡◌ {A = Result ℕ NewError} (Err why) (Err error.NoRoom)
+room-why : (why : NewError) → ◌≡◌ {A = Result ℕ Refusal} (Err (why_not_made why)) (Err refusal.NoRoom)
+    → ◌≡◌ {A = Result ℕ NewError} (Err why) (Err error.NoRoom)
 room-why error.NoHandle e = absurd cc
 room-why error.NoRoom e = refl
 
-handle-why : (why : NewError) → (◌≡◌ {A = Result ℕ Refusal} (Err (why_not_made why)) (Err refusal.NoHandle)) ↔ (◌≡◌ {A = Result ℕ NewError} (Err why) (Err error.NoHandle))
+handle-why : (why : NewError) → (◌≡◌ {A = Result ℕ Refusal} (Err (why_not_made why)) (Err refusal.NoHandle))
+    ↔ (◌≡◌ {A = Result ℕ NewError} (Err why) (Err error.NoHandle))
 handle-why error.NoHandle = ((λ e. refl), (λ e. refl))
 handle-why error.NoRoom = ((λ e. absurd cc), (λ e. absurd cc))
 
@@ -63,7 +65,9 @@ returns-in-Err g c =
     let s = c.args.blocks.now in
     let w = c.vnew_unlocked.new.self in
     let t = c.vnew_unlocked.new.blocks in
-    let why = c.in-Err.why in let e = c.in-Err.ensures in let by = handle-why why in
+    let why = c.in-Err.why in
+    let e = c.in-Err.ensures in
+    let by = handle-why why in
     let made : Made d.medium (Err (why_not_made why)) v w s t = record {
       row = e.row;
       why = only-two why;

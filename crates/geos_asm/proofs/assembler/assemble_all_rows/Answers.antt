@@ -4,7 +4,12 @@ use Rattle.geos_asm.proofs.Assembled.{assembled, no_rows}
 use Rattle.geos_asm.proofs.assembler.assemble_all_rows.Goals as goal
 
 pub returns-in-Ok-clause-whole : goal.returns-in-Ok-clause-whole
-returns-in-Ok-clause-whole c = assembled c.args.text.now _ c.in_ok-blank.blank c.in-Ok.whole c.in_ok-parsed.ensures.parsed c.in_ok-blank.ensures c.in-Ok.ensures.code c.in-Ok.ensures.rows c.in-Ok.ensures.found
+returns-in-Ok-clause-whole c = assembled c.args.text.now _ c.in_ok-blank.blank c.in-Ok.whole c.in_ok-parsed.ensures.parsed
+    c.in_ok-blank.ensures c.in-Ok.ensures.code c.in-Ok.ensures.rows c.in-Ok.ensures.found
 
 pub returns-in-Err-NoRows-clause-fault : goal.returns-in-Err-NoRows-clause-fault
-returns-in-Err-NoRows-clause-fault c = no_rows c.args.text.now _ c.in_ok-blank.blank c.in-Err-NoRows.r c.from.result _ c.in_ok-parsed.ensures.parsed c.in_ok-blank.ensures (subst (NamesRoutine c.in_ok-blank.blank) c.in-Err-NoRows.field-0-is c.in-Err-NoRows.ensures.within) c.from.ensures c.index-routine.ensures (c.in-Err-NoRows.ensures.none c.in-Err-NoRows.r c.in-Err-NoRows.field-0-is) (c.in-Err-NoRows.ensures.stuck c.in-Err-NoRows.r c.in-Err-NoRows.field-0-is)
+returns-in-Err-NoRows-clause-fault c = no_rows c.args.text.now _ c.in_ok-blank.blank c.in-Err-NoRows.r c.from.result
+    _ c.in_ok-parsed.ensures.parsed c.in_ok-blank.ensures
+    (subst (NamesRoutine c.in_ok-blank.blank) c.in-Err-NoRows.field-0-is c.in-Err-NoRows.ensures.within) c.from.ensures
+    c.index-routine.ensures (c.in-Err-NoRows.ensures.none c.in-Err-NoRows.r c.in-Err-NoRows.field-0-is)
+    (c.in-Err-NoRows.ensures.stuck c.in-Err-NoRows.r c.in-Err-NoRows.field-0-is)

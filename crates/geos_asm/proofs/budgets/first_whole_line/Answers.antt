@@ -13,4 +13,5 @@ returns-in-None-clause-line c =
     let all : length text ≤ length text = omega arith in
     let front : take (length text) text ≡ text = take_all (length text) text all in
     let back : drop (length text) text ≡ [] = drop_all (length text) text all in
-    rw (c.split_at-in-None.ensures.front, c.split_at-in-None.ensures.back, front, back) (line-to-end text c.requires (sym c.first_feed.ensures ∙ c.in-None.is))
+    rw (c.split_at-in-None.ensures.front, c.split_at-in-None.ensures.back, front, back)
+    (line-to-end text c.requires (sym c.first_feed.ensures ∙ c.in-None.is))

@@ -8,14 +8,16 @@ loop-rest-preserved-then-branch c = λ tail others.
     let h = c.in_ok-put_line.ensures in
     let out = c.loop-rest.new.items in
     subst (λ written. HasOtherBudgets c.args.text.now (written ++ tail)) (sym h.2)
-    (one-more c.args.text.now out h.0 c.loop-rest.rest.now c.first_whole_line.result.0.now c.first_whole_line.result.1.now tail c.loop-rest.invariant c.first_whole_line.ensures.line h.1 others)
+    (one-more c.args.text.now out h.0 c.loop-rest.rest.now c.first_whole_line.result.0.now c.first_whole_line.result.1.now
+    tail c.loop-rest.invariant c.first_whole_line.ensures.line h.1 others)
 
 pub loop-rest-preserved : goal.loop-rest-preserved
 loop-rest-preserved c = λ tail others.
     let h = c.in_ok-put_line.ensures in
     let out = c.loop-rest.new.items in
     subst (λ written. HasOtherBudgets c.args.text.now (written ++ tail)) (sym h.2)
-    (one-more c.args.text.now out h.0 c.loop-rest.rest.now c.first_whole_line.result.0.now c.first_whole_line.result.1.now tail c.loop-rest.invariant c.first_whole_line.ensures.line h.1 others)
+    (one-more c.args.text.now out h.0 c.loop-rest.rest.now c.first_whole_line.result.0.now c.first_whole_line.result.1.now
+    tail c.loop-rest.invariant c.first_whole_line.ensures.line h.1 others)
 
 pub returns : goal.returns
 returns c =

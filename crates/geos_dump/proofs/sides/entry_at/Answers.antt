@@ -11,8 +11,10 @@ blank = record { h = 0; uid = 0; len = 0 }
 
 pub returns : goal.returns
 returns g c =
-    let i = c.args.i in let found = c.directory.result.now in
+    let i = c.args.i in
+    let found = c.directory.result.now in
     let blocks = (contents_on c.args.side (pair_of g.D.Device.medium.image c.args.file.now)).blocks in
     let e = get_or c.deref.result.now i blank in
     subst (λ (d : Directory). IsEntryOf d blocks i e) c.directory.ensures.same
-    (entry-of found blocks i e blank (ap (λ d. d.entries.items) c.directory.ensures.lists) c.directory.ensures.legal c.requires (ap (λ es. get_or es i blank) c.deref.ensures.0))
+    (entry-of found blocks i e blank (ap (λ d. d.entries.items) c.directory.ensures.lists) c.directory.ensures.legal
+    c.requires (ap (λ es. get_or es i blank) c.deref.ensures.0))

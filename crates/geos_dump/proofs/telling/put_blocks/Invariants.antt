@@ -13,5 +13,7 @@ invariant-loop-i g l =
     record {
       looks : IsOnlyRead d.medium l.fn.file l.file;
       count : d.medium.failed l.file.device ≡ d.medium.failed l.fn.file.device;
-      text : d.medium.honest l.fn.file.device → Writes l.telling (λ detail. flat_map (block_text detail) (take l.i (contents_on l.side (pair_of d.medium.image l.fn.file)).blocks)) (vec_items l.fn.out) (vec_items l.out);
+      text : d.medium.honest l.fn.file.device
+          → Writes l.telling (λ detail. flat_map (block_text detail) (take l.i (contents_on l.side (pair_of d.medium.image l.fn.file)).blocks))
+          (vec_items l.fn.out) (vec_items l.out);
     }

@@ -9,13 +9,15 @@ use Rattle.geos_dump.proofs.telling.put_directories.Goals as goal
 
 pub returns-in_err-put_directory : goal.returns-in_err-put_directory
 returns-in_err-put_directory g c =
-    let medium = g.D.Device.medium in let f = c.args.file.now in
+    let medium = g.D.Device.medium in
+    let f = c.args.file.now in
     tells_error medium _ _ _ f f _ _ _ _ _ _ (look_none medium f) refl c.from_residual-in_err-put_directory.ensures.1 c.in_err-put_directory.ensures
 
 pub returns : goal.returns
 returns g c =
     let medium = g.D.Device.medium in
-    let current = c.in_ok-put_directory.ensures in let saved = c.put_directory-2.ensures in
+    let current = c.in_ok-put_directory.ensures in
+    let saved = c.put_directory-2.ensures in
     let out = c.args.out.now.items in
     record {
       text = λ h. on_ok_weaker c.put_directory-2.result

@@ -8,7 +8,8 @@ use Rattle.geos_dump.proofs.telling.put_directory.Goals as goal
 
 pub returns : goal.returns
 returns g c =
-    let out = c.args.out.now.items in let found = c.directory.result.now in
+    let out = c.args.out.now.items in
+    let found = c.directory.result.now in
     let line = directory_line (side_word c.args.side) found in
     let contents = contents_on c.args.side (pair_of g.D.Device.medium.image c.args.file.now) in
     record {

@@ -6,7 +6,12 @@ use Rattle.geos_image.proofs.KeyLaws.{place-more, bit-small}
 use Rattle.geos_image.proofs.keys.place_rows.Goals as goal
 
 abbrev blank : Point
-blank = record { instr = record { opcode = Ldi; a = 0; b = 0; c = 0; d = 0; imm = 0; target = 0 }; row = None; potential = record { constant = 0; coefficients = [] } }
+blank = record {
+  instr = record { opcode = Ldi; a = 0; b = 0; c = 0; d = 0; imm = 0; target = 0 };
+  row = None;
+  potential =
+      record { constant = 0; coefficients = [] };
+}
 
 pub loop-pc-preserved : goal.loop-pc-preserved
 loop-pc-preserved c =
@@ -20,4 +25,9 @@ loop-pc-preserved c =
     let more = place-more flags points c.args.rows.now pc c.loop-pc.next c.index_mut.result.now lt room here in
     let small = bit-small flag in
     let bit = c.flag_bit-next.ensures in
-    rw (c.row_for.ensures, bit) (omega (arith, small, c.loop-pc.invariant.0), length-set points pc _ ∙ c.loop-pc.invariant.1, more ∙ c.loop-pc.invariant.2)
+    rw (c.row_for.ensures, bit) (
+      omega (arith, small, c.loop-pc.invariant.0),
+      length-set points pc _
+          ∙ c.loop-pc.invariant.1,
+      more ∙ c.loop-pc.invariant.2,
+    )

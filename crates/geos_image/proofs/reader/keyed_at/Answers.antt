@@ -13,9 +13,12 @@ invariant_of-result c =
     let points = c.in_ok-points.points.items in
     let rows = c.in_ok-rows.rows.items in
     let instrs : instrs_of points ≡ code = c.in_ok-points.ensures.instrs in
-    let flags : c.keys_of-flags.result ≡ key_flags routines code = c.keys_of-flags.ensures ∙ rw (c.deref.ensures.value, c.deref-2.ensures.value, instrs) refl in
-    let count : c.flag_count-count.result ≡ flag_count (key_flags routines code) code = c.flag_count-count.ensures.value ∙ rw (flags, c.deref-3.ensures.value, instrs) refl in
+    let flags : c.keys_of-flags.result ≡ key_flags routines code = c.keys_of-flags.ensures
+    ∙ rw (c.deref.ensures.value, c.deref-2.ensures.value, instrs) refl in
+    let count : c.flag_count-count.result ≡ flag_count (key_flags routines code) code = c.flag_count-count.ensures.value
+    ∙ rw (flags, c.deref-3.ensures.value, instrs) refl in
     let as_many : flag_count (key_flags routines code) code ≡ length rows = sym count ∙ sym c.in_ok-rows.ensures.len in
-    let placed : c.place_rows.new.points.items ≡ with_rows (key_flags routines code) points rows = c.place_rows.ensures ∙ rw (flags, c.deref-then-bytes-end.ensures.value) refl in
+    let placed : c.place_rows.new.points.items ≡ with_rows (key_flags routines code) points rows = c.place_rows.ensures
+    ∙ rw (flags, c.deref-then-bytes-end.ensures.value) refl in
     subst (λ (ps : List Point). is_image (record { keyed = true; routines = routines; points = ps }) ≡ true) (sym placed)
     (keyed_legal routines code points rows c.requires.legal c.in_ok-points.ensures.legal instrs c.in_ok-rows.ensures.legal as_many)

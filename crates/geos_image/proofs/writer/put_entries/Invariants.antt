@@ -5,4 +5,5 @@ use Rattle.geos_image.specs.Spelling.{told}
 use Rattle.geos_image.proofs.writer.put_entries.Given as goal
 
 abbrev pub invariant-loop-point : goal.invariant-loop-point
-invariant-loop-point l = (l.out.items ≡ l.initial.out.items ++ flat_map told (take l.point-index l.points)) × All PointFits (take l.point-index l.points)
+invariant-loop-point l = (l.out.items ≡ l.initial.out.items ++ flat_map told (take l.point-index l.points))
+    × All PointFits (take l.point-index l.points)

@@ -12,11 +12,14 @@ pub loop-point-preserved : goal.loop-point-preserved
 loop-point-preserved c = (
   puts-more (λ (point : Point). given point.row) c.args.points.now c.loop-point.point-index _ _ _ _
       c.loop-point-test.true c.loop-point.invariant.0 c.in_ok-put_given_row.ensures.value,
-  All-more (λ (point : Point). GivenFits point.row) c.args.points.now c.loop-point.point-index _ c.loop-point-test.true c.loop-point.invariant.1 c.in_ok-put_given_row.ensures.fits,
+  All-more (λ (point : Point). GivenFits point.row) c.args.points.now c.loop-point.point-index _ c.loop-point-test.true
+      c.loop-point.invariant.1 c.in_ok-put_given_row.ensures.fits,
 )
 
 pub returns-clause-value : goal.returns-clause-value
-returns-clause-value c = puts-all (λ (point : Point). given point.row) c.args.points.now c.loop-point.point-index _ _ c.loop-point-test.false c.loop-point.invariant.0
+returns-clause-value c = puts-all (λ (point : Point). given point.row) c.args.points.now c.loop-point.point-index _
+    _ c.loop-point-test.false c.loop-point.invariant.0
 
 pub returns-clause-fits : goal.returns-clause-fits
-returns-clause-fits c = All-all (λ (point : Point). GivenFits point.row) c.args.points.now c.loop-point.point-index c.loop-point-test.false c.loop-point.invariant.1
+returns-clause-fits c = All-all (λ (point : Point). GivenFits point.row) c.args.points.now c.loop-point.point-index
+    c.loop-point-test.false c.loop-point.invariant.1

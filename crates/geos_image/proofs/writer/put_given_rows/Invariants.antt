@@ -6,4 +6,5 @@ use Rattle.geos_image.specs.Spelling.{given}
 use Rattle.geos_image.proofs.writer.put_given_rows.Given as goal
 
 abbrev pub invariant-loop-point : goal.invariant-loop-point
-invariant-loop-point l = (l.out.items ≡ l.initial.out.items ++ flat_map (λ (point : Point). given point.row) (take l.point-index l.points)) × All (λ (point : Point). GivenFits point.row) (take l.point-index l.points)
+invariant-loop-point l = (l.out.items ≡ l.initial.out.items ++ flat_map (λ (point : Point). given point.row) (take l.point-index l.points))
+    × All (λ (point : Point). GivenFits point.row) (take l.point-index l.points)

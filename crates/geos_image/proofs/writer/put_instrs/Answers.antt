@@ -8,7 +8,9 @@ loop-point-init c = puts-none (λ (point : Point). instr point.instr) c.args.out
 
 pub loop-point-preserved : goal.loop-point-preserved
 loop-point-preserved c =
-    puts-more (λ (point : Point). instr point.instr) c.args.points.now c.loop-point.point-index _ _ _ _ c.loop-point-test.true c.loop-point.invariant c.in_ok-put_instr.ensures
+    puts-more (λ (point : Point). instr point.instr) c.args.points.now c.loop-point.point-index _ _ _ _ c.loop-point-test.true
+    c.loop-point.invariant c.in_ok-put_instr.ensures
 
 pub returns : goal.returns
-returns c = puts-all (λ (point : Point). instr point.instr) c.args.points.now c.loop-point.point-index _ _ c.loop-point-test.false c.loop-point.invariant
+returns c = puts-all (λ (point : Point). instr point.instr) c.args.points.now c.loop-point.point-index _ _
+    c.loop-point-test.false c.loop-point.invariant

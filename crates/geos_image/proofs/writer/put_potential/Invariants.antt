@@ -5,4 +5,5 @@ use Rattle.geos_image.specs.Spelling.{long}
 use Rattle.geos_image.proofs.writer.put_potential.Given as goal
 
 abbrev pub invariant-loop-n : goal.invariant-loop-n
-invariant-loop-n l = (l.out.items ≡ l.initial.out.items ++ flat_map long (take l.n-index l.p.coefficients)) × All IsLong (take l.n-index l.p.coefficients)
+invariant-loop-n l = (l.out.items ≡ l.initial.out.items ++ flat_map long (take l.n-index l.p.coefficients))
+    × All IsLong (take l.n-index l.p.coefficients)

@@ -18,7 +18,10 @@ loop-rest-preserved c =
     let hex : is_hex_line line ≡ true = sym c.in_ok-take_line.ensures.hex ∙ c.if-not-branch.false in
     let taken = c.in_ok-take_line.ensures.taken c.if-not-branch.false in
     let count : n + length c.first_line.result.1.now ≤ length c.args.input.now = omega (arith, so_far.0, c.first_line.ensures.less some) in
-    let fault = so_far.1 ∙ ap (hex_fault_after n before) more ∙ fault-more n before line behind not_end hex ∙ ap (λ ds. hex_fault_after (n + 1) ds behind) (sym taken) in
-    let digits = so_far.2 ∙ ap (λ ls. before ++ digits_of (hex_lines ls)) more ∙ ap (λ ls. before ++ digits_of ls) (hex_lines-more line behind not_end)
-    ∙ sym (append_assoc before (filter_map digit_of line) (digits_of (hex_lines behind))) ∙ ap (λ ds. ds ++ digits_of (hex_lines behind)) (sym taken) in
+    let fault = so_far.1 ∙ ap (hex_fault_after n before) more ∙ fault-more n before line behind not_end hex
+    ∙ ap (λ ds. hex_fault_after (n + 1) ds behind) (sym taken) in
+    let digits = so_far.2 ∙ ap (λ ls. before ++ digits_of (hex_lines ls)) more ∙ ap (λ ls. before ++ digits_of ls)
+    (hex_lines-more line behind not_end)
+    ∙ sym (append_assoc before (filter_map digit_of line) (digits_of (hex_lines behind)))
+    ∙ ap (λ ds. ds ++ digits_of (hex_lines behind)) (sym taken) in
     (count, fault, digits, so_far.3 ∙ ap script_lines more ∙ script_lines-more line behind not_end)

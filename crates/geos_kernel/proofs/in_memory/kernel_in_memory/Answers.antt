@@ -17,7 +17,8 @@ returns-in-Ok-new-clause-tied c =
     let file = c.in-Ok-new.ensures.file ∙ c.in-Ok.ensures.file in
     let current = ap (λ (f : FileState MemoryDevice). f.current) c.in-Ok.ensures.file in
     let lists : IsListOf k.core.vm (listed empty_contents) = subst (λ (d : Directory). IsListOf k.core.vm d) current c.in-Ok-new.ensures.lists in
-    file-begun (IsHonest k.device) k.core 65536 (ap (λ (f : FileState MemoryDevice). f.area) file) (ap (λ (f : FileState MemoryDevice). f.sure) file) (ap (λ (f : FileState MemoryDevice). f.current) file)
+    file-begun (IsHonest k.device) k.core 65536 (ap (λ (f : FileState MemoryDevice). f.area) file)
+    (ap (λ (f : FileState MemoryDevice). f.sure) file) (ap (λ (f : FileState MemoryDevice). f.current) file)
     (ap (λ (f : FileState MemoryDevice). f.saved) file) lists (λ h p. c.in-Ok-new.ensures.store.none (vm_slot h))
 
 pub returns-in-Ok-new-clause-failures : goal.returns-in-Ok-new-clause-failures

@@ -12,5 +12,6 @@ loop-field-preserved c =
     let i = c.args.instr.now in
     let text : Field → List ℕ = λ field. operand_text c.args.image.now.routines (operand_at i.opcode field) (value_at i field) in
     let piece = operand_text c.args.image.now.routines c.operand_at-operand.result c.value_at.result in
-    flat_map-step c.args.out.now.items c.loop-field.out.items c.put_operand.new.out.items piece text fields c.loop-field.field-index A c.loop-field-test.true c.loop-field.invariant c.in_ok-put_operand.ensures
+    flat_map-step c.args.out.now.items c.loop-field.out.items c.put_operand.new.out.items piece text fields
+    c.loop-field.field-index A c.loop-field-test.true c.loop-field.invariant c.in_ok-put_operand.ensures
     (rw (c.operand_at-operand.ensures, c.value_at.ensures) refl)

@@ -7,4 +7,5 @@ use Rattle.geos_listing.proofs.instrs.put_operands.Given as goal
 
 abbrev pub invariant-loop-field : goal.invariant-loop-field
 invariant-loop-field l =
-    l.out.items ≡ l.initial.out.items ++ flat_map (λ (field : Field). operand_text l.image.routines (operand_at l.instr.opcode field) (value_at l.instr field)) (take l.field-index l.field-items)
+    l.out.items ≡ l.initial.out.items ++ flat_map
+    (λ (field : Field). operand_text l.image.routines (operand_at l.instr.opcode field) (value_at l.instr field)) (take l.field-index l.field-items)

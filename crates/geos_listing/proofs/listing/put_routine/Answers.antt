@@ -11,6 +11,12 @@ returns-clause-value c = rw (c.routine-routine.ensures, sym c.start.ensures.star
 pub returns-clause-fits : goal.returns-clause-fits
 returns-clause-fits c =
     let line = c.in_ok-put_routine_line.ensures in
-    let fits : RoutineFits c.routine-routine.result.now = record { name = line.name; budget = line.budget; entry = c.in_ok-put_row.ensures.fits; exit = c.in_ok-put_row-2.ensures.fits } in
+    let fits : RoutineFits c.routine-routine.result.now = record {
+      name = line.name;
+      budget = line.budget;
+      entry =
+          c.in_ok-put_row.ensures.fits;
+      exit = c.in_ok-put_row-2.ensures.fits;
+    } in
     let there : IfSome (slice_get c.args.image.now.routines c.args.r) RoutineFits = rw c.routine-routine.ensures fits in
     on_ok_weaker c.put_places.result (λ _. there) c.put_places.ensures

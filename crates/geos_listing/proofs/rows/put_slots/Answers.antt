@@ -7,4 +7,5 @@ use Rattle.geos_listing.proofs.rows.put_slots.Goals as goal
 
 pub loop-i-preserved : goal.loop-i-preserved
 loop-i-preserved c =
-    texts_below-step _ _ _ _ (λ (i : ℕ). slot_item i (slice_index_or c.args.slots.now i Empty)) c.loop-i.i c.loop-i.invariant c.in_ok-put_slot.ensures refl
+    texts_below-step _ _ _ _ (λ (i : ℕ). slot_item i (slice_index_or c.args.slots.now i Empty)) c.loop-i.i
+    c.loop-i.invariant c.in_ok-put_slot.ensures refl

@@ -18,14 +18,17 @@ loop-pc-preserved c =
       | in-Some w ↦
           let leads : Some w.in-Some.target ≡ target_of i = sym w.in-Some.is ∙ c.target_of.ensures in
           let below : w.in-Some.target < length points = target_of-below (length points) i w.in-Some.target leads c.instr.ensures.target in
-          let room : w.in-Some.target < length c.loop-pc.targets = omega (arith, below, (image_parts c.args.image.now c.len-pc-end.ensures.legal).short, c.loop-pc.invariant.0) in
+          let room : w.in-Some.target < length c.loop-pc.targets =
+          omega (arith, below, (image_parts c.args.image.now c.len-pc-end.ensures.legal).short, c.loop-pc.invariant.0) in
           rw (w.targets-is, w.from.ensures) (
             length-set c.loop-pc.targets w.in-Some.target true ∙ c.loop-pc.invariant.0,
-            λ pc lt. is_target-some points c.loop-pc.pc pc i w.in-Some.target c.loop-pc.targets within c.instr.ensures.there leads room (c.loop-pc.invariant.1 pc lt),
+            λ pc lt. is_target-some points c.loop-pc.pc pc i w.in-Some.target c.loop-pc.targets within c.instr.ensures.there
+                leads room (c.loop-pc.invariant.1 pc lt),
           )
       | in_default w ↦
           rw w.targets-is (
             c.loop-pc.invariant.0,
-            λ pc lt. is_target-none points c.loop-pc.pc pc i _ within c.instr.ensures.there (sym w.in_default.is ∙ c.target_of.ensures) (c.loop-pc.invariant.1 pc lt),
+            λ pc lt. is_target-none points c.loop-pc.pc pc i _ within c.instr.ensures.there (sym w.in_default.is
+                ∙ c.target_of.ensures) (c.loop-pc.invariant.1 pc lt),
           )
     ]

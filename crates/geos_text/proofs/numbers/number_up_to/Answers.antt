@@ -13,7 +13,8 @@ loop-byte-preserved c =
     let cut = c.min-number.result in
     let digit = sym c.is_ascii_digit.ensures.value ∙ c.if-not-is_ascii_digit.false in
     let step = ap (number_after greatest n) (drop-cons word k 0 c.loop-byte-test.true) ∙ number_after-digit greatest n b rest digit in
-    let same : n * 10 + (b - 48) ≤ greatest → cut ≡ n * 10 + (b - 48) = λ le. omega (arith, c.min-number.ensures, c.from-past.ensures, c.from.ensures) in
+    let same : n * 10 + (b - 48) ≤ greatest → cut ≡ n * 10 + (b - 48) =
+    λ le. omega (arith, c.min-number.ensures, c.from-past.ensures, c.from.ensures) in
     let past : greatest < n * 10 + (b - 48) → greatest < cut = λ lt. omega (arith, c.min-number.ensures, c.from-past.ensures, c.from.ensures) in
     let within : cut ≤ greatest + 1 = omega (arith, c.min-number.ensures, c.from-past.ensures) in
     let next : k + 1 ≡ suc k = omega arith in

@@ -19,8 +19,11 @@ loop-pc-preserved c =
     let pc = c.loop-pc.pc in
     let lt : pc < length image.points = omega (arith, c.loop-pc-test.true, c.len-pc-end.ensures.len) in
     let place : Place = record { instr = c.instr.result.now; row = c.loop-pc.row; potential = c.potential.result.now } in
-    let here = by-parts image pc c.instr.result.now c.loop-pc.row c.potential.result.now (λ p. place ≡ p) c.instr.ensures.there c.loop-pc.invariant.1 c.potential.ensures lt refl in
-    (rw c.in_ok-push.ensures.items (ap (λ (front : List Place). front ++ place ∷ []) c.loop-pc.invariant.0 ∙ places-more image pc place here lt), c.row_next-row.ensures)
+    let here = by-parts image pc c.instr.result.now c.loop-pc.row c.potential.result.now (λ p. place ≡ p)
+    c.instr.ensures.there c.loop-pc.invariant.1 c.potential.ensures lt refl in (
+      rw c.in_ok-push.ensures.items (ap (λ (front : List Place). front ++ place ∷ []) c.loop-pc.invariant.0 ∙ places-more image pc place here lt),
+      c.row_next-row.ensures,
+    )
 
 pub returns : goal.returns
 returns c =

@@ -15,4 +15,5 @@ pub returns : goal.returns
 returns c =
     let image = c.args.image.now in
     let lt : c.args.pc + 1 < length image.points = omega (arith, c.if-next-len.false, c.len-len.ensures.len, c.requires.there) in
-    rw c.given_or.ensures (row-chosen image c.args.pc c.args.row.now c.given-given.result.now c.row_computed.result c.requires.here lt c.given-given.ensures c.row_computed.ensures)
+    rw c.given_or.ensures (row-chosen image c.args.pc c.args.row.now c.given-given.result.now c.row_computed.result
+    c.requires.here lt c.given-given.ensures c.row_computed.ensures)

@@ -6,7 +6,8 @@ use Rattle.geos_verify.proofs.Known.{goes-on-fits, goes-on-given}
 use Rattle.geos_verify.proofs.refusal.misfits_along.Goals as goal
 
 pub returns-in-None : goal.returns-in-None
-returns-in-None c = goes-on-fits c.args.image.now c.args.pc c.args.i.now c.args.row.now c.given.result.now c.requires.here c.requires.known c.requires.next c.given.ensures c.in-None.is
+returns-in-None c = goes-on-fits c.args.image.now c.args.pc c.args.i.now c.args.row.now c.given.result.now c.requires.here
+    c.requires.known c.requires.next c.given.ensures c.in-None.is
 
 pub returns-in-Some : goal.returns-in-Some
 returns-in-Some c =

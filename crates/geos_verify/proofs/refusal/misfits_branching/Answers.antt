@@ -8,4 +8,5 @@ pub returns : goal.returns
 returns c =
     let image = c.args.image.now in
     let next = row_branching c.args.i.now c.args.i.now.opcode c.args.row.now in
-    ap not c.fits.ensures ∙ rw c.go_to_target.ensures (sym (goes-on-given image c.args.i.now.target next c.row.result.now c.row.ensures c.requires.target))
+    ap not c.fits.ensures ∙ rw c.go_to_target.ensures
+    (sym (goes-on-given image c.args.i.now.target next c.row.result.now c.row.ensures c.requires.target))

@@ -23,7 +23,8 @@ loop-at-init c =
 pub returns-then-free-ne0 : goal.returns-then-free-ne0
 returns-then-free-ne0 c = (
   (λ t. absurd (false≢true t)),
-  (λ full. let can = c.loop-at.invariant.same.0 full in let e = end-forward c.args.block.now c.loop-at.at c.loop-at.free c.loop-at.sum c.loop-at-test.false can.0 in
+  (λ full. let can = c.loop-at.invariant.same.0 full in let e = end-forward c.args.block.now c.loop-at.at c.loop-at.free
+      c.loop-at.sum c.loop-at-test.false can.0 in
       let none = behind c.args.block.now c.loop-at.at c.args.starts.now c.requires.marks c.loop-at-test.false c.loop-at.invariant.fours in
       elim c.then-free-ne0.branch [
         | then-free-ne0-via-then-free-ne0 w ↦ absurd (w.if-free-ne0.true e.0)
@@ -37,6 +38,10 @@ returns c =
     let i = c.loop-at.invariant in
     let end : c.loop-at.at ≡ length c.args.block.now = omega (arith, i.upto) in
     let none = behind c.args.block.now c.loop-at.at c.args.starts.now c.requires.marks c.loop-at-test.false i.fours in (
-      (λ t. i.same.1 (end-back c.args.block.now c.loop-at.at c.loop-at.free c.loop-at.sum c.args.starts.now c.requires.marks end (omega arith) (omega (arith, c.get16-total.ensures)), omega (arith, none))),
+      (λ t. i.same.1 (
+        end-back c.args.block.now c.loop-at.at c.loop-at.free c.loop-at.sum c.args.starts.now c.requires.marks end
+            (omega arith) (omega (arith, c.get16-total.ensures)),
+        omega (arith, none),
+      )),
       (λ full. refl),
     )

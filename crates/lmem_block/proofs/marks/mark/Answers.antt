@@ -16,7 +16,8 @@ loop-i-init c = record {
 
 pub returns-then-at-lowest : goal.returns-then-at-lowest
 returns-then-at-lowest c =
-    let no_heap = not-full c.args.block.now c.loop-i.i c.entry-e.result c.loop-i.starts c.requires.header c.loop-i.invariant.so_far (omega (arith, c.entries-n.ensures.value)) c.entry-e.ensures (c.if-e-ne0.true, c.if-e.true) in
+    let no_heap = not-full c.args.block.now c.loop-i.i c.entry-e.result c.loop-i.starts c.requires.header c.loop-i.invariant.so_far
+    (omega (arith, c.entries-n.ensures.value)) c.entry-e.ensures (c.if-e-ne0.true, c.if-e.true) in
     elim c.then-at-lowest.branch [
       | then-at-lowest-via-then-at-lowest w ↦ no_heap (inl (omega (arith, c.table_end-lowest.ensures.value, w.if-at-lowest.true)))
       | then-at-lowest-via-else-at-lowest+then-at-block w ↦ no_heap (inr (inl w.if-at-block.true))
@@ -36,8 +37,12 @@ loop-i-preserved c =
       | then-e-ne0+then-e+else-at-lowest+else-at-block+else-at-ne2+else-starts-at w ↦
           (let at : e / 4 < length starts = omega (arith, long, c.requires.room, w.if-at-block.false) in
           record {
-            so_far = subst (λ (s : List Bool). Marks b (i + 1) s) (sym w.starts-is) (marks-add b i e starts c.loop-i.invariant.so_far is (w.if-e-ne0.true, w.if-e.true) (omega (arith, c.table_end-lowest.ensures.value, w.if-at-lowest.false)) w.if-at-ne2.false w.if-at-block.false at w.if-starts-at.false);
-            counted = w.marks-is ∙ ap (λ n. n + 1) c.loop-i.invariant.counted ∙ subst (λ (s : List Bool). marks_from starts 0 + 1 ≡ marks_from s 0) (sym w.starts-is) (sym (marks-set starts (e / 4) at w.if-starts-at.false));
+            so_far = subst (λ (s : List Bool). Marks b (i + 1) s) (sym w.starts-is)
+                (marks-add b i e starts c.loop-i.invariant.so_far is (w.if-e-ne0.true, w.if-e.true)
+                (omega (arith, c.table_end-lowest.ensures.value, w.if-at-lowest.false)) w.if-at-ne2.false w.if-at-block.false at w.if-starts-at.false);
+            counted = w.marks-is ∙ ap (λ n. n + 1) c.loop-i.invariant.counted
+                ∙ subst (λ (s : List Bool). marks_from starts 0 + 1 ≡ marks_from s 0) (sym w.starts-is)
+                (sym (marks-set starts (e / 4) at w.if-starts-at.false));
             few = omega (arith, w.marks-is, c.loop-i.invariant.few);
           })
       | else-e-ne0 w ↦

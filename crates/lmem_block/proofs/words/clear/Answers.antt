@@ -8,6 +8,8 @@ pub returns : goal.returns
 returns c =
     let bs = c.args.block.now in
     let at = c.args.at in
-    let long : length (take (at + c.args.count - at) (drop at bs)) ≡ c.args.count = omega (arith, length-take (at + c.args.count - at) (drop at bs), length-drop at bs) in
+    let long : length (take (at + c.args.count - at) (drop at bs)) ≡ c.args.count =
+    omega (arith, length-take (at + c.args.count - at) (drop at bs), length-drop at bs) in
     let zeros : c.fill.new.self ≡ replicate c.args.count 0 = c.fill.ensures.after (λ y e. e) ∙ ap (λ m. replicate m 0) long in
-    put_over bs at (at + c.args.count - at) c.args.count c.fill.new.self c.requires (omega arith) (ap length zeros ∙ length-replicate c.args.count 0) ∙ ap (λ zs. with_part bs at zs) zeros
+    put_over bs at (at + c.args.count - at) c.args.count c.fill.new.self c.requires (omega arith) (ap length zeros ∙ length-replicate c.args.count 0)
+    ∙ ap (λ zs. with_part bs at zs) zeros

@@ -17,7 +17,8 @@ move_in-left-requires-clause-room c = omega (arith, c.take-hole.ensures.place, c
 
 pub move_in-left-requires-clause-offset : goal.move_in-left-requires-clause-offset
 move_in-left-requires-clause-offset c =
-    let e = c.take-hole.ensures.wider.each c.args.i c.requires.known in ((λ z. c.requires.offset.0 (sym e ∙ z)), (λ z. c.requires.offset.1 (sym e ∙ z)))
+    let e = c.take-hole.ensures.wider.each c.args.i c.requires.known in
+    ((λ z. c.requires.offset.0 (sym e ∙ z)), (λ z. c.requires.offset.1 (sym e ∙ z)))
 
 pub returns-in-Some : goal.returns-in-Some
 returns-in-Some c =
@@ -29,6 +30,7 @@ returns-in-Some c =
     let offset : IsOffset (entry w c.args.i) = ((λ z. c.requires.offset.0 (sym e ∙ z)), (λ z. c.requires.offset.1 (sym e ∙ z))) in
     record {
       heap = g.heap;
-      chunks = g.chunks ∙ c.move_in-left.ensures.chunks ∙ ap (λ x. set (chunks w) c.args.i (Some (resized x c.args.n))) (sym (placed w c.args.i known offset)) ∙ ap (λ xs. set xs c.args.i (Some (resized (entry_bytes xs c.args.i) c.args.n))) t.chunks;
+      chunks = g.chunks ∙ c.move_in-left.ensures.chunks ∙ ap (λ x. set (chunks w) c.args.i (Some (resized x c.args.n)))
+          (sym (placed w c.args.i known offset)) ∙ ap (λ xs. set xs c.args.i (Some (resized (entry_bytes xs c.args.i) c.args.n))) t.chunks;
       handle = g.handle ∙ c.move_in-left.ensures.handle ∙ t.handle;
     }

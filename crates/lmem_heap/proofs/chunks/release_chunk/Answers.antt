@@ -4,7 +4,8 @@ use Rattle.lmem_heap.proofs.chunks.release_chunk.Goals as goal
 
 pub returns-then-entry : goal.returns-then-entry
 returns-then-entry c =
-    let g = nothing-goes c.args.block.now c.put_entry.new.block c.args.i c.requires.heap c.requires.known (sym c.entry.ensures ∙ c.if-entry.true) c.put_entry.ensures in
+    let g = nothing-goes c.args.block.now c.put_entry.new.block c.args.i c.requires.heap c.requires.known
+    (sym c.entry.ensures ∙ c.if-entry.true) c.put_entry.ensures in
     record { heap = g.heap; chunks = g.chunks; handle = g.handle }
 
 pub returns : goal.returns

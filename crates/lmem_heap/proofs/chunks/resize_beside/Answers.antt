@@ -47,10 +47,13 @@ returns-in-Some c =
     let same = c.in-Some.ensures.at in
     let fits : v.at + 2 + x.len ≤ c.left_by-hole.result.end = omega (arith, same, left.place, k.entry, k.end, k.wide) in
     let inside : v.at + 2 + x.len ≤ length l = omega (arith, same, left.place, k.entry, k.wide, k.high, c.left_by-hole.auto.block) in
-    let kept : part w (v.at + 2) x.len ≡ part l (v.at + 2) x.len = part-shifted l w 0 0 v.at c.left_by-hole.result.end (v.at + 2) (v.at + 2) x.len r.bytes refl (omega arith) fits inside (omega (arith, inside, c.widen.auto.block)) in
+    let kept : part w (v.at + 2) x.len ≡ part l (v.at + 2) x.len = part-shifted l w 0 0 v.at c.left_by-hole.result.end
+    (v.at + 2) (v.at + 2) x.len r.bytes refl (omega arith) fits inside (omega (arith, inside, c.widen.auto.block)) in
     record {
       heap = g.heap;
-      chunks = g.chunks ∙ c.fill-rest.ensures.chunks ∙ ap (λ y. set (chunks w) c.args.i (Some (resized y c.args.n))) (kept ∙ ap (λ y. part l (y + 2) x.len) same ∙ bytes) ∙ ap (λ xs. set xs c.args.i (Some (resized old c.args.n))) (r.chunks ∙ left.chunks) ∙ set-twice (chunks b) c.args.i None (Some (resized old c.args.n));
+      chunks = g.chunks ∙ c.fill-rest.ensures.chunks ∙ ap (λ y. set (chunks w) c.args.i (Some (resized y c.args.n)))
+          (kept ∙ ap (λ y. part l (y + 2) x.len) same ∙ bytes) ∙ ap (λ xs. set xs c.args.i (Some (resized old c.args.n))) (r.chunks ∙ left.chunks)
+          ∙ set-twice (chunks b) c.args.i None (Some (resized old c.args.n));
       handle = g.handle ∙ c.fill-rest.ensures.handle ∙ r.handle ∙ left.handle;
     }
 
@@ -69,11 +72,16 @@ returns-in-None c =
     let known = c.requires.known in
     let end_is : c.fill.result.at ≡ c.fill.result.end = omega (arith, f.place, left.place, k.entry, k.end, k.wide) in
     let long : length old ≡ x.len = placed-length b i c.requires.heap known c.requires.offset ∙ sym k.len in
-    let here : get_or (chunks b) i None ≡ Some old = chunk-bytes b i known c.requires.offset ∙ ap (λ y. Some y) (sym (placed b i known c.requires.offset)) in
+    let here : get_or (chunks b) i None ≡ Some old = chunk-bytes b i known c.requires.offset
+    ∙ ap (λ y. Some y) (sym (placed b i known c.requires.offset)) in
     record {
-      heap = open-heap c.fill.new.block c.fill.result.link c.fill.result.at (subst (λ (y : ℕ). IsOpen c.fill.new.block c.fill.result.link c.fill.result.at y) (sym end_is) f.hole.is);
-      chunks = f.chunks ∙ ap (λ y. set (chunks c.widen.new.block) i (Some (resized y x.len))) (ap (λ y. part y (c.left_by-hole.result.at + 2) x.len) e ∙ bytes) ∙ ap (λ y. set (chunks c.widen.new.block) i (Some y)) (resized-same old x.len long) ∙ ap (λ y. set (chunks y) i (Some old)) e
-          ∙ ap (λ xs. set xs i (Some old)) left.chunks ∙ set-twice (chunks b) i None (Some old) ∙ set-same (chunks b) i (Some old) None (omega (arith, count)) here;
+      heap = open-heap c.fill.new.block c.fill.result.link c.fill.result.at
+          (subst (λ (y : ℕ). IsOpen c.fill.new.block c.fill.result.link c.fill.result.at y) (sym end_is) f.hole.is);
+      chunks = f.chunks ∙ ap (λ y. set (chunks c.widen.new.block) i (Some (resized y x.len)))
+          (ap (λ y. part y (c.left_by-hole.result.at + 2) x.len) e ∙ bytes)
+          ∙ ap (λ y. set (chunks c.widen.new.block) i (Some y)) (resized-same old x.len long) ∙ ap (λ y. set (chunks y) i (Some old)) e
+          ∙ ap (λ xs. set xs i (Some old)) left.chunks ∙ set-twice (chunks b) i None (Some old)
+          ∙ set-same (chunks b) i (Some old) None (omega (arith, count)) here;
       handle = f.handle ∙ ap (λ y. word y 0) e ∙ left.handle;
     }
 
@@ -87,7 +95,8 @@ pub fill-rest-requires-clause-known : goal.fill-rest-requires-clause-known
 fill-rest-requires-clause-known c = omega (arith, c.in-Some.ensures.room.count, c.left_by-hole.ensures.count, c.requires.known)
 
 pub fill-rest-requires-clause-free : goal.fill-rest-requires-clause-free
-fill-rest-requires-clause-free c = c.in-Some.ensures.room.each c.args.i (omega (arith, c.left_by-hole.ensures.count, c.requires.known)) ∙ c.left_by-hole.ensures.free
+fill-rest-requires-clause-free c = c.in-Some.ensures.room.each c.args.i (omega (arith, c.left_by-hole.ensures.count, c.requires.known))
+    ∙ c.left_by-hole.ensures.free
 
 pub give_back-requires-clause-fours : goal.give_back-requires-clause-fours
 give_back-requires-clause-fours c = ap (λ x. x % 4) c.fill-rest.ensures.place.2 ∙ c.in-Some.ensures.room.fours

@@ -13,7 +13,8 @@ use Rattle.lmem_heap.proofs.chunks.resize_chunk.Goals.{then-n-eq0-via-then-n-eq0
 use Rattle.lmem_heap.proofs.chunks.resize_chunk.Goals as goal
 
 -- a chunk of n zeros in place of one whose bytes all go
-zeros-for : (cs : List (Option (List ℕ))) (i n : ℕ) (bytes : List ℕ) → resized bytes n ≡ replicate n 0 → unwrap_or (get_or cs i None) [] ≡ bytes → replicate n 0 ≡ resized (unwrap_or (get_or cs i None) []) n
+zeros-for : (cs : List (Option (List ℕ))) (i n : ℕ) (bytes : List ℕ) → resized bytes n ≡ replicate n 0
+    → unwrap_or (get_or cs i None) [] ≡ bytes → replicate n 0 ≡ resized (unwrap_or (get_or cs i None) []) n
 zeros-for cs i n bytes e is = sym (ap (λ x. resized x n) is ∙ e)
 
 pub new_chunk-requires-clause-known : goal.new_chunk-requires-clause-known
@@ -24,7 +25,12 @@ new_chunk-requires-clause-free c = (freed c.args.block.now c.release_chunk.new.b
 
 pub new_chunk-requires-clause-room : goal.new_chunk-requires-clause-room
 new_chunk-requires-clause-room c =
-    omega (arith, total-set c.args.block.now c.release_chunk.new.block c.args.i None c.requires.heap c.release_chunk.ensures.heap c.release_chunk.auto.block c.requires.known c.release_chunk.ensures.chunks, c.requires.room)
+    omega (
+      arith,
+      total-set c.args.block.now c.release_chunk.new.block c.args.i None c.requires.heap c.release_chunk.ensures.heap
+          c.release_chunk.auto.block c.requires.known c.release_chunk.ensures.chunks,
+      c.requires.room,
+    )
 
 pub returns-then-n-eq0-clause-chunks : goal.returns-then-n-eq0-clause-chunks
 returns-then-n-eq0-clause-chunks c =
@@ -32,10 +38,14 @@ returns-then-n-eq0-clause-chunks c =
     let i = c.args.i in
     let cs = chunks b in
     let zeros : replicate c.args.n 0 ≡ resized (unwrap_or (get_or cs i None) []) c.args.n = elim c.then-n-eq0.branch [
-      | then-n-eq0-via-then-n-eq0 w ↦ (let bytes = unwrap_or (get_or cs i None) [] in zeros-for cs i c.args.n bytes (ap (resized bytes) w.if-n-eq0.true ∙ resized-none bytes ∙ ap (λ m. replicate {A = ℕ} m 0) (sym w.if-n-eq0.true)) refl)
-      | then-n-eq0-via-else-n-eq0+then-entry w ↦ zeros-for cs i c.args.n [] (resized-nothing c.args.n) (ap (λ x. unwrap_or x []) (chunks-at b i c.requires.known ∙ chunk-nothing b (entry b i) (sym w.entry.ensures ∙ w.if-entry.true)))
+      | then-n-eq0-via-then-n-eq0 w ↦ (let bytes = unwrap_or (get_or cs i None) [] in
+          zeros-for cs i c.args.n bytes (ap (resized bytes) w.if-n-eq0.true ∙ resized-none bytes
+          ∙ ap (λ m. replicate {A = ℕ} m 0) (sym w.if-n-eq0.true)) refl)
+      | then-n-eq0-via-else-n-eq0+then-entry w ↦ zeros-for cs i c.args.n [] (resized-nothing c.args.n)
+          (ap (λ x. unwrap_or x []) (chunks-at b i c.requires.known ∙ chunk-nothing b (entry b i) (sym w.entry.ensures ∙ w.if-entry.true)))
     ] in
-    c.new_chunk.ensures.chunks ∙ ap (λ xs. set xs i (Some (replicate c.args.n 0))) c.release_chunk.ensures.chunks ∙ set-twice cs i None (Some (replicate c.args.n 0)) ∙ ap (λ x. set cs i (Some x)) zeros
+    c.new_chunk.ensures.chunks ∙ ap (λ xs. set xs i (Some (replicate c.args.n 0))) c.release_chunk.ensures.chunks
+    ∙ set-twice cs i None (Some (replicate c.args.n 0)) ∙ ap (λ x. set cs i (Some x)) zeros
 
 -- the packed block has the same chunks
 packed-same : (c : After-pack) → chunks c.pack.new.block ≡ chunks c.args.block.now
@@ -56,7 +66,8 @@ resize_in_place-requires-clause-room c =
     let same = packed-same (goal.at.resize_in_place-requires-clause-room c).After-pack in
     let o = packed-offset (goal.at.resize_in_place-requires-clause-room c).After-pack in
     let e = ap (λ xs. cost_of (get_or xs c.args.i None)) same in
-    let total = packed-room c.args.block.now c.pack.new.block c.requires.heap c.pack.ensures.packed same (c.pack.auto.block ∙ ap length c.if-move_away.ensures ∙ c.resize_beside.auto.block) in
+    let total = packed-room c.args.block.now c.pack.new.block c.requires.heap c.pack.ensures.packed same
+    (c.pack.auto.block ∙ ap length c.if-move_away.ensures ∙ c.resize_beside.auto.block) in
     omega (arith, chunk-cost c.pack.new.block c.args.i c.pack.ensures.packed o.0 o.1, e, total, c.requires.room)
 
 pub returns-clause-chunks : goal.returns-clause-chunks
@@ -65,10 +76,12 @@ returns-clause-chunks c =
     c.resize_in_place.ensures.chunks ∙ ap (λ xs. set xs c.args.i (Some (resized (unwrap_or (get_or xs c.args.i None) []) c.args.n))) same
 
 pub returns-clause-handle : goal.returns-clause-handle
-returns-clause-handle c = c.resize_in_place.ensures.handle ∙ c.pack.ensures.handle ∙ ap handle_word c.if-move_away.ensures ∙ c.if-resize_beside.ensures.handle
+returns-clause-handle c = c.resize_in_place.ensures.handle ∙ c.pack.ensures.handle ∙ ap handle_word c.if-move_away.ensures
+    ∙ c.if-resize_beside.ensures.handle
 
 -- nor does the try beside it change the entry
-beside-offset : (c : After-resize_beside) → GivesBack c.args.block.now c.resize_beside.new.block → (c.args.i < entries c.resize_beside.new.block) × IsOffset (entry c.resize_beside.new.block c.args.i)
+beside-offset : (c : After-resize_beside) → GivesBack c.args.block.now c.resize_beside.new.block
+    → (c.args.i < entries c.resize_beside.new.block) × IsOffset (entry c.resize_beside.new.block c.args.i)
 beside-offset c g = offset-same _ _ _ c.requires.heap g.chunks c.requires.known (c.requires.used, λ e. c.if-entry.false (c.entry.ensures ∙ e))
 
 pub move_away-requires-clause-known : goal.move_away-requires-clause-known
@@ -79,7 +92,8 @@ move_away-requires-clause-offset c = (beside-offset (goal.at.move_away-requires-
 
 pub returns-then-move_away-clause-chunks : goal.returns-then-move_away-clause-chunks
 returns-then-move_away-clause-chunks c =
-    c.if-move_away.ensures.chunks ∙ ap (λ xs. set xs c.args.i (Some (resized (unwrap_or (get_or xs c.args.i None) []) c.args.n))) c.if-resize_beside.ensures.chunks
+    c.if-move_away.ensures.chunks ∙ ap (λ xs. set xs c.args.i (Some (resized (unwrap_or (get_or xs c.args.i None) []) c.args.n)))
+    c.if-resize_beside.ensures.chunks
 
 pub returns-then-move_away-clause-handle : goal.returns-then-move_away-clause-handle
 returns-then-move_away-clause-handle c = c.if-move_away.ensures.handle ∙ c.if-resize_beside.ensures.handle

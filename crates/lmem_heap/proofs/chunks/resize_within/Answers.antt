@@ -16,10 +16,22 @@ overflow_add-n c =
 pub clear-requires : goal.clear-requires
 clear-requires c =
     let k = c.of-chunk.ensures in
-    omega (arith, cost-least c.args.n c.requires.some, c.requires.same, k.entry, k.end, k.high, k.wide, c.saturating_sub-more.ensures, c.put16.auto.block)
+    omega (
+      arith,
+      cost-least c.args.n c.requires.some,
+      c.requires.same,
+      k.entry,
+      k.end,
+      k.high,
+      k.wide,
+      c.saturating_sub-more.ensures,
+      c.put16.auto.block,
+    )
 
 pub returns : goal.returns
 returns c =
     let x = c.of-chunk.result in
-    relengthened c.args.block.now c.put16.new.block c.clear.new.block c.args.i c.args.n x c.requires.heap c.requires.known c.requires.offset c.of-chunk.ensures c.requires.some c.requires.same c.put16.ensures
-    (subst (λ (m : ℕ). c.clear.new.block ≡ with_part c.put16.new.block (x.begin + 2 + x.len) (replicate m 0)) c.saturating_sub-more.ensures c.clear.ensures)
+    relengthened c.args.block.now c.put16.new.block c.clear.new.block c.args.i c.args.n x c.requires.heap c.requires.known
+    c.requires.offset c.of-chunk.ensures c.requires.some c.requires.same c.put16.ensures
+    (subst (λ (m : ℕ). c.clear.new.block ≡ with_part c.put16.new.block (x.begin + 2 + x.len) (replicate m 0))
+    c.saturating_sub-more.ensures c.clear.ensures)

@@ -24,25 +24,35 @@ pub loop-next-init : goal.loop-next-init
 loop-next-init c =
     let b = c.args.block.now in
     let n : length c.new-slides.result.items ≡ 0 = ap length c.new-slides.ensures in
-    record { so_far = subst (λ (x : List Slide). SlidesGaps b b x) (sym c.new-slides.ensures) (slides-none b c.requires.heap (λ k. omega (arith, c.type_inv.block k))); next = (c.requires.first, omega (arith, n)) }
+    record {
+      so_far = subst (λ (x : List Slide). SlidesGaps b b x) (sym c.new-slides.ensures)
+          (slides-none b c.requires.heap (λ k. omega (arith, c.type_inv.block k)));
+      next = (c.requires.first, omega (arith, n));
+    }
 
 -- the run behind the gap has moved, and is listed
 one-more : (c : After-push) → SlidOneMore c.args.block.now c.slide-slide.new.block c.push.new.self.items
 one-more c =
     let gap = subst (Next c.loop-next.block (length c.loop-next.slides.items)) c.in-Some.is c.loop-next.invariant.next in
-    slides-one-more _ _ _ _ _ c.in-Some.gap _ c.loop-next.invariant.so_far gap.0 (omega arith) c.slide-slide.ensures.bytes c.slide-slide.ensures.run c.push.ensures.items
+    slides-one-more _ _ _ _ _ c.in-Some.gap _ c.loop-next.invariant.so_far gap.0 (omega arith) c.slide-slide.ensures.bytes
+    c.slide-slide.ensures.run c.push.ensures.items
 
 pub short_gap-next-requires : goal.short_gap-next-requires
 short_gap-next-requires c = let s = (one-more (goal.at.short_gap-next-requires c).After-push).so_far in (s.heap, s.slid.but)
 
 pub loop-next-preserved-then-is_full : goal.loop-next-preserved-then-is_full
-loop-next-preserved-then-is_full c = let s = one-more (goal.at.loop-next-preserved-then-is_full c).After-push in record { so_far = s.so_far; next = s.some }
+loop-next-preserved-then-is_full c = let s = one-more (goal.at.loop-next-preserved-then-is_full c).After-push in
+    record { so_far = s.so_far; next = s.some }
 
 pub loop-next-preserved : goal.loop-next-preserved
 loop-next-preserved c =
     let s = one-more (goal.at.loop-next-preserved c).After-push in
     let few : length c.push.new.self.items < 128 = grind (arith, nat_tests) in
-    record { so_far = s.so_far; next = next_short c.slide-slide.new.block (length c.push.new.self.items) c.short_gap-next.result c.short_gap-next.ensures s.some few }
+    record {
+      so_far = s.so_far;
+      next = next_short c.slide-slide.new.block (length c.push.new.self.items)
+          c.short_gap-next.result c.short_gap-next.ensures s.some few;
+    }
 
 pub write_entries-requires-clause-table : goal.write_entries-requires-clause-table
 write_entries-requires-clause-table c =
@@ -56,4 +66,5 @@ returns c =
     let items = c.loop-next.slides.items in
     let new = c.write_entries.new.block in
     let some : 0 < length items = subst (Next block (length items)) c.in_default.is c.loop-next.invariant.next in
-    slides-done c.args.block.now block new items c.loop-next.invariant.so_far c.requires.heap c.requires.not_compact some (subst (λ (x : List Slide). MapsEntries block new (entry_slid x) 0 (entries block)) c.deref.ensures.0 c.write_entries.ensures)
+    slides-done c.args.block.now block new items c.loop-next.invariant.so_far c.requires.heap c.requires.not_compact some
+    (subst (λ (x : List Slide). MapsEntries block new (entry_slid x) 0 (entries block)) c.deref.ensures.0 c.write_entries.ensures)

@@ -16,7 +16,16 @@ overflow_cast-n c =
     let m = ap cost long in
     let s = used-set cs c.args.i (Some (replicate c.args.n 0)) (omega (arith, count)) in
     let t = used-set cs c.args.i None (omega (arith, count)) in
-    omega (arith, s, t, c.used_with-used.ensures.value (replicate c.args.n 0) long, m, cost-over c.args.n, c.in_ok-room_for.ensures.0, c.requires.heap.0.most)
+    omega (
+      arith,
+      s,
+      t,
+      c.used_with-used.ensures.value (replicate c.args.n 0) long,
+      m,
+      cost-over c.args.n,
+      c.in_ok-room_for.ensures.0,
+      c.requires.heap.0.most,
+    )
 
 pub resize_chunk-requires-clause-room : goal.resize_chunk-requires-clause-room
 resize_chunk-requires-clause-room c =
@@ -31,4 +40,5 @@ resize_chunk-requires-clause-room c =
 pub returns-clause-fits : goal.returns-clause-fits
 returns-clause-fits c =
     let bytes = resized (entry_bytes (chunks c.args.block.now) c.args.i) c.args.n in
-    subst (λ (k : ℕ). sixteens k ≤ length c.args.block.now) (c.used_with-used.ensures.value bytes (length-resized _ c.args.n)) c.in_ok-room_for.ensures.1
+    subst (λ (k : ℕ). sixteens k ≤ length c.args.block.now) (c.used_with-used.ensures.value bytes (length-resized _ c.args.n))
+    c.in_ok-room_for.ensures.1

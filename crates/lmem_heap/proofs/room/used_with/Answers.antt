@@ -17,7 +17,15 @@ overflow_sub-result c =
     omega (arith, k, s, c.used_bytes.ensures, c.cost.ensures)
 
 pub overflow_add-result : goal.overflow_add-result
-overflow_add-result c = omega (arith, block-used c.args.block.now c.requires.heap, cost-most c.args.n, c.requires.heap.0.most, c.requires.small, c.used_bytes.ensures, c.cost-2.ensures)
+overflow_add-result c = omega (
+  arith,
+  block-used c.args.block.now c.requires.heap,
+  cost-most c.args.n,
+  c.requires.heap.0.most,
+  c.requires.small,
+  c.used_bytes.ensures,
+  c.cost-2.ensures,
+)
 
 pub returns-clause-value : goal.returns-clause-value
 returns-clause-value c bytes long =
@@ -31,4 +39,12 @@ returns-clause-value c bytes long =
     omega (arith, k, s, t, m, c.used_bytes.ensures, c.cost.ensures, c.cost-2.ensures)
 
 pub returns-clause-small : goal.returns-clause-small
-returns-clause-small c = omega (arith, block-used c.args.block.now c.requires.heap, cost-most c.args.n, c.requires.heap.0.most, c.requires.small, c.used_bytes.ensures, c.cost-2.ensures)
+returns-clause-small c = omega (
+  arith,
+  block-used c.args.block.now c.requires.heap,
+  cost-most c.args.n,
+  c.requires.heap.0.most,
+  c.requires.small,
+  c.used_bytes.ensures,
+  c.cost-2.ensures,
+)

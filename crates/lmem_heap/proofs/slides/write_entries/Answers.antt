@@ -37,14 +37,18 @@ loop-run-preserved c =
     let f : ℕ → ℕ = entry_slid ss in
     let from = 16 * c.loop-run.run in
     let last = length ss - 1 in
-    let order : AreInOrder (run_at ss 0).from ss (run_at ss last).end = order-ends 0 ss c.requires.order.0 last c.requires.order.1 (omega (arith, c.requires.some)) in
+    let order : AreInOrder (run_at ss 0).from ss (run_at ss last).end = order-ends 0 ss c.requires.order.0 last
+    c.requires.order.1 (omega (arith, c.requires.some)) in
     let P : List ℕ → Type 0 = λ x. MapsEntries b x f from (from + 16) in
     let step : MapsEntries b c.if-not-is_apart.block f from (from + 16) = elim c.if-not-is_apart.branch [
       | then-not-is_apart w ↦ subst P (sym w.block-is) w.write_run.ensures
-      | else-not-is_apart w ↦ subst P (sym w.block-is) (entries-apart (run_at ss 0).from ss (run_at ss last).end b from (from + 16) order (c.is_apart.ensures (search rules)))
+      | else-not-is_apart w ↦ subst P (sym w.block-is) (entries-apart (run_at ss 0).from ss (run_at ss last).end b from
+          (from + 16) order (c.is_apart.ensures (search rules)))
     ] in
     let next : from + 16 ≡ 16 * (c.loop-run.run + 1) = omega arith in
-    subst (λ (x : ℕ). MapsEntries c.args.block.now c.if-not-is_apart.block f 0 x) next (entries-join c.args.block.now b c.if-not-is_apart.block f 0 from (from + 16) (omega arith) (omega arith) (omega (arith, c.entries-n.ensures.value, c.loop-run-test.true)) c.loop-run.invariant step)
+    subst (λ (x : ℕ). MapsEntries c.args.block.now c.if-not-is_apart.block f 0 x) next
+    (entries-join c.args.block.now b c.if-not-is_apart.block f 0 from (from + 16) (omega arith) (omega arith)
+    (omega (arith, c.entries-n.ensures.value, c.loop-run-test.true)) c.loop-run.invariant step)
 
 pub returns : goal.returns
 returns c =
@@ -54,4 +58,6 @@ returns c =
     let n = c.entries-n.result in
     let done : 16 * c.loop-run.run ≡ 16 * (n / 16) = omega (arith, c.loop-run-test.false, c.loop-run.auto.run-end) in
     let value = c.entries-n.ensures.value in
-    subst (λ (x : ℕ). MapsEntries old d f 0 x) value (entries-join old c.loop-run.block d f 0 (16 * (n / 16)) n (omega arith) (omega arith) (omega (arith, value)) (subst (λ (x : ℕ). MapsEntries old c.loop-run.block f 0 x) done c.loop-run.invariant) c.write_run-2.ensures)
+    subst (λ (x : ℕ). MapsEntries old d f 0 x) value (entries-join old c.loop-run.block d f 0 (16 * (n / 16)) n
+    (omega arith) (omega arith) (omega (arith, value)) (subst (λ (x : ℕ). MapsEntries old c.loop-run.block f 0 x) done c.loop-run.invariant)
+    c.write_run-2.ensures)

@@ -8,7 +8,11 @@ use Rattle.lmem_heap.proofs.table.add_entries.Goals as goal
 
 pub grow_table-requires-clause-room : goal.grow_table-requires-clause-room
 grow_table-requires-clause-room c =
-    omega (arith, packed-room c.args.block.now c.pack.new.block c.requires.heap c.pack.ensures.packed c.pack.ensures.chunks c.pack.auto.block, c.requires.room)
+    omega (
+      arith,
+      packed-room c.args.block.now c.pack.new.block c.requires.heap c.pack.ensures.packed c.pack.ensures.chunks c.pack.auto.block,
+      c.requires.room,
+    )
 
 pub returns : goal.returns
 returns c =
@@ -18,7 +22,8 @@ returns c =
     let n = entries-same c.args.block.now p c.pack.ensures.chunks in
     record {
       heap = packed-heap g (grown-packed p g c.pack.ensures.packed (omega (arith, t, c.requires.room)) c.grow_table.ensures);
-      chunks = grown-chunks p g c.pack.ensures.packed (omega (arith, t, c.requires.room)) c.grow_table.ensures ∙ ap (λ xs. xs ++ (None ∷ (None ∷ []))) c.pack.ensures.chunks;
+      chunks = grown-chunks p g c.pack.ensures.packed (omega (arith, t, c.requires.room)) c.grow_table.ensures
+          ∙ ap (λ xs. xs ++ (None ∷ (None ∷ []))) c.pack.ensures.chunks;
       handle = head-word p g 10 0 c.grow_table.ensures.head (omega arith) ∙ c.pack.ensures.handle;
       count = omega (arith, n, c.grow_table.ensures.count);
       fresh = ap (entry g) (sym n) ∙ c.grow_table.ensures.fresh.0;

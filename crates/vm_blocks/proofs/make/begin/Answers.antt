@@ -7,7 +7,8 @@ use Rattle.vm_blocks.proofs.make.begin.Goals as goal
 
 pub returns : goal.returns
 returns c =
-    let old = c.args.blocks.now in let ws = c.init.new.block in
+    let old = c.args.blocks.now in
+    let ws = c.init.new.block in
     let slot : slot_of c.vm.result ≡ vm_slot c.args.h = ap slot_of c.vm.ensures in
     record {
       fills = record {

@@ -9,7 +9,9 @@ blank = record { h = 0; uid = 0; len = 0 }
 
 pub overflow_sub-place : goal.overflow_sub-place
 overflow_sub-place c =
-    let es = c.args.entries.now in let i = c.loop-i.i in let some = c.loop-i-test.true in
+    let es = c.args.entries.now in
+    let i = c.loop-i.i in
+    let some = c.loop-i-test.true in
     let next : i ≡ i - 1 + 1 = omega arith in
     let p = subst (λ n. PlacesFrom es n c.loop-i.place c.loop-i.places) next c.loop-i.invariant in
     let within = c.loop-i.invariant.within in
@@ -18,7 +20,9 @@ overflow_sub-place c =
 
 pub overflow_add-place : goal.overflow_add-place
 overflow_add-place c =
-    let es = c.args.entries.now in let i = c.loop-i.i in let some = c.loop-i-test.true in
+    let es = c.args.entries.now in
+    let i = c.loop-i.i in
+    let some = c.loop-i-test.true in
     let next : i ≡ i - 1 + 1 = omega arith in
     let p = subst (λ n. PlacesFrom es n c.loop-i.place c.loop-i.places) next c.loop-i.invariant in
     let within = c.loop-i.invariant.within in
@@ -28,13 +32,17 @@ overflow_add-place c =
 
 pub bounds-places-entry : goal.bounds-places-entry
 bounds-places-entry c =
-    let within = c.loop-i.invariant.within in let long = c.loop-i.invariant.long in let some = c.loop-i-test.true in
+    let within = c.loop-i.invariant.within in
+    let long = c.loop-i.invariant.long in
+    let some = c.loop-i-test.true in
     let high = handle_at c.args.entries.now 0 (c.loop-i.i - 1) blank c.requires.legal (omega (arith, within, some)) in
     omega (arith, high, long)
 
 pub loop-i-preserved : goal.loop-i-preserved
 loop-i-preserved c =
-    let es = c.args.entries.now in let i = c.loop-i.i in let some = c.loop-i-test.true in
+    let es = c.args.entries.now in
+    let i = c.loop-i.i in
+    let some = c.loop-i-test.true in
     let next : i ≡ i - 1 + 1 = omega arith in
     let p = subst (λ n. PlacesFrom es n c.loop-i.place c.loop-i.places) next c.loop-i.invariant in
     let within = c.loop-i.invariant.within in

@@ -12,12 +12,14 @@ told at xs front r is tells = sym (front_count at xs) ∙ ap (count_at at) (sym 
 
 pub returns-in-Err-count_at-clause-exact : goal.returns-in-Err-count_at-clause-exact
 returns-in-Err-count_at-clause-exact g c = λ h.
-    told c.args.at (stretch (g.D.Device.medium.image c.args.device.now) c.args.at c.args.end) (take c.in-Ok.n c.fill.new.into) c.count_at.result (c.in-Ok.ensures.front h) c.count_at.ensures.exact ∙ c.in-Err-count_at.is
+    told c.args.at (stretch (g.D.Device.medium.image c.args.device.now) c.args.at c.args.end) (take c.in-Ok.n c.fill.new.into)
+    c.count_at.result (c.in-Ok.ensures.front h) c.count_at.ensures.exact ∙ c.in-Err-count_at.is
 
 pub returns-in-Ok-count_at-clause-exact : goal.returns-in-Ok-count_at-clause-exact
 returns-in-Ok-count_at-clause-exact g c = λ h.
     let s = stretch (g.D.Device.medium.image c.args.device.now) c.args.at c.args.end in
-    let is = told c.args.at s (take c.in-Ok.n c.fill.new.into) c.count_at.result (c.in-Ok.ensures.front h) c.count_at.ensures.exact ∙ c.in-Ok-count_at.is in
+    let is = told c.args.at s (take c.in-Ok.n c.fill.new.into) c.count_at.result (c.in-Ok.ensures.front h) c.count_at.ensures.exact
+    ∙ c.in-Ok-count_at.is in
     let P : Result ℕ ℕ → Type 0 = λ r. IsOkAnd r (λ n. n ≡ c.in-Ok-count_at.count) in
     subst P (sym is) refl
 

@@ -20,8 +20,10 @@ body : (image : List ℕ) (at end n : ℕ) → at + 6 + n ≤ end → take n (dr
 body image at end n fits = ap (take n) (drop-stretch image at end 6 (omega arith)) ∙ take-stretch image (at + 6) end n fits
 
 -- what was read behind the head, by way of the device as it was then
-same_bytes : (image then : List ℕ) (at end n m : ℕ) (block : List ℕ) → at + 6 + n ≤ end → m ≡ n → then ≡ image → block ≡ take m (drop (at + 6) then) → block ≡ take n (drop 6 (stretch image at end))
-same_bytes image then at end n m block fits len same is = is ∙ ap (λ k. take k (drop (at + 6) then)) len ∙ ap (λ x. take n (drop (at + 6) x)) same ∙ sym (body image at end n fits)
+same_bytes : (image then : List ℕ) (at end n m : ℕ) (block : List ℕ) → at + 6 + n ≤ end → m ≡ n → then ≡ image
+    → block ≡ take m (drop (at + 6) then) → block ≡ take n (drop 6 (stretch image at end))
+same_bytes image then at end n m block fits len same is = is ∙ ap (λ k. take k (drop (at + 6) then)) len
+    ∙ ap (λ x. take n (drop (at + 6) x)) same ∙ sym (body image at end n fits)
 
 pub overflow_sub-end : goal.overflow_sub-end
 overflow_sub-end g c =
@@ -31,13 +33,17 @@ overflow_sub-end g c =
 pub returns-in-Err-head_at-clause-exact : goal.returns-in-Err-head_at-clause-exact
 returns-in-Err-head_at-clause-exact g c = λ h.
     let s = stretch (g.D.Device.medium.image c.args.device.now) c.args.at c.args.end in
-    block_stops c.args.last c.args.at c.in-Err-head_at.fault s (told c.args.last c.args.at s (take c.in-Ok.n c.fill.new.into) c.head_at.result (c.in-Ok.ensures.front h) c.head_at.ensures ∙ c.in-Err-head_at.is)
+    block_stops c.args.last c.args.at c.in-Err-head_at.fault s
+    (told c.args.last c.args.at s (take c.in-Ok.n c.fill.new.into) c.head_at.result (c.in-Ok.ensures.front h) c.head_at.ensures
+    ∙ c.in-Err-head_at.is)
 
 pub returns-then-end-from-clause-exact : goal.returns-then-end-from-clause-exact
 returns-then-end-from-clause-exact g c = λ h.
     let s = stretch (g.D.Device.medium.image c.args.device.now) c.args.at c.args.end in
     let n = length-stretch (g.D.Device.medium.image c.args.device.now) c.args.at c.args.end c.requires.within in
-    block_short c.args.last c.args.at s c.in-Ok-head_at.entry (told c.args.last c.args.at s (take c.in-Ok.n c.fill.new.into) c.head_at.result (c.in-Ok.ensures.front h) c.head_at.ensures ∙ c.in-Ok-head_at.is)
+    block_short c.args.last c.args.at s c.in-Ok-head_at.entry
+    (told c.args.last c.args.at s (take c.in-Ok.n c.fill.new.into) c.head_at.result (c.in-Ok.ensures.front h) c.head_at.ensures
+    ∙ c.in-Ok-head_at.is)
     (omega (arith, n, length-drop 6 s, c.if-end-from.true, c.from.ensures))
 
 pub slice_bounds-block-end : goal.slice_bounds-block-end
@@ -55,17 +61,28 @@ slice_bounds-block-end-2 g c =
 pub returns-then-is_heap_of-clause-exact : goal.returns-then-is_heap_of-clause-exact
 returns-then-is_heap_of-clause-exact g c = λ h.
     let image = g.D.Device.medium.image c.args.device.now in
-    let s = stretch image c.args.at c.args.end in let e = c.in-Ok-head_at.entry in
+    let s = stretch image c.args.at c.args.end in
+    let e = c.in-Ok-head_at.entry in
     let n = length-stretch image c.args.at c.args.end c.requires.within in
     let heap = c.is_heap_of.ensures.0 c.if-is_heap_of.true in
     let k = head_ok c.args.last c.args.at (take c.in-Ok.n c.fill.new.into) e (sym c.head_at.ensures ∙ c.in-Ok-head_at.is) in
     let small = entry_size c.args.last e k.0 in
     let room = length-take e.len c.args.buffer.now in
     let len : length (take e.len c.args.buffer.now) ≡ e.len = omega (arith, small.1, c.requires.room, room) in
-    let fits : c.args.at + 6 + e.len ≤ c.args.end = omega (arith, k.1, length-take c.in-Ok.n c.fill.new.into, c.in-Ok.ensures.count, c.if-end-from.false, c.from.ensures) in
-    let there = same_bytes image (g.D.Device.medium.image c.fill.new.device) c.args.at c.args.end e.len (length (take e.len c.args.buffer.now)) c.read_at.new.into fits len c.in-Ok.ensures.reads.same (c.in-Ok-read_at.ensures.bytes (c.in-Ok.ensures.reads.stays h)) in
+    let fits : c.args.at + 6 + e.len ≤ c.args.end = omega (
+      arith,
+      k.1,
+      length-take c.in-Ok.n c.fill.new.into,
+      c.in-Ok.ensures.count,
+      c.if-end-from.false,
+      c.from.ensures,
+    ) in
+    let there = same_bytes image (g.D.Device.medium.image c.fill.new.device) c.args.at c.args.end e.len
+    (length (take e.len c.args.buffer.now)) c.read_at.new.into fits len c.in-Ok.ensures.reads.same
+    (c.in-Ok-read_at.ensures.bytes (c.in-Ok.ensures.reads.stays h)) in
     let H : List ℕ → Type 0 = λ x. IsHeap x in
-    block_good c.args.last c.args.at s e (told c.args.last c.args.at s (take c.in-Ok.n c.fill.new.into) c.head_at.result (c.in-Ok.ensures.front h) c.head_at.ensures ∙ c.in-Ok-head_at.is)
+    block_good c.args.last c.args.at s e (told c.args.last c.args.at s (take c.in-Ok.n c.fill.new.into) c.head_at.result
+    (c.in-Ok.ensures.front h) c.head_at.ensures ∙ c.in-Ok-head_at.is)
     (omega (arith, n, length-drop 6 s, fits)) (subst H there heap.0) (ap handle_word (sym there) ∙ heap.1)
 
 pub returns-then-is_heap_of-clause-legal : goal.returns-then-is_heap_of-clause-legal
@@ -76,15 +93,26 @@ returns-then-is_heap_of-clause-legal g c =
 pub returns-else-is_heap_of-clause-exact : goal.returns-else-is_heap_of-clause-exact
 returns-else-is_heap_of-clause-exact g c = λ h.
     let image = g.D.Device.medium.image c.args.device.now in
-    let s = stretch image c.args.at c.args.end in let e = c.in-Ok-head_at.entry in
+    let s = stretch image c.args.at c.args.end in
+    let e = c.in-Ok-head_at.entry in
     let k = head_ok c.args.last c.args.at (take c.in-Ok.n c.fill.new.into) e (sym c.head_at.ensures ∙ c.in-Ok-head_at.is) in
     let small = entry_size c.args.last e k.0 in
     let room = length-take e.len c.args.buffer.now in
     let len : length (take e.len c.args.buffer.now) ≡ e.len = omega (arith, small.1, c.requires.room, room) in
-    let fits : c.args.at + 6 + e.len ≤ c.args.end = omega (arith, k.1, length-take c.in-Ok.n c.fill.new.into, c.in-Ok.ensures.count, c.if-end-from.false, c.from.ensures) in
-    let there = same_bytes image (g.D.Device.medium.image c.fill.new.device) c.args.at c.args.end e.len (length (take e.len c.args.buffer.now)) c.read_at.new.into fits len c.in-Ok.ensures.reads.same (c.in-Ok-read_at.ensures.bytes (c.in-Ok.ensures.reads.stays h)) in
+    let fits : c.args.at + 6 + e.len ≤ c.args.end = omega (
+      arith,
+      k.1,
+      length-take c.in-Ok.n c.fill.new.into,
+      c.in-Ok.ensures.count,
+      c.if-end-from.false,
+      c.from.ensures,
+    ) in
+    let there = same_bytes image (g.D.Device.medium.image c.fill.new.device) c.args.at c.args.end e.len
+    (length (take e.len c.args.buffer.now)) c.read_at.new.into fits len c.in-Ok.ensures.reads.same
+    (c.in-Ok-read_at.ensures.bytes (c.in-Ok.ensures.reads.stays h)) in
     let H : List ℕ → Type 0 = λ x. IsHeap x in
-    block_bad c.args.last c.args.at s e (told c.args.last c.args.at s (take c.in-Ok.n c.fill.new.into) c.head_at.result (c.in-Ok.ensures.front h) c.head_at.ensures ∙ c.in-Ok-head_at.is)
+    block_bad c.args.last c.args.at s e (told c.args.last c.args.at s (take c.in-Ok.n c.fill.new.into) c.head_at.result
+    (c.in-Ok.ensures.front h) c.head_at.ensures ∙ c.in-Ok-head_at.is)
     (λ heap handle. false≢true (sym c.if-is_heap_of.false ∙ c.is_heap_of.ensures.1 (subst H (sym there) heap, ap handle_word there ∙ handle)))
 
 pub returns-in-Err-read_at-clause-reads : goal.returns-in-Err-read_at-clause-reads

@@ -15,5 +15,7 @@ invariant-loop-e g l =
       room : vec_capacity l.fn.into ≤ vec_capacity l.into;
       reads : ReadsOnly d.medium l.fn.device l.device;
       count : d.medium.failed l.device ≡ d.medium.failed l.fn.device;
-      items : d.medium.honest l.fn.device → vec_items l.into ≡ vec_items l.fn.into ++ flat_map block_spelling (map (block_read (g.S.Source.resident_bytes l.source) (d.medium.image l.fn.device) l.kept.from l.kept.directory.now.entries.items) (take l.e-index l.entries));
+      items : d.medium.honest l.fn.device → vec_items l.into ≡ vec_items l.fn.into ++ flat_map block_spelling
+          (map (block_read (g.S.Source.resident_bytes l.source) (d.medium.image l.fn.device) l.kept.from l.kept.directory.now.entries.items)
+          (take l.e-index l.entries));
     }

@@ -13,6 +13,8 @@ returns-clause-items g c = λ h.
     let resident = g.S.Source.resident_bytes c.args.source.now in
     let image = g.D.Device.medium.image c.args.device.now in
     let kept = c.args.kept.now in
-    let entries = c.args.directory.now.entries.items in let block = placed_block resident image kept in
+    let entries = c.args.directory.now.entries.items in
+    let block = placed_block resident image kept in
     let B : List Entry → Type 0 = λ es. vec_items c.spell_blocks.new.into ≡ vec_items c.put_word.new.into ++ flat_map block_spelling (map block es) in
-    contents_appended (placed_contents resident image kept c.args.directory.now) _ _ _ _ _ (c.len.ensures.value ∙ sym (length-map entries block)) c.put_word.ensures.items (subst B c.deref.ensures.0 (c.in-Ok.ensures.items h)) c.put_words.ensures.items
+    contents_appended (placed_contents resident image kept c.args.directory.now) _ _ _ _ _ (c.len.ensures.value
+    ∙ sym (length-map entries block)) c.put_word.ensures.items (subst B c.deref.ensures.0 (c.in-Ok.ensures.items h)) c.put_words.ensures.items

@@ -29,16 +29,24 @@ loop-event-preserved c =
           (omega (arith, w.deref_mut.ensures.len, ap length w.deref_mut.ensures.value)) in
           let writes : Writes (bytes_of device) parts at n c.loop-event.bytes.items w.leave.new.bytes = record {
             touched = touched;
-            left = (let P : List ℕ → List ℕ → Type 0 = λ now old. (i : ℕ) → at ≤ i → i < at + n → i < length old → slice_index w.leave.new.bytes i ≡ chosen parts now old i in
-                subst (λ (xs : List ℕ). P (bytes_of device) xs) w.deref_mut.ensures.value (subst (λ (xs : List ℕ). P xs w.deref_mut.result.now) w.as_slice.ensures w.leave.ensures.left));
+            left = (let P : List ℕ → List ℕ → Type 0 = λ now old. (i : ℕ) → at ≤ i → i < at + n → i < length old
+                → slice_index w.leave.new.bytes i ≡ chosen parts now old i in
+                subst (λ (xs : List ℕ). P (bytes_of device) xs) w.deref_mut.ensures.value
+                (subst (λ (xs : List ℕ). P xs w.deref_mut.result.now) w.as_slice.ensures w.leave.ensures.left));
           } in
           let now_chosen : IsChosen (bytes_of device) start (Written at n ∷ reverse (take k device.events.items)) parts w.leave.new.bytes =
-          chosen_written (bytes_of device) start (reverse (take k device.events.items)) parts at n c.loop-event.bytes.items w.leave.new.bytes writes c.loop-event.invariant.chosen in
+          chosen_written (bytes_of device) start (reverse (take k device.events.items)) parts at n c.loop-event.bytes.items
+          w.leave.new.bytes writes c.loop-event.invariant.chosen in
           record {
-            possible = subst (λ (es : List Event). Leaves start es c.match-event.bytes.items) (sym more)
-                (c.loop-event.bytes.items, c.loop-event.invariant.possible, subst (λ (xs : List ℕ). Touched at n c.loop-event.bytes.items xs) (sym image) touched);
+            possible = subst (λ (es : List Event). Leaves start es c.match-event.bytes.items) (sym more) (
+              c.loop-event.bytes.items,
+              c.loop-event.invariant.possible,
+              subst (λ (xs : List ℕ). Touched at n c.loop-event.bytes.items xs)
+                  (sym image) touched,
+            );
             chosen = subst (λ (es : List Event). IsChosen (bytes_of device) start es parts c.match-event.bytes.items) (sym more)
-                (subst (λ (xs : List ℕ). IsChosen (bytes_of device) start (Written at n ∷ reverse (take k device.events.items)) parts xs) (sym image) now_chosen);
+                (subst (λ (xs : List ℕ). IsChosen (bytes_of device) start (Written at n ∷ reverse (take k device.events.items)) parts xs)
+                (sym image) now_chosen);
           }
       | in-Synced+in_ok-bytes-in-Synced w ↦
           let lasting = w.in-Synced.lasting in

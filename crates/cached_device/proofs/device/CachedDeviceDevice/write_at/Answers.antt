@@ -7,4 +7,9 @@ returns-in-Ok-write_at-clause-writes c = writes_happened _ _ _ _ (c.write_at.ens
 
 pub returns-in-Err-write_at-clause-writes : goal.returns-in-Err-write_at-clause-writes
 returns-in-Err-write_at-clause-writes c =
-    writes_still _ _ (record { bytes = c.in-Err-write_at.ensures.past.1; start = refl; events = ap reverse (popped _ _ _ _ (vec_len c.push.new.self) c.in-Ok.ensures.items (omega (arith, c.push.new.self.ok.0)) c.pop.ensures.rest) }) _ _
+    writes_still _ _ (record {
+      bytes = c.in-Err-write_at.ensures.past.1;
+      start = refl;
+      events =
+          ap reverse (popped _ _ _ _ (vec_len c.push.new.self) c.in-Ok.ensures.items (omega (arith, c.push.new.self.ok.0)) c.pop.ensures.rest);
+    }) _ _

@@ -4,7 +4,8 @@ use Rattle.chunk_array.proofs.shape.Shape.start.Goals as goal
 
 pub returns-then-self-ne0 : goal.returns-then-self-ne0
 returns-then-self-ne0 c =
-    let r = starts c.args.bytes.now c.args.self c.args.index _ (λ k. let t = c.type_inv.bytes k in omega arith) c.requires.shape (λ a s. start-fixed c.args.bytes.now c.args.self a c.args.index s c.if-self-ne0.true c.requires.known) in
+    let r = starts c.args.bytes.now c.args.self c.args.index _ (λ k. let t = c.type_inv.bytes k in omega arith)
+    c.requires.shape (λ a s. start-fixed c.args.bytes.now c.args.self a c.args.index s c.if-self-ne0.true c.requires.known) in
     record { start = r.start; within = r.within }
 
 pub get16-requires : goal.get16-requires
@@ -15,10 +16,13 @@ get16-requires c =
 
 pub returns-then-index-self : goal.returns-then-index-self
 returns-then-index-self c =
-    let r = starts c.args.bytes.now c.args.self c.args.index _ (λ k. let t = c.type_inv.bytes k in omega arith) c.requires.shape (λ a s. c.get16.ensures ∙ start-varying c.args.bytes.now c.args.self a c.args.index s c.if-self-ne0.false c.if-index-self.true) in
+    let r = starts c.args.bytes.now c.args.self c.args.index _ (λ k. let t = c.type_inv.bytes k in omega arith)
+    c.requires.shape (λ a s. c.get16.ensures ∙ start-varying c.args.bytes.now c.args.self a c.args.index s
+    c.if-self-ne0.false c.if-index-self.true) in
     record { start = r.start; within = r.within }
 
 pub returns-else-index-self : goal.returns-else-index-self
 returns-else-index-self c =
-    let r = starts c.args.bytes.now c.args.self c.args.index _ (λ k. let t = c.type_inv.bytes k in omega arith) c.requires.shape (λ a s. start-end c.args.bytes.now c.args.self a c.args.index s (omega (arith, c.requires.known, c.if-index-self.false))) in
+    let r = starts c.args.bytes.now c.args.self c.args.index _ (λ k. let t = c.type_inv.bytes k in omega arith)
+    c.requires.shape (λ a s. start-end c.args.bytes.now c.args.self a c.args.index s (omega (arith, c.requires.known, c.if-index-self.false))) in
     record { start = r.start; within = r.within }

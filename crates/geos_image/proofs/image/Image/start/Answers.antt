@@ -13,7 +13,8 @@ returns-clause-room c =
     let image = c.args.self.now in
     let legal : is_image image ≡ true = subst (λ (p : Parts). is_image p ≡ true) c.self.view_is c.self.invariant in
     let start_is : c.total_count.result ≡ start_of image.routines c.args.index = search rules in
-    subst (λ (n : ℕ). IfSome (slice_get image.routines c.args.index) (λ routine. n + routine.count ≤ length image.points)) (sym start_is) (start_of-room image c.args.index legal)
+    subst (λ (n : ℕ). IfSome (slice_get image.routines c.args.index) (λ routine. n + routine.count ≤ length image.points))
+    (sym start_is) (start_of-room image c.args.index legal)
 
 pub returns-clause-given : goal.returns-clause-given
 returns-clause-given c =
@@ -24,4 +25,5 @@ returns-clause-given c =
     let end = start_of-end image.routines c.args.index routine.0 routine.1 in
     let parts = image_parts image legal in
     let some = routine_counts image.keyed [] image.routines c.args.index routine.0 parts.routines routine.1 in
-    subst (λ (n : ℕ). gives image n ≡ true) (sym start_is) (gives-start image legal c.args.index routine.0 routine.1 (omega (arith, end, parts.counts, some)))
+    subst (λ (n : ℕ). gives image n ≡ true) (sym start_is) (gives-start image legal c.args.index routine.0 routine.1
+    (omega (arith, end, parts.counts, some)))

@@ -8,18 +8,23 @@ use Rattle.geos_image.proofs.reader.points.bare_at.Goals as goal
 pub loop-instr-preserved : goal.loop-instr-preserved
 loop-instr-preserved c = (
   omega arith,
-  rw c.in_ok-push.ensures.items (instrs-push c.args.code.now c.loop-instr.points.items c.loop-instr.instr-index _ None c.in_ok-potential.potential c.loop-instr-test.true c.loop-instr.invariant.1),
-  (λ routines instrs h. rw c.in_ok-push.ensures.items (points-push true routines instrs c.args.code.now c.loop-instr.points.items c.loop-instr.instr-index _ None c.in_ok-potential.potential
+  rw c.in_ok-push.ensures.items (instrs-push c.args.code.now c.loop-instr.points.items c.loop-instr.instr-index _
+      None c.in_ok-potential.potential c.loop-instr-test.true c.loop-instr.invariant.1),
+  (λ routines instrs h. rw c.in_ok-push.ensures.items
+      (points-push true routines instrs c.args.code.now c.loop-instr.points.items c.loop-instr.instr-index _ None c.in_ok-potential.potential
       c.loop-instr-test.true (c.loop-instr.invariant.2 routines instrs) refl h)),
-  rw c.in_ok-push.ensures.items (bare-more c.args.bytes.now c.args.code.now _ c.loop-instr.points.items c.loop-instr.instr-index c.loop-instr.at _ c.in_ok-potential.potential
+  rw c.in_ok-push.ensures.items (bare-more c.args.bytes.now c.args.code.now _ c.loop-instr.points.items
+      c.loop-instr.instr-index c.loop-instr.at _ c.in_ok-potential.potential
       c.loop-instr-test.true (sym c.in_ok-potential.ensures) c.loop-instr.invariant.3),
 )
 
 pub returns-clause-exact : goal.returns-clause-exact
-returns-clause-exact c = bare-end c.args.bytes.now c.args.code.now _ c.loop-instr.points.items c.loop-instr.instr-index c.loop-instr.at c.loop-instr-test.false c.loop-instr.invariant.3
+returns-clause-exact c = bare-end c.args.bytes.now c.args.code.now _ c.loop-instr.points.items c.loop-instr.instr-index
+    c.loop-instr.at c.loop-instr-test.false c.loop-instr.invariant.3
 
 pub returns-in_err-potential-clause-exact : goal.returns-in_err-potential-clause-exact
 returns-in_err-potential-clause-exact c =
     let p = err_from_is_err_and c.from_residual-in_err-potential.result c.from_residual-in_err-potential.ensures.1 in
-    rw (p.1, p.2) (bare-fault c.args.bytes.now c.args.code.now _ c.loop-instr.points.items c.loop-instr.instr-index c.loop-instr.at c.in_err-potential.field-0.0 (record { opcode = Ldi; a = 0; b = 0; c = 0; d = 0; imm = 0; target = 0 })
+    rw (p.1, p.2) (bare-fault c.args.bytes.now c.args.code.now _ c.loop-instr.points.items c.loop-instr.instr-index
+    c.loop-instr.at c.in_err-potential.field-0.0 (record { opcode = Ldi; a = 0; b = 0; c = 0; d = 0; imm = 0; target = 0 })
     c.loop-instr-test.true (sym c.in_err-potential.ensures) c.loop-instr.invariant.3)

@@ -8,5 +8,6 @@ use Rattle.geos_image.proofs.reader.points.bare_at.Given as goal
 
 abbrev pub invariant-loop-instr : goal.invariant-loop-instr
 invariant-loop-instr l = (l.at ≡ l.start + 20 * l.instr-index) × (instrs_of l.points.items ≡ take l.instr-index l.code)
-    × ((routines instrs : ℕ) → list_all (is_instr routines instrs) (take l.instr-index l.code) ≡ true → list_all (is_point true routines instrs) l.points.items ≡ true)
+    × ((routines instrs : ℕ) → list_all (is_instr routines instrs) (take l.instr-index l.code) ≡ true
+    → list_all (is_point true routines instrs) l.points.items ≡ true)
     × (with_front l.points.items (bare_points_at l.bytes (drop l.instr-index l.code) l.at) ≡ bare_points_at l.bytes l.code l.start)

@@ -7,5 +7,6 @@ use Rattle.geos_image.proofs.reader.points.points_at.Given as goal
 
 abbrev pub invariant-loop-instr : goal.invariant-loop-instr
 invariant-loop-instr l = (l.at ≡ l.start + 58 * l.instr-index) × (length l.points.items ≡ l.instr-index)
-    × ((routines instrs : ℕ) → list_all (is_instr routines instrs) (take l.instr-index l.code) ≡ true → list_all (is_point false routines instrs) l.points.items ≡ true)
+    × ((routines instrs : ℕ) → list_all (is_instr routines instrs) (take l.instr-index l.code) ≡ true
+    → list_all (is_point false routines instrs) l.points.items ≡ true)
     × (with_front l.points.items (points_at l.bytes (drop l.instr-index l.code) l.at) ≡ points_at l.bytes l.code l.start)

@@ -11,5 +11,7 @@ invariant_of-result c =
     let whole : Parts = record { keyed = false; routines = c.self.inside.routines.items; points = c.self.inside.points.items } in
     let formed : is_formed true whole ≡ true = c.self.invariant in
     let flags : c.keys_of-flags.result ≡ key_flags whole.routines (instrs_of whole.points) = search rules in
-    let points : c.keep_rows.new.points.items ≡ kept_rows (key_flags whole.routines (instrs_of whole.points)) whole.points = c.keep_rows.ensures ∙ ap (λ (fs : List Bool). kept_rows fs whole.points) flags in
-    subst (λ (ps : List Point). is_image (record { keyed = true; routines = whole.routines; points = ps }) ≡ true) (sym points) (keyed-legal whole formed)
+    let points : c.keep_rows.new.points.items ≡ kept_rows (key_flags whole.routines (instrs_of whole.points)) whole.points =
+    c.keep_rows.ensures ∙ ap (λ (fs : List Bool). kept_rows fs whole.points) flags in
+    subst (λ (ps : List Point). is_image (record { keyed = true; routines = whole.routines; points = ps }) ≡ true)
+    (sym points) (keyed-legal whole formed)

@@ -10,13 +10,18 @@ use Rattle.geos_kernel.proofs.kernel.Kernel.item_change.Goals as goal
 
 pub invariant_of-self : goal.invariant_of-self
 invariant_of-self g c =
-    let d = g.D.Device in let v = c.self.inside.vm in let s = c.self.inside.blocks in let done = c.item_change in
+    let d = g.D.Device in
+    let v = c.self.inside.vm in
+    let s = c.self.inside.blocks in
+    let done = c.item_change in
     let e = done.ensures in
-    spared-kernel d.medium v done.new.vm s done.new.blocks c.self.invariant (keeps-mem v s done.new.blocks c.args.group e.keeps) (on_group c.args.group (change_row (vm c.args.group) c.args.change)) done.result e.tied e.row
+    spared-kernel d.medium v done.new.vm s done.new.blocks c.self.invariant (keeps-mem v s done.new.blocks c.args.group e.keeps)
+    (on_group c.args.group (change_row (vm c.args.group) c.args.change)) done.result e.tied e.row
 
 pub returns : goal.returns
 returns g c =
-    let d = g.D.Device in let done = c.item_change in
+    let d = g.D.Device in
+    let done = c.item_change in
     item-called d.medium c.self.inside.vm done.new.vm c.self.inside.blocks done.new.blocks c.args.self.now c.self.view_is c.self.invariant
     (leaves-kept d.medium c.self.inside.vm c.self.inside.blocks c.is_sure.ensures.kept) c.args.group
     (on_group c.args.group (change_row (vm c.args.group) c.args.change)) (change_edit c.args.change) done.result done.ensures (λ choice f. refl)

@@ -15,6 +15,7 @@ pub returns-clause-model : goal.returns-clause-model
 returns-clause-model g c =
     let v = c.self.inside.vm in
     let blocks = c.self.inside.blocks in
-    subst (λ k. (f : VmFile) → IsFileOf (g.D.Device.medium.honest k.device) k.core f → c.locks.result ≡ locks_of (memory_of k.core f) c.args.name) c.self.view_is
+    subst (λ k. (f : VmFile) → IsFileOf (g.D.Device.medium.honest k.device) k.core f → c.locks.result ≡ locks_of (memory_of k.core f) c.args.name)
+    c.self.view_is
     (λ f tied. c.locks.ensures ∙ sym (locks-known g.D.Device.medium v blocks c.self.invariant.tied (memory_of (core_of g.D.Device.medium v blocks) f)
     (memory-known g.D.Device.medium v blocks f tied) c.args.name))

@@ -14,5 +14,7 @@ pub returns-clause-model : goal.returns-clause-model
 returns-clause-model g c =
     let v = c.self.inside.vm in
     let blocks = c.self.inside.blocks in
-    subst (λ k. (f : VmFile) → IsFileOf (g.D.Device.medium.honest k.device) k.core f → c.marked.result ≡ is_marked (memory_of k.core f) c.args.handle) c.self.view_is
-    (λ f tied. sym (c.marked.ensures.told blocks (memory_of (core_of g.D.Device.medium v blocks) f) c.self.invariant.tied (memory-known g.D.Device.medium v blocks f tied)))
+    subst (λ k. (f : VmFile) → IsFileOf (g.D.Device.medium.honest k.device) k.core f → c.marked.result ≡ is_marked (memory_of k.core f) c.args.handle)
+    c.self.view_is
+    (λ f tied. sym (c.marked.ensures.told blocks (memory_of (core_of g.D.Device.medium v blocks) f) c.self.invariant.tied
+    (memory-known g.D.Device.medium v blocks f tied)))

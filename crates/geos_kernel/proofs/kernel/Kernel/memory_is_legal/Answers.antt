@@ -22,7 +22,8 @@ use Rattle.geos_kernel.proofs.kernel.Kernel.memory_is_legal.Goals as goal
 pub returns-clause-file : goal.returns-clause-file
 returns-clause-file g c =
     let f = c.self.invariant.known in
-    subst (λ k. (f : VmFile) × IsFileOf (g.D.Device.medium.honest k.device) k.core f) c.self.view_is (f.0, file-seen g.D.Device.medium c.self.inside.vm c.self.inside.blocks f.0 f.1)
+    subst (λ k. (f : VmFile) × IsFileOf (g.D.Device.medium.honest k.device) k.core f) c.self.view_is
+    (f.0, file-seen g.D.Device.medium c.self.inside.vm c.self.inside.blocks f.0 f.1)
 
 pub returns-clause-legal : goal.returns-clause-legal
 returns-clause-legal g c =
@@ -37,7 +38,8 @@ pub returns-clause-unlocked : goal.returns-clause-unlocked
 returns-clause-unlocked g c =
     let v = c.self.inside.vm in
     let blocks = c.self.inside.blocks in
-    subst (λ k. (f : VmFile) → IsFileOf (g.D.Device.medium.honest k.device) k.core f → NoneLocked k.core.blocks ↔ ((h : ℕ) → locks_of (memory_of k.core f) (vm h) ≡ 0)) c.self.view_is
+    subst (λ k. (f : VmFile) → IsFileOf (g.D.Device.medium.honest k.device) k.core f → NoneLocked k.core.blocks
+    ↔ ((h : ℕ) → locks_of (memory_of k.core f) (vm h) ≡ 0)) c.self.view_is
     (λ f tied. none-known g.D.Device.medium v blocks (memory_of (core_of g.D.Device.medium v blocks) f) c.self.invariant.tied
     (memory-known g.D.Device.medium v blocks f tied))
 
@@ -48,11 +50,14 @@ returns-clause-heaps g c =
     (λ name there. (K.heaps name there, K.handles name there))
 
 pub returns-clause-kept : goal.returns-clause-kept
-returns-clause-kept g c = subst (λ k. LeavesKept g.D.Device.medium k) c.self.view_is (leaves-kept g.D.Device.medium c.self.inside.vm c.self.inside.blocks c.is_sure.ensures.kept)
+returns-clause-kept g c = subst (λ k. LeavesKept g.D.Device.medium k) c.self.view_is
+    (leaves-kept g.D.Device.medium c.self.inside.vm c.self.inside.blocks c.is_sure.ensures.kept)
 
 pub returns-clause-locks : goal.returns-clause-locks
 returns-clause-locks g c =
     let v = c.self.inside.vm in
     let blocks = c.self.inside.blocks in
-    subst (λ k. (f : VmFile) → IsFileOf (g.D.Device.medium.honest k.device) k.core f → (name : Name) → locks_of (memory_of k.core f) name ≡ store.locks_of k.core.blocks (slot_of name)) c.self.view_is
-    (λ f tied name. locks-known g.D.Device.medium v blocks c.self.invariant.tied (memory_of (core_of g.D.Device.medium v blocks) f) (memory-known g.D.Device.medium v blocks f tied) name)
+    subst (λ k. (f : VmFile) → IsFileOf (g.D.Device.medium.honest k.device) k.core f → (name : Name)
+    → locks_of (memory_of k.core f) name ≡ store.locks_of k.core.blocks (slot_of name)) c.self.view_is
+    (λ f tied name. locks-known g.D.Device.medium v blocks c.self.invariant.tied (memory_of (core_of g.D.Device.medium v blocks) f)
+    (memory-known g.D.Device.medium v blocks f tied) name)

@@ -8,17 +8,25 @@ use Rattle.geos_kernel.proofs.kernel.Kernel.mfree.Goals as goal
 
 pub invariant_of-self : goal.invariant_of-self
 invariant_of-self g c =
-    let d = g.D.Device in let old = c.self.inside.blocks in
-    let new = c.free-freed.new.self in let r = c.free-freed.result in let e = c.free-freed.ensures in
+    let d = g.D.Device in
+    let old = c.self.inside.blocks in
+    let new = c.free-freed.new.self in
+    let r = c.free-freed.result in
+    let e = c.free-freed.ensures in
     let facts = subst (λ name. FreesSlot old new (slot_of name) r) c.mem.ensures (e.there, e.ok, e.bad_handle, e.locked, e.err) in
     (free-done d.medium c.self.inside.vm old c.args.handle c.self.invariant new r facts).0
 
 pub returns-clause-calls : goal.returns-clause-calls
 returns-clause-calls g c =
-    let d = g.D.Device in let v = c.self.inside.vm in let old = c.self.inside.blocks in
-    let new = c.free-freed.new.self in let r = c.free-freed.result in let e = c.free-freed.ensures in
+    let d = g.D.Device in
+    let v = c.self.inside.vm in
+    let old = c.self.inside.blocks in
+    let new = c.free-freed.new.self in
+    let r = c.free-freed.result in
+    let e = c.free-freed.ensures in
     let facts = subst (λ name. FreesSlot old new (slot_of name) r) c.mem.ensures (e.there, e.ok, e.bad_handle, e.locked, e.err) in
-    rw c.of_handle.ensures (calls-seen d.medium v old c.args.self.now c.self.view_is (free-done d.medium v old c.args.handle c.self.invariant new r facts).1)
+    rw c.of_handle.ensures (calls-seen d.medium v old c.args.self.now c.self.view_is
+    (free-done d.medium v old c.args.handle c.self.invariant new r facts).1)
 
 pub returns-clause-vm : goal.returns-clause-vm
 returns-clause-vm g c = blocks-alone g.D.Device.medium c.self.inside.vm c.self.inside.blocks c.free-freed.new.self c.args.self.now c.self.view_is
@@ -26,5 +34,7 @@ returns-clause-vm g c = blocks-alone g.D.Device.medium c.self.inside.vm c.self.i
 pub returns-clause-remain : goal.returns-clause-remain
 returns-clause-remain g c =
     let e = c.free-freed.ensures in
-    let facts = subst (λ name. FreesSlot c.self.inside.blocks c.free-freed.new.self (slot_of name) c.free-freed.result) c.mem.ensures (e.there, e.ok, e.bad_handle, e.locked, e.err) in
-    subst (λ k. Remain k.core.blocks c.free-freed.new.self 0) c.self.view_is (freed-remain c.self.inside.blocks c.free-freed.new.self c.args.handle c.free-freed.result c.self.invariant.laid facts.0 facts.1 facts.4)
+    let facts = subst (λ name. FreesSlot c.self.inside.blocks c.free-freed.new.self (slot_of name) c.free-freed.result)
+    c.mem.ensures (e.there, e.ok, e.bad_handle, e.locked, e.err) in
+    subst (λ k. Remain k.core.blocks c.free-freed.new.self 0) c.self.view_is
+    (freed-remain c.self.inside.blocks c.free-freed.new.self c.args.handle c.free-freed.result c.self.invariant.laid facts.0 facts.1 facts.4)

@@ -17,11 +17,14 @@ pub invariant_of-self : goal.invariant_of-self
 invariant_of-self g c = elim c.match-make_heap.branch [
   | in-Ok w ↦ (
       let makes = subst (λ name. MakesRoomFor c.self.inside.vm c.self.inside.blocks c.make_heap.new.blocks name) c.mem.ensures w.in-Ok.ensures.ok in
-      kernel-made g.D.Device.medium c.self.inside.vm c.self.inside.blocks c.self.invariant c.make_heap.new.blocks c.in-Some.h c.in-Some.ensures.found makes
+      kernel-made g.D.Device.medium c.self.inside.vm c.self.inside.blocks c.self.invariant c.make_heap.new.blocks
+      c.in-Some.h c.in-Some.ensures.found makes
       )
   | in-Err w ↦ (
-      let lacks = subst (λ name. room.LacksRoom c.self.inside.vm c.self.inside.blocks c.make_heap.new.blocks name 64) c.mem.ensures w.in-Err.ensures.err in
-      kernel-crowded g.D.Device.medium c.self.inside.vm c.self.inside.blocks c.self.invariant c.make_heap.new.blocks c.in-Some.h c.in-Some.ensures.found lacks
+      let lacks = subst (λ name. room.LacksRoom c.self.inside.vm c.self.inside.blocks c.make_heap.new.blocks name 64)
+      c.mem.ensures w.in-Err.ensures.err in
+      kernel-crowded g.D.Device.medium c.self.inside.vm c.self.inside.blocks c.self.invariant c.make_heap.new.blocks
+      c.in-Some.h c.in-Some.ensures.found lacks
       )
 ]
 
@@ -33,13 +36,15 @@ returns-clause-calls g c = elim c.match-make_heap.branch [
       let h = c.in-Some.h in
       let makes = subst (λ name. MakesRoomFor v c.self.inside.blocks new name) c.mem.ensures w.in-Ok.ensures.ok in
       let calls = mnew-calls g.D.Device.medium v c.self.inside.blocks c.self.invariant new h c.in-Some.ensures.found makes in
-      rw w.result-is (subst (λ k. Calls (g.D.Device.medium.honest k.device) table.mnew (Ok h) k.core (core_of g.D.Device.medium v new)) c.self.view_is calls)
+      rw w.result-is (subst (λ k. Calls (g.D.Device.medium.honest k.device) table.mnew (Ok h) k.core (core_of g.D.Device.medium v new))
+      c.self.view_is calls)
       )
   | in-Err w ↦ (
       let v = c.self.inside.vm in
       let new = c.make_heap.new.blocks in
       let lacks = subst (λ name. room.LacksRoom v c.self.inside.blocks new name 64) c.mem.ensures w.in-Err.ensures.err in
       let calls = mnew-tight-calls g.D.Device.medium v c.self.inside.blocks c.self.invariant new c.in-Some.h c.in-Some.ensures.found lacks in
-      rw w.result-is (subst (λ k. Calls (g.D.Device.medium.honest k.device) table.mnew (Err NoRoom) k.core (core_of g.D.Device.medium v new)) c.self.view_is calls)
+      rw w.result-is (subst (λ k. Calls (g.D.Device.medium.honest k.device) table.mnew (Err NoRoom) k.core (core_of g.D.Device.medium v new))
+      c.self.view_is calls)
       )
 ]

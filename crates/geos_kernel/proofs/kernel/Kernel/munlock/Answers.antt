@@ -23,7 +23,8 @@ returns-clause-calls g c =
     let new = c.unlock.new.self in
     let count : 0 < locks_of c.self.inside.blocks (slot_of c.args.name) = subst (λ s. IsLocked s.core c.args.name) (sym c.self.view_is) c.requires in
     let d = g.D.Device in
-    calls-seen d.medium v c.self.inside.blocks c.args.self.now c.self.view_is (unlock-calls d.medium v c.self.inside.blocks c.args.name c.self.invariant new count c.unlock.ensures)
+    calls-seen d.medium v c.self.inside.blocks c.args.self.now c.self.view_is
+    (unlock-calls d.medium v c.self.inside.blocks c.args.name c.self.invariant new count c.unlock.ensures)
 
 pub returns-clause-vm : goal.returns-clause-vm
 returns-clause-vm g c = blocks-alone g.D.Device.medium c.self.inside.vm c.self.inside.blocks c.unlock.new.self c.args.self.now c.self.view_is
@@ -31,4 +32,6 @@ returns-clause-vm g c = blocks-alone g.D.Device.medium c.self.inside.vm c.self.i
 pub returns-clause-remain : goal.returns-clause-remain
 returns-clause-remain g c =
     let count : 0 < locks_of c.self.inside.blocks (slot_of c.args.name) = subst (λ s. IsLocked s.core c.args.name) (sym c.self.view_is) c.requires in
-    subst (λ k. Remain k.core.blocks c.unlock.new.self 0) c.self.view_is (locks-remain c.self.inside.blocks c.unlock.new.self (slot_of c.args.name) (locks_of c.self.inside.blocks (slot_of c.args.name) - 1) c.self.invariant.laid (there_of_locks c.self.inside.blocks (slot_of c.args.name) count) c.unlock.ensures)
+    subst (λ k. Remain k.core.blocks c.unlock.new.self 0) c.self.view_is
+    (locks-remain c.self.inside.blocks c.unlock.new.self (slot_of c.args.name) (locks_of c.self.inside.blocks (slot_of c.args.name) - 1)
+    c.self.invariant.laid (there_of_locks c.self.inside.blocks (slot_of c.args.name) count) c.unlock.ensures)

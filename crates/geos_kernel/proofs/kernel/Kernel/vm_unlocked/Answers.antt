@@ -16,6 +16,7 @@ pub returns-clause-model : goal.returns-clause-model
 returns-clause-model g c =
     let v = c.self.inside.vm in
     let blocks = c.self.inside.blocks in
-    subst (λ k. (f : VmFile) → IsFileOf (g.D.Device.medium.honest k.device) k.core f → IsTrue c.none_locked.result ↔ ((h : ℕ) → locks_of (memory_of k.core f) (vm h) ≡ 0)) c.self.view_is
+    subst (λ k. (f : VmFile) → IsFileOf (g.D.Device.medium.honest k.device) k.core f → IsTrue c.none_locked.result
+    ↔ ((h : ℕ) → locks_of (memory_of k.core f) (vm h) ≡ 0)) c.self.view_is
     (λ f tied. none-told g.D.Device.medium v blocks (memory_of (core_of g.D.Device.medium v blocks) f) c.self.invariant.tied
     (memory-known g.D.Device.medium v blocks f tied) c.none_locked.result c.none_locked.ensures)

@@ -9,4 +9,5 @@ overflow_sub-len c = (read c.args.block.now c.args.i c.entry.result c.get16.resu
 pub returns : goal.returns
 returns c =
     let r = read c.args.block.now c.args.i c.entry.result c.get16.result c.requires c.entry.ensures c.get16.ensures in
-    subst (λ (x : ℕ). IsExtent c.args.block.now c.args.i (record { begin = c.entry.result - 2; end = c.entry.result - 2 + x; len = c.get16.result - 2 })) (sym c.cost.ensures) r.extent
+    subst (λ (x : ℕ). IsExtent c.args.block.now c.args.i
+    (record { begin = c.entry.result - 2; end = c.entry.result - 2 + x; len = c.get16.result - 2 })) (sym c.cost.ensures) r.extent

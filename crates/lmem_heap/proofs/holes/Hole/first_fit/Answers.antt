@@ -47,9 +47,16 @@ loop-next-preserved c =
     record {
       is = subst (λ (x : ℕ). IsOpen b (x + 2) (length b) (length b)) (sym i.next) n.is;
       next = c.get16-next-in-loop-next.ensures;
-      passed = inr (elim i.passed [ inl first ↦ omega (arith, c.get16.ensures, ap (word b) (i.next ∙ ap (word b) first), c.if-get16-size.false) | inr less ↦ less ]);
+      passed = inr (elim i.passed [
+        | inl first ↦ omega (arith, c.get16.ensures, ap (word b) (i.next ∙ ap (word b) first), c.if-get16-size.false)
+        | inr less ↦ less
+      ]);
     }
 
 pub returns : goal.returns
 returns c =
-    elim c.loop-next.invariant.passed [ inl first ↦ inl (sym (ap (word c.args.block.now) first) ∙ sym c.loop-next.invariant.next ∙ c.loop-next-test.false) | inr less ↦ inr less ]
+    elim c.loop-next.invariant.passed [
+      | inl first ↦ inl (sym (ap (word c.args.block.now) first) ∙ sym c.loop-next.invariant.next
+          ∙ c.loop-next-test.false)
+      | inr less ↦ inr less
+    ]

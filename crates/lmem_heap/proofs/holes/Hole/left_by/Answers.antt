@@ -19,7 +19,8 @@ left c = left-hole c.args.block.now c.put_entry.new.block c.args.i c.requires.he
 pub at-requires : goal.at-requires
 at-requires c =
     let l = left (goal.at.at-requires c).After-put_entry in
-    subst (λ (begin : ℕ). IsOpen c.put_entry.new.block 12 begin c.of-chunk.result.end) (omega (arith, c.of-chunk.ensures.entry)) (subst (λ (end : ℕ). IsOpen c.put_entry.new.block 12 (entry c.args.block.now c.args.i - 2) end) (sym c.of-chunk.ensures.end) l.is)
+    subst (λ (begin : ℕ). IsOpen c.put_entry.new.block 12 begin c.of-chunk.result.end) (omega (arith, c.of-chunk.ensures.entry))
+    (subst (λ (end : ℕ). IsOpen c.put_entry.new.block 12 (entry c.args.block.now c.args.i - 2) end) (sym c.of-chunk.ensures.end) l.is)
 
 pub returns : goal.returns
 returns c =
@@ -35,5 +36,7 @@ returns c =
       handle = l.handle;
       count = l.count;
       free = l.here;
-      bytes = part-shifted b c.put_entry.new.block 0 0 (table_end b) (length b) (entry b c.args.i) (entry b c.args.i) (chunk_length b c.args.i) l.bytes refl (omega (arith, l.low)) (omega (arith, k.len, k.entry, k.wide, k.high)) (omega (arith, k.len, k.entry, k.wide, k.high)) (omega (arith, k.len, k.entry, k.wide, k.high, c.put_entry.auto.block));
+      bytes = part-shifted b c.put_entry.new.block 0 0 (table_end b) (length b) (entry b c.args.i) (entry b c.args.i)
+          (chunk_length b c.args.i) l.bytes refl (omega (arith, l.low)) (omega (arith, k.len, k.entry, k.wide, k.high))
+          (omega (arith, k.len, k.entry, k.wide, k.high)) (omega (arith, k.len, k.entry, k.wide, k.high, c.put_entry.auto.block));
     }

@@ -17,4 +17,6 @@ overflow_add-total c = let p = open-place _ _ _ _ c.requires.hole.is in omega (a
 
 pub returns : goal.returns
 returns c =
-    hole-merged c.args.block.now c.put16.new.block c.put16-2.new.block c.args.self.link c.args.self.at c.args.self.end _ _ c.requires.hole c.requires.some c.requires.fours c.requires.apart c.requires.touch.0 c.requires.touch.1 refl (omega (arith, c.get16-total.ensures)) c.put16.ensures c.put16-2.ensures
+    hole-merged c.args.block.now c.put16.new.block c.put16-2.new.block c.args.self.link c.args.self.at c.args.self.end
+    _ _ c.requires.hole c.requires.some c.requires.fours c.requires.apart c.requires.touch.0 c.requires.touch.1
+    refl (omega (arith, c.get16-total.ensures)) c.put16.ensures c.put16-2.ensures

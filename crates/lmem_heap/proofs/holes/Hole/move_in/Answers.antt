@@ -23,25 +23,54 @@ pub put16-requires : goal.put16-requires
 put16-requires c = omega (arith, open-room _ _ _ _ c.args.n c.requires.hole.is c.requires.some c.requires.room, c.put_entry.auto.block)
 
 pub move_bytes-requires-clause-target : goal.move_bytes-requires-clause-target
-move_bytes-requires-clause-target c = omega (arith, open-room _ _ _ _ c.args.n c.requires.hole.is c.requires.some c.requires.room, c.min-keep.ensures, c.put_entry.auto.block, c.put16.auto.block)
+move_bytes-requires-clause-target c = omega (
+  arith,
+  open-room _ _ _ _ c.args.n c.requires.hole.is c.requires.some c.requires.room,
+  c.min-keep.ensures,
+  c.put_entry.auto.block,
+  c.put16.auto.block,
+)
 
 pub overflow_add-self-4 : goal.overflow_add-self-4
 overflow_add-self-4 c = omega (arith, open-room _ _ _ _ c.args.n c.requires.hole.is c.requires.some c.requires.room, c.min-keep.ensures)
 
 pub clear-requires : goal.clear-requires
-clear-requires c = omega (arith, open-room _ _ _ _ c.args.n c.requires.hole.is c.requires.some c.requires.room, c.min-keep.ensures, c.put_entry.auto.block, c.put16.auto.block, c.move_bytes.auto.block)
+clear-requires c = omega (
+  arith,
+  open-room _ _ _ _ c.args.n c.requires.hole.is c.requires.some c.requires.room,
+  c.min-keep.ensures,
+  c.put_entry.auto.block,
+  c.put16.auto.block,
+  c.move_bytes.auto.block,
+)
 
 -- what the writes leave
-moved : (c : After-clear) → Redirects c.args.block.now c.clear.new.block c.args.i (resized (part c.args.block.now (entry c.args.block.now c.args.i) (chunk_length c.args.block.now c.args.i)) c.args.n)
+moved : (c : After-clear) → Redirects c.args.block.now c.clear.new.block c.args.i
+    (resized (part c.args.block.now (entry c.args.block.now c.args.i) (chunk_length c.args.block.now c.args.i)) c.args.n)
 moved c =
-    moved-in _ _ _ _ _ _ _ _ _ c.min-keep.result _ c.of-chunk.result c.requires.hole.is c.requires.known c.requires.offset c.of-chunk.ensures c.requires.some c.requires.room c.min-keep.ensures
+    moved-in _ _ _ _ _ _ _ _ _ c.min-keep.result _ c.of-chunk.result c.requires.hole.is c.requires.known c.requires.offset
+    c.of-chunk.ensures c.requires.some c.requires.room c.min-keep.ensures
     c.put_entry.ensures c.put16.ensures c.move_bytes.ensures c.clear.ensures
 
 pub at-requires : goal.at-requires
 at-requires c =
-    subst (λ (begin : ℕ). IsOpen c.clear.new.block 12 begin c.of-chunk.result.end) (omega (arith, c.of-chunk.ensures.entry)) (subst (λ (end : ℕ). IsOpen c.clear.new.block 12 (entry c.args.block.now c.args.i - 2) end) (sym c.of-chunk.ensures.end) (moved (goal.at.at-requires c).After-clear).is)
+    subst (λ (begin : ℕ). IsOpen c.clear.new.block 12 begin c.of-chunk.result.end) (omega (arith, c.of-chunk.ensures.entry))
+    (subst (λ (end : ℕ). IsOpen c.clear.new.block 12 (entry c.args.block.now c.args.i - 2) end) (sym c.of-chunk.ensures.end)
+    (moved (goal.at.at-requires c).After-clear).is)
 
 pub returns : goal.returns
 returns c =
     let m = moved (goal.at.returns c).After-clear in
-    record { hole = search rules; fours = omega (arith, c.at.ensures.place, c.of-chunk.ensures.entry, c.of-chunk.ensures.wide, cost-fours c.of-chunk.result.len, m.is.fours); chunks = m.chunks; handle = m.handle }
+    record {
+      hole = search rules;
+      fours = omega (
+        arith,
+        c.at.ensures.place,
+        c.of-chunk.ensures.entry,
+        c.of-chunk.ensures.wide,
+        cost-fours c.of-chunk.result.len,
+        m.is.fours,
+      );
+      chunks = m.chunks;
+      handle = m.handle;
+    }

@@ -22,13 +22,15 @@ pub overflow_add-end-2 : goal.overflow_add-end-2
 overflow_add-end-2 c = omega (arith, (free-fits _ _ _ _ c.requires.hole c.requires.behind).inside, c.requires.hole.is.header.most, c.requires.room)
 
 pub put16-requires-2 : goal.put16-requires-2
-put16-requires-2 c = let f = free-fits _ _ _ _ c.requires.hole c.requires.behind in omega (arith, f.fours, f.inside, c.requires.fours, c.requires.room, c.put16.auto.block)
+put16-requires-2 c = let f = free-fits _ _ _ _ c.requires.hole c.requires.behind in
+    omega (arith, f.fours, f.inside, c.requires.fours, c.requires.room, c.put16.auto.block)
 
 pub overflow_cast-end : goal.overflow_cast-end
 overflow_cast-end c = omega (arith, (free-fits _ _ _ _ c.requires.hole c.requires.behind).inside, c.requires.hole.is.header.most, c.requires.room)
 
 pub put16-requires-3 : goal.put16-requires-3
-put16-requires-3 c = let p = open-place _ _ _ _ c.requires.hole.is in omega (arith, p.link_high, p.high, c.requires.hole.is.order, c.put16.auto.block, c.put16-2.auto.block)
+put16-requires-3 c = let p = open-place _ _ _ _ c.requires.hole.is in
+    omega (arith, p.link_high, p.high, c.requires.hole.is.order, c.put16.auto.block, c.put16-2.auto.block)
 
 pub overflow_sub-total : goal.overflow_sub-total
 overflow_sub-total c = omega (arith, (free-fits _ _ _ _ c.requires.hole c.requires.behind).sum, c.requires.room, c.get16-total.ensures)
@@ -36,5 +38,8 @@ overflow_sub-total c = omega (arith, (free-fits _ _ _ _ c.requires.hole c.requir
 pub returns-clause-wider : goal.returns-clause-wider
 returns-clause-wider c =
     let f = free-fits _ _ _ _ c.requires.hole c.requires.behind in
-    front-taken c.args.block.now c.put16.new.block c.put16-2.new.block c.put16-3.new.block c.put16-4.new.block c.args.self.link c.args.self.at c.args.self.end c.args.size _ c.get16-next.result _ c.requires.hole c.requires.behind c.requires.some c.requires.fours c.requires.room
-    (omega (arith, c.get16.ensures, c.requires.room)) c.get16-next.ensures (omega arith) (omega (arith, f.sum, c.requires.room, c.get16-total.ensures)) c.put16.ensures c.put16-2.ensures c.put16-3.ensures c.put16-4.ensures
+    front-taken c.args.block.now c.put16.new.block c.put16-2.new.block c.put16-3.new.block c.put16-4.new.block
+    c.args.self.link c.args.self.at c.args.self.end c.args.size _ c.get16-next.result _ c.requires.hole c.requires.behind
+    c.requires.some c.requires.fours c.requires.room
+    (omega (arith, c.get16.ensures, c.requires.room)) c.get16-next.ensures (omega arith)
+    (omega (arith, f.sum, c.requires.room, c.get16-total.ensures)) c.put16.ensures c.put16-2.ensures c.put16-3.ensures c.put16-4.ensures

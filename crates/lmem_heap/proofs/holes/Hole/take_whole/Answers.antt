@@ -19,13 +19,19 @@ pub overflow_sub-total : goal.overflow_sub-total
 overflow_sub-total c = omega (arith, (free-fits _ _ _ _ c.requires.hole c.requires.behind).sum, c.get16-size.ensures, c.get16-total.ensures)
 
 pub overflow_add-result : goal.overflow_add-result
-overflow_add-result c = omega (arith, (free-fits _ _ _ _ c.requires.hole c.requires.behind).inside, c.requires.hole.is.header.most, c.get16-size.ensures)
+overflow_add-result c = omega (
+  arith,
+  (free-fits _ _ _ _ c.requires.hole c.requires.behind).inside,
+  c.requires.hole.is.header.most,
+  c.get16-size.ensures,
+)
 
 pub returns : goal.returns
 returns c =
     let h = c.args.self in
     let f = free-fits _ _ _ _ c.requires.hole c.requires.behind in
     let size = c.get16-size.ensures in
-    let t = whole-taken c.args.block.now c.put16.new.block c.put16-2.new.block h.link h.at h.end c.get16-size.result c.get16-next.result _ c.requires.hole c.requires.behind size c.get16-next.ensures (omega arith)
+    let t = whole-taken c.args.block.now c.put16.new.block c.put16-2.new.block h.link h.at h.end c.get16-size.result
+    c.get16-next.result _ c.requires.hole c.requires.behind size c.get16-next.ensures (omega arith)
     (omega (arith, f.sum, size, c.get16-total.ensures)) c.put16.ensures c.put16-2.ensures in
     record { wider = t.0; place = (refl, refl, ap (λ x. h.end + x) size); apart = t.1 }

@@ -23,7 +23,8 @@ returns-then-has-size-clause-room c = record {
 
 pub returns-clause-room : goal.returns-clause-room
 returns-clause-room c =
-    let w = c.take.ensures.wider in let p = c.take.ensures.place in
+    let w = c.take.ensures.wider in
+    let p = c.take.ensures.place in
     rw (p.0, p.1) (record {
       beside = w.beside;
       room = omega (arith, p.1, p.2, c.requires.hole.is.order);

@@ -16,10 +16,14 @@ not-there s h name is has there = (let yes : IsTrue false = has (subst (λ (n : 
 
 pub returns-in_default : goal.returns-in_default
 returns-in_default g c =
-    let d = g.D.Device in let now = c.args.self.now in let s = c.args.blocks.now in let h = c.args.handle in
+    let d = g.D.Device in
+    let now = c.args.self.now in
+    let s = c.args.blocks.now in
+    let h = c.args.handle in
     let none : held_at now h ≡ None = sym c.in_default.ensures.held in
     record {
-      brings = nothing-brings d.medium error.NoRoom error.Disk h (Err error.BadHandle) now s c.requires (not-changed s h) (λ is. absurd cc) (λ is. absurd cc);
+      brings = nothing-brings d.medium error.NoRoom error.Disk h (Err error.BadHandle) now s c.requires (not-changed s h)
+          (λ is. absurd cc) (λ is. absurd cc);
       bad_handle = ((λ is. none), (λ is. refl));
       known = λ there. absurd (listed-there d.medium now s s h c.requires there none);
       ok = tt;
@@ -28,7 +32,10 @@ returns-in_default g c =
 
 pub returns-then-has : goal.returns-then-has
 returns-then-has g c =
-    let d = g.D.Device in let now = c.args.self.now in let s = c.args.blocks.now in let h = c.args.handle in
+    let d = g.D.Device in
+    let now = c.args.self.now in
+    let s = c.args.blocks.now in
+    let h = c.args.handle in
     let listed : held_at now h ≡ Some c.in-Some.held = sym c.held.ensures.held ∙ c.in-Some.is in
     let there : IsThere s (vm_slot h) = subst (λ (name : Name). IsThere s (slot_of name)) c.vm.ensures (c.if-has.ensures.0 refl) in
     record {
@@ -49,9 +56,11 @@ fetch-requires g c = record {
 
 pub returns : goal.returns
 returns g c =
-    let now = c.args.self.now in let f = c.fetch.ensures in
+    let now = c.args.self.now in
+    let f = c.fetch.ensures in
     let listed : held_at now c.args.handle ≡ Some c.in-Some.held = sym c.held.ensures.held ∙ c.in-Some.is in
-    let absent : IsThere c.args.blocks.now (vm_slot c.args.handle) → ⊥ = not-there c.args.blocks.now c.args.handle c.vm.result c.vm.ensures c.if-has.ensures.1 in
+    let absent : IsThere c.args.blocks.now (vm_slot c.args.handle) → ⊥ = not-there c.args.blocks.now c.args.handle
+    c.vm.result c.vm.ensures c.if-has.ensures.1 in
     record {
       brings = f.brings;
       bad_handle = ((λ is. absurd (f.known is)), (λ none. (let no = sym none ∙ listed in absurd cc)));

@@ -11,7 +11,11 @@ use Rattle.vm_blocks.proofs.blocks.VmBlocks.make_room.Goals as goal
 
 pub loop-blocks-init : goal.loop-blocks-init
 loop-blocks-init g c =
-    let v = c.args.self.now in let old = c.args.blocks.now in let now = c.discard_for.new.blocks in let but = own_handle c.args.name in let slot = slot_of c.args.name in
+    let v = c.args.self.now in
+    let old = c.args.blocks.now in
+    let now = c.discard_for.new.blocks in
+    let but = own_handle c.args.name in
+    let slot = slot_of c.args.name in
     let e = c.discard_for.ensures in
     let whole : size_of old slot + c.args.size ≡ c.args.size = omega (arith, size_of_none old slot c.requires.absent) in
     record {
@@ -23,12 +27,23 @@ loop-blocks-init g c =
 
 pub loop-blocks-preserved : goal.loop-blocks-preserved
 loop-blocks-preserved g c =
-    let v = c.args.self.now in let old = c.args.blocks.now in let now = c.loop-blocks.blocks in let new = c.discard_one.new.blocks in let i = c.loop-blocks.invariant in
-    let but = own_handle c.args.name in let slot = slot_of c.args.name in let size = c.args.size in let e = c.in-Err.ensures in
+    let v = c.args.self.now in
+    let old = c.args.blocks.now in
+    let now = c.loop-blocks.blocks in
+    let new = c.discard_one.new.blocks in
+    let i = c.loop-blocks.invariant in
+    let but = own_handle c.args.name in
+    let slot = slot_of c.args.name in
+    let size = c.args.size in
+    let e = c.in-Err.ensures in
     let same : c.make.new.self ≡ now = e.err in
-    let one : DiscardsOne v now new but = subst (λ s. DiscardsOne v s new but) same (subst (DiscardsOne v c.make.new.self new) c.own_handle-but.ensures (c.if-not-discard_one.ensures.one refl)) in
-    let thins : Thins v now new but = subst (λ s. Thins v s new but) same (subst (Thins v c.make.new.self new) c.own_handle-but.ensures (c.if-not-discard_one.ensures.thins refl)) in
-    let no_room : HasNoRoom now slot size = subst (λ s. HasNoRoom s slot size) same (refused-for-room size c.in-Err.field-0 c.make.result (HasNoRoom c.make.new.self slot size) c.in-Err.is c.requires.size.1 c.make.ensures.no_room c.make.ensures.too_big) in
+    let one : DiscardsOne v now new but = subst (λ s. DiscardsOne v s new but) same
+    (subst (DiscardsOne v c.make.new.self new) c.own_handle-but.ensures (c.if-not-discard_one.ensures.one refl)) in
+    let thins : Thins v now new but = subst (λ s. Thins v s new but) same
+    (subst (Thins v c.make.new.self new) c.own_handle-but.ensures (c.if-not-discard_one.ensures.thins refl)) in
+    let no_room : HasNoRoom now slot size = subst (λ s. HasNoRoom s slot size) same
+    (refused-for-room size c.in-Err.field-0 c.make.result (HasNoRoom c.make.new.self slot size) c.in-Err.is
+    c.requires.size.1 c.make.ensures.no_room c.make.ensures.too_big) in
     record {
       tied = tied-thins g.D.Device.medium v now new but i.tied thins;
       thins = thins-more v old now new but i.thins thins;
@@ -37,11 +52,13 @@ loop-blocks-preserved g c =
     }
 
 pub loop-blocks-smaller : goal.loop-blocks-smaller
-loop-blocks-smaller g c = subst (λ s. there_count c.discard_one.new.blocks < there_count s) c.in-Err.ensures.err (c.if-not-discard_one.ensures.fewer refl)
+loop-blocks-smaller g c = subst (λ s. there_count c.discard_one.new.blocks < there_count s) c.in-Err.ensures.err
+    (c.if-not-discard_one.ensures.fewer refl)
 
 pub returns-in-Ok : goal.returns-in-Ok
 returns-in-Ok g c =
-    let now = c.loop-blocks.blocks in let i = c.loop-blocks.invariant in
+    let now = c.loop-blocks.blocks in
+    let i = c.loop-blocks.invariant in
     record {
       ok = record {
         mid = now;
@@ -56,11 +73,19 @@ returns-in-Ok g c =
 
 pub returns-then-not-discard_one : goal.returns-then-not-discard_one
 returns-then-not-discard_one g c =
-    let v = c.args.self.now in let old = c.args.blocks.now in let now = c.loop-blocks.blocks in let new = c.discard_one.new.blocks in let i = c.loop-blocks.invariant in
-    let name = c.args.name in let slot = slot_of name in let size = c.args.size in
+    let v = c.args.self.now in
+    let old = c.args.blocks.now in
+    let now = c.loop-blocks.blocks in
+    let new = c.discard_one.new.blocks in
+    let i = c.loop-blocks.invariant in
+    let name = c.args.name in
+    let slot = slot_of name in
+    let size = c.args.size in
     let same : c.make.new.self ≡ now = c.in-Err.ensures.err in
     let none = c.if-not-discard_one.ensures.none refl in
-    let no_room : HasNoRoom now slot size = subst (λ s. HasNoRoom s slot size) same (refused-for-room size c.in-Err.field-0 c.make.result (HasNoRoom c.make.new.self slot size) c.in-Err.is c.requires.size.1 c.make.ensures.no_room c.make.ensures.too_big) in
+    let no_room : HasNoRoom now slot size = subst (λ s. HasNoRoom s slot size) same
+    (refused-for-room size c.in-Err.field-0 c.make.result (HasNoRoom c.make.new.self slot size) c.in-Err.is
+    c.requires.size.1 c.make.ensures.no_room c.make.ensures.too_big) in
     record {
       ok = tt;
       err = lacks-room v old now c.make.new.self new name size c.own_handle-but.result c.own_handle-but.ensures same i.thins no_room none;

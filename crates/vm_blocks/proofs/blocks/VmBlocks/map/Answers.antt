@@ -7,5 +7,6 @@ use Rattle.vm_blocks.proofs.blocks.VmBlocks.map.Goals as goal
 
 pub returns-clause-row : goal.returns-clause-row
 returns-clause-row g c = λ s tied.
-    let d = g.D.Device in let now = c.args.self.now in
+    let d = g.D.Device in
+    let now = c.args.self.now in
     subst (λ (w : VmState g.row.D.Denot). DoesRow d.medium vgetmap (Ok w.map_block) now s now s) (sym c.self.view_is) (map-row d.medium now s tied)

@@ -17,7 +17,10 @@ use Rattle.vm_blocks.proofs.blocks.VmBlocks.vnew.Goals as goal
 -- it is locked once
 taken : (g : Over) (c : After-lock g) → c.lock.new.self ≡ with_locks c.vnew_unlocked.new.blocks (vm_slot c.in-Ok.h) 1
 taken g c =
-    let t = c.vnew_unlocked.new.blocks in let u = c.lock.new.self in let h = c.in-Ok.h in let e = c.lock.ensures in
+    let t = c.vnew_unlocked.new.blocks in
+    let u = c.lock.new.self in
+    let h = c.in-Ok.h in
+    let e = c.lock.ensures in
     let adds = c.in-Ok.ensures.ok in
     let slot : slot_of c.vm.result ≡ vm_slot h = ap slot_of c.vm.ensures in
     let none : locks_of t (slot_of c.vm.result) ≡ 0 = ap (locks_of t) slot ∙ locks-new t h 0 adds.is in
@@ -31,8 +34,15 @@ made-not h why e = absurd cc
 
 pub returns-in-Ok : goal.returns-in-Ok
 returns-in-Ok g c =
-    let d = g.D.Device in let now = c.args.self.now in let s = c.args.blocks.now in let w = c.vnew_unlocked.new.self in let t = c.vnew_unlocked.new.blocks in let u = c.lock.new.self in
-    let h = c.in-Ok.h in let adds = c.in-Ok.ensures.ok in let low = adds.lowest in
+    let d = g.D.Device in
+    let now = c.args.self.now in
+    let s = c.args.blocks.now in
+    let w = c.vnew_unlocked.new.self in
+    let t = c.vnew_unlocked.new.blocks in
+    let u = c.lock.new.self in
+    let h = c.in-Ok.h in
+    let adds = c.in-Ok.ensures.ok in
+    let low = adds.lowest in
     let is = taken g (goal.at.returns-in-Ok g c).After-lock in
     let more = locked-adds now w s t u c.args.uid h adds is in
     let word : c.args.uid < 65536 = omega arith in
@@ -41,7 +51,8 @@ returns-in-Ok g c =
       ok = more;
       no_handle = ((λ none. absurd (made-not h NoHandle none)), (λ all. absurd (not-all now h low all)));
       no_room = λ none. absurd (made-not h NoRoom none);
-      wanted = λ k other. locked-remain s t u k 64 1 other.handle (is ∙ ap (λ j. with_locks t (vm_slot j) 1) (lowest-one now h k low other)) (c.vnew_unlocked.ensures.wanted k other);
+      wanted = λ k other. locked-remain s t u k 64 1 other.handle (is ∙ ap (λ j. with_locks t (vm_slot j) 1) (lowest-one now h k low other))
+          (c.vnew_unlocked.ensures.wanted k other);
       stays = λ none. absurd (made-not h NoHandle none);
       err = tt;
       row = new-done d.medium now s c.requires c.args.uid 1 h w u word (omega arith) more;
@@ -49,7 +60,12 @@ returns-in-Ok g c =
 
 pub returns-in-Err : goal.returns-in-Err
 returns-in-Err g c =
-    let d = g.D.Device in let now = c.args.self.now in let s = c.args.blocks.now in let w = c.vnew_unlocked.new.self in let t = c.vnew_unlocked.new.blocks in let e = c.in-Err.ensures in
+    let d = g.D.Device in
+    let now = c.args.self.now in
+    let s = c.args.blocks.now in
+    let w = c.vnew_unlocked.new.self in
+    let t = c.vnew_unlocked.new.blocks in
+    let e = c.in-Err.ensures in
     let word : c.args.uid < 65536 = omega arith in
     record {
       tied = e.tied;

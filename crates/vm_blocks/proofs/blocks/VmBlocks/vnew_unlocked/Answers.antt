@@ -20,7 +20,9 @@ made-not h why e = absurd cc
 
 pub returns-in_default : goal.returns-in_default
 returns-in_default g c =
-    let d = g.D.Device in let now = c.args.self.now in let s = c.args.blocks.now in
+    let d = g.D.Device in
+    let now = c.args.self.now in
+    let s = c.args.blocks.now in
     let all : AllListed now = c.in_default.ensures.none in
     record {
       tied = c.requires;
@@ -38,8 +40,13 @@ make_heap-requires g c = let low = c.in-Some.ensures.found in record { tied = c.
 
 pub returns-in-Err : goal.returns-in-Err
 returns-in-Err g c =
-    let d = g.D.Device in let now = c.args.self.now in let s = c.args.blocks.now in let t = c.make_heap.new.blocks in let h = c.in-Some.h in
-    let low = c.in-Some.ensures.found in let lacks = c.in-Err.ensures.err in
+    let d = g.D.Device in
+    let now = c.args.self.now in
+    let s = c.args.blocks.now in
+    let t = c.make_heap.new.blocks in
+    let h = c.in-Some.h in
+    let low = c.in-Some.ensures.found in
+    let lacks = c.in-Err.ensures.err in
     record {
       tied = tied-thins d.medium now s t h c.requires lacks.thins;
       ok = tt;
@@ -53,12 +60,19 @@ returns-in-Err g c =
 
 pub returns : goal.returns
 returns g c =
-    let d = g.D.Device in let now = c.args.self.now in let s = c.args.blocks.now in let w = c.put.new.self in let t = c.make_heap.new.blocks in let h = c.in-Some.h in
-    let low = c.in-Some.ensures.found in let made = c.in-Ok.ensures in
+    let d = g.D.Device in
+    let now = c.args.self.now in
+    let s = c.args.blocks.now in
+    let w = c.put.new.self in
+    let t = c.make_heap.new.blocks in
+    let h = c.in-Some.h in
+    let low = c.in-Some.ensures.found in
+    let made = c.in-Ok.ensures in
     let word : c.args.uid < 65536 = omega arith in
     let adds : Adds now w s t c.args.uid 0 h = record { lowest = low; state = c.put.ensures; keeps = made.keeps; is = made.ok } in
     record {
-      tied = subst (λ x. IsTied d.medium x t) (sym c.put.ensures) (added-tied d.medium now s t h c.args.uid low.handle c.requires low.free made.keeps made.ok);
+      tied = subst (λ x. IsTied d.medium x t) (sym c.put.ensures)
+          (added-tied d.medium now s t h c.args.uid low.handle c.requires low.free made.keeps made.ok);
       ok = adds;
       no_handle = ((λ is. absurd (made-not h NoHandle is)), (λ all. absurd (not-all now h low all)));
       no_room = λ is. absurd (made-not h NoRoom is);

@@ -12,7 +12,12 @@ use Rattle.vm_blocks.proofs.blocks.VmBlocks.vunlock.Goals as goal
 
 pub returns : goal.returns
 returns g c =
-    let d = g.D.Device in let v = c.args.self.now in let s = c.args.blocks.now in let t = c.unlock.new.self in let h = c.args.handle in let q = c.requires in
+    let d = g.D.Device in
+    let v = c.args.self.now in
+    let s = c.args.blocks.now in
+    let t = c.unlock.new.self in
+    let h = c.args.handle in
+    let q = c.requires in
     let less : t ≡ with_lock_less s (vm_slot h) = c.unlock.ensures ∙ ap (λ n. with_lock_less s (slot_of n)) c.vm.ensures in
     let there = there_of_locks s (vm_slot h) q.locked in
     record {

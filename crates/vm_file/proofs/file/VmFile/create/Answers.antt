@@ -8,11 +8,22 @@ use Rattle.vm_file.proofs.file.VmFile.create.Goals as goal
 
 pub invariant_of-result : goal.invariant_of-result
 invariant_of-result g c =
-    let d = g.D.Device in let r = c.in-Ok.ensures in
-    let F : Directory → Directory → FileState g.row.D.Denot = λ x y. record { device = c.write_new.new.device; area = c.args.area; second = false; sure = true; current = x; saved = y } in
+    let d = g.D.Device in
+    let r = c.in-Ok.ensures in
+    let F : Directory → Directory → FileState g.row.D.Denot = λ x y. record {
+      device = c.write_new.new.device;
+      area =
+          c.args.area;
+      second = false;
+      sure = true;
+      current = x;
+      saved = y;
+    } in
     let A : Directory → Type 0 = λ x. IsSound d.medium (F x (listed empty_contents)) in
     let B : Directory → Type 0 = λ y. IsSound d.medium (F c.new.result y) in
-    subst B (sym c.new-in-Ok.ensures) (subst A (sym c.new.ensures) (made_sound d.medium c.args.device c.write_new.new.device c.args.area c.requires.area c.requires.room r.writes.was r.writes.long r.bytes r.durable))
+    subst B (sym c.new-in-Ok.ensures)
+    (subst A (sym c.new.ensures) (made_sound d.medium c.args.device c.write_new.new.device c.args.area c.requires.area
+    c.requires.room r.writes.was r.writes.long r.bytes r.durable))
 
 pub returns-in-Ok-clause-found : goal.returns-in-Ok-clause-found
 returns-in-Ok-clause-found g c = λ h.

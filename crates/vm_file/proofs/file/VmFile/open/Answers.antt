@@ -9,15 +9,35 @@ use Rattle.vm_file.proofs.file.VmFile.open.Goals as goal
 
 pub invariant_of-result : goal.invariant_of-result
 invariant_of-result g c =
-    let d = g.D.Device in let r = c.in-Ok.ensures in let opened = c.in-Ok.field-0 in
-    let file : Directory → FileState g.row.D.Denot = λ current. record { device = c.read_file.new.device; area = opened.area; second = opened.second; sure = true; current = current; saved = opened.saved } in
+    let d = g.D.Device in
+    let r = c.in-Ok.ensures in
+    let opened = c.in-Ok.field-0 in
+    let file : Directory → FileState g.row.D.Denot = λ current. record {
+      device = c.read_file.new.device;
+      area =
+          opened.area;
+      second = opened.second;
+      sure = true;
+      current = current;
+      saved = opened.saved;
+    } in
     subst (λ (current : Directory). IsSound d.medium (file current)) (sym c.of.ensures)
     (opens_sound d.medium c.args.device c.read_file.new.device opened r.reads r.exact r.legal r.durable)
 
 pub returns-in-Ok-clause-exact : goal.returns-in-Ok-clause-exact
 returns-in-Ok-clause-exact g c = λ h.
-    let d = g.D.Device in let r = c.in-Ok.ensures in let opened = c.in-Ok.field-0 in
-    let file : Directory → FileState g.row.D.Denot = λ current. record { device = c.read_file.new.device; area = opened.area; second = opened.second; sure = true; current = current; saved = opened.saved } in
+    let d = g.D.Device in
+    let r = c.in-Ok.ensures in
+    let opened = c.in-Ok.field-0 in
+    let file : Directory → FileState g.row.D.Denot = λ current. record {
+      device = c.read_file.new.device;
+      area =
+          opened.area;
+      second = opened.second;
+      sure = true;
+      current = current;
+      saved = opened.saved;
+    } in
     let answer : FileState g.row.D.Denot → Result File ℕ = λ f. Ok (file_of d.medium.image f) in
     subst (λ (current : Directory). file_at (d.medium.image c.args.device) ≡ answer (file current)) (sym c.of.ensures)
     (opens d.medium c.args.device c.read_file.new.device opened r.reads.same (r.exact h))

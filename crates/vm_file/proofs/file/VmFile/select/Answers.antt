@@ -14,7 +14,15 @@ use Rattle.vm_file.proofs.file.VmFile.select.Goals as goal
 
 -- the area was not written whole
 torn : (g : Over) (c : goal.In-Err g) → let d = g.D.Device in let i = c.self.inside in
-    TornFile d.medium (let f : FileState g.row.D.Denot = record { device = i.device; area = i.area; second = i.second; sure = i.sure; current = i.current; saved = i.saved } in f) c.self.invariant
+    TornFile d.medium (let f : FileState g.row.D.Denot = record {
+      device = i.device;
+      area = i.area;
+      second =
+          i.second;
+      sure = i.sure;
+      current = i.current;
+      saved = i.saved;
+    } in f) c.self.invariant
     (let S : FileState g.row.D.Denot → Type 0 = λ f. f.sure ≡ true in subst S (sym c.self.view_is) c.requires.sure) c.write_durably.new.device
 torn g c =
     let d = g.D.Device in
@@ -28,29 +36,68 @@ invariant_of-self g c = (torn g c).legal
 
 pub returns-in-Err-clause-pair : goal.returns-in-Err-clause-pair
 returns-in-Err-clause-pair g c =
-    let d = g.D.Device in let i = c.self.inside in
-    let now : FileState g.row.D.Denot = record { device = c.write_durably.new.device; area = i.area; second = i.second; sure = i.sure; current = i.current; saved = i.saved } in
+    let d = g.D.Device in
+    let i = c.self.inside in
+    let now : FileState g.row.D.Denot = record {
+      device = c.write_durably.new.device;
+      area = i.area;
+      second =
+          i.second;
+      sure = i.sure;
+      current = i.current;
+      saved = i.saved;
+    } in
     let G : FileState g.row.D.Denot → Type 0 = λ f. d.medium.honest f.device → pair_of d.medium.image now ≡ pair_of d.medium.image f in
     subst G c.self.view_is (torn g c).pair
 
 pub returns-in-Err-clause-either : goal.returns-in-Err-clause-either
 returns-in-Err-clause-either g c =
-    let d = g.D.Device in let i = c.self.inside in
-    let now : FileState g.row.D.Denot = record { device = c.write_durably.new.device; area = i.area; second = i.second; sure = i.sure; current = i.current; saved = i.saved } in
-    let G : FileState g.row.D.Denot → Type 0 = λ f. d.medium.honest f.device → Passes d.medium.may_have_left f.device c.write_durably.new.device (FindsEither d.medium.image f now) in
+    let d = g.D.Device in
+    let i = c.self.inside in
+    let now : FileState g.row.D.Denot = record {
+      device = c.write_durably.new.device;
+      area = i.area;
+      second =
+          i.second;
+      sure = i.sure;
+      current = i.current;
+      saved = i.saved;
+    } in
+    let G : FileState g.row.D.Denot → Type 0 = λ f. d.medium.honest f.device
+    → Passes d.medium.may_have_left f.device c.write_durably.new.device (FindsEither d.medium.image f now) in
     subst G c.self.view_is (torn g c).either
 
 pub returns-in-Err-clause-stop : goal.returns-in-Err-clause-stop
 returns-in-Err-clause-stop g c =
-    let d = g.D.Device in let i = c.self.inside in
-    let now : FileState g.row.D.Denot = record { device = c.write_durably.new.device; area = i.area; second = i.second; sure = i.sure; current = i.current; saved = i.saved } in
-    let G : FileState g.row.D.Denot → Type 0 = λ f. d.medium.honest f.device → (x : List ℕ) → d.medium.may_leave c.write_durably.new.device x → Finds d.medium.image now x in
+    let d = g.D.Device in
+    let i = c.self.inside in
+    let now : FileState g.row.D.Denot = record {
+      device = c.write_durably.new.device;
+      area = i.area;
+      second =
+          i.second;
+      sure = i.sure;
+      current = i.current;
+      saved = i.saved;
+    } in
+    let G : FileState g.row.D.Denot → Type 0 = λ f. d.medium.honest f.device → (x : List ℕ)
+    → d.medium.may_leave c.write_durably.new.device x → Finds d.medium.image now x in
     subst G c.self.view_is (torn g c).finds
 
 -- the area was written, and the selector was not
-unsure : (g : Over) (c : goal.After-self-in-Err-write_durably-1 g) → let d = g.D.Device in let i = c.self.inside in let x = current_after c.args.how c.args.cur.now i.saved in let y = saved_after c.args.how c.args.cur.now i.saved in
-    UnsureFile d.medium (let f : FileState g.row.D.Denot = record { device = i.device; area = i.area; second = i.second; sure = i.sure; current = i.current; saved = i.saved } in f) c.self.invariant
-    (let S : FileState g.row.D.Denot → Type 0 = λ f. f.sure ≡ true in subst S (sym c.self.view_is) c.requires.sure) c.write_durably-2.new.device (pair_in x y c.args.bytes.now)
+unsure : (g : Over) (c : goal.After-self-in-Err-write_durably-1 g) → let d = g.D.Device in let i = c.self.inside in
+    let x = current_after c.args.how c.args.cur.now i.saved in let y = saved_after c.args.how c.args.cur.now i.saved in
+    UnsureFile d.medium (let f : FileState g.row.D.Denot = record {
+      device = i.device;
+      area = i.area;
+      second =
+          i.second;
+      sure = i.sure;
+      current = i.current;
+      saved = i.saved;
+    } in f) c.self.invariant
+    (let S : FileState g.row.D.Denot → Type 0 = λ f. f.sure ≡ true in subst S (sym c.self.view_is) c.requires.sure)
+    c.write_durably-2.new.device (pair_in x y c.args.bytes.now)
 unsure g c =
     let d = g.D.Device in
     let i = c.self.inside in
@@ -58,12 +105,15 @@ unsure g c =
     let x = current_after c.args.how c.args.cur.now i.saved in
     let y = saved_after c.args.how c.args.cur.now i.saved in
     let A : FileState g.row.D.Denot → Type 0 = λ f. n ≤ f.area in
-    let S : FileState g.row.D.Denot → Type 0 = λ f. d.medium.honest f.device → Spells (current_after c.args.how c.args.cur.now f.saved) (saved_after c.args.how c.args.cur.now f.saved)
+    let S : FileState g.row.D.Denot → Type 0 = λ f. d.medium.honest f.device
+    → Spells (current_after c.args.how c.args.cur.now f.saved) (saved_after c.args.how c.args.cur.now f.saved)
     (pair_in (current_after c.args.how c.args.cur.now f.saved) (saved_after c.args.how c.args.cur.now f.saved) c.args.bytes.now) c.args.bytes.now in
     let W : ℕ → Type 0 = λ k. WritesOnly d.medium k n i.device c.write_durably.new.device in
     unsure_file d.medium _ c.self.invariant _ c.write_durably.new.device n (subst A (sym c.self.view_is) c.requires.fits.1)
-    (subst W c.base_of-base.ensures.exact c.in-Ok.ensures.writes) c.args.bytes.now x y (pair_in x y c.args.bytes.now) refl (omega (arith, c.in-Ok.ensures.within, c.base_of-base.ensures.exact))
-    (subst S (sym c.self.view_is) c.requires.spelled) (λ h. c.in-Ok.ensures.written h ∙ ap (λ k. with_part (d.medium.image i.device) k c.args.bytes.now) c.base_of-base.ensures.exact) c.in-Ok.ensures.durable
+    (subst W c.base_of-base.ensures.exact c.in-Ok.ensures.writes) c.args.bytes.now x y (pair_in x y c.args.bytes.now)
+    refl (omega (arith, c.in-Ok.ensures.within, c.base_of-base.ensures.exact))
+    (subst S (sym c.self.view_is) c.requires.spelled) (λ h. c.in-Ok.ensures.written h
+    ∙ ap (λ k. with_part (d.medium.image i.device) k c.args.bytes.now) c.base_of-base.ensures.exact) c.in-Ok.ensures.durable
     c.write_durably-2.new.device c.write_durably-2.ensures.writes
 
 pub invariant_of-self-in-Err-write_durably : goal.invariant_of-self-in-Err-write_durably
@@ -71,36 +121,86 @@ invariant_of-self-in-Err-write_durably g c = (unsure g c).legal
 
 pub returns-in-Err-write_durably-clause-pair : goal.returns-in-Err-write_durably-clause-pair
 returns-in-Err-write_durably-clause-pair g c =
-    let d = g.D.Device in let i = c.self.inside in
-    let now : FileState g.row.D.Denot = record { device = c.write_durably-2.new.device; area = i.area; second = i.second; sure = false; current = i.current; saved = i.saved } in
+    let d = g.D.Device in
+    let i = c.self.inside in
+    let now : FileState g.row.D.Denot = record {
+      device = c.write_durably-2.new.device;
+      area = i.area;
+      second =
+          i.second;
+      sure = false;
+      current = i.current;
+      saved = i.saved;
+    } in
     let G : FileState g.row.D.Denot → Type 0 = λ f. d.medium.honest f.device → pair_of d.medium.image now ≡ pair_of d.medium.image f in
     subst G c.self.view_is (unsure g c).pair
 
 pub returns-in-Err-write_durably-clause-other : goal.returns-in-Err-write_durably-clause-other
 returns-in-Err-write_durably-clause-other g c =
-    let d = g.D.Device in let i = c.self.inside in
-    let now : FileState g.row.D.Denot = record { device = c.write_durably-2.new.device; area = i.area; second = i.second; sure = false; current = i.current; saved = i.saved } in
-    let G : FileState g.row.D.Denot → Type 0 = λ f. d.medium.honest f.device → IsOther d.medium.image now (pair_in (current_after c.args.how c.args.cur.now f.saved) (saved_after c.args.how c.args.cur.now f.saved) c.args.bytes.now) in
+    let d = g.D.Device in
+    let i = c.self.inside in
+    let now : FileState g.row.D.Denot = record {
+      device = c.write_durably-2.new.device;
+      area = i.area;
+      second =
+          i.second;
+      sure = false;
+      current = i.current;
+      saved = i.saved;
+    } in
+    let G : FileState g.row.D.Denot → Type 0 = λ f. d.medium.honest f.device
+    → IsOther d.medium.image now (pair_in (current_after c.args.how c.args.cur.now f.saved)
+    (saved_after c.args.how c.args.cur.now f.saved) c.args.bytes.now) in
     λ h _. subst G c.self.view_is (unsure g c).other h
 
 pub returns-in-Err-write_durably-clause-either : goal.returns-in-Err-write_durably-clause-either
 returns-in-Err-write_durably-clause-either g c =
-    let d = g.D.Device in let i = c.self.inside in
-    let now : FileState g.row.D.Denot = record { device = c.write_durably-2.new.device; area = i.area; second = i.second; sure = false; current = i.current; saved = i.saved } in
-    let G : FileState g.row.D.Denot → Type 0 = λ f. d.medium.honest f.device → Passes d.medium.may_have_left f.device c.write_durably-2.new.device (FindsEither d.medium.image f now) in
+    let d = g.D.Device in
+    let i = c.self.inside in
+    let now : FileState g.row.D.Denot = record {
+      device = c.write_durably-2.new.device;
+      area = i.area;
+      second =
+          i.second;
+      sure = false;
+      current = i.current;
+      saved = i.saved;
+    } in
+    let G : FileState g.row.D.Denot → Type 0 = λ f. d.medium.honest f.device
+    → Passes d.medium.may_have_left f.device c.write_durably-2.new.device (FindsEither d.medium.image f now) in
     subst G c.self.view_is (unsure g c).either
 
 pub returns-in-Err-write_durably-clause-stop : goal.returns-in-Err-write_durably-clause-stop
 returns-in-Err-write_durably-clause-stop g c =
-    let d = g.D.Device in let i = c.self.inside in
-    let now : FileState g.row.D.Denot = record { device = c.write_durably-2.new.device; area = i.area; second = i.second; sure = false; current = i.current; saved = i.saved } in
-    let G : FileState g.row.D.Denot → Type 0 = λ f. d.medium.honest f.device → (x : List ℕ) → d.medium.may_leave c.write_durably-2.new.device x → Finds d.medium.image now x in
+    let d = g.D.Device in
+    let i = c.self.inside in
+    let now : FileState g.row.D.Denot = record {
+      device = c.write_durably-2.new.device;
+      area = i.area;
+      second =
+          i.second;
+      sure = false;
+      current = i.current;
+      saved = i.saved;
+    } in
+    let G : FileState g.row.D.Denot → Type 0 = λ f. d.medium.honest f.device → (x : List ℕ)
+    → d.medium.may_leave c.write_durably-2.new.device x → Finds d.medium.image now x in
     subst G c.self.view_is (unsure g c).finds
 
 -- both were written
-selected : (g : Over) (c : goal.After-go_on g) → let d = g.D.Device in let i = c.self.inside in let x = current_after c.args.how c.args.cur.now i.saved in let y = saved_after c.args.how c.args.cur.now i.saved in
-    SelectedFile d.medium (let f : FileState g.row.D.Denot = record { device = i.device; area = i.area; second = i.second; sure = i.sure; current = i.current; saved = i.saved } in f) c.self.invariant
-    (let S : FileState g.row.D.Denot → Type 0 = λ f. f.sure ≡ true in subst S (sym c.self.view_is) c.requires.sure) c.write_durably-2.new.device x y (pair_in x y c.args.bytes.now)
+selected : (g : Over) (c : goal.After-go_on g) → let d = g.D.Device in let i = c.self.inside in
+    let x = current_after c.args.how c.args.cur.now i.saved in let y = saved_after c.args.how c.args.cur.now i.saved in
+    SelectedFile d.medium (let f : FileState g.row.D.Denot = record {
+      device = i.device;
+      area = i.area;
+      second =
+          i.second;
+      sure = i.sure;
+      current = i.current;
+      saved = i.saved;
+    } in f) c.self.invariant
+    (let S : FileState g.row.D.Denot → Type 0 = λ f. f.sure ≡ true in subst S (sym c.self.view_is) c.requires.sure)
+    c.write_durably-2.new.device x y (pair_in x y c.args.bytes.now)
 selected g c =
     let d = g.D.Device in
     let i = c.self.inside in
@@ -108,16 +208,21 @@ selected g c =
     let x = current_after c.args.how c.args.cur.now i.saved in
     let y = saved_after c.args.how c.args.cur.now i.saved in
     let A : FileState g.row.D.Denot → Type 0 = λ f. n ≤ f.area in
-    let S : FileState g.row.D.Denot → Type 0 = λ f. d.medium.honest f.device → Spells (current_after c.args.how c.args.cur.now f.saved) (saved_after c.args.how c.args.cur.now f.saved)
+    let S : FileState g.row.D.Denot → Type 0 = λ f. d.medium.honest f.device
+    → Spells (current_after c.args.how c.args.cur.now f.saved) (saved_after c.args.how c.args.cur.now f.saved)
     (pair_in (current_after c.args.how c.args.cur.now f.saved) (saved_after c.args.how c.args.cur.now f.saved) c.args.bytes.now) c.args.bytes.now in
     let W : ℕ → Type 0 = λ k. WritesOnly d.medium k n i.device c.write_durably.new.device in
     let L : FileState g.row.D.Denot → Type 0 = λ f. n ≡ length_after c.args.how c.args.cur.now f.saved in
-    let r = c.in-Ok-write_durably.ensures in let on = c.in-Ok.ensures.writes.stays in
+    let r = c.in-Ok-write_durably.ensures in
+    let on = c.in-Ok.ensures.writes.stays in
     selected_file d.medium _ c.self.invariant _ c.write_durably.new.device n (subst A (sym c.self.view_is) c.requires.fits.1)
-    (subst W c.base_of-base.ensures.exact c.in-Ok.ensures.writes) c.args.bytes.now x y (pair_in x y c.args.bytes.now) refl (omega (arith, c.in-Ok.ensures.within, c.base_of-base.ensures.exact))
-    (subst S (sym c.self.view_is) c.requires.spelled) (λ h. c.in-Ok.ensures.written h ∙ ap (λ k. with_part (d.medium.image i.device) k c.args.bytes.now) c.base_of-base.ensures.exact) c.in-Ok.ensures.durable
+    (subst W c.base_of-base.ensures.exact c.in-Ok.ensures.writes) c.args.bytes.now x y (pair_in x y c.args.bytes.now)
+    refl (omega (arith, c.in-Ok.ensures.within, c.base_of-base.ensures.exact))
+    (subst S (sym c.self.view_is) c.requires.spelled) (λ h. c.in-Ok.ensures.written h
+    ∙ ap (λ k. with_part (d.medium.image i.device) k c.args.bytes.now) c.base_of-base.ensures.exact) c.in-Ok.ensures.durable
     c.write_durably-2.new.device c.write_durably-2.ensures.writes
-    c.selector_of.result c.selector_of.ensures.names (λ h. r.written (on h)) (λ h. r.durable (on h)) (current_legal c.args.how c.args.cur.now i.saved c.requires.legal c.self.invariant.saved)
+    c.selector_of.result c.selector_of.ensures.names (λ h. r.written (on h)) (λ h. r.durable (on h))
+    (current_legal c.args.how c.args.cur.now i.saved c.requires.legal c.self.invariant.saved)
     (saved_legal c.args.how c.args.cur.now i.saved c.requires.legal c.self.invariant.saved) (sym (subst L (sym c.self.view_is) c.requires.fits.0))
 
 -- what holds with the directories to be kept holds with those that are kept
@@ -127,74 +232,124 @@ module _ (x y : Directory) (P : Directory → Directory → Type 0) where
 
 pub invariant_of-self-in-Ok-write_durably : goal.invariant_of-self-in-Ok-write_durably
 invariant_of-self-in-Ok-write_durably g c =
-    let d = g.D.Device in let i = c.self.inside in
-    let now : Directory → Directory → FileState g.row.D.Denot = λ a b. record { device = c.write_durably-2.new.device; area = i.area; second = not i.second; sure = i.sure; current = a; saved = b } in
-    kept _ _ (λ a b. IsSound d.medium (now a b)) c.go_on.new.current c.go_on.new.saved c.go_on.ensures.current c.go_on.ensures.saved (selected g c).legal
+    let d = g.D.Device in
+    let i = c.self.inside in
+    let now : Directory → Directory → FileState g.row.D.Denot =
+    λ a b. record { device = c.write_durably-2.new.device; area = i.area; second = not i.second; sure = i.sure; current = a; saved = b } in
+    kept _ _ (λ a b. IsSound d.medium (now a b)) c.go_on.new.current c.go_on.new.saved c.go_on.ensures.current
+    c.go_on.ensures.saved (selected g c).legal
 
 pub returns-in-Ok-write_durably-clause-pair : goal.returns-in-Ok-write_durably-clause-pair
 returns-in-Ok-write_durably-clause-pair g c =
-    let d = g.D.Device in let i = c.self.inside in
-    let now : Directory → Directory → FileState g.row.D.Denot = λ a b. record { device = c.write_durably-2.new.device; area = i.area; second = not i.second; sure = i.sure; current = a; saved = b } in
-    let G : FileState g.row.D.Denot → Type 0 = λ f. d.medium.honest f.device → pair_of d.medium.image (now c.go_on.new.current c.go_on.new.saved) ≡ (pair_in (current_after c.args.how c.args.cur.now f.saved) (saved_after c.args.how c.args.cur.now f.saved) c.args.bytes.now) in
+    let d = g.D.Device in
+    let i = c.self.inside in
+    let now : Directory → Directory → FileState g.row.D.Denot =
+    λ a b. record { device = c.write_durably-2.new.device; area = i.area; second = not i.second; sure = i.sure; current = a; saved = b } in
+    let G : FileState g.row.D.Denot → Type 0 = λ f. d.medium.honest f.device
+    → pair_of d.medium.image (now c.go_on.new.current c.go_on.new.saved) ≡ (pair_in (current_after c.args.how c.args.cur.now f.saved)
+    (saved_after c.args.how c.args.cur.now f.saved) c.args.bytes.now) in
     let q = pair_in (current_after c.args.how c.args.cur.now i.saved) (saved_after c.args.how c.args.cur.now i.saved) c.args.bytes.now in
-    subst G c.self.view_is (λ h. kept _ _ (λ a b. pair_of d.medium.image (now a b) ≡ q) c.go_on.new.current c.go_on.new.saved c.go_on.ensures.current c.go_on.ensures.saved ((selected g c).pair h))
+    subst G c.self.view_is (λ h. kept _ _ (λ a b. pair_of d.medium.image (now a b) ≡ q) c.go_on.new.current
+    c.go_on.new.saved c.go_on.ensures.current c.go_on.ensures.saved ((selected g c).pair h))
 
 pub returns-in-Ok-write_durably-clause-either : goal.returns-in-Ok-write_durably-clause-either
 returns-in-Ok-write_durably-clause-either g c =
-    let d = g.D.Device in let i = c.self.inside in
-    let now : Directory → Directory → FileState g.row.D.Denot = λ a b. record { device = c.write_durably-2.new.device; area = i.area; second = not i.second; sure = i.sure; current = a; saved = b } in
-    let G : FileState g.row.D.Denot → Type 0 = λ f. d.medium.honest f.device → Passes d.medium.may_have_left f.device c.write_durably-2.new.device (FindsEither d.medium.image f (now c.go_on.new.current c.go_on.new.saved)) in
+    let d = g.D.Device in
+    let i = c.self.inside in
+    let now : Directory → Directory → FileState g.row.D.Denot =
+    λ a b. record { device = c.write_durably-2.new.device; area = i.area; second = not i.second; sure = i.sure; current = a; saved = b } in
+    let G : FileState g.row.D.Denot → Type 0 = λ f. d.medium.honest f.device
+    → Passes d.medium.may_have_left f.device c.write_durably-2.new.device
+    (FindsEither d.medium.image f (now c.go_on.new.current c.go_on.new.saved)) in
     subst G c.self.view_is
     (λ h. kept _ _ (λ a b. Passes d.medium.may_have_left i.device c.write_durably-2.new.device
-    (FindsEither d.medium.image (let f : FileState g.row.D.Denot = record { device = i.device; area = i.area; second = i.second; sure = i.sure; current = i.current; saved = i.saved } in f) (now a b))) c.go_on.new.current c.go_on.new.saved c.go_on.ensures.current c.go_on.ensures.saved ((selected g c).either h))
+    (FindsEither d.medium.image (let f : FileState g.row.D.Denot =
+    record { device = i.device; area = i.area; second = i.second; sure = i.sure; current = i.current; saved = i.saved } in f) (now a b)))
+    c.go_on.new.current c.go_on.new.saved c.go_on.ensures.current c.go_on.ensures.saved ((selected g c).either h))
 
 pub returns-in-Ok-write_durably-clause-stop : goal.returns-in-Ok-write_durably-clause-stop
 returns-in-Ok-write_durably-clause-stop g c =
-    let d = g.D.Device in let i = c.self.inside in
-    let now : Directory → Directory → FileState g.row.D.Denot = λ a b. record { device = c.write_durably-2.new.device; area = i.area; second = not i.second; sure = i.sure; current = a; saved = b } in
-    let G : FileState g.row.D.Denot → Type 0 = λ f. d.medium.honest f.device → (z : List ℕ) → d.medium.may_leave c.write_durably-2.new.device z → Finds d.medium.image (now c.go_on.new.current c.go_on.new.saved) z in
-    subst G c.self.view_is (λ h z l. kept _ _ (λ a b. Finds d.medium.image (now a b) z) c.go_on.new.current c.go_on.new.saved c.go_on.ensures.current c.go_on.ensures.saved ((selected g c).finds h z l))
+    let d = g.D.Device in
+    let i = c.self.inside in
+    let now : Directory → Directory → FileState g.row.D.Denot =
+    λ a b. record { device = c.write_durably-2.new.device; area = i.area; second = not i.second; sure = i.sure; current = a; saved = b } in
+    let G : FileState g.row.D.Denot → Type 0 = λ f. d.medium.honest f.device → (z : List ℕ)
+    → d.medium.may_leave c.write_durably-2.new.device z → Finds d.medium.image (now c.go_on.new.current c.go_on.new.saved) z in
+    subst G c.self.view_is (λ h z l. kept _ _ (λ a b. Finds d.medium.image (now a b) z) c.go_on.new.current
+    c.go_on.new.saved c.go_on.ensures.current c.go_on.ensures.saved ((selected g c).finds h z l))
 
 pub returns-in-Ok-write_durably-clause-bytes : goal.returns-in-Ok-write_durably-clause-bytes
 returns-in-Ok-write_durably-clause-bytes g c =
-    let d = g.D.Device in let i = c.self.inside in
-    let G : FileState g.row.D.Denot → Type 0 = λ f. d.medium.honest f.device → d.medium.image c.write_durably-2.new.device ≡ image_after d.medium.image c.args.bytes.now f in
+    let d = g.D.Device in
+    let i = c.self.inside in
+    let G : FileState g.row.D.Denot → Type 0 = λ f. d.medium.honest f.device
+    → d.medium.image c.write_durably-2.new.device ≡ image_after d.medium.image c.args.bytes.now f in
     subst G c.self.view_is (λ h. c.in-Ok-write_durably.ensures.written (c.in-Ok.ensures.writes.stays h)
     ∙ ap (λ k. with_part (d.medium.image c.write_durably.new.device) 512 (k ∷ [])) c.selector_of.ensures.value
-    ∙ ap (λ l. with_part l 512 (selector_of (not i.second) ∷ [])) (c.in-Ok.ensures.written h ∙ ap (λ k. with_part (d.medium.image i.device) k c.args.bytes.now) c.base_of-base.ensures.exact))
+    ∙ ap (λ l. with_part l 512 (selector_of (not i.second) ∷ [])) (c.in-Ok.ensures.written h
+    ∙ ap (λ k. with_part (d.medium.image i.device) k c.args.bytes.now) c.base_of-base.ensures.exact))
 
 -- the area was written, in part or whole
 area_torn : (g : Over) (c : goal.In-Err g) → let d = g.D.Device in let i = c.self.inside in
-    d.medium.honest i.device → MayHaveWritten d.medium.image (let f : FileState g.row.D.Denot = record { device = i.device; area = i.area; second = i.second; sure = i.sure; current = i.current; saved = i.saved } in f) i.sure (d.medium.image c.write_durably.new.device)
+    d.medium.honest i.device → MayHaveWritten d.medium.image (let f : FileState g.row.D.Denot =
+    record { device = i.device; area = i.area; second = i.second; sure = i.sure; current = i.current; saved = i.saved } in f)
+    i.sure (d.medium.image c.write_durably.new.device)
 area_torn g c = λ h.
-    let d = g.D.Device in let i = c.self.inside in let n = length c.args.bytes.now in
-    let f : FileState g.row.D.Denot = record { device = i.device; area = i.area; second = i.second; sure = i.sure; current = i.current; saved = i.saved } in
+    let d = g.D.Device in
+    let i = c.self.inside in
+    let n = length c.args.bytes.now in
+    let f : FileState g.row.D.Denot = record {
+      device = i.device;
+      area = i.area;
+      second = i.second;
+      sure =
+          i.sure;
+      current = i.current;
+      saved = i.saved;
+    } in
     let A : FileState g.row.D.Denot → Type 0 = λ x. n ≤ x.area in
     let W : ℕ → Type 0 = λ k. WritesOnly d.medium k n i.device c.write_durably.new.device in
-    written_area d.medium.image f i.sure (d.medium.image c.write_durably.new.device) n (subst A (sym c.self.view_is) c.requires.fits.1) ((subst W c.base_of-base.ensures.exact c.in-Err.ensures.writes).torn h)
+    written_area d.medium.image f i.sure (d.medium.image c.write_durably.new.device) n (subst A (sym c.self.view_is) c.requires.fits.1)
+    ((subst W c.base_of-base.ensures.exact c.in-Err.ensures.writes).torn h)
 
 pub returns-in-Err-clause-torn : goal.returns-in-Err-clause-torn
 returns-in-Err-clause-torn g c =
-    let d = g.D.Device in let i = c.self.inside in
-    let G : FileState g.row.D.Denot → Type 0 = λ f. d.medium.honest f.device → MayHaveWritten d.medium.image f i.sure (d.medium.image c.write_durably.new.device) in
+    let d = g.D.Device in
+    let i = c.self.inside in
+    let G : FileState g.row.D.Denot → Type 0 = λ f. d.medium.honest f.device → MayHaveWritten d.medium.image f i.sure
+    (d.medium.image c.write_durably.new.device) in
     subst G c.self.view_is (area_torn g c)
 
 pub returns-in-Err-write_durably-clause-torn : goal.returns-in-Err-write_durably-clause-torn
 returns-in-Err-write_durably-clause-torn g c =
-    let d = g.D.Device in let i = c.self.inside in let n = length c.args.bytes.now in
-    let f : FileState g.row.D.Denot = record { device = i.device; area = i.area; second = i.second; sure = i.sure; current = i.current; saved = i.saved } in
+    let d = g.D.Device in
+    let i = c.self.inside in
+    let n = length c.args.bytes.now in
+    let f : FileState g.row.D.Denot = record {
+      device = i.device;
+      area = i.area;
+      second = i.second;
+      sure =
+          i.sure;
+      current = i.current;
+      saved = i.saved;
+    } in
     let A : FileState g.row.D.Denot → Type 0 = λ x. n ≤ x.area in
     let W : ℕ → Type 0 = λ k. WritesOnly d.medium k n i.device c.write_durably.new.device in
     let w = subst W c.base_of-base.ensures.exact c.in-Ok.ensures.writes in
-    let G : FileState g.row.D.Denot → Type 0 = λ x. d.medium.honest x.device → MayHaveWritten d.medium.image x false (d.medium.image c.write_durably-2.new.device) in
-    subst G c.self.view_is (λ h. written_both d.medium.image f (d.medium.image c.write_durably.new.device) _ n (subst A (sym c.self.view_is) c.requires.fits.1) (w.torn h) (c.write_durably-2.ensures.writes.torn (w.stays h)))
+    let G : FileState g.row.D.Denot → Type 0 = λ x. d.medium.honest x.device → MayHaveWritten d.medium.image x false
+    (d.medium.image c.write_durably-2.new.device) in
+    subst G c.self.view_is (λ h. written_both d.medium.image f (d.medium.image c.write_durably.new.device) _ n
+    (subst A (sym c.self.view_is) c.requires.fits.1) (w.torn h) (c.write_durably-2.ensures.writes.torn (w.stays h)))
 
 -- what is said of the device is said of it as the file's fields have it
 module _ (g : Over) (before seen : FileState g.row.D.Denot) (same : before ≡ seen) where
-  stays : (new : g.row.D.Denot) → (g.D.Device.medium.honest before.device → g.D.Device.medium.honest new) → g.D.Device.medium.honest seen.device → g.D.Device.medium.honest new
+  stays : (new : g.row.D.Denot) → (g.D.Device.medium.honest before.device → g.D.Device.medium.honest new)
+      → g.D.Device.medium.honest seen.device → g.D.Device.medium.honest new
   stays new is = (let G : FileState g.row.D.Denot → Type 0 = λ f. g.D.Device.medium.honest f.device → g.D.Device.medium.honest new in subst G same is)
 
-  was : (new : g.row.D.Denot) → (g.D.Device.medium.honest new → g.D.Device.medium.honest before.device) → g.D.Device.medium.honest new → g.D.Device.medium.honest seen.device
+  was : (new : g.row.D.Denot) → (g.D.Device.medium.honest new → g.D.Device.medium.honest before.device)
+      → g.D.Device.medium.honest new → g.D.Device.medium.honest seen.device
   was new is = (let G : FileState g.row.D.Denot → Type 0 = λ f. g.D.Device.medium.honest new → g.D.Device.medium.honest f.device in subst G same is)
 
   counted : (P : ℕ → Type 0) → P (g.D.Device.medium.failed before.device) → P (g.D.Device.medium.failed seen.device)
@@ -207,10 +362,12 @@ pub returns-in-Err-clause-was_honest : goal.returns-in-Err-clause-was_honest
 returns-in-Err-clause-was_honest g c = was g _ _ c.self.view_is _ c.in-Err.ensures.writes.was
 
 pub returns-in-Err-write_durably-clause-honest : goal.returns-in-Err-write_durably-clause-honest
-returns-in-Err-write_durably-clause-honest g c = stays g _ _ c.self.view_is _ (λ h. c.in-Err-write_durably.ensures.writes.stays (c.in-Ok.ensures.writes.stays h))
+returns-in-Err-write_durably-clause-honest g c = stays g _ _ c.self.view_is _
+    (λ h. c.in-Err-write_durably.ensures.writes.stays (c.in-Ok.ensures.writes.stays h))
 
 pub returns-in-Err-write_durably-clause-was_honest : goal.returns-in-Err-write_durably-clause-was_honest
-returns-in-Err-write_durably-clause-was_honest g c = was g _ _ c.self.view_is _ (λ h. c.in-Ok.ensures.writes.was (c.in-Err-write_durably.ensures.writes.was h))
+returns-in-Err-write_durably-clause-was_honest g c = was g _ _ c.self.view_is _
+    (λ h. c.in-Ok.ensures.writes.was (c.in-Err-write_durably.ensures.writes.was h))
 
 pub returns-in-Err-write_durably-clause-cause : goal.returns-in-Err-write_durably-clause-cause
 returns-in-Err-write_durably-clause-cause g c =
@@ -223,49 +380,132 @@ returns-in-Err-write_durably-clause-once g c =
     counted g _ _ c.self.view_is F (subst F c.in-Ok.ensures.cause c.in-Err-write_durably.ensures.once)
 
 pub returns-in-Ok-write_durably-clause-honest : goal.returns-in-Ok-write_durably-clause-honest
-returns-in-Ok-write_durably-clause-honest g c = stays g _ _ c.self.view_is _ (λ h. c.in-Ok-write_durably.ensures.writes.stays (c.in-Ok.ensures.writes.stays h))
+returns-in-Ok-write_durably-clause-honest g c = stays g _ _ c.self.view_is _
+    (λ h. c.in-Ok-write_durably.ensures.writes.stays (c.in-Ok.ensures.writes.stays h))
 
 pub returns-in-Ok-write_durably-clause-was_honest : goal.returns-in-Ok-write_durably-clause-was_honest
-returns-in-Ok-write_durably-clause-was_honest g c = was g _ _ c.self.view_is _ (λ h. c.in-Ok.ensures.writes.was (c.in-Ok-write_durably.ensures.writes.was h))
+returns-in-Ok-write_durably-clause-was_honest g c = was g _ _ c.self.view_is _
+    (λ h. c.in-Ok.ensures.writes.was (c.in-Ok-write_durably.ensures.writes.was h))
 
 pub returns-in-Ok-write_durably-clause-done : goal.returns-in-Ok-write_durably-clause-done
 returns-in-Ok-write_durably-clause-done g c =
-    let i = c.self.inside in let w = c.write_durably-2.new.device in
+    let i = c.self.inside in
+    let w = c.write_durably-2.new.device in
     let S : FileState g.row.D.Denot → Type 0 = λ f. f.sure ≡ true in
     let sure : i.sure ≡ true = subst S (sym c.self.view_is) c.requires.sure in
-    let made : FileState g.row.D.Denot = record { device = w; area = i.area; second = not i.second; sure = i.sure; current = c.go_on.new.current; saved = c.go_on.new.saved } in
-    let G : FileState g.row.D.Denot → Type 0 = λ f. made ≡ record { device = w; area = f.area; second = not f.second; sure = true; current = current_after c.args.how c.args.cur.now f.saved; saved = saved_after c.args.how c.args.cur.now f.saved } in
-    subst G c.self.view_is (λ k. record { device = w; area = i.area; second = not i.second; sure = sure k; current = c.go_on.ensures.current k; saved = c.go_on.ensures.saved k })
+    let made : FileState g.row.D.Denot = record {
+      device = w;
+      area = i.area;
+      second = not i.second;
+      sure =
+          i.sure;
+      current = c.go_on.new.current;
+      saved = c.go_on.new.saved;
+    } in
+    let G : FileState g.row.D.Denot → Type 0 = λ f. made ≡ record {
+      device = w;
+      area = f.area;
+      second = not f.second;
+      sure =
+          true;
+      current = current_after c.args.how c.args.cur.now f.saved;
+      saved = saved_after c.args.how c.args.cur.now f.saved;
+    } in
+    subst G c.self.view_is (λ k. record {
+      device = w;
+      area = i.area;
+      second = not i.second;
+      sure = sure k;
+      current =
+          c.go_on.ensures.current k;
+      saved = c.go_on.ensures.saved k;
+    })
 
 pub returns-in-Err-clause-steadily : goal.returns-in-Err-clause-steadily
 returns-in-Err-clause-steadily g c =
-    let d = g.D.Device in let i = c.self.inside in
-    let f : FileState g.row.D.Denot = record { device = i.device; area = i.area; second = i.second; sure = i.sure; current = i.current; saved = i.saved } in
-    let now : FileState g.row.D.Denot = record { device = c.write_durably.new.device; area = i.area; second = i.second; sure = i.sure; current = i.current; saved = i.saved } in
+    let d = g.D.Device in
+    let i = c.self.inside in
+    let f : FileState g.row.D.Denot = record {
+      device = i.device;
+      area = i.area;
+      second = i.second;
+      sure =
+          i.sure;
+      current = i.current;
+      saved = i.saved;
+    } in
+    let now : FileState g.row.D.Denot = record {
+      device = c.write_durably.new.device;
+      area = i.area;
+      second =
+          i.second;
+      sure = i.sure;
+      current = i.current;
+      saved = i.saved;
+    } in
     let A : FileState g.row.D.Denot → Type 0 = λ x. length c.args.bytes.now ≤ x.area in
     let G : FileState g.row.D.Denot → Type 0 = λ x. Steadily d.medium x now in
     subst G c.self.view_is
-    (area_steadily d.medium f c.base_of-base.result (length c.args.bytes.now) c.base_of-base.ensures.exact (subst A (sym c.self.view_is) c.requires.fits.1) c.write_durably.new.device
+    (area_steadily d.medium f c.base_of-base.result (length c.args.bytes.now) c.base_of-base.ensures.exact
+    (subst A (sym c.self.view_is) c.requires.fits.1) c.write_durably.new.device
     c.in-Err.ensures.writes.long c.in-Err.ensures.steady)
 
 pub returns-in-Err-write_durably-clause-steadily : goal.returns-in-Err-write_durably-clause-steadily
 returns-in-Err-write_durably-clause-steadily g c =
-    let d = g.D.Device in let i = c.self.inside in
-    let f : FileState g.row.D.Denot = record { device = i.device; area = i.area; second = i.second; sure = i.sure; current = i.current; saved = i.saved } in
-    let now : FileState g.row.D.Denot = record { device = c.write_durably-2.new.device; area = i.area; second = i.second; sure = false; current = i.current; saved = i.saved } in
+    let d = g.D.Device in
+    let i = c.self.inside in
+    let f : FileState g.row.D.Denot = record {
+      device = i.device;
+      area = i.area;
+      second = i.second;
+      sure =
+          i.sure;
+      current = i.current;
+      saved = i.saved;
+    } in
+    let now : FileState g.row.D.Denot = record {
+      device = c.write_durably-2.new.device;
+      area = i.area;
+      second =
+          i.second;
+      sure = false;
+      current = i.current;
+      saved = i.saved;
+    } in
     let A : FileState g.row.D.Denot → Type 0 = λ x. length c.args.bytes.now ≤ x.area in
     let G : FileState g.row.D.Denot → Type 0 = λ x. Steadily d.medium x now in
     subst G c.self.view_is
-    (both_steadily d.medium f c.base_of-base.result (length c.args.bytes.now) c.base_of-base.ensures.exact (subst A (sym c.self.view_is) c.requires.fits.1) c.write_durably.new.device
-    c.in-Ok.ensures.writes.long c.in-Ok.ensures.steady c.write_durably-2.new.device c.in-Err-write_durably.ensures.writes.long c.in-Err-write_durably.ensures.steady)
+    (both_steadily d.medium f c.base_of-base.result (length c.args.bytes.now) c.base_of-base.ensures.exact
+    (subst A (sym c.self.view_is) c.requires.fits.1) c.write_durably.new.device
+    c.in-Ok.ensures.writes.long c.in-Ok.ensures.steady c.write_durably-2.new.device c.in-Err-write_durably.ensures.writes.long
+    c.in-Err-write_durably.ensures.steady)
 
 pub returns-in-Ok-write_durably-clause-steadily : goal.returns-in-Ok-write_durably-clause-steadily
 returns-in-Ok-write_durably-clause-steadily g c =
-    let d = g.D.Device in let i = c.self.inside in
-    let f : FileState g.row.D.Denot = record { device = i.device; area = i.area; second = i.second; sure = i.sure; current = i.current; saved = i.saved } in
-    let now : FileState g.row.D.Denot = record { device = c.write_durably-2.new.device; area = i.area; second = not i.second; sure = i.sure; current = c.go_on.new.current; saved = c.go_on.new.saved } in
+    let d = g.D.Device in
+    let i = c.self.inside in
+    let f : FileState g.row.D.Denot = record {
+      device = i.device;
+      area = i.area;
+      second = i.second;
+      sure =
+          i.sure;
+      current = i.current;
+      saved = i.saved;
+    } in
+    let now : FileState g.row.D.Denot = record {
+      device = c.write_durably-2.new.device;
+      area = i.area;
+      second =
+          not i.second;
+      sure = i.sure;
+      current = c.go_on.new.current;
+      saved = c.go_on.new.saved;
+    } in
     let A : FileState g.row.D.Denot → Type 0 = λ x. length c.args.bytes.now ≤ x.area in
     let G : FileState g.row.D.Denot → Type 0 = λ x. Steadily d.medium x now in
     subst G c.self.view_is
-    (both_steadily d.medium f c.base_of-base.result (length c.args.bytes.now) c.base_of-base.ensures.exact (subst A (sym c.self.view_is) c.requires.fits.1) c.write_durably.new.device
-    c.in-Ok.ensures.writes.long c.in-Ok.ensures.steady c.write_durably-2.new.device c.in-Ok-write_durably.ensures.writes.long c.in-Ok-write_durably.ensures.steady)
+    (both_steadily d.medium f c.base_of-base.result (length c.args.bytes.now) c.base_of-base.ensures.exact
+    (subst A (sym c.self.view_is) c.requires.fits.1) c.write_durably.new.device
+    c.in-Ok.ensures.writes.long c.in-Ok.ensures.steady c.write_durably-2.new.device c.in-Ok-write_durably.ensures.writes.long
+    c.in-Ok-write_durably.ensures.steady)

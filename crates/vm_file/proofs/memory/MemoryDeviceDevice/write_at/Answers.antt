@@ -10,7 +10,8 @@ use Rattle.vm_file.proofs.memory.MemoryDeviceDevice.write_at.Goals as goal
 left_whole : (bs ws out : List ℕ) (at n : ℕ) → n ≡ length bs → out ≡ with_part bs at ws → take n (out ++ drop (length out) bs) ≡ with_part bs at ws
 left_whole bs ws out at n e is = take_at out (drop (length out) bs) n (ap length is ∙ length-with_part bs at ws ∙ sym e) ∙ is
 
-touched : (bs ws out : List ℕ) (at n : ℕ) → n ≡ length bs → out ≡ with_part bs at ws → Touched at (length ws) bs (take n (out ++ drop (length out) bs))
+touched : (bs ws out : List ℕ) (at n : ℕ) → n ≡ length bs → out ≡ with_part bs at ws
+    → Touched at (length ws) bs (take n (out ++ drop (length out) bs))
 touched bs ws out at n e is = subst (Touched at (length ws) bs) (sym (left_whole bs ws out at n e is)) (touched_part at bs ws)
 
 -- the bytes from before are a stop's, and a write touches them
@@ -19,8 +20,10 @@ after_write bs ws now at t c is = (bs, refl, subst (Touched at (length ws) bs) (
 
 pub returns-clause-writes : goal.returns-clause-writes
 returns-clause-writes c =
-    let bs = c.args.self.now.bytes.items in let ws = c.args.bytes.now in
-    let t = touched bs ws c.write_part.new.bytes c.args.at c.args.self.now.bytes.len c.args.self.now.bytes.ok.0 (rw c.deref_mut.ensures.value at c.write_part.ensures) in
+    let bs = c.args.self.now.bytes.items in
+    let ws = c.args.bytes.now in
+    let t = touched bs ws c.write_part.new.bytes c.args.at c.args.self.now.bytes.len c.args.self.now.bytes.ok.0
+    (rw c.deref_mut.ensures.value at c.write_part.ensures) in
     record {
       long = t.long;
       stays = (λ _. tt);
