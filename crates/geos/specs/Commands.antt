@@ -11,7 +11,8 @@ use Rattle.geos_explain.specs.Texts.{text_explanation}
 use Rattle.geos_source.specs.InstrLines.{instr_lines}
 use Rattle.geos_causes.specs.Causes.{cause_text}
 use Rattle.geos_infer.specs.declared.cause.Cause.{Cause}
-use Rattle.geos_asm.specs.Assembling.{IsAssembled, IsTextOf, IsCauseOf, IsWhyNoImage}
+use Rattle.geos_source.specs.Coded.{IsTextOf}
+use Rattle.geos_asm.specs.Assembling.{IsAssembled, IsCauseOf, IsWhyNoImage}
 use Rattle.geos_asm.specs.declared.error.AssembleError.{AssembleError}
 
 -- the bytes spell an image that is one of the text, with all rows or with those at its key places

@@ -6,12 +6,13 @@ ghost use Rattle.geos_image.specs.Reading.{image_at, Fails};
 ghost use Rattle.geos.specs.Commands.{IsAssembledAs, TakesVersion2, IsImageOf, IsWhyNoneOf, IsListed};
 ghost use Rattle.geos.specs.Commands.{IsJudged, IsExplained, IsExplainedText, IsCauseTold, begins_as_image};
 
-use geos_asm::{AssembleError, assemble, assemble_all_rows, list, why_no_rows};
+use geos_asm::{AssembleError, assemble, assemble_all_rows, why_no_rows};
 use geos_causes::explain_cause;
 use geos_explain::{explain, explain_text};
 use geos_image::ReadError;
 use geos_source::lines_of_instrs;
 use geos_verify::{Reject, check};
+use round_trip::list;
 use std::alloc::Global;
 
 /// The bytes of the image of an assembly text, with rows at its key places. Its faults are those of `geos_asm::assemble`.

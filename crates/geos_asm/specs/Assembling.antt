@@ -1,13 +1,14 @@
 -- What an assembler answers.
-use Rattle.std.specs.Prelude.{◌≡◌, ℕ, false, List, map, Some, Ok, Err, slice_get}
+use Rattle.std.specs.Prelude.{◌≡◌, ℕ, false, List, Some, Ok, Err, slice_get}
 use Rattle.geos_image.specs.Parts.{Parts}
 use Rattle.geos_source.specs.declared.parser.ParseError.{ParseError}
 use Rattle.geos_source.specs.declared.parser.ParseError.TheVariants as parse_error
 use Rattle.geos_source.specs.declared.progress.TextRoutine.{TextRoutine}
 use Rattle.geos_source.specs.Texts.{Code, code_of}
-use Rattle.geos_source.specs.Skeletons.{routine_of, skeleton}
+use Rattle.geos_source.specs.Coded.{HasCode}
+use Rattle.geos_source.specs.Skeletons.{skeleton}
 use Rattle.geos_verify.specs.Rules.{IsChecked}
-use Rattle.geos_infer.specs.Code.{Forward, instrs_of}
+use Rattle.geos_infer.specs.Code.{Forward}
 use Rattle.geos_infer.specs.Reached.{AllHoldWhereReached}
 use Rattle.geos_infer.specs.Theorem.{HasAccepted, FindsWhatThereIs, NoneIsAccepted, NothingHoldsIn}
 use Rattle.geos_infer.specs.Causes.{Holds, tells_of_slots}
@@ -20,17 +21,6 @@ use Rattle.geos_asm.specs.declared.error.AssembleError.TheVariants.{BadLine, NoR
 abbrev pub of_parse : ParseError → AssembleError
 of_parse (parse_error.BadLine fault) = BadLine fault
 of_parse parse_error.Memory = Memory
-
--- the image has exactly this code
-pub record HasCode (code : Code) (image : Parts) : Type 0 where
-  pub routines : image.routines ≡ map routine_of code.routines
-  pub instrs : instrs_of image ≡ code.instrs
-
--- the text has no fault, and the image has its code
-pub record IsTextOf (image : Parts) (text : List ℕ) : Type 0 where
-  pub code : Code
-  pub read : code_of text ≡ Ok code
-  pub has : HasCode code image
 
 -- a routine of the code begins at the line
 pub record BeginsAt (code : Code) (line : ℕ) : Type 0 where

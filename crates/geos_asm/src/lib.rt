@@ -1,4 +1,4 @@
-//! The assembler: the image of an assembly text, and the text of an image.
+//! The assembler: the image of an assembly text.
 //!
 //! docs/FORMATS.md has the form of texts, docs/VERIFIER.md how rows and potentials are found.
 #![tactic(auto)]
@@ -7,11 +7,9 @@ mod assembler;
 mod budgets;
 mod cause;
 mod error;
-mod listing;
 
 pub use assembler::{assemble, assemble_all_rows};
 pub use budgets::with_least_budgets;
 pub use cause::why_no_rows;
 pub use error::AssembleError;
 pub use geos_source::{BadLine, Why};
-pub use listing::list;

@@ -13,3 +13,4 @@ pub mod Texts
 pub mod Skeletons
 pub mod Views
 pub mod Parsing
+pub mod Coded

@@ -10,8 +10,8 @@ use Rattle.geos_image.specs.declared.row.SlotState.{SlotState}
 use Rattle.geos_listing.specs.Rows.{held_item, pointer_item}
 use Rattle.geos_text.specs.Registers.{register_of}
 use Rattle.geos_source.specs.Items.{with_bound, slot_state_of, with_slot, with_pointer, pointer_slot, item_by, item}
-use Rattle.geos_asm.proofs.Spaced.{is_inner, is_word, spaced}
-use Rattle.geos_asm.proofs.NumbersAgain.{decimal-inner, numbered-again, register-digit}
+use Rattle.round_trip.proofs.Spaced.{is_inner, is_word, spaced}
+use Rattle.round_trip.proofs.NumbersAgain.{decimal-inner, numbered-again, register-digit}
 
 -- `w0<=9`: a word's bound
 abbrev pub bound_word : ℕ → ℕ → List ℕ

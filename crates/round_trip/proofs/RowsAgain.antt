@@ -16,8 +16,8 @@ use Rattle.geos_image.specs.Ranges.{PointerFits, RowFits}
 use Rattle.geos_listing.specs.Rows.{texts_below, state_word, slot_item, pointer_item, pair_item, pair_slots, row_items}
 use Rattle.geos_source.specs.Operands.{unless_faulty}
 use Rattle.geos_source.specs.Items.{slot_state_of, item, RowRead, with_item, with_items, row_of}
-use Rattle.geos_asm.proofs.Spaced.{is_word, spaced}
-use Rattle.geos_asm.proofs.ItemsAgain.{bound_word, held_word, pointer_word, bound-written, held-written, pointer-written, bound-read, held-read, pointer-read}
+use Rattle.round_trip.proofs.Spaced.{is_word, spaced}
+use Rattle.round_trip.proofs.ItemsAgain.{bound_word, held_word, pointer_word, bound-written, held-written, pointer-written, bound-read, held-read, pointer-read}
 
 -- ---- words of the numbers below n
 

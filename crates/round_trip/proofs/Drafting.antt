@@ -7,8 +7,7 @@ use Rattle.geos_image.specs.declared.row.Row.{Row}
 use Rattle.geos_image.specs.declared.routine.Routine.{Routine}
 use Rattle.geos_image.specs.Open.{open_row}
 use Rattle.geos_image.specs.declared.point.Point.{Point}
-use Rattle.geos_image.specs.Parts.{Parts}
-use Rattle.geos_infer.specs.Code.{instrs_of, instr_of}
+use Rattle.geos_image.specs.Parts.{Parts, instrs_of}
 use Rattle.geos_listing.specs.Instrs.{is_target}
 use Rattle.geos_listing.proofs.Limits.{item_at}
 use Rattle.geos_opcodes.specs.Facts.{word_of}
@@ -19,15 +18,15 @@ use Rattle.geos_source.specs.Faults.{least}
 use Rattle.geos_source.specs.Texts.{Draft, is_full, outside, in_body, close, begin, drop_labels, take_in, take_out, with_instr, with_instr_at, take_instr, take_labels, take_statement, take_line, take_lines}
 use Rattle.geos_source.proofs.Quiet.{taken_by}
 use Rattle.geos_source.proofs.PartNames.{TextPart, head, body, in_body-is}
-use Rattle.geos_asm.proofs.OperandsAgain.{operand_words, instruction-again}
-use Rattle.geos_asm.proofs.InstrLines.{instr_text, instr-said, word_of-is}
-use Rattle.geos_asm.proofs.HeadsAgain.{head_text, head-said, begun_as, header-again}
-use Rattle.geos_asm.proofs.RowsAgain.{words_below as lines_below, row_words, IsSound, row_of-again}
-use Rattle.geos_asm.proofs.RowLines.{row_text, row-said, in-is, out-is, open-again}
-use Rattle.geos_asm.proofs.LabelLines.{label_line_text, label-said}
-use Rattle.geos_asm.proofs.ListedFacts.{IsListed, Facts}
-use Rattle.geos_asm.proofs.ListingLines.{label_lines, instr_lines, place_lines}
-use Rattle.geos_asm.proofs.Declaring.{IsLabel, names_in, names-stand, has_label}
+use Rattle.round_trip.proofs.OperandsAgain.{operand_words, instruction-again}
+use Rattle.round_trip.proofs.InstrLines.{instr_text, instr-said, word_of-is}
+use Rattle.round_trip.proofs.HeadsAgain.{head_text, head-said, begun_as, header-again}
+use Rattle.round_trip.proofs.RowsAgain.{words_below as lines_below, row_words, IsSound, row_of-again}
+use Rattle.round_trip.proofs.RowLines.{row_text, row-said, in-is, out-is, open-again}
+use Rattle.round_trip.proofs.LabelLines.{label_line_text, label-said}
+use Rattle.round_trip.proofs.ListedFacts.{IsListed, Facts}
+use Rattle.round_trip.proofs.ListingLines.{label_lines, instr_lines, place_lines}
+use Rattle.round_trip.proofs.Declaring.{IsLabel, names_in, names-stand, has_label}
 
 -- a routine has begun, no label waits, and there is no fault
 abbrev pub drafted : List TextRoutine → List Instr → TextPart → ℕ → Routine → Draft
@@ -137,19 +136,19 @@ module _ (image : Parts) (facts : Facts image) where
   inside_behind part (suc k) e = refl
 
   one_more : (xs : List Point) (k : ℕ) (x : Point) → slice_get xs k ≡ Some x
-      → take k (map instr_of xs) ++ x.instr ∷ [] ≡ take (suc k) (map instr_of xs)
+      → take k (instrs_of xs) ++ x.instr ∷ [] ≡ take (suc k) (instrs_of xs)
   one_more [] k x e = absurd cc
   one_more (y ∷ xs) zero x e = let same : x ≡ y = cc in ap (λ (p : Point). p.instr ∷ []) same
   one_more (y ∷ xs) (suc k) x e = ap (λ (is : List Instr). y.instr ∷ is) (one_more xs k x e)
 
-  so_many : (xs : List Point) (k : ℕ) (x : Point) → slice_get xs k ≡ Some x → length (take k (map instr_of xs)) ≡ k
+  so_many : (xs : List Point) (k : ℕ) (x : Point) → slice_get xs k ≡ Some x → length (take k (instrs_of xs)) ≡ k
   so_many [] k x e = absurd cc
   so_many (y ∷ xs) zero x e = refl
   so_many (y ∷ xs) (suc k) x e = ap suc (so_many xs k x e)
 
   -- the draft behind so many instructions of a routine
   abbrev pub behind : List TextRoutine → TextPart → ℕ → Routine → ℕ → ℕ → Draft
-  behind routines part line r start k = drafted routines (take (start + k) (instrs_of image)) (part_behind part k) line (record r { count = k })
+  behind routines part line r start k = drafted routines (take (start + k) (instrs_of image.points)) (part_behind part k) line (record r { count = k })
 
   pub places-taken : (routines : List TextRoutine) (part : TextPart) (line : ℕ) (r : Routine) (start count : ℕ)
       → outside part ≡ None → start + count ≤ length image.points
@@ -165,17 +164,17 @@ module _ (image : Parts) (facts : Facts image) where
       let next : suc pc ≡ start + suc count = omega arith in
       let more : min (count + 1) 4096 ≡ suc count = omega (arith, within, short) in
       let before = behind routines part line r start count in
-      let made = drafted routines (take pc (instrs_of image) ++ at.0.instr ∷ []) (in_body (part_behind part count)) line
+      let made = drafted routines (take pc (instrs_of image.points) ++ at.0.instr ∷ []) (in_body (part_behind part count)) line
       (record r { count = min (count + 1) 4096 }) in
       one_by_one (lines_below count (λ k. place_lines image (start + k))) (place_lines image pc) (behind routines part line r start 0) before made
       (places-taken routines part line r start count inside (omega (arith, within)))
-      (place-taken is pc at.0 routines (take pc (instrs_of image)) (part_behind part count) line (record r { count = count }) at.1
+      (place-taken is pc at.0 routines (take pc (instrs_of image.points)) (part_behind part count) line (record r { count = count }) at.1
       (omega (arith, within, short)) there (omega (arith, long, within, short))) n
       ∙ ap (λ code. drafted routines code (in_body (part_behind part count)) line (record r { count = min (count + 1) 4096 }))
-      (one_more image.points pc at.0 at.1 ∙ ap (λ m. take m (instrs_of image)) next)
-      ∙ ap (λ p. drafted routines (take (start + suc count) (instrs_of image)) p line (record r { count = min (count + 1) 4096 }))
+      (one_more image.points pc at.0 at.1 ∙ ap (λ m. take m (instrs_of image.points)) next)
+      ∙ ap (λ p. drafted routines (take (start + suc count) (instrs_of image.points)) p line (record r { count = min (count + 1) 4096 }))
       (in_body-is (part_behind part count) there)
-      ∙ ap (λ m. drafted routines (take (start + suc count) (instrs_of image)) body line (record r { count = m })) more
+      ∙ ap (λ m. drafted routines (take (start + suc count) (instrs_of image.points)) body line (record r { count = m })) more
 
   -- ---- rows
 

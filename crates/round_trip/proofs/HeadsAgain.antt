@@ -12,10 +12,10 @@ use Rattle.geos_listing.specs.Listing.{public_text, routine_line}
 use Rattle.geos_source.specs.Names.{label_of}
 use Rattle.geos_source.specs.Lines.{said, parted}
 use Rattle.geos_source.specs.Headers.{with_budget, published, header}
-use Rattle.geos_asm.proofs.Spaced.{is_word, spaced, said-spaced}
-use Rattle.geos_asm.proofs.NumbersAgain.{numbered-again, decimal-word}
-use Rattle.geos_asm.proofs.NamesAgain.{name_of-again, name-word}
-use Rattle.geos_asm.proofs.InstrLines.{parted-statement}
+use Rattle.round_trip.proofs.Spaced.{is_word, spaced, said-spaced}
+use Rattle.round_trip.proofs.NumbersAgain.{numbered-again, decimal-word}
+use Rattle.round_trip.proofs.NamesAgain.{name_of-again, name-word}
+use Rattle.round_trip.proofs.InstrLines.{parted-statement}
 
 -- the words behind a routine's name
 abbrev pub budget_words : Bool → ℕ → List (List ℕ)

@@ -8,8 +8,8 @@ use Rattle.std.proofs.lemmas.Fmt.{decimal_injective}
 use Rattle.std.proofs.lemmas.Slice.Eq.{bytes_eq-Decides}
 use Rattle.geos_listing.specs.Instrs.{label_of as label_text}
 use Rattle.geos_source.specs.Names.{Table, none_defined, with_name}
-use Rattle.geos_asm.proofs.NumbersAgain.{apart, decimal-digits}
-use Rattle.geos_asm.proofs.NamesAgain.{label_name}
+use Rattle.round_trip.proofs.NumbersAgain.{apart, decimal-digits}
+use Rattle.round_trip.proofs.NamesAgain.{label_name}
 
 false_unless : (b : Bool) → (b ≡ true → ⊥) → b ≡ false
 false_unless true h = absurd (h refl)

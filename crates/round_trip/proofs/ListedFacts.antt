@@ -10,8 +10,8 @@ use Rattle.geos_image.specs.Legal.{is_name, is_named, is_row, is_given, is_instr
 use Rattle.geos_image.specs.Ranges.{RoutineFits}
 use Rattle.geos_image.proofs.Instrs.{image_parts}
 use Rattle.geos_listing.proofs.Limits.{item_at, get_or-at}
-use Rattle.geos_asm.proofs.RowsAgain.{IsSound, is_sound}
-use Rattle.geos_asm.proofs.InstrLines.{IsNamed}
+use Rattle.round_trip.proofs.RowsAgain.{IsSound, is_sound}
+use Rattle.round_trip.proofs.InstrLines.{IsNamed}
 
 -- what is known of a routine
 pub record IsListed (r : Routine) : Type 0 where

@@ -18,16 +18,16 @@ use Rattle.geos_source.specs.Faults.{first, at_line}
 use Rattle.geos_source.specs.Names.{Table, Names, name_of, meant, defined, with_name}
 use Rattle.geos_source.specs.Declarations.{Declared, nothing, twice, with_label, with_labels, with_routine_name, one_more_routine, one_more_instr, is_row_word, with_statement, with_line, with_lines, declared}
 use Rattle.geos_source.proofs.Quiet.{declared_by}
-use Rattle.geos_asm.proofs.NamesAgain.{label_name, label-again, name_of-again}
-use Rattle.geos_asm.proofs.OperandsAgain.{operand_words, StandsFor, HasLabel}
-use Rattle.geos_asm.proofs.InstrLines.{instr_text, instr-said, word_of-is}
-use Rattle.geos_asm.proofs.HeadsAgain.{head_text, head-said}
-use Rattle.geos_asm.proofs.RowsAgain.{words_below as lines_below, row_words, IsSound}
-use Rattle.geos_asm.proofs.RowLines.{row_text, row-said, IsRowWord, in-is, out-is}
-use Rattle.geos_asm.proofs.LabelLines.{label_line_text, label-said}
-use Rattle.geos_asm.proofs.ListedFacts.{IsListed, Facts}
-use Rattle.geos_asm.proofs.ListingLines.{label_lines, instr_lines, place_lines, row_lines, routine_lines, lines_at, listing_lines, room}
-use Rattle.geos_asm.proofs.NamesBelow.{table_below, Apart, unknown, known, labels-apart, apart-sym}
+use Rattle.round_trip.proofs.NamesAgain.{label_name, label-again, name_of-again}
+use Rattle.round_trip.proofs.OperandsAgain.{operand_words, StandsFor, HasLabel}
+use Rattle.round_trip.proofs.InstrLines.{instr_text, instr-said, word_of-is}
+use Rattle.round_trip.proofs.HeadsAgain.{head_text, head-said}
+use Rattle.round_trip.proofs.RowsAgain.{words_below as lines_below, row_words, IsSound}
+use Rattle.round_trip.proofs.RowLines.{row_text, row-said, IsRowWord, in-is, out-is}
+use Rattle.round_trip.proofs.LabelLines.{label_line_text, label-said}
+use Rattle.round_trip.proofs.ListedFacts.{IsListed, Facts}
+use Rattle.round_trip.proofs.ListingLines.{label_lines, instr_lines, place_lines, row_lines, routine_lines, lines_at, listing_lines, room}
+use Rattle.round_trip.proofs.NamesBelow.{table_below, Apart, unknown, known, labels-apart, apart-sym}
 
 -- the name of the routine at an index
 abbrev pub name_at : Parts → ℕ → List ℕ

@@ -12,7 +12,7 @@ use Rattle.geos_text.specs.Words.{is_empty}
 use Rattle.geos_text.specs.Numbers.{is_number, if_within}
 use Rattle.geos_text.specs.Registers.{register_of}
 use Rattle.geos_source.specs.Operands.{or_why, numbered}
-use Rattle.geos_asm.proofs.Spaced.{is_inner, is_word}
+use Rattle.round_trip.proofs.Spaced.{is_inner, is_word}
 
 -- what a test tells from a byte is not that byte
 pub apart : (test : ℕ → Bool) (b k : ℕ) → test k ≡ false → test b ≡ true → (b == k) ≡ false

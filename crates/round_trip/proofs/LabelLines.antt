@@ -9,8 +9,8 @@ use Rattle.std.proofs.lemmas.List.Folds.{list_all-append}
 use Rattle.geos_listing.specs.Instrs.{label_of as label_text}
 use Rattle.geos_source.specs.Names.{name_of, label_of}
 use Rattle.geos_source.specs.Lines.{said, parted, behind_label}
-use Rattle.geos_asm.proofs.Spaced.{is_said, is_inner, is_word, line-said, said-spaced}
-use Rattle.geos_asm.proofs.NamesAgain.{label_name, label-again, label-word}
+use Rattle.round_trip.proofs.Spaced.{is_said, is_inner, is_word, line-said, said-spaced}
+use Rattle.round_trip.proofs.NamesAgain.{label_name, label-again, label-word}
 
 -- the line of a label, without its end
 abbrev pub label_line_text : ℕ → List ℕ

@@ -11,8 +11,8 @@ use Rattle.geos_image.specs.Legal.{is_name_byte, is_name as is_image_name, text_
 use Rattle.geos_listing.specs.Instrs.{label_of as label_text}
 use Rattle.geos_text.proofs.LineLaws.{position_or_else}
 use Rattle.geos_source.specs.Names.{is_name, name_of}
-use Rattle.geos_asm.proofs.Spaced.{is_inner, is_word}
-use Rattle.geos_asm.proofs.NumbersAgain.{TellsInner, all_inner, some_word, decimal-digits, decimal-inner}
+use Rattle.round_trip.proofs.Spaced.{is_inner, is_word}
+use Rattle.round_trip.proofs.NumbersAgain.{TellsInner, all_inner, some_word, decimal-digits, decimal-inner}
 
 -- a word that passes the tests is a name
 is_name-from : (word : List ℕ) → length word ≤ 16 → is_ascii_alphabetic (slice_index word 0) ≡ true

@@ -20,8 +20,8 @@ use Rattle.geos_source.specs.declared.fault.Why.TheVariants.{WrongOperands}
 use Rattle.geos_source.specs.Faults.{least}
 use Rattle.geos_source.specs.Names.{Names, resolved}
 use Rattle.geos_source.specs.Operands.{Reading, Taken, taken, register, constant, left_over, unless_faulty, instr_of, instr_by, instruction}
-use Rattle.geos_asm.proofs.Spaced.{spaced}
-use Rattle.geos_asm.proofs.NumbersAgain.{numbered-again, register_of-again}
+use Rattle.round_trip.proofs.Spaced.{spaced}
+use Rattle.round_trip.proofs.NumbersAgain.{numbered-again, register_of-again}
 
 -- the word of an operand
 abbrev pub operand_word : List routine.Routine → Operand → ℕ → List ℕ

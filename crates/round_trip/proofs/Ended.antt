@@ -7,9 +7,9 @@ use Rattle.std.proofs.lemmas.Bool.{and_parts, and_from}
 use Rattle.std.proofs.lemmas.List.{append-nil}
 use Rattle.std.proofs.lemmas.List.Folds.{list_all-append}
 use Rattle.geos_listing.specs.Rows.{texts_below}
-use Rattle.geos_asm.proofs.Spaced.{is_said}
-use Rattle.geos_asm.proofs.RowsAgain.{words_below as lines_below}
-use Rattle.geos_asm.proofs.TextLines.{lines-more}
+use Rattle.round_trip.proofs.Spaced.{is_said}
+use Rattle.round_trip.proofs.RowsAgain.{words_below as lines_below}
+use Rattle.round_trip.proofs.TextLines.{lines-more}
 
 -- lines with an end behind each
 abbrev pub ended : List (List ℕ) → List ℕ

@@ -1,8 +1,11 @@
-//! The text of an image.
+//! The listing of an image is a text that gives the image's routines and instructions again.
+//!
+//! docs/FORMATS.md has the form of texts and listings.
+#![tactic(auto)]
 
 ghost use Rattle.std.specs.Prelude.{◌≡◌, IfOk};
 ghost use Rattle.geos_listing.specs.Listing.{listing};
-ghost use Rattle.geos_asm.specs.Assembling.{IsTextOf};
+ghost use Rattle.geos_source.specs.Coded.{IsTextOf};
 
 use geos_image::Image;
 use std::alloc::{AllocError, Global};

@@ -18,17 +18,17 @@ use Rattle.geos_listing.specs.Instrs.{name_of as name_text, is_target}
 use Rattle.geos_listing.specs.Listing.{listing}
 use Rattle.geos_listing.proofs.Limits.{item_at}
 use Rattle.geos_text.specs.Words.{is_empty}
-use Rattle.geos_asm.proofs.Spaced.{spaced}
-use Rattle.geos_asm.proofs.ItemsAgain.{bound_word}
-use Rattle.geos_asm.proofs.RowsAgain.{words_below as lines_below, spaced-append, slot_words, pointer_words, pair_words, bounds_of, slots_of, pointers_of, pairs_of, row_words, IsSound}
-use Rattle.geos_asm.proofs.RowLines.{row_text}
-use Rattle.geos_asm.proofs.InstrLines.{instr_text}
-use Rattle.geos_asm.proofs.HeadsAgain.{head_text, budget_words}
-use Rattle.geos_asm.proofs.LabelLines.{label_line_text}
-use Rattle.geos_asm.proofs.Ended.{ended, ended-append}
-use Rattle.geos_asm.proofs.ListedFacts.{IsListed, Facts}
-use Rattle.geos_asm.proofs.ListingLines.{label_lines, place_lines, row_lines, routine_lines, lines_at, room, listing-ended}
-use Rattle.geos_asm.proofs.ListingLength.{name-short, instr-short, label-short}
+use Rattle.round_trip.proofs.Spaced.{spaced}
+use Rattle.round_trip.proofs.ItemsAgain.{bound_word}
+use Rattle.round_trip.proofs.RowsAgain.{words_below as lines_below, spaced-append, slot_words, pointer_words, pair_words, bounds_of, slots_of, pointers_of, pairs_of, row_words, IsSound}
+use Rattle.round_trip.proofs.RowLines.{row_text}
+use Rattle.round_trip.proofs.InstrLines.{instr_text}
+use Rattle.round_trip.proofs.HeadsAgain.{head_text, budget_words}
+use Rattle.round_trip.proofs.LabelLines.{label_line_text}
+use Rattle.round_trip.proofs.Ended.{ended, ended-append}
+use Rattle.round_trip.proofs.ListedFacts.{IsListed, Facts}
+use Rattle.round_trip.proofs.ListingLines.{label_lines, place_lines, row_lines, routine_lines, lines_at, room, listing-ended}
+use Rattle.round_trip.proofs.ListingLength.{name-short, instr-short, label-short}
 
 -- ---- rows
 

@@ -6,8 +6,8 @@ use Rattle.std.specs.Str.Lines.{lines, lines_of_parts, strip_carriage_return}
 use Rattle.std.proofs.lemmas.Bool.{and_parts}
 use Rattle.std.proofs.lemmas.List.Elements.{All-nil, All-cons}
 use Rattle.std.proofs.lemmas.List.Splits.{slice_split_at, length-slice_split}
-use Rattle.geos_asm.proofs.Spaced.{is_said, said-feed}
-use Rattle.geos_asm.proofs.RowsAgain.{passes_at}
+use Rattle.round_trip.proofs.Spaced.{is_said, said-feed}
+use Rattle.round_trip.proofs.RowsAgain.{passes_at}
 
 no_feed : (line : List ℕ) → list_all is_said line ≡ true → All (λ b. (b == 10) ≡ false) line
 no_feed [] h = All-nil (λ b. (b == 10) ≡ false)

@@ -8,9 +8,9 @@ use Rattle.std.proofs.lemmas.List.{length-map, length-take, take_all}
 use Rattle.geos_image.specs.declared.routine.Routine.{Routine}
 use Rattle.geos_image.specs.Legal.{is_image}
 use Rattle.geos_image.specs.Ranges.{RoutineFits}
-use Rattle.geos_image.specs.Parts.{Parts, start_of}
+use Rattle.geos_image.specs.declared.point.Point.{Point}
+use Rattle.geos_image.specs.Parts.{Parts, instrs_of, start_of}
 use Rattle.geos_image.proofs.Starts.{start_of-next, start_of-all}
-use Rattle.geos_infer.specs.Code.{instrs_of, instr_of}
 use Rattle.geos_listing.specs.Listing.{listing}
 use Rattle.geos_listing.proofs.Limits.{item_at}
 use Rattle.geos_text.specs.Words.{is_empty}
@@ -23,19 +23,19 @@ use Rattle.geos_source.specs.Texts.{Draft, blank, no_room, close, begin, begun_b
 use Rattle.geos_source.proofs.PartNames.{TextPart, head, body}
 use Rattle.geos_source.proofs.Pushed.{routines-push}
 use Rattle.geos_source.proofs.TextLaws.{fault_by, code_of-found}
-use Rattle.geos_asm.specs.Assembling.{IsTextOf}
-use Rattle.geos_asm.proofs.HeadsAgain.{begun_as}
-use Rattle.geos_asm.proofs.RowsAgain.{words_below as lines_below, row_words}
-use Rattle.geos_asm.proofs.ListedFacts.{Facts, facts}
-use Rattle.geos_asm.proofs.ListingLines.{row_lines, place_lines, routine_lines, lines_at, listing_lines, room, listing-lines}
-use Rattle.geos_asm.proofs.Declaring.{state, names_in, listing-declared}
-use Rattle.geos_asm.proofs.ListingShort.{listing-short}
-use Rattle.geos_asm.proofs.Drafting.{drafted, takes-both, one_by_one, part_behind, behind, places-taken, entry-taken, exit-taken, head-taken}
+use Rattle.geos_source.specs.Coded.{IsTextOf}
+use Rattle.round_trip.proofs.HeadsAgain.{begun_as}
+use Rattle.round_trip.proofs.RowsAgain.{words_below as lines_below, row_words}
+use Rattle.round_trip.proofs.ListedFacts.{Facts, facts}
+use Rattle.round_trip.proofs.ListingLines.{row_lines, place_lines, routine_lines, lines_at, listing_lines, room, listing-lines}
+use Rattle.round_trip.proofs.Declaring.{state, names_in, listing-declared}
+use Rattle.round_trip.proofs.ListingShort.{listing-short}
+use Rattle.round_trip.proofs.Drafting.{drafted, takes-both, one_by_one, part_behind, behind, places-taken, entry-taken, exit-taken, head-taken}
 
 -- the draft between routines, of which so many are complete
 record Between (image : Parts) (n : ℕ) (t : Draft) : Type 0 where
   routines : map routine_of (close t).routines ≡ take n image.routines
-  code : t.code ≡ take (start_of image.routines n) (instrs_of image)
+  code : t.code ≡ take (start_of image.routines n) (instrs_of image.points)
   fault : (close t).progress.fault ≡ None
   placed : 0 < n → without_routine t.progress.part ≡ None
 
@@ -59,7 +59,7 @@ module _ (image : Parts) (known : Facts image) where
 
   -- a routine begins behind those
   begins : (m n : ℕ) (r : Routine) (t : Draft) → Between image n t → n < length image.routines
-      → begin m (Ok (begun_as r)) (close t) ≡ drafted (close t).routines (take (start_of image.routines n + 0) (instrs_of image))
+      → begin m (Ok (begun_as r)) (close t) ≡ drafted (close t).routines (take (start_of image.routines n + 0) (instrs_of image.points))
       (head m false false) m (begun_as r)
   begins m n r t b lt =
       let rs = (close t).routines in
@@ -82,7 +82,7 @@ module _ (image : Parts) (known : Facts image) where
             record { part = head m false false; current = Some (record { line = m; routine = begun_as r }); waiting = None; fault = first f None };
       })
       b.fault
-      ∙ ap (λ code. drafted rs code (head m false false) m (begun_as r)) (b.code ∙ ap (λ k. take k (instrs_of image)) same)
+      ∙ ap (λ code. drafted rs code (head m false false) m (begun_as r)) (b.code ∙ ap (λ k. take k (instrs_of image.points)) same)
 
   filled : (part : TextPart) (count : ℕ) → 0 < count → part_behind image known part count ≡ body
   filled part zero some = absurd (omega (arith, some))
@@ -97,7 +97,7 @@ module _ (image : Parts) (known : Facts image) where
       record {
         routines = routines-push routines (record { line = m; routine = r }) ∙ ap (λ (front : List Routine). front ++ r ∷ []) before
             ∙ next_taken image.routines n r e;
-        code = ap (λ k. take k (instrs_of image)) (sym (start_of-next image.routines n r e));
+        code = ap (λ k. take k (instrs_of image.points)) (sym (start_of-next image.routines n r e));
         fault = ap unfilled full;
         placed = λ lt. ap without_routine full;
       }
@@ -108,7 +108,7 @@ module _ (image : Parts) (known : Facts image) where
       let is = known.routine n r e in
       let rs = (close t).routines in
       let start = start_of image.routines n in
-      let code = take (start + 0) (instrs_of image) in
+      let code = take (start + 0) (instrs_of image.points) in
       let entry = row_lines (codes "in") r.entry in
       let exit = row_lines (codes "out") r.exit in
       let places = lines_below r.count (λ k. place_lines image (start + k)) in
@@ -141,12 +141,12 @@ module _ (image : Parts) (known : Facts image) where
       ∙ ap (λ o. take_lines (names_in image) m (option_map_or (routine_lines image (start_of image.routines n)) o []) t) at.1 in
       subst (Between image (suc n)) (sym made) (routine-taken m n at.0 t at.1 (omega (arith, le)) (routines-taken n (omega (arith, le))))
 
-  all_instrs : take (start_of image.routines (length image.routines)) (instrs_of image) ≡ instrs_of image
+  all_instrs : take (start_of image.routines (length image.routines)) (instrs_of image.points) ≡ instrs_of image.points
   all_instrs =
       let end : start_of image.routines (length image.routines) ≡ length image.points = start_of-all image.routines
       (length image.routines) (omega arith) ∙ known.sums in
-      let many = length-map image.points instr_of in
-      take_all (start_of image.routines (length image.routines)) (instrs_of image) (omega (arith, end, many))
+      let many = length-map image.points (λ (point : Point). point.instr) in
+      take_all (start_of image.routines (length image.routines)) (instrs_of image.points) (omega (arith, end, many))
 
 -- the text that lists an image has its code
 pub list-again : (image : Parts) → is_image image ≡ true → All RoutineFits image.routines → IsTextOf image (listing image)

@@ -18,10 +18,10 @@ use Rattle.geos_listing.proofs.Limits.{item_at, get_or-at}
 use Rattle.geos_opcodes.specs.Fields.{is_written}
 use Rattle.geos_source.specs.Names.{label_of}
 use Rattle.geos_source.specs.Lines.{said, parted, behind_label}
-use Rattle.geos_asm.proofs.Spaced.{is_word, spaced, said-indented}
-use Rattle.geos_asm.proofs.NumbersAgain.{decimal-inner, decimal-word}
-use Rattle.geos_asm.proofs.NamesAgain.{name-word, label-word}
-use Rattle.geos_asm.proofs.OperandsAgain.{operand_word, in_front, operand_words, operands-spaced}
+use Rattle.round_trip.proofs.Spaced.{is_word, spaced, said-indented}
+use Rattle.round_trip.proofs.NumbersAgain.{decimal-inner, decimal-word}
+use Rattle.round_trip.proofs.NamesAgain.{name-word, label-word}
+use Rattle.round_trip.proofs.OperandsAgain.{operand_word, in_front, operand_words, operands-spaced}
 
 -- a routine has a name in 16 bytes
 abbrev pub IsNamed : routine.Routine → Type 0

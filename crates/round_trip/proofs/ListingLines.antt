@@ -17,15 +17,15 @@ use Rattle.geos_listing.specs.Listing.{place_text, routine_text, listing}
 use Rattle.geos_listing.proofs.Limits.{item_at}
 use Rattle.geos_opcodes.specs.Facts.{word_of}
 use Rattle.geos_text.specs.Words.{is_empty}
-use Rattle.geos_asm.proofs.Spaced.{is_said, is_word, line-said}
-use Rattle.geos_asm.proofs.InstrLines.{instr_text, instr_line-text, operands-words, word_of-is}
-use Rattle.geos_asm.proofs.OperandsAgain.{operand_words}
-use Rattle.geos_asm.proofs.HeadsAgain.{head_words, head_text, head-written, head-words}
-use Rattle.geos_asm.proofs.RowsAgain.{words_below as lines_below, row_words, IsSound}
-use Rattle.geos_asm.proofs.RowLines.{row_text, row-words, row_line-text}
-use Rattle.geos_asm.proofs.LabelLines.{label_line_text, label_line-said, label_line-written}
-use Rattle.geos_asm.proofs.Ended.{ended, ended-append, one_ended, texts-ended, all_below, lines-ended}
-use Rattle.geos_asm.proofs.ListedFacts.{IsListed, Facts}
+use Rattle.round_trip.proofs.Spaced.{is_said, is_word, line-said}
+use Rattle.round_trip.proofs.InstrLines.{instr_text, instr_line-text, operands-words, word_of-is}
+use Rattle.round_trip.proofs.OperandsAgain.{operand_words}
+use Rattle.round_trip.proofs.HeadsAgain.{head_words, head_text, head-written, head-words}
+use Rattle.round_trip.proofs.RowsAgain.{words_below as lines_below, row_words, IsSound}
+use Rattle.round_trip.proofs.RowLines.{row_text, row-words, row_line-text}
+use Rattle.round_trip.proofs.LabelLines.{label_line_text, label_line-said, label_line-written}
+use Rattle.round_trip.proofs.Ended.{ended, ended-append, one_ended, texts-ended, all_below, lines-ended}
+use Rattle.round_trip.proofs.ListedFacts.{IsListed, Facts}
 
 -- the line of a label, where there is one
 abbrev pub label_lines : Bool → ℕ → List (List ℕ)

@@ -17,10 +17,10 @@ use Rattle.geos_source.specs.Names.{label_of}
 use Rattle.geos_source.specs.Lines.{said, parted}
 use Rattle.geos_source.specs.Items.{row_of}
 use Rattle.geos_source.proofs.ReadLaws.{ok_is}
-use Rattle.geos_asm.proofs.Spaced.{spaced, said-spaced, is_word, is_inner}
-use Rattle.geos_asm.proofs.InstrLines.{parted-statement}
-use Rattle.geos_asm.proofs.RowsAgain.{row_items-spaced, words_below, are_words, slot_words, pointer_words, pair_words, bounds_of, slots_of, pointers_of, pairs_of, row_words, passes_at, one_digit, IsSound, row_of-again}
-use Rattle.geos_asm.proofs.ItemsAgain.{bound_word, held_word, pointer_word, bound-word, held-word, pointer-word, digit-inner}
+use Rattle.round_trip.proofs.Spaced.{spaced, said-spaced, is_word, is_inner}
+use Rattle.round_trip.proofs.InstrLines.{parted-statement}
+use Rattle.round_trip.proofs.RowsAgain.{row_items-spaced, words_below, are_words, slot_words, pointer_words, pair_words, bounds_of, slots_of, pointers_of, pairs_of, row_words, passes_at, one_digit, IsSound, row_of-again}
+use Rattle.round_trip.proofs.ItemsAgain.{bound_word, held_word, pointer_word, bound-word, held-word, pointer-word, digit-inner}
 
 one : (word : List ℕ) → is_word word ≡ true → list_all is_word (word ∷ []) ≡ true
 one word h = and_from (is_word word) true h refl

@@ -18,11 +18,11 @@ use Rattle.geos_image.proofs.Instrs.{is_below}
 use Rattle.geos_listing.specs.Instrs.{name_of as name_text}
 use Rattle.geos_listing.proofs.Limits.{item_at}
 use Rattle.geos_opcodes.specs.Fields.{is_written}
-use Rattle.geos_asm.proofs.Spaced.{spaced}
-use Rattle.geos_asm.proofs.InstrLines.{instr_text}
-use Rattle.geos_asm.proofs.OperandsAgain.{operand_word, in_front, operand_words}
-use Rattle.geos_asm.proofs.LabelLines.{label_line_text}
-use Rattle.geos_asm.proofs.ListedFacts.{Facts}
+use Rattle.round_trip.proofs.Spaced.{spaced}
+use Rattle.round_trip.proofs.InstrLines.{instr_text}
+use Rattle.round_trip.proofs.OperandsAgain.{operand_word, in_front, operand_words}
+use Rattle.round_trip.proofs.LabelLines.{label_line_text}
+use Rattle.round_trip.proofs.ListedFacts.{Facts}
 
 -- a routine's name has at most 16 bytes
 pub name-short : (r : routine.Routine) → length r.name ≡ 16 → length (name_text r) ≤ 16
