@@ -113,7 +113,8 @@ pub fn run_call<W: Write, D: Device + Drop>(
     ensures nothing_written { IfErr result (λ fault. fault ≢ Script Write → Keeps (W.contents out.old.stream) (W.contents out.new.stream)) }
     ensures not_asked { IfErr result (λ fault. fault ≢ Script Write → out.new.asked ≡ out.old.asked) }
     ensures writer_failed { IfErr result (λ fault. fault ≡ Script Write → Rose out.old.failures out.new.failures) }
-    ensures writer_kept { MatchResult result (λ _. out.new.failures ≡ out.old.failures) (λ fault. fault ≢ Script Write → out.new.failures ≡ out.old.failures) }
+    ensures writer_kept { MatchResult result (λ _. out.new.failures ≡ out.old.failures) (λ fault. fault ≢ Script Write
+        → out.new.failures ≡ out.old.failures) }
 {
     kernel.memory_is_legal();
     let checked = load(alloc, image)?;

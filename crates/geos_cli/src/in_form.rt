@@ -189,7 +189,8 @@ pub fn run_call_in_form<W: Write, D: Device + Drop>(
     ensures sees { SeesDevice D.medium kernel.old × SeesDevice D.medium kernel.new }
     ensures steadily { Steadily D.medium (vm_file_of kernel.old) (vm_file_of kernel.new) }
     ensures writer_failed { IfErr result (λ fault. fault ≡ Script Write → Rose out.old.failures out.new.failures) }
-    ensures writer_kept { MatchResult result (λ _. out.new.failures ≡ out.old.failures) (λ fault. fault ≢ Script Write → out.new.failures ≡ out.old.failures) }
+    ensures writer_kept { MatchResult result (λ _. out.new.failures ≡ out.old.failures) (λ fault. fault ≢ Script Write
+        → out.new.failures ≡ out.old.failures) }
 {
     kernel.memory_is_legal();
     let checked = load(alloc, image)?;

@@ -179,7 +179,8 @@ pub(crate) fn commands_of(
     checked: &Checked,
     script: &[u8],
 ) -> Result<Vec<Numbered>, ScriptFault>
-    ensures commands { IfOk result (λ commands. (first_bad checked.now (lines script.now) ≡ None) × (commands.items ≡ commands_of checked.now (lines script.now))) }
+    ensures commands { IfOk result (λ commands. (first_bad checked.now (lines script.now) ≡ None)
+        × (commands.items ≡ commands_of checked.now (lines script.now))) }
     ensures bad { IfErr result (IsBadLine checked.now (lines script.now)) }
 {
     let mut commands = Vec::new(alloc);

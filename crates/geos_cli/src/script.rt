@@ -120,7 +120,8 @@ fn commit_kernel<D: Device + Drop>(kernel: &mut Kernel<D>, how: How) -> Result<(
     ensures unlocked { NoneLocked kernel.new.core.blocks }
     ensures sees { SeesDevice D.medium kernel.old × SeesDevice D.medium kernel.new }
     ensures steadily { Steadily D.medium (vm_file_of kernel.old) (vm_file_of kernel.new) }
-    ensures stops { (f g : VmFile) → IsFileOf (D.medium.honest kernel.old.device) kernel.old.core f → IsFileOf (D.medium.honest kernel.old.device) kernel.new.core g
+    ensures stops { (f g : VmFile) → IsFileOf (D.medium.honest kernel.old.device) kernel.old.core f
+        → IsFileOf (D.medium.honest kernel.old.device) kernel.new.core g
         → D.medium.honest kernel.old.device → Throughout D.medium kernel.old.device kernel.new.device (OpensAsOneOf (f.kept ∷ g.kept ∷ [])) }
 {
     kernel.memory_is_legal();

@@ -41,7 +41,8 @@ pub(crate) fn edge_end(pc: u16, i: &Instr, branch: bool) -> u16
 /// The edge of the instruction at a pc, if it has it and it stays in the routine.
 pub(crate) fn edge_in(body: &Body, pc: u16, branch: bool) -> Option<Edge>
     requires { pc < body.now.end }
-    ensures value { IfSome (slice_get body.now.image.now.points pc) (λ point. result ≡ edge_within body.now.start body.now.end pc point.instr branch) }
+    ensures value { IfSome (slice_get body.now.image.now.points pc)
+        (λ point. result ≡ edge_within body.now.start body.now.end pc point.instr branch) }
     ensures inside { IfSome result (IsInside body.now.image.now body.now.end pc branch) }
     ensures leads { IfSome result (λ edge. LeadsTo body.now.image.now pc branch edge.to) }
     ensures stays { IfSome result (λ edge. IsPcOf body.now.image.now body.now.r edge.to) }

@@ -40,7 +40,8 @@ impl<D: Device + Drop> Kernel<D> {
         requires locked { IsLocked self.old.core name }
         requires marked { MayChange self.old.core name }
         ensures calls { Calls (D.medium.honest self.old.device) (table.caadd name chunk len) result self.old.core self.new.core }
-        ensures no_room { result ≡ Err NoRoom → HasNoRoomFor self.new.core name (append_element chunk len (chunks_at self.old.core.blocks name)).chunks }
+        ensures no_room { result ≡ Err NoRoom → HasNoRoomFor self.new.core name
+            (append_element chunk len (chunks_at self.old.core.blocks name)).chunks }
         ensures refused { StaysIfRefused result self.old.core.blocks self.new.core.blocks }
         ensures vm { LeavesVm self.old self.new }
     {
@@ -54,7 +55,8 @@ impl<D: Device + Drop> Kernel<D> {
         requires locked { IsLocked self.old.core name }
         requires marked { MayChange self.old.core name }
         ensures calls { Calls (D.medium.honest self.old.device) (table.cains name chunk index len) result self.old.core self.new.core }
-        ensures no_room { result ≡ Err NoRoom → HasNoRoomFor self.new.core name (insert_element chunk index len (chunks_at self.old.core.blocks name)).chunks }
+        ensures no_room { result ≡ Err NoRoom → HasNoRoomFor self.new.core name
+            (insert_element chunk index len (chunks_at self.old.core.blocks name)).chunks }
         ensures refused { StaysIfRefused result self.old.core.blocks self.new.core.blocks }
         ensures vm { LeavesVm self.old self.new }
     {
@@ -131,7 +133,8 @@ impl<D: Device + Drop> Kernel<D> {
         requires locked { IsLocked self.old.core name }
         requires marked { MayChange self.old.core name }
         ensures calls { Calls (D.medium.honest self.old.device) (table.caresize name chunk index len) result self.old.core self.new.core }
-        ensures no_room { result ≡ Err NoRoom → HasNoRoomFor self.new.core name (resize_element chunk index len (chunks_at self.old.core.blocks name)).chunks }
+        ensures no_room { result ≡ Err NoRoom → HasNoRoomFor self.new.core name
+            (resize_element chunk index len (chunks_at self.old.core.blocks name)).chunks }
         ensures refused { StaysIfRefused result self.old.core.blocks self.new.core.blocks }
         ensures vm { LeavesVm self.old self.new }
     {

@@ -54,7 +54,9 @@ impl BlockCall {
             BlockCall::Change(change) if may_change(kernel, name) => {
                 kernel.change(name, change).into()
             }
-            BlockCall::Make(make) if may_change(kernel, name) => kernel.make_chunk(name, make).into(),
+            BlockCall::Make(make) if may_change(kernel, name) => kernel
+                .make_chunk(name, make)
+                .into(),
             BlockCall::Change(_) | BlockCall::Make(_) => Answer::NotAsked(NOT_MARKED),
             BlockCall::Ask(ask) => kernel.ask(name, ask).into(),
             BlockCall::Refer(refer) => length(kernel.refer(name, refer)),

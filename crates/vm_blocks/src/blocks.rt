@@ -91,7 +91,8 @@ impl<D: Device + Drop> VmBlocks<D> {
     pub fn is_sure(&self) -> bool
         ensures sure { result ≡ self.now.file.sure }
         // What `open` would find after a stop now.
-        ensures stop { D.medium.honest self.now.file.device → (c : List ℕ) → D.medium.may_leave self.now.file.device c → Finds D.medium.image self.now.file c }
+        ensures stop { D.medium.honest self.now.file.device → (c : List ℕ) → D.medium.may_leave self.now.file.device c
+            → Finds D.medium.image self.now.file c }
         // That is what the model has as kept.
         ensures kept { (s : Store) (m : Memory) → IsMemoryOf D.medium self.now s m → D.medium.honest self.now.file.device
             → (c : List ℕ) → D.medium.may_leave self.now.file.device c → OpensAsKept m.file.kept c }

@@ -92,7 +92,8 @@ impl<D: Device + Drop> VmBlocks<D> {
         ensures tied { IsTied D.medium self.new blocks.now }
         ensures marks { self.new ≡ with_held self.old handle (option_map marked (held_at self.old handle)) }
         // Each memory that the model may have before it goes on, with the mark.
-        ensures memory { (m : Memory) → IsMemoryOf D.medium self.old blocks.now m → IsMemoryOf D.medium self.new blocks.now (with_mark m handle true) }
+        ensures memory { (m : Memory) → IsMemoryOf D.medium self.old blocks.now m
+            → IsMemoryOf D.medium self.new blocks.now (with_mark m handle true) }
     {
         match self.held(handle) {
             Some(held) => self.put(
