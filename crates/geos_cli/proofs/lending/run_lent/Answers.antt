@@ -32,7 +32,7 @@ returns-in-Ok-clause-ran g c =
     let alike = c.lock_all.ensures.honest in
     let alike_ran : medium.honest ran.device ↔ medium.honest old.device =
     ((λ h. alike.0 (c.run-outcome.ensures.honest.0 h)), (λ h. c.run-outcome.ensures.honest.1 (alike.1 h))) in
-    lent-ran medium old locked ran new alike alike_ran image call c.run-outcome.result
+    lent-ran medium old locked ran new alike alike_ran image call c.run-outcome.result.now
     (subst (λ hs. Leads (medium.honest old.device) (Throughout medium old.device locked.device) old.core locked.core (Locks (IsAllowed (medium.honest old.device)) hs)) (c.as_slice.ensures.value ∙ lent) c.in-Ok.ensures.locked)
     c.run-outcome.ensures.ran
     (subst (λ hs. Leads (medium.honest ran.device) (Throughout medium ran.device new.device) ran.core new.core (Unlocks (IsAllowed (medium.honest ran.device)) hs)) (c.as_slice-in-Ok.ensures.value ∙ lent) c.unlock_all.ensures.leads)
