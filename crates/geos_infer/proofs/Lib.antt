@@ -29,3 +29,4 @@ pub mod Strong
 pub mod Priced
 pub mod Rising
 pub mod Unpayable
+pub mod Demand
