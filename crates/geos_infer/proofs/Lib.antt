@@ -28,3 +28,5 @@ pub mod Costs
 pub mod Strong
 pub mod Priced
 pub mod Rising
+pub mod Unpayable
+pub mod Demand

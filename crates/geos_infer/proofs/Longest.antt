@@ -84,11 +84,11 @@ none-other image r (SetWithin within) none other holds =
     let kept = kept-ahead image r none.steps.ahead within.counter within.at within.back.from holds.kept in
     omega arith
 none-other image r (TouchedWithin within) none other holds =
-    let less = loop-ahead image r none.steps.ahead within.back within.counter holds.left.loops in
-    let round = round-ahead image r none.steps.ahead within.back.to within.at holds.left.loops.to holds.round in
-    let kept = kept-ahead image r none.steps.ahead within.counter within.at within.back.from holds.left.kept in
+    let less = loop-ahead image r none.steps.ahead within.back within.counter holds.0.left.loops in
+    let round = round-ahead image r none.steps.ahead within.back.to within.at holds.0.left.loops.to holds.0.round in
+    let kept = kept-ahead image r none.steps.ahead within.counter within.at within.back.from holds.0.left.kept in
     omega arith
-none-other image r (TouchedBefore within) none other holds = none-round image r none.steps.ahead within.back within.counter holds.left.loops holds.round
+none-other image r (TouchedBefore within) none other holds = none-round image r none.steps.ahead within.back within.counter holds.0.left.loops holds.0.round
 none-other image r (InTurn both) none other holds =
     let less = loop-ahead image r none.steps.ahead both.back both.counter holds.loops in
     let round = round-ahead image r none.steps.ahead both.back.to both.at holds.loops.to holds.sets.round in

@@ -1,5 +1,5 @@
 -- What edges ask of constants is what they are noted to cost.
-use Rattle.std.proofs.Common.{◌≡◌, ◌≤◌, ◌<◌, ◌⊎◌, ℕ, ◌+◌, Bool, true, false, List, [], length, Option, Some, None, slice_get, set, refl, sym, ap, ◌∙◌, subst, arith, inl, inr}
+use Rattle.std.proofs.Common.{◌≡◌, ◌≤◌, ◌<◌, ◌⊎◌, ℕ, ◌+◌, Bool, true, false, List, [], ◌∷◌, length, get_or, Option, Some, None, slice_get, set, refl, sym, ap, ◌∙◌, subst, arith, inl, inr}
 use Rattle.std.specs.Prelude.{IfSome, map, slice_index, slice_index_or, nat_le, nat_lt, ◌&&◌, if◌then◌else◌}
 use Rattle.std.proofs.lemmas.Bool.{cases_eq, cases_lt, and_parts, leb-true, le-leb, ltb-true, lt-ltb, false≢true}
 use Rattle.std.proofs.lemmas.List.{get_or-set_same, get_or-set_other, length-map}
@@ -30,13 +30,14 @@ use Rattle.geos_infer.proofs.Bodies.{lies}
 use Rattle.geos_infer.proofs.Wanted.{ends-at}
 use Rattle.geos_infer.specs.Count.{StaysFrom, return_steps}
 use Rattle.geos_infer.proofs.Longest.{leads-one}
-use Rattle.geos_infer.specs.Constants.{asked_over, PaysSteps, ConstantsPay, row_known, coefficients_at, HasLoops, AreLeastIn, AreLeastFrom, given_row, coefficients_in, potential_given, GoesBack, IsLoopAt, HasLeastConstants, PaysForLoops, potential_in, IsAsked, IsPaidOver, ArePaidIn, PayLeastIn}
-use Rattle.geos_infer.specs.Least.{steps_at, link_at, PaysLink, PayAll, PayEnds, AreLeast, AskNoMore, NoneOutside, ArePut}
+use Rattle.geos_infer.specs.Constants.{asked_over, PaysSteps, ConstantsPay, row_known, coefficients_at, HasLoops, AreLeastIn, AreLeastFrom, given_row, coefficients_in, potential_given, GoesBack, IsLoopAt, HasLeastConstants, PaysForLoops, HasCoefficientsForLoops, IsAskingWay, LeadsAsking, AreForLoops, potential_in, IsAsked, IsPaidOver, ArePaidIn, PayLeastIn}
+use Rattle.geos_infer.specs.Least.{steps_at, link_at, PaysLink, PayAll, PayEnds, AreLeast, IsLookedAt, AskNoMore, NoneOutside, ArePut}
 use Rattle.geos_infer.specs.Numbers.{Numbers, numbers_of, steps_of, coefficients_of}
 use Rattle.geos_infer.proofs.Copies.{numbers-set}
 use Rattle.geos_infer.specs.Solutions.{call_steps}
 use Rattle.geos_infer.specs.Taken.{taken_at}
 use Rattle.geos_infer.specs.declared.arcs.Arc.{Arc}
+use Rattle.geos_infer.specs.declared.jumps.Jump.{Jump}
 use Rattle.geos_infer.specs.declared.lengths.Link.{Link}
 use Rattle.geos_infer.specs.declared.lengths.Way.{Way}
 use Rattle.geos_infer.proofs.Asks.{called}
@@ -215,6 +216,14 @@ paid-same image r known numbers next same P = record {
     same-potential : (pc : ℕ) → IsPcOf image r pc → potential_in next pc ≡ potential_in numbers pc
     same-potential pc within = potential-at numbers pc (potential_in next pc) ((same pc within).0) ((same pc within).1)
 
+-- and they are wanted for LOOPs
+for-same : (image : Parts) (r : ℕ) (old next : ℕ → List ℕ) → ((pc : ℕ) → IsPcOf image r pc → next pc ≡ old pc) → AreForLoops image r old → AreForLoops image r next
+for-same image r old next same wanted pc k within some =
+    let here : slice_index (next pc) k ≡ slice_index (old pc) k = ap (λ (xs : List ℕ). slice_index xs k) (same pc within) in
+    let W = wanted pc k within (subst (λ (n : ℕ). 0 < n) here some) in
+    let there : slice_index (next W.at) k ≡ slice_index (old W.at) k = ap (λ (xs : List ℕ). slice_index xs k) (same W.at W.within) in
+    record { at = W.at; within = W.within; branches = W.branches; way = W.way; point = W.point; there = W.there; loops = W.loops; counter = W.counter; much = (let much = W.much in omega (arith, much, here, there)) }
+
 -- so they are in one more routine
 pub least-more : (image : Parts) (r more count : ℕ) (known : List (Option Row)) (numbers next : Numbers) → more ≡ r + 1 → StaysFrom (start_of image.routines (r + 1)) numbers next
     → AreLeastFrom image more count known numbers → (HasLoops image r → PayLeastIn image r known next) → AreLeastFrom image r count known next
@@ -225,7 +234,7 @@ least-more image r more count known numbers next one stay before here q from lt 
       let same : (pc : ℕ) → IsPcOf image q pc → (slice_index next.steps pc ≡ slice_index numbers.steps pc) × (coefficients_at next.coefficients pc ≡ coefficients_at numbers.coefficients pc) =
       (λ pc within. (let above = within.above in (stay.steps pc (omega (arith, above, later)), stay.coefficients pc (omega (arith, above, later))))) in
       let old = before q (omega (arith, one, ne, from)) lt loops in
-      (paid-same image q known numbers next same old.0, least-same image q known numbers next same old.1)
+      (paid-same image q known numbers next same old.0, least-same image q known numbers next same old.1, for-same image q (coefficients_at numbers.coefficients) (coefficients_at next.coefficients) (λ pc within. (same pc within).1) old.2)
 ]
 
 -- what is found in a routine, where its body is of it
@@ -329,6 +338,41 @@ module _ (image : Parts) (legal : is_image image ≡ true) (known : List (Option
       let constant : point.potential.constant ≡ slice_index numbers.steps pc = ap (λ (x : Point). x.potential.constant) is in
       omega (arith, less, constant)
 
+  -- an edge that asks for a coefficient does in what is answered
+  asking-made : (r k pc to : ℕ) (branch : Bool) → LeadsAsking image r k pc branch to → LeadsAsking made r k pc branch to
+  asking-made r k pc to branch A = record {
+    leads = record { point = _; there = P.each pc A.leads.point A.leads.there; has = A.leads.has; leads = A.leads.leads };
+    stays = record { above = A.stays.above; below = A.stays.below };
+    asks = A.asks;
+  }
+
+  way-made : (r k : ℕ) (branches : List Bool) (from to : ℕ) → IsAskingWay image r k from branches to → IsAskingWay made r k from branches to
+  way-made r k [] from to way = way
+  way-made r k (branch ∷ branches) from to way = (way.0, asking-made r k from way.0 branch way.1, way-made r k branches way.0 to way.2)
+
+  -- so its coefficients are wanted for LOOPs
+  pub for-given : AreLeastFrom image 0 (length image.routines) known numbers → HasCoefficientsForLoops made
+  for-given least r lt loops pc k within some =
+      let wanted = (least r (omega arith) lt (loops-same r loops)).2 in
+      let inside : IsPcOf image r pc = record { above = within.above; below = within.below } in
+      let point = at r lt pc inside in
+      let here : coefficients_in made pc ≡ coefficients_at numbers.coefficients pc = rw (P.each pc point.0 point.1) refl in
+      let W = wanted pc k inside (subst (λ (xs : List ℕ). 0 < slice_index xs k) here some) in
+      let there : coefficients_in made W.at ≡ coefficients_at numbers.coefficients W.at = rw (P.each W.at W.point W.there) refl in
+      let here_k = ap (λ (xs : List ℕ). slice_index xs k) here in
+      let there_k = ap (λ (xs : List ℕ). slice_index xs k) there in
+      record {
+        at = W.at;
+        within = record { above = W.within.above; below = W.within.below };
+        branches = W.branches;
+        way = way-made r k W.branches pc W.at W.way;
+        point = _;
+        there = P.each W.at W.point W.there;
+        loops = W.loops;
+        counter = W.counter;
+        much = (let much = W.much in omega (arith, much, here_k, there_k));
+      }
+
   -- and it pays
   pub paid-given : AreLeastFrom image 0 (length image.routines) known numbers → PaysForLoops made
   paid-given least r lt loops =
@@ -368,3 +412,21 @@ never-loops image pc i lt there not L =
 
 pub never-back : (image : Parts) (r pc : ℕ) → TargetAhead image r pc → GoesBack image r pc → ⊥
 never-back image r pc ahead G = (let less = ahead G.to G.i G.stays G.edge in let back = G.back in omega (arith, less, back))
+
+-- Edges that are looked at
+
+-- they are also where those of one more place are
+pub looked-more : (image : Parts) (r : ℕ) (arcs : List (List (Option Arc))) (jumps : List Jump) (pay : List (List ℕ)) (links next : List (List (Option Link))) (p more : ℕ) (along branching : Option Link) → more ≡ p + 1
+    → next ≡ set links p (along ∷ branching ∷ []) → p < length links → IsLookedAt arcs jumps pay p false along → IsLookedAt arcs jumps pay p true branching
+    → ((pc : ℕ) (branch : Bool) → IsPcOf image r pc → pc < p → IsLookedAt arcs jumps pay pc branch (link_at links pc branch))
+    → (pc : ℕ) (branch : Bool) → IsPcOf image r pc → pc < more → IsLookedAt arcs jumps pay pc branch (link_at next pc branch)
+looked-more image r arcs jumps pay links next p more along branching one is room first second before pc branch within lt = rw is (elim (cases_eq pc p) [
+  | inl same ↦ subst (λ (n : ℕ). IsLookedAt arcs jumps pay n branch (link_at (set links p (along ∷ branching ∷ [])) n branch)) (sym same) (here branch)
+  | inr ne ↦
+      let other : get_or (set links p (along ∷ branching ∷ [])) pc [] ≡ get_or links pc [] = get_or-set_other links p pc (along ∷ branching ∷ []) [] ne in
+      subst (λ (both : List (Option Link)). IsLookedAt arcs jumps pay pc branch (slice_index_or both (if branch then 1 else 0) None)) (sym other) (before pc branch within (omega (arith, lt, one, ne)))
+])
+  where
+    here : (b : Bool) → IsLookedAt arcs jumps pay p b (link_at (set links p (along ∷ branching ∷ [])) p b)
+    here false = subst (λ (both : List (Option Link)). IsLookedAt arcs jumps pay p false (slice_index_or both 0 None)) (sym (get_or-set_same links p (along ∷ branching ∷ []) [] room)) first
+    here true = subst (λ (both : List (Option Link)). IsLookedAt arcs jumps pay p true (slice_index_or both 1 None)) (sym (get_or-set_same links p (along ∷ branching ∷ []) [] room)) second

@@ -88,7 +88,7 @@ touches-within image other same (suc depth) k r =
     list_any-map f (points_of other r) ∙ ap (list_any f) (points-code other r) ∙ ap (list_any f) code ∙ list_any-same f g (code_of image.routines (instrs_of image) r) equal
     ∙ ap (list_any g) (sym (points-code image r)) ∙ sym (list_any-map g (points_of image r))
 
-touches-same : (image other : Parts) → SameCode image other → (k r : ℕ) → touches other k r ≡ touches image k r
+pub touches-same : (image other : Parts) → SameCode image other → (k r : ℕ) → touches other k r ≡ touches image k r
 touches-same image other same k r =
     ap (λ (routines : List Routine). touches_within (length routines) other k r) same.routines ∙ touches-within image other same (length image.routines) k r
 
@@ -142,11 +142,11 @@ ends _ = inr (inl refl)
 
 module _ (image : Parts) (has : HasAccepted image) (r : ℕ) (routine : Routine) (there : slice_get has.other.routines r ≡ Some routine) where
   -- an instruction is the same in the image that is accepted
-  same-instr : (pc : ℕ) (old : Point) (point : Known) → slice_get image.points pc ≡ Some old → slice_get (places has.other) pc ≡ Some point → point.instr ≡ old.instr
+  pub same-instr : (pc : ℕ) (old : Point) (point : Known) → slice_get image.points pc ≡ Some old → slice_get (places has.other) pc ≡ Some point → point.instr ≡ old.instr
   same-instr pc old point read at =
       same_Some point.instr old.instr (sym (place-code-at has.other pc point at) ∙ ap (λ (code : List Instr). slice_get code pc) has.same.instrs ∙ code-at image pc old read)
 
-  point-of : (pc : ℕ) → IsPcOf image r pc → (point : Known) × HasPoint has.other r routine pc point
+  pub point-of : (pc : ℕ) → IsPcOf image r pc → (point : Known) × HasPoint has.other r routine pc point
   point-of pc within =
       let low : start_of has.other.routines r ≤ pc = subst (λ (routines : List Routine). start_of routines r ≤ pc) (sym has.same.routines) within.above in
       let high : pc < start_of has.other.routines (r + 1) = subst (λ (routines : List Routine). pc < start_of routines (r + 1)) (sym has.same.routines) within.below in
@@ -159,7 +159,7 @@ module _ (image : Parts) (has : HasAccepted image) (r : ℕ) (routine : Routine)
   calls-same : (i j : Instr) → i ≡ j → call_steps has.other i ≡ call_steps image j
   calls-same i j same = ap (call_steps has.other) same ∙ ap (λ (routines : List Routine). if calls j.opcode then (elim (slice_get routines j.imm) [ None ↦ 0 | Some routine ↦ routine.budget ]) else 0) has.same.routines
 
-  four-at : (pc : ℕ) (place : Known) → slice_get (places has.other) pc ≡ Some place → PotentialFits place.potential
+  pub four-at : (pc : ℕ) (place : Known) → slice_get (places has.other) pc ≡ Some place → PotentialFits place.potential
   four-at pc place read =
       let found = find-point has.other pc place read in
       let fitting : PointFits found.0 = subst PointFits (get_or_from_slice_get has.other.points pc found.0 found.0 found.1) (has.fits.points pc found.0 (slice_get_within has.other.points pc found.0 found.1)) in

@@ -91,7 +91,7 @@ module _ (image : Parts) (r pc : ℕ) (branch : Bool) (edge : Edge_) (row : Row)
 
 -- Bounds
 
-bound-at : (xs us : List ℕ) (k : ℕ) → all2 nat_le xs us ≡ true → slice_index xs k ≤ slice_index us k
+pub bound-at : (xs us : List ℕ) (k : ℕ) → all2 nat_le xs us ≡ true → slice_index xs k ≤ slice_index us k
 bound-at [] [] k h = omega arith
 bound-at [] (u ∷ us) k h = absurd cc
 bound-at (x ∷ xs) [] k h = absurd cc

@@ -1,16 +1,17 @@
 -- Causes for which no rows or no numbers of steps are found for a routine, and what each says.
-use Rattle.std.specs.Prelude.{◌≡◌, ◌≢◌, ◌≤◌, ◌<◌, ℕ, Bool, ◌&&◌, List, [], ◌∷◌, ◌+◌, true, false, ◌==◌, Option, None, Some, slice_get}
+use Rattle.std.specs.Prelude.{◌≡◌, ◌≢◌, ◌≤◌, ◌<◌, ◌⊎◌, ℕ, Bool, ◌&&◌, List, [], ◌∷◌, ◌+◌, true, false, ◌==◌, Option, None, Some, length, slice_get}
 use Rattle.geos_opcodes.specs.declared.opcode.Opcode.{Opcode}
 use Rattle.geos_opcodes.specs.declared.opcode.Opcode.TheVariants.{Setk, Setkw, Loop}
 use Rattle.geos_image.specs.declared.instr.Instr.{Instr}
 use Rattle.geos_image.specs.declared.point.Point.{Point}
 use Rattle.geos_image.specs.declared.row.Row.{Row}
-use Rattle.geos_image.specs.Parts.{Parts}
+use Rattle.geos_image.specs.Parts.{Parts, start_of}
 use Rattle.geos_verify.specs.Rows.{bound}
 use Rattle.geos_verify.specs.Touched.{calls, noted, touches}
 use Rattle.geos_infer.specs.Code.{IsPcOf}
 use Rattle.geos_infer.specs.Flow.{row_of, known_at}
 use Rattle.geos_infer.specs.Reached.{FitWhereReached}
+use Rattle.geos_infer.specs.Theorem.{HasAccepted}
 use Rattle.geos_infer.specs.Why.{LeadsTo, AreApart, MeetAlike}
 use Rattle.geos_infer.specs.Trails.{IsTrail}
 use Rattle.geos_infer.specs.Taken as taken
@@ -55,10 +56,6 @@ pub record GoesRound (image : Parts) (r from to : ℕ) : Type 0 where
   pub begins : IsPcOf image r from
   pub branches : List Bool
   pub way : IsUnpaidWay image r to branches from
-
--- whichever way control goes round in routine r, it takes a LOOP's way to its target
-abbrev pub OnlyLoopsGoRound : Parts → ℕ → Type 0
-OnlyLoopsGoRound image r = (pc next : ℕ) (branch : Bool) (branches : List Bool) → IsPcOf image r pc → LeadsUnpaid image r pc branch next → IsUnpaidWay image r next branches pc → ⊥
 
 -- the instruction is a LOOP on this counter
 abbrev pub loops_on : ℕ → Instr → Opcode → Bool
@@ -134,6 +131,45 @@ pub record TouchesWithin (image : Parts) (r : ℕ) (within : Within) : Type 0 wh
   pub left : LeavesTouched image r within
   pub round : ComesRound image r within.back.to within.at
 
+-- Ways round on which no LOOP may pay
+
+-- a counter is at a pc of routine r, on some way, as it was where the routine begins
+pub record IsUnset (image : Parts) (r counter pc : ℕ) : Type 0 where
+  pub branches : List Bool
+  pub trail : IsTrail image r (Some counter) (start_of image.routines r) branches pc
+
+-- it is there as a call left it of a routine that touches it
+pub record IsLeft (image : Parts) (r counter pc : ℕ) : Type 0 where
+  pub at : ℕ
+  pub here : IsPcOf image r at
+  pub touches : PassesAt image at (calls_touching image counter)
+  pub kept : IsKept image r counter at pc
+
+-- it is there as something left it that is not a SETK of the routine, so that it may not pay there
+abbrev pub MayNotPay : Parts → ℕ → ℕ → ℕ → Type 0
+MayNotPay image r counter pc = IsUnset image r counter pc ⊎ IsLeft image r counter pc
+
+-- the instruction at a pc has an edge to one of routine r; if it is a LOOP's way to its target, the counter may not pay
+pub record LeadsIdle (image : Parts) (r pc : ℕ) (branch : Bool) (to : ℕ) : Type 0 where
+  pub leads : LeadsTo image pc branch to
+  pub stays : IsPcOf image r to
+  pub idle : (branch && is_loop leads.point.instr.opcode) ≡ true → MayNotPay image r leads.point.instr.a pc
+
+-- such edges lead from a pc to another; each says whether it is the one to a target
+abbrev pub IsIdleWay : Parts → ℕ → ℕ → List Bool → ℕ → Type 0
+IsIdleWay image r from [] to = from ≡ to
+IsIdleWay image r from (branch ∷ branches) to = (next : ℕ) × LeadsIdle image r from branch next × IsIdleWay image r next branches to
+
+-- control can go round in routine r, and no LOOP on the way may pay
+pub record IsNeverPaid (image : Parts) (r : ℕ) : Type 0 where
+  pub from : ℕ
+  pub begins : IsPcOf image r from
+  pub branch : Bool
+  pub next : ℕ
+  pub first : LeadsIdle image r from branch next
+  pub branches : List Bool
+  pub way : IsIdleWay image r next branches from
+
 -- in the loop that a LOOP closes, the counter of another LOOP is set, and kept from there to that
 pub record SetsFor (image : Parts) (r : ℕ) (back other : BackWay) (counter at : ℕ) : Type 0 where
   pub here : IsPcOf image r at
@@ -196,15 +232,15 @@ abbrev pub Holds : Parts → ℕ → Cause → Type 0
 Holds image r (SlotsDiffer apart) = AreApart image r apart
 Holds image r (NoLoop back) = GoesRound image r back.from back.to
 Holds image r (SetWithin within) = SetsWithin image r within
-Holds image r (TouchedWithin within) = TouchesWithin image r within
-Holds image r (TouchedBefore within) = TouchesBefore image r within
+Holds image r (TouchedWithin within) = TouchesWithin image r within × IsNeverPaid image r
+Holds image r (TouchedBefore within) = TouchesBefore image r within × IsNeverPaid image r
 Holds image r (InTurn both) = WaitInTurn image r both
 Holds image r StepsPass = taken.StepsPass image r
 Holds image r (WordUnbounded by_word) = SetsByWord image r by_word
 Holds image r (NumberHigh by_number) = SetsByNumber image r by_number
 Holds image r (GivenUp back) = LeadsBack image r back
 Holds image r StepsMayPass = MayPass image r
-Holds image r (NoSteps back) = LeadsBack image r back × OnlyLoopsGoRound image r
+Holds image r (NoSteps back) = LeadsBack image r back × (IsNeverPaid image r → ⊥)
 Holds image r Unknown = IsUnexplained image r
 
 -- the cause is that slots differ
@@ -215,3 +251,15 @@ tells_of_slots _ = false
 -- where the cause is unknown, no other one holds
 abbrev pub NoOtherHolds : Type 0
 NoOtherHolds = (image : Parts) (r : ℕ) (cause : Cause) → Holds image r Unknown → cause ≢ Unknown → Holds image r cause → ⊥
+
+-- the cause is one for which no numbers of steps are enough: nothing pays for a way round, or more steps are taken than a potential can say
+abbrev pub is_final : Cause → Bool
+is_final (NoLoop back) = true
+is_final (TouchedWithin within) = true
+is_final (TouchedBefore within) = true
+is_final StepsPass = true
+is_final _ = false
+
+-- where such a cause holds of some routine, no image is accepted that has this code
+abbrev pub NoneIsAcceptedFor : Type 0
+NoneIsAcceptedFor = (image : Parts) (r : ℕ) (cause : Cause) → r < length image.routines → is_final cause ≡ true → Holds image r cause → HasAccepted image → ⊥

@@ -1,6 +1,7 @@
 -- Constants that pay where the coefficients are given, and the least of them.
-use Rattle.std.specs.Prelude.{◌≡◌, ◌≤◌, ◌<◌, ◌⊎◌, ℕ, Bool, true, false, List, [], length, Option, Some, None, slice_get, slice_index, slice_index_or}
-use Rattle.geos_opcodes.specs.declared.opcode.Opcode.TheVariants.{Loop}
+use Rattle.std.specs.Prelude.{◌≡◌, ◌≤◌, ◌<◌, ◌⊎◌, ℕ, Bool, true, false, ◌||◌, ◌==◌, not, List, [], ◌∷◌, length, Option, Some, None, slice_get, slice_index, slice_index_or}
+use Rattle.geos_opcodes.specs.declared.opcode.Opcode.{Opcode}
+use Rattle.geos_opcodes.specs.declared.opcode.Opcode.TheVariants.{Setk, Setkw, Loop}
 use Rattle.geos_image.specs.declared.instr.Instr.{Instr}
 use Rattle.geos_image.specs.declared.row.Row.{Row}
 use Rattle.geos_image.specs.declared.potential.Potential.{Potential}
@@ -76,6 +77,47 @@ HasLeastConstants image = (r : ℕ) (steps : ℕ → ℕ) → r < length image.r
 abbrev pub PaysForLoops : Parts → Type 0
 PaysForLoops image = (r : ℕ) → r < length image.routines → HasLoops image r → PotentialsPay image r (given_row image) (potential_given image)
 
+-- What coefficients are wanted for
+
+-- an edge of the instruction asks for the coefficient of a counter behind it: all but those on which the counter is set, and those on which a
+-- LOOP finds it 0
+abbrev pub asks_coefficient : ℕ → Instr → Opcode → Bool → Bool
+asks_coefficient k i Setk branch = branch || not (i.a == k)
+asks_coefficient k i Setkw branch = branch || not (i.a == k)
+asks_coefficient k i Loop branch = branch || not (i.a == k)
+asks_coefficient k i _ branch = true
+
+-- the instruction at a pc has such an edge to one of routine r
+pub record LeadsAsking (image : Parts) (r k pc : ℕ) (branch : Bool) (to : ℕ) : Type 0 where
+  pub leads : LeadsTo image pc branch to
+  pub stays : IsPcOf image r to
+  pub asks : asks_coefficient k leads.point.instr leads.point.instr.opcode branch ≡ true
+
+-- such edges lead from a pc to another; each says whether it is the one to a target
+abbrev pub IsAskingWay : Parts → ℕ → ℕ → ℕ → List Bool → ℕ → Type 0
+IsAskingWay image r k from [] to = from ≡ to
+IsAskingWay image r k from (branch ∷ branches) to = (next : ℕ) × LeadsAsking image r k from branch next × IsAskingWay image r k next branches to
+
+-- the coefficient of a counter at a pc of routine r is asked for by a LOOP that takes from the counter, and has as much of it, on a way
+pub record IsForLoop (image : Parts) (r : ℕ) (coefficients : ℕ → List ℕ) (pc k : ℕ) : Type 0 where
+  pub at : ℕ
+  pub within : IsPcOf image r at
+  pub branches : List Bool
+  pub way : IsAskingWay image r k pc branches at
+  pub point : Point
+  pub there : slice_get image.points at ≡ Some point
+  pub loops : point.instr.opcode ≡ Loop
+  pub counter : point.instr.a ≡ k
+  pub much : slice_index (coefficients pc) k ≤ slice_index (coefficients at) k
+
+-- the same of each coefficient of routine r that is not 0
+abbrev pub AreForLoops : Parts → ℕ → (ℕ → List ℕ) → Type 0
+AreForLoops image r coefficients = (pc k : ℕ) → IsPcOf image r pc → 0 < slice_index (coefficients pc) k → IsForLoop image r coefficients pc k
+
+-- in routines with loops, each coefficient of an image is wanted for a LOOP
+abbrev pub HasCoefficientsForLoops : Parts → Type 0
+HasCoefficientsForLoops image = (r : ℕ) → r < length image.routines → HasLoops image r → AreForLoops image r (coefficients_in image)
+
 -- What is counted
 
 -- the rows that are known
@@ -108,9 +150,9 @@ IsPaidOver image r known numbers pc branch = (to : ℕ) → (leads : LeadsTo ima
 abbrev pub ArePaidIn : Parts → ℕ → List (Option Row) → Numbers → Type 0
 ArePaidIn image r known numbers = PotentialsPay image r (row_known known) (potential_in numbers)
 
--- they pay, and the steps are the least that do
+-- they pay, the steps are the least that do, and the coefficients are wanted for LOOPs
 abbrev pub PayLeastIn : Parts → ℕ → List (Option Row) → Numbers → Type 0
-PayLeastIn image r known numbers = ArePaidIn image r known numbers × AreLeastIn image r known numbers
+PayLeastIn image r known numbers = ArePaidIn image r known numbers × AreLeastIn image r known numbers × AreForLoops image r (coefficients_at numbers.coefficients)
 
 -- the same of each routine with loops from one on up to another
 abbrev pub AreLeastFrom : Parts → ℕ → ℕ → List (Option Row) → Numbers → Type 0

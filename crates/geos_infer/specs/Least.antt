@@ -1,12 +1,14 @@
 -- The longest ways that are known, and numbers of steps that pay for each edge.
-use Rattle.std.specs.Prelude.{◌≡◌, ◌≤◌, ◌+◌, ℕ, Bool, if◌then◌else◌, List, [], Option, Some, None, slice_get, slice_index, slice_index_or}
+use Rattle.std.specs.Prelude.{◌≡◌, ◌≤◌, ◌+◌, ◌⊎◌, ℕ, Bool, true, false, if◌then◌else◌, List, [], Option, Some, None, slice_get, slice_index, slice_index_or}
 use Rattle.geos_image.specs.Parts.{Parts}
 use Rattle.geos_image.specs.declared.point.Point.{Point}
-use Rattle.geos_infer.specs.Arcs.{arc_at, price_of, paid_by}
+use Rattle.geos_infer.specs.Arcs.{arc_at, price_of, paid_by, IsLink}
 use Rattle.geos_infer.specs.Code.{IsPcOf}
 use Rattle.geos_infer.specs.Count.{return_steps}
 use Rattle.geos_infer.specs.Numbers.{Numbers}
 use Rattle.geos_infer.specs.declared.arcs.Arc.{Arc}
+use Rattle.geos_infer.specs.declared.jumps.Jump.{Jump}
+use Rattle.geos_infer.specs.declared.jumps.Jump.TheVariants.{Plain, Free}
 use Rattle.geos_infer.specs.declared.lengths.Link.{Link}
 use Rattle.geos_infer.specs.declared.lengths.Way.{Way}
 
@@ -52,6 +54,22 @@ AreEnds image r ways next = (want : ℕ → ℕ) → PayEnds image r ways want �
 -- that is looked at
 abbrev pub AreLeast : Parts → ℕ → List (List (Option Link)) → List Way → List Way → Type 0
 AreLeast image r links ways next = (want : ℕ → ℕ) → PayAll links want → PayEnds image r ways want → AtMost next want
+
+-- What is looked at
+
+-- the way of a LOOP to its target is left out
+abbrev pub is_free : Jump → Bool
+is_free Free = true
+is_free _ = false
+
+-- the edge of a pc is looked at with what it costs, where units of counters pay for so much, or it is a LOOP's that is left out, or there is none
+abbrev pub IsLookedAt : List (List (Option Arc)) → List Jump → List (List ℕ) → ℕ → Bool → Option Link → Type 0
+IsLookedAt arcs jumps pay pc branch None = (arc_at arcs pc branch ≡ None) ⊎ ((branch ≡ true) × (is_free (slice_index_or jumps pc Plain) ≡ true))
+IsLookedAt arcs jumps pay pc branch (Some link) = (arc : Arc) × (arc_at arcs pc branch ≡ Some arc) × IsLink pay pc arc link
+
+-- the same of each edge of routine r
+abbrev pub AreLookedAt : Parts → ℕ → List (List (Option Arc)) → List Jump → List (List ℕ) → List (List (Option Link)) → Type 0
+AreLookedAt image r arcs jumps pay links = (pc : ℕ) (branch : Bool) → IsPcOf image r pc → IsLookedAt arcs jumps pay pc branch (link_at links pc branch)
 
 -- What is made of these
 

@@ -19,3 +19,4 @@ pub mod Constants
 pub mod Least
 pub mod Causes
 pub mod Ranks
+pub mod Demands

@@ -1,6 +1,6 @@
 //! The edges of a routine with what they cost, and what they do to counters.
 
-ghost use Rattle.std.specs.Prelude.{◌≡◌, ◌<◌, ◌≤◌, ◌+◌};
+ghost use Rattle.std.specs.Prelude.{◌≡◌, ◌<◌, ◌≤◌, ◌+◌, false, slice_index_or};
 
 /// What an edge does to counters.
 #[derive(Clone, Copy)]
@@ -26,6 +26,9 @@ pub(crate) struct Arc {
 }
 
 impl Arc {
+    ghost use Rattle.std.specs.Prelude.{◌≡◌, ◌≤◌, ◌+◌};
+    ghost use Rattle.geos_infer.specs.Demands.{keeps, forgets, taken_from};
+
     /// Its step, and the budget of the routine that is called.
     pub(crate) fn steps(&self) -> u64
         ensures value { result ≡ 1 + self.now.called }
@@ -35,7 +38,9 @@ impl Arc {
     }
 
     /// Whether it asks for what is behind it of a counter's coefficient.
-    pub(crate) fn keeps(&self, counter: u8) -> bool {
+    pub(crate) fn keeps(&self, counter: u8) -> bool
+        ensures { result ≡ keeps self.now.counting counter }
+    {
         match self.counting {
             Counting::Sets(set, _) => set != counter,
             Counting::Forgets(counters) => !is_among(&counters, counter),
@@ -44,7 +49,9 @@ impl Arc {
     }
 
     /// Whether nothing is known of a counter behind it.
-    pub(crate) fn forgets(&self, counter: u8) -> bool {
+    pub(crate) fn forgets(&self, counter: u8) -> bool
+        ensures { result ≡ forgets self.now.counting counter }
+    {
         match self.counting {
             Counting::Forgets(counters) => is_among(&counters, counter),
             _ => false,
@@ -52,7 +59,9 @@ impl Arc {
     }
 
     /// The counter that it takes a unit from.
-    pub(crate) fn takes(&self) -> Option<u8> {
+    pub(crate) fn takes(&self) -> Option<u8>
+        ensures { result ≡ taken_from self.now.counting }
+    {
         match self.counting {
             Counting::Takes(counter) => Some(counter),
             _ => None,
@@ -69,7 +78,9 @@ impl Arc {
 }
 
 /// Whether a counter is one of these.
-fn is_among(counters: &[bool; 4], counter: u8) -> bool {
+fn is_among(counters: &[bool; 4], counter: u8) -> bool
+    ensures { result ≡ slice_index_or counters.now counter false }
+{
     match counters.get(usize::from(counter)) {
         Some(is) => *is,
         None => false,

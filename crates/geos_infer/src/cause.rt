@@ -2,7 +2,7 @@
 
 ghost use Rattle.std.specs.Prelude.{◌≡◌, ◌<◌, ◌≤◌, false, length, IfSome, IfNone, IfOk};
 ghost use Rattle.geos_infer.specs.Ahead.{OnlyAhead};
-ghost use Rattle.geos_infer.specs.Causes.{LeadsBack, KnowsTouched, Holds, NoOtherHolds, tells_of_slots};
+ghost use Rattle.geos_infer.specs.Causes.{LeadsBack, KnowsTouched, IsNeverPaid, SetsWithin, Holds, NoOtherHolds, NoneIsAcceptedFor, tells_of_slots};
 ghost use Rattle.geos_infer.specs.Code.{TargetAhead};
 ghost use Rattle.geos_infer.specs.Reached.{FitWhereReached};
 ghost use Rattle.geos_infer.specs.Why.{MeetAlike};
@@ -11,9 +11,10 @@ use crate::ahead::may_pass;
 use crate::apart::{Apart, find_apart};
 use crate::body::{Body, body_of};
 use crate::edges::edge_in;
+use crate::idle::is_never_paid;
 use crate::in_turn::find_in_turn;
 use crate::pieces::Piece;
-use crate::ranks::only_loops_go_round;
+use crate::ranks::some_always_may_pay;
 use crate::rows::find_rows;
 use crate::search::Search;
 use crate::setting::find_dear;
@@ -110,7 +111,8 @@ pub enum Cause {
     GivenUp(BackWay),
     /// No way leads back, and on some way more steps are taken than a potential can say, if LOOPs may go either way.
     StepsMayPass,
-    /// None of these was found; a way leads back, and control goes round only by LOOPs' ways to their targets.
+    /// None of these was found; a way leads back, and whichever way control goes round, it takes the way to its target of a LOOP that may
+    /// pay: on each way to it the counter is set.
     NoSteps(BackWay),
     /// None of these holds.
     Unknown,
@@ -142,7 +144,7 @@ fn find_back(body: &Body) -> Option<BackWay>
     None
 }
 
-/// Why the LOOP at a pc of a component may not pay there.
+/// Why the LOOP at a pc of a component may not pay there, where on some way round none may.
 fn cause_at(
     body: &Body,
     touching: &Touching,
@@ -153,6 +155,7 @@ fn cause_at(
 ) -> Option<Cause>
     requires here { from < body.now.end }
     requires touched { KnowsTouched body.now.image.now touching.now }
+    requires never { IsNeverPaid body.now.image.now body.now.r }
     ensures { IfSome result (Holds body.now.image.now body.now.r) }
 {
     let graph = &search.graph;
@@ -163,10 +166,32 @@ fn cause_at(
     if let Some(within) = find_touched_within(body, touching, graph, order, piece, from, trails) {
         return Some(Cause::TouchedWithin(within));
     }
-    match find_touched_before(body, touching, graph, order, from, trails) {
+    match find_touched_before(body, touching, graph, from, trails) {
         Some(before) => Some(Cause::TouchedBefore(before)),
         None => None,
     }
+}
+
+/// The first cause for which a LOOP of a component may not pay there, where on some way round none may.
+fn first_cause(
+    body: &Body,
+    touching: &Touching,
+    search: &Search,
+    piece: &Piece,
+    trails: &mut Trails,
+) -> Option<Cause>
+    requires touched { KnowsTouched body.now.image.now touching.now }
+    requires never { IsNeverPaid body.now.image.now body.now.r }
+    ensures { IfSome result (Holds body.now.image.now body.now.r) }
+{
+    for pc in body.start..body.end {
+        if search.splitting.order.has(piece, pc) {
+            if let Some(cause) = cause_at(body, touching, search, piece, pc, trails) {
+                return Some(cause);
+            }
+        }
+    }
+    None
 }
 
 /// Why no LOOP may pay in a component.
@@ -180,10 +205,35 @@ fn cause_of_stuck(
     requires { KnowsTouched body.now.image.now touching.now }
     ensures { IfSome result (Holds body.now.image.now body.now.r) }
 {
+    let Search {
+        graph,
+        splitting,
+        ..
+    } = search;
+    if is_never_paid(body, touching, graph, splitting, piece, trails) {
+        first_cause(body, touching, search, piece, trails)
+    } else {
+        None
+    }
+}
+
+/// Where in a component the counter of a LOOP is set for it, the first one that is found.
+fn find_set(
+    body: &Body,
+    touching: &Touching,
+    search: &Search,
+    piece: &Piece,
+    trails: &mut Trails,
+) -> Option<Within>
+    requires { KnowsTouched body.now.image.now touching.now }
+    ensures { IfSome result (SetsWithin body.now.image.now body.now.r) }
+{
+    let graph = &search.graph;
+    let order = &search.splitting.order;
     for pc in body.start..body.end {
-        if search.splitting.order.has(piece, pc) {
-            if let Some(cause) = cause_at(body, touching, search, piece, pc, trails) {
-                return Some(cause);
+        if order.has(piece, pc) {
+            if let Some(within) = find_set_within(body, touching, graph, order, piece, pc, trails) {
+                return Some(within);
             }
         }
     }
@@ -205,9 +255,11 @@ fn cause_of_lack(
     ensures { IfSome result (Holds body.now.image.now body.now.r) }
 {
     match lack {
-        Lack::Stuck(piece) | Lack::SetWithin(piece) => {
-            cause_of_stuck(body, touching, search, &piece, trails)
-        }
+        Lack::Stuck(piece) => cause_of_stuck(body, touching, search, &piece, trails),
+        Lack::SetWithin(piece) => match find_set(body, touching, search, &piece, trails) {
+            Some(within) => Some(Cause::SetWithin(within)),
+            None => None,
+        },
         Lack::Passes => {
             if let Some(pair) = find_in_turn(
                 body,
@@ -335,11 +387,18 @@ fn cause_ahead(alloc: Global, body: &Body) -> Result<Cause, AllocError>
 }
 
 /// Why no numbers of steps are found in a routine in which a way leads back, where nothing else is found.
-fn cause_of_loops(alloc: Global, body: &Body, back: BackWay) -> Result<Cause, AllocError>
-    requires { LeadsBack body.now.image.now body.now.r back }
+fn cause_of_loops(
+    alloc: Global,
+    body: &Body,
+    touching: &Touching,
+    known: &Known,
+    back: BackWay,
+) -> Result<Cause, AllocError>
+    requires back { LeadsBack body.now.image.now body.now.r back }
+    requires touched { KnowsTouched body.now.image.now touching.now }
     ensures { IfOk result (Holds body.now.image.now body.now.r) }
 {
-    if only_loops_go_round(alloc, body)? {
+    if some_always_may_pay(alloc, body, touching, known)? {
         Ok(Cause::NoSteps(back))
     } else {
         // Else a way round would have been found before: that it would be is not proved.
@@ -364,13 +423,14 @@ pub fn find_cause(alloc: Global, image: &Image, r: u16) -> Result<Cause, AllocEr
         return Ok(Cause::NoLoop(back));
     }
     let (known, routines) = find_rows(alloc, image)?;
+    let touching = find_touching(image);
     if r < routines {
-        if let Some(cause) = cause_of_steps(alloc, &body, &find_touching(image), &known)? {
+        if let Some(cause) = cause_of_steps(alloc, &body, &touching, &known)? {
             return Ok(cause);
         }
     }
     match find_back(&body) {
-        Some(back) => cause_of_loops(alloc, &body, back),
+        Some(back) => cause_of_loops(alloc, &body, &touching, &known, back),
         None => cause_ahead(alloc, &body),
     }
 }
@@ -378,4 +438,10 @@ pub fn find_cause(alloc: Global, image: &Image, r: u16) -> Result<Cause, AllocEr
 /// A law: where the cause is unknown, no other one holds.
 pub fn no_other_cause_holds()
     ensures { NoOtherHolds }
+{}
+
+/// A law: where nothing pays for a way back, a call leaves the counter of a LOOP, or steps pass what a potential can say, no image with that
+/// code is accepted.
+pub fn none_is_accepted_for()
+    ensures { NoneIsAcceptedFor }
 {}

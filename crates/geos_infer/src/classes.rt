@@ -1,6 +1,8 @@
 //! Where the unit of a counter may not be wanted, and what it costs.
 
-ghost use Rattle.std.specs.Prelude.{◌<◌};
+ghost use Rattle.std.specs.Prelude.{◌≡◌, ◌<◌, ◌==◌, not};
+ghost use Rattle.geos_infer.specs.Arcs.{unit_at};
+ghost use Rattle.geos_infer.specs.Ranks.{noted_idle};
 
 use crate::arcs::{Arc, Counting};
 use crate::body::Body;
@@ -124,6 +126,7 @@ impl Classes {
     /// Whether a call that touches a counter leaves it so for a place.
     pub(crate) fn is_touched(&self, pc: u16, counter: u8) -> bool
         requires { pc < 4096 }
+        ensures { result ≡ not (unit_at self.now.touched pc counter == 0) }
     {
         number_of(self.touched.get(pc), counter) != 0
     }
@@ -131,13 +134,23 @@ impl Classes {
     /// Whether a counter may be at a place what it was where the routine begins.
     pub(crate) fn is_unset(&self, pc: u16, counter: u8) -> bool
         requires { pc < 4096 }
+        ensures { result ≡ not (unit_at self.now.unset pc counter == 0) }
     {
         number_of(self.unset.get(pc), counter) != 0
+    }
+
+    /// Whether a counter may not pay at a place: a call leaves it so, or the routine begins with it.
+    pub(crate) fn is_idle(&self, pc: u16, counter: u8) -> bool
+        requires { pc < 4096 }
+        ensures { result ≡ noted_idle self.now pc counter }
+    {
+        self.is_touched(pc, counter) || self.is_unset(pc, counter)
     }
 
     /// What a unit of a counter costs at a place where the counter is set for it.
     pub(crate) fn price(&self, pc: u16, counter: u8) -> u32
         requires { pc < 4096 }
+        ensures { result ≡ unit_at self.now.prices pc counter }
     {
         number_of(self.prices.get(pc), counter)
     }
@@ -145,6 +158,7 @@ impl Classes {
     /// Whether a counter may be at a place what it was set to in the piece that was looked at last.
     pub(crate) fn is_set_within(&self, pc: u16, counter: u8) -> bool
         requires { pc < 4096 }
+        ensures { result ≡ not (unit_at self.now.set_within pc counter == 0) }
     {
         number_of(self.set_within.get(pc), counter) != 0
     }

@@ -3,7 +3,8 @@
 ghost use Rattle.std.specs.Prelude.{◌≡◌, ◌<◌, ◌≤◌, ◌+◌, Some, true, IfOk};
 ghost use Rattle.geos_image.specs.Parts.{start_of};
 ghost use Rattle.geos_infer.specs.Count.{StaysFrom};
-ghost use Rattle.geos_infer.specs.Least.{link_at, AreEnds, AreLeast, StayAtMost, AsksNoMore, AskNoMore, NoneOutside, ArePut};
+ghost use Rattle.geos_infer.specs.Demands.{StayWanted};
+ghost use Rattle.geos_infer.specs.Least.{link_at, AreEnds, AreLeast, StayAtMost, IsLookedAt, AreLookedAt, AsksNoMore, AskNoMore, NoneOutside, ArePut};
 ghost use Rattle.geos_infer.specs.Numbers.{numbers_of};
 ghost use Rattle.geos_infer.specs.declared.lengths.Link.{Link};
 
@@ -14,7 +15,6 @@ use crate::jumps::Jump;
 use crate::lengths::Link;
 use crate::nests::Splitting;
 use crate::pieces::{Order, Piece};
-use crate::spread::{go_back, only, raise};
 use crate::table::Potentials;
 use crate::units::{Lack, Units};
 use geos_image::Potential;
@@ -28,6 +28,7 @@ fn link_at(
     branch: bool,
 ) -> Option<Link>
     requires { pc < 4096 }
+    ensures { IsLookedAt graph.now.arcs splitting.now.jumps units.now.pay pc branch result }
 {
     if branch {
         if let Jump::Free = splitting.jumps.at(pc) {
@@ -42,6 +43,8 @@ fn link_at(
 fn begin(body: &Body, graph: &Graph, splitting: &Splitting, units: &mut Units)
     ensures ends { AreEnds body.now.image.now body.now.r units.old.lengths.ways units.new.lengths.ways }
     ensures outside { NoneOutside body.now.image.now body.now.r units.new.lengths.links }
+    ensures looked { AreLookedAt body.now.image.now body.now.r graph.now.arcs splitting.now.jumps units.new.pay units.new.lengths.links }
+    ensures pay { units.new.pay ≡ units.old.pay }
 {
     units.lengths.clear_links();
     for pc in body.start..body.end {
@@ -57,6 +60,7 @@ fn begin(body: &Body, graph: &Graph, splitting: &Splitting, units: &mut Units)
 fn lengthen(order: &Order, all: &Piece, units: &mut Units) -> Result<(), Lack>
     ensures links { units.new.lengths.links ≡ units.old.lengths.links }
     ensures below { StayAtMost units.old.lengths.links units.old.lengths.ways units.new.lengths.ways }
+    ensures pay { units.new.pay ≡ units.old.pay }
 {
     // A way that passes no place twice is found by as many sweeps as it has edges, and in the last one nothing is longer.
     for _ in 0..all.length().saturating_add(2) {
@@ -79,6 +83,8 @@ pub(crate) fn find_constants(
 ) -> Result<(), Lack>
     ensures least { AreLeast body.now.image.now body.now.r units.new.lengths.links units.old.lengths.ways units.new.lengths.ways }
     ensures outside { NoneOutside body.now.image.now body.now.r units.new.lengths.links }
+    ensures looked { AreLookedAt body.now.image.now body.now.r graph.now.arcs splitting.now.jumps units.new.pay units.new.lengths.links }
+    ensures pay { units.new.pay ≡ units.old.pay }
 {
     begin(body, graph, splitting, units);
     let all = Piece {
@@ -91,18 +97,16 @@ pub(crate) fn find_constants(
 /// Sets what a unit has to pay for at the LOOP at a pc, whose counter is 0.
 fn free_loop(graph: &Graph, units: &mut Units, pc: u16) -> Result<(), Lack>
     requires { pc < 4096 }
-    ensures { units.new.lengths ≡ units.old.lengths }
+    ensures lengths { units.new.lengths ≡ units.old.lengths }
+    ensures wanted { StayWanted graph.now.arcs units.old.pay units.new.pay }
 {
     let Some(arc) = graph.arc(pc, true) else {
-        return Ok(());
-    };
-    let Some(counter) = arc.takes() else {
         return Ok(());
     };
     let asked = units.lengths.steps(arc.to).saturating_add(arc.steps());
     match u32::try_from(asked.saturating_sub(units.lengths.steps(pc))) {
         Ok(unit) => {
-            units.raise(pc, &only(counter, unit));
+            units.raise_at_loop(graph, pc, unit);
             Ok(())
         }
         Err(_) => Err(Lack::Passes),
@@ -116,7 +120,8 @@ pub(crate) fn free_loops(
     splitting: &Splitting,
     units: &mut Units,
 ) -> Result<(), Lack>
-    ensures { units.new.lengths ≡ units.old.lengths }
+    ensures lengths { units.new.lengths ≡ units.old.lengths }
+    ensures wanted { StayWanted graph.now.arcs units.old.pay units.new.pay }
 {
     for pc in body.start..body.end {
         if let Jump::Free = splitting.jumps.at(pc) {

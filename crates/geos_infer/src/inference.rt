@@ -3,7 +3,7 @@
 ghost use Rattle.std.specs.Prelude.{◌≡◌, ℕ, false, IfOk, IfErr};
 ghost use Rattle.geos_infer.specs.declared.error.InferError.TheVariants.{NoRows};
 ghost use Rattle.geos_infer.specs.Code.{SameCode};
-ghost use Rattle.geos_infer.specs.Constants.{HasLeastConstants, PaysForLoops};
+ghost use Rattle.geos_infer.specs.Constants.{HasLeastConstants, HasCoefficientsForLoops, PaysForLoops};
 ghost use Rattle.geos_infer.specs.Numbers.{numbers_of};
 ghost use Rattle.geos_infer.specs.Points.{PointsOf, RoutinesOf};
 ghost use Rattle.geos_infer.specs.Reached.{AllHoldWhereReached, KeptRowsHold, RowsThatHoldPass};
@@ -56,7 +56,7 @@ fn routines_of(alloc: Global, image: &Image) -> Result<Vec<Routine>, AllocError>
 /// there (`rows_that_hold_pass`).
 ///
 /// In a routine with loops, the potentials pay for its edges and returns, and each constant is at most any that does with the rows and
-/// coefficients that are answered.
+/// coefficients that are answered. Each coefficient is that of a LOOP which takes from the counter, and asks for it on some way.
 ///
 /// Where there is no LOOP, no edge leads back, and each instruction but a routine's first has an
 /// edge into it, the verifier accepts what is answered, in version 2 too, if it accepts any image with that code.
@@ -70,6 +70,7 @@ pub fn infer(alloc: Global, skeleton: &Image) -> Result<Whole, InferError>
     ensures rows { IfOk result AllHoldWhereReached }
     ensures paid { IfOk result PaysForLoops }
     ensures least { IfOk result HasLeastConstants }
+    ensures wanted { IfOk result HasCoefficientsForLoops }
     ensures found { IfOk result (λ whole. FindsWhatThereIs skeleton.now whole) }
     ensures none { IfErr result (λ error. (r : ℕ) → error ≡ NoRows r → NoneIsAccepted skeleton.now) }
     ensures stuck { IfErr result (λ error. (r : ℕ) → error ≡ NoRows r → NothingHoldsIn skeleton.now r) }

@@ -57,7 +57,7 @@ pub(crate) struct Lengths {
 }
 
 impl Lengths {
-    ghost use Rattle.std.specs.Prelude.{◌≡◌, ◌≤◌, ℕ, Bool, None, slice_set};
+    ghost use Rattle.std.specs.Prelude.{◌≡◌, ◌<◌, ◌≤◌, ℕ, Bool, None, length, slice_set};
     ghost use Rattle.geos_infer.specs.Least.{steps_at, link_at, PaysLink, AtMost, StayAtMost};
 
     pub(crate) fn new(alloc: Global) -> Result<Lengths, AllocError> {
@@ -92,8 +92,11 @@ impl Lengths {
     pub(crate) fn set_links(&mut self, pc: u16, links: [Option<Link>; 2])
         requires { pc < 4096 }
         ensures links { self.new.links ≡ slice_set self.old.links pc links }
+        ensures room { pc < length self.old.links }
         ensures ways { self.new.ways ≡ self.old.ways }
     {
+        // For what its law says.
+        self.links.lengths();
         self.links.set(pc, links);
     }
 

@@ -25,6 +25,7 @@ mod error;
 mod fitted;
 mod flow;
 mod graph;
+mod idle;
 mod in_turn;
 mod inference;
 mod jumps;
@@ -61,6 +62,7 @@ mod within;
 pub use apart::{Apart, Coming};
 pub use cause::{
     BackWay, ByNumber, ByWord, Cause, LoopPair, Within, find_cause, no_other_cause_holds,
+    none_is_accepted_for,
 };
 pub use common::{clean, join};
 pub use edges::Edge;

@@ -1,6 +1,6 @@
 //! A nest that is paid for: the least unit with which no way round in it lacks something.
 
-ghost use Rattle.std.specs.Prelude.{◌<◌};
+ghost use Rattle.std.specs.Prelude.{◌≡◌, ◌<◌};
 
 use crate::arcs::Arc;
 use crate::graph::Graph;
@@ -135,7 +135,9 @@ impl Paying {
     }
 
     /// Notes what each edge costs, and forgets which edges made ways long.
-    fn weigh(&self, graph: &Graph, splitting: &Splitting, units: &mut Units) {
+    fn weigh(&self, graph: &Graph, splitting: &Splitting, units: &mut Units)
+        ensures { units.new.pay ≡ units.old.pay }
+    {
         let piece = &self.nest.piece;
         for x in piece.begin..piece.end {
             let pc = splitting.order.place(x);
@@ -218,7 +220,9 @@ impl Paying {
         graph: &Graph,
         splitting: &Splitting,
         units: &mut Units,
-    ) -> Result<(), Lack> {
+    ) -> Result<(), Lack>
+        ensures { units.new.pay ≡ units.old.pay }
+    {
         let piece = self.nest.piece;
         let mut raises = 0;
         self.weigh(graph, splitting, units);

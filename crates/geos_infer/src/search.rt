@@ -2,7 +2,7 @@
 
 ghost use Rattle.std.specs.Prelude.{◌+◌, IfOk};
 ghost use Rattle.geos_image.specs.Parts.{start_of};
-ghost use Rattle.geos_infer.specs.Constants.{AreLeastIn};
+ghost use Rattle.geos_infer.specs.Constants.{AreLeastIn, AreForLoops, coefficients_at};
 ghost use Rattle.geos_infer.specs.Count.{StaysFrom};
 ghost use Rattle.geos_infer.specs.Numbers.{numbers_of};
 
@@ -39,7 +39,8 @@ impl Search {
         })
     }
 
-    /// Finds potentials of a routine, or what is in the way. The constants are the least that pay with the coefficients.
+    /// Finds potentials of a routine, or what is in the way. The constants are the least that pay with the coefficients, and each of these is
+    /// wanted for a LOOP.
     pub(crate) fn find(
         &mut self,
         body: &Body,
@@ -48,6 +49,7 @@ impl Search {
         potentials: &mut Potentials,
     ) -> Result<(), Lack>
         ensures least { IfOk result (λ _. AreLeastIn body.now.image.now body.now.r known.now (numbers_of potentials.new)) }
+        ensures wanted { IfOk result (λ _. AreForLoops body.now.image.now body.now.r (coefficients_at (numbers_of potentials.new).coefficients)) }
         ensures stays { StaysFrom (start_of body.now.image.now.routines (body.now.r + 1)) (numbers_of potentials.old) (numbers_of potentials.new) }
     {
         self.graph.note(body, known, touched);

@@ -1,6 +1,9 @@
 //! Numbers of counters go along edges, or back over them, as long as these keep the counters; at each place the greatest stays.
 
-ghost use Rattle.std.specs.Prelude.{◌≡◌, ◌<◌, slice_index};
+ghost use Rattle.std.specs.Prelude.{◌≡◌, ◌<◌, max, length, slice_index, slice_set};
+ghost use Rattle.geos_verify.specs.Lists.{zip2};
+ghost use Rattle.geos_infer.specs.Demands.{kept_over, AreRaised, StayWanted};
+ghost use Rattle.geos_infer.specs.Numbers.{zeros};
 
 use crate::arcs::Arc;
 use crate::graph::Graph;
@@ -15,7 +18,9 @@ pub(crate) type Spread = Table<[u32; 4]>;
 const LOOKS: u32 = u32::MAX;
 
 /// The numbers of the counters that an edge keeps; 0 of the others.
-fn kept(arc: &Arc, numbers: &[u32; 4]) -> [u32; 4] {
+fn kept(arc: &Arc, numbers: &[u32; 4]) -> [u32; 4]
+    ensures { result ≡ kept_over arc.now.counting numbers.now }
+{
     let [n0, n1, n2, n3] = *numbers;
     [
         if arc.keeps(0) { n0 } else { 0 },
@@ -26,7 +31,9 @@ fn kept(arc: &Arc, numbers: &[u32; 4]) -> [u32; 4] {
 }
 
 /// One counter's number, and 0 of the others.
-pub(crate) fn only(counter: u8, number: u32) -> [u32; 4] {
+pub(crate) fn only(counter: u8, number: u32) -> [u32; 4]
+    ensures { result ≡ slice_set zeros counter number }
+{
     let mut numbers = [0; 4];
     if counter < 4 {
         numbers[usize::from(counter)] = number;
@@ -45,7 +52,10 @@ pub(crate) fn number_of(numbers: &[u32; 4], counter: u8) -> u32
 }
 
 /// The greater number of each counter.
-fn greatest(a: &[u32; 4], b: &[u32; 4]) -> [u32; 4] {
+fn greatest(a: &[u32; 4], b: &[u32; 4]) -> [u32; 4]
+    ensures value { result ≡ zip2 max a.now b.now }
+    ensures four { length a.now ≡ length b.now }
+{
     let [a0, a1, a2, a3] = *a;
     let [b0, b1, b2, b3] = *b;
     [a0.max(b0), a1.max(b1), a2.max(b2), a3.max(b3)]
@@ -54,7 +64,10 @@ fn greatest(a: &[u32; 4], b: &[u32; 4]) -> [u32; 4] {
 /// The numbers at a place are at least these; the place waits where one of them has grown.
 pub(crate) fn raise(spread: &mut Spread, waits: &mut Pile, pc: u16, numbers: &[u32; 4])
     requires { pc < 4096 }
+    ensures { AreRaised spread.old spread.new pc numbers.now }
 {
+    // For what its law says.
+    spread.lengths();
     let here = *spread.get(pc);
     let next = greatest(&here, numbers);
     if next != here {
@@ -84,25 +97,36 @@ pub(crate) fn go_on(graph: &Graph, spread: &mut Spread, waits: &mut Pile) {
     }
 }
 
+/// The numbers where an edge leads go back over it.
+fn go_back_over(graph: &Graph, spread: &mut Spread, waits: &mut Pile, pc: u16, branch: bool)
+    requires { pc < 4096 }
+    ensures { StayWanted graph.now.arcs spread.old spread.new }
+{
+    if let Some(arc) = graph.arc(pc, branch) {
+        let numbers = kept(&arc, spread.get(arc.to));
+        raise(spread, waits, pc, &numbers);
+    }
+}
+
 /// The numbers at a place go back over the edges into it.
 pub(crate) fn go_back_from(graph: &Graph, spread: &mut Spread, waits: &mut Pile, to: u16)
     requires { to < 4096 }
+    ensures { StayWanted graph.now.arcs spread.old spread.new }
 {
     let mut lead = graph.first_into(to);
     for _ in 0..2 * u32::from(MOST_INSTRS) {
         let Some(edge) = lead else {
             return;
         };
-        if let Some(arc) = graph.arc(edge.from, edge.branch) {
-            let numbers = kept(&arc, spread.get(to));
-            raise(spread, waits, edge.from, &numbers);
-        }
+        go_back_over(graph, spread, waits, edge.from, edge.branch);
         lead = graph.next_into(edge);
     }
 }
 
 /// The numbers at the places that wait go back over all edges.
-pub(crate) fn go_back(graph: &Graph, spread: &mut Spread, waits: &mut Pile) {
+pub(crate) fn go_back(graph: &Graph, spread: &mut Spread, waits: &mut Pile)
+    ensures { StayWanted graph.now.arcs spread.old spread.new }
+{
     for _ in 0..LOOKS {
         let Some(pc) = waits.take() else {
             return;

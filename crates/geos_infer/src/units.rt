@@ -2,6 +2,7 @@
 
 ghost use Rattle.std.specs.Prelude.{◌≡◌, ◌<◌, ◌≤◌};
 ghost use Rattle.geos_infer.specs.Arcs.{IsLink, unit_at, price_of, paid_by};
+ghost use Rattle.geos_infer.specs.Demands.{AreWanted, StayWanted};
 
 use crate::arcs::{Arc, Counting};
 use crate::graph::Graph;
@@ -79,17 +80,25 @@ impl Units {
         number_of(self.pay.get(pc), counter)
     }
 
-    /// The units at a place are at least these.
-    pub(crate) fn raise(&mut self, pc: u16, units: &[u32; 4])
+    /// What a unit pays for at the LOOP at a pc is at least so much.
+    pub(crate) fn raise_at_loop(&mut self, graph: &Graph, pc: u16, unit: u32)
         requires { pc < 4096 }
-        ensures { self.new.lengths ≡ self.old.lengths }
+        ensures lengths { self.new.lengths ≡ self.old.lengths }
+        ensures wanted { StayWanted graph.now.arcs self.old.pay self.new.pay }
     {
-        raise(&mut self.pay, &mut self.waits, pc, units);
+        let Some(arc) = graph.arc(pc, true) else {
+            return;
+        };
+        if let Some(counter) = arc.takes() {
+            let units = only(counter, unit);
+            raise(&mut self.pay, &mut self.waits, pc, &units);
+        }
     }
 
     /// Units that have grown at the places that wait are there where they are asked for.
     pub(crate) fn carry_all(&mut self, graph: &Graph)
-        ensures { self.new.lengths ≡ self.old.lengths }
+        ensures lengths { self.new.lengths ≡ self.old.lengths }
+        ensures wanted { StayWanted graph.now.arcs self.old.pay self.new.pay }
     {
         go_back(graph, &mut self.pay, &mut self.waits);
     }
@@ -135,7 +144,9 @@ impl Units {
     }
 
     /// Notes from where the counter of a nest is kept up to its LOOPs.
-    fn note_before(&mut self, graph: &Graph, splitting: &Splitting, paying: &Paying) {
+    fn note_before(&mut self, graph: &Graph, splitting: &Splitting, paying: &Paying)
+        ensures { self.new.pay ≡ self.old.pay }
+    {
         self.before.fill_from(0, [0; 4]);
         let piece = &paying.nest.piece;
         for x in piece.begin..piece.end {
@@ -180,7 +191,7 @@ impl Units {
     /// Nests are to be paid for in which a counter is set for the units at a place, which have grown; `false` where what that costs is past
     /// what a potential can say.
     fn note_dearer(
-        &mut self,
+        &self,
         graph: &Graph,
         splitting: &mut Splitting,
         paying: &Paying,
@@ -219,7 +230,9 @@ impl Units {
         splitting: &mut Splitting,
         paying: &Paying,
         round: u16,
-    ) -> Result<(), Lack> {
+    ) -> Result<(), Lack>
+        ensures { StayWanted graph.now.arcs self.old.pay self.new.pay }
+    {
         let mut fits = true;
         for _ in 0..u32::MAX {
             let Some(pc) = self.waits.take() else {
@@ -238,13 +251,14 @@ impl Units {
         splitting: &mut Splitting,
         paying: &Paying,
         round: u16,
-    ) -> Result<(), Lack> {
+    ) -> Result<(), Lack>
+        ensures { StayWanted graph.now.arcs self.old.pay self.new.pay }
+    {
         let piece = &paying.nest.piece;
         for x in piece.begin..piece.end {
             let pc = splitting.order.place(x);
             if splitting.jumps.at(pc).pays_in(paying.id) {
-                let unit = only(paying.nest.counter, paying.unit);
-                raise(&mut self.pay, &mut self.waits, pc, &unit);
+                self.raise_at_loop(graph, pc, paying.unit);
             }
         }
         self.carry(graph, splitting, paying, round)
@@ -259,6 +273,7 @@ impl Units {
         round: u16,
     ) -> Result<(), Lack>
         requires { id < 4096 }
+        ensures { StayWanted graph.now.arcs self.old.pay self.new.pay }
     {
         let mut nest = splitting.nests.at(id);
         nest.due = false;
@@ -278,7 +293,9 @@ impl Units {
         graph: &Graph,
         splitting: &mut Splitting,
         round: u16,
-    ) -> Result<bool, Lack> {
+    ) -> Result<bool, Lack>
+        ensures { StayWanted graph.now.arcs self.old.pay self.new.pay }
+    {
         let mut some = false;
         for id in (0..splitting.nests.count().min(MOST_INSTRS)).rev() {
             let nest = splitting.nests.at(id);
@@ -292,7 +309,7 @@ impl Units {
         Ok(some)
     }
 
-    /// Pays for all nests of a routine.
+    /// Pays for all nests of a routine. Whatever a unit pays for at a place is wanted by a LOOP.
     pub(crate) fn pay_all(
         &mut self,
         start: u16,
@@ -300,9 +317,12 @@ impl Units {
         splitting: &mut Splitting,
     ) -> Result<(), Lack>
         requires { start < 4096 }
+        ensures { AreWanted graph.now.arcs self.new.pay }
     {
         self.looks = 0;
-        self.pay.fill_from(start, [0; 4]);
+        self.pay.fill_from(0, [0; 4]);
+        // For what its law says.
+        self.pay.lengths();
         self.lengths.clear(start);
         for round in 1..ROUNDS + 1 {
             if !self.pay_round(graph, splitting, round)? {

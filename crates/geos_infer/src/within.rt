@@ -1,7 +1,8 @@
 //! Counters that are set, or that a call touches, where their own loops go round.
 
 ghost use Rattle.std.specs.Prelude.{◌≡◌, ◌<◌, ◌≤◌, true, List, Bool, None, IfSome};
-ghost use Rattle.geos_infer.specs.Causes.{KnowsTouched, LoopsTo, IsKept, SetsWithin, TouchesWithin, TouchesBefore, PassesAt, sets_counter, calls_touching};
+ghost use Rattle.geos_infer.specs.Causes.{KnowsTouched, LoopsTo, IsKept, IsLeft};
+ghost use Rattle.geos_infer.specs.Causes.{SetsWithin, TouchesWithin, TouchesBefore, PassesAt, sets_counter, calls_touching};
 ghost use Rattle.geos_infer.specs.Code.{IsPcOf};
 ghost use Rattle.geos_infer.specs.Trails.{IsTrail};
 
@@ -156,8 +157,7 @@ pub(crate) fn note_set(
 fn note_touched(
     body: &Body,
     graph: &Graph,
-    order: &Order,
-    piece: Option<Piece>,
+    piece: Option<(&Order, Piece)>,
     counter: u8,
     trails: &mut Trails,
 ) {
@@ -165,7 +165,7 @@ fn note_touched(
     for pc in body.start..body.end {
         if let Some(arc) = graph.arc(pc, false) {
             let inside = match piece {
-                Some(piece) => order.has(&piece, pc),
+                Some((order, piece)) => order.has(&piece, pc),
                 None => true,
             };
             if inside && arc.forgets(counter) {
@@ -205,6 +205,28 @@ pub(crate) fn find_set_within(
     }
 }
 
+/// A call that touches a counter, which is not set from there to a place.
+pub(crate) fn find_left(
+    body: &Body,
+    touching: &Touching,
+    graph: &Graph,
+    counter: u8,
+    pc: u16,
+    trails: &mut Trails,
+) -> Option<u16>
+    requires here { pc < body.now.end }
+    requires touched { KnowsTouched body.now.image.now touching.now }
+    ensures { IfSome result (λ at. IsLeft body.now.image.now body.now.r counter pc) }
+{
+    note_touched(body, graph, None, counter, trails);
+    let at = kept_from(body, touching, trails, counter, pc)?;
+    if calls_touching(body, touching, counter, at) {
+        Some(at)
+    } else {
+        None
+    }
+}
+
 /// A call in a piece that touches the counter of a LOOP, and it is not set from there to the LOOP, and control comes from the LOOP's
 /// target.
 pub(crate) fn find_touched_within(
@@ -221,7 +243,7 @@ pub(crate) fn find_touched_within(
     ensures { IfSome result (TouchesWithin body.now.image.now body.now.r) }
 {
     let (back, counter) = loop_at(body, from)?;
-    note_touched(body, graph, order, Some(*piece), counter, trails);
+    note_touched(body, graph, Some((order, *piece)), counter, trails);
     let at = kept_from(body, touching, trails, counter, from)?;
     if calls_touching(body, touching, counter, at)
         && comes_round(body, touching, graph, trails, back.to, at)
@@ -237,7 +259,6 @@ pub(crate) fn find_touched_before(
     body: &Body,
     touching: &Touching,
     graph: &Graph,
-    order: &Order,
     from: u16,
     trails: &mut Trails,
 ) -> Option<Within>
@@ -246,7 +267,7 @@ pub(crate) fn find_touched_before(
     ensures { IfSome result (TouchesBefore body.now.image.now body.now.r) }
 {
     let (back, counter) = loop_at(body, from)?;
-    note_touched(body, graph, order, None, counter, trails);
+    note_touched(body, graph, None, counter, trails);
     let at = kept_from(body, touching, trails, counter, from)?;
     if calls_touching(body, touching, counter, at)
         && comes_round(body, touching, graph, trails, back.to, from)

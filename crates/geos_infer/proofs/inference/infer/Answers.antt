@@ -1,13 +1,13 @@
 use Rattle.std.proofs.Common.{ℕ, sym, subst, arith}
 use Rattle.geos_image.specs.Parts.{Parts}
 use Rattle.geos_infer.specs.Flow.{HaveFlowed}
-use Rattle.geos_infer.specs.Constants.{HasLeastConstants, PaysForLoops, AreLeastFrom}
+use Rattle.geos_infer.specs.Constants.{HasLeastConstants, HasCoefficientsForLoops, PaysForLoops, AreLeastFrom}
 use Rattle.geos_infer.specs.Count.{AreCounted}
 use Rattle.geos_infer.specs.Numbers.{numbers_of}
 use Rattle.geos_infer.specs.Reached.{AllHoldWhereReached}
 use Rattle.geos_infer.specs.Theorem.{FindsWhatThereIs, with_points}
 use Rattle.geos_infer.proofs.Finding.{found-formed, found-code, found-acceptable, none-accepted, stuck-in, made-formed, made-is, made-code}
-use Rattle.geos_infer.proofs.Priced.{least-given, paid-given}
+use Rattle.geos_infer.proofs.Priced.{least-given, paid-given, for-given}
 use Rattle.geos_infer.proofs.Reaching.{fit-holds}
 use Rattle.geos_infer.proofs.inference.infer.Goals as goal
 
@@ -76,3 +76,14 @@ returns-clause-paid c =
     let codes = found-code image known numbers points c.in_ok-points.ensures in
     let least = subst (λ (n : ℕ). AreLeastFrom image 0 n known numbers) c.in-Ok.ensures.all c.in-Ok.ensures.least in
     subst PaysForLoops (sym is) (paid-given image c.len-legal.ensures.legal known numbers points c.in_ok-points.ensures codes least)
+
+pub returns-clause-wanted : goal.returns-clause-wanted
+returns-clause-wanted c =
+    let image = c.args.skeleton.now in
+    let known = c.in_ok-known.known in
+    let numbers = numbers_of c.in-Ok.potentials in
+    let points = c.in_ok-points.points.items in
+    let is = made-is image c.of_formed.result c.in_ok-routines.routines.items points c.in_ok-routines.ensures c.of_formed.ensures in
+    let codes = found-code image known numbers points c.in_ok-points.ensures in
+    let least = subst (λ (n : ℕ). AreLeastFrom image 0 n known numbers) c.in-Ok.ensures.all c.in-Ok.ensures.least in
+    subst HasCoefficientsForLoops (sym is) (for-given image c.len-legal.ensures.legal known numbers points c.in_ok-points.ensures codes least)
