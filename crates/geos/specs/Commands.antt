@@ -5,6 +5,8 @@ use Rattle.geos_image.specs.Parts.{Parts}
 use Rattle.geos_image.specs.Legal.{is_formed}
 use Rattle.geos_image.specs.Reading.{image_at}
 use Rattle.geos_verify.specs.declared.rule.Reject.{Reject}
+use Rattle.geos_verify.specs.declared.rule.Rule.{Rule}
+use Rattle.geos_verify.specs.Refused.{AreRefusals}
 use Rattle.geos_listing.specs.Listing.{listing}
 use Rattle.geos_explain.specs.Explanation.{explanation, IsVerdict}
 use Rattle.geos_explain.specs.Texts.{text_explanation}
@@ -27,15 +29,21 @@ TakesVersion2 text = (whole : Parts) × IsAssembled text whole × (whole.keyed �
 abbrev pub IsListed : List ℕ → List ℕ → Type 0
 IsListed bytes text = (image : Parts) × (image_at bytes ≡ Ok image) × (text ≡ listing image) × IsTextOf image text
 
--- the bytes spell an image, the refusal is its first, if there is one, and the text is the explanation of both
+-- the refusal is the first of the image, if there is one, and for each pc the lowest rule is given that refuses there
+abbrev pub AreItsRefusals : Parts → Option Reject → List (Option Rule) → Type 0
+AreItsRefusals image reject refused = IsVerdict image reject × AreRefusals image refused
+
+-- the bytes spell an image, the refusal is its first, if there is one, and the text is its explanation with all refusals
 abbrev pub IsExplained : List ℕ → List ℕ → Option Reject → Type 0
-IsExplained bytes text reject = (image : Parts) × (image_at bytes ≡ Ok image) × IsVerdict image reject × (text ≡ explanation image reject)
+IsExplained bytes text reject =
+    (image : Parts) × (image_at bytes ≡ Ok image) × ((refused : List (Option Rule)) × AreItsRefusals image reject refused × (text ≡ explanation image refused))
 
 -- the text has an image, the refusal is its first, if there is one, and what is told is the text with what is known at
--- each instruction
+-- each instruction, and with all refusals
 abbrev pub IsExplainedText : List ℕ → List ℕ → Option Reject → Type 0
 IsExplainedText text told reject =
-    (image : Parts) × IsAssembled text image × IsVerdict image reject × (told ≡ text_explanation text (instr_lines text) image reject)
+    (image : Parts) × IsAssembled text image
+    × ((refused : List (Option Rule)) × AreItsRefusals image reject refused × (told ≡ text_explanation text (instr_lines text) image refused))
 
 -- what is told is nothing, or a cause that holds of a routine of the text that begins at the line
 abbrev pub IsCauseTold : List ℕ → ℕ → List ℕ → Type 0

@@ -11,7 +11,7 @@ use geos_causes::explain_cause;
 use geos_explain::{explain, explain_text};
 use geos_image::ReadError;
 use geos_source::lines_of_instrs;
-use geos_verify::{Reject, check};
+use geos_verify::{Reject, check, refused_places};
 use round_trip::list;
 use std::alloc::Global;
 
@@ -68,8 +68,7 @@ pub(crate) fn check_bytes(alloc: Global, bytes: &[u8]) -> Result<Option<Reject>,
 /// What there is to say of an image, or of a text.
 #[derive(Drop)]
 pub(crate) struct Explained {
-    /// The listing with what is known at each instruction, and what is wrong where the image is
-    /// refused.
+    /// The listing or the text with what is known at each instruction, and what is wrong at each that is refused.
     pub(crate) text: Vec<u8>,
     /// The first refusal, if the verifier refuses the image.
     pub(crate) reject: Option<Reject>,
@@ -84,11 +83,11 @@ pub(crate) fn explain_bytes(alloc: Global, bytes: &[u8]) -> Result<Explained, Re
     let image = geos_image::read(alloc, bytes)?;
     match check(image) {
         Ok(checked) => Ok(Explained {
-            text: explain(alloc, checked.image(), None)?,
+            text: explain(alloc, checked.image(), &[])?,
             reject: None,
         }),
         Err((image, reject)) => Ok(Explained {
-            text: explain(alloc, &image, Some(reject))?,
+            text: explain(alloc, &image, &refused_places(&image))?,
             reject: Some(reject),
         }),
     }
@@ -124,11 +123,11 @@ pub(crate) fn explain_text_bytes(alloc: Global, text: &[u8]) -> Result<Explained
     let lines = lines_of_instrs(alloc, text)?;
     match check(image) {
         Ok(checked) => Ok(Explained {
-            text: explain_text(alloc, text, &lines, checked.image(), None)?,
+            text: explain_text(alloc, text, &lines, checked.image(), &[])?,
             reject: None,
         }),
         Err((image, reject)) => Ok(Explained {
-            text: explain_text(alloc, text, &lines, &image, Some(reject))?,
+            text: explain_text(alloc, text, &lines, &image, &refused_places(&image))?,
             reject: Some(reject),
         }),
     }

@@ -17,11 +17,11 @@ use Rattle.geos_explain.specs.Places.{Place, IsPlace, comes_alike}
 use Rattle.geos_explain.specs.Since.{holds, keeps_along, leads_to_marked, leads_on, marked_back, marked_back_at, back_round, back_within, held_from, fills_at, one_more, also, since_entry, since_below, held_since, IsInside, IsHeldOver, HeldAlong, IsSince, IsSinceEntry, IsSaidOf, IsAllOf, WhatIsSaidOfSlotsHolds}
 use Rattle.geos_explain.proofs.Reached.{Has, Grows, grows-same, grows-on, mark-grows, mark-was, mark-there, is-marked, none-marked, count, count-bound, count-grows, count-some}
 
-or_parts : (x y : Bool) → (x || y) ≡ true → (x ≡ true) ⊎ (y ≡ true)
+pub or_parts : (x y : Bool) → (x || y) ≡ true → (x ≡ true) ⊎ (y ≡ true)
 or_parts true y is = inl refl
 or_parts false y is = inr is
 
-not-true : (b : Bool) → not b ≡ true → b ≡ false
+pub not-true : (b : Bool) → not b ≡ true → b ≡ false
 not-true true is = absurd cc
 not-true false is = refl
 
@@ -42,7 +42,7 @@ module _ (place : Place) (a : ℕ) where
   abbrev start : ℕ
   start = start_of place.image.routines place.r
 
-  inside-at : (k : ℕ) → k < place.routine.count → IsInside place (start + k)
+  pub inside-at : (k : ℕ) → k < place.routine.count → IsInside place (start + k)
   inside-at k short =
       let below : start + k < start + place.routine.count = omega arith in
       and-both (nat_le start (start + k)) (nat_lt (start + k) (start + place.routine.count)) (le-leb start (start + k) (omega arith)) (lt-ltb (start + k) (start + place.routine.count) below)

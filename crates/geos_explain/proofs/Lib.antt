@@ -1,4 +1,5 @@
 mod Fits
+mod Forgetting
 mod Holding
 mod Losing
 mod Noted

@@ -1,8 +1,12 @@
 -- Explanations without their notes are the listing, or the author's text.
-use Rattle.std.proofs.Common.{◌≡◌, ◌<◌, ◌+◌, inl, inr, ℕ, zero, suc, Bool, true, false, cond, List, [], ◌∷◌, ◌++◌, length, Option, Some, None, slice_get, refl, ap, arith, append_assoc, sym, ◌∙◌}
-use Rattle.std.specs.Prelude.{◌&&◌, nat_le, nat_lt, ◌==◌, codes, decimal, All}
+use Rattle.std.proofs.Common.{◌≡◌, ◌<◌, ◌+◌, ◌-◌, inl, inr, ℕ, zero, suc, Bool, true, false, cond, List, [], ◌∷◌, ◌++◌, length, Option, Some, None, slice_get, refl, ap, arith, append_assoc, take, sym, ◌∙◌}
+use Rattle.std.specs.Prelude.{◌&&◌, nat_le, nat_lt, ◌==◌, codes, count_by, decimal, All}
+use Rattle.std.specs.List.{concat}
+use Rattle.std.proofs.lemmas.List.{append-nil}
+use Rattle.std.proofs.lemmas.List.Folds.{concat-append}
+use Rattle.geos_verify.specs.Rules.{over_budget}
 use Rattle.std.proofs.lemmas.Bool.{and_parts}
-use Rattle.std.proofs.lemmas.List.Elements.{All-nil, All-cons}
+use Rattle.std.proofs.lemmas.List.Elements.{All-nil, All-cons, All-append}
 use Rattle.std.proofs.lemmas.Bool.Decides.{nat_tests}
 use Rattle.std.specs.Option.{option_map_or}
 use Rattle.std.specs.Str.Lines.{lines}
@@ -14,7 +18,6 @@ use Rattle.geos_image.specs.Legal.{is_image}
 use Rattle.geos_image.proofs.Instrs.{image_parts}
 use Rattle.geos_listing.specs.Rows.{texts_below}
 use Rattle.geos_listing.specs.Instrs.{name_of, label_line, instr_code}
-use Rattle.geos_verify.specs.declared.rule.Reject.{Reject}
 use Rattle.geos_verify.specs.declared.rule.Rule.{Rule}
 use Rattle.geos_verify.specs.declared.rule.Rule.TheVariants.{LeavesRoutine, NamesEmptySlot, EntryMisfit, StalePointer, PassesEnd, ChangesUnmarked, LocksIntoHeld, WrongSlot, CommitsHeld, CallMisfit, ExitMisfit, EdgeMisfit, EdgeUnpaid, OverBudget}
 use Rattle.geos_verify.proofs.Places.{item_at}
@@ -24,7 +27,8 @@ use Rattle.geos_verify.proofs.Places.{places-length, place-at, point-of}
 use Rattle.geos_explain.specs.Places.{Place, Explained, place_at}
 use Rattle.geos_explain.specs.Notes.{where_text, note_head, known_here, potential_text, note}
 use Rattle.geos_explain.specs.Words.{words, refusal_head, refusal_line}
-use Rattle.geos_explain.specs.Explanation.{refusal_text, noted, point_text, place_text, head_text, routine_text, numbered_routine, explanation}
+use Rattle.geos_explain.specs.Refusals.{is_told, rule_at, most_told, more_line, told_text, refused_text, refusal_text, is_last, over_line, over_from, over_text}
+use Rattle.geos_explain.specs.Explanation.{noted, point_text, place_text, head_text, routine_text, numbered_routine, explanation}
 use Rattle.geos_explain.specs.Texts.{last_begun, noted_in, noted_of, noted_at, is_line_of, behind_line, line_text, next_pc, lines_text}
 use Rattle.geos_explain.specs.Listed.{IsComment, IsNote, place_with, routine_with, numbered_with, IsListingWithNotes, ExplanationIsListingWithNotes, lines_with, IsBehind, ExplanationIsTextWithNotes}
 
@@ -57,15 +61,58 @@ comment-line : (place : Place) (rule : Rule) → IsComment (refusal_line place r
 unfolding refusal_line
 comment-line place rule =
     let head = comment-head rule in
-    inr (head.0 ++ words place rule, rw head.1 (ap (λ text. text ++ codes "\n") (append_assoc (codes ";") head.0 (words place rule))))
+    (head.0 ++ words place rule, rw head.1 (ap (λ text. text ++ codes "\n") (append_assoc (codes ";") head.0 (words place rule))))
 
-comment-refusal : (reject : Option Reject) (place : Place) → IsComment (refusal_text reject place)
-comment-refusal None place = inl refl
-comment-refusal (Some reject) place = by_pc (reject.pc == place.pc)
+-- what is told at a place is a line or nothing
+abbrev AreComments : List ℕ → Type 0
+AreComments text = (lines : List (List ℕ)) × All IsComment lines × (text ≡ concat lines)
+
+none-told : AreComments []
+none-told = ([], All-nil IsComment, refl)
+
+one-told : (text : List ℕ) → IsComment text → AreComments text
+one-told text is = (text ∷ [], All-cons IsComment text [] is (All-nil IsComment), sym (append-nil text))
+
+comment-more : (more : ℕ) → IsComment (more_line more)
+unfolding more_line
+comment-more more = (codes " .. and " ++ decimal more ++ codes " more from here on", simp (append_assoc, append-nil))
+
+comment-told : (most before all : ℕ) (place : Place) (rule : Rule) → AreComments (told_text most before all place rule)
+comment-told most before all place rule = by_room (nat_lt before most) (before == most)
   where
-    by_pc : (here : Bool) → IsComment (cond here (refusal_line place reject.rule) [])
-    by_pc true = comment-line place reject.rule
-    by_pc false = inl refl
+    by_room : (room here : Bool) → AreComments (cond room (refusal_line place rule) (cond here (more_line (all - before)) []))
+    by_room true here = one-told (refusal_line place rule) (comment-line place rule)
+    by_room false true = one-told (more_line (all - before)) (comment-more (all - before))
+    by_room false false = none-told
+
+comment-refusal : (refused : List (Option Rule)) (place : Place) → AreComments (refusal_text refused place)
+comment-refusal refused place = by_rule (rule_at refused place.pc)
+  where
+    by_rule : (rule : Option Rule) → AreComments (elim rule [ None ↦ [] | Some found ↦ refused_text refused place found ])
+    by_rule None = none-told
+    by_rule (Some rule) = comment-told (most_told (length place.image.points)) (count_by is_told (take place.pc refused)) (count_by is_told refused) place rule
+
+comment-over_line : (first : Place) → AreComments (over_line first)
+comment-over_line first = by_test (over_budget first.routine first.pc first.pc first.potential)
+  where
+    by_test : (over : Bool) → AreComments (cond over (refusal_line first OverBudget) [])
+    by_test true = one-told (refusal_line first OverBudget) (comment-line first OverBudget)
+    by_test false = none-told
+
+comment-over : (explained : Explained) (r : ℕ) (routine : Routine) (pc : ℕ) → AreComments (over_text explained r routine pc)
+unfolding over_text
+comment-over explained r routine pc = by_last (is_last (start_of explained.image.routines r) routine pc)
+  where
+    by_first : (o : Option KnownPlace) → AreComments (option_map_or (λ known. over_line (place_at explained r routine (start_of explained.image.routines r) known)) o [])
+    by_first None = none-told
+    by_first (Some known) = comment-over_line (place_at explained r routine (start_of explained.image.routines r) known)
+
+    by_last : (last : Bool) → AreComments (cond last (over_from explained r routine (start_of explained.image.routines r)) [])
+    by_last true = by_first (slice_get (places explained.image) (start_of explained.image.routines r))
+    by_last false = none-told
+
+both-told : (text more : List ℕ) → AreComments text → AreComments more → AreComments (text ++ more)
+both-told text more one two = (one.0 ++ two.0, All-append IsComment one.0 two.0 one.1 two.1, rw (one.2, two.2) (sym (concat-append one.0 two.0)))
 
 -- a note begins with ` ;`
 note-head : (place : Place) → (rest : List ℕ) × (note_head place ≡ codes " ;" ++ rest)
@@ -76,18 +123,23 @@ note-head place = by_line (slice_get place.lines place.pc)
     by_line None = (codes " " ++ name_of place.routine ++ codes " " ++ decimal place.pc ++ codes ":", simp append_assoc)
     by_line (Some number) = ([], refl)
 
+regroup : (semicolon rest known steps end refusal over all : List ℕ) → refusal ++ over ≡ all
+    → semicolon ++ rest ++ known ++ steps ++ end ++ refusal ++ over ≡ semicolon ++ (rest ++ known ++ steps) ++ end ++ all
+regroup semicolon rest known steps end refusal over all is = rw (sym is) (simp append_assoc)
+
 -- what is said of an instruction is a note
-noted-note : (reject : Option Reject) (place : Place) → IsNote (noted reject place)
+noted-note : (explained : Explained) (r : ℕ) (routine : Routine) (place : Place) → IsNote (noted explained r routine place)
 unfolding noted note
-noted-note reject place =
+noted-note explained r routine place =
     let head = note-head place in
     let known = known_here place in
     let steps = potential_text place.potential in
+    let told = both-told (refusal_text explained.refused place) (over_text explained r routine place.pc) (comment-refusal explained.refused place) (comment-over explained r routine place.pc) in
     record {
       words = head.0 ++ known ++ steps;
-      refusal = refusal_text reject place;
-      is = rw head.1 (simp append_assoc);
-      comment = comment-refusal reject place;
+      comments = told.0;
+      is = rw head.1 (regroup (codes " ;") head.0 known steps (codes "\n") (refusal_text explained.refused place) (over_text explained r routine place.pc) (concat told.0) told.2);
+      each = told.1;
     }
 
 -- ---- The listing
@@ -95,14 +147,14 @@ noted-note reject place =
 -- what is said of the instruction of routine r at a pc
 note_at : Explained → ℕ → ℕ → List ℕ
 note_at explained r pc =
-    option_map_or (λ routine. option_map_or (λ known. noted explained.reject (place_at explained r routine pc known)) (slice_get (places explained.image) pc) []) (slice_get explained.image.routines r) []
+    option_map_or (λ routine. option_map_or (λ known. noted explained r routine (place_at explained r routine pc known)) (slice_get (places explained.image) pc) []) (slice_get explained.image.routines r) []
 
 note_at-note : (explained : Explained) (r pc : ℕ) → r < length explained.image.routines → pc < length explained.image.points → IsNote (note_at explained r pc)
 unfolding note_at
 note_at-note explained r pc within there =
     let routine = item_at explained.image.routines r within in
     let known = item_at (places explained.image) pc (omega (arith, there, places-length explained.image)) in
-    rw (routine.1, known.1) (noted-note explained.reject (place_at explained r routine.0 pc known.0))
+    rw (routine.1, known.1) (noted-note explained r routine.0 (place_at explained r routine.0 pc known.0))
 
 -- where there is no place there is no point
 no-point : (image : Parts) (pc : ℕ) → slice_get (places image) pc ≡ None → slice_get image.points pc ≡ None
@@ -121,13 +173,13 @@ unfolding place_text point_text note_at
 place-with explained r pc routine is = rw is (by_place (slice_get (places explained.image) pc) refl)
   where
     by_place : (o : Option KnownPlace) → slice_get (places explained.image) pc ≡ o
-        → label_line explained.image.points pc ++ option_map_or (λ known. point_text explained.reject (place_at explained r routine pc known)) o []
+        → label_line explained.image.points pc ++ option_map_or (λ known. point_text explained r routine (place_at explained r routine pc known)) o []
         ≡ label_line explained.image.points pc ++ option_map_or (λ point. instr_code explained.image.routines point.instr
-        ++ option_map_or (λ known. noted explained.reject (place_at explained r routine pc known)) o []) (slice_get explained.image.points pc) []
+        ++ option_map_or (λ known. noted explained r routine (place_at explained r routine pc known)) o []) (slice_get explained.image.points pc) []
     by_place None e = rw (no-point explained.image pc e) refl
     by_place (Some known) e =
         let found = point-of explained.image pc known e in
-        rw found.1 (ap (λ (i : Instr). label_line explained.image.points pc ++ (instr_code explained.image.routines i ++ noted explained.reject (place_at explained r routine pc known))) found.2.instr)
+        rw found.1 (ap (λ (i : Instr). label_line explained.image.points pc ++ (instr_code explained.image.routines i ++ noted explained r routine (place_at explained r routine pc known))) found.2.instr)
 
 routine-with : (explained : Explained) (r : ℕ) → numbered_routine explained r ≡ numbered_with (note_at explained r) explained.image r
 routine-with explained r = by_routine (slice_get explained.image.routines r) refl
@@ -143,9 +195,9 @@ routine-with explained r = by_routine (slice_get explained.image.routines r) ref
 
 pub explanation-listed : ExplanationIsListingWithNotes
 unfolding head_text
-explanation-listed image reject =
-    let explained : Explained = record { image = image; lines = []; reject = reject } in
-    let listed : IsListingWithNotes image (explanation image reject) = record {
+explanation-listed image refused =
+    let explained : Explained = record { image = image; lines = []; refused = refused } in
+    let listed : IsListingWithNotes image (explanation image refused) = record {
       note = note_at explained;
       notes = λ r pc within there. note_at-note explained r pc within there;
       whole = texts_below-same (length image.routines) (λ r. numbered_routine explained r) (λ r. numbered_with (note_at explained r) image r) (routine-with explained);
@@ -180,7 +232,7 @@ noted_at-note explained pc legal there =
     let last = last-begun image pc (length image.routines) ((image_parts image legal).some) in
     let routine = item_at image.routines last.0 last.2 in
     let known = item_at (places image) pc (omega (arith, there, places-length image)) in
-    rw (last.1, noted_at, routine.1, noted_of, known.1, noted_in) (noted-note explained.reject (place_at explained last.0 routine.0 pc known.0))
+    rw (last.1, noted_at, routine.1, noted_of, known.1, noted_in) (noted-note explained last.0 routine.0 (place_at explained last.0 routine.0 pc known.0))
 
 -- behind a line stand its end or a note
 line-behind : (explained : Explained) (pc number : ℕ) → is_image explained.image ≡ true → IsBehind (behind_line explained pc number)
@@ -203,6 +255,6 @@ lines-behind explained legal pc number (line ∷ texts) =
     (here ∷ rest.0, All-cons IsBehind here rest.0 (line-behind explained pc number legal) rest.1, omega (arith, rest.2), rw rest.3 refl)
 
 pub text-listed : ExplanationIsTextWithNotes
-text-listed text table image reject legal =
-    let told = lines-behind (record { image = image; lines = table; reject = reject }) legal 0 1 (lines text) in
+text-listed text table image refused legal =
+    let told = lines-behind (record { image = image; lines = table; refused = refused }) legal 0 1 (lines text) in
     record { behind = told.0; each = told.1; many = told.2; is = told.3 }

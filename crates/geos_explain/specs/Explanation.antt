@@ -1,4 +1,4 @@
--- The listing of an image with what is known at each instruction, and what is wrong where a rule refuses first.
+-- The listing of an image with what is known at each instruction, and what is wrong where a rule refuses.
 use Rattle.std.specs.Prelude.{ℕ, ◌+◌, ◌==◌, if◌then◌else◌, List, [], ◌++◌, Option, Some, None, length, slice_get, codes}
 use Rattle.std.specs.Option.{option_map_or}
 use Rattle.geos_image.specs.declared.routine.Routine.{Routine}
@@ -8,29 +8,25 @@ use Rattle.geos_listing.specs.Instrs.{label_line, instr_code}
 use Rattle.geos_listing.specs.Listing.{routine_line}
 use Rattle.geos_verify.specs.Places.{places}
 use Rattle.geos_verify.specs.declared.rule.Reject.{Reject}
+use Rattle.geos_verify.specs.declared.rule.Rule.{Rule}
 use Rattle.geos_verify.specs.Rules.{Accepted, FirstRefusal}
 use Rattle.geos_explain.specs.Places.{Place, Explained, place_at}
 use Rattle.geos_explain.specs.Notes.{note}
-use Rattle.geos_explain.specs.Words.{refusal_line}
+use Rattle.geos_explain.specs.Refusals.{refusal_text, over_text}
 
--- the line of the refusal, if there is one and it is at this place
-abbrev pub refusal_text : Option Reject → Place → List ℕ
-refusal_text None place = []
-refusal_text (Some reject) place = if reject.pc == place.pc then refusal_line place reject.rule else []
-
--- what is known at an instruction, up to the end of the line, and what is wrong with it
-unfoldable pub noted : Option Reject → Place → List ℕ
-noted reject place = note place ++ codes "\n" ++ refusal_text reject place
+-- what is known at an instruction, up to the end of the line, and what is wrong with it, and with the budget of its routine
+unfoldable pub noted : Explained → ℕ → Routine → Place → List ℕ
+noted explained r routine place = note place ++ codes "\n" ++ refusal_text explained.refused place ++ over_text explained r routine place.pc
 
 -- an instruction with what is known there, and what is wrong with it
-unfoldable pub point_text : Option Reject → Place → List ℕ
-point_text reject place = instr_code place.image.routines place.i ++ noted reject place
+unfoldable pub point_text : Explained → ℕ → Routine → Place → List ℕ
+point_text explained r routine place = instr_code place.image.routines place.i ++ noted explained r routine place
 
 -- the same behind its label, where another leads to it
 unfoldable pub place_text : Explained → ℕ → Routine → ℕ → List ℕ
 place_text explained r routine pc =
     label_line explained.image.points pc
-    ++ option_map_or (λ known. point_text explained.reject (place_at explained r routine pc known)) (slice_get (places explained.image) pc) []
+    ++ option_map_or (λ known. point_text explained r routine (place_at explained r routine pc known)) (slice_get (places explained.image) pc) []
 
 -- a routine's line, its entry row and its exit row
 unfoldable pub head_text : Routine → List ℕ
@@ -45,9 +41,9 @@ abbrev pub numbered_routine : Explained → ℕ → List ℕ
 numbered_routine explained r =
     option_map_or (routine_text explained r (start_of explained.image.routines r)) (slice_get explained.image.routines r) []
 
--- the routines one after another, and at most one refusal
-abbrev pub explanation : Parts → Option Reject → List ℕ
-explanation image reject = texts_below (length image.routines) (λ r. numbered_routine (record { image = image; lines = []; reject = reject }) r)
+-- the routines one after another, where for each pc the lowest rule is given that refuses there
+abbrev pub explanation : Parts → List (Option Rule) → List ℕ
+explanation image refused = texts_below (length image.routines) (λ r. numbered_routine (record { image = image; lines = []; refused = refused }) r)
 
 -- the refusal is the image's first, or there is none
 abbrev pub IsVerdict : Parts → Option Reject → Type 0

@@ -6,6 +6,7 @@ pub mod Places
 pub mod Notes
 pub mod Lacks
 pub mod Uses
+pub mod Past
 pub mod Ways
 pub mod Arrivals
 pub mod Trace
@@ -13,10 +14,14 @@ pub mod Lost
 pub mod Since
 pub mod Held
 pub mod Stale
+pub mod Forgotten
+pub mod Calls
+pub mod Moved
 pub mod Steps
 pub mod Unset
 pub mod Written
 pub mod Words
+pub mod Refusals
 pub mod Explanation
 pub mod Texts
 pub mod Listed

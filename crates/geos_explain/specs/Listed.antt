@@ -1,5 +1,6 @@
 -- What is left of an explanation where its notes are taken away.
 use Rattle.std.specs.Prelude.{◌≡◌, ◌<◌, ◌+◌, ◌⊎◌, ℕ, true, List, [], ◌∷◌, ◌++◌, Option, length, slice_get, codes, All}
+use Rattle.std.specs.List.{concat}
 use Rattle.std.specs.Option.{option_map_or}
 use Rattle.std.specs.Str.Lines.{lines}
 use Rattle.geos_image.specs.declared.routine.Routine.{Routine}
@@ -8,20 +9,20 @@ use Rattle.geos_image.specs.Legal.{is_image}
 use Rattle.geos_listing.specs.Rows.{texts_below}
 use Rattle.geos_listing.specs.Instrs.{label_line, instr_code}
 use Rattle.geos_listing.specs.Listing.{listing}
-use Rattle.geos_verify.specs.declared.rule.Reject.{Reject}
+use Rattle.geos_verify.specs.declared.rule.Rule.{Rule}
 use Rattle.geos_explain.specs.Explanation.{head_text, explanation}
 use Rattle.geos_explain.specs.Texts.{numbered, text_explanation}
 
--- a line that begins with `;`, or nothing
+-- a line that begins with `;`
 abbrev pub IsComment : List ℕ → Type 0
-IsComment text = (text ≡ []) ⊎ ((words : List ℕ) × (text ≡ codes ";" ++ words ++ codes "\n"))
+IsComment text = (words : List ℕ) × (text ≡ codes ";" ++ words ++ codes "\n")
 
--- a note: what stands in a line from its ` ;` on, and behind it a line that begins with `;`, or nothing
+-- a note: what stands in a line from its ` ;` on, and behind it lines that begin with `;`, if any
 pub record IsNote (text : List ℕ) : Type 0 where
   pub words : List ℕ
-  pub refusal : List ℕ
-  pub is : text ≡ codes " ;" ++ words ++ codes "\n" ++ refusal
-  pub comment : IsComment refusal
+  pub comments : List (List ℕ)
+  pub is : text ≡ codes " ;" ++ words ++ codes "\n" ++ concat comments
+  pub each : All IsComment comments
 
 -- the instruction at a pc, behind its label where another leads to it, with a note in place of the end of its line
 abbrev pub place_with : (ℕ → List ℕ) → Parts → ℕ → List ℕ
@@ -49,7 +50,7 @@ pub record IsListingWithNotes (image : Parts) (text : List ℕ) : Type 0 where
 -- the explanation of an image is its listing with notes, and without them, where each line just ends, it is the listing
 abbrev pub ExplanationIsListingWithNotes : Type 0
 ExplanationIsListingWithNotes =
-    (image : Parts) (reject : Option Reject) → IsListingWithNotes image (explanation image reject) × (listing_with (λ r pc. codes "\n") image ≡ listing image)
+    (image : Parts) (refused : List (Option Rule)) → IsListingWithNotes image (explanation image refused) × (listing_with (λ r pc. codes "\n") image ≡ listing image)
 
 -- lines from a number on, each behind its number, and behind each what stands there
 abbrev pub lines_with : List (List ℕ) → ℕ → List (List ℕ) → List ℕ
@@ -72,4 +73,4 @@ pub record IsTextWithNotes (text whole : List ℕ) : Type 0 where
 -- a note
 abbrev pub ExplanationIsTextWithNotes : Type 0
 ExplanationIsTextWithNotes =
-    (text table : List ℕ) (image : Parts) (reject : Option Reject) → is_image image ≡ true → IsTextWithNotes text (text_explanation text table image reject)
+    (text table : List ℕ) (image : Parts) (refused : List (Option Rule)) → is_image image ≡ true → IsTextWithNotes text (text_explanation text table image refused)

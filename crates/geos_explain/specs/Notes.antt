@@ -54,6 +54,17 @@ known_here place = if is_reached place.image place.pc then known_text place.row 
 unfoldable pub note : Place → List ℕ
 note place = note_head place ++ known_here place ++ potential_text place.potential
 
--- the potential is above the budget
+-- the potential at a routine's first instruction is above the budget
 unfoldable pub budget_words : Routine → Potential → List ℕ
-budget_words routine p = potential_text p ++ concat (verb (is_one p) ∷ codes " owed from here, the budget is " ∷ decimal routine.budget ∷ [])
+budget_words routine p =
+    potential_text p
+    ++ concat (verb (is_one p) ∷ codes " owed at the start of " ∷ name_of routine ∷ codes ", the budget is " ∷ decimal routine.budget ∷ [])
+
+-- a potential has no coefficient above 0
+abbrev pub has_no_coefficient : Potential → Bool
+has_no_coefficient p = list_all (λ n. n == 0) p.coefficients
+
+-- the least budget that the potential is within; none is where a coefficient is above 0
+unfoldable pub budget_wish : Potential → List ℕ
+budget_wish p =
+    if has_no_coefficient p then concat (codes ": budget " ∷ decimal p.constant ∷ codes " is the least that serves" ∷ []) else []

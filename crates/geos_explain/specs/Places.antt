@@ -9,7 +9,7 @@ use Rattle.geos_image.specs.Legal.{is_image}
 use Rattle.geos_image.specs.Parts.{Parts, start_of}
 use Rattle.geos_listing.specs.Instrs.{KeepsLimits}
 use Rattle.geos_verify.specs.declared.place.Place.{Place as KnownPlace}
-use Rattle.geos_verify.specs.declared.rule.Reject.{Reject}
+use Rattle.geos_verify.specs.declared.rule.Rule.{Rule}
 use Rattle.geos_explain.specs.Led.{is_reached}
 use Rattle.geos_explain.specs.declared.place.Place as code
 use Rattle.geos_explain.specs.declared.explained.Explained as told
@@ -26,11 +26,11 @@ pub record Place : Type 0 where
   pub row : Row
   pub potential : Potential
 
--- an image that is explained, with the line of each instruction in an author's text, or nothing, and the refusal, if there is one
+-- an image that is explained, with the line of each instruction in an author's text, or nothing, and for each pc the lowest rule that refuses there, if one does
 pub record Explained : Type 0 where
   pub image : Parts
   pub lines : List ℕ
-  pub reject : Option Reject
+  pub refused : List (Option Rule)
 
 -- an instruction with what is known there, as a place that is explained
 abbrev pub place_at : Explained → ℕ → Routine → ℕ → KnownPlace → Place
@@ -47,7 +47,7 @@ place_at explained r routine pc known = record {
 
 -- what the code explains
 abbrev pub explained_of : told.Explained → Explained
-explained_of explained = record { image = explained.image.now; lines = explained.lines.now; reject = explained.reject }
+explained_of explained = record { image = explained.image.now; lines = explained.lines.now; refused = explained.refused.now }
 
 -- the place that the code has
 abbrev pub place_of : code.Place → Place

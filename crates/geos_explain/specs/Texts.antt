@@ -1,11 +1,11 @@
--- An author's text with what is known at each instruction, and what is wrong where a rule refuses first.
+-- An author's text with what is known at each instruction, and what is wrong where a rule refuses.
 use Rattle.std.specs.Prelude.{ℕ, zero, suc, ◌+◌, Bool, false, ◌&&◌, nat_le, nat_lt, ◌==◌, if◌then◌else◌, List, [], ◌∷◌, ◌++◌, Option, Some, None, length, slice_get, codes, decimal}
 use Rattle.std.specs.Option.{option_map_or}
 use Rattle.std.specs.Str.Lines.{lines}
 use Rattle.geos_image.specs.declared.routine.Routine.{Routine}
 use Rattle.geos_image.specs.Parts.{Parts, start_of}
 use Rattle.geos_verify.specs.Places.{places}
-use Rattle.geos_verify.specs.declared.rule.Reject.{Reject}
+use Rattle.geos_verify.specs.declared.rule.Rule.{Rule}
 use Rattle.geos_explain.specs.Places.{Explained, place_at}
 use Rattle.geos_explain.specs.Explanation.{noted}
 
@@ -17,7 +17,7 @@ last_begun image pc (suc n) = if nat_le (start_of image.routines n) pc then Some
 -- what is said of the instruction at a pc of a routine
 unfoldable pub noted_in : Explained → ℕ → ℕ → Routine → List ℕ
 noted_in explained pc r routine =
-    option_map_or (λ known. noted explained.reject (place_at explained r routine pc known)) (slice_get (places explained.image) pc) []
+    option_map_or (λ known. noted explained r routine (place_at explained r routine pc known)) (slice_get (places explained.image) pc) []
 
 -- the same of a routine's number
 unfoldable pub noted_of : Explained → ℕ → ℕ → List ℕ
@@ -54,6 +54,7 @@ lines_text explained pc number [] = []
 lines_text explained pc number (line ∷ rest) =
     line_text explained pc number line ++ lines_text explained (next_pc explained.lines pc number) (number + 1) rest
 
--- a text with what is known at each instruction, whose lines the table has, and at most one refusal
-abbrev pub text_explanation : List ℕ → List ℕ → Parts → Option Reject → List ℕ
-text_explanation text table image reject = lines_text (record { image = image; lines = table; reject = reject }) 0 1 (lines text)
+-- a text with what is known at each instruction, whose lines the table has, where for each pc the lowest rule is given that
+-- refuses there
+abbrev pub text_explanation : List ℕ → List ℕ → Parts → List (Option Rule) → List ℕ
+text_explanation text table image refused = lines_text (record { image = image; lines = table; refused = refused }) 0 1 (lines text)

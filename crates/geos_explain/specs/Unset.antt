@@ -9,7 +9,7 @@ use Rattle.geos_image.specs.Parts.{Parts}
 use Rattle.geos_listing.specs.Rows.{texts_below}
 use Rattle.geos_image.specs.Keys.{falls_through, branches}
 use Rattle.geos_explain.specs.Numbers.{pc_text}
-use Rattle.geos_explain.specs.Notes.{budget_words}
+use Rattle.geos_explain.specs.Notes.{budget_words, budget_wish}
 use Rattle.geos_explain.specs.Places.{Place}
 use Rattle.geos_explain.specs.declared.unset.Search.{Search}
 use Rattle.geos_explain.specs.declared.unset.Search.TheVariants.{At, Found, Ended}
@@ -74,6 +74,6 @@ unset_item place k =
 abbrev pub unset_items : Place → List ℕ
 unset_items place = texts_below 4 (λ k. unset_item place k)
 
--- a potential is above the budget, and which counters are never set
+-- a potential is above the budget, which budget serves, and which counters are never set
 unfoldable pub over_words : Place → List ℕ
-over_words place = budget_words place.routine place.potential ++ unset_items place
+over_words place = budget_words place.routine place.potential ++ budget_wish place.potential ++ unset_items place

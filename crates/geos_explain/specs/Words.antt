@@ -1,8 +1,9 @@
 -- What is wrong at a point that is refused, in a line of plain words, rule by rule.
-use Rattle.std.specs.Prelude.{ℕ, Bool, ◌+◌, true, false, ◌&&◌, not, nat_lt, if◌then◌else◌, ◌==◌, List, [], ◌∷◌, ◌++◌, Some, None, length, slice_get, codes}
+use Rattle.std.specs.Prelude.{ℕ, Bool, ◌+◌, true, false, ◌&&◌, not, nat_lt, if◌then◌else◌, ◌==◌, List, [], ◌∷◌, ◌++◌, Option, Some, None, length, slice_get, codes}
 use Rattle.std.specs.List.{concat}
 use Rattle.geos_opcodes.specs.declared.opcode.Opcode.{Opcode}
 use Rattle.geos_opcodes.specs.declared.opcode.Opcode.TheVariants.{Call}
+use Rattle.geos_image.specs.declared.instr.Instr.{Instr}
 use Rattle.geos_image.specs.declared.row.Row.{Row}
 use Rattle.geos_image.specs.declared.routine.Routine.{Routine}
 use Rattle.geos_image.specs.Parts.{Parts, start_of}
@@ -11,16 +12,22 @@ use Rattle.geos_verify.specs.declared.rule.Rule.{Rule}
 use Rattle.geos_verify.specs.declared.rule.Rule.TheVariants.{LeavesRoutine, NamesEmptySlot, EntryMisfit, StalePointer, PassesEnd, ChangesUnmarked, LocksIntoHeld, WrongSlot, CommitsHeld, CallMisfit, ExitMisfit, EdgeMisfit, EdgeUnpaid, OverBudget}
 use Rattle.geos_opcodes.specs.Facts.{uses_of}
 use Rattle.geos_image.specs.Keys.{falls_through}
-use Rattle.geos_verify.specs.Rows.{has_edge, after}
+use Rattle.geos_verify.specs.Rows.{has_edge, after, is_empty, marked_state, slot_state}
 use Rattle.geos_verify.specs.Rules.{has_place}
 use Rattle.geos_explain.specs.Places.{Place}
 use Rattle.geos_explain.specs.Unset.{over_words}
-use Rattle.geos_explain.specs.Lacks.{lacking_items}
+use Rattle.geos_explain.specs.Lacks.{lacking, lacking_items}
 use Rattle.geos_explain.specs.Numbers.{is_or_are, are_text, label_text, pc_text}
 use Rattle.geos_explain.specs.Held.{exit_words}
 use Rattle.geos_explain.specs.Public.{public_words}
 use Rattle.geos_explain.specs.Written.{written_words}
-use Rattle.geos_explain.specs.Uses.{nowhere_words, past_words, unmarked_words, held_words, slot_words}
+use Rattle.geos_explain.specs.Uses.{changed_slot, nowhere_words, past_words, unmarked_words, held_words, slot_words}
+use Rattle.geos_opcodes.specs.declared.uses.PointerUse.{PointerUse}
+use Rattle.geos_explain.specs.declared.forgotten.Item.{Item}
+use Rattle.geos_explain.specs.declared.forgotten.Item.TheVariants.{Slot, Held}
+use Rattle.geos_explain.specs.Calls.{forgotten_text, forgotten_item, forgotten_items, lent_items}
+use Rattle.geos_explain.specs.Moved.{moved_text}
+use Rattle.geos_explain.specs.Past.{past_item, past_wish}
 use Rattle.geos_explain.specs.Stale.{stale_words}
 use Rattle.geos_explain.specs.Steps.{unpaid_words}
 use Rattle.geos_verify.specs.Places.{places}
@@ -83,19 +90,65 @@ edge_words place =
     then branching_words place
     else wanted_words (wanted_behind place false (place.pc + 1)) (codes " wanted at") (pc_text place.lines (place.pc + 1))
 
+-- why what is wanted is not known: an instruction moves the index going round, or a call forgets it
+unfoldable pub why_past : Place → Item → List ℕ
+why_past place item = moved_text place item ++ forgotten_text place item
+
+-- a read or a write may pass the end of what its pointer leads to, why that is not known to be wide enough, and what helps
+unfoldable pub past_here : Place → List ℕ
+past_here place =
+    let pointer = (uses_of place.i.opcode).pointer in
+    past_words place.i pointer place.row ++ why_past place (past_item place.i pointer place.row) ++ past_wish place.i pointer place.row
+
+-- the mark of the slot whose block an instruction changes
+abbrev pub mark_item : Instr → PointerUse → Row → Item
+mark_item i pointer row = Slot (changed_slot i pointer row) (marked_state (slot_state row (changed_slot i pointer row)))
+
+-- a block is changed that may not be marked, what marks it, and which call forgets the mark
+unfoldable pub unmarked_here : Place → List ℕ
+unmarked_here place =
+    let pointer = (uses_of place.i.opcode).pointer in
+    unmarked_words place.i pointer place.row ++ forgotten_text place (mark_item place.i pointer place.row)
+
+-- the slot of an instruction, where it is empty
+abbrev pub slot_item : Instr → Row → Option Item
+slot_item i row = if is_empty (slot_state row i.a) then Some (Held i.a) else None
+
+-- a slot is not held as the instruction wants it, and which call forgets what it held
+unfoldable pub slot_here : Place → List ℕ
+slot_here place = slot_words place.i (uses_of place.i.opcode).slot place.row ++ forgotten_item place (slot_item place.i place.row)
+
+-- what is to be said of a routine that is called, and which call forgets what it wants
+abbrev pub callee_wish : Place → Routine → List ℕ
+callee_wish place callee =
+    if nat_lt place.i.imm place.r then lent_items place.row callee ++ forgotten_items place (lacking place.row callee.entry) else []
+
+-- the same of the routine that a call names
+abbrev pub wish_of_call : Place → Opcode → List ℕ
+wish_of_call place Call = elim (slice_get place.image.routines place.i.imm) [ None ↦ [] | Some callee ↦ callee_wish place callee ]
+wish_of_call place _ = []
+
+-- the same of a place
+unfoldable pub call_wish : Place → List ℕ
+call_wish place = wish_of_call place place.i.opcode
+
+-- a row does not fit the exit row, and which call forgets what that wants
+unfoldable pub exit_here : Place → List ℕ
+exit_here place = exit_words place ++ forgotten_items place (lacking place.row place.routine.exit)
+
 -- what is wrong at a place, by a rule
 unfoldable pub words : Place → Rule → List ℕ
 words place LeavesRoutine = leaves_words place
 words place NamesEmptySlot = nowhere_words place.row
 words place EntryMisfit = entry_words place.routine place.row
 words place StalePointer = stale_words place
-words place PassesEnd = past_words place.i (uses_of place.i.opcode).pointer place.row
-words place ChangesUnmarked = unmarked_words place.i (uses_of place.i.opcode).pointer place.row
+words place PassesEnd = past_here place
+words place ChangesUnmarked = unmarked_here place
 words place LocksIntoHeld = held_words place.i place.row
-words place WrongSlot = slot_words place.i (uses_of place.i.opcode).slot place.row
+words place WrongSlot = slot_here place
 words place CommitsHeld = written_words place
-words place CallMisfit = call_here place
-words place ExitMisfit = exit_words place
+words place CallMisfit = call_here place ++ call_wish place
+words place ExitMisfit = exit_here place
 words place EdgeMisfit = edge_words place
 words place EdgeUnpaid = unpaid_words place
 words place OverBudget = over_words place

@@ -5,7 +5,7 @@ ghost use Rattle.geos_explain.specs.Led.{reached};
 
 use crate::filled::Filled;
 use crate::led::Marks;
-use geos_verify::Reject;
+use geos_verify::Rule;
 
 /// An image, and what is to be said of it.
 #[derive(Clone, Copy)]
@@ -15,7 +15,7 @@ pub(crate) struct Explained<'a> {
     pub lines: &'a [usize],
     /// What control reaches.
     pub marks: &'a Marks,
-    /// The refusal, if there is one.
-    pub reject: Option<Reject>,
+    /// For each pc the lowest rule that refuses there, if one does.
+    pub refused: &'a [Option<Rule>],
     ghost marked: { marks.now ≡ reached image.now },
 }

@@ -12,30 +12,28 @@ use crate::filled::Filled;
 use crate::led::reached;
 use crate::notes::put_note;
 use crate::place::Place;
+use crate::refusals::{put_over_budget, put_refusal};
 use crate::routines::{ExplainedRoutine, place_at};
-use crate::words::put_refusal_line;
 use geos_image::{Image, Routine};
 use geos_listing::{Targets, put_code, put_label_line, put_routine_line, put_row, targets_of};
-use geos_verify::Reject;
+use geos_verify::Rule;
 use std::alloc::{AllocError, Global};
 
-/// What is known at the instruction, up to the end of the line, and the line of the refusal, if there is one and it is at this
-/// place.
+/// What is known at the instruction, up to the end of the line, and what is wrong with it, and with the budget of its routine.
 #[tactic(auto, unfolding(crate::specs::Explanation::noted))]
 pub(crate) fn put_noted(
     out: &mut Vec<u8>,
-    reject: Option<Reject>,
+    within: &ExplainedRoutine,
     place: &Place,
 ) -> Result<(), AllocError>
     requires { IsPlace (place_of place.now) }
-    ensures { OnOk result (out.new.items ≡ out.old.items ++ noted reject (place_of place.now)) }
+    ensures { OnOk result (out.new.items
+        ≡ out.old.items ++ noted (explained_of within.now.explained.now) within.now.r within.now.routine.now (place_of place.now)) }
 {
     put_note(out, place)?;
     out.extend_from_slice(b"\n")?;
-    match reject {
-        Some(reject) if reject.pc == place.pc => put_refusal_line(out, place, reject.rule),
-        _ => Ok(()),
-    }
+    put_refusal(out, within.explained.refused, place)?;
+    put_over_budget(out, within, place.pc)
 }
 
 /// The instruction at a pc, behind its label where another leads to it, with what is known there, and what is wrong with it.
@@ -53,7 +51,7 @@ fn put_place(
     put_label_line(out, within.explained.image.image(), targets, pc)?;
     let place = place_at(within, pc);
     put_code(out, place.image.image(), place.i)?;
-    put_noted(out, within.explained.reject, &place)
+    put_noted(out, within, &place)
 }
 
 /// So many of the routine's instructions, from a pc.
@@ -108,12 +106,17 @@ fn put_routine(
     put_places(out, targets, &within, start)
 }
 
-/// The listing of the image, behind each instruction what is known there, and a line for the
-/// refusal in front of the next instruction. At most it takes time in proportion to the square of the number of
-/// instructions.
+/// The listing of the image, behind each instruction what is known there, and a line for its refusal in front of the next
+/// instruction; behind the last of a routine one for that by the rule on the budget. `refused` has for each pc the lowest
+/// rule that refuses there, or nothing where none does. At most it takes time in proportion to the square of the number of
+/// instructions, some 30,000 times divided by that number.
 #[tactic(auto, unfolding(geos_listing::specs::Rows::texts_below))]
-pub fn explain(alloc: Global, image: &Image, reject: Option<Reject>) -> Result<Vec<u8>, AllocError>
-    ensures { IfOk result (λ text. text.items ≡ explanation image.now reject) }
+pub fn explain(
+    alloc: Global,
+    image: &Image,
+    refused: &[Option<Rule>],
+) -> Result<Vec<u8>, AllocError>
+    ensures { IfOk result (λ text. text.items ≡ explanation image.now refused.now) }
 {
     let targets = targets_of(image);
     let filled = Filled::of(alloc, image)?;
@@ -122,7 +125,7 @@ pub fn explain(alloc: Global, image: &Image, reject: Option<Reject>) -> Result<V
         image: &filled,
         lines: &[],
         marks: &marks,
-        reject,
+        refused,
     };
     let mut out = Vec::new(alloc);
     for r in 0..image.count() {

@@ -1,24 +1,29 @@
 //! Explanations: the listing of an image with what is known at each instruction, and, where the
-//! verifier refuses it, what is wrong at the first such place, in plain words.
+//! verifier refuses it, what is wrong at each such place, in plain words.
 //!
 //! docs/FORMATS.md has the form.
 #![tactic(auto)]
 
 mod arrivals;
 mod backs;
+mod calls;
 mod edges;
 mod explained;
 mod explanation;
 mod filled;
 mod firsts;
+mod forgotten;
 mod held;
 mod lacks;
 mod led;
 mod listed;
+mod moved;
 mod notes;
 mod numbers;
+mod past;
 mod place;
 mod public;
+mod refusals;
 mod routines;
 mod since;
 mod stale;
@@ -32,11 +37,14 @@ mod words;
 mod written;
 
 pub use explanation::explain;
+pub use forgotten::what_is_said_of_calls_holds;
 pub use lacks::rows_that_fit_lack_nothing;
 pub use led::marks_what_is_reached;
 pub use listed::{explanation_is_listing_with_notes, explanation_is_text_with_notes};
+pub use moved::what_is_said_of_rounds_holds;
 pub use numbers::pc_part;
 pub use public::rows_without_faults_may_be_public;
+pub use refusals::told_where_refused;
 pub use since::what_is_said_of_a_held_slot_holds;
 pub use texts::explain_text;
 pub use trace::what_is_said_of_a_pointer_holds;

@@ -3,7 +3,7 @@
 ghost use Rattle.std.specs.Prelude.{◌≡◌, ◌++◌, OnOk};
 ghost use Rattle.geos_explain.specs.Places.{IsPlace, place_of};
 ghost use Rattle.geos_explain.specs.Notes.{coefficient_text, coefficients_text, steps_text, is_one};
-ghost use Rattle.geos_explain.specs.Notes.{potential_text, where_text, note_head, known_here, note, budget_words};
+ghost use Rattle.geos_explain.specs.Notes.{potential_text, where_text, note_head, known_here, note, budget_words, has_no_coefficient, budget_wish};
 
 use crate::led::is_reached;
 use crate::numbers::either;
@@ -135,7 +135,33 @@ pub(crate) fn put_budget(
         out,
         &[
             Part::Text(either(is_one(potential), " is", " are")),
-            Part::Numbered(" owed from here, the budget is ", routine.budget as u64),
+            Part::Text(" owed at the start of "),
+            Part::Bytes(routine.name_text()),
+            Part::Numbered(", the budget is ", routine.budget as u64),
+        ],
+    )
+}
+
+/// Whether the potential has no coefficient above 0.
+fn has_no_coefficient(potential: &Potential) -> bool
+    ensures { result ≡ has_no_coefficient potential.now }
+{
+    potential.coefficients.iter().all(|n| *n == 0)
+}
+
+/// The least budget that the potential is within, if any is.
+#[tactic(auto, unfolding(crate::specs::Notes::budget_wish))]
+pub(crate) fn put_budget_wish(out: &mut Vec<u8>, potential: &Potential) -> Result<(), AllocError>
+    ensures { OnOk result (out.new.items ≡ out.old.items ++ budget_wish potential.now) }
+{
+    if !has_no_coefficient(potential) {
+        return Ok(());
+    }
+    put_parts(
+        out,
+        &[
+            Part::Numbered(": budget ", potential.constant as u64),
+            Part::Text(" is the least that serves"),
         ],
     )
 }

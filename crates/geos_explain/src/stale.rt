@@ -146,7 +146,7 @@ fn put_named(
 
 /// The name of a routine, if there is one.
 #[tactic(auto, unfolding(crate::specs::Stale::name_at))]
-fn name_at<'a>(image: &'a Filled, r: u16) -> &'a [u8]
+pub(crate) fn name_at<'a>(image: &'a Filled, r: u16) -> &'a [u8]
     ensures { result.now ≡ name_at image.now r }
 {
     if r < image.count() {

@@ -11,7 +11,7 @@ use crate::led::reached;
 use crate::routines::{ExplainedRoutine, place_at};
 use geos_image::Image;
 use geos_text::{Part, first_line, put_parts};
-use geos_verify::Reject;
+use geos_verify::Rule;
 use std::alloc::{AllocError, Global};
 
 /// The last routine that begins at the pc or before.
@@ -48,7 +48,7 @@ fn put_noted_at(out: &mut Vec<u8>, explained: &Explained, pc: u16) -> Result<(),
         routine,
     };
     let place = place_at(&within, pc);
-    put_noted(out, explained.reject, &place)
+    put_noted(out, &within, &place)
 }
 
 /// Whether the table has the line as that of the instruction at the pc.
@@ -115,8 +115,8 @@ fn next_pc(lines: &[usize], pc: u16, number: usize) -> u16
     }
 }
 
-/// The author's text, each line behind its number, and behind each instruction what is known there and a line for the
-/// refusal, if it is there. `lines` has the number of each instruction's line, as `geos_source::lines_of_instrs` gives
+/// The author's text, each line behind its number, and behind each instruction what is known there and a line for its
+/// refusal, as `explain` has them. `lines` has the number of each instruction's line, as `geos_source::lines_of_instrs` gives
 /// them, and the image is one of the text. At most it takes time in proportion to the text, and to the square of the
 /// number of instructions.
 pub fn explain_text(
@@ -124,9 +124,9 @@ pub fn explain_text(
     text: &[u8],
     lines: &[usize],
     image: &Image,
-    reject: Option<Reject>,
+    refused: &[Option<Rule>],
 ) -> Result<Vec<u8>, AllocError>
-    ensures { IfOk result (λ explained. explained.items ≡ text_explanation text.now lines.now image.now reject) }
+    ensures { IfOk result (λ explained. explained.items ≡ text_explanation text.now lines.now image.now refused.now) }
 {
     let filled = Filled::of(alloc, image)?;
     let marks = reached(&filled);
@@ -134,7 +134,7 @@ pub fn explain_text(
         image: &filled,
         lines,
         marks: &marks,
-        reject,
+        refused,
     };
     let mut out = Vec::new(alloc);
     let mut rest = text;

@@ -5,7 +5,7 @@ ghost use Rattle.geos_explain.specs.Places.{place_of};
 ghost use Rattle.geos_explain.specs.Unset.{takes, gives, pays_at, next_search, search_on, searched, unset_item, unset_items, over_words};
 
 use crate::filled::Filled;
-use crate::notes::put_budget;
+use crate::notes::{put_budget, put_budget_wish};
 use crate::numbers::pc_part;
 use crate::place::Place;
 use geos_image::Instr;
@@ -149,5 +149,6 @@ pub(crate) fn put_over(out: &mut Vec<u8>, place: &Place) -> Result<(), AllocErro
     ensures { OnOk result (out.new.items ≡ out.old.items ++ over_words (place_of place.now)) }
 {
     put_budget(out, place.routine, place.potential)?;
+    put_budget_wish(out, place.potential)?;
     put_unset_items(out, place)
 }

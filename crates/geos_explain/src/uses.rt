@@ -222,7 +222,7 @@ pub(crate) fn slot_behind(row: &Row, p: u8) -> u8
 }
 
 /// The slot whose block the instruction changes.
-fn changed_slot(i: &Instr, pointer: PointerUse, row: &Row) -> u8
+pub(crate) fn changed_slot(i: &Instr, pointer: PointerUse, row: &Row) -> u8
     ensures { result ≡ changed_slot i.now pointer row.now }
 {
     match pointer {

@@ -4,21 +4,28 @@ ghost use Rattle.std.specs.Prelude.{◌≡◌, ◌≤◌, ◌+◌, ◌++◌, dro
 ghost use Rattle.geos_text.specs.Parts.{part_text};
 ghost use Rattle.geos_explain.specs.Places.{IsPlace, place_of};
 ghost use Rattle.geos_explain.specs.Words.{leaves_words, entry_words, call_here, wanted_behind};
-ghost use Rattle.geos_explain.specs.Words.{wanted_behind_items, branching_words, edge_words, words, refusal_head, refusal_line};
+ghost use Rattle.geos_explain.specs.Words.{wanted_behind_items, branching_words, edge_words, why_past, past_here};
+ghost use Rattle.geos_explain.specs.Words.{mark_item, unmarked_here, slot_item, slot_here, call_wish, exit_here, words, refusal_head, refusal_line};
+ghost use Rattle.geos_opcodes.specs.Facts.{uses_of};
+ghost use Rattle.geos_verify.specs.Rows.{marked_state};
 
+use crate::calls::{put_forgotten, put_forgotten_item, put_forgotten_items, put_lent_items};
+use crate::forgotten::Item;
 use crate::held::put_exit;
-use crate::lacks::put_lacking;
+use crate::lacks::{lacking, put_lacking};
+use crate::moved::put_moved_round;
 use crate::numbers::{is_or_are, label_part, pc_part, put_are, written_from};
+use crate::past::{past_item, put_past_wish};
 use crate::place::Place;
 use crate::public::put_public;
 use crate::stale::put_stale;
 use crate::steps::put_unpaid;
 use crate::unset::put_over;
-use crate::uses::{put_held, put_nowhere, put_past, put_slot, put_unmarked};
+use crate::uses::{changed_slot, put_held, put_nowhere, put_past, put_slot, put_unmarked};
 use crate::written::put_written;
-use geos_image::{Opcode, Routine, Row};
+use geos_image::{Instr, Opcode, Routine, Row, SlotState};
 use geos_text::{Part, put_parts};
-use geos_verify::{Rule, after, falls_through, has_edge, has_place};
+use geos_verify::{Rule, after, falls_through, has_edge, has_place, is_empty, slot_state};
 use std::alloc::AllocError;
 
 /// Control leaves the routine.
@@ -168,6 +175,119 @@ fn put_edge(out: &mut Vec<u8>, place: &Place) -> Result<(), AllocError>
     }
 }
 
+/// Why what is wanted is not known: an instruction moves the index going round, or a call forgets it.
+#[tactic(auto, unfolding(crate::specs::Words::why_past))]
+fn put_why_past(out: &mut Vec<u8>, place: &Place, item: Item) -> Result<(), AllocError>
+    requires { IsPlace (place_of place.now) }
+    ensures { OnOk result (out.new.items ≡ out.old.items ++ why_past (place_of place.now) item) }
+{
+    put_moved_round(out, place, item)?;
+    put_forgotten(out, place, item)
+}
+
+/// A read or a write may pass the end of what its pointer leads to, why that is not known to be wide enough, and what helps.
+#[tactic(auto, unfolding(crate::specs::Words::past_here))]
+fn put_past_here(out: &mut Vec<u8>, place: &Place) -> Result<(), AllocError>
+    requires { IsPlace (place_of place.now) }
+    ensures { OnOk result (out.new.items ≡ out.old.items ++ past_here (place_of place.now)) }
+{
+    put_past(out, place.i, place.row)?;
+    put_why_past(out, place, past_item(place.i, place.row))?;
+    put_past_wish(out, place.i, place.row)
+}
+
+/// The state of a slot whose block is marked, if it has a mark.
+fn as_marked(state: SlotState) -> SlotState
+    ensures { result ≡ marked_state state }
+{
+    match state {
+        SlotState::Vm {
+            marked: _,
+            borrowed,
+        } => SlotState::Vm {
+            marked: true,
+            borrowed,
+        },
+        SlotState::Db { marked: _ } => SlotState::Db { marked: true },
+        other => other,
+    }
+}
+
+/// The mark of the slot whose block the instruction changes.
+fn mark_item(i: &Instr, row: &Row) -> Item
+    ensures { result ≡ mark_item i.now (uses_of i.now.opcode).pointer row.now }
+{
+    let a = changed_slot(i, i.opcode.uses().pointer, row);
+    Item::Slot(a, as_marked(slot_state(row, a)))
+}
+
+/// A block is changed that may not be marked, what marks it, and which call forgets the mark.
+#[tactic(auto, unfolding(crate::specs::Words::unmarked_here))]
+fn put_unmarked_here(out: &mut Vec<u8>, place: &Place) -> Result<(), AllocError>
+    requires { IsPlace (place_of place.now) }
+    ensures { OnOk result (out.new.items ≡ out.old.items ++ unmarked_here (place_of place.now)) }
+{
+    put_unmarked(out, place.i, place.row)?;
+    put_forgotten(out, place, mark_item(place.i, place.row))
+}
+
+/// The slot of the instruction, where it is empty.
+fn slot_item(i: &Instr, row: &Row) -> Option<Item>
+    ensures { result ≡ slot_item i.now row.now }
+{
+    if is_empty(slot_state(row, i.a)) {
+        Some(Item::Held(i.a))
+    } else {
+        None
+    }
+}
+
+/// A slot is not held as the instruction wants it, and which call forgets what it held.
+#[tactic(auto, unfolding(crate::specs::Words::slot_here))]
+fn put_slot_here(out: &mut Vec<u8>, place: &Place) -> Result<(), AllocError>
+    requires { IsPlace (place_of place.now) }
+    ensures { OnOk result (out.new.items ≡ out.old.items ++ slot_here (place_of place.now)) }
+{
+    put_slot(out, place.i, place.row)?;
+    put_forgotten_item(out, place, slot_item(place.i, place.row))
+}
+
+/// What is to be said of the routine that a call names, and which call forgets what that wants.
+#[tactic(auto, unfolding(crate::specs::Words::call_wish))]
+fn put_call_wish(out: &mut Vec<u8>, place: &Place) -> Result<(), AllocError>
+    requires { IsPlace (place_of place.now) }
+    ensures { OnOk result (out.new.items ≡ out.old.items ++ call_wish (place_of place.now)) }
+{
+    let Opcode::Call = place.i.opcode else {
+        return Ok(());
+    };
+    let callee = place.image.routine(place.i.imm);
+    if place.i.imm >= place.r {
+        return Ok(());
+    }
+    put_lent_items(out, place.row, callee)?;
+    put_forgotten_items(out, place, &lacking(place.row, &callee.entry))
+}
+
+/// What is wrong at a call, and what helps.
+fn put_call_here(out: &mut Vec<u8>, place: &Place) -> Result<(), AllocError>
+    requires { IsPlace (place_of place.now) }
+    ensures { OnOk result (out.new.items ≡ out.old.items ++ (call_here (place_of place.now) ++ call_wish (place_of place.now))) }
+{
+    put_call(out, place)?;
+    put_call_wish(out, place)
+}
+
+/// A row does not fit the exit row, and which call forgets what that wants.
+#[tactic(auto, unfolding(crate::specs::Words::exit_here))]
+fn put_exit_here(out: &mut Vec<u8>, place: &Place) -> Result<(), AllocError>
+    requires { IsPlace (place_of place.now) }
+    ensures { OnOk result (out.new.items ≡ out.old.items ++ exit_here (place_of place.now)) }
+{
+    put_exit(out, place)?;
+    put_forgotten_items(out, place, &lacking(place.row, &place.routine.exit))
+}
+
 /// What is wrong at the place, by the rule.
 #[tactic(auto, unfolding(crate::specs::Words::words))]
 fn put_words(out: &mut Vec<u8>, place: &Place, rule: Rule) -> Result<(), AllocError>
@@ -180,13 +300,13 @@ fn put_words(out: &mut Vec<u8>, place: &Place, rule: Rule) -> Result<(), AllocEr
         Rule::NamesEmptySlot => put_nowhere(out, row),
         Rule::EntryMisfit => put_entry(out, place.routine, row),
         Rule::StalePointer => put_stale(out, place),
-        Rule::PassesEnd => put_past(out, i, row),
-        Rule::ChangesUnmarked => put_unmarked(out, i, row),
+        Rule::PassesEnd => put_past_here(out, place),
+        Rule::ChangesUnmarked => put_unmarked_here(out, place),
         Rule::LocksIntoHeld => put_held(out, i, row),
-        Rule::WrongSlot => put_slot(out, i, row),
+        Rule::WrongSlot => put_slot_here(out, place),
         Rule::CommitsHeld => put_written(out, place),
-        Rule::CallMisfit => put_call(out, place),
-        Rule::ExitMisfit => put_exit(out, place),
+        Rule::CallMisfit => put_call_here(out, place),
+        Rule::ExitMisfit => put_exit_here(out, place),
         Rule::EdgeMisfit => put_edge(out, place),
         Rule::EdgeUnpaid => put_unpaid(out, place),
         Rule::OverBudget => put_over(out, place),

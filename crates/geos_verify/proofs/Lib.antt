@@ -2,6 +2,7 @@ pub mod Fitting
 pub mod Along
 pub mod Four
 pub mod Noted
+pub mod Touching
 pub mod Passed
 pub mod Places
 pub mod Within

@@ -7,4 +7,5 @@ pub mod Touched
 pub mod Potentials
 pub mod RuleText
 pub mod Rules
+pub mod Refused
 pub mod Kept

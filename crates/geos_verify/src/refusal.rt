@@ -162,8 +162,9 @@ fn edge_unpaid(body: &Body, pc: u16, i: &Instr, row: &Row, potential: &Potential
         || returns(i.opcode) && potential.constant == 0
 }
 
+/// Whether the potential at the first pc of a routine, which begins at `start`, is above the budget.
 #[tactic(auto, unfolding(crate::specs::Rules::over_budget))]
-fn over_budget(start: u16, routine: &Routine, pc: u16, potential: &Potential) -> bool
+pub fn over_budget(start: u16, routine: &Routine, pc: u16, potential: &Potential) -> bool
     ensures { result ≡ over_budget routine.now start pc potential.now }
 {
     pc == start && !is_within(routine.budget, potential)

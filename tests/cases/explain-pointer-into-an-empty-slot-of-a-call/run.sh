@@ -1,2 +1,2 @@
-# Only the line of the refusal.
+# Only the lines of the refusals.
 "$1" explain "$(dirname "$0")/text.asm" | grep '^;'

@@ -2,6 +2,7 @@ use Rattle.std.proofs.Common.{sym}
 use Rattle.std.specs.Prelude.{[], ◌∷◌, codes, decimal}
 use Rattle.std.specs.List.{concat}
 use Rattle.std.proofs.lemmas.List.{append_assoc}
+use Rattle.geos_listing.specs.Instrs.{name_of}
 use Rattle.geos_explain.specs.Numbers.{verb}
 use Rattle.geos_explain.specs.Notes.{is_one, potential_text, budget_words}
 use Rattle.geos_explain.proofs.notes.put_budget.Goals as goal
@@ -10,5 +11,5 @@ pub returns : goal.returns
 unfolding budget_words
 returns c =
     let p = c.args.potential.now in
-    let owed = concat (verb (is_one p) ∷ codes " owed from here, the budget is " ∷ decimal c.args.routine.now.budget ∷ []) in
-    rw (sym (append_assoc c.args.out.now.items (potential_text p) owed), sym c.in_ok-put_potential.ensures, sym c.is_one.ensures, sym c.either.ensures) c.put_parts.ensures
+    let owed = concat (verb (is_one p) ∷ codes " owed at the start of " ∷ name_of c.args.routine.now ∷ codes ", the budget is " ∷ decimal c.args.routine.now.budget ∷ []) in
+    rw (sym (append_assoc c.args.out.now.items (potential_text p) owed), sym c.in_ok-put_potential.ensures, sym c.is_one.ensures, sym c.either.ensures, sym c.name_text.ensures) c.put_parts.ensures

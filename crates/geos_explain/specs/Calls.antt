@@ -1,0 +1,96 @@
+-- What is said of a call that forgets what is to be known at a place.
+use Rattle.std.specs.Prelude.{ℕ, true, ◌&&◌, not, nat_lt, ◌==◌, false, if◌then◌else◌, List, [], ◌∷◌, ◌++◌, Option, Some, None, slice_get, slice_index_or, slice_set, codes, decimal}
+use Rattle.std.specs.List.{concat}
+use Rattle.geos_verify.specs.declared.place.Place.{Place as KnownPlace}
+use Rattle.geos_verify.specs.Places.{places}
+use Rattle.geos_image.specs.declared.row.Row.{Row}
+use Rattle.geos_image.specs.declared.routine.Routine.{Routine}
+use Rattle.geos_image.specs.Open.{open_row}
+use Rattle.geos_listing.specs.Rows.{texts_below, row_items, state_word}
+use Rattle.geos_listing.specs.Instrs.{name_of}
+use Rattle.geos_verify.specs.Rows.{bound, is_empty, pointer_at, slot_state}
+use Rattle.geos_explain.specs.declared.forgotten.Item.{Item}
+use Rattle.geos_explain.specs.declared.forgotten.Item.TheVariants.{Bound, Slot, Held, Leads, Apart}
+use Rattle.geos_explain.specs.Forgotten.{forgetting_call}
+use Rattle.geos_explain.specs.Numbers.{pc_text}
+use Rattle.geos_explain.specs.Places.{Place}
+use Rattle.geos_explain.specs.Stale.{name_at}
+use Rattle.geos_explain.specs.Uses.{state_item}
+
+-- the row that knows only that the two slots of a pair hold different blocks
+abbrev pub only_pair : ℕ → Row
+only_pair pair = if nat_lt pair 6 then record open_row { pairs = slice_set open_row.pairs pair true } else open_row
+
+-- an item as it stands in a line `in` or `out`; of a slot that is to be held, what a row says that it holds
+unfoldable pub item_text : Row → Item → List ℕ
+item_text row (Bound w most) = concat (codes " w" ∷ decimal w ∷ codes "<=" ∷ decimal most ∷ [])
+item_text row (Slot a state) = concat (codes " s" ∷ decimal a ∷ codes "=" ∷ state_word state ∷ [])
+item_text row (Held a) = state_item a row
+item_text row (Leads p pointer) = concat (codes " p" ∷ decimal p ∷ codes "=s" ∷ decimal pointer.slot ∷ codes ":" ∷ decimal pointer.least ∷ [])
+item_text row (Apart pair) = row_items (only_pair pair)
+
+-- the lines of a routine in which something is to be said
+unfoldable pub lines_of : List ℕ → List ℕ
+lines_of name = concat (codes " in the in and out lines of " ∷ name ∷ [])
+
+-- a call of a routine leaves only what its `out` line says
+unfoldable pub call_head : Place → ℕ → ℕ → List ℕ
+call_head place from r =
+    concat (codes "; CALL at" ∷ pc_text place.lines from ∷ codes " leaves what the out line of " ∷ name_at place.image r ∷ codes " says: say" ∷ [])
+
+-- a call forgets an item, and where that is to be said
+unfoldable pub forgotten_at : Place → Item → ℕ → KnownPlace → List ℕ
+forgotten_at place item from point =
+    call_head place from point.instr.imm ++ item_text point.row item
+    ++ lines_of (name_at place.image point.instr.imm)
+
+-- the same, if there is a call at a pc
+abbrev pub forgotten_from : Place → Item → ℕ → List ℕ
+forgotten_from place item from = elim (slice_get (places place.image) from) [ None ↦ [] | Some point ↦ forgotten_at place item from point ]
+
+-- the call that forgets an item on a way to a place, if there is one
+unfoldable pub forgotten_text : Place → Item → List ℕ
+forgotten_text place item = elim (forgetting_call place item) [ None ↦ [] | Some from ↦ forgotten_from place item from ]
+
+-- the same, if there is an item
+abbrev pub forgotten_item : Place → Option Item → List ℕ
+forgotten_item place None = []
+forgotten_item place (Some item) = forgotten_text place item
+
+-- the bound of a word that a row wants, if it wants one
+abbrev pub bound_wanted : Row → ℕ → Option Item
+bound_wanted row k = if bound row k == 65535 then None else Some (Bound k (bound row k))
+
+-- what a slot is to hold
+abbrev pub slot_wanted : Row → ℕ → Option Item
+slot_wanted row k = if is_empty (slot_state row k) then None else Some (Slot k (slot_state row k))
+
+-- where a pointer is to lead
+abbrev pub pointer_wanted : Row → ℕ → Option Item
+pointer_wanted row k = elim (pointer_at row k) [ None ↦ None | Some pointer ↦ Some (Leads k pointer) ]
+
+-- which slots are to hold different blocks
+abbrev pub pair_wanted : Row → ℕ → Option Item
+pair_wanted row k = if nat_lt k 6 && slice_index_or row.pairs k false then Some (Apart k) else None
+
+-- the calls that forget the items with a number that a row wants
+unfoldable pub forgotten_of : Place → Row → ℕ → List ℕ
+forgotten_of place wanted k =
+    forgotten_item place (bound_wanted wanted k) ++ forgotten_item place (slot_wanted wanted k)
+    ++ forgotten_item place (pointer_wanted wanted k) ++ forgotten_item place (pair_wanted wanted k)
+
+-- the calls that forget what a row wants, for each item
+abbrev pub forgotten_items : Place → Row → List ℕ
+forgotten_items place wanted = texts_below 8 (λ k. forgotten_of place wanted k)
+
+-- what a slot holds that is held at a call, and where that is to be said
+unfoldable pub lent_item : Row → Routine → ℕ → List ℕ
+lent_item row callee a = codes "; say" ++ state_item a row ++ lines_of (name_of callee)
+
+-- the same, where the routine that is called wants the slot empty
+unfoldable pub lent_of : Row → Routine → ℕ → List ℕ
+lent_of row callee a = if is_empty (slot_state callee.entry a) && not (is_empty (slot_state row a)) then lent_item row callee a else []
+
+-- the same of each slot
+abbrev pub lent_items : Row → Routine → List ℕ
+lent_items row callee = texts_below 4 (λ a. lent_of row callee a)

@@ -1,0 +1,114 @@
+-- Which call forgets what is to be known at a place: behind it only what its routine's `out` line says is known.
+use Rattle.std.specs.Prelude.{◌≡◌, ℕ, zero, suc, ◌+◌, Bool, true, false, ◌&&◌, ◌||◌, not, nat_lt, nat_le, if◌then◌else◌, List, [], ◌∷◌, Option, Some, None, slice_get, slice_index_or}
+use Rattle.geos_verify.specs.declared.place.Place.{Place as KnownPlace}
+use Rattle.geos_verify.specs.Places.{places}
+use Rattle.geos_image.specs.declared.row.Row.{Row}
+use Rattle.geos_image.specs.Parts.{start_of}
+use Rattle.geos_verify.specs.Rows.{after, bound, has_edge, is_empty, pointer_at, pointer_fits, slot_fits, slot_state}
+use Rattle.geos_explain.specs.declared.edges.Edge.{Edge}
+use Rattle.geos_explain.specs.declared.forgotten.Item.{Item}
+use Rattle.geos_explain.specs.declared.forgotten.Item.TheVariants.{Bound, Slot, Held, Leads, Apart}
+use Rattle.geos_explain.specs.Edges.{end_of}
+use Rattle.geos_explain.specs.Led.{no_marks, marked, is_marked}
+use Rattle.geos_explain.specs.Lost.{ComesTo}
+use Rattle.geos_explain.specs.Places.{Place, IsPlace, comes_alike}
+use Rattle.geos_explain.specs.Since.{IsInside}
+use Rattle.geos_explain.specs.Ways.{forgets}
+
+-- a row knows an item
+abbrev pub knows : Row → Item → Bool
+knows row (Bound w most) = nat_lt w 8 && nat_le (bound row w) most
+knows row (Slot a state) = slot_fits (slot_state row a) state
+knows row (Held a) = not (is_empty (slot_state row a))
+knows row (Leads p pointer) = pointer_fits (pointer_at row p) (Some pointer)
+knows row (Apart pair) = nat_lt pair 6 && slice_index_or row.pairs pair false
+
+-- control comes along an edge of an instruction, as it comes to the place, to a pc that is marked
+abbrev pub comes_to_marked : Place → List Bool → Edge → KnownPlace → Bool
+comes_to_marked place marks edge point =
+    is_marked marks (end_of edge point.instr) && comes_alike place edge.from && has_edge point.instr edge.branch
+
+-- it does along one of the edges of the instruction at a pc
+abbrev pub comes_on : Place → List Bool → ℕ → KnownPlace → Bool
+comes_on place marks from point =
+    comes_to_marked place marks (record { from = from; branch = false }) point
+    || comes_to_marked place marks (record { from = from; branch = true }) point
+
+-- a pc is marked as well, if it is not yet, and the item is not known before its instruction, which leads on so
+abbrev pub lacking_marked : Place → Item → List Bool → ℕ → KnownPlace → List Bool
+lacking_marked place item marks from point =
+    if not (is_marked marks from) && not (knows point.row item) && comes_on place marks from point then marked marks from else marks
+
+-- the same, if there is an instruction
+unfoldable pub lacking_marked_at : Place → Item → List Bool → ℕ → List Bool
+lacking_marked_at place item marks from =
+    elim (slice_get (places place.image) from) [ None ↦ marks | Some point ↦ lacking_marked place item marks from point ]
+
+-- the same of the first n instructions of the routine, the last of them first
+unfoldable pub lacking_round : Place → Item → List Bool → ℕ → List Bool
+lacking_round place item marks zero = marks
+lacking_round place item marks (suc n) =
+    lacking_round place item (lacking_marked_at place item marks (start_of place.image.routines place.r + n)) n
+
+-- the mark of a pc, and what n rounds back over the routine mark as well
+unfoldable pub lacking_within : Place → Item → ℕ → ℕ → List Bool
+lacking_within place item to zero = marked no_marks to
+lacking_within place item to (suc n) = lacking_round place item (lacking_within place item to n) place.routine.count
+
+-- from where a way leads to a pc on which the item is not known all along: eight rounds find each that leads back at most
+-- seven times
+abbrev pub lacking_from : Place → Item → ℕ → List Bool
+lacking_from place item to = lacking_within place item to 8
+
+-- an instruction is a call behind which the item is not known, and before which it is, and control comes from it to a pc that is
+-- marked
+abbrev pub forgets_item : Place → Item → List Bool → ℕ → KnownPlace → Bool
+forgets_item place item marks from point =
+    forgets point.instr.opcode && knows point.row item && comes_to_marked place marks (record { from = from; branch = false }) point
+    && not (knows (after place.image from point.row false) item)
+
+-- the same of the instruction at a pc
+unfoldable pub forgets_at : Place → Item → List Bool → ℕ → Bool
+forgets_at place item marks from =
+    elim (slice_get (places place.image) from) [ None ↦ false | Some point ↦ forgets_item place item marks from point ]
+
+-- of the first n instructions of the routine, the last that is such a call
+unfoldable pub last_forgetting : Place → Item → List Bool → ℕ → Option ℕ
+last_forgetting place item marks zero = None
+last_forgetting place item marks (suc n) =
+    let from = start_of place.image.routines place.r + n in
+    if forgets_at place item marks from then Some from else last_forgetting place item marks n
+
+-- the last call of the routine that forgets the item on a way to the place on which it is not known again
+abbrev pub forgetting_call : Place → Item → Option ℕ
+forgetting_call place item = last_forgetting place item (lacking_from place item place.pc) place.routine.count
+
+-- What is said, as a relation on ways
+
+-- control comes along an edge of the routine to a pc, as it comes to the place, and the item is not known before it
+pub record IsLackedOver (place : Place) (item : Item) (edge : Edge) (to : ℕ) : Type 0 where
+  pub inside : IsInside place edge.from
+  pub comes : ComesTo place edge to
+  pub before : knows comes.point.row item ≡ false
+
+-- edges lead from a pc to another, and the item is not known on them all along
+abbrev pub LackedAlong : Place → Item → ℕ → ℕ → List Edge → Type 0
+LackedAlong place item to pc [] = pc ≡ to
+LackedAlong place item to pc (edge ∷ edges) =
+    (edge.from ≡ pc) × ((next : ℕ) × IsLackedOver place item edge next × LackedAlong place item to next edges)
+
+-- the instruction at a pc of the routine is a call, before which the item is known; behind it that is not, and from there a way
+-- leads to the place on which it is not known all along
+pub record IsForgottenBy (place : Place) (item : Item) (from : ℕ) : Type 0 where
+  pub inside : IsInside place from
+  pub next : ℕ
+  pub comes : ComesTo place (record { from = from; branch = false }) next
+  pub calls : forgets comes.point.instr.opcode ≡ true
+  pub known : knows comes.point.row item ≡ true
+  pub lost : knows (after place.image from comes.point.row false) item ≡ false
+  pub edges : List Edge
+  pub way : LackedAlong place item place.pc next edges
+
+-- a call that is named forgets the item on a way to the place
+abbrev pub WhatIsSaidOfCallsHolds : Type 0
+WhatIsSaidOfCallsHolds = (place : Place) (item : Item) (from : ℕ) → IsPlace place → forgetting_call place item ≡ Some from → IsForgottenBy place item from

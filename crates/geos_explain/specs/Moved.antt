@@ -1,0 +1,77 @@
+-- Which instruction moves an index going round a loop.
+use Rattle.std.specs.Prelude.{◌≡◌, ℕ, zero, suc, ◌+◌, Bool, true, false, ◌&&◌, ◌||◌, ◌==◌, if◌then◌else◌, List, [], ◌∷◌, Option, Some, None, slice_get, codes, decimal}
+use Rattle.std.specs.List.{concat}
+use Rattle.geos_verify.specs.declared.place.Place.{Place as KnownPlace}
+use Rattle.geos_verify.specs.Places.{places}
+use Rattle.geos_image.specs.declared.instr.Instr.{Instr}
+use Rattle.geos_image.specs.Parts.{start_of}
+use Rattle.geos_opcodes.specs.declared.opcode.Opcode.{Opcode}
+use Rattle.geos_opcodes.specs.declared.opcode.Opcode.TheVariants.{Add, Sub, Muli}
+use Rattle.geos_opcodes.specs.Facts.{word_of}
+use Rattle.geos_explain.specs.declared.edges.Edge.{Edge}
+use Rattle.geos_explain.specs.declared.forgotten.Item.{Item}
+use Rattle.geos_explain.specs.declared.forgotten.Item.TheVariants.{Bound}
+use Rattle.geos_explain.specs.Forgotten.{lacking_from, LackedAlong}
+use Rattle.geos_explain.specs.Led.{is_marked}
+use Rattle.geos_explain.specs.Numbers.{pc_text}
+use Rattle.geos_explain.specs.Places.{Place, IsPlace}
+
+-- an instruction puts into a word what it makes of it
+abbrev pub moves : Instr → Opcode → ℕ → Bool
+moves i Add w = i.a == w && (i.b == w || i.c == w)
+moves i Sub w = i.a == w && (i.b == w || i.c == w)
+moves i Muli w = i.a == w && i.b == w
+moves i _ w = false
+
+-- the instruction at a pc that is marked does
+unfoldable pub moves_at : Place → ℕ → List Bool → ℕ → Bool
+moves_at place w marks from =
+    elim (slice_get (places place.image) from) [ None ↦ false | Some point ↦ is_marked marks from && moves point.instr point.instr.opcode w ]
+
+-- of the first n instructions of the routine, the last that does
+unfoldable pub last_moving : Place → ℕ → List Bool → ℕ → Option ℕ
+last_moving place w marks zero = None
+last_moving place w marks (suc n) =
+    let from = start_of place.image.routines place.r + n in
+    if moves_at place w marks from then Some from else last_moving place w marks n
+
+-- an instruction, if a way leads from the place to it on which an item is not known all along
+abbrev pub if_round : Place → Item → Option ℕ → Option ℕ
+if_round place item None = None
+if_round place item (Some from) = if is_marked (lacking_from place item from) place.pc then Some from else None
+
+-- the last instruction of the routine that moves a word on a way to the place on which an item is not known, if such a way leads
+-- back to it
+abbrev pub moving : Place → Item → ℕ → Option ℕ
+moving place item w = if_round place item (last_moving place w (lacking_from place item place.pc) place.routine.count)
+
+-- an instruction moves a word going round
+unfoldable pub moved_words : Place → ℕ → ℕ → Instr → List ℕ
+moved_words place w from i =
+    concat (codes "; " ∷ word_of i.opcode ∷ codes " at" ∷ pc_text place.lines from ∷ codes " moves w" ∷ decimal w
+    ∷ codes " going round, and no bound is known of it then" ∷ [])
+
+-- the same, if there is an instruction at a pc
+abbrev pub moved_from : Place → ℕ → ℕ → List ℕ
+moved_from place w from = elim (slice_get (places place.image) from) [ None ↦ [] | Some point ↦ moved_words place w from point.instr ]
+
+-- which instruction moves an index going round, where a bound of it is wanted, if one does
+unfoldable pub moved_text : Place → Item → List ℕ
+moved_text place (Bound w most) = elim (moving place (Bound w most) w) [ None ↦ [] | Some from ↦ moved_from place w from ]
+moved_text place _ = []
+
+-- What is said, as a relation on ways
+
+-- an instruction moves a word; ways lead from it to the place and back, on which an item is not known all along
+pub record IsMovedRound (place : Place) (item : Item) (w from : ℕ) : Type 0 where
+  pub point : KnownPlace
+  pub there : slice_get (places place.image) from ≡ Some point
+  pub does : moves point.instr point.instr.opcode w ≡ true
+  pub edges : List Edge
+  pub there_to : LackedAlong place item place.pc from edges
+  pub back_edges : List Edge
+  pub back : LackedAlong place item from place.pc back_edges
+
+-- an instruction that is said to move a word going round does
+abbrev pub WhatIsSaidOfRoundsHolds : Type 0
+WhatIsSaidOfRoundsHolds = (place : Place) (item : Item) (w from : ℕ) → IsPlace place → moving place item w ≡ Some from → IsMovedRound place item w from

@@ -1,0 +1,81 @@
+-- Which refusals are told at a place.
+use Rattle.std.specs.Prelude.{◌≡◌, ◌↔◌, ℕ, ◌+◌, ◌-◌, ◌/◌, Bool, true, false, ◌&&◌, not, nat_le, nat_lt, ◌==◌, if◌then◌else◌, List, [], ◌∷◌, ◌++◌, take, count_by, Option, Some, None, is_some, length, slice_get, slice_index_or, codes, decimal}
+use Rattle.std.specs.List.{concat}
+use Rattle.std.specs.Option.{option_map_or}
+use Rattle.geos_image.specs.declared.routine.Routine.{Routine}
+use Rattle.geos_image.specs.Parts.{Parts, start_of}
+use Rattle.geos_verify.specs.declared.place.Place.{Place as KnownPlace}
+use Rattle.geos_verify.specs.declared.rule.Rule.{Rule}
+use Rattle.geos_verify.specs.declared.rule.Rule.TheVariants.{OverBudget}
+use Rattle.geos_verify.specs.Places.{places}
+use Rattle.geos_verify.specs.Refused.{AreRefusals}
+use Rattle.geos_verify.specs.Rules.{refusal, over_budget, HasPoint}
+use Rattle.geos_explain.specs.Places.{Place, Explained, place_at}
+use Rattle.geos_explain.specs.Words.{refusal_line}
+
+-- a rule is the one on the budget
+abbrev pub is_of_budget : Rule → Bool
+is_of_budget OverBudget = true
+is_of_budget _ = false
+
+-- the rule that is told at the place that it refuses: not that on the budget, which is told of its routine
+abbrev pub told_rule : Option Rule → Option Rule
+told_rule None = None
+told_rule (Some rule) = if is_of_budget rule then None else Some rule
+
+-- there is such a rule
+abbrev pub is_told : Option Rule → Bool
+is_told rule = is_some (told_rule rule)
+
+-- the rule that is told at a pc
+abbrev pub rule_at : List (Option Rule) → ℕ → Option Rule
+rule_at refused pc = told_rule (slice_index_or refused pc None)
+
+-- how many refusals are told of an image of so many instructions
+abbrev pub most_told : ℕ → ℕ
+most_told len = 32768 / (len + 1)
+
+-- how many more places are refused from here on
+unfoldable pub more_line : ℕ → List ℕ
+more_line more = concat (codes "; .. and " ∷ decimal more ∷ codes " more from here on\n" ∷ [])
+
+-- what is told where a rule refuses a place, where so many are told, so many are refused before it, and so many in all
+abbrev pub told_text : ℕ → ℕ → ℕ → Place → Rule → List ℕ
+told_text most before all place rule =
+    if nat_lt before most then refusal_line place rule else if before == most then more_line (all - before) else []
+
+-- the same, by the rules that refuse at each pc
+abbrev pub refused_text : List (Option Rule) → Place → Rule → List ℕ
+refused_text refused place rule =
+    told_text (most_told (length place.image.points)) (count_by is_told (take place.pc refused)) (count_by is_told refused) place rule
+
+-- the same, if a rule refuses the place
+abbrev pub refusal_text : List (Option Rule) → Place → List ℕ
+refusal_text refused place = elim (rule_at refused place.pc) [ None ↦ [] | Some rule ↦ refused_text refused place rule ]
+
+-- a pc is that of the last instruction of a routine, which begins at another
+abbrev pub is_last : ℕ → Routine → ℕ → Bool
+is_last start routine pc = nat_le start pc && pc + 1 == start + routine.count
+
+-- the line of the refusal by the rule on the budget, where it refuses the first place of a routine
+abbrev pub over_line : Place → List ℕ
+over_line first = if over_budget first.routine first.pc first.pc first.potential then refusal_line first OverBudget else []
+
+-- the same of routine r, which begins at a pc
+abbrev pub over_from : Explained → ℕ → Routine → ℕ → List ℕ
+over_from explained r routine start =
+    option_map_or (λ known. over_line (place_at explained r routine start known)) (slice_get (places explained.image) start) []
+
+-- the same, behind the routine's last instruction
+unfoldable pub over_text : Explained → ℕ → Routine → ℕ → List ℕ
+over_text explained r routine pc =
+    if is_last (start_of explained.image.routines r) routine pc
+    then over_from explained r routine (start_of explained.image.routines r)
+    else []
+
+-- a rule is told at a place exactly where it is the lowest that refuses it, but for the rule on the budget
+abbrev pub ToldWhereRefused : Type 0
+ToldWhereRefused =
+    (image : Parts) (refused : List (Option Rule)) → AreRefusals image refused
+    → (r pc : ℕ) (routine : Routine) (place : KnownPlace) (rule : Rule) → HasPoint image r routine pc place
+    → (rule_at refused pc ≡ Some rule) ↔ ((refusal image r routine (start_of image.routines r) pc place ≡ Some rule) × (is_of_budget rule ≡ false))

@@ -1,0 +1,252 @@
+//! What is said of a call that forgets what is to be known at a place.
+
+ghost use Rattle.std.specs.Prelude.{◌≡◌, ◌<◌, ◌++◌, OnOk};
+ghost use Rattle.geos_explain.specs.Places.{IsPlace, place_of};
+ghost use Rattle.geos_explain.specs.Calls.{only_pair, item_text, lines_of, call_head};
+ghost use Rattle.geos_explain.specs.Calls.{forgotten_at, forgotten_text, forgotten_item, bound_wanted, slot_wanted};
+ghost use Rattle.geos_explain.specs.Calls.{pointer_wanted, pair_wanted, forgotten_of, forgotten_items, lent_item, lent_of, lent_items};
+
+use crate::forgotten::{Item, forgetting_call};
+use crate::numbers::pc_part;
+use crate::place::Place;
+use crate::stale::name_at;
+use crate::uses::put_state;
+use geos_image::{Routine, Row};
+use geos_listing::{put_items, state_word};
+use geos_text::{Part, put_parts};
+use geos_verify::{Place as KnownPlace, is_empty, pointer_at, slot_state};
+use std::alloc::AllocError;
+
+/// The row that knows only that two slots hold different blocks.
+fn only_pair(pair: u8) -> Row
+    ensures { result ≡ only_pair pair }
+{
+    let mut row = Row::open();
+    if pair < 6 {
+        row.pairs[usize::from(pair)] = true;
+    }
+    row
+}
+
+/// The item as it stands in a line `in` or `out`; of a slot that is to be held, what the row says that it holds.
+#[tactic(auto, unfolding(crate::specs::Calls::item_text))]
+fn put_item(out: &mut Vec<u8>, row: &Row, item: Item) -> Result<(), AllocError>
+    ensures { OnOk result (out.new.items ≡ out.old.items ++ item_text row.now item) }
+{
+    match item {
+        Item::Bound(w, most) => put_parts(
+            out,
+            &[
+                Part::Numbered(" w", w as u64),
+                Part::Numbered("<=", most as u64),
+            ],
+        ),
+        Item::Slot(a, state) => put_parts(
+            out,
+            &[
+                Part::Numbered(" s", a as u64),
+                Part::Text("="),
+                Part::Text(state_word(state)),
+            ],
+        ),
+        Item::Held(a) => put_state(out, a, row),
+        Item::Leads(p, pointer) => put_parts(
+            out,
+            &[
+                Part::Numbered(" p", p as u64),
+                Part::Numbered("=s", pointer.slot as u64),
+                Part::Numbered(":", pointer.least as u64),
+            ],
+        ),
+        Item::Apart(pair) => put_items(out, &only_pair(pair)),
+    }
+}
+
+/// The lines of a routine in which something is to be said.
+#[tactic(auto, unfolding(crate::specs::Calls::lines_of))]
+fn put_lines_of(out: &mut Vec<u8>, name: &[u8]) -> Result<(), AllocError>
+    ensures { OnOk result (out.new.items ≡ out.old.items ++ lines_of name.now) }
+{
+    put_parts(
+        out,
+        &[
+            Part::Text(" in the in and out lines of "),
+            Part::Bytes(name),
+        ],
+    )
+}
+
+/// A call of a routine leaves only what its `out` line says.
+#[tactic(auto, unfolding(crate::specs::Calls::call_head))]
+fn put_call_head(out: &mut Vec<u8>, place: &Place, from: u16, r: u16) -> Result<(), AllocError>
+    ensures { OnOk result (out.new.items ≡ out.old.items ++ call_head (place_of place.now) from r) }
+{
+    put_parts(
+        out,
+        &[
+            Part::Text("; CALL at"),
+            pc_part(place.lines, from),
+            Part::Text(" leaves what the out line of "),
+            Part::Bytes(name_at(place.image, r)),
+            Part::Text(" says: say"),
+        ],
+    )
+}
+
+/// A call forgets the item, and where that is to be said.
+#[tactic(auto, unfolding(crate::specs::Calls::forgotten_at))]
+fn put_forgotten_at(
+    out: &mut Vec<u8>,
+    place: &Place,
+    item: Item,
+    from: u16,
+    point: &KnownPlace,
+) -> Result<(), AllocError>
+    ensures { OnOk result (out.new.items ≡ out.old.items ++ forgotten_at (place_of place.now) item from point.now) }
+{
+    put_call_head(out, place, from, point.instr.imm)?;
+    put_item(out, &point.row, item)?;
+    put_lines_of(out, name_at(place.image, point.instr.imm))
+}
+
+/// The call that forgets the item on a way to the place, if there is one.
+#[tactic(auto, unfolding(crate::specs::Calls::forgotten_text))]
+pub(crate) fn put_forgotten(out: &mut Vec<u8>, place: &Place, item: Item) -> Result<(), AllocError>
+    requires { IsPlace (place_of place.now) }
+    ensures { OnOk result (out.new.items ≡ out.old.items ++ forgotten_text (place_of place.now) item) }
+{
+    match forgetting_call(place, item) {
+        Some(from) => match place.image.place(from) {
+            Some(point) => put_forgotten_at(out, place, item, from, point),
+            None => Ok(()),
+        },
+        None => Ok(()),
+    }
+}
+
+/// The same, if there is an item.
+pub(crate) fn put_forgotten_item(
+    out: &mut Vec<u8>,
+    place: &Place,
+    item: Option<Item>,
+) -> Result<(), AllocError>
+    requires { IsPlace (place_of place.now) }
+    ensures { OnOk result (out.new.items ≡ out.old.items ++ forgotten_item (place_of place.now) item) }
+{
+    match item {
+        Some(item) => put_forgotten(out, place, item),
+        None => Ok(()),
+    }
+}
+
+/// The bound of a word that a row wants, if it wants one.
+fn bound_wanted(row: &Row, k: u8) -> Option<Item>
+    requires { k < 8 }
+    ensures { result ≡ bound_wanted row.now k }
+{
+    let most = row.bounds[usize::from(k)];
+    if most == u16::MAX {
+        None
+    } else {
+        Some(Item::Bound(k, most))
+    }
+}
+
+/// What a slot is to hold.
+fn slot_wanted(row: &Row, k: u8) -> Option<Item>
+    ensures { result ≡ slot_wanted row.now k }
+{
+    let state = slot_state(row, k);
+    if is_empty(state) {
+        None
+    } else {
+        Some(Item::Slot(k, state))
+    }
+}
+
+/// Where a pointer is to lead.
+fn pointer_wanted(row: &Row, k: u8) -> Option<Item>
+    ensures { result ≡ pointer_wanted row.now k }
+{
+    match pointer_at(row, k) {
+        Some(pointer) => Some(Item::Leads(k, pointer)),
+        None => None,
+    }
+}
+
+/// Which slots are to hold different blocks.
+fn pair_wanted(row: &Row, k: u8) -> Option<Item>
+    ensures { result ≡ pair_wanted row.now k }
+{
+    if k < 6 && row.pairs[usize::from(k)] {
+        Some(Item::Apart(k))
+    } else {
+        None
+    }
+}
+
+/// The calls that forget the items with a number that a row wants.
+#[tactic(auto, unfolding(crate::specs::Calls::forgotten_of))]
+fn put_forgotten_of(out: &mut Vec<u8>, place: &Place, wanted: &Row, k: u8) -> Result<(), AllocError>
+    requires place { IsPlace (place_of place.now) }
+    requires few { k < 8 }
+    ensures { OnOk result (out.new.items ≡ out.old.items ++ forgotten_of (place_of place.now) wanted.now k) }
+{
+    put_forgotten_item(out, place, bound_wanted(wanted, k))?;
+    put_forgotten_item(out, place, slot_wanted(wanted, k))?;
+    put_forgotten_item(out, place, pointer_wanted(wanted, k))?;
+    put_forgotten_item(out, place, pair_wanted(wanted, k))
+}
+
+/// The calls that forget what a row wants, for each item.
+#[tactic(auto, unfolding(geos_listing::specs::Rows::texts_below))]
+pub(crate) fn put_forgotten_items(
+    out: &mut Vec<u8>,
+    place: &Place,
+    wanted: &Row,
+) -> Result<(), AllocError>
+    requires { IsPlace (place_of place.now) }
+    ensures { OnOk result (out.new.items ≡ out.old.items ++ forgotten_items (place_of place.now) wanted.now) }
+{
+    for k in 0..8 {
+        put_forgotten_of(out, place, wanted, k)?;
+    }
+    Ok(())
+}
+
+/// What a slot holds that is held at a call, and where that is to be said.
+#[tactic(auto, unfolding(crate::specs::Calls::lent_item))]
+fn put_lent(out: &mut Vec<u8>, row: &Row, callee: &Routine, a: u8) -> Result<(), AllocError>
+    ensures { OnOk result (out.new.items ≡ out.old.items ++ lent_item row.now callee.now a) }
+{
+    out.extend_from_slice(b"; say")?;
+    put_state(out, a, row)?;
+    put_lines_of(out, callee.name_text())
+}
+
+/// The same, where the routine that is called wants the slot empty.
+#[tactic(auto, unfolding(crate::specs::Calls::lent_of))]
+fn put_lent_of(out: &mut Vec<u8>, row: &Row, callee: &Routine, a: u8) -> Result<(), AllocError>
+    ensures { OnOk result (out.new.items ≡ out.old.items ++ lent_of row.now callee.now a) }
+{
+    if is_empty(slot_state(&callee.entry, a)) && !is_empty(slot_state(row, a)) {
+        put_lent(out, row, callee, a)
+    } else {
+        Ok(())
+    }
+}
+
+/// The same of each slot.
+#[tactic(auto, unfolding(geos_listing::specs::Rows::texts_below))]
+pub(crate) fn put_lent_items(
+    out: &mut Vec<u8>,
+    row: &Row,
+    callee: &Routine,
+) -> Result<(), AllocError>
+    ensures { OnOk result (out.new.items ≡ out.old.items ++ lent_items row.now callee.now) }
+{
+    for a in 0..4 {
+        put_lent_of(out, row, callee, a)?;
+    }
+    Ok(())
+}

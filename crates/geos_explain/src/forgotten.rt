@@ -1,0 +1,157 @@
+//! Which call forgets what is to be known at a place: behind it only what its routine's `out` line says is known.
+
+ghost use Rattle.std.specs.Prelude.{◌≡◌, Some, slice_get};
+ghost use Rattle.geos_explain.specs.Places.{IsPlace, place_of};
+ghost use Rattle.geos_explain.specs.Forgotten.{knows, comes_to_marked, comes_on, lacking_marked_at, lacking_round, lacking_within, lacking_from};
+ghost use Rattle.geos_explain.specs.Forgotten.{forgets_at, last_forgetting, forgetting_call, WhatIsSaidOfCallsHolds};
+ghost use Rattle.geos_verify.specs.Places.{places};
+
+use crate::edges::{Edge, end_of};
+use crate::led::{Marks, is_marked, mark, no_marks};
+use crate::place::Place;
+use crate::routines::comes_alike;
+use crate::ways::forgets;
+use geos_image::{Pointer, Row, SlotState};
+use geos_verify::{
+    Place as KnownPlace, has_edge, is_empty, pointer_at, pointer_fits, slot_fits, slot_state,
+};
+
+/// Something that a row may know.
+#[derive(Clone, Copy)]
+pub(crate) enum Item {
+    /// The word is at most so much.
+    Bound(u8, u16),
+    /// The slot holds this.
+    Slot(u8, SlotState),
+    /// The slot is held.
+    Held(u8),
+    /// The pointer leads there.
+    Leads(u8, Pointer),
+    /// The two slots of the pair with this number hold different blocks.
+    Apart(u8),
+}
+
+/// Whether the row knows the item.
+pub(crate) fn knows(row: &Row, item: Item) -> bool
+    ensures { result ≡ knows row.now item }
+{
+    match item {
+        Item::Bound(w, most) => w < 8 && row.bounds[usize::from(w)] <= most,
+        Item::Slot(a, state) => slot_fits(slot_state(row, a), state),
+        Item::Held(a) => !is_empty(slot_state(row, a)),
+        Item::Leads(p, pointer) => pointer_fits(pointer_at(row, p), Some(pointer)),
+        Item::Apart(pair) => pair < 6 && row.pairs[usize::from(pair)],
+    }
+}
+
+/// Whether control comes along the edge of the instruction, as it comes to the place, to a pc that is marked.
+fn comes_to_marked(place: &Place, marks: &Marks, edge: Edge, point: &KnownPlace) -> bool
+    ensures { result ≡ comes_to_marked (place_of place.now) marks.now edge point.now }
+{
+    is_marked(marks, end_of(edge, &point.instr))
+        && comes_alike(place, edge.from)
+        && has_edge(&point.instr, edge.branch)
+}
+
+/// Whether it does along one of the edges of the instruction at a pc.
+fn comes_on(place: &Place, marks: &Marks, from: u16, point: &KnownPlace) -> bool
+    ensures { result ≡ comes_on (place_of place.now) marks.now from point.now }
+{
+    let along = Edge {
+        from,
+        branch: false,
+    };
+    let aside = Edge { from, branch: true };
+    comes_to_marked(place, marks, along, point) || comes_to_marked(place, marks, aside, point)
+}
+
+/// The pc is marked as well, if it is not yet, and the item is not known before its instruction, which leads on so.
+#[tactic(auto, unfolding(crate::specs::Forgotten::lacking_marked_at))]
+fn mark_lacking(marks: &mut Marks, place: &Place, item: Item, from: u16)
+    ensures { marks.new ≡ lacking_marked_at (place_of place.now) item marks.old from }
+{
+    match place.image.place(from) {
+        Some(point) => {
+            if !is_marked(marks, usize::from(from))
+                && !knows(&point.row, item)
+                && comes_on(place, marks, from, point)
+            {
+                mark(marks, usize::from(from));
+            }
+        }
+        None => {}
+    }
+}
+
+/// The same of all of the routine's instructions, the last of them first.
+fn mark_round_lacking(marks: &mut Marks, place: &Place, item: Item)
+    requires { IsPlace (place_of place.now) }
+    ensures { marks.new ≡ lacking_round (place_of place.now) item marks.old place.now.routine.now.count }
+{
+    let start = place.image.start(place.r);
+    let mut rest = place.routine.count;
+    while rest > 0 {
+        rest -= 1;
+        mark_lacking(marks, place, item, start + rest);
+    }
+}
+
+/// The pcs from which a way leads to another on which the item is not known all along. Eight rounds find each that leads
+/// back at most seven times; more are not looked for.
+#[tactic(auto, unfolding(crate::specs::Forgotten::lacking_within))]
+pub(crate) fn lacking_from(place: &Place, item: Item, to: u16) -> Marks
+    requires { IsPlace (place_of place.now) }
+    ensures { result ≡ lacking_from (place_of place.now) item to }
+{
+    let mut marks = no_marks();
+    mark(&mut marks, usize::from(to));
+    for round in 0..8_u16 {
+        mark_round_lacking(&mut marks, place, item);
+    }
+    marks
+}
+
+/// Whether the instruction at a pc is a call behind which the item is not known, and before which it is, and control comes
+/// from it to a pc that is marked.
+#[tactic(auto, unfolding(crate::specs::Forgotten::forgets_at))]
+fn forgets_at(place: &Place, item: Item, marks: &Marks, from: u16) -> bool
+    ensures { result ≡ forgets_at (place_of place.now) item marks.now from }
+{
+    match place.image.place(from) {
+        Some(point) => {
+            let along = Edge {
+                from,
+                branch: false,
+            };
+            forgets(point.instr.opcode)
+                && knows(&point.row, item)
+                && comes_to_marked(place, marks, along, point)
+                && !knows(&place.image.behind(from, &point.row, false), item)
+        }
+        None => false,
+    }
+}
+
+/// The last call of the routine that forgets the item on a way to the place on which it is not known again.
+#[tactic(auto, unfolding(crate::specs::Forgotten::last_forgetting))]
+pub(crate) fn forgetting_call(place: &Place, item: Item) -> Option<u16>
+    requires { IsPlace (place_of place.now) }
+    ensures { result ≡ forgetting_call (place_of place.now) item }
+{
+    let marks = lacking_from(place, item, place.pc);
+    let start = place.image.start(place.r);
+    let mut last = None;
+    for k in 0..place.routine.count {
+        let from = start + k;
+        if forgets_at(place, item, &marks, from) {
+            last = Some(from);
+        }
+    }
+    last
+}
+
+/// A law: a call that is said to forget something is one of the routine; the row before it knows that, the row behind it
+/// does not, and from there a way leads to the place on which no row knows it.
+pub fn what_is_said_of_calls_holds()
+    ensures { WhatIsSaidOfCallsHolds }
+{}

@@ -1,0 +1,128 @@
+//! Which instruction moves an index going round a loop.
+
+ghost use Rattle.std.specs.Prelude.{◌≡◌, ◌++◌, OnOk};
+ghost use Rattle.geos_explain.specs.Places.{IsPlace, place_of};
+ghost use Rattle.geos_explain.specs.Moved.{moves, moves_at, last_moving, if_round};
+ghost use Rattle.geos_explain.specs.Moved.{moving, moved_words, moved_from, moved_text, WhatIsSaidOfRoundsHolds};
+
+use crate::forgotten::{Item, lacking_from};
+use crate::led::{Marks, is_marked};
+use crate::numbers::pc_part;
+use crate::place::Place;
+use geos_image::{Instr, Opcode};
+use geos_text::{Part, put_parts};
+use std::alloc::AllocError;
+
+/// Whether the instruction puts into the word what it makes of it.
+fn moves(i: &Instr, w: u8) -> bool
+    ensures { result ≡ moves i.now i.now.opcode w }
+{
+    match i.opcode {
+        Opcode::Add | Opcode::Sub => i.a == w && (i.b == w || i.c == w),
+        Opcode::Muli => i.a == w && i.b == w,
+        _ => false,
+    }
+}
+
+/// Whether the instruction at a pc that is marked does.
+#[tactic(auto, unfolding(crate::specs::Moved::moves_at))]
+fn moves_at(place: &Place, w: u8, marks: &Marks, from: u16) -> bool
+    ensures { result ≡ moves_at (place_of place.now) w marks.now from }
+{
+    match place.image.place(from) {
+        Some(point) => is_marked(marks, usize::from(from)) && moves(&point.instr, w),
+        None => false,
+    }
+}
+
+/// The last such instruction of the routine.
+#[tactic(auto, unfolding(crate::specs::Moved::last_moving))]
+fn last_moving(place: &Place, w: u8, marks: &Marks) -> Option<u16>
+    requires { IsPlace (place_of place.now) }
+    ensures { result ≡ last_moving (place_of place.now) w marks.now place.now.routine.now.count }
+{
+    let start = place.image.start(place.r);
+    let mut last = None;
+    for k in 0..place.routine.count {
+        let from = start + k;
+        if moves_at(place, w, marks, from) {
+            last = Some(from);
+        }
+    }
+    last
+}
+
+/// The instruction, if a way leads from the place to it on which the item is not known all along.
+fn if_round(place: &Place, item: Item, from: Option<u16>) -> Option<u16>
+    requires { IsPlace (place_of place.now) }
+    ensures { result ≡ if_round (place_of place.now) item from }
+{
+    match from {
+        Some(from) if is_marked(&lacking_from(place, item, from), usize::from(place.pc)) => {
+            Some(from)
+        }
+        _ => None,
+    }
+}
+
+/// The last instruction of the routine that moves the word on a way to the place on which the item is not known, if such a
+/// way leads back to it.
+fn moving(place: &Place, item: Item, w: u8) -> Option<u16>
+    requires { IsPlace (place_of place.now) }
+    ensures { result ≡ moving (place_of place.now) item w }
+{
+    let marks = lacking_from(place, item, place.pc);
+    if_round(place, item, last_moving(place, w, &marks))
+}
+
+/// The instruction moves the word going round.
+#[tactic(auto, unfolding(crate::specs::Moved::moved_words))]
+fn put_moved_words(
+    out: &mut Vec<u8>,
+    place: &Place,
+    w: u8,
+    from: u16,
+    i: &Instr,
+) -> Result<(), AllocError>
+    ensures { OnOk result (out.new.items ≡ out.old.items ++ moved_words (place_of place.now) w from i.now) }
+{
+    put_parts(
+        out,
+        &[
+            Part::Text("; "),
+            Part::Text(i.opcode.word()),
+            Part::Text(" at"),
+            pc_part(place.lines, from),
+            Part::Numbered(" moves w", w as u64),
+            Part::Text(" going round, and no bound is known of it then"),
+        ],
+    )
+}
+
+/// Which instruction moves the index going round, where a bound of it is wanted, if one does.
+#[tactic(auto, unfolding(crate::specs::Moved::moved_text))]
+pub(crate) fn put_moved_round(
+    out: &mut Vec<u8>,
+    place: &Place,
+    item: Item,
+) -> Result<(), AllocError>
+    requires { IsPlace (place_of place.now) }
+    ensures { OnOk result (out.new.items ≡ out.old.items ++ moved_text (place_of place.now) item) }
+{
+    let Item::Bound(w, _) = item else {
+        return Ok(());
+    };
+    match moving(place, item, w) {
+        Some(from) => match place.image.place(from) {
+            Some(point) => put_moved_words(out, place, w, from, &point.instr),
+            None => Ok(()),
+        },
+        None => Ok(()),
+    }
+}
+
+/// A law: an instruction that is said to move an index going round does; ways lead from it to the place and from there back
+/// to it, and no row on them knows the bound that is wanted.
+pub fn what_is_said_of_rounds_holds()
+    ensures { WhatIsSaidOfRoundsHolds }
+{}

@@ -1,0 +1,179 @@
+//! Which refusals are told at a place.
+
+ghost use Rattle.std.specs.Prelude.{◌≡◌, ◌<◌, ◌++◌, OnOk, count_by, take, length};
+ghost use Rattle.geos_explain.specs.Places.{IsPlace, explained_of, place_of};
+ghost use Rattle.geos_explain.specs.Refusals.{is_of_budget, told_rule, is_told, rule_at, most_told, more_line, refused_text, refusal_text, is_last};
+ghost use Rattle.geos_explain.specs.Refusals.{over_line, over_from, over_text, ToldWhereRefused};
+
+use crate::place::Place;
+use crate::routines::{ExplainedRoutine, place_at};
+use crate::words::put_refusal_line;
+use geos_image::Routine;
+use geos_text::{Part, put_parts};
+use geos_verify::{Rule, over_budget};
+use std::alloc::AllocError;
+
+/// Whether the rule is the one on the budget.
+fn is_of_budget(rule: Rule) -> bool
+    ensures { result ≡ is_of_budget rule }
+{
+    match rule {
+        Rule::OverBudget => true,
+        _ => false,
+    }
+}
+
+/// The rule that is told at the place that it refuses: not that on the budget, which is told of its routine.
+fn told_rule(rule: Option<Rule>) -> Option<Rule>
+    ensures { result ≡ told_rule rule }
+{
+    match rule {
+        Some(rule) if !is_of_budget(rule) => Some(rule),
+        _ => None,
+    }
+}
+
+/// Whether there is such a rule.
+fn is_told(rule: &Option<Rule>) -> bool
+    ensures { result ≡ is_told rule.now }
+{
+    told_rule(*rule).is_some()
+}
+
+/// The rule that is told at a pc.
+fn rule_at(refused: &[Option<Rule>], pc: u16) -> Option<Rule>
+    ensures { result ≡ rule_at refused.now pc }
+{
+    match refused.get(usize::from(pc)) {
+        Some(rule) => told_rule(*rule),
+        None => None,
+    }
+}
+
+/// At how many of the first pcs a rule is told.
+fn count_before(refused: &[Option<Rule>], pc: usize) -> usize
+    ensures { result ≡ count_by is_told (take pc refused.now) }
+{
+    refused
+        .iter()
+        .take(pc)
+        .filter(|rule| is_told(*rule))
+        .count()
+}
+
+/// At how many pcs a rule is told.
+fn count_all(refused: &[Option<Rule>]) -> usize
+    ensures { result ≡ count_by is_told refused.now }
+{
+    refused.iter().filter(|rule| is_told(*rule)).count()
+}
+
+/// How many refusals are told of an image of so many instructions, so that it takes no longer than the longest image may:
+/// what is said of one may take time in proportion to the square of the number.
+fn most_told(len: u16) -> usize
+    ensures { result ≡ most_told len }
+{
+    32_768 / (usize::from(len) + 1)
+}
+
+/// How many more places are refused from here on.
+#[tactic(auto, unfolding(crate::specs::Refusals::more_line))]
+fn put_more(out: &mut Vec<u8>, more: usize) -> Result<(), AllocError>
+    ensures { OnOk result (out.new.items ≡ out.old.items ++ more_line more) }
+{
+    put_parts(
+        out,
+        &[
+            Part::Numbered("; .. and ", more as u64),
+            Part::Text(" more from here on\n"),
+        ],
+    )
+}
+
+/// What is told where the rule refuses the place: what is wrong, or that others are not told.
+fn put_refused(
+    out: &mut Vec<u8>,
+    refused: &[Option<Rule>],
+    place: &Place,
+    rule: Rule,
+) -> Result<(), AllocError>
+    requires { IsPlace (place_of place.now) }
+    ensures { OnOk result (out.new.items ≡ out.old.items ++ refused_text refused.now (place_of place.now) rule) }
+{
+    let most = most_told(place.image.len());
+    let before = count_before(refused, usize::from(place.pc));
+    if before < most {
+        put_refusal_line(out, place, rule)
+    } else if before == most {
+        put_more(out, count_all(refused).saturating_sub(before))
+    } else {
+        Ok(())
+    }
+}
+
+/// The same, if a rule refuses the place.
+pub(crate) fn put_refusal(
+    out: &mut Vec<u8>,
+    refused: &[Option<Rule>],
+    place: &Place,
+) -> Result<(), AllocError>
+    requires { IsPlace (place_of place.now) }
+    ensures { OnOk result (out.new.items ≡ out.old.items ++ refusal_text refused.now (place_of place.now)) }
+{
+    match rule_at(refused, place.pc) {
+        Some(rule) => put_refused(out, refused, place, rule),
+        None => Ok(()),
+    }
+}
+
+/// Whether the pc is that of the last instruction of a routine that begins at `start`.
+fn is_last(start: u16, routine: &Routine, pc: u16) -> bool
+    ensures { result ≡ is_last start routine.now pc }
+{
+    start <= pc && u32::from(pc) + 1 == u32::from(start) + u32::from(routine.count)
+}
+
+/// The line of the refusal by the rule on the budget, where it refuses the first place of a routine.
+fn put_over_line(out: &mut Vec<u8>, first: &Place) -> Result<(), AllocError>
+    requires { IsPlace (place_of first.now) }
+    ensures { OnOk result (out.new.items ≡ out.old.items ++ over_line (place_of first.now)) }
+{
+    if over_budget(first.pc, first.routine, first.pc, first.potential) {
+        put_refusal_line(out, first, Rule::OverBudget)
+    } else {
+        Ok(())
+    }
+}
+
+/// The same of a routine, which begins at `start`.
+fn put_over_from(out: &mut Vec<u8>, within: &ExplainedRoutine, start: u16) -> Result<(), AllocError>
+    requires { start < length within.now.explained.now.image.now.points }
+    ensures { OnOk result (out.new.items
+        ≡ out.old.items ++ over_from (explained_of within.now.explained.now) within.now.r within.now.routine.now start) }
+{
+    let first = place_at(within, start);
+    put_over_line(out, &first)
+}
+
+/// The same behind the last instruction of the routine.
+#[tactic(auto, unfolding(crate::specs::Refusals::over_text))]
+pub(crate) fn put_over_budget(
+    out: &mut Vec<u8>,
+    within: &ExplainedRoutine,
+    pc: u16,
+) -> Result<(), AllocError>
+    ensures { OnOk result (out.new.items
+        ≡ out.old.items ++ over_text (explained_of within.now.explained.now) within.now.r within.now.routine.now pc) }
+{
+    let start = within.explained.image.start(within.r);
+    if is_last(start, within.routine, pc) {
+        put_over_from(out, within, start)
+    } else {
+        Ok(())
+    }
+}
+
+/// A law: a rule is told at a place exactly where it is the lowest that refuses it, but for the rule on the budget.
+pub fn told_where_refused()
+    ensures { ToldWhereRefused }
+{}
