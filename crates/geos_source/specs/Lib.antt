@@ -12,4 +12,5 @@ pub mod Declarations
 pub mod Texts
 pub mod Skeletons
 pub mod Views
+pub mod Tallies
 pub mod Parsing
