@@ -135,11 +135,11 @@ told_text text f g h i too without d s t declares none begins takes settled long
     let names : d.names ≡ all.names = ap (λ (x : Declared). x.names) declares in
     let twice : f ≡ all.fault = sym (first-none f) ∙ ap (first f) (sym none) ∙ ap (λ (x : Declared). x.fault) declares in
     let whole : told g t ≡ told f r =
-        takes
-        ∙ ap (λ x. close (take_lines d.names 1 (lines text) (told f x))) begins
-        ∙ ap (λ x. close (take_lines x 1 (lines text) (told f blank))) names
-        ∙ ap close (take_lines-told all.names 1 (lines text) f blank)
-        ∙ close-told f (take_lines all.names 1 (lines text) blank) in
+    takes
+    ∙ ap (λ x. close (take_lines d.names 1 (lines text) (told f x))) begins
+    ∙ ap (λ x. close (take_lines x 1 (lines text) (told f blank))) names
+    ∙ ap close (take_lines-told all.names 1 (lines text) f blank)
+    ∙ close-told f (take_lines all.names 1 (lines text) blank) in
     let fault : g ≡ first f r.progress.fault = sym (first-none g) ∙ ap (first g) (sym settled) ∙ ap (λ (x : Draft). x.progress.fault) whole in
     let part : t.progress.part ≡ r.progress.part = ap (λ (x : Draft). x.progress.part) whole in
     noted_last

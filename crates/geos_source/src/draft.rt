@@ -80,7 +80,11 @@ impl Draft {
     }
 
     /// An instruction, faulty or not.
-    pub(crate) fn take_instr(&mut self, line: usize, read: Result<Instr, Why>) -> Result<(), AllocError>
+    pub(crate) fn take_instr(
+        &mut self,
+        line: usize,
+        read: Result<Instr, Why>,
+    ) -> Result<(), AllocError>
         ensures { IfOk result (λ _. draft_in self.new ≡ take_instr line read (draft_in self.old)) }
     {
         let why = self.progress.why_of_instr(read, is_full(&self.code));

@@ -244,6 +244,8 @@ pub fn faults_of(alloc: Global, text: &[u8]) -> Result<Faults, AllocError>
     let mut tally = Tally { faults, draft };
     tally.take_text(&declarations.names, text)?;
     tally.faults.note(too_long(text));
-    tally.faults.note(tally.draft.progress.part.without_routine());
+    tally
+        .faults
+        .note(tally.draft.progress.part.without_routine());
     Ok(tally.faults)
 }
