@@ -1,6 +1,8 @@
 //! The commands.
 
-ghost use Rattle.std.specs.Prelude.{◌≡◌, true, false, IfOk, IfErr, IfSome, IfNone};
+ghost use Rattle.std.specs.Prelude.{◌≡◌, ◌↔◌, [], true, false, None, IfOk, IfErr, IfSome, IfNone};
+ghost use Rattle.geos_source.specs.Texts.{fault_of};
+ghost use Rattle.geos_lines.specs.Telling.{TellsFaults};
 ghost use Rattle.geos_asm.specs.Assembling.{IsWhyNoImage};
 ghost use Rattle.geos_image.specs.Reading.{image_at, Fails};
 ghost use Rattle.geos.specs.Commands.{IsAssembledAs, TakesVersion2, IsImageOf, IsWhyNoneOf, IsListed};
@@ -10,6 +12,7 @@ use geos_asm::{AssembleError, assemble, assemble_all_rows, why_no_rows};
 use geos_causes::explain_cause;
 use geos_explain::{explain, explain_text};
 use geos_image::ReadError;
+use geos_lines::tell_faults;
 use geos_source::lines_of_instrs;
 use geos_verify::{Reject, check, refused_places};
 use round_trip::list;
@@ -143,4 +146,12 @@ pub(crate) fn cause_bytes(alloc: Global, text: &[u8], line: usize) -> Result<Vec
         Some(cause) => Ok(explain_cause(alloc, &lines, &cause)?),
         None => Ok(Vec::new(alloc)),
     }
+}
+
+/// What there is to say of the faulty lines of a text, a line on each. `AssembleError::Memory` where an allocation is refused.
+pub(crate) fn faulty_lines_bytes(alloc: Global, text: &[u8]) -> Result<Vec<u8>, AssembleError>
+    ensures told { IfOk result (λ told. TellsFaults text.now told.items) }
+    ensures silent { IfOk result (λ told. (told.items ≡ []) ↔ (fault_of text.now ≡ None)) }
+{
+    Ok(tell_faults(alloc, text)?)
 }

@@ -138,7 +138,8 @@ const FAULTS: &str = "\
 If there is a file OUT, it is replaced; after a fault it is as it was. A row is what is known at an
 instruction. The image, of version 2, has rows where a routine begins, where a label is used and behind
 each JMP and RET: the verifier computes the others.
-The first fault of the text is `line N: why K`; of several on one line, the lowest number is named:
+The first fault of the text is `line N: why K`; `geos explain IN` says more, of an image too, which has
+`line 1: why 1` here. Of several on one line, the lowest number is named:
   1  the first word is no instruction, and none of `routine`, `in` and `out`
   2  operands are too few or too many, or one is of another form
   3  a number is past its range: 15 for SHR, 4,294,967,295 for a budget, else 65,535
@@ -183,7 +184,7 @@ written to it. `refused N` is said as by `put`.";
 const EXPLAINED: &str = "\
 IMAGE may be a text too: what does not begin as an image does is read as one. Its own lines are printed,
 each behind its number; behind an instruction stands what is known there, and how many steps are owed.
-Where a line of it has a fault, there is `line N: why K` alone: `geos help asm` says what K is.
+Where lines of it have faults, these are printed alone, each with the word that is wrong and what is wanted.
 Of an image each instruction is printed, with the routine and the pc in front of that.
 Where a rule refuses, a line says why, and what to do; of a stale pointer from where it is known, from
 where not, and what has moved there. `no rows: line N` has a line that says where slots differ, or which
@@ -191,7 +192,8 @@ loop is not paid for.";
 
 /// Why an image may not run.
 const RULES: &str = "\
-`bad image at N` names the first byte that no image has there; `geos asm` makes the image of a text.
+`bad image at N` names the first byte that no image has there; a text has `bad image at 0`: `geos asm` makes
+the image of it, and `geos explain` says what is wrong with either.
 `rejected at N by VK` names the first instruction, counted from 0, that may not stand as it does, and the
 lowest rule there; `geos explain` says more. The rules:
   V1   control stays within the routine

@@ -16,3 +16,5 @@ pub mod ToldParts
 pub mod ToldLines
 pub mod Ended
 pub mod PartNames
+pub mod FirstLaws
+pub mod Noted

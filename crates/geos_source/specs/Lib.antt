@@ -12,5 +12,6 @@ pub mod Declarations
 pub mod Texts
 pub mod Skeletons
 pub mod Views
+pub mod Tallies
 pub mod Parsing
 pub mod Coded

@@ -61,7 +61,7 @@ fn name_in_front(operands: &[u8]) -> Option<Name>
 }
 
 impl Declarations {
-    fn new(alloc: Global) -> Result<Declarations, AllocError>
+    pub(crate) fn new(alloc: Global) -> Result<Declarations, AllocError>
         ensures { IfOk result (λ declarations. declared_of declarations ≡ nothing) }
     {
         let labels = Table::new(alloc)?;
@@ -128,7 +128,7 @@ impl Declarations {
     }
 
     #[tactic(auto, unfolding(crate::specs::Declarations::with_line))]
-    fn add_line(&mut self, number: usize, line: &[u8]) -> Result<(), AllocError>
+    pub(crate) fn add_line(&mut self, number: usize, line: &[u8]) -> Result<(), AllocError>
         ensures { IfOk result (λ _. declared_of self.new ≡ with_line number line.now (declared_of self.old)) }
     {
         match self.add_labels(number, without_comment(line))? {

@@ -50,7 +50,7 @@ fn is_full(code: &[Instr]) -> Option<Why>
 
 impl Draft {
     /// Nothing is said yet; there is room for so many instructions.
-    fn new(alloc: Global, instrs: u16) -> Result<Draft, AllocError>
+    pub(crate) fn new(alloc: Global, instrs: u16) -> Result<Draft, AllocError>
         ensures { IfOk result (λ draft. draft_in draft ≡ blank) }
     {
         Ok(Draft {
@@ -61,7 +61,7 @@ impl Draft {
     }
 
     /// The routine that has begun is complete.
-    fn close(&mut self) -> Result<(), AllocError>
+    pub(crate) fn close(&mut self) -> Result<(), AllocError>
         ensures { IfOk result (λ _. draft_in self.new ≡ close (draft_in self.old)) }
     {
         if let Some(routine) = self.progress.current {
@@ -72,7 +72,7 @@ impl Draft {
     }
 
     /// A routine begins, faulty or not.
-    fn begin(&mut self, line: usize, read: Result<Routine, Why>)
+    pub(crate) fn begin(&mut self, line: usize, read: Result<Routine, Why>)
         ensures { draft_in self.new ≡ begin line read (draft_in self.old) }
     {
         let full = no_room(&self.routines);
@@ -80,7 +80,11 @@ impl Draft {
     }
 
     /// An instruction, faulty or not.
-    fn take_instr(&mut self, line: usize, read: Result<Instr, Why>) -> Result<(), AllocError>
+    pub(crate) fn take_instr(
+        &mut self,
+        line: usize,
+        read: Result<Instr, Why>,
+    ) -> Result<(), AllocError>
         ensures { IfOk result (λ _. draft_in self.new ≡ take_instr line read (draft_in self.old)) }
     {
         let why = self.progress.why_of_instr(read, is_full(&self.code));

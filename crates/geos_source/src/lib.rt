@@ -13,10 +13,13 @@ mod operands;
 mod parser;
 mod progress;
 mod skeletons;
+mod tally;
 
 pub use fault::{BadLine, Why};
 pub use geos_text::MOST_BYTES;
 pub use instr_lines::lines_of_instrs;
+pub use names::{Name, label_of, name_of};
 pub use parser::{ParseError, Parsed, parse};
 pub use progress::TextRoutine;
 pub use skeletons::skeleton;
+pub use tally::{Faults, faults_of};

@@ -12,7 +12,7 @@ use std::collections::BTreeMap;
 
 /// A name as an image has it: 1 to 16 letters, digits and underscores, the first a letter; then
 /// zeros.
-pub(crate) type Name = [u8; 16];
+pub type Name = [u8; 16];
 
 fn is_name(word: &[u8]) -> bool
     ensures { result ≡ is_name word.now }
@@ -23,9 +23,9 @@ fn is_name(word: &[u8]) -> bool
     }
 }
 
-/// The name that a word writes.
+/// The name that a word writes; `None` where it writes none.
 #[tactic(auto, unfolding(crate::specs::Names::name_of))]
-pub(crate) fn name_of(word: &[u8]) -> Option<Name>
+pub fn name_of(word: &[u8]) -> Option<Name>
     ensures { result ≡ name_of word.now }
 {
     if !is_name(word) {
@@ -36,9 +36,9 @@ pub(crate) fn name_of(word: &[u8]) -> Option<Name>
     Some(name)
 }
 
-/// The name of a label, which a `:` follows.
+/// The name of a label, which a `:` follows; `None` where the word is no label.
 #[tactic(auto, unfolding(crate::specs::Names::label_of))]
-pub(crate) fn label_of(word: &[u8]) -> Option<Name>
+pub fn label_of(word: &[u8]) -> Option<Name>
     ensures { result ≡ label_of word.now }
 {
     match word.split_last() {

@@ -42,7 +42,7 @@ impl From<AllocError> for ParseError {
     }
 }
 
-fn too_long(text: &[u8]) -> Option<BadLine>
+pub(crate) fn too_long(text: &[u8]) -> Option<BadLine>
     ensures { result ≡ too_long text.now }
 {
     if text.len() > MOST_BYTES {

@@ -1,0 +1,223 @@
+//! What is wrong with the line of an instruction.
+
+ghost use Rattle.std.specs.Prelude.{◌≤◌, length};
+
+use crate::forms::{noun, put_form};
+use crate::sentences::{Wrong, put_above, put_quoted, put_too_much, put_word, put_wrong};
+use crate::words::{Word, word_from};
+use geos_opcodes::{FIELDS, Opcode, Operand, operand_at};
+use geos_source::name_of;
+use geos_text::{NumberError, Part, number_up_to, put_parts, register};
+use std::alloc::AllocError;
+
+/// Why a word is no operand of a kind.
+#[derive(Clone, Copy)]
+pub(crate) enum Misfit {
+    /// It has another form.
+    Form(Wrong),
+    /// It is a number above this one.
+    Above(u32),
+}
+
+/// Where the words behind an instruction stop being operands of it.
+#[derive(Clone, Copy)]
+pub(crate) enum Stop<'a> {
+    /// At a word.
+    At(Word<'a>, Misfit),
+    /// At the end, where an operand of this kind is wanted.
+    Missing(Operand),
+    /// At a word behind the operands.
+    TooMuch(Word<'a>),
+    /// Nowhere. This is the last operand, if there is one.
+    Nowhere(Option<Word<'a>>),
+}
+
+/// Why a word is no register.
+fn register_misfit(letter: u8, count: u8, word: &[u8], wrong: Wrong) -> Option<Misfit>
+    requires { count ≤ 10 }
+{
+    match register(letter, count, word) {
+        Some(_) => None,
+        None => Some(Misfit::Form(wrong)),
+    }
+}
+
+/// Why a word is no number up to the greatest one.
+pub(crate) fn number_misfit(greatest: u32, word: &[u8]) -> Option<Misfit> {
+    match number_up_to(greatest, word) {
+        Ok(_) => None,
+        Err(NumberError::Malformed) => Some(Misfit::Form(Wrong::NoNumber)),
+        Err(NumberError::TooLarge) => Some(Misfit::Above(greatest)),
+    }
+}
+
+/// Why a word is no name.
+pub(crate) fn name_misfit(word: &[u8]) -> Option<Misfit> {
+    match name_of(word) {
+        Some(_) => None,
+        None => Some(Misfit::Form(Wrong::NoName)),
+    }
+}
+
+/// Why a word is no operand of this kind, names aside that nothing has.
+fn misfit_of(kind: Operand, word: &[u8]) -> Option<Misfit> {
+    match kind {
+        Operand::Unused => None,
+        Operand::Word => register_misfit(b'w', 8, word, Wrong::NoWord),
+        Operand::Counter => register_misfit(b'k', 4, word, Wrong::NoCounter),
+        Operand::Slot => register_misfit(b's', 4, word, Wrong::NoSlot),
+        Operand::Pointer => register_misfit(b'p', 4, word, Wrong::NoPointer),
+        Operand::Number => number_misfit(65_535, word),
+        Operand::Shift => number_misfit(15, word),
+        Operand::Routine | Operand::Label => name_misfit(word),
+    }
+}
+
+/// Where the words of a line from an index on stop being operands of the opcode.
+pub(crate) fn stop_of(opcode: Opcode, line: &[u8], from: usize) -> Stop
+    requires { from ≤ length line.now }
+{
+    let mut at = from;
+    let mut last = None;
+    for field in FIELDS.iter() {
+        let kind = operand_at(opcode, *field);
+        if kind != Operand::Unused {
+            let Some(word) = word_from(line, at) else {
+                return Stop::Missing(kind);
+            };
+            if let Some(misfit) = misfit_of(kind, word.bytes) {
+                return Stop::At(word, misfit);
+            }
+            last = Some(word);
+            at = word.end;
+        }
+    }
+    match word_from(line, at) {
+        Some(word) => Stop::TooMuch(word),
+        None => Stop::Nowhere(last),
+    }
+}
+
+/// Appends why a word does not fit.
+pub(crate) fn put_misfit(out: &mut Vec<u8>, word: Word, misfit: Misfit) -> Result<(), AllocError> {
+    match misfit {
+        Misfit::Form(wrong) => put_wrong(out, word, wrong),
+        Misfit::Above(bound) => put_above(out, word, bound),
+    }
+}
+
+/// Appends that a name is none that the text has.
+fn put_undefined(out: &mut Vec<u8>, opcode: Opcode, last: Option<Word>) -> Result<(), AllocError> {
+    let what = match opcode {
+        Opcode::Call => "; no routine",
+        _ => "; no label",
+    };
+    match last {
+        Some(word) => {
+            put_parts(out, &[Part::Text(what), Part::Text(" has the name ")])?;
+            put_word(out, word)
+        }
+        None => put_parts(out, &[Part::Text(what), Part::Text(" has its name")]),
+    }
+}
+
+/// Appends what is wrong with an instruction of this opcode, whose operands stand in the line from an index on.
+fn put_operands(
+    out: &mut Vec<u8>,
+    opcode: Opcode,
+    line: &[u8],
+    from: usize,
+) -> Result<(), AllocError>
+    requires { from ≤ length line.now }
+{
+    put_form(out, opcode)?;
+    match stop_of(opcode, line, from) {
+        Stop::At(word, misfit) => {
+            put_parts(out, &[Part::Text("; ")])?;
+            put_misfit(out, word, misfit)
+        }
+        Stop::Missing(kind) => put_parts(
+            out,
+            &[
+                Part::Text("; "),
+                Part::Text(noun(kind)),
+                Part::Text(" is missing"),
+            ],
+        ),
+        Stop::TooMuch(word) => {
+            put_parts(out, &[Part::Text("; ")])?;
+            put_too_much(out, word)
+        }
+        Stop::Nowhere(last) => put_undefined(out, opcode, last),
+    }
+}
+
+/// The word in capitals, if that is the word of an opcode.
+fn in_capitals(word: &[u8]) -> Option<Opcode> {
+    let mut capitals = [0; 16];
+    if word.len() > capitals.len() {
+        return None;
+    }
+    for i in 0..word.len() {
+        capitals[i] = word[i].to_ascii_uppercase();
+    }
+    Opcode::from_word(&capitals[..word.len()])
+}
+
+/// The word that one in other letters stands for, of those that a line can begin with.
+fn in_small_letters(word: &[u8]) -> Option<&'static str> {
+    if word.eq_ignore_ascii_case(b"routine") {
+        Some("routine")
+    } else if word.eq_ignore_ascii_case(b"in") {
+        Some("in")
+    } else if word.eq_ignore_ascii_case(b"out") {
+        Some("out")
+    } else {
+        None
+    }
+}
+
+/// What may have been meant by a word that no line begins with.
+fn put_meant(out: &mut Vec<u8>, word: Word, behind: Option<Word>) -> Result<(), AllocError> {
+    put_word(out, word)?;
+    put_parts(out, &[Part::Text(" is no instruction")])?;
+    if let Some(opcode) = in_capitals(word.bytes) {
+        return put_parts(out, &[Part::Text(": say "), Part::Text(opcode.word())]);
+    }
+    if let Some(small) = in_small_letters(word.bytes) {
+        return put_parts(out, &[Part::Text(": say "), Part::Text(small)]);
+    }
+    if word.bytes.starts_with(b"#") || word.bytes.starts_with(b"/") {
+        return put_parts(out, &[Part::Text(": a comment begins with ;")]);
+    }
+    match behind {
+        Some(next) => {
+            if next.bytes == b":".as_slice() || Opcode::from_word(next.bytes).is_some() {
+                put_parts(out, &[Part::Text(": for a label say ")])?;
+                put_quoted(out, word.bytes)?;
+                return put_parts(out, &[Part::Text(" and a colon, in one word")]);
+            }
+            put_parts(out, &[Part::Text(", and none of routine, in and out")])
+        }
+        None => put_parts(out, &[Part::Text(", and none of routine, in and out")]),
+    }
+}
+
+/// Appends what is wrong with the line of an instruction, that begins with a word.
+pub(crate) fn put_instr(out: &mut Vec<u8>, line: &[u8], word: Word) -> Result<(), AllocError>
+    requires { word.end ≤ length line.now }
+{
+    if let Some(opcode) = Opcode::from_word(word.bytes) {
+        return put_operands(out, opcode, line, word.end);
+    }
+    if word.bytes.ends_with(b":") {
+        return put_wrong(out, word, Wrong::NoLabel);
+    }
+    if word.bytes.starts_with(b"\xef\xbb\xbf")
+        || word.bytes.contains(&b'\r')
+        || word.bytes.contains(&b',')
+    {
+        return put_wrong(out, word, Wrong::NoInstruction);
+    }
+    put_meant(out, word, word_from(line, word.end))
+}

@@ -1,0 +1,190 @@
+//! What is wrong with the line that begins a routine, and with the lines `in` and `out`.
+
+ghost use Rattle.std.specs.Prelude.{◌≤◌, length};
+
+use crate::instr_lines::{Misfit, name_misfit, number_misfit, put_misfit};
+use crate::sentences::{Wrong, hint, put_too_much, put_word};
+use crate::words::{Word, word_from};
+use geos_text::{Part, put_parts, register};
+use std::alloc::AllocError;
+
+/// The form of a line that begins a routine.
+const ROUTINE: &str =
+    "routine wants a name, perhaps public, and a budget, as routine add public budget 3";
+
+/// Why a word does not fit behind `routine`.
+#[derive(Clone, Copy)]
+enum HeadStop<'a> {
+    At(Word<'a>, Misfit),
+    Missing(&'static str),
+    TooMuch(Word<'a>),
+    Nowhere,
+}
+
+/// Where the words of a line from an index on, behind `routine NAME`, stop being a budget.
+fn budget_stop(line: &[u8], from: usize) -> HeadStop
+    requires { from ≤ length line.now }
+{
+    let Some(word) = word_from(line, from) else {
+        return HeadStop::Missing("the word budget");
+    };
+    if word.bytes != b"budget".as_slice() {
+        return HeadStop::At(word, Misfit::Form(Wrong::NoBudget));
+    }
+    let Some(number) = word_from(line, word.end) else {
+        return HeadStop::Missing("the number of steps");
+    };
+    if let Some(misfit) = number_misfit(u32::MAX, number.bytes) {
+        return HeadStop::At(number, misfit);
+    }
+    match word_from(line, number.end) {
+        Some(word) => HeadStop::TooMuch(word),
+        None => HeadStop::Nowhere,
+    }
+}
+
+/// Where the words of a line from an index on, behind `routine`, stop being those that are wanted.
+fn head_stop(line: &[u8], from: usize) -> HeadStop
+    requires { from ≤ length line.now }
+{
+    let Some(name) = word_from(line, from) else {
+        return HeadStop::Missing("the name");
+    };
+    if let Some(misfit) = name_misfit(name.bytes) {
+        return HeadStop::At(name, misfit);
+    }
+    match word_from(line, name.end) {
+        Some(word) => {
+            if word.bytes == b"public".as_slice() {
+                budget_stop(line, word.end)
+            } else {
+                budget_stop(line, name.end)
+            }
+        }
+        None => HeadStop::Missing("the word budget"),
+    }
+}
+
+/// Appends what is wrong with a line that begins a routine, whose words behind `routine` stand from an index on.
+pub(crate) fn put_routine(out: &mut Vec<u8>, line: &[u8], from: usize) -> Result<(), AllocError>
+    requires { from ≤ length line.now }
+{
+    put_parts(out, &[Part::Text(ROUTINE)])?;
+    match head_stop(line, from) {
+        HeadStop::At(word, misfit) => {
+            put_parts(out, &[Part::Text("; ")])?;
+            put_misfit(out, word, misfit)
+        }
+        HeadStop::Missing(what) => put_parts(
+            out,
+            &[
+                Part::Text("; "),
+                Part::Text(what),
+                Part::Text(" is missing"),
+            ],
+        ),
+        HeadStop::TooMuch(word) => {
+            put_parts(out, &[Part::Text("; ")])?;
+            put_too_much(out, word)
+        }
+        HeadStop::Nowhere => Ok(()),
+    }
+}
+
+/// A number at the end of an item, if its front is right: behind `w0<=`, and behind `p0=s0:`.
+fn number_of_item(item: &[u8]) -> Option<&[u8]> {
+    let (front, rest) = item.split_at(item.len().min(2));
+    if register(b'w', 8, front).is_some() {
+        return rest.strip_prefix(b"<=");
+    }
+    register(b'p', 4, front)?;
+    let held = rest.strip_prefix(b"=")?;
+    let (slot, back) = held.split_at(held.len().min(2));
+    register(b's', 4, slot)?;
+    back.strip_prefix(b":")
+}
+
+/// What a slot may hold in an item.
+fn is_held(word: &[u8]) -> bool {
+    matches!(
+        word,
+        b"mem" | b"vm" | b"vm!" | b"vm@" | b"vm@!" | b"db" | b"db!"
+    )
+}
+
+/// Whether a word is an item on a slot: what it holds, or one that holds another block.
+fn is_slot_item(item: &[u8]) -> bool {
+    let (front, rest) = item.split_at(item.len().min(2));
+    let Some(slot) = register(b's', 4, front) else {
+        return false;
+    };
+    if let Some(held) = rest.strip_prefix(b"=") {
+        return is_held(held);
+    }
+    match rest.strip_prefix(b"#") {
+        Some(other) => match register(b's', 4, other) {
+            Some(other) => other != slot,
+            None => false,
+        },
+        None => false,
+    }
+}
+
+/// Why a word is no item.
+fn item_misfit(item: &[u8]) -> Option<Misfit> {
+    match number_of_item(item) {
+        Some(digits) => match number_misfit(65_535, digits) {
+            Some(Misfit::Form(_)) => Some(Misfit::Form(Wrong::NoItem)),
+            other => other,
+        },
+        None => {
+            if is_slot_item(item) {
+                None
+            } else {
+                Some(Misfit::Form(Wrong::NoItem))
+            }
+        }
+    }
+}
+
+/// The form of an item that begins as this word does.
+fn form_of_item(item: &[u8]) -> &'static str {
+    match item.first() {
+        Some(b'w') => ": a bound is as w0<=9",
+        Some(b's') => ": a slot is as s0=mem, with mem, vm, vm!, vm@, vm@!, db or db!, or as s0#s1",
+        Some(b'p') => ": a pointer is as p0=s0:8",
+        _ => ": items are as w0<=9, s0=mem, p0=s0:8 and s0#s1",
+    }
+}
+
+/// Appends why a word is no item.
+fn put_item(out: &mut Vec<u8>, item: Word, misfit: Misfit) -> Result<(), AllocError> {
+    put_word(out, item)?;
+    match misfit {
+        Misfit::Form(_) => {
+            let reason = match hint(item.bytes, usize::MAX) {
+                Some(hint) => hint,
+                None => form_of_item(item.bytes),
+            };
+            put_parts(out, &[Part::Text(" is no item"), Part::Text(reason)])
+        }
+        Misfit::Above(bound) => put_parts(
+            out,
+            &[Part::Numbered(" has a number above ", u64::from(bound))],
+        ),
+    }
+}
+
+/// Appends which of the items of a line is none, the first that is so: they stand from an index on.
+pub(crate) fn put_items(out: &mut Vec<u8>, line: &[u8], from: usize) -> Result<(), AllocError>
+    requires { from ≤ length line.now }
+{
+    let mut at = from;
+    while let Some(word) = word_from(line, at) {
+        if let Some(misfit) = item_misfit(word.bytes) {
+            return put_item(out, word, misfit);
+        }
+        at = word.end;
+    }
+    Ok(())
+}

@@ -1,0 +1,146 @@
+//! All sentences on faulty lines.
+
+use crate::words::Word;
+use geos_text::{Part, put_parts};
+use std::alloc::AllocError;
+
+/// The most bytes of a word that are shown.
+const MOST_SHOWN: usize = 40;
+
+/// The digits of a byte that is no printable character.
+const DIGITS: &[u8; 16] = b"0123456789abcdef";
+
+/// What a word is not.
+#[derive(Clone, Copy)]
+pub(crate) enum Wrong {
+    NoWord,
+    NoCounter,
+    NoSlot,
+    NoPointer,
+    NoNumber,
+    NoName,
+    NoBudget,
+    NoItem,
+    NoLabel,
+    NoInstruction,
+}
+
+impl Wrong {
+    /// What is said of it behind the word.
+    fn text(self) -> &'static str {
+        match self {
+            Wrong::NoWord => " is no word: words are w0 to w7",
+            Wrong::NoCounter => " is no counter: counters are k0 to k3",
+            Wrong::NoSlot => " is no slot: slots are s0 to s3",
+            Wrong::NoPointer => " is no pointer: pointers are p0 to p3",
+            Wrong::NoNumber => " is no number: a number has decimal digits alone",
+            Wrong::NoName =>
+                " is no name: a name has letters, digits and underscores, the first a letter",
+            Wrong::NoBudget => " stands where the word budget is wanted",
+            Wrong::NoItem => " is no item",
+            Wrong::NoLabel =>
+                " is no label: it has letters, digits and underscores, the first a letter, and a colon",
+            Wrong::NoInstruction => " is no instruction, and none of routine, in and out",
+        }
+    }
+
+    /// The same without the reason, where another one is said.
+    fn short_text(self) -> &'static str {
+        match self {
+            Wrong::NoWord => " is no word",
+            Wrong::NoCounter => " is no counter",
+            Wrong::NoSlot => " is no slot",
+            Wrong::NoPointer => " is no pointer",
+            Wrong::NoNumber => " is no number",
+            Wrong::NoName => " is no name",
+            Wrong::NoLabel => " is no label",
+            Wrong::NoBudget => self.text(),
+            Wrong::NoItem => " is no item",
+            Wrong::NoInstruction => " is no instruction",
+        }
+    }
+
+    /// The most bytes that a word of the form has, where it is a name, with its colon if it is a label.
+    fn most_bytes(self) -> usize {
+        match self {
+            Wrong::NoName => 16,
+            Wrong::NoLabel => 17,
+            _ => usize::MAX,
+        }
+    }
+}
+
+/// Appends a byte of a word; where it is no printable character, by its digits.
+fn put_byte(out: &mut Vec<u8>, byte: u8) -> Result<(), AllocError> {
+    if byte.is_ascii_graphic() || byte == b' ' {
+        out.push(byte)?;
+        return Ok(());
+    }
+    let digits = [
+        b'\\',
+        b'x',
+        DIGITS[usize::from(byte >> 4)],
+        DIGITS[usize::from(byte & 15)],
+    ];
+    out.extend_from_slice(&digits)
+}
+
+/// Appends a word in quotation marks, or its first bytes.
+pub(crate) fn put_quoted(out: &mut Vec<u8>, word: &[u8]) -> Result<(), AllocError> {
+    put_parts(out, &[Part::Text("\"")])?;
+    for byte in &word[..word.len().min(MOST_SHOWN)] {
+        put_byte(out, *byte)?;
+    }
+    if word.len() > MOST_SHOWN {
+        put_parts(out, &[Part::Text("..")])?;
+    }
+    put_parts(out, &[Part::Text("\"")])
+}
+
+/// Appends a word in quotation marks, and its column, in bytes from 1. `AllocError` where the allocator refuses memory.
+pub fn put_word(out: &mut Vec<u8>, word: Word) -> Result<(), AllocError> {
+    put_quoted(out, word.bytes)?;
+    let column = word.start.saturating_add(1);
+    put_parts(out, &[Part::Numbered(" at column ", column as u64)])
+}
+
+/// What a word has that none may have, or that it is longer than this.
+pub(crate) fn hint(word: &[u8], most: usize) -> Option<&'static str> {
+    if word.starts_with(b"\xef\xbb\xbf") {
+        Some(": the text begins with a byte order mark, which has to go")
+    } else if word.contains(&b'\r') {
+        Some(": a line ends with LF or CR LF, and not with CR alone")
+    } else if word.contains(&b',') {
+        Some(": spaces part words, and no commas")
+    } else if word == b"?".as_slice() {
+        Some(": geos budget puts one there")
+    } else if word.len() > most {
+        Some(": a name has at most 16 letters, digits and underscores")
+    } else {
+        None
+    }
+}
+
+/// Appends what is wrong with a word of a line.
+pub(crate) fn put_wrong(out: &mut Vec<u8>, word: Word, wrong: Wrong) -> Result<(), AllocError> {
+    put_word(out, word)?;
+    match hint(word.bytes, wrong.most_bytes()) {
+        Some(hint) => put_parts(out, &[Part::Text(wrong.short_text()), Part::Text(hint)]),
+        None => put_parts(out, &[Part::Text(wrong.text())]),
+    }
+}
+
+/// Appends that a number is past its bound.
+pub(crate) fn put_above(out: &mut Vec<u8>, word: Word, bound: u32) -> Result<(), AllocError> {
+    put_word(out, word)?;
+    put_parts(out, &[Part::Numbered(" is above ", u64::from(bound))])
+}
+
+/// Appends that a word is one too many.
+pub(crate) fn put_too_much(out: &mut Vec<u8>, word: Word) -> Result<(), AllocError> {
+    put_word(out, word)?;
+    match hint(word.bytes, usize::MAX) {
+        Some(hint) => put_parts(out, &[Part::Text(" is too much"), Part::Text(hint)]),
+        None => put_parts(out, &[Part::Text(" is too much")]),
+    }
+}

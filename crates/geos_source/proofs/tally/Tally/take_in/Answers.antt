@@ -1,0 +1,14 @@
+use Rattle.std.proofs.Common.{◌∙◌, ap, sym}
+use Rattle.geos_source.specs.Texts.{Draft}
+use Rattle.geos_source.specs.Tallies.{fault_in, told}
+use Rattle.geos_source.specs.Views.{draft_in}
+use Rattle.geos_source.proofs.Noted.{take_in-told}
+use Rattle.geos_source.proofs.tally.Tally.take_in.Goals as goal
+
+pub returns : goal.returns
+returns c =
+    let faults = fault_in c.args.self.now.faults in
+    let before = draft_in c.args.self.now.draft in
+    c.settle.ensures.told
+    ∙ ap (λ p. let d : Draft = record before { progress = p } in told faults d) c.take_in-self.ensures
+    ∙ sym (take_in-told c.args.line c.args.read faults before)

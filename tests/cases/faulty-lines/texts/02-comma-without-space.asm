@@ -1,0 +1,4 @@
+routine add public budget 3
+        LDI w0,5
+        OUT w0 end
+end:    RET

@@ -1,0 +1,3 @@
+routine add public
+        OUT w0 end
+end:    RET

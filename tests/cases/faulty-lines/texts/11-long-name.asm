@@ -1,0 +1,3 @@
+routine seventeen_letters budget 3
+        OUT w0 end
+end:    RET

@@ -1,0 +1,4 @@
+routine add public budget 3
+routine next budget 3
+        OUT w0 end
+end:    RET

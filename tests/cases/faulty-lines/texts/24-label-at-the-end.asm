@@ -1,0 +1,3 @@
+routine add public budget 3
+        RET
+end:

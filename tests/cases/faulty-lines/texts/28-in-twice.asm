@@ -1,0 +1,5 @@
+routine add public budget 3
+in w0<=9
+in w1<=9
+        OUT w0 end
+end:    RET

@@ -1,0 +1,4 @@
+routine add public budget 3
+in s0=vmm
+        OUT w0 end
+end:    RET

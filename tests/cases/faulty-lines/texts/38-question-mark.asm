@@ -1,0 +1,3 @@
+routine add public budget ?
+        OUT w0 end
+end:    RET
