@@ -11,6 +11,7 @@ pub mod Making
 pub mod News
 pub mod AccessReads
 pub mod AccessWrites
+pub mod AccessBulk
 pub mod AccessCopies
 pub mod Chunks
 pub mod Looks
