@@ -1,5 +1,6 @@
 pub mod Seen
 pub mod Stops
+pub mod Settled
 pub mod Rowed
 pub mod Named
 pub mod Changed
