@@ -22,59 +22,77 @@ pub sizes-none : (S : Store) → ((slot : ℕ) → block_at S slot ≡ None) →
 sizes-none S none = total-none (slot_count S) (size_of S) (λ j. ap (λ b. length (bytes_in b)) (none j))
 
 -- after one block, which may have moved with others, has other bytes, or goes
-pub sizes-with_block : (old mid new : Store) (slot at : ℕ) (b : Option Block) → mid.blocks ≡ old.blocks → IsLaidOut mid → slot < 2048 → new ≡ with_block mid slot b at → all_sizes new + size_of old slot ≡ all_sizes old + length (bytes_in b)
+pub sizes-with_block : (old mid new : Store) (slot at : ℕ) (b : Option Block) → mid.blocks ≡ old.blocks → IsLaidOut mid
+    → slot < 2048 → new ≡ with_block mid slot b at → all_sizes new + size_of old slot ≡ all_sizes old + length (bytes_in b)
 sizes-with_block old mid new slot at b same laid small e =
     let F : Store = with_block mid slot b at in
     let d : Differs mid F slot (length (bytes_in b)) at = with_block-differs mid slot b at laid small in
     let is : all_sizes new ≡ all_sizes F = ap all_sizes e in
     let slots : all_sizes F ≡ total (slot_count mid) (size_of F) = ap (λ n. total n (size_of F)) d.slots in
-    let one : total (slot_count mid) (size_of F) + size_of mid slot ≡ all_sizes mid + size_of F slot = total-one (slot_count mid) (size_of F) (size_of mid) slot (omega (arith, small, laid.slots)) d.sizes in
+    let one : total (slot_count mid) (size_of F) + size_of mid slot ≡ all_sizes mid + size_of F slot =
+    total-one (slot_count mid) (size_of F) (size_of mid) slot (omega (arith, small, laid.slots)) d.sizes in
     let along : all_sizes mid ≡ all_sizes old = ap (λ bs. total (length bs) (λ j. length (bytes_in (slice_index_or bs j None)))) same in
     omega (arith, is, slots, one, along, d.size, size_along old mid same slot)
 
 module _ (S : Store) (laid : IsLaidOut S) where
   -- what lies in a range lies before one block or behind it
-  beside : (from until n j : ℕ) → Apart S j n → only_in S from until (size_of S) j ≤ only_in S from (place_of S n) (size_of S) j + only_in S (end_of S n) until (size_of S) j
-  beside from until n j apart = elim (cases_lt (place_of S j) from) as (λ _. only_in S from until (size_of S) j ≤ only_in S from (place_of S n) (size_of S) j + only_in S (end_of S n) until (size_of S) j) [
-    | inl low ↦ omega (arith, off_range S from until (size_of S) j (inl low))
-    | inr low ↦ elim (cases_lt until (end_of S j)) as (λ _. only_in S from until (size_of S) j ≤ only_in S from (place_of S n) (size_of S) j + only_in S (end_of S n) until (size_of S) j) [
-      | inl high ↦ omega (arith, off_range S from until (size_of S) j (inr high))
-      | inr high ↦ inside low high apart
-    ]
-  ]
+  beside : (from until n j : ℕ) → Apart S j n → only_in S from until (size_of S) j ≤ only_in S from (place_of S n)
+      (size_of S) j + only_in S (end_of S n) until (size_of S) j
+  beside from until n j apart = elim (cases_lt (place_of S j) from) as
+      (λ _. only_in S from until (size_of S) j ≤ only_in S from (place_of S n) (size_of S) j + only_in S (end_of S n) until (size_of S) j) [
+        | inl low ↦ omega (arith, off_range S from until (size_of S) j (inl low))
+        | inr low ↦ elim (cases_lt until (end_of S j)) as (λ _. only_in S from until (size_of S) j ≤ only_in S from
+            (place_of S n) (size_of S) j + only_in S (end_of S n) until (size_of S) j) [
+              | inl high ↦ omega (arith, off_range S from until (size_of S) j (inr high))
+              | inr high ↦ inside low high apart
+            ]
+      ]
     where
-      inside : from ≤ place_of S j → end_of S j ≤ until → Apart S j n → only_in S from until (size_of S) j ≤ only_in S from (place_of S n) (size_of S) j + only_in S (end_of S n) until (size_of S) j
+      inside : from ≤ place_of S j → end_of S j ≤ until → Apart S j n → only_in S from until (size_of S) j ≤ only_in
+          S from (place_of S n) (size_of S) j + only_in S (end_of S n) until (size_of S) j
       inside low high (inl h) = omega (arith, in_range S from until (size_of S) j low high, in_range S from (place_of S n) (size_of S) j low h)
       inside low high (inr h) = omega (arith, in_range S from until (size_of S) j low high, in_range S (end_of S n) until (size_of S) j h high)
 
   -- blocks in a range have no more bytes than it
   sizes-within : (n from until : ℕ) → from ≤ until → from + total n (only_in S from until (size_of S)) ≤ until
   sizes-within zero from until le = omega (arith, le)
-  sizes-within (suc n) from until le = elim (cases_lt (place_of S n) from) as (λ _. from + (only_in S from until (size_of S) n + total n (only_in S from until (size_of S))) ≤ until) [
-    | inl low ↦ omega (arith, off_range S from until (size_of S) n (inl low), sizes-within n from until le)
-    | inr low ↦ elim (cases_lt until (end_of S n)) as (λ _. from + (only_in S from until (size_of S) n + total n (only_in S from until (size_of S))) ≤ until) [
-      | inl high ↦ omega (arith, off_range S from until (size_of S) n (inr high), sizes-within n from until le)
-      | inr high ↦
-          let before : ℕ → ℕ = only_in S from (place_of S n) (size_of S) in
-          let behind : ℕ → ℕ = only_in S (end_of S n) until (size_of S) in
-          let both : ℕ → ℕ = λ j. before j + behind j in
-          let less : total n (only_in S from until (size_of S)) ≤ total n both = total-less n (only_in S from until (size_of S)) both (λ j lt. beside from until n j (laid.apart j n (omega (arith, lt)))) in
-          let sum : total n before + total n behind ≡ total n both = total-both n before behind both (λ j. refl) in
-          omega (arith, in_range S from until (size_of S) n low high, sizes-within n from (place_of S n) low, sizes-within n (end_of S n) until high, less, sum)
-    ]
-  ]
+  sizes-within (suc n) from until le = elim (cases_lt (place_of S n) from) as
+      (λ _. from + (only_in S from until (size_of S) n + total n (only_in S from until (size_of S))) ≤ until) [
+        | inl low ↦ omega (arith, off_range S from until (size_of S) n (inl low), sizes-within n from until le)
+        | inr low ↦ elim (cases_lt until (end_of S n)) as
+            (λ _. from + (only_in S from until (size_of S) n + total n (only_in S from until (size_of S))) ≤ until) [
+              | inl high ↦ omega (arith, off_range S from until (size_of S) n (inr high), sizes-within n from until le)
+              | inr high ↦
+                  let before : ℕ → ℕ = only_in S from (place_of S n) (size_of S) in
+                  let behind : ℕ → ℕ = only_in S (end_of S n) until (size_of S) in
+                  let both : ℕ → ℕ = λ j. before j + behind j in
+                  let less : total n (only_in S from until (size_of S)) ≤ total n both =
+                  total-less n (only_in S from until (size_of S)) both (λ j lt. beside from until n j (laid.apart j n (omega (arith, lt)))) in
+                  let sum : total n before + total n behind ≡ total n both = total-both n before behind both (λ j. refl) in
+                  omega (
+                    arith,
+                    in_range S from until (size_of S) n low high,
+                    sizes-within n from (place_of S n) low,
+                    sizes-within n (end_of S n) until high,
+                    less,
+                    sum,
+                  )
+            ]
+      ]
 
   -- so have all blocks
   pub sizes-fit : all_sizes S ≤ S.len
   sizes-fit =
-      let all : total (slot_count S) (only_in S 0 S.len (size_of S)) ≡ all_sizes S = total-same (slot_count S) (only_in S 0 S.len (size_of S)) (size_of S) (λ j. in_range S 0 S.len (size_of S) j (omega arith) (laid.within j)) in
+      let all : total (slot_count S) (only_in S 0 S.len (size_of S)) ≡ all_sizes S = total-same (slot_count S)
+      (only_in S 0 S.len (size_of S)) (size_of S) (λ j. in_range S 0 S.len (size_of S) j (omega arith) (laid.within j)) in
       omega (arith, all, sizes-within (slot_count S) 0 S.len (omega arith))
 
   -- all others, and the one
   sizes-but : (but : ℕ) → all_sizes S ≡ other_sizes S but + size_of S but
   sizes-but but = elim (cases_eq (size_of S but) 0) as (λ _. all_sizes S ≡ other_sizes S but + size_of S but) [
     | inl none ↦
-        let same : other_sizes S but ≡ all_sizes S = total-same (slot_count S) (other_size S but) (size_of S) (λ j. elim (cases_eq j but) as (λ _. other_size S but j ≡ size_of S j) [
+        let same : other_sizes S but ≡ all_sizes S = total-same (slot_count S) (other_size S but) (size_of S)
+        (λ j. elim (cases_eq j but) as (λ _. other_size S but j ≡ size_of S j) [
           | inl e ↦ omega (arith, other-but S but j e, none, ap (size_of S) e)
           | inr ne ↦ other-other S but j ne
         ]) in
@@ -120,9 +138,15 @@ module _ (S : Store) (laid : IsLaidOut S) where
       high-part : (j : ℕ) → j ≢ but → until ≤ place_of S j → other_size S but j ≤ parts j
       high-part j ne h = omega (arith, other-other S but j ne, in_range S until S.len (size_of S) j h (laid.within j))
 
-      free-part : (j : ℕ) → j ≢ but → locks_of S j ≡ 0 → (end_of S j ≤ from) ⊎ (from ≤ place_of S j) → (end_of S j ≤ until) ⊎ (until ≤ place_of S j) → other_size S but j ≤ parts j
+      free-part : (j : ℕ) → j ≢ but → locks_of S j ≡ 0 → (end_of S j ≤ from) ⊎ (from ≤ place_of S j)
+          → (end_of S j ≤ until) ⊎ (until ≤ place_of S j) → other_size S but j ≤ parts j
       free-part j ne free (inl h) q = low-part j ne h
-      free-part j ne free (inr l) (inl h) = omega (arith, other-other S but j ne, unlocked-other S but j ne free, in_range S from until (unlocked_size S but) j l h)
+      free-part j ne free (inr l) (inl h) = omega (
+        arith,
+        other-other S but j ne,
+        unlocked-other S but j ne free,
+        in_range S from until (unlocked_size S but) j l h,
+      )
       free-part j ne free (inr l) (inr h) = high-part j ne h
 
       locked-part : (j : ℕ) → j ≢ but → (end_of S j ≤ from) ⊎ (until ≤ place_of S j) → other_size S but j ≤ parts j

@@ -16,14 +16,16 @@ use Rattle.block_handles.proofs.Layouts.{there_of_size, there_small, laid-same, 
 use Rattle.block_handles.proofs.Writes.{with_bytes-shape}
 use Rattle.block_handles.specs.Store.{Block, Store, block_at, bytes_in, bytes_of, locks_in, IsBlock, IsThere, size_of, place_of, end_of, slot_count}
 
-written_bytes : (bs : List (Option Block)) (i : ℕ) (ws : List ℕ) → IsBlock (slice_index_or bs i None) → length ws ≡ length (bytes_in (slice_index_or bs i None)) → bytes_in (slice_index_or (blocks_with_bytes bs i ws) i None) ≡ ws
+written_bytes : (bs : List (Option Block)) (i : ℕ) (ws : List ℕ) → IsBlock (slice_index_or bs i None)
+    → length ws ≡ length (bytes_in (slice_index_or bs i None)) → bytes_in (slice_index_or (blocks_with_bytes bs i ws) i None) ≡ ws
 written_bytes [] i ws h e = absurd h
 written_bytes (None ∷ bs) zero ws h e = absurd h
 written_bytes (Some b ∷ bs) zero ws h e = with_whole b.bytes ws e
 written_bytes (None ∷ bs) (suc i) ws h e = written_bytes bs i ws h e
 written_bytes (Some b ∷ bs) (suc i) ws h e = written_bytes bs i ws h e
 
-other_blocks : (bs : List (Option Block)) (i j : ℕ) (ws : List ℕ) → i ≢ j → slice_index_or (blocks_with_bytes bs i ws) j None ≡ slice_index_or bs j None
+other_blocks : (bs : List (Option Block)) (i j : ℕ) (ws : List ℕ) → i ≢ j
+    → slice_index_or (blocks_with_bytes bs i ws) j None ≡ slice_index_or bs j None
 other_blocks [] i j ws n = refl
 other_blocks (None ∷ bs) zero j ws n = refl
 other_blocks (Some b ∷ bs) zero zero ws n = absurd (n refl)
@@ -57,7 +59,8 @@ module _ (store : Store) (i : ℕ) where
 pub same-name : (a b : Name) → IsHandle a.h → IsHandle b.h → slot_of a ≡ slot_of b → a ≡ b
 same-name a b ha hb e = λ k. record { owner = (same a.owner b.owner a.h b.h ha hb e).0 k; h = (same a.owner b.owner a.h b.h ha hb e).1 k }
   where
-    same : (o p : Owner) (h k : ℕ) → IsHandle h → IsHandle k → slot_of (record { owner = o; h = h }) ≡ slot_of (record { owner = p; h = k }) → (o ≡ p) × (h ≡ k)
+    same : (o p : Owner) (h k : ℕ) → IsHandle h → IsHandle k → slot_of (record { owner = o; h = h }) ≡ slot_of (record { owner = p; h = k })
+        → (o ≡ p) × (h ≡ k)
     same Mem Mem h k x y z = (refl, grind (arith, nat_tests))
     same Vm Vm h k x y z = (refl, grind (arith, nat_tests))
     same Mem Vm h k x y z = absurd (grind (arith, nat_tests))
@@ -70,22 +73,34 @@ past_end (b ∷ bs) zero ws h = absurd (omega arith)
 past_end (b ∷ bs) (suc at) ws h = ap (λ l. b ∷ l) (past_end bs at ws (omega arith))
 
 -- bytes that do not land in a block leave it
-block_after_write-off : (b : Option Block) (place at : ℕ) (ws : List ℕ) → (place + length (bytes_in b) ≤ at) ⊎ (at + length ws ≤ place) → block_after_write b place at ws ≡ b
+block_after_write-off : (b : Option Block) (place at : ℕ) (ws : List ℕ) → (place + length (bytes_in b) ≤ at) ⊎ (at + length ws ≤ place)
+    → block_after_write b place at ws ≡ b
 block_after_write-off None place at ws h = refl
-block_after_write-off (Some b) place at ws (inl h) = λ k. Some (record { locks = b.locks; bytes = past_end b.bytes (at - place) (drop (place - at) ws) (omega arith) k })
-block_after_write-off (Some b) place at ws (inr h) = λ k. Some (record { locks = b.locks; bytes = (ap (with_part b.bytes (at - place)) (drop_all (place - at) ws (omega arith)) ∙ with_nothing b.bytes (at - place)) k })
+block_after_write-off (Some b) place at ws (inl h) =
+    λ k. Some (record { locks = b.locks; bytes = past_end b.bytes (at - place) (drop (place - at) ws) (omega arith) k })
+block_after_write-off (Some b) place at ws (inr h) =
+    λ k. Some (record {
+      locks = b.locks;
+      bytes = (ap (with_part b.bytes (at - place)) (drop_all (place - at) ws (omega arith))
+          ∙ with_nothing b.bytes (at - place)) k;
+    })
 
 -- bytes that land in a block whole are written there
-block_after_write-in : (b : Option Block) (place at : ℕ) (ws : List ℕ) → place ≤ at → IsBlock b → block_after_write b place at ws ≡ Some (record { locks = locks_in b; bytes = with_part (bytes_in b) (at - place) ws })
+block_after_write-in : (b : Option Block) (place at : ℕ) (ws : List ℕ) → place ≤ at → IsBlock b
+    → block_after_write b place at ws ≡ Some (record { locks = locks_in b; bytes = with_part (bytes_in b) (at - place) ws })
 block_after_write-in None place at ws h there = absurd there
-block_after_write-in (Some b) place at ws h there = let none : place - at ≡ 0 = omega arith in λ k. Some (record { locks = b.locks; bytes = with_part b.bytes (at - place) (drop (none k) ws) })
+block_after_write-in (Some b) place at ws h there = let none : place - at ≡ 0 = omega arith in
+    λ k. Some (record { locks = b.locks; bytes = with_part b.bytes (at - place) (drop (none k) ws) })
 
-all_off : (at : ℕ) (ws : List ℕ) (bs : List (Option Block)) (ps : List ℕ) → ((j : ℕ) → (slice_index_or ps j 0 + length (bytes_in (slice_index_or bs j None)) ≤ at) ⊎ (at + length ws ≤ slice_index_or ps j 0)) → blocks_after_write bs ps at ws ≡ bs
+all_off : (at : ℕ) (ws : List ℕ) (bs : List (Option Block)) (ps : List ℕ)
+    → ((j : ℕ) → (slice_index_or ps j 0 + length (bytes_in (slice_index_or bs j None)) ≤ at) ⊎ (at + length ws ≤ slice_index_or ps j 0))
+    → blocks_after_write bs ps at ws ≡ bs
 all_off at ws [] ps h = refl
 all_off at ws (b ∷ bs) [] h = refl
 all_off at ws (b ∷ bs) (p ∷ ps) h = λ k. block_after_write-off b p at ws (h 0) k ∷ all_off at ws bs ps (λ j. h (suc j)) k
 
-one_in : (at : ℕ) (ws : List ℕ) (bs : List (Option Block)) (ps : List ℕ) (i : ℕ) → i < length ps → IsBlock (slice_index_or bs i None) → slice_index_or ps i 0 ≤ at
+one_in : (at : ℕ) (ws : List ℕ) (bs : List (Option Block)) (ps : List ℕ) (i : ℕ) → i < length ps → IsBlock (slice_index_or bs i None)
+    → slice_index_or ps i 0 ≤ at
     → ((j : ℕ) → j ≢ i → (slice_index_or ps j 0 + length (bytes_in (slice_index_or bs j None)) ≤ at) ⊎ (at + length ws ≤ slice_index_or ps j 0))
     → blocks_after_write bs ps at ws ≡ blocks_with_bytes bs i (with_part (bytes_in (slice_index_or bs i None)) (at - slice_index_or ps i 0) ws)
 one_in at ws [] ps i small there low off = absurd there
@@ -95,15 +110,23 @@ one_in at ws (Some b ∷ bs) (p ∷ ps) zero small there low off =
     let same : length (with_part b.bytes (at - p) ws) ≡ length b.bytes = length-with_part b.bytes (at - p) ws in
     (λ k. block_after_write-in (Some b) p at ws low tt k ∷ all_off at ws bs ps (λ j. off (suc j) (λ z. absurd (omega (arith, z)))) k)
     ∙ (λ k. Some (record { locks = b.locks; bytes = sym (with_whole b.bytes (with_part b.bytes (at - p) ws) same) k }) ∷ bs)
-one_in at ws (None ∷ bs) (p ∷ ps) (suc i) small there low off = λ k. None ∷ one_in at ws bs ps i (omega arith) there low (λ j n. off (suc j) (λ z. n (omega (arith, z)))) k
-one_in at ws (Some b ∷ bs) (p ∷ ps) (suc i) small there low off = λ k. block_after_write-off (Some b) p at ws (off 0 (λ z. absurd (omega (arith, z)))) k ∷ one_in at ws bs ps i (omega arith) there low (λ j n. off (suc j) (λ z. n (omega (arith, z)))) k
+one_in at ws (None ∷ bs) (p ∷ ps) (suc i) small there low off = λ k. None ∷ one_in at ws bs ps i (omega arith) there low
+    (λ j n. off (suc j) (λ z. n (omega (arith, z)))) k
+one_in at ws (Some b ∷ bs) (p ∷ ps) (suc i) small there low off = λ k. block_after_write-off (Some b) p at ws
+    (off 0 (λ z. absurd (omega (arith, z)))) k ∷ one_in at ws bs ps i (omega arith) there low (λ j n. off (suc j) (λ z. n (omega (arith, z)))) k
 
 -- a write that one block covers is a write to that block
-pub after_write-covered : (store : Store) (i at : ℕ) (ws : List ℕ) → IsLaidOut store → 0 < length ws → CoversRange store i at (length ws) → after_write store at ws ≡ with_bytes store i (with_part (bytes_of store i) (at - place_of store i) ws)
+pub after_write-covered : (store : Store) (i at : ℕ) (ws : List ℕ) → IsLaidOut store → 0 < length ws
+    → CoversRange store i at (length ws) → after_write store at ws ≡ with_bytes store i (with_part (bytes_of store i) (at - place_of store i) ws)
 after_write-covered store i at ws laid some covers =
     let there : IsThere store i = there_of_size store i (omega (arith, some, covers.0, covers.1)) in
     let small : i < length store.places = omega (arith, laid.spots, there_small store i laid there) in
-    λ k. record { blocks = one_in at ws store.blocks store.places i small there covers.0 (λ j ne. off j (laid.apart j i ne)) k; places = store.places; len = store.len }
+    λ k. record {
+      blocks = one_in at ws store.blocks store.places i small there covers.0 (λ j ne. off j (laid.apart j i ne)) k;
+      places =
+          store.places;
+      len = store.len;
+    }
   where
     off : (j : ℕ) → Apart store j i → (end_of store j ≤ at) ⊎ (at + length ws ≤ place_of store j)
     off j (inl q) = inl (omega (arith, q, covers.0))
@@ -114,22 +137,28 @@ pub writes-covered : (old new : Store) (at : ℕ) (ws : List ℕ) → IsLaidOut 
 writes-covered old new at ws laid e = λ slot some covers. e ∙ after_write-covered old slot at ws laid some covers
 
 -- what was read of one block is a part of its bytes
-pub reads-covered : (store : Store) (slot at n : ℕ) (ws : List ℕ) → length ws ≡ n → ReadsAs store at ws → CoversRange store slot at n → ws ≡ part (bytes_of store slot) (at - place_of store slot) n
+pub reads-covered : (store : Store) (slot at n : ℕ) (ws : List ℕ) → length ws ≡ n → ReadsAs store at ws
+    → CoversRange store slot at n → ws ≡ part (bytes_of store slot) (at - place_of store slot) n
 reads-covered store slot at n ws long reads covers =
     let k : ℕ = at - place_of store slot in
     let fits : k + n ≤ size_of store slot = omega (arith, covers.0, covers.1) in
-    let same : length ws ≡ length (part (bytes_of store slot) k n) = omega (arith, long, length-take n (drop k (bytes_of store slot)), length-drop k (bytes_of store slot), fits) in
+    let same : length ws ≡ length (part (bytes_of store slot) k n) =
+    omega (arith, long, length-take n (drop k (bytes_of store slot)), length-drop k (bytes_of store slot), fits) in
     ext_get_or 0 ws (part (bytes_of store slot) k n) same (λ i small. byte i (omega (arith, small, long)))
   where
     byte : (i : ℕ) → i < n → slice_index ws i ≡ slice_index (part (bytes_of store slot) (at - place_of store slot) n) i
     byte i small =
         let place : at + i - place_of store slot ≡ at - place_of store slot + i = omega (arith, covers.0) in
-        reads slot i (omega (arith, small, long)) (omega (arith, covers.0), omega (arith, covers.1, small)) ∙ ap (λ j. slice_index (bytes_of store slot) j) place
-        ∙ sym (get_or-take n (drop (at - place_of store slot) (bytes_of store slot)) i 0 small ∙ get_or-drop (at - place_of store slot) (bytes_of store slot) i 0)
+        reads slot i (omega (arith, small, long)) (omega (arith, covers.0), omega (arith, covers.1, small))
+        ∙ ap (λ j. slice_index (bytes_of store slot) j) place
+        ∙ sym (get_or-take n (drop (at - place_of store slot) (bytes_of store slot)) i 0 small
+        ∙ get_or-drop (at - place_of store slot) (bytes_of store slot) i 0)
 
 -- a copy from a part of one block
-pub copy-covered : (old new : Store) (from to n : ℕ) → IsLaidOut old → Copies old new from to n → (slot : ℕ) → CoversRange old slot from n → WritesCovered old new to (part (bytes_of old slot) (from - place_of old slot) n)
-copy-covered old new from to n laid c slot covers = writes-covered old new to (part (bytes_of old slot) (from - place_of old slot) n) laid (c.wrote ∙ ap (λ ws. after_write old to ws) (reads-covered old slot from n c.bytes c.long c.read covers))
+pub copy-covered : (old new : Store) (from to n : ℕ) → IsLaidOut old → Copies old new from to n → (slot : ℕ)
+    → CoversRange old slot from n → WritesCovered old new to (part (bytes_of old slot) (from - place_of old slot) n)
+copy-covered old new from to n laid c slot covers = writes-covered old new to (part (bytes_of old slot) (from - place_of old slot) n) laid
+    (c.wrote ∙ ap (λ ws. after_write old to ws) (reads-covered old slot from n c.bytes c.long c.read covers))
 
 -- the slot of a handle
 pub slot_of-handle : (owner : Owner) (h : ℕ) → IsHandle h → slot_of (record { owner = owner; h = h }) ≡ first_slot owner + (h - 1)

@@ -49,9 +49,11 @@ pub record Differs (S S' : Store) (i n p : ℕ) : Type 0 where
   pub spots : length S'.places ≡ length S.places
   pub len : S'.len ≡ S.len
 
-pub with_block-differs : (S : Store) (i : ℕ) (b : Option Block) (p : ℕ) → IsLaidOut S → i < 2048 → Differs S (with_block S i b p) i (length (bytes_in b)) p
+pub with_block-differs : (S : Store) (i : ℕ) (b : Option Block) (p : ℕ) → IsLaidOut S → i < 2048
+    → Differs S (with_block S i b p) i (length (bytes_in b)) p
 with_block-differs S i b p laid small =
-    let slot : i < length S.blocks = omega (arith, laid.slots) in let spot : i < length S.places = omega (arith, laid.spots) in
+    let slot : i < length S.blocks = omega (arith, laid.slots) in
+    let spot : i < length S.places = omega (arith, laid.spots) in
     record {
       size = ap (λ x. length (bytes_in x)) (get_or-set_same S.blocks i b None slot);
       place = get_or-set_same S.places i p 0 spot;
@@ -79,7 +81,8 @@ with_place-differs S i p laid small =
 
 -- the slot there is in use below the table's end
 pub there_small : (S : Store) (i : ℕ) → IsLaidOut S → IsThere S i → i < 2048
-there_small S i laid h = elim (cases_lt i 2048) as (λ _. i < 2048) [ inl lt ↦ lt | inr le ↦ absurd (omega (arith, (laid.sized i h).0, past S.blocks i (omega (arith, laid.slots)))) ]
+there_small S i laid h = elim (cases_lt i 2048) as (λ _. i < 2048)
+    [ inl lt ↦ lt | inr le ↦ absurd (omega (arith, (laid.sized i h).0, past S.blocks i (omega (arith, laid.slots)))) ]
   where
     past : (bs : List (Option Block)) (i : ℕ) → length bs ≤ i → length (bytes_in (slice_index_or bs i None)) ≡ 0
     past [] i h = refl
@@ -87,7 +90,8 @@ there_small S i laid h = elim (cases_lt i 2048) as (λ _. i < 2048) [ inl lt ↦
     past (b ∷ bs) (suc i) h = past bs i (omega arith)
 
 -- a slot gets a block where nothing else lies
-pub laid-differs : (S S' : Store) (i n p : ℕ) → Differs S S' i n p → IsLaidOut S → p + n ≤ S.len → IsFreeBut S i p (p + n) → (IsThere S' i → IsBlockSize n) → (n ≡ 0 → p ≡ 0) → IsLaidOut S'
+pub laid-differs : (S S' : Store) (i n p : ℕ) → Differs S S' i n p → IsLaidOut S → p + n ≤ S.len → IsFreeBut S i p (p + n)
+    → (IsThere S' i → IsBlockSize n) → (n ≡ 0 → p ≡ 0) → IsLaidOut S'
 laid-differs S S' i n p d laid fits free legal none = record {
   slots = d.slots ∙ laid.slots;
   spots = d.spots ∙ laid.spots;
@@ -130,7 +134,8 @@ laid-differs S S' i n p d laid fits free legal none = record {
 -- a block leaves
 pub laid-gone : (S : Store) (i : ℕ) → IsLaidOut S → IsThere S i → IsLaidOut (with_block S i None 0)
 laid-gone S i laid there =
-    laid-differs S (with_block S i None 0) i 0 0 (with_block-differs S i None 0 laid small) laid (omega arith) (λ j ne. inr (omega arith)) (λ h. absurd (not-none h)) (λ z. refl)
+    laid-differs S (with_block S i None 0) i 0 0 (with_block-differs S i None 0 laid small) laid (omega arith)
+    (λ j ne. inr (omega arith)) (λ h. absurd (not-none h)) (λ z. refl)
   where
     small : i < 2048
     small = there_small S i laid there
@@ -185,7 +190,8 @@ with_locks-shape S i n laid h =
     let slot : i < length S.blocks = omega (arith, there_small S i laid h, laid.slots) in
     record {
       sizes = λ j. elim (cases_eq j i) as (λ _. size_of (with_locks S i n) j ≡ size_of S j) [
-        | inl q ↦ ap (λ k. size_of (with_locks S i n) k) q ∙ ap (λ b. length (bytes_in b)) (get_or-set_same S.blocks i (block_with_locks S i n) None slot) ∙ ap (size_of S) (sym q)
+        | inl q ↦ ap (λ k. size_of (with_locks S i n) k) q
+            ∙ ap (λ b. length (bytes_in b)) (get_or-set_same S.blocks i (block_with_locks S i n) None slot) ∙ ap (size_of S) (sym q)
         | inr ne ↦ ap (λ b. length (bytes_in b)) (get_or-set_other S.blocks i j (block_with_locks S i n) None ne)
       ];
       places = refl;

@@ -29,32 +29,47 @@ module _ (S : Store) (laid : IsLaidOut S) (but : ℕ) where
   empty_sum at = sum_zero S at at (unlocked_size S but) (λ j low high. unlocked-none S but j (omega arith))
 
   -- what lies in a range in which no other block is locked can be packed
-  packable : (from until : ℕ) → IsEdge S from → IsEdge S until → ((j : ℕ) → IsOtherLocked S but j → (end_of S j ≤ from) ⊎ (until ≤ place_of S j)) → CanPackBut S but from until
+  packable : (from until : ℕ) → IsEdge S from → IsEdge S until → ((j : ℕ) → IsOtherLocked S but j → (end_of S j ≤ from) ⊎ (until ≤ place_of S j))
+      → CanPackBut S but from until
   packable from until low high locks j = by_low (low j)
     where
-      inside : from ≤ place_of S j → end_of S j ≤ until → (end_of S j ≤ from) ⊎ ((until ≤ place_of S j) ⊎ ((from ≤ place_of S j) × (end_of S j ≤ until) × ((j ≡ but) ⊎ (locks_of S j ≡ 0))))
-      inside ge le = elim (cases_eq j but) as (λ _. (end_of S j ≤ from) ⊎ ((until ≤ place_of S j) ⊎ ((from ≤ place_of S j) × (end_of S j ≤ until) × ((j ≡ but) ⊎ (locks_of S j ≡ 0))))) [
-        | inl e ↦ inr (inr (ge, le, inl e))
-        | inr ne ↦ elim (cases_lt 0 (locks_of S j)) as (λ _. (end_of S j ≤ from) ⊎ ((until ≤ place_of S j) ⊎ ((from ≤ place_of S j) × (end_of S j ≤ until) × ((j ≡ but) ⊎ (locks_of S j ≡ 0))))) [
-          | inl some ↦ off (locks j (ne, some))
-          | inr none ↦ inr (inr (ge, le, inr (omega arith)))
-        ]
-      ]
+      inside : from ≤ place_of S j → end_of S j ≤ until
+          → (end_of S j ≤ from) ⊎ ((until ≤ place_of S j) ⊎ ((from ≤ place_of S j) × (end_of S j ≤ until) × ((j ≡ but) ⊎ (locks_of S j ≡ 0))))
+      inside ge le = elim (cases_eq j but) as
+          (λ _. (end_of S j ≤ from) ⊎ ((until ≤ place_of S j) ⊎ ((from ≤ place_of S j) × (end_of S j ≤ until) × ((j ≡ but) ⊎ (locks_of S j ≡ 0))))) [
+            | inl e ↦ inr (inr (ge, le, inl e))
+            | inr ne ↦ elim (cases_lt 0 (locks_of S j)) as
+                (λ _. (end_of S j ≤ from) ⊎ ((until ≤ place_of S j) ⊎ ((from ≤ place_of S j) × (end_of S j ≤ until) × ((j ≡ but) ⊎ (locks_of S j ≡ 0))))) [
+                  | inl some ↦ off (locks j (ne, some))
+                  | inr none ↦ inr (inr (ge, le, inr (omega arith)))
+                ]
+          ]
         where
-          off : (end_of S j ≤ from) ⊎ (until ≤ place_of S j) → (end_of S j ≤ from) ⊎ ((until ≤ place_of S j) ⊎ ((from ≤ place_of S j) × (end_of S j ≤ until) × ((j ≡ but) ⊎ (locks_of S j ≡ 0))))
+          off : (end_of S j ≤ from) ⊎ (until ≤ place_of S j)
+              → (end_of S j ≤ from) ⊎ ((until ≤ place_of S j) ⊎ ((from ≤ place_of S j) × (end_of S j ≤ until) × ((j ≡ but) ⊎ (locks_of S j ≡ 0))))
           off (inl q) = inl q
           off (inr q) = inr (inl q)
 
-      by_high : from ≤ place_of S j → (end_of S j ≤ until) ⊎ (until ≤ place_of S j) → (end_of S j ≤ from) ⊎ ((until ≤ place_of S j) ⊎ ((from ≤ place_of S j) × (end_of S j ≤ until) × ((j ≡ but) ⊎ (locks_of S j ≡ 0))))
+      by_high : from ≤ place_of S j → (end_of S j ≤ until) ⊎ (until ≤ place_of S j)
+          → (end_of S j ≤ from) ⊎ ((until ≤ place_of S j) ⊎ ((from ≤ place_of S j) × (end_of S j ≤ until) × ((j ≡ but) ⊎ (locks_of S j ≡ 0))))
       by_high ge (inl le) = inside ge le
       by_high ge (inr q) = inr (inl q)
 
-      by_low : (end_of S j ≤ from) ⊎ (from ≤ place_of S j) → (end_of S j ≤ from) ⊎ ((until ≤ place_of S j) ⊎ ((from ≤ place_of S j) × (end_of S j ≤ until) × ((j ≡ but) ⊎ (locks_of S j ≡ 0))))
+      by_low : (end_of S j ≤ from) ⊎ (from ≤ place_of S j)
+          → (end_of S j ≤ from) ⊎ ((until ≤ place_of S j) ⊎ ((from ≤ place_of S j) × (end_of S j ≤ until) × ((j ≡ but) ⊎ (locks_of S j ≡ 0))))
       by_low (inl q) = inl q
       by_low (inr q) = by_high q (high j)
 
   pub pass-init : (after : ℕ) → IsEdge S after → after ≤ S.len → HasPassed S but after after 0
-  pass-init after edge inside = record { ordered = omega arith; inside = inside; taken_is = sym (empty_sum after); begins = edge; edge = edge; locks = λ j h. edge j }
+  pass-init after edge inside = record {
+    ordered = omega arith;
+    inside = inside;
+    taken_is = sym (empty_sum after);
+    begins =
+        edge;
+    edge = edge;
+    locks = λ j h. edge j;
+  }
 
   module _ (from scan taken x : ℕ) (w : HasPassed S but from scan taken) (first : IsFirst S scan S.len x) where
     low : from ≤ scan
@@ -114,14 +129,16 @@ module _ (S : Store) (laid : IsLaidOut S) (but : ℕ) where
     }
       where
         edge_at : IsEdge S (place_of S x)
-        edge_at j = elim (cases_eq j x) as (λ _. (end_of S j ≤ place_of S x) ⊎ (place_of S x ≤ place_of S j)) [ inl e ↦ inr (omega (arith, ap (place_of S) e)) | inr nx ↦ near j (passed S laid scan S.len x first w.edge j nx) ]
+        edge_at j = elim (cases_eq j x) as (λ _. (end_of S j ≤ place_of S x) ⊎ (place_of S x ≤ place_of S j))
+            [ inl e ↦ inr (omega (arith, ap (place_of S) e)) | inr nx ↦ near j (passed S laid scan S.len x first w.edge j nx) ]
           where
             near : (j : ℕ) → (end_of S j ≤ scan) ⊎ (end_of S x ≤ place_of S j) → (end_of S j ≤ place_of S x) ⊎ (place_of S x ≤ place_of S j)
             near j (inl q) = inl (omega (arith, q, first.high))
             near j (inr q) = inr (omega (arith, q))
 
         locks_to : (j : ℕ) → IsOtherLocked S but j → (end_of S j ≤ from) ⊎ (place_of S x ≤ place_of S j)
-        locks_to j h = elim (cases_eq j x) as (λ _. (end_of S j ≤ from) ⊎ (place_of S x ≤ place_of S j)) [ inl e ↦ inr (omega (arith, ap (place_of S) e)) | inr nx ↦ near j (rest j h nx) ]
+        locks_to j h = elim (cases_eq j x) as (λ _. (end_of S j ≤ from) ⊎ (place_of S x ≤ place_of S j))
+            [ inl e ↦ inr (omega (arith, ap (place_of S) e)) | inr nx ↦ near j (rest j h nx) ]
           where
             near : (j : ℕ) → (end_of S j ≤ from) ⊎ (end_of S x ≤ place_of S j) → (end_of S j ≤ from) ⊎ (place_of S x ≤ place_of S j)
             near j (inl q) = inl q
@@ -147,7 +164,8 @@ module _ (S : Store) (laid : IsLaidOut S) (but : ℕ) where
         by (inr q) = absurd (omega (arith, q, ended j, some_size S laid j h.1))
 
     pub last_same : sum_in S from S.len (unlocked_size S but) ≡ sum_in S from scan (unlocked_size S but)
-    last_same = total-same (slot_count S) (only_in S from S.len (unlocked_size S but)) (only_in S from scan (unlocked_size S but)) (λ j. only_same S S from S.len from scan (unlocked_size S but) (unlocked_size S but) j refl (λ r. (r.0, ended j)) (λ r. (r.0, laid.within j)))
+    last_same = total-same (slot_count S) (only_in S from S.len (unlocked_size S but)) (only_in S from scan (unlocked_size S but))
+        (λ j. only_same S S from S.len from scan (unlocked_size S but) (unlocked_size S but) j refl (λ r. (r.0, ended j)) (λ r. (r.0, laid.within j)))
 
     -- the last stretch
     pub roomy-last : (room : ℕ) → room ≡ S.len - (from + taken) → IsRoomy S but from S.len room

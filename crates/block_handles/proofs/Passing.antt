@@ -33,7 +33,8 @@ module _ (S : Store) (from until : ℕ) (f : ℕ → ℕ) where
 
 -- two ranges of one block each count the same of it
 pub only_same : (S S' : Store) (a b c d : ℕ) (f g : ℕ → ℕ) (j : ℕ) → f j ≡ g j
-    → ((a ≤ place_of S j) × (end_of S j ≤ b) → (c ≤ place_of S' j) × (end_of S' j ≤ d)) → ((c ≤ place_of S' j) × (end_of S' j ≤ d) → (a ≤ place_of S j) × (end_of S j ≤ b))
+    → ((a ≤ place_of S j) × (end_of S j ≤ b) → (c ≤ place_of S' j) × (end_of S' j ≤ d))
+    → ((c ≤ place_of S' j) × (end_of S' j ≤ d) → (a ≤ place_of S j) × (end_of S j ≤ b))
     → only_in S a b f j ≡ only_in S' c d g j
 only_same S S' a b c d f g j e to back = elim (cases_lt (place_of S j) a) as (λ _. only_in S a b f j ≡ only_in S' c d g j) [
   | inl low ↦ off_range S a b f j (inl low) ∙ sym (other (λ q. absurd (omega (arith, (back q).0, low))))
@@ -99,7 +100,8 @@ module _ (S : Store) (laid : IsLaidOut S) (scan until x : ℕ) (first : IsFirst 
       where
         same : (j : ℕ) → (end_of S j ≤ scan) ⊎ (end_of S x ≤ place_of S j) → only_in S from scan f j ≡ only_in S from (end_of S x) f j
         same j (inl q) = only_same S S from scan from (end_of S x) f f j refl (λ r. (r.0, omega (arith, q, first.high))) (λ r. (r.0, q))
-        same j (inr q) = only_same S S from scan from (end_of S x) f f j refl (λ r. absurd (omega (arith, r.1, behind j q, first.high))) (λ r. absurd (omega (arith, r.1, behind j q)))
+        same j (inr q) = only_same S S from scan from (end_of S x) f f j refl (λ r. absurd (omega (arith, r.1, behind j q, first.high)))
+            (λ r. absurd (omega (arith, r.1, behind j q)))
 
     -- up to where it begins nothing more lies
     pub sum_same : sum_in S from (place_of S x) f ≡ sum_in S from scan f
@@ -107,10 +109,12 @@ module _ (S : Store) (laid : IsLaidOut S) (scan until x : ℕ) (first : IsFirst 
       where
         beside : (j : ℕ) → (end_of S j ≤ scan) ⊎ (end_of S x ≤ place_of S j) → only_in S from (place_of S x) f j ≡ only_in S from scan f j
         beside j (inl q) = only_same S S from (place_of S x) from scan f f j refl (λ r. (r.0, q)) (λ r. (r.0, omega (arith, q, first.high)))
-        beside j (inr q) = only_same S S from (place_of S x) from scan f f j refl (λ r. absurd (omega (arith, r.1, behind j q))) (λ r. absurd (omega (arith, r.1, behind j q, first.high)))
+        beside j (inr q) = only_same S S from (place_of S x) from scan f f j refl (λ r. absurd (omega (arith, r.1, behind j q)))
+            (λ r. absurd (omega (arith, r.1, behind j q, first.high)))
 
         each : (j : ℕ) → only_in S from (place_of S x) f j ≡ only_in S from scan f j
         each j = elim (cases_eq j x) as (λ _. only_in S from (place_of S x) f j ≡ only_in S from scan f j) [
-          | inl e ↦ off_range S from (place_of S x) f j (inr (omega (arith, ap (end_of S) e, first.there))) ∙ sym (off_range S from scan f j (inr (omega (arith, ap (end_of S) e, first.there, first.high))))
+          | inl e ↦ off_range S from (place_of S x) f j (inr (omega (arith, ap (end_of S) e, first.there)))
+              ∙ sym (off_range S from scan f j (inr (omega (arith, ap (end_of S) e, first.there, first.high))))
           | inr ne ↦ beside j (passed j ne)
         ]

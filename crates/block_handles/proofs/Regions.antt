@@ -8,15 +8,18 @@ use Rattle.block_handles.specs.View.{block_in, store_in, place_in, Lies}
 use Rattle.block_handles.proofs.Views.{at_slot, place_slot, length-part}
 
 -- an entry's block has the bytes from its place on
-entry-part : (region : List ℕ) (o : Option Entry) → Lies region o → bytes_in (block_in region o) ≡ part region (place_in o) (length (bytes_in (block_in region o)))
+entry-part : (region : List ℕ) (o : Option Entry) → Lies region o → bytes_in (block_in region o) ≡ part region
+    (place_in o) (length (bytes_in (block_in region o)))
 entry-part region None lies = refl
 entry-part region (Some e) lies = ap (part region e.place) (sym (length-part region e.place e.size lies))
 
 -- the region of a view
-pub region-of : (region : List ℕ) (table : List (Option Entry)) → ((slot : ℕ) → Lies region (slice_index_or table slot None)) → IsRegion (store_in region table) region
+pub region-of : (region : List ℕ) (table : List (Option Entry)) → ((slot : ℕ) → Lies region (slice_index_or table slot None))
+    → IsRegion (store_in region table) region
 region-of region table lies = record { long = refl; blocks = blocks }
   where
-    blocks : (slot : ℕ) → bytes_of (store_in region table) slot ≡ part region (place_of (store_in region table) slot) (size_of (store_in region table) slot)
+    blocks : (slot : ℕ) → bytes_of (store_in region table) slot ≡ part region (place_of (store_in region table) slot)
+        (size_of (store_in region table) slot)
     blocks slot = rw (at_slot region table slot, place_slot region table slot) (entry-part region (slice_index_or table slot None) (lies slot))
 
 -- bytes that are written where they stand

@@ -13,7 +13,8 @@ use Rattle.block_handles.proofs.Layouts.{there_of_size}
 same_slot : (i j : ℕ) → Some i ≡ Some j → i ≡ j
 same_slot i j e = cc
 
-module _ (region : List ℕ) (table : List (Option Entry)) (index : List (Option ℕ)) (seen : Store) (view : store_in region table ≡ seen) (sound : IsSound region table index) (g slot until : ℕ) (x : Option ℕ)
+module _ (region : List ℕ) (table : List (Option Entry)) (index : List (Option ℕ)) (seen : Store)
+    (view : store_in region table ≡ seen) (sound : IsSound region table index) (g slot until : ℕ) (x : Option ℕ)
     (small : g < until / 64 + 1) (inside : until ≤ seen.len) (read : x ≡ slice_index_or index g x) (is : x ≡ Some slot) where
   abbrev S : Store
   S = store_in region table
@@ -83,7 +84,8 @@ module _ (region : List ℕ) (table : List (Option Entry)) (index : List (Option
     last_found = subst (λ s. AllBefore s → IsLast s from until slot) view last_of
 
 -- no block at all
-module _ (region : List ℕ) (table : List (Option Entry)) (index : List (Option ℕ)) (len : ℕ) (bytes : region ≡ replicate len 0) (slots : length table ≡ 2048) (none : (slot : ℕ) → slice_index_or table slot None ≡ None)
+module _ (region : List ℕ) (table : List (Option Entry)) (index : List (Option ℕ)) (len : ℕ) (bytes : region ≡ replicate len 0)
+    (slots : length table ≡ 2048) (none : (slot : ℕ) → slice_index_or table slot None ≡ None)
     (long : length index ≡ len / 64 + 1) (nowhere : (granule : ℕ) → slice_index_or index granule None ≡ None) (short : len < 2 ^ 32) where
   abbrev E : Store
   E = store_in region table

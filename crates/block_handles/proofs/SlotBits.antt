@@ -6,7 +6,8 @@ use Rattle.std.proofs.lemmas.Bool.{cases_eq, cases_lt}
 use Rattle.std.proofs.lemmas.Nat.Bits.{bit_at_ones, bit_at_set_same, bit_at_set_other, bit_at_clear_same, bit_at_clear_other, bit_at-trailing_ones}
 use Rattle.block_handles.specs.Bits.{bit_of, SetsBit, IsLowestFree}
 
-module _ (words : List ℕ) (slot w v bit : ℕ) (small : slot / 64 < length words) (is : w ≡ slice_index words (slot / 64)) (here : bit_at v (slot % 64) ≡ bit) (beside : (i : ℕ) → i < 64 → i ≢ slot % 64 → bit_at v i ≡ bit_at w i) where
+module _ (words : List ℕ) (slot w v bit : ℕ) (small : slot / 64 < length words) (is : w ≡ slice_index words (slot / 64))
+    (here : bit_at v (slot % 64) ≡ bit) (beside : (i : ℕ) → i < 64 → i ≢ slot % 64 → bit_at v i ≡ bit_at w i) where
   -- one word is written, in which one bit differs
   pub one_bit : SetsBit words (slice_set words (slot / 64) v) slot bit
   one_bit = record {
@@ -21,20 +22,26 @@ module _ (words : List ℕ) (slot w v bit : ℕ) (small : slot / 64 < length wor
       same_word : (other : ℕ) → other ≢ slot → other / 64 ≡ slot / 64 → bit_of (slice_set words (slot / 64) v) other ≡ bit_of words other
       same_word other ne e =
           let off : other % 64 ≢ slot % 64 = λ z. ne (omega (arith, e, z)) in
-          ap (λ k. bit_at (slice_index (slice_set words (slot / 64) v) k) (other % 64)) e ∙ ap (λ n. bit_at n (other % 64)) (get_or-set_same words (slot / 64) v 0 small)
+          ap (λ k. bit_at (slice_index (slice_set words (slot / 64) v) k) (other % 64)) e
+          ∙ ap (λ n. bit_at n (other % 64)) (get_or-set_same words (slot / 64) v 0 small)
           ∙ beside (other % 64) (omega arith) off ∙ ap (λ n. bit_at n (other % 64)) is ∙ ap (λ k. bit_at (slice_index words k) (other % 64)) (sym e)
 
-pub set_bit : (words : List ℕ) (slot w : ℕ) → slot / 64 < length words → w ≡ slice_index words (slot / 64) → SetsBit words (slice_set words (slot / 64) (bit_or w (1 * 2 ^ (slot % 64) % 18446744073709551616))) slot 1
+pub set_bit : (words : List ℕ) (slot w : ℕ) → slot / 64 < length words → w ≡ slice_index words (slot / 64)
+    → SetsBit words (slice_set words (slot / 64) (bit_or w (1 * 2 ^ (slot % 64) % 18446744073709551616))) slot 1
 set_bit words slot w small is =
     let k : slot % 64 < 64 = omega arith in
-    one_bit words slot w (bit_or w (1 * 2 ^ (slot % 64) % 18446744073709551616)) 1 small is (bit_at_set_same w64 w (slot % 64) k) (λ i lt ne. bit_at_set_other w64 w (slot % 64) k i ne)
+    one_bit words slot w (bit_or w (1 * 2 ^ (slot % 64) % 18446744073709551616)) 1 small is (bit_at_set_same w64 w (slot % 64) k)
+    (λ i lt ne. bit_at_set_other w64 w (slot % 64) k i ne)
 
-pub clear_bit : (words : List ℕ) (slot w : ℕ) → slot / 64 < length words → w ≡ slice_index words (slot / 64) → SetsBit words (slice_set words (slot / 64) (bit_and w (18446744073709551615 - 1 * 2 ^ (slot % 64) % 18446744073709551616))) slot 0
+pub clear_bit : (words : List ℕ) (slot w : ℕ) → slot / 64 < length words → w ≡ slice_index words (slot / 64)
+    → SetsBit words (slice_set words (slot / 64) (bit_and w (18446744073709551615 - 1 * 2 ^ (slot % 64) % 18446744073709551616))) slot 0
 clear_bit words slot w small is =
     let k : slot % 64 < 64 = omega arith in
-    one_bit words slot w (bit_and w (18446744073709551615 - 1 * 2 ^ (slot % 64) % 18446744073709551616)) 0 small is (bit_at_clear_same w64 w (slot % 64) k) (λ i lt ne. bit_at_clear_other w64 w (slot % 64) k i lt ne)
+    one_bit words slot w (bit_and w (18446744073709551615 - 1 * 2 ^ (slot % 64) % 18446744073709551616)) 0 small is
+    (bit_at_clear_same w64 w (slot % 64) k) (λ i lt ne. bit_at_clear_other w64 w (slot % 64) k i lt ne)
 
-module _ (words : List ℕ) (first i w : ℕ) (is : w ≡ slice_index words i) (before : (slot : ℕ) → 64 * first ≤ slot → slot < 64 * i → bit_of words slot ≡ 1) where
+module _ (words : List ℕ) (first i w : ℕ) (is : w ≡ slice_index words i) (before : (slot : ℕ) → 64 * first ≤ slot
+    → slot < 64 * i → bit_of words slot ≡ 1) where
   here_word : (slot : ℕ) → slot / 64 ≡ i → bit_of words slot ≡ bit_at w (slot % 64)
   here_word slot e = ap (λ k. bit_at (slice_index words k) (slot % 64)) e ∙ ap (λ n. bit_at n (slot % 64)) (sym is)
 
@@ -46,7 +53,8 @@ module _ (words : List ℕ) (first i w : ℕ) (is : w ≡ slice_index words i) (
   ]
 
   -- a word with a zero
-  pub free_word : w < 2 ^ 64 → w ≢ 18446744073709551615 → first ≤ i → i < first + 16 → (t : ℕ) → t ≡ trailing_ones w64 w → IsLowestFree words (64 * first) (64 * i + t)
+  pub free_word : w < 2 ^ 64 → w ≢ 18446744073709551615 → first ≤ i → i < first + 16 → (t : ℕ) → t ≡ trailing_ones w64 w
+      → IsLowestFree words (64 * first) (64 * i + t)
   free_word fits ne le lt t e =
       let b = bit_at-trailing_ones w64 w (omega arith) in
       let small : t < 64 = omega (arith, e, b.0) in

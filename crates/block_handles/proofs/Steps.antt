@@ -28,7 +28,8 @@ module _ (region : List ℕ) (table : List (Option Entry)) (index : List (Option
       → block_in region' o ≡ b → Lies region' o → IsLaidOut (with_block S i b (place_in o)) → IsIndexed (with_block S i b (place_in o)) index'
       → Step region' (slice_set table i o) index' (with_block S i b (place_in o))
   step region' o index' b len same block lies laid indexed =
-      let is : store_in region' (slice_set table i o) ≡ with_block S i b (place_in o) = store-set region region' table i o len same ∙ ap (λ x. with_block S i x (place_in o)) block in
+      let is : store_in region' (slice_set table i o) ≡ with_block S i b (place_in o) = store-set region region' table i o len same
+      ∙ ap (λ x. with_block S i x (place_in o)) block in
       record {
         sound = record {
           lies = lies_set region region' table i o len lies sound.lies;
@@ -40,22 +41,30 @@ module _ (region : List ℕ) (table : List (Option Entry)) (index : List (Option
       }
 
   -- the rest of the blocks, after a write where none of them lies
-  off_all : (at n : ℕ) (ws : List ℕ) → length ws ≡ n → IsFreeBut S i at (at + n) → (j : ℕ) → j ≢ i → block_in (with_part region at ws) (slice_index_or table j None) ≡ block_in region (slice_index_or table j None)
+  off_all : (at n : ℕ) (ws : List ℕ) → length ws ≡ n → IsFreeBut S i at (at + n) → (j : ℕ) → j ≢ i
+      → block_in (with_part region at ws) (slice_index_or table j None) ≡ block_in region (slice_index_or table j None)
   off_all at n ws e free j ne =
       let off : OffEntry (slice_index_or table j None) at (at + n) = off_slot region table at (at + n) j (sound.lies j) (free j ne) in
-      off_same region at ws (slice_index_or table j None) (off_less (slice_index_or table j None) at (at + n) at (at + length ws) (omega arith) (omega (arith, e)) off)
+      off_same region at ws (slice_index_or table j None) (off_less (slice_index_or table j None) at (at + n) at
+      (at + length ws) (omega arith) (omega (arith, e)) off)
 
-  pub create-step : (at size : ℕ) → i < 2048 → (IsThere S i → ⊥) → IsBlockSize size → at + size ≤ length region → IsFreeBut S i at (at + size) → (region' : List ℕ) → region' ≡ with_part region at (replicate size 0)
-      → Step region' (slice_set table i (Some (record { place = at; size = size; locks = 0 }))) (slice_set index (at / 64) (Some i)) (with_block S i (new_block size) at)
+  pub create-step : (at size : ℕ) → i < 2048 → (IsThere S i → ⊥) → IsBlockSize size → at + size ≤ length region
+      → IsFreeBut S i at (at + size) → (region' : List ℕ) → region' ≡ with_part region at (replicate size 0)
+      → Step region' (slice_set table i (Some (record { place = at; size = size; locks = 0 }))) (slice_set index (at / 64) (Some i))
+      (with_block S i (new_block size) at)
   create-step at size small not legal room free region' e =
       let long : length (replicate {A = ℕ} size 0) ≡ size = length-replicate size 0 in
       let len : length region' ≡ length region = ap length e ∙ length-with_part region at (replicate size 0) in
-      let d : Differs S (with_block S i (new_block size) at) i size at = subst (λ n. Differs S (with_block S i (new_block size) at) i n at) long (with_block-differs S i (new_block size) at sound.laid small) in
-      let laid : IsLaidOut (with_block S i (new_block size) at) = laid-differs S (with_block S i (new_block size) at) i size at d sound.laid room free (λ _. legal) (λ z. absurd (omega (arith, z, legal.0))) in
+      let d : Differs S (with_block S i (new_block size) at) i size at =
+      subst (λ n. Differs S (with_block S i (new_block size) at) i n at) long (with_block-differs S i (new_block size) at sound.laid small) in
+      let laid : IsLaidOut (with_block S i (new_block size) at) = laid-differs S (with_block S i (new_block size) at)
+      i size at d sound.laid room free (λ _. legal) (λ z. absurd (omega (arith, z, legal.0))) in
       step region' (Some (record { place = at; size = size; locks = 0 })) (slice_set index (at / 64) (Some i)) (new_block size) len
       (λ j ne. ap (λ r. block_in r (slice_index_or table j None)) e ∙ off_all at size (replicate size 0) long free j ne)
-      (ap (λ r. Some (record { locks = 0; bytes = part r at size })) e ∙ ap (λ bs. Some (record { locks = 0; bytes = bs })) (ap (λ n. part (with_part region at (replicate size 0)) at n) (sym long) ∙ part-same region at (replicate size 0) (omega (arith, long))))
-      (omega (arith, len)) laid (indexed-put S (with_block S i (new_block size) at) index i size at d (size_of_none S i not) legal.0 laid sound.indexed)
+      (ap (λ r. Some (record { locks = 0; bytes = part r at size })) e ∙ ap (λ bs. Some (record { locks = 0; bytes = bs }))
+      (ap (λ n. part (with_part region at (replicate size 0)) at n) (sym long) ∙ part-same region at (replicate size 0) (omega (arith, long))))
+      (omega (arith, len)) laid (indexed-put S (with_block S i (new_block size) at) index i size at d
+      (size_of_none S i not) legal.0 laid sound.indexed)
 
   module _ (e : Entry) (is : slice_index_or table i None ≡ Some e) where
     size-is : size_of S i ≡ e.size
@@ -79,17 +88,22 @@ module _ (region : List ℕ) (table : List (Option Entry)) (index : List (Option
     index-gone : IsIndexed (with_block S i None 0) (slice_set index (e.place / 64) None)
     index-gone = ap-at (indexed-freed S (with_block S i None 0) index i gone some-bytes sound.indexed)
       where
-        ap-at : IsIndexed (with_block S i None 0) (slice_set index (place_of S i / 64) None) → IsIndexed (with_block S i None 0) (slice_set index (e.place / 64) None)
+        ap-at : IsIndexed (with_block S i None 0) (slice_set index (place_of S i / 64) None)
+            → IsIndexed (with_block S i None 0) (slice_set index (e.place / 64) None)
         ap-at h = subst (λ p. IsIndexed (with_block S i None 0) (slice_set index (p / 64) None)) (place_there region table i e is) h
 
     pub remove-step : Step region (slice_set table i None) (slice_set index (e.place / 64) None) (with_block S i None 0)
-    remove-step = step region None (slice_set index (e.place / 64) None) None refl (λ j ne. refl) refl tt (laid-gone S i sound.laid is-there) index-gone
+    remove-step = step region None (slice_set index (e.place / 64) None) None refl (λ j ne. refl) refl tt
+        (laid-gone S i sound.laid is-there) index-gone
 
     locks-is : locks_of S i ≡ e.locks
     locks-is = ap locks_in (block_there region table i e is)
 
-    pub relocate-step : (to size : ℕ) → size_of S i ≤ size → size ≤ 65520 → size % 16 ≡ 0 → to + size ≤ length region → IsFreeBut S i to (to + size) → (region' : List ℕ) → region' ≡ with_part (with_part region to (part region e.place e.size)) (to + e.size) (replicate (size - e.size) 0)
-        → Step region' (slice_set table i (Some (record { place = to; size = size; locks = e.locks }))) (slice_set (slice_set index (e.place / 64) None) (to / 64) (Some i)) (with_block S i (grown_block S i size) to)
+    pub relocate-step : (to size : ℕ) → size_of S i ≤ size → size ≤ 65520 → size % 16 ≡ 0 → to + size ≤ length region
+        → IsFreeBut S i to (to + size) → (region' : List ℕ) → region' ≡ with_part (with_part region to (part region e.place e.size))
+        (to + e.size) (replicate (size - e.size) 0)
+        → Step region' (slice_set table i (Some (record { place = to; size = size; locks = e.locks })))
+        (slice_set (slice_set index (e.place / 64) None) (to / 64) (Some i)) (with_block S i (grown_block S i size) to)
     relocate-step to size more small even room free region' eq =
         let xs : List ℕ = part region e.place e.size in
         let zs : List ℕ = replicate (size - e.size) 0 in
@@ -102,10 +116,13 @@ module _ (region : List ℕ) (table : List (Option Entry)) (index : List (Option
         let second : length two ≡ length one = length-with_part one (to + e.size) zs in
         let len : length region' ≡ length region = ap length eq ∙ second ∙ first in
         let S' : Store = with_block S i (grown_block S i size) to in
-        let whole : length (bytes_of S i ++ replicate (size - size_of S i) 0) ≡ size = omega (arith, length-append (bytes_of S i) (replicate (size - size_of S i) 0), length-replicate {A = ℕ} (size - size_of S i) 0, more) in
-        let d : Differs S S' i size to = subst (λ n. Differs S S' i n to) whole (with_block-differs S i (grown_block S i size) to sound.laid slot-small) in
+        let whole : length (bytes_of S i ++ replicate (size - size_of S i) 0) ≡ size =
+        omega (arith, length-append (bytes_of S i) (replicate (size - size_of S i) 0), length-replicate {A = ℕ} (size - size_of S i) 0, more) in
+        let d : Differs S S' i size to = subst (λ n. Differs S S' i n to) whole
+        (with_block-differs S i (grown_block S i size) to sound.laid slot-small) in
         let big : 64 ≤ size = omega (arith, (sound.laid.sized i is-there).0, more) in
-        let laid : IsLaidOut S' = laid-differs S S' i size to d sound.laid room free (λ _. (big, small, even)) (λ z. absurd (omega (arith, z, big))) in
+        let laid : IsLaidOut S' = laid-differs S S' i size to d sound.laid room free (λ _. (big, small, even))
+        (λ z. absurd (omega (arith, z, big))) in
         let M : Store = with_block S i None 0 in
         let d' : Differs M S' i size to = record {
           size = d.size;
@@ -117,15 +134,20 @@ module _ (region : List ℕ) (table : List (Option Entry)) (index : List (Option
           spots = d.spots ∙ sym gone.spots;
           len = d.len ∙ sym gone.len;
         } in
-        let off : (j : ℕ) → j ≢ i → OffEntry (slice_index_or table j None) to (to + size) = λ j ne. off_slot region table to (to + size) j (sound.lies j) (free j ne) in
+        let off : (j : ℕ) → j ≢ i → OffEntry (slice_index_or table j None) to (to + size) =
+        λ j ne. off_slot region table to (to + size) j (sound.lies j) (free j ne) in
         let bytes : part region' to size ≡ bytes_of S i ++ replicate (size - size_of S i) 0 =
         (let sum : size ≡ e.size + (size - e.size) = omega (arith, enough) in
         (λ k. part (eq k) to (sum k)) ∙ part-two region to e.size (size - e.size) xs zs long rest (omega (arith, room, enough))
         ∙ (λ k. sym (bytes_there region table i e is) k ++ replicate (size - sym size-is k) 0)) in
-        step region' (Some (record { place = to; size = size; locks = e.locks })) (slice_set (slice_set index (e.place / 64) None) (to / 64) (Some i)) (grown_block S i size) len
+        step region' (Some (record { place = to; size = size; locks = e.locks }))
+        (slice_set (slice_set index (e.place / 64) None) (to / 64) (Some i)) (grown_block S i size) len
         (λ j ne. ap (λ r. block_in r (slice_index_or table j None)) eq
-        ∙ off_same one (to + e.size) zs (slice_index_or table j None) (off_less (slice_index_or table j None) to (to + size) (to + e.size) (to + e.size + length zs) (omega arith) (omega (arith, rest, enough)) (off j ne))
-        ∙ off_same region to xs (slice_index_or table j None) (off_less (slice_index_or table j None) to (to + size) to (to + length xs) (omega arith) (omega (arith, long, enough)) (off j ne)))
+        ∙ off_same one (to + e.size) zs (slice_index_or table j None)
+        (off_less (slice_index_or table j None) to (to + size) (to + e.size) (to + e.size + length zs) (omega arith)
+        (omega (arith, rest, enough)) (off j ne))
+        ∙ off_same region to xs (slice_index_or table j None)
+        (off_less (slice_index_or table j None) to (to + size) to (to + length xs) (omega arith) (omega (arith, long, enough)) (off j ne)))
         (λ k. Some (record { locks = sym locks-is k; bytes = bytes k }))
         (omega (arith, len, room)) laid (indexed-put M S' (slice_set index (e.place / 64) None) i size to d' gone.size big laid index-gone)
       where
@@ -135,23 +157,30 @@ module _ (region : List ℕ) (table : List (Option Entry)) (index : List (Option
     pub locks-step : (n : ℕ) → Step region (slice_set table i (Some (record { place = e.place; size = e.size; locks = n }))) index (with_locks S i n)
     locks-step n =
         let same : with_block S i (block_with_locks S i n) e.place ≡ with_locks S i n =
-        (let spots : slice_set S.places i e.place ≡ S.places = ap (λ p. slice_set S.places i p) (sym (place_there region table i e is)) ∙ set-get_or S.places i 0 in
+        (let spots : slice_set S.places i e.place ≡ S.places = ap (λ p. slice_set S.places i p) (sym (place_there region table i e is))
+        ∙ set-get_or S.places i 0 in
         λ k. record { blocks = slice_set S.blocks i (block_with_locks S i n); places = spots k; len = S.len }) in
         let shape : SameShape S (with_locks S i n) = with_locks-shape S i n sound.laid is-there in
         let laid : IsLaidOut (with_locks S i n) = laid-same S (with_locks S i n) shape sound.laid in
         let indexed : IsIndexed (with_locks S i n) index = indexed-same S (with_locks S i n) index shape sound.indexed in
-        let done : Step region (slice_set table i (Some (record { place = e.place; size = e.size; locks = n }))) index (with_block S i (block_with_locks S i n) e.place) =
+        let done : Step region (slice_set table i (Some (record { place = e.place; size = e.size; locks = n }))) index
+        (with_block S i (block_with_locks S i n) e.place) =
         step region (Some (record { place = e.place; size = e.size; locks = n })) index (block_with_locks S i n) refl (λ j ne. refl)
         (λ k. Some (record { locks = n; bytes = sym (bytes_there region table i e is) k })) in-region
         (subst IsLaidOut (sym same) laid) (subst (λ s. IsIndexed s index) (sym same) indexed) in
         record { sound = done.sound; is = done.is ∙ same }
 
 -- the same over the store that callers see
-module _ (region : List ℕ) (table : List (Option Entry)) (index : List (Option ℕ)) (seen : Store) (view : store_in region table ≡ seen) (sound : IsSound region table index) (i : ℕ) where
-  pub create_seen : (at size : ℕ) → (i < 2048) × (IsThere seen i → ⊥) → IsBlockSize size → at + size ≤ seen.len → IsFreeBut seen i at (at + size) → (region' : List ℕ) → region' ≡ with_part region at (replicate size 0)
-      → Step region' (slice_set table i (Some (record { place = at; size = size; locks = 0 }))) (slice_set index (at / 64) (Some i)) (with_block seen i (new_block size) at)
+module _ (region : List ℕ) (table : List (Option Entry)) (index : List (Option ℕ)) (seen : Store)
+    (view : store_in region table ≡ seen) (sound : IsSound region table index) (i : ℕ) where
+  pub create_seen : (at size : ℕ) → (i < 2048) × (IsThere seen i → ⊥) → IsBlockSize size → at + size ≤ seen.len
+      → IsFreeBut seen i at (at + size) → (region' : List ℕ) → region' ≡ with_part region at (replicate size 0)
+      → Step region' (slice_set table i (Some (record { place = at; size = size; locks = 0 }))) (slice_set index (at / 64) (Some i))
+      (with_block seen i (new_block size) at)
   create_seen at size slot legal room free region' eq =
-      subst (λ s. (i < 2048) × (IsThere s i → ⊥) → at + size ≤ s.len → IsFreeBut s i at (at + size) → Step region' (slice_set table i (Some (record { place = at; size = size; locks = 0 }))) (slice_set index (at / 64) (Some i)) (with_block s i (new_block size) at))
+      subst (λ s. (i < 2048) × (IsThere s i → ⊥) → at + size ≤ s.len → IsFreeBut s i at (at + size)
+      → Step region' (slice_set table i (Some (record { place = at; size = size; locks = 0 })))
+      (slice_set index (at / 64) (Some i)) (with_block s i (new_block size) at))
       view (λ slot room free. create-step region table index sound i at size slot.0 slot.1 legal room free region' eq) slot room free
 
   -- the granule of an offset stands in the index
@@ -169,25 +198,37 @@ module _ (region : List ℕ) (table : List (Option Entry)) (index : List (Option
     lies_seen = omega (arith, in-region region table index sound i e is, ap (λ s. s.len) view)
 
     pub remove_seen : Step region (slice_set table i None) (slice_set index (e.place / 64) None) (with_block seen i None 0)
-    remove_seen = subst (λ s. Step region (slice_set table i None) (slice_set index (e.place / 64) None) (with_block s i None 0)) view (remove-step region table index sound i e is)
+    remove_seen = subst (λ s. Step region (slice_set table i None) (slice_set index (e.place / 64) None) (with_block s i None 0)) view
+        (remove-step region table index sound i e is)
 
-    pub locks_seen : (n : ℕ) → Step region (slice_set table i (Some (record { place = e.place; size = e.size; locks = n }))) index (with_locks seen i n)
-    locks_seen n = subst (λ s. Step region (slice_set table i (Some (record { place = e.place; size = e.size; locks = n }))) index (with_locks s i n)) view (locks-step region table index sound i e is n)
+    pub locks_seen : (n : ℕ) → Step region (slice_set table i (Some (record { place = e.place; size = e.size; locks = n }))) index
+        (with_locks seen i n)
+    locks_seen n = subst (λ s. Step region (slice_set table i (Some (record { place = e.place; size = e.size; locks = n }))) index (with_locks s i n))
+        view (locks-step region table index sound i e is n)
 
     pub size_seen : e.size ≡ size_of seen i
     size_seen = subst (λ s. e.size ≡ size_of s i) view (sym (size-is region table index sound i e is))
 
-    pub relocate_seen : (to size : ℕ) → (size_of seen i ≤ size) × (size ≤ 65520) × (size % 16 ≡ 0) → to + size ≤ seen.len → IsFreeBut seen i to (to + size) → (region' : List ℕ) → region' ≡ with_part (with_part region to (part region e.place e.size)) (to + e.size) (replicate (size - e.size) 0)
-        → Step region' (slice_set table i (Some (record { place = to; size = size; locks = e.locks }))) (slice_set (slice_set index (e.place / 64) None) (to / 64) (Some i)) (with_block seen i (grown_block seen i size) to)
+    pub relocate_seen : (to size : ℕ) → (size_of seen i ≤ size) × (size ≤ 65520) × (size % 16 ≡ 0) → to + size ≤ seen.len
+        → IsFreeBut seen i to (to + size) → (region' : List ℕ) → region' ≡ with_part (with_part region to (part region e.place e.size))
+        (to + e.size) (replicate (size - e.size) 0)
+        → Step region' (slice_set table i (Some (record { place = to; size = size; locks = e.locks })))
+        (slice_set (slice_set index (e.place / 64) None) (to / 64) (Some i)) (with_block seen i (grown_block seen i size) to)
     relocate_seen to size legal room free region' eq =
-        subst (λ s. (size_of s i ≤ size) × (size ≤ 65520) × (size % 16 ≡ 0) → to + size ≤ s.len → IsFreeBut s i to (to + size) → Step region' (slice_set table i (Some (record { place = to; size = size; locks = e.locks }))) (slice_set (slice_set index (e.place / 64) None) (to / 64) (Some i)) (with_block s i (grown_block s i size) to))
+        subst (λ s. (size_of s i ≤ size) × (size ≤ 65520) × (size % 16 ≡ 0) → to + size ≤ s.len → IsFreeBut s i to (to + size)
+        → Step region' (slice_set table i (Some (record { place = to; size = size; locks = e.locks })))
+        (slice_set (slice_set index (e.place / 64) None) (to / 64) (Some i)) (with_block s i (grown_block s i size) to))
         view (λ legal room free. relocate-step region table index sound i e is to size legal.0 legal.1 legal.2 room free region' eq) legal room free
 
 -- the same where the entry's number alone was written
-pub locks_put : (region : List ℕ) (table : List (Option Entry)) (index : List (Option ℕ)) (seen : Store) → store_in region table ≡ seen → IsSound region table index → (i n : ℕ) → IsThere seen i
-    → (after : List (Option Entry)) → IfSome (slice_index_or table i None) (λ e. after ≡ slice_set table i (Some (record e { locks = n }))) → Step region after index (with_locks seen i n)
-locks_put region table index seen view sound i n there after put = go (slice_index_or table i None) refl (entry_there region table i (subst (λ s. IsThere s i) (sym view) there)) put
+pub locks_put : (region : List ℕ) (table : List (Option Entry)) (index : List (Option ℕ)) (seen : Store)
+    → store_in region table ≡ seen → IsSound region table index → (i n : ℕ) → IsThere seen i
+    → (after : List (Option Entry)) → IfSome (slice_index_or table i None) (λ e. after ≡ slice_set table i (Some (record e { locks = n })))
+    → Step region after index (with_locks seen i n)
+locks_put region table index seen view sound i n there after put = go (slice_index_or table i None)
+    refl (entry_there region table i (subst (λ s. IsThere s i) (sym view) there)) put
   where
-    go : (o : Option Entry) → slice_index_or table i None ≡ o → IsEntry o → IfSome o (λ e. after ≡ slice_set table i (Some (record e { locks = n }))) → Step region after index (with_locks seen i n)
+    go : (o : Option Entry) → slice_index_or table i None ≡ o → IsEntry o → IfSome o (λ e. after ≡ slice_set table i (Some (record e { locks = n })))
+        → Step region after index (with_locks seen i n)
     go None is h same = absurd h
     go (Some e) is h same = rw same (locks_seen region table index seen view sound i e is n)

@@ -28,7 +28,13 @@ module _ (S : Store) (laid : IsLaidOut S) (but : ℕ) where
   pub walk-init : HasWalked S but 0 0 0 (record { from = 0; until = 0; room = 0 })
   walk-init = record {
     passed = pass-init S laid but 0 (λ j. inr (omega arith)) (omega arith);
-    found = record { ordered = omega arith; inside = omega arith; packs = λ j. inr (inl (omega arith)); fits = omega (arith, empty_sum S laid but 0) };
+    found = record {
+      ordered = omega arith;
+      inside = omega arith;
+      packs = λ j. inr (inl (omega arith));
+      fits =
+          omega (arith, empty_sum S laid but 0);
+    };
     most = λ a c s h. absurd (omega (arith, h));
     crowd = omega arith;
   }
@@ -39,8 +45,14 @@ module _ (S : Store) (laid : IsLaidOut S) (but : ℕ) where
     more : b.room ≤ b'.room
     enough : until ≤ from + taken + b'.room
 
-  better : (b b' : Stretch) (from until taken : ℕ) → IsFound S but b → from + taken ≤ until → ((room : ℕ) → room ≡ until - (from + taken) → IsRoomy S but from until room) → IsWider b from until taken b' → IsBetter b b' from until taken
-  better b b' from until taken f fits roomy (inl q) = record { found = subst (IsFound S but) (sym q.0) f; more = omega (arith, ap (λ s. s.room) q.0); enough = omega (arith, ap (λ s. s.room) q.0, q.1) }
+  better : (b b' : Stretch) (from until taken : ℕ) → IsFound S but b → from + taken ≤ until
+      → ((room : ℕ) → room ≡ until - (from + taken) → IsRoomy S but from until room) → IsWider b from until taken b' → IsBetter b b' from until taken
+  better b b' from until taken f fits roomy (inl q) = record {
+    found = subst (IsFound S but) (sym q.0) f;
+    more =
+        omega (arith, ap (λ s. s.room) q.0);
+    enough = omega (arith, ap (λ s. s.room) q.0, q.1);
+  }
   better b b' from until taken f fits roomy (inr q) = record {
     found = subst (IsFound S but) (sym q.0) (roomy _ refl);
     more = omega (arith, ap (λ s. s.room) q.0, q.1);
@@ -58,19 +70,35 @@ module _ (S : Store) (laid : IsLaidOut S) (but : ℕ) where
     pub walk-own : x ≡ but → HasWalked S but from (end_of S x) taken b
     walk-own e =
         let ones : sum_in S 0 (end_of S x) (locked_one S but) ≡ sum_in S 0 scan (locked_one S but) = omega (arith, ones_more, one-but S but x e) in
-        record { passed = pass-own S laid but from scan taken x w.passed first e; found = w.found; most = w.most; crowd = rw ones (omega (arith, w.crowd, sizes_more, other-but S but x e)) }
+        record {
+          passed = pass-own S laid but from scan taken x w.passed first e;
+          found = w.found;
+          most = w.most;
+          crowd =
+              rw ones (omega (arith, w.crowd, sizes_more, other-but S but x e));
+        }
 
     -- an unlocked block is added
     pub walk-unlocked : x ≢ but → locks_of S x ≡ 0 → HasWalked S but from (end_of S x) (taken + size_of S x) b
     walk-unlocked ne none =
-        let ones : sum_in S 0 (end_of S x) (locked_one S but) ≡ sum_in S 0 scan (locked_one S but) = omega (arith, ones_more, one-unlocked S but x none) in
-        record { passed = pass-unlocked S laid but from scan taken x w.passed first ne none; found = w.found; most = w.most; crowd = rw ones (omega (arith, w.crowd, sizes_more, other-other S but x ne)) }
+        let ones : sum_in S 0 (end_of S x) (locked_one S but) ≡ sum_in S 0 scan (locked_one S but) =
+        omega (arith, ones_more, one-unlocked S but x none) in
+        record {
+          passed = pass-unlocked S laid but from scan taken x w.passed first ne none;
+          found = w.found;
+          most =
+              w.most;
+          crowd = rw ones (omega (arith, w.crowd, sizes_more, other-other S but x ne));
+        }
 
     -- a locked block ends the stretch
-    pub walk-locked : x ≢ but → 0 < locks_of S x → (b' : Stretch) → IsWider b from (place_of S x) taken b' → HasWalked S but (end_of S x) (end_of S x) 0 b'
+    pub walk-locked : x ≢ but → 0 < locks_of S x → (b' : Stretch) → IsWider b from (place_of S x) taken b'
+        → HasWalked S but (end_of S x) (end_of S x) 0 b'
     walk-locked ne some b' wider =
-        let good : IsBetter b b' from (place_of S x) taken = better b b' from (place_of S x) taken w.found (omega (arith, w.passed.ordered, first.high)) (roomy-before S laid but from scan taken x w.passed first) wider in
-        let ones : sum_in S 0 (end_of S x) (locked_one S but) ≡ sum_in S 0 scan (locked_one S but) + 1 = omega (arith, ones_more, one-locked S but x ne some) in
+        let good : IsBetter b b' from (place_of S x) taken = better b b' from (place_of S x) taken w.found
+        (omega (arith, w.passed.ordered, first.high)) (roomy-before S laid but from scan taken x w.passed first) wider in
+        let ones : sum_in S 0 (end_of S x) (locked_one S but) ≡ sum_in S 0 scan (locked_one S but) + 1 =
+        omega (arith, ones_more, one-locked S but x ne some) in
         record {
           passed = pass-locked S laid but from scan taken x w.passed first;
           found = good.found;
@@ -81,7 +109,15 @@ module _ (S : Store) (laid : IsLaidOut S) (but : ℕ) where
                 let ec : c ≡ place_of S x = stops a c s ea h in
                 rw (ea, ec) (omega (arith, before_same S laid but from scan taken x w.passed first, w.passed.taken_is, good.enough))
           ];
-          crowd = rw ones (omega (arith, w.crowd, sizes_more, other-other S but x ne, good.enough, mul-le-mul_left (sum_in S 0 scan (locked_one S but)) good.more));
+          crowd = rw ones (omega (
+            arith,
+            w.crowd,
+            sizes_more,
+            other-other S but x ne,
+            good.enough,
+            mul-le-mul_left
+                (sum_in S 0 scan (locked_one S but)) good.more,
+          ));
         }
       where
         beside : (j : ℕ) → IsOtherLocked S but j → j ≢ x → (end_of S j ≤ from) ⊎ (end_of S x ≤ place_of S j)
@@ -97,7 +133,8 @@ module _ (S : Store) (laid : IsLaidOut S) (but : ℕ) where
 
             by : (a ≡ 0) ⊎ ((slot : ℕ) × IsOtherLocked S but slot × (end_of S slot ≡ a)) → a ≡ from
             by (inl z) = omega (arith, z, ge)
-            by (inr (y, l, e)) = elim (cases_eq y x) as (λ _. a ≡ from) [ inl q ↦ absurd (omega (arith, h, e, ap (end_of S) q)) | inr nx ↦ at y l e (beside y l nx) ]
+            by (inr (y, l, e)) = elim (cases_eq y x) as (λ _. a ≡ from)
+                [ inl q ↦ absurd (omega (arith, h, e, ap (end_of S) q)) | inr nx ↦ at y l e (beside y l nx) ]
 
         -- and ends where the block begins
         stops : (a c : ℕ) → IsStretch S but a c → a ≡ from → a < end_of S x → c ≡ place_of S x
@@ -107,18 +144,25 @@ module _ (S : Store) (laid : IsLaidOut S) (but : ℕ) where
             before (inl q) = absurd (omega (arith, q, h))
             before (inr q) = q
 
-            at : (z : ℕ) → IsOtherLocked S but z → place_of S z ≡ c → c ≤ place_of S x → (end_of S z ≤ from) ⊎ (end_of S x ≤ place_of S z) → c ≡ place_of S x
+            at : (z : ℕ) → IsOtherLocked S but z → place_of S z ≡ c → c ≤ place_of S x → (end_of S z ≤ from) ⊎ (end_of S x ≤ place_of S z)
+                → c ≡ place_of S x
             at z l e le (inl q) = absurd (omega (arith, q, e, ea, s.ordered, some_size S laid z l.1))
             at z l e le (inr q) = absurd (omega (arith, q, e, le, first.there))
 
             by : (c ≡ S.len) ⊎ ((slot : ℕ) × IsOtherLocked S but slot × (place_of S slot ≡ c)) → c ≤ place_of S x → c ≡ place_of S x
             by (inl e) le = absurd (omega (arith, e, le, first.low))
-            by (inr (z, l, e)) le = elim (cases_eq z x) as (λ _. c ≡ place_of S x) [ inl q ↦ sym e ∙ ap (place_of S) q | inr nx ↦ at z l e le (beside z l nx) ]
+            by (inr (z, l, e)) le = elim (cases_eq z x) as (λ _. c ≡ place_of S x) [
+              | inl q ↦ sym e
+                  ∙ ap (place_of S) q
+              | inr nx ↦ at z l e le (beside z l nx)
+            ]
 
   -- all blocks are passed
-  pub walk-done : (from scan taken : ℕ) (b b' : Stretch) → HasWalked S but from scan taken b → BeginsNone S scan S.len → IsWider b from S.len taken b' → IsRoomiest S but b'.from b'.until b'.room
+  pub walk-done : (from scan taken : ℕ) (b b' : Stretch) → HasWalked S but from scan taken b → BeginsNone S scan S.len
+      → IsWider b from S.len taken b' → IsRoomiest S but b'.from b'.until b'.room
   walk-done from scan taken b b' w none wider =
-      let good : IsBetter b b' from S.len taken = better b b' from S.len taken w.found (omega (arith, w.passed.ordered, w.passed.inside)) (roomy-last S laid but from scan taken w.passed none) wider in
+      let good : IsBetter b b' from S.len taken = better b b' from S.len taken w.found (omega (arith, w.passed.ordered, w.passed.inside))
+      (roomy-last S laid but from scan taken w.passed none) wider in
       let low = ended S laid but from scan taken w.passed none in
       let ones : sum_in S 0 scan (locked_one S but) ≡ other_locked S but = sum_all S 0 scan (locked_one S but) (λ j. inl (omega arith, low j)) in
       let sizes : sum_in S 0 scan (other_size S but) ≡ other_sizes S but = sum_all S 0 scan (other_size S but) (λ j. inl (omega arith, low j)) in

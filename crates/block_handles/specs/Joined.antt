@@ -8,4 +8,5 @@ Reaches old from until new = ((until ≡ old.at) × (new ≡ record old { at = f
 
 -- the gap is as it was, or with a range that lies right before or behind it, or that range alone
 abbrev pub Joins : Gap → ℕ → ℕ → Gap → Type 0
-Joins old from until new = ((until ≡ old.at) × (new ≡ record old { at = from })) ⊎ (((from ≡ old.end) × (new ≡ record old { end = until })) ⊎ ((new ≡ record { at = from; end = until }) ⊎ (new ≡ old)))
+Joins old from until new = ((until ≡ old.at) × (new ≡ record old { at = from })) ⊎
+    (((from ≡ old.end) × (new ≡ record old { end = until })) ⊎ ((new ≡ record { at = from; end = until }) ⊎ (new ≡ old)))

@@ -20,7 +20,8 @@ ReadsAs store at ws =
 -- where a block covers what is written, that part of it is written, and nothing else
 abbrev pub WritesCovered : Store → Store → ℕ → List ℕ → Type 0
 WritesCovered old new at ws =
-    (slot : ℕ) → 0 < length ws → CoversRange old slot at (length ws) → new ≡ with_bytes old slot (with_part (bytes_of old slot) (at - place_of old slot) ws)
+    (slot : ℕ) → 0 < length ws → CoversRange old slot at (length ws)
+    → new ≡ with_bytes old slot (with_part (bytes_of old slot) (at - place_of old slot) ws)
 
 -- the n bytes from one offset on are written at another, as they were before
 pub record Copies (old new : Store) (from to n : ℕ) : Type 0 where
@@ -39,8 +40,10 @@ ReadsByte store at byte = (slot : ℕ) → Covers store slot at → byte ≡ byt
 
 -- where blocks cover the offset and the next, this is the word of both, little end first
 abbrev pub ReadsWord : Store → ℕ → ℕ → Type 0
-ReadsWord store at word = (low high : ℕ) → Covers store low at → Covers store high (at + 1) → word ≡ byte_of store low at + 256 * byte_of store high (at + 1)
+ReadsWord store at word = (low high : ℕ) → Covers store low at → Covers store high (at + 1)
+    → word ≡ byte_of store low at + 256 * byte_of store high (at + 1)
 
 -- where one block covers what is copied, that part of it is written
 abbrev pub CopiesCovered : Store → Store → ℕ → ℕ → ℕ → Type 0
-CopiesCovered old new from to n = (slot : ℕ) → CoversRange old slot from n → WritesCovered old new to (part (bytes_of old slot) (from - place_of old slot) n)
+CopiesCovered old new from to n = (slot : ℕ) → CoversRange old slot from n
+    → WritesCovered old new to (part (bytes_of old slot) (from - place_of old slot) n)

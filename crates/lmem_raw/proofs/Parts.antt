@@ -46,14 +46,16 @@ with_whole (b ∷ bs) [] h = absurd (omega arith)
 with_whole (b ∷ bs) (w ∷ ws) h = ap (λ xs. w ∷ xs) (with_whole bs ws (omega arith))
 
 -- as std writes it
-pub with_part-refill : (bs : List ℕ) (at : ℕ) (ws : List ℕ) → let mid = take at bs ++ (ws ++ drop (length ws) (drop at bs)) in take (length bs) (mid ++ drop (length mid) bs) ≡ with_part bs at ws
+pub with_part-refill : (bs : List ℕ) (at : ℕ) (ws : List ℕ) → let mid = take at bs ++ (ws ++ drop (length ws) (drop at bs)) in
+    take (length bs) (mid ++ drop (length mid) bs) ≡ with_part bs at ws
 with_part-refill [] at ws = refl
 with_part-refill (b ∷ bs) zero [] = take-append_seam (b ∷ bs) (drop (length (b ∷ bs)) (b ∷ bs))
 with_part-refill (b ∷ bs) zero (w ∷ ws) = ap (λ xs. w ∷ xs) (with_part-refill bs zero ws)
 with_part-refill (b ∷ bs) (suc at) ws = ap (λ xs. b ∷ xs) (with_part-refill bs at ws)
 
 -- in three parts
-pub with_part-split : (bs : List ℕ) (at m : ℕ) (ws : List ℕ) → m ≡ at + length ws → m ≤ length bs → take at bs ++ (ws ++ drop m bs) ≡ with_part bs at ws
+pub with_part-split : (bs : List ℕ) (at m : ℕ) (ws : List ℕ) → m ≡ at + length ws → m ≤ length bs
+    → take at bs ++ (ws ++ drop m bs) ≡ with_part bs at ws
 with_part-split [] zero zero [] e h = refl
 with_part-split [] zero zero (w ∷ ws) e h = absurd (omega arith)
 with_part-split [] (suc at) zero ws e h = absurd (omega arith)
@@ -66,7 +68,9 @@ with_part-split (b ∷ bs) (suc at) zero ws e h = absurd (omega arith)
 with_part-split (b ∷ bs) (suc at) (suc m) ws e h = ap (λ xs. b ∷ xs) (with_part-split bs at m ws (omega arith) (omega arith))
 
 -- as `copy_within` leaves it
-pub copied : (bs : List ℕ) (from n to : ℕ) → from + n ≤ length bs → to + n ≤ length bs → copy_within bs from (from + n) to ≡ with_part bs to (part bs from n)
+pub copied : (bs : List ℕ) (from n to : ℕ) → from + n ≤ length bs → to + n ≤ length bs
+    → copy_within bs from (from + n) to ≡ with_part bs to (part bs from n)
 copied bs from n to h h' =
-    let k : from + n - from ≡ n = omega arith in let long : to + n ≡ to + length (part bs from n) = omega (arith, length-take n (drop from bs), length-drop from bs) in
+    let k : from + n - from ≡ n = omega arith in
+    let long : to + n ≡ to + length (part bs from n) = omega (arith, length-take n (drop from bs), length-drop from bs) in
     rw (k, append_assoc) (with_part-split bs to (to + n) (part bs from n) long h')

@@ -22,7 +22,8 @@ module _ {M : Type 1} {𝓤 : Ura M} (𝓛 : Logic 𝓤) (b : ℕ) (κ : Lft) wh
   shared_take (suc n) [] o = top 𝓤 _
   shared_take (suc n) (x ∷ xs) o = mono_r 𝓤 (sem 𝓛 (shared_of u8 x b o κ)) (shared_take n xs (o + 1))
 
-  pub shared_drop : (n : ℕ) (xs : List ℕ) (o p : ℕ) → p ≡ n + o → ent 𝓤 (sem 𝓛 (elements_shared u8 xs b o κ)) (sem 𝓛 (elements_shared u8 (drop_l n xs) b p κ))
+  pub shared_drop : (n : ℕ) (xs : List ℕ) (o p : ℕ) → p ≡ n + o → ent 𝓤 (sem 𝓛 (elements_shared u8 xs b o κ))
+      (sem 𝓛 (elements_shared u8 (drop_l n xs) b p κ))
   shared_drop zero xs o p e = let same : p ≡ o = omega arith in rw same (id⊢ 𝓤 _)
   shared_drop (suc n) [] o p e = top 𝓤 _
   shared_drop (suc n) (x ∷ xs) o p e = via 𝓤 _ (snd∗ 𝓤 (sem 𝓛 (shared_of u8 x b o κ)) _) (shared_drop n xs (o + 1) p (omega arith))
@@ -35,4 +36,5 @@ module _ {M : Type 1} {𝓤 : Ura M} (𝓛 : Logic 𝓤) (κ : Lft) (b o : ℕ) 
   S = hidden_shr Fields κ (h.ptr, tt) b o
 
   pub shows_ptr : ent 𝓤 (sem 𝓛 S) (sep 𝓤 (sem 𝓛 (hidden_shr RawPtr κ h.ptr b (o + 0))) (sem 𝓛 S))
-  shows_ptr = qed 𝓛 (‵ S ∷ []) ∵ shr_dup ! Fields (Struct-row_laws (shape H-type.the_type) (ptr_row_laws, tt)) (h.ptr, tt) b o κ $ unhide ! $ fsplit ! $ fsplit ! $ hide ! $ keep ! (0 ∷ 3 ∷ []) $ done !
+  shows_ptr = qed 𝓛 (‵ S ∷ []) ∵ shr_dup ! Fields (Struct-row_laws (shape H-type.the_type) (ptr_row_laws, tt))
+      (h.ptr, tt) b o κ $ unhide ! $ fsplit ! $ fsplit ! $ hide ! $ keep ! (0 ∷ 3 ∷ []) $ done !

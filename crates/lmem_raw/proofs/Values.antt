@@ -46,4 +46,5 @@ pub token_told : (vs : List Val) → shadow (token_own vs) → (vs ≡ token_val
 token_told vs s = (s.1.0 ∙ (λ i. vstruct (of_list (s.1.1.0.1.0 i ++ [])) ∷ []), tt)
 
 pub token_made : {M : Type 1} {𝓤 : Ura M} (𝓛 : Logic 𝓤) → Unit {0} → ent 𝓤 (emp 𝓤) (sem 𝓛 (token_own (token_val ∷ [])))
-token_made 𝓛 f = makes_shadow 𝓛 (token_own (token_val ∷ [])) (λ _. (tt, ((λ _. (tt, tt)), tt))) ((vstruct vnil ∷ [], tt), (refl, ((tt, (refl, tt)), tt)))
+token_made 𝓛 f = makes_shadow 𝓛 (token_own (token_val ∷ [])) (λ _. (tt, ((λ _. (tt, tt)), tt)))
+    ((vstruct vnil ∷ [], tt), (refl, ((tt, (refl, tt)), tt)))

@@ -106,7 +106,8 @@ bytes_found resident kept [] h e found = absurd cc
 bytes_found resident kept (x ∷ es) h e found = on (eqb x.h h) refl (bytes_found resident kept es h e) found
   where
     on : (b : Bool) → eqb x.h h ≡ b
-        → (find (λ y. eqb y.h h) es ≡ Some e → bytes_of_block (map (block_from resident kept) es) h ≡ unwrap_or (resident h) (bytes_of_block kept h)) →
+        → (find (λ y. eqb y.h h) es ≡ Some e → bytes_of_block (map (block_from resident kept) es) h ≡ unwrap_or (resident h) (bytes_of_block kept h))
+        →
         cond b (Some x) (find (λ y. eqb y.h h) es) ≡ Some e → cond (eqb x.h h) (unwrap_or (resident x.h) (bytes_of_block kept x.h))
         (bytes_of_block (map (block_from resident kept) es) h) ≡ unwrap_or (resident h) (bytes_of_block kept h)
     on true is more same = ap (λ b. cond b (unwrap_or (resident x.h) (bytes_of_block kept x.h))

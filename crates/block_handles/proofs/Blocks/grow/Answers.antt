@@ -24,7 +24,8 @@ end-end-requires c = there _ _ _ _ c.self.view_is c.slot_of-slot.ensures c.requi
 
 pub room_for-requires-clause-gap : goal.room_for-requires-clause-gap
 room_for-requires-clause-gap c =
-    reached-gap c.self.inside.arena c.slot_of-slot.result c.self.invariant.ready.laid (there _ _ _ _ c.self.view_is c.slot_of-slot.ensures c.requires.there) c.self.inside.gap c.reaching-gap.result _ _
+    reached-gap c.self.inside.arena c.slot_of-slot.result c.self.invariant.ready.laid
+    (there _ _ _ _ c.self.view_is c.slot_of-slot.ensures c.requires.there) c.self.inside.gap c.reaching-gap.result _ _
     c.place-place.ensures c.end-end.ensures c.self.invariant.ready.room c.reaching-gap.ensures
 
 pub room_for-requires-clause-edge : goal.room_for-requires-clause-edge
@@ -33,18 +34,25 @@ room_for-requires-clause-edge c = edge-gap c.self.inside.arena c.self.inside.gap
 pub room_for-requires-clause-size : goal.room_for-requires-clause-size
 room_for-requires-clause-size c =
     let is = there _ _ _ _ c.self.view_is c.slot_of-slot.ensures c.requires.there in
-    omega (arith, less _ _ _ _ c.self.view_is c.slot_of-slot.ensures c.args.size c.requires.size.0, (c.self.invariant.ready.laid.sized c.slot_of-slot.result is).0)
+    omega (
+      arith,
+      less _ _ _ _ c.self.view_is c.slot_of-slot.ensures c.args.size c.requires.size.0,
+      (c.self.invariant.ready.laid.sized c.slot_of-slot.result is).0,
+    )
 
 pub invariant_of-self : goal.invariant_of-self
-invariant_of-self c = (let i = c.self.inside in subst (λ s. IsKept s i.gap i.used.words.items i.free i.vm_locks) (sym c.in_err-gap.ensures.err.1) c.self.invariant)
+invariant_of-self c = (let i = c.self.inside in subst (λ s. IsKept s i.gap i.used.words.items i.free i.vm_locks)
+    (sym c.in_err-gap.ensures.err.1) c.self.invariant)
 
 pub returns-in_err-gap-clause-no_room : goal.returns-in_err-gap-clause-no_room
 returns-in_err-gap-clause-no_room c = λ is.
-    subst (λ s. HasNoRoom s (slot_of c.args.name) c.args.size) (sym c.in_err-gap.ensures.err.1) (subst (λ k. HasNoRoom c.self.inside.arena k c.args.size) c.slot_of-slot.ensures c.in_err-gap.ensures.full)
+    subst (λ s. HasNoRoom s (slot_of c.args.name) c.args.size) (sym c.in_err-gap.ensures.err.1)
+    (subst (λ k. HasNoRoom c.self.inside.arena k c.args.size) c.slot_of-slot.ensures c.in_err-gap.ensures.full)
 
 pub relocate-requires-clause-there : goal.relocate-requires-clause-there
 relocate-requires-clause-there c =
-    subst (λ bs. IsBlock (slice_index_or bs c.slot_of-slot.result None)) (sym c.in_ok-gap.ensures.ok.blocks) (there _ _ _ _ c.self.view_is c.slot_of-slot.ensures c.requires.there)
+    subst (λ bs. IsBlock (slice_index_or bs c.slot_of-slot.result None)) (sym c.in_ok-gap.ensures.ok.blocks)
+    (there _ _ _ _ c.self.view_is c.slot_of-slot.ensures c.requires.there)
 
 pub relocate-requires-clause-legal : goal.relocate-requires-clause-legal
 relocate-requires-clause-legal c =
@@ -56,18 +64,25 @@ relocate-requires-clause-free c = room-free _ _ _ _ _ c.in_ok-gap.ensures.ok
 
 pub overflow_sub-self : goal.overflow_sub-self
 overflow_sub-self c =
-    (grown-taken c.self.inside.arena c.room_for.new.arena c.relocate.new.self c.slot_of-slot.result c.args.size c.self.inside.free _ c.in_ok-gap.gap c.in_ok-gap.ensures.ok
-    (there _ _ _ _ c.self.view_is c.slot_of-slot.ensures c.requires.there) (less _ _ _ _ c.self.view_is c.slot_of-slot.ensures c.args.size c.requires.size.0) (omega (arith, c.place-place.ensures, c.end-end.ensures))
+    (grown-taken c.self.inside.arena c.room_for.new.arena c.relocate.new.self c.slot_of-slot.result c.args.size
+    c.self.inside.free _ c.in_ok-gap.gap c.in_ok-gap.ensures.ok
+    (there _ _ _ _ c.self.view_is c.slot_of-slot.ensures c.requires.there)
+    (less _ _ _ _ c.self.view_is c.slot_of-slot.ensures c.args.size c.requires.size.0) (omega (arith, c.place-place.ensures, c.end-end.ensures))
     c.self.invariant.ready.laid c.self.invariant.count c.relocate.ensures.store c.relocate.ensures.laid).0
 
 pub invariant_of-self-2 : goal.invariant_of-self-2
 invariant_of-self-2 c =
-    kept-grown_block c.self.inside.arena c.room_for.new.arena c.relocate.new.self c.slot_of-slot.result c.args.size c.self.inside.free _ c.in_ok-gap.gap c.in_ok-gap.ensures.ok
-    (there _ _ _ _ c.self.view_is c.slot_of-slot.ensures c.requires.there) (less _ _ _ _ c.self.view_is c.slot_of-slot.ensures c.args.size c.requires.size.0) (omega (arith, c.place-place.ensures, c.end-end.ensures))
-    c.self.invariant.ready.laid c.self.invariant.count c.relocate.ensures.store c.relocate.ensures.laid c.self.inside.used.words.items c.self.inside.vm_locks c.self.invariant.used c.self.invariant.locked
+    kept-grown_block c.self.inside.arena c.room_for.new.arena c.relocate.new.self c.slot_of-slot.result c.args.size
+    c.self.inside.free _ c.in_ok-gap.gap c.in_ok-gap.ensures.ok
+    (there _ _ _ _ c.self.view_is c.slot_of-slot.ensures c.requires.there)
+    (less _ _ _ _ c.self.view_is c.slot_of-slot.ensures c.args.size c.requires.size.0) (omega (arith, c.place-place.ensures, c.end-end.ensures))
+    c.self.invariant.ready.laid c.self.invariant.count c.relocate.ensures.store c.relocate.ensures.laid
+    c.self.inside.used.words.items c.self.inside.vm_locks c.self.invariant.used c.self.invariant.locked
 
 pub returns-clause-ok : goal.returns-clause-ok
 returns-clause-ok c =
     let new = c.relocate.new.self in
-    subst (λ s. Grows s new (slot_of c.args.name) c.args.size) c.self.view_is (subst (λ k. Grows c.self.inside.arena new k c.args.size) c.slot_of-slot.ensures
-    (grows c.self.inside.arena c.room_for.new.arena new c.slot_of-slot.result c.args.size c.in_ok-gap.gap c.in_ok-gap.ensures.ok c.relocate.ensures.laid c.relocate.ensures.store))
+    subst (λ s. Grows s new (slot_of c.args.name) c.args.size) c.self.view_is
+    (subst (λ k. Grows c.self.inside.arena new k c.args.size) c.slot_of-slot.ensures
+    (grows c.self.inside.arena c.room_for.new.arena new c.slot_of-slot.result c.args.size c.in_ok-gap.gap
+    c.in_ok-gap.ensures.ok c.relocate.ensures.laid c.relocate.ensures.store))

@@ -13,23 +13,29 @@ absent : (store seen : Store) (slot named : ℕ) → store ≡ seen → slot ≡
 absent store seen slot named view same not is = not (subst (IsThere seen) same (subst (λ s. IsThere s slot) view is))
 
 pub room_for-requires-clause-gap : goal.room_for-requires-clause-gap
-room_for-requires-clause-gap c = (let room = c.self.invariant.ready.room in record { ordered = room.ordered; inside = room.inside; free = λ j ne. room.free j })
+room_for-requires-clause-gap c = (let room = c.self.invariant.ready.room in
+    record { ordered = room.ordered; inside = room.inside; free = λ j ne. room.free j })
 
 pub room_for-requires-clause-edge : goal.room_for-requires-clause-edge
 room_for-requires-clause-edge c = edge-gap c.self.inside.arena c.self.inside.gap c.self.invariant.ready.room
 
 pub invariant_of-self : goal.invariant_of-self
-invariant_of-self c = (let i = c.self.inside in subst (λ s. IsKept s i.gap i.used.words.items i.free i.vm_locks) (sym c.in_err-gap.ensures.err.1) c.self.invariant)
+invariant_of-self c = (let i = c.self.inside in subst (λ s. IsKept s i.gap i.used.words.items i.free i.vm_locks)
+    (sym c.in_err-gap.ensures.err.1) c.self.invariant)
 
 pub returns-in_err-gap-clause-no_room : goal.returns-in_err-gap-clause-no_room
 returns-in_err-gap-clause-no_room c = λ is.
-    subst (λ s. HasNoRoom s (slot_of c.args.name) c.args.size) (sym c.in_err-gap.ensures.err.1) (subst (λ k. HasNoRoom c.self.inside.arena k c.args.size) c.slot_of-slot.ensures c.in_err-gap.ensures.full)
+    subst (λ s. HasNoRoom s (slot_of c.args.name) c.args.size) (sym c.in_err-gap.ensures.err.1)
+    (subst (λ k. HasNoRoom c.self.inside.arena k c.args.size) c.slot_of-slot.ensures c.in_err-gap.ensures.full)
 
 pub create-requires-clause-slot : goal.create-requires-clause-slot
 create-requires-clause-slot c =
     let slot = c.slot_of-slot.result in
-    let small : slot < 2048 = rw c.slot_of-slot.ensures (slot_of-small c.args.name c.requires.name.0) in
-    (small, λ is. absent _ _ _ _ c.self.view_is c.slot_of-slot.ensures c.requires.name.1 (subst (λ bs. IsBlock (slice_index_or bs slot None)) c.in_ok-gap.ensures.ok.blocks is))
+    let small : slot < 2048 = rw c.slot_of-slot.ensures (slot_of-small c.args.name c.requires.name.0) in (
+      small,
+      λ is. absent _ _ _ _ c.self.view_is c.slot_of-slot.ensures c.requires.name.1
+          (subst (λ bs. IsBlock (slice_index_or bs slot None)) c.in_ok-gap.ensures.ok.blocks is),
+    )
 
 pub create-requires-clause-legal : goal.create-requires-clause-legal
 create-requires-clause-legal c = (c.requires.size.0, omega arith, c.requires.size.1)
@@ -41,20 +47,29 @@ pub overflow_sub-self : goal.overflow_sub-self
 overflow_sub-self c =
     let slot = c.slot_of-slot.result in
     let small : slot < 2048 = rw c.slot_of-slot.ensures (slot_of-small c.args.name c.requires.name.0) in
-    (made-taken c.self.inside.arena c.room_for.new.arena c.create.new.self slot c.args.size c.self.inside.free c.in_ok-gap.gap c.in_ok-gap.ensures.ok small
+    (made-taken c.self.inside.arena c.room_for.new.arena c.create.new.self slot c.args.size c.self.inside.free
+    c.in_ok-gap.gap c.in_ok-gap.ensures.ok small
     (absent _ _ _ _ c.self.view_is c.slot_of-slot.ensures c.requires.name.1) c.self.invariant.count c.create.ensures.store c.create.ensures.laid).0
 
 pub invariant_of-self-2 : goal.invariant_of-self-2
 invariant_of-self-2 c =
-    let S = c.self.inside.arena in let slot = c.slot_of-slot.result in let free = c.self.inside.free in let gap = c.in_ok-gap.gap in let made = c.in_ok-gap.ensures.ok in
+    let S = c.self.inside.arena in
+    let slot = c.slot_of-slot.result in
+    let free = c.self.inside.free in
+    let gap = c.in_ok-gap.gap in
+    let made = c.in_ok-gap.ensures.ok in
     let small : slot < 2048 = rw c.slot_of-slot.ensures (slot_of-small c.args.name c.requires.name.0) in
     let taken = made-taken S c.room_for.new.arena c.create.new.self slot c.args.size free gap made small
     (absent _ _ _ _ c.self.view_is c.slot_of-slot.ensures c.requires.name.1) c.self.invariant.count c.create.ensures.store c.create.ensures.laid in
-    kept-made S c.room_for.new.arena c.create.new.self slot c.args.size free c.self.inside.vm_locks gap c.self.inside.used.words.items c.insert.new.self.words.items made small
-    (absent _ _ _ _ c.self.view_is c.slot_of-slot.ensures c.requires.name.1) c.self.invariant.used c.self.invariant.locked taken.1 c.create.ensures.store c.create.ensures.laid c.insert.ensures
+    kept-made S c.room_for.new.arena c.create.new.self slot c.args.size free c.self.inside.vm_locks gap
+    c.self.inside.used.words.items c.insert.new.self.words.items made small
+    (absent _ _ _ _ c.self.view_is c.slot_of-slot.ensures c.requires.name.1) c.self.invariant.used c.self.invariant.locked
+    taken.1 c.create.ensures.store c.create.ensures.laid c.insert.ensures
 
 pub returns-clause-ok : goal.returns-clause-ok
 returns-clause-ok c =
     let new = c.create.new.self in
-    subst (λ s. Makes s new (slot_of c.args.name) c.args.size) c.self.view_is (subst (λ k. Makes c.self.inside.arena new k c.args.size) c.slot_of-slot.ensures
-    (makes c.self.inside.arena c.room_for.new.arena new c.slot_of-slot.result c.args.size c.in_ok-gap.gap c.in_ok-gap.ensures.ok c.create.ensures.laid c.create.ensures.store))
+    subst (λ s. Makes s new (slot_of c.args.name) c.args.size) c.self.view_is
+    (subst (λ k. Makes c.self.inside.arena new k c.args.size) c.slot_of-slot.ensures
+    (makes c.self.inside.arena c.room_for.new.arena new c.slot_of-slot.result c.args.size c.in_ok-gap.gap
+    c.in_ok-gap.ensures.ok c.create.ensures.laid c.create.ensures.store))

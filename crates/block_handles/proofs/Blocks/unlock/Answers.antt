@@ -12,14 +12,16 @@ use Rattle.block_handles.proofs.Laws.{handle_of_there}
 use Rattle.block_handles.proofs.Blocks.unlock.Goals as goal
 
 -- a lock less, where a block is locked in the store that callers see
-module _ (S seen : Store) (view : S ≡ seen) (laid : IsLaidOut S) (name : Name) (slot : ℕ) (at : slot ≡ slot_of name) (locked : 0 < locks_of seen (slot_of name)) where
+module _ (S seen : Store) (view : S ≡ seen) (laid : IsLaidOut S) (name : Name) (slot : ℕ) (at : slot ≡ slot_of name)
+    (locked : 0 < locks_of seen (slot_of name)) where
   some : 0 < locks_of S slot
   some = omega (arith, locked, ap (λ s. locks_of s slot) view, ap (locks_of seen) at)
 
   there : IsThere S slot
   there = there_of_locks S slot some
 
-  less : (new : Store) (locks part held : ℕ) → locks ≡ locks_of S slot → new ≡ with_locks S slot (locks - 1) → part ≡ of_file name.owner → IsLockSum S held → (part ≤ held) × IsLockSum new (held - part)
+  less : (new : Store) (locks part held : ℕ) → locks ≡ locks_of S slot → new ≡ with_locks S slot (locks - 1)
+      → part ≡ of_file name.owner → IsLockSum S held → (part ≤ held) × IsLockSum new (held - part)
   less new locks part held count store is_part is =
       let handle = handle_of_there S seen name view laid (there_of_locks seen (slot_of name) locked) in
       let done = lock-sum-less S new name slot held laid handle at some (store ∙ ap (λ (n : ℕ). with_locks S slot (n - 1)) count) is in
@@ -27,14 +29,18 @@ module _ (S seen : Store) (view : S ≡ seen) (laid : IsLaidOut S) (name : Name)
 
 pub overflow_sub-self : goal.overflow_sub-self
 overflow_sub-self c =
-    (less c.self.inside.arena c.args.self.now c.self.view_is c.self.invariant.ready.laid c.args.name c.slot_in_use-slot.result c.slot_in_use-slot.ensures c.requires
-    c.set_locks.new.self c.locks-locks.result c.of_file.result c.self.inside.vm_locks c.locks-locks.ensures c.set_locks.ensures.store c.of_file.ensures c.self.invariant.locked).0
+    (less c.self.inside.arena c.args.self.now c.self.view_is c.self.invariant.ready.laid c.args.name c.slot_in_use-slot.result
+    c.slot_in_use-slot.ensures c.requires
+    c.set_locks.new.self c.locks-locks.result c.of_file.result c.self.inside.vm_locks c.locks-locks.ensures
+    c.set_locks.ensures.store c.of_file.ensures c.self.invariant.locked).0
 
 pub invariant_of-self : goal.invariant_of-self
 invariant_of-self c =
-    let S = c.self.inside.arena in let slot = c.slot_in_use-slot.result in
+    let S = c.self.inside.arena in
+    let slot = c.slot_in_use-slot.result in
     let done = less S c.args.self.now c.self.view_is c.self.invariant.ready.laid c.args.name slot c.slot_in_use-slot.ensures c.requires
-    c.set_locks.new.self c.locks-locks.result c.of_file.result c.self.inside.vm_locks c.locks-locks.ensures c.set_locks.ensures.store c.of_file.ensures c.self.invariant.locked in
+    c.set_locks.new.self c.locks-locks.result c.of_file.result c.self.inside.vm_locks c.locks-locks.ensures
+    c.set_locks.ensures.store c.of_file.ensures c.self.invariant.locked in
     kept-locks S c.set_locks.new.self c.self.inside.gap c.self.inside.used.words.items slot (c.locks-locks.result - 1)
     (there S c.args.self.now c.self.view_is c.self.invariant.ready.laid c.args.name slot c.slot_in_use-slot.ensures c.requires)
     c.set_locks.ensures.store done.1 c.self.invariant

@@ -5,7 +5,10 @@ use Rattle.block_handles.proofs.Readies.{kept-after_write}
 use Rattle.block_handles.proofs.Blocks.write16.Goals as goal
 
 pub invariant_of-self : goal.invariant_of-self
-invariant_of-self c = kept-after_write c.self.inside.arena c.write16.new.self c.self.inside.gap c.self.inside.used.words.items c.args.at (c.args.word % 256 ∷ c.args.word / 256 ∷ []) c.write16.ensures c.self.invariant
+invariant_of-self c = kept-after_write c.self.inside.arena c.write16.new.self c.self.inside.gap c.self.inside.used.words.items
+    c.args.at (c.args.word % 256 ∷ c.args.word / 256 ∷ []) c.write16.ensures c.self.invariant
 
 pub returns-clause-covered : goal.returns-clause-covered
-returns-clause-covered c = subst (λ s. WritesCovered s c.write16.new.self c.args.at (c.args.word % 256 ∷ c.args.word / 256 ∷ [])) c.self.view_is (writes-covered c.self.inside.arena c.write16.new.self c.args.at (c.args.word % 256 ∷ c.args.word / 256 ∷ []) c.self.invariant.ready.laid c.write16.ensures)
+returns-clause-covered c = subst (λ s. WritesCovered s c.write16.new.self c.args.at (c.args.word % 256 ∷ c.args.word / 256 ∷ []))
+    c.self.view_is (writes-covered c.self.inside.arena c.write16.new.self c.args.at (c.args.word % 256 ∷ c.args.word / 256 ∷ [])
+    c.self.invariant.ready.laid c.write16.ensures)

@@ -5,7 +5,9 @@ use Rattle.block_handles.proofs.Readies.{kept-after_write}
 use Rattle.block_handles.proofs.Blocks.write8.Goals as goal
 
 pub invariant_of-self : goal.invariant_of-self
-invariant_of-self c = kept-after_write c.self.inside.arena c.write8.new.self c.self.inside.gap c.self.inside.used.words.items c.args.at (c.args.byte ∷ []) c.write8.ensures c.self.invariant
+invariant_of-self c = kept-after_write c.self.inside.arena c.write8.new.self c.self.inside.gap c.self.inside.used.words.items
+    c.args.at (c.args.byte ∷ []) c.write8.ensures c.self.invariant
 
 pub returns-clause-covered : goal.returns-clause-covered
-returns-clause-covered c = subst (λ s. WritesCovered s c.write8.new.self c.args.at (c.args.byte ∷ [])) c.self.view_is (writes-covered c.self.inside.arena c.write8.new.self c.args.at (c.args.byte ∷ []) c.self.invariant.ready.laid c.write8.ensures)
+returns-clause-covered c = subst (λ s. WritesCovered s c.write8.new.self c.args.at (c.args.byte ∷ [])) c.self.view_is
+    (writes-covered c.self.inside.arena c.write8.new.self c.args.at (c.args.byte ∷ []) c.self.invariant.ready.laid c.write8.ensures)

@@ -19,7 +19,8 @@ returns-in-Err-read_directory-clause-exact g c = λ h.
 -- the second directory, read behind the first
 module _ (P : Result Contents ℕ → Type 0) (image then : List ℕ) (base end next : ℕ) (d : Directory) where
   pub second : next ≡ base + directory_length d → then ≡ image → base + directory_length d ≤ end
-      → P (contents_at next (stretch then next end)) → P (contents_at (base + directory_length d) (drop (directory_length d) (stretch image base end)))
+      → P (contents_at next (stretch then next end))
+      → P (contents_at (base + directory_length d) (drop (directory_length d) (stretch image base end)))
   second place same fits read =
       let A : ℕ → Type 0 = λ k. P (contents_at k (stretch then k end)) in
       let B : List ℕ → Type 0 = λ x. P (contents_at (base + directory_length d) (stretch x (base + directory_length d) end)) in

@@ -4,7 +4,8 @@ use Rattle.block_handles.proofs.arena.Arena.last_in.Given as goal
 
 -- no block begins in a granule that was looked at, and none is past the index
 abbrev pub invariant-loop-granule : goal.invariant-loop-granule
-invariant-loop-granule l = (l.granule ≤ l.until / 64 + 1) × ((slot : ℕ) → 0 < size_of l.self slot → l.from ≤ place_of l.self slot → place_of l.self slot < l.until → place_of l.self slot / 64 < l.granule)
+invariant-loop-granule l = (l.granule ≤ l.until / 64 + 1)
+    × ((slot : ℕ) → 0 < size_of l.self slot → l.from ≤ place_of l.self slot → place_of l.self slot < l.until → place_of l.self slot / 64 < l.granule)
 
 abbrev pub decreases-loop-granule : goal.decreases-loop-granule
 decreases-loop-granule l = l.granule

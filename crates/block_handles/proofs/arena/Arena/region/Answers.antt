@@ -8,5 +8,7 @@ use Rattle.block_handles.proofs.arena.Arena.region.Goals as goal
 pub returns-clause-region : goal.returns-clause-region
 returns-clause-region c =
     let region = c.self.inside.region in
-    let all : c.slice-all.result.now ≡ region = c.slice-all.ensures ∙ ap (part region 0) c.len.ensures ∙ take_all (length region) region (omega arith) in
-    subst (λ s. IsRegion s c.slice-all.result.now) c.self.view_is (subst (IsRegion _) (sym all) (region-of region c.self.inside.table.items c.self.invariant.lies))
+    let all : c.slice-all.result.now ≡ region = c.slice-all.ensures ∙ ap (part region 0) c.len.ensures
+    ∙ take_all (length region) region (omega arith) in
+    subst (λ s. IsRegion s c.slice-all.result.now) c.self.view_is
+    (subst (IsRegion _) (sym all) (region-of region c.self.inside.table.items c.self.invariant.lies))

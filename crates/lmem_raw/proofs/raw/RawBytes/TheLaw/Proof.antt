@@ -25,7 +25,8 @@ use Rattle.lmem_raw.specs.contracts.raw.RawBytes as C
 use Rattle.lmem_raw.proofs.raw.RawBytes.TheLaw.Statement.{statement}
 
 lent_laws : (p : Ptr) (bs : List ℕ) (n : ℕ) → ShrLaws (raw_lent p bs n)
-lent_laws (block_ptr b o) bs n = beside_shr_laws _ _ (said_shr_laws (flt (length bs + n) (2 ^ 63)) tt) (elements_shr_laws u8 (uint_row_laws w8) bs b o)
+lent_laws (block_ptr b o) bs n = beside_shr_laws _ _ (said_shr_laws (flt (length bs + n) (2 ^ 63)) tt)
+    (elements_shr_laws u8 (uint_row_laws w8) bs b o)
 lent_laws null_ptr bs n = said_shr_laws ffalse tt
 
 module _ {M : Type 1} {𝓤 : Ura M} (𝓛 : Logic 𝓤) (l : Lft) where
@@ -37,8 +38,10 @@ module _ {M : Type 1} {𝓤 : Ura M} (𝓛 : Logic 𝓤) (l : Lft) where
 
   Lends-raw : (p : Ptr) (bs : List ℕ) (n : ℕ) → Lends 𝓛 (raw_owns p bs n) (raw_lent p bs n) l
   Lends-raw (block_ptr b o) bs n =
-      Lends-both 𝓛 (flt (length bs + n) (2 ^ 63)) (fsep (cells (mem u8) bs b o) (froom (bytes_type n) b (o + length bs))) (said (flt (length bs + n) (2 ^ 63))) (elements_shared u8 bs b o) l
-      (Lends-said 𝓛 (flt (length bs + n) (2 ^ 63)) tt l) (Lends-first 𝓛 (cells (mem u8) bs b o) (froom (bytes_type n) b (o + length bs)) (elements_shared u8 bs b o) l (Lends-bytes bs b o))
+      Lends-both 𝓛 (flt (length bs + n) (2 ^ 63)) (fsep (cells (mem u8) bs b o) (froom (bytes_type n) b (o + length bs)))
+      (said (flt (length bs + n) (2 ^ 63))) (elements_shared u8 bs b o) l
+      (Lends-said 𝓛 (flt (length bs + n) (2 ^ 63)) tt l)
+      (Lends-first 𝓛 (cells (mem u8) bs b o) (froom (bytes_type n) b (o + length bs)) (elements_shared u8 bs b o) l (Lends-bytes bs b o))
   Lends-raw null_ptr bs n = Lends-false 𝓛 (said ffalse) l
 
 pub shares : statement

@@ -43,15 +43,31 @@ more n pos = omega arith
 
 pub push_spec : {M : Type 1} → statement M
 push_spec 𝓤 𝓛 𝓜 𝓡 wired =
-    let c = f.clauses 𝓛 𝓜.mem 𝓡.returns in let W = walk_of 𝓛 f.ended stayed c in let 𝓣 = tables 𝓤 𝓛.H 𝓜 𝓡 𝓡.env in
-    proved 𝓛 f.ended stayed c 𝓜 𝓡 (Goes-ref 𝓛 1 0 tt (plain (λ _. R)), (Goes-dropped 𝓛 1 (plain (λ _. usize)) yes (λ κs x w. refl), (Goes-dropped 𝓛 1 (plain (λ _. u8)) yes (λ κs x w. refl), tt)))
+    let c = f.clauses 𝓛 𝓜.mem 𝓡.returns in
+    let W = walk_of 𝓛 f.ended stayed c in
+    let 𝓣 = tables 𝓤 𝓛.H 𝓜 𝓡 𝓡.env in
+    proved 𝓛 f.ended stayed c 𝓜 𝓡 (
+      Goes-ref 𝓛 1 0 tt (plain (λ _. R)),
+      (Goes-dropped 𝓛 1 (plain (λ _. usize)) yes (λ κs x w. refl), (Goes-dropped 𝓛 1 (plain (λ _. u8)) yes (λ κs x w. refl), tt)),
+    )
     f.Key.name code.function (code.unfolded 𝓤 𝓛.H 𝓜 𝓡 wired)
-    (λ κs. (mut_vals, (uint_vals w64, (uint_vals w8, tt)))) (λ κs. (mut_Tells (named 0) κs.0 R, (uint_Tells w64, (uint_Tells w8, tt)))) (λ κs qs bounds a g are.
-    let κ = κs.0 in let q = qs.0 in let rb = a.0.ref_ptr.0 in let ro = a.0.ref_ptr.1 in let h = a.0.now in let vs = mut_vals a.0 in
-    let at = a.1.0 in let byte = a.1.1.0 in let fits_at = are.1.0.1 in let fits_byte = are.1.1.0.1 in
+    (λ κs. (mut_vals, (uint_vals w64, (uint_vals w8, tt)))) (λ κs. (mut_Tells (named 0) κs.0 R, (uint_Tells w64, (uint_Tells w8, tt))))
+    (λ κs qs bounds a g are.
+    let κ = κs.0 in
+    let q = qs.0 in
+    let rb = a.0.ref_ptr.0 in
+    let ro = a.0.ref_ptr.1 in
+    let h = a.0.now in
+    let vs = mut_vals a.0 in
+    let at = a.1.0 in
+    let byte = a.1.1.0 in
+    let fits_at = are.1.0.1 in
+    let fits_byte = are.1.1.0.1 in
     let words : List Val × (List Val × (List Val × Unit {0})) = (vs, (vint w64 at ∷ [], (vint w8 byte ∷ [], tt))) in
     let y : W.Ghost = ((κs, qs, bounds, a, words), g) in
-    let bs = h.bytes in let k : ℕ = h.spare - 1 in let new : R.Denot = record { ptr = h.ptr; bytes = bs ++ byte ∷ []; spare = k } in
+    let bs = h.bytes in
+    let k : ℕ = h.spare - 1 in
+    let new : R.Denot = record { ptr = h.ptr; bytes = bs ++ byte ∷ []; spare = k } in
     let Asked : Type 0 = (at ≡ length bs) × (0 < h.spare) in
     qed 𝓛 (((‵ (flft κ q) ⊛ ‵ ftrue) ⊛ ‵ (owns (MutRef (named 0) κ R ∷ usize ∷ u8 ∷ []) a words)) ∷ raw (fact 𝓤 Asked) ∷ []) ∵
     move ! (1 ∷ []) $ heard ! Asked (λ asked.
@@ -64,7 +80,8 @@ push_spec 𝓤 𝓛 𝓜 𝓡 wired =
     let Cell = λ (ws : List Val). ‵ (cell_at full_share R.mir ws rb ro) in
     let long : length (bs ++ byte ∷ []) ≡ length bs + 1 = omega (arith, length-append bs (byte ∷ [])) in
     move ! (1 ∷ []) $ rewrite ! 0 (λ (n : ℕ). ‵ (froom (bytes_type n) b (o + length bs))) (more h.spare asked.1) refl $
-    use1 𝓛 (‵ (froom (ty_int w8) b (o + length bs)) ⊛ ‵ (froom (bytes_type k) b (o + length bs + 1))) (𝓛.laws.room_uncons (ty_int w8) k b (o + length bs)) $ split ! $
+    use1 𝓛 (‵ (froom (ty_int w8) b (o + length bs)) ⊛ ‵ (froom (bytes_type k) b (o + length bs + 1)))
+    (𝓛.laws.room_uncons (ty_int w8) k b (o + length bs)) $ split ! $
     -- [the byte's room; the rest of it; the bytes; the field; its cell; ..]
     let same : o + length bs ≡ at + o = omega (arith, asked.0) in rewrite ! 0 (λ (n : ℕ). ‵ (froom (ty_int w8) b n)) same refl $
     rewrite ! 4 Cell word refl $ first ! $ blocks ! $
@@ -76,10 +93,14 @@ push_spec 𝓤 𝓛 𝓜 𝓡 wired =
     rewrite ! 4 Cell (sym word) refl $
     use1 𝓛 (‵ (part_at u8 full_share byte b (at + o))) (uint_in 𝓛 full_share w8 byte b (at + o)) $ nothing ! $ move ! (1 ∷ 0 ∷ []) $ fjoin ! $
     move ! (2 ∷ 0 ∷ []) $ use2 𝓛 (‵ (Run b o (bs ++ byte ∷ []))) (glue 𝓛 b bs (byte ∷ []) o (at + o) (omega (arith, asked.0))) $ move ! (1 ∷ []) $
-    let far : o + length bs + 1 ≡ o + length (bs ++ byte ∷ []) = omega (arith, long) in let tight : length (bs ++ byte ∷ []) + k < 2 ^ 63 = omega (arith, long, small, asked.1) in
+    let far : o + length bs + 1 ≡ o + length (bs ++ byte ∷ []) = omega (arith, long) in
+    let tight : length (bs ++ byte ∷ []) + k < 2 ^ 63 = omega (arith, long, small, asked.1) in
     rewrite ! 0 (λ (n : ℕ). ‵ (froom (bytes_type k) b n)) far refl $ move ! (1 ∷ 0 ∷ []) $ fjoin ! $
     flt_i ! (length (bs ++ byte ∷ []) + k) (2 ^ 63) tight $ fjoin ! $
-    rewrite ! 0 (λ (p : Ptr). ‵ (raw_owns p (bs ++ byte ∷ []) k)) (sym e) refl $ move ! (1 ∷ []) $ fjoin ! $ move ! (1 ∷ []) $ closes ! tt R new us rb ro $
-    returns ! (look_at ! 0 refl) $ free_all ! refl $ keep ! (0 ∷ 1 ∷ 2 ∷ []) $ feq_i ! (List Val) (vunit ∷ []) (vunit ∷ []) refl $ move ! (1 ∷ 2 ∷ 3 ∷ 0 ∷ []) $
+    rewrite ! 0 (λ (p : Ptr). ‵ (raw_owns p (bs ++ byte ∷ []) k)) (sym e) refl $ move ! (1 ∷ []) $ fjoin ! $ move !
+    (1 ∷ []) $ closes ! tt R new us rb ro $
+    returns ! (look_at ! 0 refl) $ free_all ! refl $ keep ! (0 ∷ 1 ∷ 2 ∷ []) $ feq_i ! (List Val) (vunit ∷ [])
+    (vunit ∷ []) refl $ move ! (1 ∷ 2 ∷ 3 ∷ 0 ∷ []) $
     suffices ! _ (ends_at 𝓛 f.ended stayed c y vunit tt (new, (tt, (tt, tt))) (tt, (tt, (tt, tt)))) $ says ! (refl, refl, omega (arith, asked.1)) $
-    nothing ! $ move ! (3 ∷ 0 ∷ []) $ join ! $ frame ! $ feq_i ! (List Val) vs vs refl $ fjoin3 ! $ nothing ! $ nothing ! $ fjoin ! $ nothing ! $ fjoin ! $ move ! (1 ∷ 0 ∷ []) $ fjoin ! $ done !)))))))
+    nothing ! $ move ! (3 ∷ 0 ∷ []) $ join ! $ frame ! $ feq_i ! (List Val) vs vs refl $ fjoin3 ! $ nothing ! $
+    nothing ! $ fjoin ! $ nothing ! $ fjoin ! $ move ! (1 ∷ 0 ∷ []) $ fjoin ! $ done !)))))))

@@ -36,19 +36,39 @@ abbrev R : RattleType
 R = H-type.the_row
 
 abbrev stayed : Stays f.ended.signature.params f.ended.kept
-stayed = (stay_dropped (RefOf (0 ∷ []) tt (plain (λ _. R)) (λ _. tt)) yes, (stay_dropped (plain (λ _. usize)) yes, (stay_dropped (plain (λ _. usize)) yes, tt)))
+stayed = (
+  stay_dropped (RefOf (0 ∷ []) tt (plain (λ _. R)) (λ _. tt)) yes,
+  (stay_dropped (plain (λ _. usize)) yes, (stay_dropped (plain (λ _. usize)) yes, tt)),
+)
 
 pub slice_spec : {M : Type 1} → statement M
 slice_spec 𝓤 𝓛 𝓜 𝓡 wired =
-    let c = f.clauses 𝓛 𝓜.mem 𝓡.returns in let W = walk_of 𝓛 f.ended stayed c in let 𝓣 = tables 𝓤 𝓛.H 𝓜 𝓡 𝓡.env in
-    proved 𝓛 f.ended stayed c 𝓜 𝓡 (Goes-dropped 𝓛 1 (RefOf (0 ∷ []) tt (plain (λ _. R)) (λ _. tt)) yes (λ κs x w. refl), (Goes-dropped 𝓛 1 (plain (λ _. usize)) yes (λ κs x w. refl), (Goes-dropped 𝓛 1 (plain (λ _. usize)) yes (λ κs x w. refl), tt)))
+    let c = f.clauses 𝓛 𝓜.mem 𝓡.returns in
+    let W = walk_of 𝓛 f.ended stayed c in
+    let 𝓣 = tables 𝓤 𝓛.H 𝓜 𝓡 𝓡.env in
+    proved 𝓛 f.ended stayed c 𝓜 𝓡 (
+      Goes-dropped 𝓛 1 (RefOf (0 ∷ []) tt (plain (λ _. R)) (λ _. tt)) yes (λ κs x w. refl),
+      (Goes-dropped 𝓛 1 (plain (λ _. usize)) yes (λ κs x w. refl), (Goes-dropped 𝓛 1 (plain (λ _. usize)) yes (λ κs x w. refl), tt)),
+    )
     f.Key.name code.function (code.unfolded 𝓤 𝓛.H 𝓜 𝓡 wired)
-    (λ κs. (shr_vals, (uint_vals w64, (uint_vals w64, tt)))) (λ κs. (shr_Tells (named 0) κs.0 R, (uint_Tells w64, (uint_Tells w64, tt)))) (λ κs qs bounds a g are.
-    let κ = κs.0 in let q = qs.0 in let rb = a.0.ref_ptr.0 in let ro = a.0.ref_ptr.1 in let h = a.0.now in let vs = shr_vals a.0 in
-    let at = a.1.0 in let n = a.1.1.0 in let fits_at = are.1.0.1 in let fits_n = are.1.1.0.1 in
+    (λ κs. (shr_vals, (uint_vals w64, (uint_vals w64, tt)))) (λ κs. (shr_Tells (named 0) κs.0 R, (uint_Tells w64, (uint_Tells w64, tt))))
+    (λ κs qs bounds a g are.
+    let κ = κs.0 in
+    let q = qs.0 in
+    let rb = a.0.ref_ptr.0 in
+    let ro = a.0.ref_ptr.1 in
+    let h = a.0.now in
+    let vs = shr_vals a.0 in
+    let at = a.1.0 in
+    let n = a.1.1.0 in
+    let fits_at = are.1.0.1 in
+    let fits_n = are.1.1.0.1 in
     let words : List Val × (List Val × (List Val × Unit {0})) = (vs, (vint w64 at ∷ [], (vint w64 n ∷ [], tt))) in
     let y : W.Ghost = ((κs, qs, bounds, a, words), g) in
-    let p : Ptr = h.ptr in let bs = h.bytes in let ys : List ℕ = part bs at n in let place : ℕ × ℕ = (block_of p, at + count_of p) in
+    let p : Ptr = h.ptr in
+    let bs = h.bytes in
+    let ys : List ℕ = part bs at n in
+    let place : ℕ × ℕ = (block_of p, at + count_of p) in
     let Asked : Type 0 = at + n ≤ length bs in
     qed 𝓛 (((‵ (flft κ q) ⊛ ‵ ftrue) ⊛ ‵ (owns (ShrRef (named 0) κ R ∷ usize ∷ usize ∷ []) a words)) ∷ raw (fact 𝓤 Asked) ∷ []) ∵
     move ! (1 ∷ []) $ heard ! Asked (λ within.
@@ -74,5 +94,6 @@ slice_spec 𝓤 𝓛 𝓜 𝓡 wired =
     use1 𝓛 (‵ (elements_shared u8 ys place.0 place.1 κ)) (shared_take 𝓛 place.0 κ n (drop_l at bs) place.1) $ hide ! $
     flt_i ! (length ys * 1) (2 ^ 63) (omega arith) $ flt_i ! (length ys) (2 ^ 64) (omega arith) $ fjoin ! $
     feq_i ! (List Val) (slice_val place n ∷ []) (slice_val place (length ys) ∷ []) (ap (λ k. slice_val place k ∷ []) (sym long)) $ fjoin ! $ fjoin ! $
-    keep ! (1 ∷ 0 ∷ []) $ suffices ! _ (ends_at 𝓛 f.ended stayed c y (slice_val place n) (record { ref_ptr = place; now = ys }) (tt, (tt, (tt, tt))) (tt, (tt, (tt, tt)))) $ says ! refl $
+    keep ! (1 ∷ 0 ∷ []) $ suffices ! _ (ends_at 𝓛 f.ended stayed c y (slice_val place n) (record { ref_ptr = place; now = ys })
+    (tt, (tt, (tt, tt))) (tt, (tt, (tt, tt)))) $ says ! refl $
     nothing ! $ move ! (1 ∷ 0 ∷ []) $ join ! $ frame ! $ nothing ! $ nothing ! $ fjoin ! $ nothing ! $ fjoin ! $ nothing ! $ fjoin ! $ done !))))))

@@ -86,7 +86,8 @@ returns-in-Err-clause-stop g c =
 
 -- the area was written, and the selector was not
 unsure : (g : Over) (c : goal.After-self-in-Err-write_durably-1 g) → let d = g.D.Device in let i = c.self.inside in
-    let x = current_after c.args.how c.args.cur.now i.saved in let y = saved_after c.args.how c.args.cur.now i.saved in
+    let x = current_after c.args.how c.args.cur.now i.saved in
+    let y = saved_after c.args.how c.args.cur.now i.saved in
     UnsureFile d.medium (let f : FileState g.row.D.Denot = record {
       device = i.device;
       area = i.area;
@@ -189,7 +190,8 @@ returns-in-Err-write_durably-clause-stop g c =
 
 -- both were written
 selected : (g : Over) (c : goal.After-go_on g) → let d = g.D.Device in let i = c.self.inside in
-    let x = current_after c.args.how c.args.cur.now i.saved in let y = saved_after c.args.how c.args.cur.now i.saved in
+    let x = current_after c.args.how c.args.cur.now i.saved in
+    let y = saved_after c.args.how c.args.cur.now i.saved in
     SelectedFile d.medium (let f : FileState g.row.D.Denot = record {
       device = i.device;
       area = i.area;
