@@ -291,8 +291,7 @@ class Chunk(_Place):
 
     def read(self, at: int = 0, size: Optional[int] = None) -> bytes:
         """Its bytes from `at` on, so many or all."""
-        size = len(self) - at if size is None else size
-        return self._read("read", max(size, 0), sixteen(at))
+        return self._read("read", max(len(self) - at, 0) if size is None else size, sixteen(at))
 
     def write(self, at: int, content: Data) -> None:
         """Copies bytes over those from `at` on."""
