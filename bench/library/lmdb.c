@@ -48,13 +48,13 @@ int main(void) {
     put(RECORDS, LARGE);
     must(mdb_txn_commit(txn));
     must(mdb_txn_begin(env, NULL, MDB_RDONLY, &txn));
-    measure("lock", 1000000, lock);
-    measure("read_16", 500000, read_16);
-    measure("read_4096", 200000, read_4096);
+    measure("lock", 300000, lock);
+    measure("read_16", 200000, read_16);
+    measure("read_4096", 50000, read_4096);
     mdb_txn_abort(txn);
     must(mdb_txn_begin(env, NULL, 0, &txn));
-    measure("write_16", 300000, write_16);
-    measure("write_4096", 100000, write_4096);
+    measure("write_16", 100000, write_16);
+    measure("write_4096", 30000, write_4096);
     mdb_txn_abort(txn);
     measure("commit", 30, commit);
     return 0;

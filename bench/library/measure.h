@@ -6,7 +6,7 @@
 #include <string.h>
 #include <time.h>
 
-enum { RECORDS = 500, RECORD = 64, BATCH = 16, LARGE = 4096, ROUNDS = 7 };
+enum { RECORDS = 500, RECORD = 64, BATCH = 16, LARGE = 4096, ROUNDS = 5 };
 
 static double now(void) {
     struct timespec t;

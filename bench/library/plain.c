@@ -56,12 +56,12 @@ int main(void) {
     memset(large, 1, LARGE);
     memset(small, 1, RECORD);
     memset(records, 1, RECORDS * RECORD);
-    measure("make", 2000000, make_and_free);
-    measure("read_16", 2000000, read_16);
-    measure("write_16", 2000000, write_16);
-    measure("read_4096", 200000, read_4096);
-    measure("write_4096", 200000, write_4096);
-    measure("run", 2000000, run);
+    measure("make", 500000, make_and_free);
+    measure("read_16", 500000, read_16);
+    measure("write_16", 500000, write_16);
+    measure("read_4096", 50000, read_4096);
+    measure("write_4096", 50000, write_4096);
+    measure("run", 500000, run);
     measure("commit", 30, commit);
     return 0;
 }

@@ -61,12 +61,12 @@ int main(void) {
     for (int key = 2; key <= RECORDS; key++) put(key, RECORD);
     put(RECORDS + 1, LARGE);
     step(end);
-    measure("lock", 100000, lock);
+    measure("lock", 30000, lock);
     step(begin);
-    measure("read_16", 200000, read_16);
-    measure("read_4096", 100000, read_4096);
-    measure("write_16", 100000, write_16);
-    measure("write_4096", 50000, write_4096);
+    measure("read_16", 50000, read_16);
+    measure("read_4096", 30000, read_4096);
+    measure("write_16", 30000, write_16);
+    measure("write_4096", 20000, write_4096);
     step(end);
     measure("commit", 30, commit);
     return 0;
