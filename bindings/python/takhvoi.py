@@ -199,8 +199,8 @@ class Kernel:
 
     def load(self, image: Data) -> Image:
         """Loads an image, which the verifier checks."""
-        number, place, rule = U32(), ctypes.c_uint64(), U32()
-        status = library.takhvoi_load(self._raw, bytes(image), len(bytes(image)), number, place, rule)
+        given, number, place, rule = bytes(image), U32(), ctypes.c_uint64(), U32()
+        status = library.takhvoi_load(self._raw, given, len(given), number, place, rule)
         if status:
             raise Error(status, place.value if status in (BAD_IMAGE, REFUSED) else None, rule.value if status == REFUSED else None)
         return Image(self, number.value)
@@ -241,10 +241,10 @@ class LockedBlock:
 
     def make_chunk(self, content: Union[int, Data]) -> Chunk:
         """Makes a chunk with these bytes, or with so many zero bytes."""
-        size = content if isinstance(content, int) else len(content)
-        chunk = self.chunk(self._kernel._told("lalloc", self._given(), sixteen(size)))
+        given = bytes(sixteen(content)) if isinstance(content, int) else bytes(content)
+        chunk = self.chunk(self._kernel._told("lalloc", self._given(), sixteen(len(given))))
         if not isinstance(content, int):
-            chunk.write(0, content)
+            chunk.write(0, given)
         return chunk
 
     def make_array(self, element_size: int = 0) -> Array:
@@ -295,7 +295,8 @@ class Chunk(_Place):
 
     def write(self, at: int, content: Data) -> None:
         """Copies bytes over those from `at` on."""
-        self._call("write", sixteen(at), bytes(content), len(content))
+        given = bytes(content)
+        self._call("write", sixteen(at), given, len(given))
 
     def resize(self, size: int) -> None:
         """Gives it so many bytes: its first ones that fit, and zeros behind them."""
@@ -339,13 +340,14 @@ class Array(_Place):
 
     def write(self, index: int, at: int, content: Data) -> None:
         """Copies bytes over those of an element from `at` on."""
-        self._call("cawrite", sixteen(index), sixteen(at), bytes(content), len(content))
+        given = bytes(content)
+        self._call("cawrite", sixteen(index), sixteen(at), given, len(given))
 
     def append(self, content: Data) -> None:
         """Appends an element with these bytes."""
-        last = len(self)
-        self._call("caadd", sixteen(len(content)))
-        self.write(last, 0, content)
+        last, given = len(self), bytes(content)
+        self._call("caadd", sixteen(len(given)))
+        self.write(last, 0, given)
 
     def insert(self, index: int, size: int) -> None:
         """Inserts an element of zero bytes."""
