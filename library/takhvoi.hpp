@@ -61,12 +61,12 @@ struct Unlock {
 };
 struct Unload {
     std::uint32_t image;
-    void operator()(takhvoi_kernel *kernel) const noexcept { (void)!takhvoi_unload(kernel, image); }
+    void operator()(takhvoi_file *file) const noexcept { (void)!takhvoi_unload(&file->kernel, image); }
 };
 struct Close {
-    void operator()(takhvoi_kernel *kernel) const noexcept {
-        (void)takhvoi_close(kernel);
-        delete kernel;
+    void operator()(takhvoi_file *file) const noexcept {
+        (void)takhvoi_file_close(file);
+        delete file;
     }
 };
 
@@ -220,8 +220,8 @@ public:
         }
         return detail::told<Outcome>([&](Outcome *outcome) {
             outcome->words = words;
-            return takhvoi_run(kernel_, image_, routine_, outcome->words.data(), handles, room ? output : &none, room, &outcome->count,
-                               &outcome->steps);
+            return takhvoi_file_run(file_, image_, routine_, outcome->words.data(), handles, room ? output : &none, room, &outcome->count,
+                                    &outcome->steps);
         });
     }
     /// Runs it, and gives the words that it puts out, at most 1,024.
@@ -235,8 +235,8 @@ public:
 
 private:
     friend class Image;
-    Routine(takhvoi_kernel *kernel, std::uint32_t image, std::uint16_t routine) noexcept : kernel_(kernel), image_(image), routine_(routine) {}
-    takhvoi_kernel *kernel_;
+    Routine(takhvoi_file *file, std::uint32_t image, std::uint16_t routine) noexcept : file_(file), image_(image), routine_(routine) {}
+    takhvoi_file *file_;
     std::uint32_t image_;
     std::uint16_t routine_;
 };
@@ -248,18 +248,18 @@ public:
     Result<Routine> routine(std::string_view name) const & {
         Bytes bytes(name);
         auto found = detail::told<std::uint16_t>(
-            [&](std::uint16_t *number) { return takhvoi_routine(kernel_.get(), number_, bytes.data(), bytes.size(), number); });
+            [&](std::uint16_t *number) { return takhvoi_routine(&file_->kernel, number_, bytes.data(), bytes.size(), number); });
         if (!found) return found.fault();
         return routine_at(*found);
     }
-    Routine routine_at(std::uint16_t number) const & noexcept { return Routine(kernel_.get(), number_, number); }
+    Routine routine_at(std::uint16_t number) const & noexcept { return Routine(file_.get(), number_, number); }
     Result<Routine> routine(std::string_view) && = delete;
     Routine routine_at(std::uint16_t) && = delete;
 
 private:
     friend class Kernel;
-    Image(takhvoi_kernel *kernel, std::uint32_t number) noexcept : kernel_(kernel, {number}), number_(number) {}
-    std::unique_ptr<takhvoi_kernel, detail::Unload> kernel_;
+    Image(takhvoi_file *file, std::uint32_t number) noexcept : file_(file, {number}), number_(number) {}
+    std::unique_ptr<takhvoi_file, detail::Unload> file_;
     std::uint32_t number_;
 };
 
@@ -270,22 +270,18 @@ public:
 
     /// A kernel on a VM file in memory, which goes with it.
     static Result<Kernel> in_memory(std::uint32_t area, std::uint32_t region = region_of_1_mib) {
-        return opened([&](takhvoi_kernel *kernel, std::uint64_t *) { return takhvoi_new(kernel, area, region); });
+        return opened([&](takhvoi_file *file, std::uint64_t *) { return takhvoi_new(&file->kernel, area, region); });
     }
-    /// A kernel on a new VM file.
-    static Result<Kernel> create(std::string_view path, std::uint32_t area, std::uint32_t region = region_of_1_mib) {
-        Bytes bytes(path);
-        return opened(
-            [&](takhvoi_kernel *kernel, std::uint64_t *) { return takhvoi_create(kernel, bytes.data(), bytes.size(), area, region); });
+    /// A kernel on a new file of the system.
+    static Result<Kernel> create(const std::string &path, std::uint32_t area, std::uint32_t region = region_of_1_mib) {
+        return opened([&](takhvoi_file *file, std::uint64_t *) { return takhvoi_file_create(file, path.c_str(), area, region); });
     }
-    /// A kernel on a VM file that is there. Where it is none, the fault's place is the offset of the first faulty byte.
-    static Result<Kernel> open(std::string_view path, std::uint32_t region = region_of_1_mib) {
-        Bytes bytes(path);
-        return opened(
-            [&](takhvoi_kernel *kernel, std::uint64_t *place) { return takhvoi_open(kernel, bytes.data(), bytes.size(), region, place); });
+    /// A kernel on a file that is there. Where it is no VM file, the fault's place is the offset of the first faulty byte.
+    static Result<Kernel> open(const std::string &path, std::uint32_t region = region_of_1_mib) {
+        return opened([&](takhvoi_file *file, std::uint64_t *place) { return takhvoi_file_open(file, path.c_str(), region, place); });
     }
     /// The kernel as takhvoi.h has it.
-    takhvoi_kernel *get() const noexcept { return kernel_.get(); }
+    takhvoi_kernel *get() const noexcept { return &file_->kernel; }
 
     /// Makes a block of memory, and locks it.
     Result<LockedBlock> make_block() & {
@@ -359,9 +355,9 @@ public:
     Result<void> set_map_item(std::uint16_t group, std::uint16_t item) { return detail::ended(takhvoi_isetmap(get(), group, item)); }
 
     /// Commits, for which no block of the VM file is locked. Each happens whole or not at all.
-    Result<void> update() { return detail::ended(takhvoi_update(get())); }
-    Result<void> save() { return detail::ended(takhvoi_save(get())); }
-    Result<void> revert() { return detail::ended(takhvoi_revert(get())); }
+    Result<void> update() { return detail::ended(takhvoi_file_update(file_.get())); }
+    Result<void> save() { return detail::ended(takhvoi_file_save(file_.get())); }
+    Result<void> revert() { return detail::ended(takhvoi_file_revert(file_.get())); }
     /// Whether the VM file is sure of what it keeps. Where it is not, it takes no commit, and is opened again.
     Result<bool> is_sure() const {
         return flag([&](std::uint16_t *sure) { return takhvoi_is_sure(get(), sure); });
@@ -374,7 +370,7 @@ public:
         std::uint32_t number = 0;
         fault.status = takhvoi_load(get(), image.data(), image.size(), &number, &fault.place, &fault.rule);
         if (fault.status != TAKHVOI_DONE) return fault;
-        return Image(get(), number);
+        return Image(file_.get(), number);
     }
 
     // Of a temporary, which is closed at once, nothing is had.
@@ -385,12 +381,12 @@ public:
     Result<Image> load(Bytes) && = delete;
 
 private:
-    explicit Kernel(takhvoi_kernel *kernel) noexcept : kernel_(kernel) {}
+    explicit Kernel(takhvoi_file *file) noexcept : file_(file) {}
     template <typename Call> static Result<Kernel> opened(Call call) {
-        Kernel kernel(new (std::nothrow) takhvoi_kernel TAKHVOI_NONE);
-        if (!kernel.get()) return Fault{TAKHVOI_NO_MEMORY};
+        Kernel kernel(new (std::nothrow) takhvoi_file TAKHVOI_FILE_NONE);
+        if (!kernel.file_) return Fault{TAKHVOI_NO_MEMORY};
         Fault fault;
-        fault.status = call(kernel.get(), &fault.place);
+        fault.status = call(kernel.file_.get(), &fault.place);
         if (fault.status != TAKHVOI_DONE) return fault;
         return kernel;
     }
@@ -409,7 +405,7 @@ private:
         if (!is) return is.fault();
         return *is != 0;
     }
-    std::unique_ptr<takhvoi_kernel, detail::Close> kernel_;
+    std::unique_ptr<takhvoi_file, detail::Close> file_;
 };
 
 namespace detail {

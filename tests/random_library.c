@@ -27,7 +27,7 @@ typedef struct blocks {
 } blocks;
 
 static blocks memory, file, updated, saved;
-static takhvoi_kernel kernel = TAKHVOI_NONE;
+static takhvoi_file on = TAKHVOI_FILE_NONE;
 static const char *path;
 static long calls, done, refused;
 static uint32_t seed = 1;
@@ -90,7 +90,7 @@ static void make_block(int of_file) {
     int lowest = 1;
     while (lowest <= BLOCKS && all->at[lowest].is_there) lowest++;
     if (lowest > BLOCKS) return;
-    uint32_t status = of_file ? takhvoi_vnew(&kernel, user_id, &handle) : takhvoi_mnew(&kernel, &handle);
+    uint32_t status = of_file ? takhvoi_vnew(&on.kernel, user_id, &handle) : takhvoi_mnew(&on.kernel, &handle);
     if (!is_done("make a block", status, TAKHVOI_DONE, 1)) return;
     want("handle", handle == lowest);
     block *made = &all->at[handle];
@@ -102,17 +102,17 @@ static void make_block(int of_file) {
 }
 
 static void lock(target it) {
-    uint32_t status = it.of_file ? takhvoi_vlock(&kernel, it.handle) : takhvoi_mlock(&kernel, it.handle);
+    uint32_t status = it.of_file ? takhvoi_vlock(&on.kernel, it.handle) : takhvoi_mlock(&on.kernel, it.handle);
     int needs_room = it.of_file && !it.block->locks;
     if (is_done("lock", status, it.block->is_there ? TAKHVOI_DONE : TAKHVOI_BAD_HANDLE, needs_room)) it.block->locks++;
 }
 
 static void unlock(target it) {
-    if (is_done("unlock", takhvoi_unlock(&kernel, it.name), readable(it), 0)) it.block->locks--;
+    if (is_done("unlock", takhvoi_unlock(&on.kernel, it.name), readable(it), 0)) it.block->locks--;
 }
 
 static void free_block(target it) {
-    uint32_t status = it.of_file ? takhvoi_vfree(&kernel, it.handle) : takhvoi_mfree(&kernel, it.handle);
+    uint32_t status = it.of_file ? takhvoi_vfree(&on.kernel, it.handle) : takhvoi_mfree(&on.kernel, it.handle);
     uint32_t wanted = !it.block->is_there ? TAKHVOI_BAD_HANDLE : it.block->locks ? TAKHVOI_LOCKED : TAKHVOI_DONE;
     if (!is_done("free a block", status, wanted, 0)) return;
     it.block->is_there = it.block->is_marked = 0;
@@ -121,20 +121,20 @@ static void free_block(target it) {
 
 static void mark(target it) {
     if (!it.of_file) return;
-    if (is_done("mark", takhvoi_vdirty(&kernel, it.handle), readable(it), 0)) it.block->is_marked = 1;
+    if (is_done("mark", takhvoi_vdirty(&on.kernel, it.handle), readable(it), 0)) it.block->is_marked = 1;
 }
 
 static void set_map(target it) {
     if (!it.of_file) return;
     uint32_t wanted = it.block->is_there || it.handle == 0 ? TAKHVOI_DONE : TAKHVOI_BAD_HANDLE;
-    if (is_done("name the map block", takhvoi_vsetmap(&kernel, it.handle), wanted, 0)) file.map = it.handle;
+    if (is_done("name the map block", takhvoi_vsetmap(&on.kernel, it.handle), wanted, 0)) file.map = it.handle;
 }
 
 static void find(target it) {
     uint16_t user_id = (uint16_t)below(4), found = 0, wanted = 0;
     for (int h = BLOCKS; h > it.handle; h--)
         if (file.at[h].is_there && file.at[h].user_id == user_id) wanted = (uint16_t)h;
-    is_done("find", takhvoi_vfind(&kernel, it.handle, user_id, &found), TAKHVOI_DONE, 0);
+    is_done("find", takhvoi_vfind(&on.kernel, it.handle, user_id, &found), TAKHVOI_DONE, 0);
     want("block found", found == wanted);
 }
 
@@ -143,7 +143,7 @@ static void make_chunk(target it) {
     int lowest = 0;
     while (it.block->locks && lowest < CHUNKS && it.block->chunks[lowest].len >= 0) lowest++;
     if (lowest == CHUNKS) return;
-    if (!is_done("make a chunk", takhvoi_lalloc(&kernel, it.name, len, &handle), writable(it), 1)) return;
+    if (!is_done("make a chunk", takhvoi_lalloc(&on.kernel, it.name, len, &handle), writable(it), 1)) return;
     want("chunk", handle == chunk_handle(lowest));
     it.block->chunks[lowest].len = len;
     memset(it.block->chunks[lowest].bytes, 0, len);
@@ -156,7 +156,7 @@ static uint32_t chunk_status(uint32_t status, const chunk *it) {
 
 static void resize(target it, int index, chunk *c) {
     uint16_t len = (uint16_t)below(LONGEST);
-    uint32_t status = takhvoi_lrealloc(&kernel, it.name, chunk_handle(index), len);
+    uint32_t status = takhvoi_lrealloc(&on.kernel, it.name, chunk_handle(index), len);
     if (!is_done("resize", status, chunk_status(writable(it), c), 1)) return;
     if (len > c->len) memset(c->bytes + c->len, 0, (size_t)(len - c->len));
     c->len = len;
@@ -167,7 +167,7 @@ static void insert_bytes(target it, int index, chunk *c) {
     if (c->len + len > LONGEST) return;
     uint32_t wanted = chunk_status(writable(it), c);
     if (wanted == TAKHVOI_DONE && at > c->len) wanted = TAKHVOI_RANGE;
-    if (!is_done("insert", takhvoi_lins(&kernel, it.name, chunk_handle(index), at, len), wanted, 1)) return;
+    if (!is_done("insert", takhvoi_lins(&on.kernel, it.name, chunk_handle(index), at, len), wanted, 1)) return;
     memmove(c->bytes + at + len, c->bytes + at, (size_t)(c->len - at));
     memset(c->bytes + at, 0, len);
     c->len += len;
@@ -177,7 +177,7 @@ static void delete_bytes(target it, int index, chunk *c) {
     uint16_t at = (uint16_t)below(LONGEST), len = (uint16_t)below(40);
     uint32_t wanted = chunk_status(writable(it), c);
     if (wanted == TAKHVOI_DONE && at + len > c->len) wanted = TAKHVOI_RANGE;
-    if (!is_done("delete", takhvoi_ldel(&kernel, it.name, chunk_handle(index), at, len), wanted, 0)) return;
+    if (!is_done("delete", takhvoi_ldel(&on.kernel, it.name, chunk_handle(index), at, len), wanted, 0)) return;
     memmove(c->bytes + at, c->bytes + at + len, (size_t)(c->len - at - len));
     c->len -= len;
 }
@@ -188,7 +188,7 @@ static void write_bytes(target it, int index, chunk *c) {
     for (int i = 0; i < len; i++) bytes[i] = (uint8_t)below(256);
     uint32_t wanted = chunk_status(writable(it), c);
     if (wanted == TAKHVOI_DONE && at + len > c->len) wanted = TAKHVOI_SHORT;
-    if (is_done("write", takhvoi_write(&kernel, it.name, chunk_handle(index), at, bytes, len), wanted, 0)) memcpy(c->bytes + at, bytes, len);
+    if (is_done("write", takhvoi_write(&on.kernel, it.name, chunk_handle(index), at, bytes, len), wanted, 0)) memcpy(c->bytes + at, bytes, len);
 }
 
 static void read_bytes(target it, int index, chunk *c) {
@@ -196,12 +196,12 @@ static void read_bytes(target it, int index, chunk *c) {
     uint16_t at = (uint16_t)below(LONGEST), len = (uint16_t)below(LONGEST / 2);
     uint32_t wanted = chunk_status(readable(it), c);
     if (wanted == TAKHVOI_DONE && at + len > c->len) wanted = TAKHVOI_SHORT;
-    if (is_done("read", takhvoi_read(&kernel, it.name, chunk_handle(index), at, bytes, len), wanted, 0))
+    if (is_done("read", takhvoi_read(&on.kernel, it.name, chunk_handle(index), at, bytes, len), wanted, 0))
         want("byte", memcmp(bytes, c->bytes + at, len) == 0);
 }
 
 static void free_chunk(target it, int index, chunk *c) {
-    if (is_done("free a chunk", takhvoi_lfree(&kernel, it.name, chunk_handle(index)), chunk_status(writable(it), c), 0)) c->len = -1;
+    if (is_done("free a chunk", takhvoi_lfree(&on.kernel, it.name, chunk_handle(index)), chunk_status(writable(it), c), 0)) c->len = -1;
 }
 
 static void on_chunk(target it, uint32_t which) {
@@ -217,9 +217,9 @@ static void compare_block(takhvoi_block name, const block *it) {
     for (int c = 0; c < CHUNKS; c++) {
         uint16_t len = 0;
         uint32_t wanted = it->chunks[c].len < 0 ? TAKHVOI_BAD_CHUNK : TAKHVOI_DONE;
-        if (!is_done("length", takhvoi_lsize(&kernel, name, chunk_handle(c), &len), wanted, 0)) continue;
+        if (!is_done("length", takhvoi_lsize(&on.kernel, name, chunk_handle(c), &len), wanted, 0)) continue;
         want("length", len == it->chunks[c].len);
-        is_done("read all", takhvoi_read(&kernel, name, chunk_handle(c), 0, bytes, len), TAKHVOI_DONE, 0);
+        is_done("read all", takhvoi_read(&on.kernel, name, chunk_handle(c), 0, bytes, len), TAKHVOI_DONE, 0);
         want("byte of all", memcmp(bytes, it->chunks[c].bytes, len) == 0);
     }
 }
@@ -229,9 +229,9 @@ static void compare(int of_file) {
         block *it = &(of_file ? &file : &memory)->at[h];
         target here = {of_file, h, it, of_file ? TAKHVOI_VM(h) : h};
         uint16_t locks = 0, marked = 0;
-        is_done("locks", takhvoi_locks(&kernel, here.name, &locks), TAKHVOI_DONE, 0);
+        is_done("locks", takhvoi_locks(&on.kernel, here.name, &locks), TAKHVOI_DONE, 0);
         want("count of locks", locks == it->locks);
-        if (of_file) is_done("marked", takhvoi_marked(&kernel, h, &marked), TAKHVOI_DONE, 0);
+        if (of_file) is_done("marked", takhvoi_marked(&on.kernel, h, &marked), TAKHVOI_DONE, 0);
         want("mark", marked == it->is_marked);
         lock(here);
         if (!it->locks) continue;
@@ -253,7 +253,7 @@ static void commit(void) {
         for (uint16_t h = 0; h <= BLOCKS; h++)
             if (file.at[h].locks) unlock((target){1, h, &file.at[h], TAKHVOI_VM(h)});
     uint32_t which = below(3), wanted = is_locked() ? TAKHVOI_FILE_LOCKED : TAKHVOI_DONE;
-    uint32_t status = which == 0 ? takhvoi_update(&kernel) : which == 1 ? takhvoi_save(&kernel) : takhvoi_revert(&kernel);
+    uint32_t status = which == 0 ? takhvoi_file_update(&on) : which == 1 ? takhvoi_file_save(&on) : takhvoi_file_revert(&on);
     if (!is_done("commit", status, wanted, 0)) return;
     if (which == 2) file = saved;
     for (int h = 0; h <= BLOCKS; h++) file.at[h].is_marked = 0;
@@ -265,11 +265,11 @@ static void commit(void) {
 static void open_again(void) {
     uint64_t fault;
     uint16_t map = 0;
-    is_done("close", takhvoi_close(&kernel), TAKHVOI_DONE, 0);
-    is_done("open", takhvoi_open(&kernel, (const uint8_t *)path, strlen(path), REGION, &fault), TAKHVOI_DONE, 0);
+    is_done("close", takhvoi_file_close(&on), TAKHVOI_DONE, 0);
+    is_done("open", takhvoi_file_open(&on, path, REGION, &fault), TAKHVOI_DONE, 0);
     memset(&memory, 0, sizeof memory);
     file = updated;
-    is_done("map block", takhvoi_vgetmap(&kernel, &map), TAKHVOI_DONE, 0);
+    is_done("map block", takhvoi_vgetmap(&on.kernel, &map), TAKHVOI_DONE, 0);
     want("map block", map == file.map);
 }
 
@@ -290,7 +290,7 @@ static void call(void) {
 int main(int argc, char **argv) {
     if (argc != 3) return 2;
     path = argv[1];
-    is_done("create", takhvoi_create(&kernel, (const uint8_t *)path, strlen(path), AREA, REGION), TAKHVOI_DONE, 0);
+    is_done("create", takhvoi_file_create(&on, path, AREA, REGION), TAKHVOI_DONE, 0);
     for (calls = 0; calls < atol(argv[2]); calls++) {
         call();
         if (calls % EVERY == 0) {
@@ -300,7 +300,7 @@ int main(int argc, char **argv) {
         }
         if (calls % (16 * EVERY) == 0) open_again();
     }
-    is_done("close", takhvoi_close(&kernel), TAKHVOI_DONE, 0);
+    is_done("close", takhvoi_file_close(&on), TAKHVOI_DONE, 0);
     printf("%ld calls, each as the model has it: %s\n", calls, done > refused / 4 && refused > done / 16 ? "some refused" : "few of a kind");
     if (getenv("COUNTS")) fprintf(stderr, "%ld done, %ld refused\n", done, refused);
     return 0;

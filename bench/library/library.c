@@ -2,7 +2,8 @@
 #include "measure.h"
 #include "takhvoi.h"
 
-static takhvoi_kernel kernel = TAKHVOI_NONE, kept = TAKHVOI_NONE;
+static takhvoi_kernel kernel = TAKHVOI_NONE;
+static takhvoi_file kept = TAKHVOI_FILE_NONE;
 static uint16_t block, of_file, large, record, records, chunks[RECORDS];
 static uint32_t image;
 static uint8_t bytes[LARGE];
@@ -39,11 +40,11 @@ static void run(void) {
 }
 
 static void commit(void) {
-    must(takhvoi_vlock(&kept, records));
-    must(takhvoi_vdirty(&kept, records));
-    for (int i = 0; i < BATCH; i++) must(takhvoi_write(&kept, TAKHVOI_VM(records), chunks[below(RECORDS)], 0, bytes, RECORD));
-    must(takhvoi_unlock(&kept, TAKHVOI_VM(records)));
-    must(takhvoi_update(&kept));
+    must(takhvoi_vlock(&kept.kernel, records));
+    must(takhvoi_vdirty(&kept.kernel, records));
+    for (int i = 0; i < BATCH; i++) must(takhvoi_write(&kept.kernel, TAKHVOI_VM(records), chunks[below(RECORDS)], 0, bytes, RECORD));
+    must(takhvoi_unlock(&kept.kernel, TAKHVOI_VM(records)));
+    must(takhvoi_file_update(&kept));
 }
 
 static void load(void) {
@@ -56,11 +57,11 @@ static void load(void) {
 }
 
 static void make_records(void) {
-    must(takhvoi_create(&kept, (const uint8_t *)"library.vm", 10, 1 << 17, 1 << 20));
-    must(takhvoi_vnew(&kept, 1, &records));
-    for (int i = 0; i < RECORDS; i++) must(takhvoi_lalloc(&kept, TAKHVOI_VM(records), RECORD, &chunks[i]));
-    must(takhvoi_unlock(&kept, TAKHVOI_VM(records)));
-    must(takhvoi_save(&kept));
+    must(takhvoi_file_create(&kept, "library.vm", 1 << 17, 1 << 20));
+    must(takhvoi_vnew(&kept.kernel, 1, &records));
+    for (int i = 0; i < RECORDS; i++) must(takhvoi_lalloc(&kept.kernel, TAKHVOI_VM(records), RECORD, &chunks[i]));
+    must(takhvoi_unlock(&kept.kernel, TAKHVOI_VM(records)));
+    must(takhvoi_file_save(&kept));
 }
 
 int main(void) {
@@ -81,6 +82,6 @@ int main(void) {
     measure("write_4096", 50000, write_4096);
     measure("run", 200000, run);
     measure("commit", 30, commit);
-    takhvoi_close(&kept);
+    takhvoi_file_close(&kept);
     return takhvoi_close(&kernel) == TAKHVOI_DONE ? 0 : 1;
 }

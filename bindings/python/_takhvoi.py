@@ -31,16 +31,17 @@ TEXTS = {
     103: "a block of the VM file is locked",
     104: "a kernel is open already",
     105: "a size or range is past its limits",
-    106: "no such file or folder",
-    107: "the file is there already",
-    108: "another has the file's lock",
-    109: "the system refuses the file",
+    106: "the host has not performed what is noted",
     110: "no VM file",
     111: "there is no memory",
     112: "no image, or a faulty text",
     113: "the verifier refuses",
     114: "no such image or routine, or it takes other words or blocks",
     115: "the buffer is too short",
+    200: "no such file or folder",
+    201: "the file is there already",
+    202: "another has the file's lock",
+    203: "the system refuses the file",
 }
 
 
@@ -59,17 +60,23 @@ class Error(Exception):
         super().__init__(self.text + beside)
 
 
-class RawKernel(ctypes.Structure):
+class _Kernel(ctypes.Structure):
     _fields_ = [("at", ctypes.c_void_p), ("live", ctypes.c_uint32)]
+
+
+class RawFile(ctypes.Structure):
+    """A kernel on a file of the system, or on none; its kernel is where it begins."""
+
+    _fields_ = [("kernel", _Kernel), ("fd", ctypes.c_int), ("next", ctypes.c_uint32)]
 
 
 U16, U32, _SIZE = ctypes.c_uint16, ctypes.c_uint32, ctypes.c_size_t
 _OUT16, _OUT32, _OUT64 = (ctypes.POINTER(it) for it in (U16, U32, ctypes.c_uint64))
-_KERNEL, _BYTES, _ROOM = ctypes.POINTER(RawKernel), ctypes.c_char_p, ctypes.POINTER(ctypes.c_uint8)
+_KERNEL, _BYTES, _ROOM = ctypes.POINTER(RawFile), ctypes.c_char_p, ctypes.POINTER(ctypes.c_uint8)
 
 # What calls take behind the kernel, and the names of these calls.
 _CALLS = {
-    (): "close update save revert",
+    (): "file_close file_update file_save file_revert",
     (U16,): "mlock mfree vlock vdirty vfree vsetmap gfree",
     (U32,): "unlock lcontract unload",
     (_OUT16,): "is_sure mnew vgetmap gnew",
@@ -86,15 +93,15 @@ _CALLS = {
     (U16, U16, U16, U16): "iins idel",
     (U32, U16, U16, U16): "lins ldel cains caresize",
     (U32, U16, U16, _OUT16): "casize",
-    (_BYTES, _SIZE, U32, U32): "create",
-    (_BYTES, _SIZE, U32, _OUT64): "open",
+    (_BYTES, U32, U32): "file_create",
+    (_BYTES, U32, _OUT64): "file_open",
     (U32, _BYTES, _SIZE, _OUT16): "routine",
     (U32, U16, U16, _ROOM, _SIZE): "read",
     (U32, U16, U16, _BYTES, _SIZE): "write",
     (U32, U16, U16, U16, _ROOM, _SIZE): "caread",
     (U32, U16, U16, U16, _BYTES, _SIZE): "cawrite",
     (_BYTES, _SIZE, _OUT32, _OUT64, _OUT32): "load",
-    (U32, U16, _OUT16, _OUT16, _OUT16, _SIZE, _OUT32, _OUT32): "run",
+    (U32, U16, _OUT16, _OUT16, _OUT16, _SIZE, _OUT32, _OUT32): "file_run",
 }
 _TEXT_CALLS = "assemble list explain"
 

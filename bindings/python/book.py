@@ -10,7 +10,7 @@ from takhvoi import Error, Kernel, LockedBlock
 USER_ID = 1
 # The chunk that has the array: the first one of a new block.
 ENTRIES = 16
-NO_FILE, BAD_IMAGE, REFUSED, NOT_ADMITTED = 106, 112, 113, 114
+NO_FILE, BAD_IMAGE, REFUSED, NOT_ADMITTED = 200, 112, 113, 114
 
 
 def open_book(path: str) -> Kernel:

@@ -21,7 +21,7 @@ from types import TracebackType
 from typing import NamedTuple, Optional, Union
 
 from _takhvoi import BAD_FILE, BAD_IMAGE, NOT_ADMITTED, NOT_LOCKED, REFUSED, SHORT_BUFFER, U16, U32
-from _takhvoi import Error, RawKernel, bytes_of, library, room, sixteen
+from _takhvoi import Error, RawFile, bytes_of, library, room, sixteen
 
 __all__ = ["Array", "Chunk", "Error", "Image", "Kernel", "LockedBlock", "Outcome", "assemble", "explain", "list_image"]
 
@@ -29,13 +29,22 @@ REGION = 1 << 20
 AREA = 1 << 16
 
 Data = Union[bytes, bytearray, memoryview]
+Path = Union[str, bytes, "os.PathLike[str]"]
+
+
+def _spelled(path: Path) -> bytes:
+    """A path as C has it."""
+    spelled = os.fsencode(path)
+    if b"\0" in spelled:
+        raise ValueError("a path has a zero byte")
+    return spelled
 
 
 class Kernel:
     """A kernel, with its VM file. It is closed by `with`, `close` or when it goes, and what no commit has kept is lost."""
 
     def __init__(self) -> None:
-        self._raw = RawKernel()
+        self._raw = RawFile()
 
     @classmethod
     def in_memory(cls, area: int = AREA, region: int = REGION) -> Kernel:
@@ -45,24 +54,24 @@ class Kernel:
         return kernel
 
     @classmethod
-    def create(cls, path: Union[str, bytes, os.PathLike], area: int = AREA, region: int = REGION) -> Kernel:
+    def create(cls, path: Path, area: int = AREA, region: int = REGION) -> Kernel:
         """A kernel on a new VM file, whose lock it has until it is closed."""
-        kernel, name = cls(), os.fsencode(path)
-        kernel._call("create", name, len(name), bytes_of(area), bytes_of(region))
+        kernel = cls()
+        kernel._call("file_create", _spelled(path), bytes_of(area), bytes_of(region))
         return kernel
 
     @classmethod
-    def open(cls, path: Union[str, bytes, os.PathLike], region: int = REGION) -> Kernel:
+    def open(cls, path: Path, region: int = REGION) -> Kernel:
         """A kernel on a VM file that is there."""
-        kernel, name, place = cls(), os.fsencode(path), ctypes.c_uint64()
-        status = library.takhvoi_open(kernel._raw, name, len(name), bytes_of(region), place)
+        kernel, place = cls(), ctypes.c_uint64()
+        status = library.takhvoi_file_open(kernel._raw, _spelled(path), bytes_of(region), place)
         if status:
             raise Error(status, place.value if status == BAD_FILE else None)
         return kernel
 
     def close(self) -> None:
         """Closes it. A later call raises an Error."""
-        library.takhvoi_close(self._raw)
+        library.takhvoi_file_close(self._raw)
 
     def __enter__(self) -> Kernel:
         return self
@@ -183,15 +192,15 @@ class Kernel:
 
     def update(self) -> None:
         """Commits what has changed; a revert takes it back until the next save. No block of the VM file is locked."""
-        self._call("update")
+        self._call("file_update")
 
     def save(self) -> None:
         """Commits what has changed for good. No block of the VM file is locked."""
-        self._call("save")
+        self._call("file_save")
 
     def revert(self) -> None:
         """Goes back to what was last saved. No block of the VM file is locked."""
-        self._call("revert")
+        self._call("file_revert")
 
     def is_sure(self) -> bool:
         """Whether the VM file is sure of what it keeps. Where it is not, it takes no commit, and is opened again."""
@@ -417,7 +426,7 @@ class Image:
         given = (U16 * 8)(*map(sixteen, words))
         handles = (U16 * 4)(*(0 if it is None else it._given() - 65536 for it in lent))
         output, count, steps = (U16 * max(bytes_of(room), 1))(), U32(), U32()
-        self._kernel._call("run", self._given(), number, given, handles, output, room, count, steps)
+        self._kernel._call("file_run", self._given(), number, given, handles, output, room, count, steps)
         return Outcome(list(given), output[: min(count.value, room)], steps.value)
 
 

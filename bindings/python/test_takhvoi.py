@@ -167,7 +167,7 @@ class Files(unittest.TestCase):
                 with kernel.make_file_block(9) as block:
                     block.make_chunk(b"kept")
                 kernel.save()
-                for call, number in ((Kernel.open, 108), (Kernel.create, 107)):
+                for call, number in ((Kernel.open, 202), (Kernel.create, 201)):
                     with self.assertRaises(Error) as refused:
                         call(path)
                     self.assertEqual(refused.exception.number, number)
@@ -189,8 +189,10 @@ class Files(unittest.TestCase):
 class Header(unittest.TestCase):
     @unittest.skipUnless("TAKHVOI_HEADER" in os.environ, "TAKHVOI_HEADER is not set")
     def test_says_the_same(self) -> None:
-        with open(os.environ["TAKHVOI_HEADER"], encoding="ascii") as file:
-            header = re.sub(r"/\*.*?\*/", "", file.read(), flags=re.S)
+        header = ""
+        for path in (os.environ["TAKHVOI_HEADER"], os.environ["TAKHVOI_HEADER"].replace("takhvoi.h", "takhvoi_file.h")):
+            with open(path, encoding="ascii") as file:
+                header += re.sub(r"/\*.*?\*/", "", file.read(), flags=re.S)
         numbers = {name: int(number) for name, number in re.findall(r"TAKHVOI_(\w+) = (\d+)", header)}
         texts = {numbers[name]: text for name, text in re.findall(r'case TAKHVOI_(\w+): return "(.*?)";', header)}
         del texts[0]
@@ -199,7 +201,9 @@ class Header(unittest.TestCase):
             self.assertEqual(numbers[name], getattr(_takhvoi, name))
         declared = set(re.findall(r"uint32_t takhvoi_(\w+)\(", header))
         called = {name for names in [*_takhvoi._CALLS.values(), _takhvoi._TEXT_CALLS, "abi"] for name in names.split()}
-        self.assertEqual(declared, called)
+        # What stands on these in the file's calls.
+        below = {"close", "update", "save", "revert", "create", "open", "run", "step", "step_bytes", "performed", "file_flush"}
+        self.assertEqual(declared - below, called)
 
 
 if __name__ == "__main__":

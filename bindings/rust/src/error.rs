@@ -107,13 +107,14 @@ refusals! {
     FileLocked 103 "a block of the VM file is locked";
     HasKernel 104 "a kernel is open already";
     BadSize 105 "a size or range is past its limits";
-    NoFile 106 "no such file or folder";
-    FileIsThere 107 "the file is there already";
-    FileInUse 108 "another has the file's lock";
-    NoAccess 109 "the system refuses the file";
+    Pending 106 "the host has not performed what is noted";
     NoMemory 111 "there is no memory";
     NotAdmitted 114 "no such image or routine, or it takes other words or blocks";
     ShortBuffer 115 "the buffer is too short";
+    NoFile 200 "no such file or folder";
+    FileIsThere 201 "the file is there already";
+    FileInUse 202 "another has the file's lock";
+    NoAccess 203 "the system refuses the file";
 }
 
 impl fmt::Display for Error {

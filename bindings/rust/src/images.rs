@@ -91,7 +91,9 @@ impl Kernel {
         let (own, handles) = (self.own(routine.image)?, handles_of(self, lent)?);
         let (mut words, mut count, mut steps) = (words, 0, 0);
         let (into, room) = (output.as_mut_ptr(), output.len());
-        done(unsafe { raw::takhvoi_run(self.raw(), own, routine.number, words.as_mut_ptr(), handles.as_ptr(), into, room, &mut count, &mut steps) })?;
+        done(unsafe {
+            raw::takhvoi_file_run(self.file(), own, routine.number, words.as_mut_ptr(), handles.as_ptr(), into, room, &mut count, &mut steps)
+        })?;
         Ok(Outcome { words, count: count as usize, steps })
     }
 

@@ -2,8 +2,9 @@
 
 use crate::blocks::Locked;
 use crate::error::{done, Error, Result};
-use crate::raw::{self, Raw};
+use crate::raw::{self, RawFile, RawKernel};
 use std::cell::UnsafeCell;
+use std::ffi::CString;
 use std::ops::Deref;
 use std::os::unix::ffi::OsStrExt;
 use std::path::Path;
@@ -52,7 +53,7 @@ impl Default for Sizes {
 
 /// A kernel. It goes to other threads, and is used by one at a time. When it goes, it is closed, and what no commit has kept is lost.
 pub struct Kernel {
-    raw: UnsafeCell<Raw>,
+    file: UnsafeCell<RawFile>,
     pub(crate) serial: u64,
 }
 
@@ -67,8 +68,13 @@ impl std::fmt::Debug for Kernel {
 
 impl Drop for Kernel {
     fn drop(&mut self) {
-        unsafe { raw::takhvoi_close(self.raw()) };
+        unsafe { raw::takhvoi_file_close(self.file()) };
     }
+}
+
+/// A path as C has it; no file has a name with a zero byte.
+fn spelled(path: &Path) -> Result<CString> {
+    CString::new(path.as_os_str().as_bytes()).map_err(|_| Error::NoFile)
 }
 
 /// What a call tells of one number, where it is done.
@@ -84,7 +90,7 @@ impl Kernel {
         if abi != raw::ABI {
             return Err(Error::OtherInterface);
         }
-        Ok(Kernel { raw: UnsafeCell::new(Raw::NONE), serial: NEXT.fetch_add(1, Ordering::Relaxed) })
+        Ok(Kernel { file: UnsafeCell::new(RawFile::NONE), serial: NEXT.fetch_add(1, Ordering::Relaxed) })
     }
 
     /// A kernel on a VM file in memory, which goes with it.
@@ -94,28 +100,30 @@ impl Kernel {
         Ok(kernel)
     }
 
-    /// A kernel on a new VM file, whose lock it has until it goes.
+    /// A kernel on a new file of the system, whose lock it has until it goes.
     pub fn create(path: impl AsRef<Path>, sizes: Sizes) -> Result<Kernel> {
-        let kernel = Kernel::none()?;
-        let path = path.as_ref().as_os_str().as_bytes();
-        done(unsafe { raw::takhvoi_create(kernel.raw(), path.as_ptr(), path.len(), sizes.area, sizes.region) })?;
+        let (kernel, path) = (Kernel::none()?, spelled(path.as_ref())?);
+        done(unsafe { raw::takhvoi_file_create(kernel.file(), path.as_ptr(), sizes.area, sizes.region) })?;
         Ok(kernel)
     }
 
-    /// A kernel on a VM file that is there, with a region of so many bytes.
+    /// A kernel on a file that is there, with a region of so many bytes.
     pub fn open(path: impl AsRef<Path>, region: u32) -> Result<Kernel> {
-        let kernel = Kernel::none()?;
-        let path = path.as_ref().as_os_str().as_bytes();
-        let mut offset = 0;
-        match done(unsafe { raw::takhvoi_open(kernel.raw(), path.as_ptr(), path.len(), region, &mut offset) }) {
+        let (kernel, path, mut offset) = (Kernel::none()?, spelled(path.as_ref())?, 0);
+        match done(unsafe { raw::takhvoi_file_open(kernel.file(), path.as_ptr(), region, &mut offset) }) {
             Err(Error::BadFile { .. }) => Err(Error::BadFile { offset }),
             other => other.map(|()| kernel),
         }
     }
 
+    /// The kernel on its file as C has it.
+    pub(crate) fn file(&self) -> *mut RawFile {
+        self.file.get()
+    }
+
     /// The kernel as C has it.
-    pub(crate) fn raw(&self) -> *mut Raw {
-        self.raw.get()
+    pub(crate) fn raw(&self) -> *mut RawKernel {
+        unsafe { std::ptr::addr_of_mut!((*self.file()).kernel) }
     }
 
     /// Its memory and its VM file apart, so that blocks of memory stay locked over a commit.
@@ -317,16 +325,16 @@ impl Deref for VmFile<'_> {
 impl VmFile<'_> {
     /// As [`Kernel::update`].
     pub fn update(&mut self) -> Result<()> {
-        done(unsafe { raw::takhvoi_update(self.kernel.raw()) })
+        done(unsafe { raw::takhvoi_file_update(self.kernel.file()) })
     }
 
     /// As [`Kernel::save`].
     pub fn save(&mut self) -> Result<()> {
-        done(unsafe { raw::takhvoi_save(self.kernel.raw()) })
+        done(unsafe { raw::takhvoi_file_save(self.kernel.file()) })
     }
 
     /// As [`Kernel::revert`].
     pub fn revert(&mut self) -> Result<()> {
-        done(unsafe { raw::takhvoi_revert(self.kernel.raw()) })
+        done(unsafe { raw::takhvoi_file_revert(self.kernel.file()) })
     }
 }

@@ -1,10 +1,11 @@
-//! What takhvoi.h says, the crate says too.
+//! What the headers say, the crate says too.
 
 use takhvoi::{Error, Kernel, Sizes};
 
-/// The header, where the crate lies in its repository.
+/// The header with its part on files, where the crate lies in its repository.
 fn header() -> Option<String> {
-    std::fs::read_to_string(concat!(env!("CARGO_MANIFEST_DIR"), "/../../library/takhvoi.h")).ok()
+    let read = |name| std::fs::read_to_string(format!("{}/../../library/{name}", env!("CARGO_MANIFEST_DIR"))).ok();
+    Some(read("takhvoi.h")? + &read("takhvoi_file.h")?)
 }
 
 /// A text without its comments.

@@ -1,7 +1,7 @@
 # The crate for Rust: its tests and doc tests pass, among them those that must not compile, and its address book prints what those in the
 # other languages do.
 . "$top/tests/with_library.sh"
-mkdir library bindings && cp takhvoi.h library && cp -R "$top/bindings/rust" bindings || exit
+mkdir library bindings && cp takhvoi.h takhvoi_file.h library && cp -R "$top/bindings/rust" bindings || exit
 TAKHVOI_DIR=$folder
 CARGO_TARGET_DIR=$folder/target
 export TAKHVOI_DIR CARGO_TARGET_DIR
