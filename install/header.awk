@@ -1,5 +1,5 @@
-# Prints the man page of a header in C in man's form: what its comments say, its declarations, and its numbers with their texts. `version`
-# and `date` are set. The header's first comment begins with what the page's name says; each other comment stands before what it is about.
+# Prints the man page of headers in C in man's form: what its comments say, its declarations, and its numbers with their texts. `version`
+# and `date` are set. The first comment begins with what the page's name says; each other comment stands before what it is about.
 
 # The characters of a text, each written so that it is printed as it is.
 function plain(text) {
@@ -49,7 +49,10 @@ function finish() {
         sub(/^[^:]*: /, "", name)
         sub(/\n.*/, "", name)
         sub(/[.]$/, "", name)
-    } else if (lines != "") calls = calls ".PP\n" said(comment) ".PP\n.EX\n" lines ".EE\n"
+    } else {
+        calls = calls ".PP\n" said(comment)
+        if (lines != "") calls = calls ".PP\n.EX\n" lines ".EE\n"
+    }
     comment = lines = ""
 }
 
@@ -104,7 +107,7 @@ in_numbers {
     in_numbers = 1
     next
 }
-/^#define TAKHVOI_(CALL|H)/ || /^#/ && !/^#define TAKHVOI_/ || /^extern "C"/ || /^ *$/ || /^}$/ { next }
+/^#define TAKHVOI_(CALL|H|FILE_H)/ || /^#/ && !/^#define TAKHVOI_/ || /^extern "C"/ || /^ *$/ || /^}$/ { next }
 /^#define/ {
     declare($0)
     next
