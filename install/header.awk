@@ -1,4 +1,4 @@
-# Prints the man page of headers in C in man's form: what its comments say, its declarations, and its numbers with their texts. `version`
+# Prints the man page of headers in C in man's form: what their comments say, their declarations, and their numbers with texts. `version`
 # and `date` are set. The first comment begins with what the page's name says; each other comment stands before what it is about.
 
 # The characters of a text, each written so that it is printed as it is.
