@@ -1,0 +1,14 @@
+# The library for Python: its tests pass, and its address book prints what those in the other languages do.
+. "$top/tests/with_library.sh"
+TAKHVOI_LIBRARY=$folder/libtakhvoi.so
+TAKHVOI_HEADER=$folder/takhvoi.h
+PYTHONDONTWRITEBYTECODE=1
+PYTHONPATH=$top/bindings/python
+export TAKHVOI_LIBRARY TAKHVOI_HEADER PYTHONDONTWRITEBYTECODE PYTHONPATH
+
+python3 -m unittest test_takhvoi >tests 2>&1 || cat tests
+
+book() {
+    python3 "$top/bindings/python/book.py" "$@"
+}
+. "$top/tests/address_book.sh"
