@@ -1,6 +1,6 @@
 -- A call that is said to forget an item does.
-use Rattle.std.proofs.Common.{◌≡◌, ◌+◌, ◌<◌, ◌≤◌, ℕ, zero, suc, Bool, true, false, not, cond, List, [], ◌∷◌, Option, Some, None, slice_get, get_or, refl, sym, subst, ◌⊎◌, inl, inr, arith}
-use Rattle.std.specs.Prelude.{◌&&◌, ◌||◌, nat_lt}
+use Rattle.std.proofs.Common.{◌≡◌, ◌+◌, ◌<◌, ◌≤◌, ℕ, zero, suc, Bool, true, false, not, cond, List, [], ◌∷◌, Option, Some, None, slice_get, get_or, refl, sym, subst, inl, inr, arith}
+use Rattle.std.specs.Prelude.{◌&&◌, nat_lt}
 use Rattle.std.proofs.lemmas.Bool.{and_parts}
 use Rattle.geos_verify.specs.declared.place.Place.{Place as KnownPlace}
 use Rattle.geos_verify.specs.Places.{places}
@@ -9,11 +9,11 @@ use Rattle.geos_verify.specs.Rows.{after, has_edge}
 use Rattle.geos_explain.specs.declared.edges.Edge.{Edge}
 use Rattle.geos_explain.specs.declared.forgotten.Item.{Item}
 use Rattle.geos_explain.specs.Edges.{end_of}
-use Rattle.geos_explain.specs.Forgotten.{knows, comes_to_marked, comes_on, lacking_marked, lacking_marked_at, lacking_round, lacking_within, lacking_from, forgets_item, forgets_at, last_forgetting, forgetting_call, IsLackedOver, LackedAlong, IsForgottenBy, WhatIsSaidOfCallsHolds}
+use Rattle.geos_explain.specs.Forgotten.{knows, comes_to_marked, comes_on, lacking_marked, lacking_marked_at, lacking_round, lacking_within, lacking_from, forgets_item, forgets_at, last_forgetting, IsLackedOver, LackedAlong, IsForgottenBy, WhatIsSaidOfCallsHolds}
 use Rattle.geos_explain.specs.Led.{no_marks, marked, is_marked}
 use Rattle.geos_explain.specs.Moved.{moves, moves_at, last_moving, if_round, IsMovedRound, WhatIsSaidOfRoundsHolds}
 use Rattle.geos_explain.specs.Lost.{ComesTo}
-use Rattle.geos_explain.specs.Places.{Place, IsPlace, comes_alike}
+use Rattle.geos_explain.specs.Places.{Place, comes_alike}
 use Rattle.geos_explain.specs.Since.{IsInside}
 use Rattle.geos_explain.specs.Ways.{forgets}
 use Rattle.geos_explain.proofs.Holding.{or_parts, not-true, inside-at}

@@ -1,10 +1,9 @@
 //! Which call forgets what is to be known at a place: behind it only what its routine's `out` line says is known.
 
-ghost use Rattle.std.specs.Prelude.{◌≡◌, Some, slice_get};
+ghost use Rattle.std.specs.Prelude.{◌≡◌, Some};
 ghost use Rattle.geos_explain.specs.Places.{IsPlace, place_of};
 ghost use Rattle.geos_explain.specs.Forgotten.{knows, comes_to_marked, comes_on, lacking_marked_at, lacking_round, lacking_within, lacking_from};
 ghost use Rattle.geos_explain.specs.Forgotten.{forgets_at, last_forgetting, forgetting_call, WhatIsSaidOfCallsHolds};
-ghost use Rattle.geos_verify.specs.Places.{places};
 
 use crate::edges::{Edge, end_of};
 use crate::led::{Marks, is_marked, mark, no_marks};

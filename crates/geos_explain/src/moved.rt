@@ -3,7 +3,7 @@
 ghost use Rattle.std.specs.Prelude.{◌≡◌, ◌++◌, OnOk};
 ghost use Rattle.geos_explain.specs.Places.{IsPlace, place_of};
 ghost use Rattle.geos_explain.specs.Moved.{moves, moves_at, last_moving, if_round};
-ghost use Rattle.geos_explain.specs.Moved.{moving, moved_words, moved_from, moved_text, WhatIsSaidOfRoundsHolds};
+ghost use Rattle.geos_explain.specs.Moved.{moving, moved_words, moved_text, WhatIsSaidOfRoundsHolds};
 
 use crate::forgotten::{Item, lacking_from};
 use crate::led::{Marks, is_marked};

@@ -1,4 +1,4 @@
-use Rattle.std.proofs.Common.{◌≡◌, Bool, true, false, cond, Option, Some, None, refl, sym, subst}
+use Rattle.std.proofs.Common.{◌≡◌, Bool, true, false, cond, Option, Some, None, refl}
 use Rattle.std.specs.Prelude.{◌↔◌}
 use Rattle.geos_verify.specs.declared.rule.Rule.{Rule}
 use Rattle.geos_explain.specs.Refusals.{is_of_budget, told_rule}

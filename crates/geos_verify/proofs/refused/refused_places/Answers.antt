@@ -1,12 +1,11 @@
-use Rattle.std.proofs.Common.{◌≡◌, ◌<◌, ◌≤◌, ◌+◌, suc, Option, Some, ◌⊎◌, inl, inr, ◌∙◌, None, slice_get, length, refl, sym, ap, subst, arith}
+use Rattle.std.proofs.Common.{◌≡◌, ◌<◌, ◌≤◌, suc, Option, Some, ◌⊎◌, inl, inr, ◌∙◌, None, slice_get, sym, ap, subst, arith}
 use Rattle.std.specs.Prelude.{slice_index_or}
 use Rattle.std.proofs.lemmas.Bool.{cases_lt}
 use Rattle.std.proofs.lemmas.Option.{slice_get_within}
 use Rattle.geos_image.specs.declared.routine.Routine.{Routine}
 use Rattle.geos_image.specs.Parts.{start_of}
 use Rattle.geos_image.proofs.Starts.{start_of-next, start_of-le}
-use Rattle.geos_verify.specs.declared.place.Place.{Place}
-use Rattle.geos_verify.specs.Rules.{HasPoint, refusal}
+use Rattle.geos_verify.specs.Rules.{refusal}
 use Rattle.geos_verify.proofs.Places.{place_bounds}
 use Rattle.geos_verify.proofs.refused.refused_places.Goals as goal
 

@@ -1,4 +1,4 @@
-use Rattle.std.proofs.Common.{◌≡◌, refl, subst, sym, arith, add-one}
+use Rattle.std.proofs.Common.{◌≡◌, refl, subst, arith, add-one}
 use Rattle.std.specs.Prelude.{false, replicate}
 use Rattle.geos_verify.specs.Refused.{KnowsTouchedWithin}
 use Rattle.geos_verify.proofs.Touching.{rows-blank, knows-more}
