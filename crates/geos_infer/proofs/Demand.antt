@@ -1,5 +1,5 @@
 -- Whatever a unit pays for is wanted by a LOOP, however it spreads.
-use Rattle.std.proofs.Common.{◌≡◌, ◌≢◌, ◌≤◌, ◌<◌, ◌⊎◌, ℕ, zero, suc, Bool, true, false, List, [], ◌∷◌, length, Option, Some, refl, sym, ap, ◌∙◌, subst, arith, inl, inr}
+use Rattle.std.proofs.Common.{◌≡◌, ◌≤◌, ◌<◌, ◌⊎◌, ℕ, zero, suc, Bool, true, false, List, [], ◌∷◌, length, Option, Some, refl, sym, ap, ◌∙◌, subst, arith, inl, inr}
 use Rattle.std.specs.Prelude.{max, if◌then◌else◌, slice_index, slice_index_or, slice_set}
 use Rattle.std.proofs.lemmas.Bool.{cases_eq, cases_lt}
 use Rattle.std.proofs.lemmas.List.{get_or-set_same, get_or-set_other, get_or_past, set_past}
@@ -15,7 +15,7 @@ use Rattle.geos_image.specs.Parts.{Parts}
 use Rattle.geos_verify.specs.Lists.{zip2}
 use Rattle.geos_infer.specs.Arcs.{arc_at, unit_at, counting_of, IsArc, IsArcIf, AreArcs}
 use Rattle.geos_infer.specs.Code.{IsPcOf}
-use Rattle.geos_infer.specs.Constants.{asks_coefficient, IsAskingWay, IsForLoop, AreForLoops, coefficients_at}
+use Rattle.geos_infer.specs.Constants.{asks_coefficient, IsAskingWay, AreForLoops, coefficients_at}
 use Rattle.geos_infer.specs.Flow.{row_of, known_at}
 use Rattle.geos_infer.specs.Numbers.{zeros}
 use Rattle.geos_infer.proofs.Asks.{zero-at}

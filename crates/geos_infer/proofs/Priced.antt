@@ -30,7 +30,7 @@ use Rattle.geos_infer.proofs.Bodies.{lies}
 use Rattle.geos_infer.proofs.Wanted.{ends-at}
 use Rattle.geos_infer.specs.Count.{StaysFrom, return_steps}
 use Rattle.geos_infer.proofs.Longest.{leads-one}
-use Rattle.geos_infer.specs.Constants.{asked_over, PaysSteps, ConstantsPay, row_known, coefficients_at, HasLoops, AreLeastIn, AreLeastFrom, given_row, coefficients_in, potential_given, GoesBack, IsLoopAt, HasLeastConstants, PaysForLoops, HasCoefficientsForLoops, IsAskingWay, LeadsAsking, IsForLoop, AreForLoops, potential_in, IsAsked, IsPaidOver, ArePaidIn, PayLeastIn}
+use Rattle.geos_infer.specs.Constants.{asked_over, PaysSteps, ConstantsPay, row_known, coefficients_at, HasLoops, AreLeastIn, AreLeastFrom, given_row, coefficients_in, potential_given, GoesBack, IsLoopAt, HasLeastConstants, PaysForLoops, HasCoefficientsForLoops, IsAskingWay, LeadsAsking, AreForLoops, potential_in, IsAsked, IsPaidOver, ArePaidIn, PayLeastIn}
 use Rattle.geos_infer.specs.Least.{steps_at, link_at, PaysLink, PayAll, PayEnds, AreLeast, IsLookedAt, AskNoMore, NoneOutside, ArePut}
 use Rattle.geos_infer.specs.Numbers.{Numbers, numbers_of, steps_of, coefficients_of}
 use Rattle.geos_infer.proofs.Copies.{numbers-set}

@@ -1,8 +1,8 @@
 -- No image is accepted whose code has a way round on which no LOOP may pay.
-use Rattle.std.proofs.Common.{◌≡◌, ◌≢◌, ◌≤◌, ◌<◌, ◌⊎◌, ℕ, zero, suc, ◌+◌, Bool, true, false, not, List, [], ◌∷◌, length, Option, Some, None, slice_get, get_or, set, refl, sym, ap, ◌∙◌, subst, arith, inl, inr}
+use Rattle.std.proofs.Common.{◌≡◌, ◌≢◌, ◌≤◌, ◌<◌, ℕ, zero, suc, ◌+◌, Bool, true, false, not, List, [], ◌∷◌, length, Some, None, slice_get, get_or, refl, sym, ap, ◌∙◌, subst, arith, inl, inr}
 use Rattle.std.specs.Prelude.{◌&&◌, ◌==◌, nat_le, nat_lt}
 use Rattle.std.specs.List.{list_any}
-use Rattle.std.proofs.lemmas.Bool.{cases_eq, cases_lt, and_parts, or_parts, leb-true, ltb-false, eq-eqb, not-true, false≢true}
+use Rattle.std.proofs.lemmas.Bool.{cases_lt, and_parts, or_parts, leb-true, ltb-false, eq-eqb, not-true, false≢true}
 use Rattle.std.proofs.lemmas.List.{get_or-set_other, get_or_past}
 use Rattle.geos_opcodes.specs.declared.opcode.Opcode.{Opcode}
 use Rattle.geos_opcodes.specs.declared.opcode.Opcode.TheVariants.{Setk, Setkw, Loop, Call}
@@ -14,9 +14,8 @@ use Rattle.geos_image.specs.declared.point.Point.{Point}
 use Rattle.geos_image.specs.Keys.{branches, falls_through}
 use Rattle.geos_image.specs.Parts.{Parts, start_of}
 use Rattle.geos_verify.specs.Lists.{all2}
-use Rattle.geos_verify.specs.Potentials.{asks_setting, budget_of, is_paid, is_within, pays_along, pays_branching, are_spent, asks_calling}
+use Rattle.geos_verify.specs.Potentials.{asks_setting, budget_of, is_paid, pays_along, pays_branching, are_spent, asks_calling}
 use Rattle.geos_verify.specs.Rows.{bound}
-use Rattle.geos_verify.specs.Rules.{HasPoint}
 use Rattle.geos_verify.specs.Touched.{calls, touches, touched_by}
 use Rattle.geos_verify.specs.declared.asked.Asked.{Asked}
 use Rattle.geos_verify.specs.declared.place.Place.{Place}
@@ -24,15 +23,13 @@ use Rattle.geos_verify.specs.Places.{places}
 use Rattle.geos_verify.proofs.Leads.{leads-along, leads-branching, may_begin}
 use Rattle.geos_verify.proofs.Places.{item_at}
 use Rattle.geos_semantics.proofs.Paid.{spent-at}
-use Rattle.geos_infer.specs.Causes.{is_loop, calls_touching, LeadsUnpaid, IsUnpaidWay, GoesRound, IsUnset, IsLeft, MayNotPay, LeadsIdle, IsIdleWay, IsNeverPaid, Holds, is_final, NoneIsAcceptedFor}
-use Rattle.geos_infer.specs.declared.cause.Cause.{Cause}
+use Rattle.geos_infer.specs.Causes.{is_loop, calls_touching, LeadsUnpaid, IsUnpaidWay, GoesRound, MayNotPay, LeadsIdle, IsIdleWay, IsNeverPaid, NoneIsAcceptedFor}
 use Rattle.geos_infer.specs.declared.cause.Cause.TheVariants.{NoLoop, TouchedWithin, TouchedBefore, StepsPass}
 use Rattle.geos_infer.specs.Code.{IsPcOf}
 use Rattle.geos_infer.specs.Numbers.{zeros}
 use Rattle.geos_infer.specs.Theorem.{HasAccepted}
-use Rattle.geos_infer.specs.Trails.{IsTrail, LeadsKeeping, keeps_counter}
+use Rattle.geos_infer.specs.Trails.{IsTrail, keeps_counter}
 use Rattle.geos_infer.specs.Why.{LeadsTo}
-use Rattle.geos_infer.proofs.Asks.{zero-at}
 use Rattle.geos_infer.proofs.Refused.{same-instr, point-of, four-at, touches-same, none-accepted-past}
 use Rattle.geos_infer.proofs.Strong.{bound-at}
 use Rattle.geos_infer.proofs.Wanted.{along-steps}

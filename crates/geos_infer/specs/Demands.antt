@@ -2,7 +2,7 @@
 use Rattle.std.specs.Prelude.{◌≡◌, ◌≢◌, ◌≤◌, ◌<◌, ℕ, max, Bool, true, false, ◌==◌, not, if◌then◌else◌, List, [], ◌∷◌, Option, Some, None, slice_index, slice_index_or}
 use Rattle.geos_infer.specs.declared.arcs.Arc.{Arc}
 use Rattle.geos_infer.specs.declared.arcs.Counting.{Counting}
-use Rattle.geos_infer.specs.declared.arcs.Counting.TheVariants.{Nothing, Sets, Takes, Forgets}
+use Rattle.geos_infer.specs.declared.arcs.Counting.TheVariants.{Sets, Takes, Forgets}
 use Rattle.geos_infer.specs.Arcs.{arc_at, unit_at}
 
 -- Edges and counters

@@ -1,4 +1,4 @@
-use Rattle.std.proofs.Common.{ℕ, List, Option, sym, ◌∙◌, subst}
+use Rattle.std.proofs.Common.{ℕ, List, Option, sym, subst}
 use Rattle.geos_infer.specs.Least.{PayAll, AreLookedAt}
 use Rattle.geos_infer.specs.declared.lengths.Link.{Link}
 use Rattle.geos_infer.proofs.constants.find_constants.Goals as goal

@@ -1,4 +1,4 @@
-use Rattle.std.proofs.Common.{◌≡◌, ℕ, List, Bool, [], ◌∷◌, refl, sym, subst, arith}
+use Rattle.std.proofs.Common.{◌≡◌, ℕ, [], ◌∷◌, refl, subst, arith}
 use Rattle.geos_infer.specs.Causes.{LeadsIdle}
 use Rattle.geos_infer.specs.Code.{IsPcOf}
 use Rattle.geos_infer.proofs.idle.goes_round_from.Goals as goal

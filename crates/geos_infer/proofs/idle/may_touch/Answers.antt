@@ -1,4 +1,4 @@
-use Rattle.std.proofs.Common.{sym, ◌∙◌}
+use Rattle.std.proofs.Common.{◌∙◌}
 use Rattle.geos_infer.proofs.Unpayable.{calls-only}
 use Rattle.geos_infer.proofs.idle.may_touch.Goals as goal
 
