@@ -278,7 +278,7 @@ pub(crate) fn copy<D: Device + Drop>(
     ensures vm { LeavesVm kernel.old kernel.new }
 {
     kernel.copy(m.pointers[a], m.pointers[i.b as usize], i.imm);
-    Goes::Along
+    Goes::Further
 }
 
 /// Tells the length of what a pointer leads to.

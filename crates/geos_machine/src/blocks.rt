@@ -54,7 +54,7 @@ pub(crate) fn mlock<D: Device + Drop>(
     match kernel.mlock(h) {
         Ok(()) => {
             m.slots[a] = Name::mem(h);
-            Goes::Past
+            Goes::Further
         }
         Err(refusal) => refuse(m, i, refusal),
     }
@@ -74,7 +74,7 @@ pub(crate) fn munlock<D: Device + Drop>(
     ensures vm { LeavesVm kernel.old kernel.new }
 {
     kernel.munlock(m.slots[a]);
-    Goes::Past
+    Goes::Further
 }
 
 /// Frees a block.

@@ -194,7 +194,7 @@ pub(crate) fn deref<D: Device + Drop>(
         // field by field, or the compiler makes one number of a span, and takes it apart again
         Ok(Span { at, len }) => {
             m.pointers[b] = Span { at, len };
-            Goes::Past
+            Goes::Further
         }
         Err(refusal) => refuse(m, i, refusal),
     }

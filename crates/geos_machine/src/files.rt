@@ -40,7 +40,7 @@ pub(crate) fn vnew<D: Device + Drop>(
 }
 
 /// Locks a block of the file into a slot.
-#[inline(never)]
+#[inline]
 pub(crate) fn vlock<D: Device + Drop>(
     m: &mut Machine,
     kernel: &mut Kernel<D>,
@@ -56,7 +56,7 @@ pub(crate) fn vlock<D: Device + Drop>(
     match kernel.vlock(h) {
         Ok(()) => {
             m.slots[a] = Name::vm(h);
-            Goes::Along
+            Goes::Further
         }
         Err(refusal) => refuse(m, i, refusal),
     }
@@ -87,7 +87,7 @@ pub(crate) fn ilock<D: Device + Drop>(
 }
 
 /// Unlocks the block or group of a slot, which is empty then.
-#[inline(never)]
+#[inline]
 pub(crate) fn unlock<D: Device + Drop>(
     m: &Machine,
     kernel: &mut Kernel<D>,
@@ -102,11 +102,11 @@ pub(crate) fn unlock<D: Device + Drop>(
     ensures vm { LeavesVm kernel.old kernel.new }
 {
     kernel.munlock(m.slots[a]);
-    Goes::Along
+    Goes::Further
 }
 
 /// Marks the block or group of a slot as changed.
-#[inline(never)]
+#[inline]
 pub(crate) fn mark<D: Device + Drop>(
     m: &Machine,
     kernel: &mut Kernel<D>,
@@ -121,7 +121,7 @@ pub(crate) fn mark<D: Device + Drop>(
     ensures between { Between D.medium kernel.old kernel.new }
 {
     kernel.vdirty(m.slots[a]);
-    Goes::Along
+    Goes::Further
 }
 
 /// Asks the kernel for a change of the file or its items.

@@ -66,8 +66,8 @@ pub(crate) fn left_by(goes: &Goes) -> Left
     ensures { result ≡ left_by goes.now }
 {
     match goes {
-        Goes::Along | Goes::Past => Left::On,
-        Goes::To => Left::ToTarget,
+        Goes::Along | Goes::Past | Goes::Further => Left::On,
+        Goes::To | Goes::Back => Left::ToTarget,
         Goes::Calls(_) => Left::Calling,
         Goes::Returns => Left::Returning,
     }

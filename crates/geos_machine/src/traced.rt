@@ -77,7 +77,9 @@ impl Machine {
             pc = match goes {
                 Goes::Along => pc + 1,
                 Goes::Past => pc + 1,
+                Goes::Further => pc + 1,
                 Goes::To => instr.target,
+                Goes::Back => instr.target,
                 Goes::Calls(callee) => {
                     returns.push(pc + 1);
                     image.start(callee)
@@ -91,7 +93,7 @@ impl Machine {
         kernel.memory_is_legal();
         Outcome {
             words: self.words,
-            output: self.output.take(),
+            output: self.outcome.output.take(),
             steps: budget - left,
         }
     }

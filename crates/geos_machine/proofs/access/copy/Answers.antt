@@ -1,5 +1,6 @@
 use Rattle.std.proofs.Common.{refl}
 use Rattle.geos_machine.proofs.Through.{pointer-stands, pointer-writable, pointer-long, copied}
+use Rattle.geos_machine.proofs.Works.{on-further}
 use Rattle.geos_machine.proofs.Safe.{copies-safe, copies-marked}
 use Rattle.geos_machine.proofs.access.copy.Goals as goal
 
@@ -24,5 +25,5 @@ pub returns-clause-works : goal.returns-clause-works
 returns-clause-works g c =
     let i = c.args.i.now in
     let honest : Type 0 = g.D.Device.medium.honest c.args.kernel.now.device in
-    copied honest i c.args.kernel.now.core c.copy.new.self.core c.args.m.now (record { at = 0; len = 0 }) (λ beside pc safe. let p = copies-safe i _ (rw c.requires.instr.is refl) safe in (p.0, p.1)) (λ image choice beside pc. rw c.requires.instr.is refl)
-    (rw c.requires.instr.a_is at c.copy.ensures.row)
+    on-further honest i c.args.kernel.now.core c.copy.new.self.core c.args.m.now c.args.m.now (copied honest i c.args.kernel.now.core c.copy.new.self.core c.args.m.now (record { at = 0; len = 0 }) (λ beside pc safe. let p = copies-safe i _ (rw c.requires.instr.is refl) safe in (p.0, p.1)) (λ image choice beside pc. rw c.requires.instr.is refl)
+    (rw c.requires.instr.a_is at c.copy.ensures.row))

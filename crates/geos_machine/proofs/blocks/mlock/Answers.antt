@@ -2,14 +2,14 @@ use Rattle.std.proofs.Common.{false, refl, get_or}
 use Rattle.geos_calls.specs.Calls.{mlock}
 use Rattle.geos_opcodes.specs.declared.uses.Kind.TheVariants.{MemBlock}
 use Rattle.geos_semantics.specs.Model.{holding}
-use Rattle.geos_machine.proofs.Works.{call-refused, on-past, slot-locked-into}
+use Rattle.geos_machine.proofs.Works.{call-refused, on-further, slot-locked-into}
 use Rattle.geos_machine.proofs.blocks.mlock.Goals as goal
 
 pub returns-in-Ok-clause-works : goal.returns-in-Ok-clause-works
 returns-in-Ok-clause-works g c =
     let i = c.args.i.now in
     let honest : Type 0 = g.D.Device.medium.honest c.args.kernel.now.device in
-    on-past honest i c.args.kernel.now.core c.mlock.new.self.core c.args.m.now _ (slot-locked-into honest i c.args.kernel.now.core c.mlock.new.self.core c.args.m.now _ (mlock (get_or c.args.m.now.words i.b 0)) (λ done t. holding MemBlock i.a (get_or c.args.m.now.words i.b 0) t) tt (record { kind = MemBlock; handle = get_or c.args.m.now.words i.b 0; borrowed = false }) (rw c.index_b-b.ensures at c.in-Ok.ensures.calls) (λ choice memory. refl) (λ image choice beside pc. rw c.requires.instr.is refl) (λ beside pc. refl)
+    on-further honest i c.args.kernel.now.core c.mlock.new.self.core c.args.m.now _ (slot-locked-into honest i c.args.kernel.now.core c.mlock.new.self.core c.args.m.now _ (mlock (get_or c.args.m.now.words i.b 0)) (λ done t. holding MemBlock i.a (get_or c.args.m.now.words i.b 0) t) tt (record { kind = MemBlock; handle = get_or c.args.m.now.words i.b 0; borrowed = false }) (rw c.index_b-b.ensures at c.in-Ok.ensures.calls) (λ choice memory. refl) (λ image choice beside pc. rw c.requires.instr.is refl) (λ beside pc. refl)
     (rw (c.index_a-a.ensures, c.mem.ensures, c.index_b-b.ensures) refl) refl)
 
 pub returns-in-Err-clause-works : goal.returns-in-Err-clause-works

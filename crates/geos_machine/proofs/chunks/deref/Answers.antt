@@ -2,7 +2,7 @@ use Rattle.std.proofs.Common.{refl, get_or}
 use Rattle.geos_terms.specs.Names.{mem}
 use Rattle.geos_calls.specs.Calls.{deref}
 use Rattle.geos_opcodes.specs.Facts.{uses_of}
-use Rattle.geos_machine.proofs.Works.{slot-locked, on-past}
+use Rattle.geos_machine.proofs.Works.{slot-locked, on-further}
 use Rattle.geos_machine.proofs.Through.{pointer-set, pointer-refused}
 use Rattle.geos_machine.proofs.Safe.{looks-held}
 use Rattle.geos_opcodes.specs.declared.opcode.Opcode.TheVariants.{Deref}
@@ -18,7 +18,7 @@ pub returns-in-Ok : goal.returns-in-Ok
 returns-in-Ok g c =
     let i = c.args.i.now in
     let honest : Type 0 = g.D.Device.medium.honest c.args.kernel.now.device in
-    rw c.index_b-b.ensures (on-past honest i c.args.kernel.now.core c.args.kernel.now.core c.args.m.now _ (pointer-set honest i c.args.kernel.now.core c.args.m.now _ (mem 0) (λ name. deref name (get_or c.args.m.now.words i.c 0) i.imm) (λ name choice memory. refl)
+    rw c.index_b-b.ensures (on-further honest i c.args.kernel.now.core c.args.kernel.now.core c.args.m.now _ (pointer-set honest i c.args.kernel.now.core c.args.m.now _ (mem 0) (λ name. deref name (get_or c.args.m.now.words i.c 0) i.imm) (λ name choice memory. refl)
     (λ beside pc safe. looks-held i _ (uses_of Deref) (rw c.requires.instr.is refl) (λ t. refl) safe) (λ image choice beside pc. rw c.requires.instr.is refl) c.in-Ok.field-0 (rw (c.index_a-a.ensures, c.index_c-c.ensures) at c.in-Ok.ensures.gives) refl))
 
 pub returns-in-Err : goal.returns-in-Err

@@ -2,15 +2,15 @@ use Rattle.std.proofs.Common.{false, refl, get_or}
 use Rattle.geos_calls.specs.VmCalls.{vlock}
 use Rattle.geos_opcodes.specs.declared.uses.Kind.TheVariants.{VmBlock}
 use Rattle.geos_semantics.specs.Model.{holding}
-use Rattle.geos_machine.proofs.Works.{call-refused, slot-locked-into}
+use Rattle.geos_machine.proofs.Works.{call-refused, on-further, slot-locked-into}
 use Rattle.geos_machine.proofs.files.vlock.Goals as goal
 
 pub returns-in-Ok-clause-works : goal.returns-in-Ok-clause-works
 returns-in-Ok-clause-works g c =
     let i = c.args.i.now in
     let honest : Type 0 = g.D.Device.medium.honest c.args.kernel.now.device in
-    slot-locked-into honest i c.args.kernel.now.core c.vlock.new.self.core c.args.m.now _ (vlock (get_or c.args.m.now.words i.b 0)) (λ done t. holding VmBlock i.a (get_or c.args.m.now.words i.b 0) t) tt (record { kind = VmBlock; handle = get_or c.args.m.now.words i.b 0; borrowed = false }) c.in-Ok.ensures.calls (λ choice memory. refl)
-    (λ image choice beside pc. rw c.requires.instr.is refl) (λ beside pc. refl) (rw (c.requires.instr.a_is, c.vm.ensures) refl) refl
+    on-further honest i c.args.kernel.now.core c.vlock.new.self.core c.args.m.now _ (slot-locked-into honest i c.args.kernel.now.core c.vlock.new.self.core c.args.m.now _ (vlock (get_or c.args.m.now.words i.b 0)) (λ done t. holding VmBlock i.a (get_or c.args.m.now.words i.b 0) t) tt (record { kind = VmBlock; handle = get_or c.args.m.now.words i.b 0; borrowed = false }) c.in-Ok.ensures.calls (λ choice memory. refl)
+    (λ image choice beside pc. rw c.requires.instr.is refl) (λ beside pc. refl) (rw (c.requires.instr.a_is, c.vm.ensures) refl) refl)
 
 pub returns-in-Err-clause-works : goal.returns-in-Err-clause-works
 returns-in-Err-clause-works g c =

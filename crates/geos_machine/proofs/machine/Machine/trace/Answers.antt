@@ -12,7 +12,7 @@ use Rattle.geos_machine.specs.Traces.{left_by, with_note}
 use Rattle.geos_machine.proofs.Honest.{alike-on, alike-ready, alike-works, stays-honest}
 use Rattle.geos_machine.proofs.LentBlocks.{lends-lent}
 use Rattle.geos_machine.proofs.Stops.{stops-first, stops-on}
-use Rattle.geos_machine.proofs.Going.{Origin, origin_of, none-left, so_far-start, so_far-place, so_far-ready, so_far-owes, so_far-routine, so_far-along, so_far-past, so_far-to, so_far-calls, so_far-room, so_far-callee, so_far-returns, so_far-done}
+use Rattle.geos_machine.proofs.Going.{Origin, origin_of, none-left, so_far-start, so_far-place, so_far-ready, so_far-owes, so_far-routine, so_far-along, so_far-past, so_far-further, so_far-to, so_far-back, so_far-calls, so_far-room, so_far-callee, so_far-returns, so_far-done}
 use Rattle.geos_machine.proofs.Traces.{count-room, note_of, traced-start, traced-on, traced-to, traced-calls, traced-returns, traced-done}
 use Rattle.geos_machine.proofs.machine.Machine.trace.Given as given
 use Rattle.geos_machine.proofs.machine.Machine.trace.Goals as goal
@@ -97,6 +97,9 @@ overflow_add-pc g c = let place = place-within g (goal.at.overflow_add-pc g c).A
 pub overflow_add-pc-in-Past : goal.overflow_add-pc-in-Past
 overflow_add-pc-in-Past g c = let place = place-within g (goal.at.overflow_add-pc-in-Past g c).At-run in omega (arith, place)
 
+pub overflow_add-pc-in-Further : goal.overflow_add-pc-in-Further
+overflow_add-pc-in-Further g c = let place = place-within g (goal.at.overflow_add-pc-in-Further g c).At-run in omega (arith, place)
+
 pub overflow_add-pc-in-Calls : goal.overflow_add-pc-in-Calls
 overflow_add-pc-in-Calls g c = let place = place-within g (goal.at.overflow_add-pc-in-Calls g c).At-run in omega (arith, place)
 
@@ -132,8 +135,14 @@ run-smaller-in-Along g c = let owed = some-owed g (goal.at.run-smaller-in-Along 
 pub run-smaller-in-Past : goal.run-smaller-in-Past
 run-smaller-in-Past g c = let owed = some-owed g (goal.at.run-smaller-in-Past g c).At-run in omega (arith, owed)
 
+pub run-smaller-in-Further : goal.run-smaller-in-Further
+run-smaller-in-Further g c = let owed = some-owed g (goal.at.run-smaller-in-Further g c).At-run in omega (arith, owed)
+
 pub run-smaller-in-To : goal.run-smaller-in-To
 run-smaller-in-To g c = let owed = some-owed g (goal.at.run-smaller-in-To g c).At-run in omega (arith, owed)
+
+pub run-smaller-in-Back : goal.run-smaller-in-Back
+run-smaller-in-Back g c = let owed = some-owed g (goal.at.run-smaller-in-Back g c).At-run in omega (arith, owed)
 
 pub run-smaller-in-Calls : goal.run-smaller-in-Calls
 run-smaller-in-Calls g c = let owed = some-owed g (goal.at.run-smaller-in-Calls g c).At-run in omega (arith, owed)
@@ -177,6 +186,24 @@ run-preserved-in-Past g c = (
   steadily_then g.D.Device.medium (vm_file_of c.args.kernel.now) (vm_file_of c.run.kernel) (vm_file_of c.step-goes.new.kernel) c.run.invariant.2 c.step-goes.ensures.between.steadily,
 )
 
+pub run-preserved-in-Further : goal.run-preserved-in-Further
+run-preserved-in-Further g c = (
+  alike-on (g.D.Device.medium.honest c.step-goes.new.kernel.device) (g.D.Device.medium.honest c.run.kernel.device) (g.D.Device.medium.honest c.args.kernel.now.device) c.step-goes.ensures.between.honest c.run.invariant.0,
+  λ f tied.
+      let place = place-within g (goal.at.run-preserved-in-Further g c).At-run in
+      let run = origin_of (g.D.Device.medium.honest c.args.kernel.now.device) c.args.checked.now c.image-image.ensures.checked c.args.routine c.args.words.now c.args.handles.now c.args.kernel.now.core f in
+      let works = alike-works (g.D.Device.medium.honest c.run.kernel.device) run.honest c.run.invariant.0 c.instr-instr.result.now c.run.kernel.core c.step-goes.new.kernel.core c.run.self c.step-goes.new.m c.step-goes.result c.step-goes.ensures.works in
+      let onward = stops-on g.D.Device.medium c.args.kernel.now c.run.kernel c.step-goes.new.kernel c.run.invariant.0 c.step-goes.ensures.between.stops in
+      let T = c.run.invariant.1 f tied in
+      let i = c.instr-instr.result.now in
+      let l = c.step-goes.new.kernel.core in
+      let n = c.step-goes.new.m in
+      let read = rw c.image-image.ensures.image at c.instr-instr.ensures.there in
+      let noted : c.note.new.self ≡ with_note (note_of c.run.pc On n) c.run.trace = c.note.ensures ∙ ap (λ (x : Noted). with_note x c.run.trace) (c.noted.ensures ∙ ap (λ (w : Left). note_of c.run.pc w n) (c.left_by.ensures ∙ ap left_by c.in-Further.is)) in
+      rw noted (traced-on run c.args.trace.now c.run.trace T i read place l n (so_far-further run T.so_far i read l n c.step-goes.result works onward c.in-Further.is)),
+  steadily_then g.D.Device.medium (vm_file_of c.args.kernel.now) (vm_file_of c.run.kernel) (vm_file_of c.step-goes.new.kernel) c.run.invariant.2 c.step-goes.ensures.between.steadily,
+)
+
 pub run-preserved-in-To : goal.run-preserved-in-To
 run-preserved-in-To g c = (
   alike-on (g.D.Device.medium.honest c.step-goes.new.kernel.device) (g.D.Device.medium.honest c.run.kernel.device) (g.D.Device.medium.honest c.args.kernel.now.device) c.step-goes.ensures.between.honest c.run.invariant.0,
@@ -192,6 +219,24 @@ run-preserved-in-To g c = (
       let read = rw c.image-image.ensures.image at c.instr-instr.ensures.there in
       let noted : c.note.new.self ≡ with_note (note_of c.run.pc ToTarget n) c.run.trace = c.note.ensures ∙ ap (λ (x : Noted). with_note x c.run.trace) (c.noted.ensures ∙ ap (λ (w : Left). note_of c.run.pc w n) (c.left_by.ensures ∙ ap left_by c.in-To.is)) in
       rw noted (traced-to run c.args.trace.now c.run.trace T i read place l n (so_far-to run T.so_far i read l n c.step-goes.result works onward c.in-To.is)),
+  steadily_then g.D.Device.medium (vm_file_of c.args.kernel.now) (vm_file_of c.run.kernel) (vm_file_of c.step-goes.new.kernel) c.run.invariant.2 c.step-goes.ensures.between.steadily,
+)
+
+pub run-preserved-in-Back : goal.run-preserved-in-Back
+run-preserved-in-Back g c = (
+  alike-on (g.D.Device.medium.honest c.step-goes.new.kernel.device) (g.D.Device.medium.honest c.run.kernel.device) (g.D.Device.medium.honest c.args.kernel.now.device) c.step-goes.ensures.between.honest c.run.invariant.0,
+  λ f tied.
+      let place = place-within g (goal.at.run-preserved-in-Back g c).At-run in
+      let run = origin_of (g.D.Device.medium.honest c.args.kernel.now.device) c.args.checked.now c.image-image.ensures.checked c.args.routine c.args.words.now c.args.handles.now c.args.kernel.now.core f in
+      let works = alike-works (g.D.Device.medium.honest c.run.kernel.device) run.honest c.run.invariant.0 c.instr-instr.result.now c.run.kernel.core c.step-goes.new.kernel.core c.run.self c.step-goes.new.m c.step-goes.result c.step-goes.ensures.works in
+      let onward = stops-on g.D.Device.medium c.args.kernel.now c.run.kernel c.step-goes.new.kernel c.run.invariant.0 c.step-goes.ensures.between.stops in
+      let T = c.run.invariant.1 f tied in
+      let i = c.instr-instr.result.now in
+      let l = c.step-goes.new.kernel.core in
+      let n = c.step-goes.new.m in
+      let read = rw c.image-image.ensures.image at c.instr-instr.ensures.there in
+      let noted : c.note.new.self ≡ with_note (note_of c.run.pc ToTarget n) c.run.trace = c.note.ensures ∙ ap (λ (x : Noted). with_note x c.run.trace) (c.noted.ensures ∙ ap (λ (w : Left). note_of c.run.pc w n) (c.left_by.ensures ∙ ap left_by c.in-Back.is)) in
+      rw noted (traced-to run c.args.trace.now c.run.trace T i read place l n (so_far-back run T.so_far i read l n c.step-goes.result works onward c.in-Back.is)),
   steadily_then g.D.Device.medium (vm_file_of c.args.kernel.now) (vm_file_of c.run.kernel) (vm_file_of c.step-goes.new.kernel) c.run.invariant.2 c.step-goes.ensures.between.steadily,
 )
 
