@@ -122,38 +122,38 @@ pub(crate) fn lent_handles(states: &[SlotState; 4], handles: &[u16; 4]) -> Array
 }
 
 /// Runs the routine of a call on blocks that are locked for it.
-fn run<D: Device + Drop>(
-    machine: &mut Machine,
+fn run<'m, D: Device + Drop>(
+    machine: &'m mut Machine,
     checked: &Checked,
     call: &Call,
     kernel: &mut Kernel<D>,
-) -> Outcome
+) -> &'m Outcome
     requires admitted { may_ask checked.now call.now ≡ true }
     requires there { All (λ h. has_block kernel.old.core h ≡ true) (lent_by checked.now call.now) }
     requires counts { (g : ℕ) → locks_of kernel.old.core.blocks (vm_slot g) ≡ times g (lent_by checked.now call.now) }
     ensures ran { (f : VmFile) → IsFileOf (D.medium.honest kernel.old.device) kernel.old.core f
         → RanWith (D.medium.honest kernel.old.device) (Throughout D.medium kernel.old.device kernel.new.device)
-        checked.now call.now.routine call.now.words call.now.handles kernel.old.core kernel.new.core result f }
+        checked.now call.now.routine call.now.words call.now.handles kernel.old.core kernel.new.core result.now f }
     ensures counts { (g : ℕ) → locks_of kernel.new.core.blocks (vm_slot g) ≡ locks_of kernel.old.core.blocks (vm_slot g) }
     ensures honest { D.medium.honest kernel.new.device ↔ D.medium.honest kernel.old.device }
     ensures sees { SeesDevice D.medium kernel.old × SeesDevice D.medium kernel.new }
     ensures steadily { Steadily D.medium (vm_file_of kernel.old) (vm_file_of kernel.new) }
 {
-    machine.run(checked, call.routine, &call.words, &call.handles, kernel)
+    machine.run_in_place(checked, call.routine, &call.words, &call.handles, kernel)
 }
 
 /// Locks the blocks that a call lends, in the order of slots, runs its routine, and unlocks them. Where a lock is refused,
 /// those before it are unlocked again, and the routine is not run.
-pub(crate) fn run_lent<D: Device + Drop>(
-    machine: &mut Machine,
+pub(crate) fn run_lent<'m, D: Device + Drop>(
+    machine: &'m mut Machine,
     checked: &Checked,
     call: &Call,
     kernel: &mut Kernel<D>,
-) -> Result<Outcome, Refusal>
+) -> Result<&'m Outcome, Refusal>
     requires admitted { may_ask checked.now call.now ≡ true }
     requires unlocked { NoneLocked kernel.old.core.blocks }
     ensures ran { IfOk result (λ outcome. LeadsOn D.medium kernel.old kernel.new
-        (λ allows. RunsLent allows checked.now call.now (printed outcome.output.items))) }
+        (λ allows. RunsLent allows checked.now call.now (printed outcome.now.output.items))) }
     ensures refused { IfErr result (λ why. LeadsOn D.medium kernel.old kernel.new
         (λ allows. NotLent allows (lent_by checked.now call.now) why)) }
     ensures honest { D.medium.honest kernel.new.device ↔ D.medium.honest kernel.old.device }

@@ -10,14 +10,14 @@ use Rattle.geos_cli.proofs.script.carry_out.Goals as goal
 pub returns-in_ok-print-in-Ok-clause-ok : goal.returns-in_ok-print-in-Ok-clause-ok
 returns-in_ok-print-in-Ok-clause-ok g c =
     rw c.in-Call.is
-    (call-ran (g.D.Device.medium.honest c.args.kernel.now.device) _ c.args.checked.now c.args.kernel.now.core c.run_lent.new.kernel.core _ _ c.in-Call.call c.in-Ok.outcome c.in-Ok.ensures.ran
+    (call-ran (g.D.Device.medium.honest c.args.kernel.now.device) _ c.args.checked.now c.args.kernel.now.core c.run_lent.new.kernel.core _ _ c.in-Call.call c.in-Ok.outcome.now c.in-Ok.ensures.ran
     (subst (λ ws. Appends (g.W.Write.contents c.args.out.now.stream) (g.W.Write.contents c.print.new.out.stream) (printed ws)) c.as_slice.ensures.value c.in_ok-print-in-Ok.ensures.ok))
 
 pub returns-in_err-print-in-Ok-clause-stopped : goal.returns-in_err-print-in-Ok-clause-stopped
 returns-in_err-print-in-Ok-clause-stopped g c =
     rw c.in-Call.is
     (IfErr-any _ (call-stopped
-    (g.D.Device.medium.honest c.args.kernel.now.device) _ c.args.checked.now c.args.kernel.now.core c.run_lent.new.kernel.core _ _ c.in-Call.call c.in-Ok.outcome c.in-Ok.ensures.ran
+    (g.D.Device.medium.honest c.args.kernel.now.device) _ c.args.checked.now c.args.kernel.now.core c.run_lent.new.kernel.core _ _ c.in-Call.call c.in-Ok.outcome.now c.in-Ok.ensures.ran
     (subst (λ ws. AppendsPart (g.W.Write.contents c.args.out.now.stream) (g.W.Write.contents c.print.new.out.stream) (printed ws)) c.as_slice.ensures.value c.in_err-print-in-Ok.ensures.part)))
 
 pub returns-in_ok-print_refusal-in-Err-clause-ok : goal.returns-in_ok-print_refusal-in-Err-clause-ok
