@@ -25,9 +25,15 @@ pub only_read : {D : Type 0} (medium : Medium D) (old new : D) → ReadsOnly med
 only_read medium old new reads = record { same = reads.same; stays = reads.stays; stop = reads.stop }
 
 -- nor over two stretches over which it was not
-pub unwritten_on : {D : Type 0} (medium : Medium D) (old mid new : D) → IsUnwritten medium old mid → IsUnwritten medium mid new → IsUnwritten medium old new
+pub unwritten_on : {D : Type 0} (medium : Medium D) (old mid new : D) → IsUnwritten medium old mid → IsUnwritten medium mid new
+    → IsUnwritten medium old new
 unwritten_on medium old mid new first second =
-    record { same = second.same ∙ first.same; stays = λ h. second.stays (first.stays h); stop = λ h c l. first.stop h c (second.stop (first.stays h) c l) }
+    record {
+      same = second.same ∙ first.same;
+      stays = λ h. second.stays (first.stays h);
+      stop =
+          λ h c l. first.stop h c (second.stop (first.stays h) c l);
+    }
 
 -- nor by a call that leaves the file alone
 pub left_alone : {D : Type 0} (medium : Medium D) (old new : KernelOn D) → LeavesVm old new → IsUnwritten medium old.device new.device
@@ -37,12 +43,14 @@ pub leaves-on : {D : Type 0} (old mid new : KernelOn D) → LeavesVm old mid →
 leaves-on old mid new first second = record { device = second.device ∙ first.device; vm = second.vm ∙ first.vm }
 
 -- a span into a marked block stays good where spans stay and the file is left alone
-pub writable-on : {D : Type 0} (old new : KernelOn D) (f : VmFile) (span : Span) → SpansStay old.core new.core f Nothing → LeavesVm old new → IsWritable old.core span → IsWritable new.core span
+pub writable-on : {D : Type 0} (old new : KernelOn D) (f : VmFile) (span : Span) → SpansStay old.core new.core f Nothing
+    → LeavesVm old new → IsWritable old.core span → IsWritable new.core span
 writable-on old new f span stay leaves (ref, stands, may) =
     (ref, stay span ref stands tt, λ vm. subst (λ (v : VmState Seen). is_marked_in (held_at v ref.name.h) ≡ true) (sym leaves.vm) (may vm))
 
 -- an update behind steps that wrote nothing
-pub updated : {D : Type 0} (medium : Medium D) (old between new : KernelOn D) (result : Result (Unit {0}) Refusal) → IsUnwritten medium old.device between.device
+pub updated : {D : Type 0} (medium : Medium D) (old between new : KernelOn D) (result : Result (Unit {0}) Refusal)
+    → IsUnwritten medium old.device between.device
     → Commits medium Update between new result → EndsWithUpdate medium old new result
 updated medium old between new (Ok done) unwritten commits = (between, unwritten, commits)
 updated medium old between new (Err refusal) unwritten commits = inr (between, unwritten, commits)

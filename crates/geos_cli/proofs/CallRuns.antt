@@ -39,7 +39,8 @@ is-none None e = refl
 is-none (Some x) e = absurd cc
 
 -- bytes that are no image end the call
-pub image-ends : (bytes name : List ℕ) (numbers : List (List ℕ)) (fault : ScriptFault) → IsBadImage bytes fault → CallEndsBy bytes name numbers (Script fault)
+pub image-ends : (bytes name : List ℕ) (numbers : List (List ℕ)) (fault : ScriptFault) → IsBadImage bytes fault
+    → CallEndsBy bytes name numbers (Script fault)
 image-ends bytes name numbers (BadImage at) h = h
 image-ends bytes name numbers (Rejected pc rule) h = h
 image-ends bytes name numbers Memory h = tt
@@ -49,24 +50,47 @@ image-ends bytes name numbers (BadScript line) h = absurd h
 image-ends bytes name numbers Read h = absurd h
 image-ends bytes name numbers Write h = absurd h
 
-module _ (honest : Type 0) (within : Within) (bytes name : List ℕ) (numbers : List (List ℕ)) (image : Parts) (call : Call) (kernel later : KernelState)
+module _ (honest : Type 0) (within : Within) (bytes name : List ℕ) (numbers : List (List ℕ)) (image : Parts)
+    (call : Call) (kernel later : KernelState)
     (a b : Option (List ℕ)) (asks : Asks bytes name numbers image call) where
-  pub call-ran : (refused : Option RefusedCommand) → refused ≡ None → RanCommands Lenient honest within image (on_line 1 (command.Call call) ∷ []) refused kernel later a b
+  pub call-ran : (refused : Option RefusedCommand) → refused ≡ None → RanCommands Lenient honest within image
+      (on_line 1 (command.Call call) ∷ []) refused kernel later a b
       → RanCall honest within bytes name numbers kernel later a b
-  call-ran refused none ran = all (subst (λ r. RanCommands Lenient honest within image (on_line 1 (command.Call call) ∷ []) r kernel later a b) none ran)
+  call-ran refused none ran =
+      all (subst (λ r. RanCommands Lenient honest within image (on_line 1 (command.Call call) ∷ []) r kernel later a b) none ran)
     where
-      all : RanCommands Lenient honest within image (on_line 1 (command.Call call) ∷ []) None kernel later a b → RanCall honest within bytes name numbers kernel later a b
+      all : RanCommands Lenient honest within image (on_line 1 (command.Call call) ∷ []) None kernel later a b
+          → RanCall honest within bytes name numbers kernel later a b
       all (text, leads, appends) = (text, of_call, appends)
         where
-          of_call : Leads honest within kernel later (λ before after keeps. From (RunsCall (IsAllowed honest) bytes name numbers before after text) before keeps)
+          of_call : Leads honest within kernel later
+              (λ before after keeps. From (RunsCall (IsAllowed honest) bytes name numbers before after text) before keeps)
           of_call f tied =
               let l = leads f tied in
-              record { file = l.file; tied = l.tied; lasts = l.lasts; keeps = l.keeps; does = (l.does.0, (image, call, asks, l.does.1), l.does.2); stops = l.stops }
+              record {
+                file = l.file;
+                tied = l.tied;
+                lasts = l.lasts;
+                keeps = l.keeps;
+                does =
+                    (l.does.0, (image, call, asks, l.does.1), l.does.2);
+                stops = l.stops;
+              }
 
-  pub call-stopped : StoppedCommands Lenient honest within image (on_line 1 (command.Call call) ∷ []) kernel later a b → StoppedCall honest within bytes name numbers kernel later a b
+  pub call-stopped : StoppedCommands Lenient honest within image (on_line 1 (command.Call call) ∷ []) kernel later a b
+      → StoppedCall honest within bytes name numbers kernel later a b
   call-stopped (text, leads, appends) = (text, of_call, appends)
     where
-      of_call : Leads honest within kernel later (λ before after keeps. From (StopsCall (IsAllowed honest) bytes name numbers before after text) before keeps)
+      of_call : Leads honest within kernel later
+          (λ before after keeps. From (StopsCall (IsAllowed honest) bytes name numbers before after text) before keeps)
       of_call f tied =
           let l = leads f tied in
-          record { file = l.file; tied = l.tied; lasts = l.lasts; keeps = l.keeps; does = (l.does.0, (image, call, asks, l.does.1), l.does.2); stops = l.stops }
+          record {
+            file = l.file;
+            tied = l.tied;
+            lasts = l.lasts;
+            keeps = l.keeps;
+            does =
+                (l.does.0, (image, call, asks, l.does.1), l.does.2);
+            stops = l.stops;
+          }

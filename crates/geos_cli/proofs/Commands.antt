@@ -14,7 +14,8 @@ use Rattle.geos_cli.specs.Script.{IsAdmitted, before_blocks, from_blocks, placed
 
 -- a line that says nothing
 pub commands-blank : (image : Parts) (n : ℕ) (line : List ℕ) (lines : List (List ℕ)) → said line ≡ []
-    → (position_from (is_bad image) n (line ∷ lines) ≡ position_from (is_bad image) (n + 1) lines) × (commands_from image n (line ∷ lines) ≡ commands_from image (n + 1) lines)
+    → (position_from (is_bad image) n (line ∷ lines) ≡ position_from (is_bad image) (n + 1) lines)
+    × (commands_from image n (line ∷ lines) ≡ commands_from image (n + 1) lines)
 commands-blank image n line lines e = (rw e refl, rw e refl)
 
 and-false : (b : Bool) → (b && false) ≡ false
@@ -23,13 +24,15 @@ and-false false = refl
 
 -- a line that says a command
 pub commands-more : (image : Parts) (n : ℕ) (line : List ℕ) (lines : List (List ℕ)) (c : Command) → command_of image (said line) ≡ Some c
-    → (position_from (is_bad image) n (line ∷ lines) ≡ position_from (is_bad image) (n + 1) lines) × (commands_from image n (line ∷ lines) ≡ on_line n c ∷ commands_from image (n + 1) lines)
+    → (position_from (is_bad image) n (line ∷ lines) ≡ position_from (is_bad image) (n + 1) lines)
+    × (commands_from image n (line ∷ lines) ≡ on_line n c ∷ commands_from image (n + 1) lines)
 commands-more image n line lines c e =
     let good : is_bad image line ≡ false = rw e (and-false (not (is_empty (said line)))) in
     (rw good refl, rw e refl)
 
 -- a line that says something else
-pub commands-bad : (image : Parts) (n : ℕ) (line word : List ℕ) (words : List (List ℕ)) (lines : List (List ℕ)) → said line ≡ word ∷ words → command_of image (said line) ≡ None
+pub commands-bad : (image : Parts) (n : ℕ) (line word : List ℕ) (words : List (List ℕ)) (lines : List (List ℕ))
+    → said line ≡ word ∷ words → command_of image (said line) ≡ None
     → position_from (is_bad image) n (line ∷ lines) ≡ Some n
 commands-bad image n line word words lines some none =
     let bad : is_bad image line ≡ true = rw (none, some) refl in
@@ -39,7 +42,8 @@ and_then-some : {T U : Type 0} (P : U → Type 0) (f : T → Option U) (o : Opti
 and_then-some P f None h = tt
 and_then-some P f (Some x) h = h x
 
-if_admitted-some : (image : Parts) (call : Call) (b : Bool) → may_ask image call ≡ b → IfSome (if b then Some call else None) (λ c. may_ask image c ≡ true)
+if_admitted-some : (image : Parts) (call : Call) (b : Bool) → may_ask image call ≡ b
+    → IfSome (if b then Some call else None) (λ c. may_ask image c ≡ true)
 if_admitted-some image call true e = e
 if_admitted-some image call false e = tt
 
@@ -56,7 +60,8 @@ any-some None = tt
 any-some (Some x) = tt
 
 -- a call is one that the machine may be asked for
-pub call_named-admitted : (image : Parts) (name : List ℕ) (numbers : List (List ℕ)) → IfSome (call_named image name numbers) (λ c. may_ask image c ≡ true)
+pub call_named-admitted : (image : Parts) (name : List ℕ) (numbers : List (List ℕ))
+    → IfSome (call_named image name numbers) (λ c. may_ask image c ≡ true)
 call_named-admitted image name numbers =
     and_then-some (λ c. may_ask image c ≡ true) _ (routine_named image name)
     (λ r. and_then-some (λ c. may_ask image c ≡ true) _ (registers_of (before_blocks numbers))
@@ -76,10 +81,12 @@ cons_option-all P (Some x) xs h rest = (h, rest)
 
 each-admitted : (image : Parts) (n : ℕ) (lines : List (List ℕ)) → AllByRecursion (λ c. IsAdmitted image c.command) (commands_from image n lines)
 each-admitted image n [] = tt
-each-admitted image n (line ∷ lines) = cons_option-all (λ (c : Numbered). IsAdmitted image c.command) (option_map (on_line n) (command_of image (said line))) (commands_from image (n + 1) lines)
+each-admitted image n (line ∷ lines) = cons_option-all (λ (c : Numbered). IsAdmitted image c.command)
+    (option_map (on_line n) (command_of image (said line))) (commands_from image (n + 1) lines)
     (mapped (λ (c : Numbered). IsAdmitted image c.command) (on_line n) (command_of image (said line)) (command_of-admitted image (said line)))
     (each-admitted image (n + 1) lines)
 
 -- so is each command of a script
 pub commands-admitted : (image : Parts) (lines : List (List ℕ)) → All (λ c. IsAdmitted image c.command) (commands_of image lines)
-commands-admitted image lines = All-from_recursion (λ (c : Numbered). IsAdmitted image c.command) (commands_of image lines) (each-admitted image 1 lines)
+commands-admitted image lines = All-from_recursion (λ (c : Numbered). IsAdmitted image c.command) (commands_of image lines)
+    (each-admitted image 1 lines)

@@ -34,13 +34,15 @@ use Rattle.geos_cli.proofs.Prints.{does-wider, prints-more, ran-wider}
 
 -- what holds over two stretches of time holds over both
 abbrev pub Joins : Type 0 → Within → Within → Within → Type 1
-Joins honest within next whole = honest → (P Q R : List ℕ → Type 0) → ((c : List ℕ) → P c → R c) → ((c : List ℕ) → Q c → R c) → within P → next Q → whole R
+Joins honest within next whole = honest → (P Q R : List ℕ → Type 0) → ((c : List ℕ) → P c → R c) → ((c : List ℕ) → Q c → R c)
+    → within P → next Q → whole R
 
 -- so it is of what stops leave
 pub throughout-then : {D : Type 0} {honest : Type 0} (medium : Medium D) (old mid new : D)
     → Joins honest (Throughout medium old mid) (Throughout medium mid new) (Throughout medium old new)
 throughout-then medium old mid new h P Q R first second (passes, whole) (more, rest) = (
-  goes_on medium.may_have_left old mid new R (weaker medium.may_have_left old mid P R first passes) (weaker medium.may_have_left mid new Q R second more),
+  goes_on medium.may_have_left old mid new R (weaker medium.may_have_left old mid P R first passes)
+      (weaker medium.may_have_left mid new Q R second more),
   λ c l. ⊎_elim (λ past. first c (whole c past)) (λ now. second c now) (more old c l),
 )
 
@@ -57,13 +59,15 @@ StopsBetween honest within kernel later =
     (f g : VmFile) → IsFileOf honest kernel f → IsFileOf honest later g → honest → within (OpensAsOneOf (f.kept ∷ g.kept ∷ []))
 
 -- what came from outside between two kernels is allowed while the count of failures goes from the one to the other
-pub allowed-between : (honest : Type 0) (kernel later : KernelState) → NeverFell honest kernel later → (choice : Choice) → IsChosen honest kernel later choice
+pub allowed-between : (honest : Type 0) (kernel later : KernelState) → NeverFell honest kernel later → (choice : Choice)
+    → IsChosen honest kernel later choice
     → IsAllowed honest (failed_in kernel) (failed_in later) choice
 allowed-between honest kernel later lasts choice chosen = record { given = chosen.given; device = chosen.device; lasts = lasts }
 
 module _ (honest : Type 0) (within : Within) (image : Parts) (kernel later : KernelState) where
   -- a routine was run
-  pub run-leads : (call : Call) (outcome : Outcome) → RunsCall honest within image call outcome kernel later → Leads honest within kernel later (RunsOn (IsAllowed honest) image call (printed outcome.output.items))
+  pub run-leads : (call : Call) (outcome : Outcome) → RunsCall honest within image call outcome kernel later
+      → Leads honest within kernel later (RunsOn (IsAllowed honest) image call (printed outcome.output.items))
   unfolding ran-wider
   run-leads call outcome ran f tied =
       let r = ran f tied in
@@ -119,24 +123,31 @@ module _ (honest : Type 0) (within : Within) (image : Parts) (kernel later : Ker
 
   module _ (a b : Option (List ℕ)) where
     -- a call was carried out, and printed
-    pub call-ran : (call : Call) (outcome : Outcome) → Leads honest within kernel later (RunsLent (IsAllowed honest) image call (printed outcome.output.items)) → Appends a b (printed outcome.output.items)
+    pub call-ran : (call : Call) (outcome : Outcome)
+        → Leads honest within kernel later (RunsLent (IsAllowed honest) image call (printed outcome.output.items))
+        → Appends a b (printed outcome.output.items)
         → RanCommand honest within image (command.Call call) (Ok tt) kernel later a b
     call-ran call outcome ran shown = (printed outcome.output.items, call-leads call outcome (printed outcome.output.items) refl ran, shown)
 
     -- the writer failed while it was printed
-    pub call-stopped : (call : Call) (outcome : Outcome) → Leads honest within kernel later (RunsLent (IsAllowed honest) image call (printed outcome.output.items)) → AppendsPart a b (printed outcome.output.items)
+    pub call-stopped : (call : Call) (outcome : Outcome)
+        → Leads honest within kernel later (RunsLent (IsAllowed honest) image call (printed outcome.output.items))
+        → AppendsPart a b (printed outcome.output.items)
         → StoppedCommand honest within image (command.Call call) kernel later a b
     call-stopped call outcome ran (part, rest, e, some, q) = (part, rest, Ok tt, some, call-leads call outcome (part ++ rest) (sym e) ran, q)
 
     -- a block was refused, and that was printed
-    pub not-lent : (call : Call) (why : Refusal) → Leads honest within kernel later (NotLent (IsAllowed honest) (lent_by image call) why) → Appends a b (committed (Err why))
+    pub not-lent : (call : Call) (why : Refusal) → Leads honest within kernel later (NotLent (IsAllowed honest) (lent_by image call) why)
+        → Appends a b (committed (Err why))
         → RanCommand honest within image (command.Call call) (Err why) kernel later a b
     not-lent call why refused shown = (committed (Err why), not-lent-leads call why (committed (Err why)) refl refused, shown)
 
     -- the writer failed then
-    pub not-lent-stopped : (call : Call) (why : Refusal) → Leads honest within kernel later (NotLent (IsAllowed honest) (lent_by image call) why) → AppendsPart a b (committed (Err why))
+    pub not-lent-stopped : (call : Call) (why : Refusal) → Leads honest within kernel later (NotLent (IsAllowed honest) (lent_by image call) why)
+        → AppendsPart a b (committed (Err why))
         → StoppedCommand honest within image (command.Call call) kernel later a b
-    not-lent-stopped call why refused (part, rest, e, some, q) = (part, rest, Err why, some, not-lent-leads call why (part ++ rest) (sym e) refused, q)
+    not-lent-stopped call why refused (part, rest, e, some, q) =
+        (part, rest, Err why, some, not-lent-leads call why (part ++ rest) (sym e) refused, q)
 
     -- a commit was done or refused, and that was printed
     pub commit-ran : StopsBetween honest within kernel later → (how : How) (result : Result (Unit {0}) Refusal)
@@ -148,12 +159,18 @@ module _ (honest : Type 0) (within : Within) (image : Parts) (kernel later : Ker
     pub commit-stopped : StopsBetween honest within kernel later → (how : How) (result : Result (Unit {0}) Refusal)
         → Calls honest (commit (keeper_of how)) result kernel later → AppendsPart a b (committed result)
         → StoppedCommand honest within image (command.Commit how) kernel later a b
-    commit-stopped stops how result calls (part, rest, e, some, q) = (part, rest, result, some, commit-leads stops how result (part ++ rest) (sym e) calls, q)
+    commit-stopped stops how result calls (part, rest, e, some, q) =
+        (part, rest, result, some, commit-leads stops how result (part ++ rest) (sym e) calls, q)
 
 -- the same where other words say that the device is honest
 module _ (other good : Type 0) (alike : other ↔ good) (within : Within) (image : Parts) (c : Command) (kernel later : KernelState) where
   wider : (before now : ℕ) (choice : Choice) → IsAllowed other before now choice → IsAllowed good before now choice
-  wider before now choice allowed = record { given = λ g. allowed.given (alike.1 g); device = λ g t. allowed.device (alike.1 g) t; lasts = λ g. allowed.lasts (alike.1 g) }
+  wider before now choice allowed = record {
+    given = λ g. allowed.given (alike.1 g);
+    device = λ g t. allowed.device
+        (alike.1 g) t;
+    lasts = λ g. allowed.lasts (alike.1 g);
+  }
 
   leads-alike : (result : Result (Unit {0}) Refusal) (text : List ℕ)
       → Leads other within kernel later (λ before after keeps. Does (IsAllowed other) image c result before after text keeps)
@@ -173,18 +190,28 @@ module _ (other good : Type 0) (alike : other ↔ good) (within : Within) (image
       → RanCommand other within image c result kernel later a b → RanCommand good within image c result kernel later a b
   ran-alike result a b (text, leads, appends) = (text, leads-alike result text leads, appends)
 
-  pub stopped-alike : (a b : Option (List ℕ)) → StoppedCommand other within image c kernel later a b → StoppedCommand good within image c kernel later a b
+  pub stopped-alike : (a b : Option (List ℕ)) → StoppedCommand other within image c kernel later a b
+      → StoppedCommand good within image c kernel later a b
   stopped-alike a b (part, rest, result, some, leads, appends) = (part, rest, result, some, leads-alike result (part ++ rest) leads, appends)
 
 -- All of them
 
 -- before the first command
 pub ran-none : (mode : Mode) (honest : Type 0) (within : Within) (image : Parts) (kernel : KernelState) (a : Option (List ℕ))
-    → ((f : VmFile) → IsFileOf honest kernel f → honest → within (OpensAsOneOf (f.kept ∷ []))) → RanCommands mode honest within image [] None kernel kernel a a
+    → ((f : VmFile) → IsFileOf honest kernel f → honest → within (OpensAsOneOf (f.kept ∷ [])))
+    → RanCommands mode honest within image [] None kernel kernel a a
 ran-none mode honest within image kernel a started = ([], leads, Appends-nil a)
   where
     leads : Leads honest within kernel kernel (λ before after keeps. From (Prints mode (IsAllowed honest) image [] before after []) before keeps)
-    leads f tied = record { file = f; tied = tied; lasts = λ g. inl refl; keeps = f.kept ∷ []; does = ([], (refl, refl, refl), refl); stops = started f tied }
+    leads f tied = record {
+      file = f;
+      tied = tied;
+      lasts = λ g. inl refl;
+      keeps = f.kept ∷ [];
+      does =
+          ([], (refl, refl, refl), refl);
+      stops = started f tied;
+    }
 
 -- behind the last one
 pub ran-all : (mode : Mode) (honest : Type 0) (within : Within) (image : Parts) (commands : List Numbered) (k : ℕ) (kernel later : KernelState)
@@ -194,12 +221,15 @@ ran-all mode honest within image commands k kernel later a b past ran =
     subst (λ cs. RanCommands mode honest within image cs None kernel later a b) (take_all k commands past) ran
 
 -- and a flush keeps what the writer got
-pub ran-kept : (mode : Mode) (honest : Type 0) (within : Within) (image : Parts) (commands : List Numbered) (kernel later : KernelState) (a b c : Option (List ℕ))
-    → RanCommands mode honest within image commands None kernel later a b → Keeps b c → RanCommands mode honest within image commands None kernel later a c
+pub ran-kept : (mode : Mode) (honest : Type 0) (within : Within) (image : Parts) (commands : List Numbered)
+    (kernel later : KernelState) (a b c : Option (List ℕ))
+    → RanCommands mode honest within image commands None kernel later a b → Keeps b c
+    → RanCommands mode honest within image commands None kernel later a c
 ran-kept mode honest within image commands kernel later a b c (text, leads, appends) kept = (text, leads, Appends-kept a b c text appends kept)
 
 -- commands stand before the one at k, and behind it
-split-at : (commands : List Numbered) (k : ℕ) (default : Numbered) → k < length commands → commands ≡ take k commands ++ (get_or commands k default ∷ drop (suc k) commands)
+split-at : (commands : List Numbered) (k : ℕ) (default : Numbered) → k < length commands
+    → commands ≡ take k commands ++ (get_or commands k default ∷ drop (suc k) commands)
 split-at commands k default in_range = sym (take-append-drop k commands) ∙ ap (λ cs. take k commands ++ cs) (drop-cons commands k default in_range)
 
 -- behind one more command, that one is the last
@@ -214,19 +244,23 @@ last-done image commands k default in_range =
     ap (last_may_commit image) (take_more commands k default in_range) ∙ last-added image (take k commands) (get_or commands k default)
 
 -- the flush before a command failed
-pub stopped-ahead : (mode : Mode) (honest : Type 0) (within : Within) (image : Parts) (commands : List Numbered) (k : ℕ) (default : Numbered) (kernel later : KernelState)
+pub stopped-ahead : (mode : Mode) (honest : Type 0) (within : Within) (image : Parts) (commands : List Numbered)
+    (k : ℕ) (default : Numbered) (kernel later : KernelState)
     (a b : Option (List ℕ)) → k < length commands → RanCommands mode honest within image (take k commands) None kernel later a b
     → (behind ahead : Bool) → behind ≡ last_may_commit image (take k commands) → ahead ≡ may_commit image (get_or commands k default).command
     → (behind || ahead) ≡ true → StoppedCommands mode honest within image commands kernel later a b
-stopped-ahead mode honest within image commands k default kernel later a b in_range (text, prints, appends) behind ahead last next due = (text, leads, appends)
+stopped-ahead mode honest within image commands k default kernel later a b in_range (text, prints, appends) behind ahead last next due =
+    (text, leads, appends)
   where
     is_due : is_flush_due image (take k commands) (get_or commands k default).command ≡ true
     is_due = ap (λ l. l || may_commit image (get_or commands k default).command) (sym last) ∙ ap (λ n. behind || n) (sym next) ∙ due
 
-    leads : Leads honest within kernel later (λ before after keeps. From (PrintsUpTo mode (IsAllowed honest) image commands before after text) before keeps)
+    leads : Leads honest within kernel later
+        (λ before after keeps. From (PrintsUpTo mode (IsAllowed honest) image commands before after text) before keeps)
     leads f tied =
         let earlier = prints f tied in
-        let ahead : PrintsAhead mode (IsAllowed honest) image commands (stage_of kernel f) (stage_of later earlier.file) text earlier.does.0 = record {
+        let ahead : PrintsAhead mode (IsAllowed honest) image commands (stage_of kernel f) (stage_of later earlier.file) text earlier.does.0 =
+        record {
           done = take k commands;
           next = get_or commands k default;
           others = drop (suc k) commands;
@@ -234,7 +268,15 @@ stopped-ahead mode honest within image commands k default kernel later a b in_ra
           due = is_due;
           printed_all = earlier.does.1;
         } in
-        record { file = earlier.file; tied = earlier.tied; lasts = earlier.lasts; keeps = earlier.keeps; does = (earlier.does.0, inr ahead, earlier.does.2); stops = earlier.stops }
+        record {
+          file = earlier.file;
+          tied = earlier.tied;
+          lasts = earlier.lasts;
+          keeps = earlier.keeps;
+          does =
+              (earlier.does.0, inr ahead, earlier.does.2);
+          stops = earlier.stops;
+        }
 
 -- what is kept in one of some states is kept in one of more
 pub one-left : (xs ys : List Kept) (c : List ℕ) → OpensAsOneOf xs c → OpensAsOneOf (xs ++ ys) c
@@ -246,7 +288,8 @@ pub one-right : (xs ys : List Kept) (c : List ℕ) → OpensAsOneOf ys c → Ope
 one-right [] ys c h = h
 one-right (x ∷ xs) ys c h = inr (one-right xs ys c h)
 
-module _ (mode : Mode) (honest : Type 0) (within next whole : Within) (join : Joins honest within next whole) (image : Parts) (commands : List Numbered) (k : ℕ)
+module _ (mode : Mode) (honest : Type 0) (within next whole : Within) (join : Joins honest within next whole)
+    (image : Parts) (commands : List Numbered) (k : ℕ)
     (default : Numbered) (kernel mid later : KernelState) (a b c : Option (List ℕ)) (in_range : k < length commands) where
   -- what a stop leaves over both stretches
   joined : (first : Kept) (earlier all own : List Kept) → all ≡ first ∷ earlier → within (OpensAsOneOf all) → next (OpensAsOneOf own) → honest
@@ -286,7 +329,8 @@ module _ (mode : Mode) (honest : Type 0) (within next whole : Within) (join : Jo
   pub ran-refused : (refused : RefusedCommand) → refused.line ≡ here.line → (result : Result (Unit {0}) Refusal) → result ≡ Err refused.refusal
       → RanCommands mode honest within image (take k commands) None kernel mid a b → RanCommand honest next image here.command result mid later b c
       → RanCommands mode honest whole image commands (Some refused) kernel later a c
-  ran-refused refused at result is (text, prints, appends) (shown, does, behind) = (text ++ shown, leads, Appends-trans a b c text shown appends behind)
+  ran-refused refused at result is (text, prints, appends) (shown, does, behind) =
+      (text ++ shown, leads, Appends-trans a b c text shown appends behind)
     where
       leads : Leads honest whole kernel later (λ before after keeps. From
           (PrintsRefused mode (IsAllowed honest) image commands refused before after (text ++ shown)) before keeps)
@@ -294,7 +338,8 @@ module _ (mode : Mode) (honest : Type 0) (within next whole : Within) (join : Jo
           let earlier = prints f tied in
           let r = does earlier.file earlier.tied in
           let kept = earlier.does.0 in
-          let ends : PrintsRefused mode (IsAllowed honest) image commands refused (stage_of kernel f) (stage_of later r.file) (text ++ shown) (kept ++ r.keeps) = record {
+          let ends : PrintsRefused mode (IsAllowed honest) image commands refused (stage_of kernel f) (stage_of later r.file)
+          (text ++ shown) (kept ++ r.keeps) = record {
             done = take k commands;
             last = here;
             others = drop (suc k) commands;
@@ -306,7 +351,8 @@ module _ (mode : Mode) (honest : Type 0) (within next whole : Within) (join : Jo
             kept_earlier = kept;
             kept_last = r.keeps;
             printed_earlier = earlier.does.1;
-            does = subst (λ o. Does (IsAllowed honest) image here.command o (stage_of mid earlier.file) (stage_of later r.file) shown r.keeps) is r.does;
+            does = subst (λ o. Does (IsAllowed honest) image here.command o (stage_of mid earlier.file) (stage_of later r.file) shown r.keeps)
+                is r.does;
             written = refl;
             kept = refl;
           } in
@@ -320,16 +366,19 @@ module _ (mode : Mode) (honest : Type 0) (within next whole : Within) (join : Jo
           }
 
   -- the writer failed while it was printed
-  pub stopped-at : RanCommands mode honest within image (take k commands) None kernel mid a b → StoppedCommand honest next image here.command mid later b c
+  pub stopped-at : RanCommands mode honest within image (take k commands) None kernel mid a b
+      → StoppedCommand honest next image here.command mid later b c
       → StoppedCommands mode honest whole image commands kernel later a c
   stopped-at (text, prints, appends) (part, rest, result, some, does, behind) = (text ++ part, leads, Appends-trans a b c text part appends behind)
     where
-      leads : Leads honest whole kernel later (λ before after keeps. From (PrintsUpTo mode (IsAllowed honest) image commands before after (text ++ part)) before keeps)
+      leads : Leads honest whole kernel later
+          (λ before after keeps. From (PrintsUpTo mode (IsAllowed honest) image commands before after (text ++ part)) before keeps)
       leads f tied =
           let earlier = prints f tied in
           let r = does earlier.file earlier.tied in
           let kept = earlier.does.0 in
-          let stops : PrintsPart mode (IsAllowed honest) image commands (stage_of kernel f) (stage_of later r.file) (text ++ part) (kept ++ r.keeps) = record {
+          let stops : PrintsPart mode (IsAllowed honest) image commands (stage_of kernel f) (stage_of later r.file)
+          (text ++ part) (kept ++ r.keeps) = record {
             done = take k commands;
             last = here;
             others = drop (suc k) commands;
@@ -366,23 +415,44 @@ if_err-map (Ok x) fault m p = tt
 if_err-map (Err e) fault m p = λ is. m p
 
 -- the commands of a script on an image that was loaded
-module _ (mode : Mode) (honest : Type 0) (within : Within) (bytes script : List ℕ) (image : Parts) (kernel later : KernelState) (a b : Option (List ℕ))
-    (short : length script ≤ most_bytes) (loads : Loads bytes (lines script) image) (items : List Numbered) (all : items ≡ commands_of image (lines script)) where
+module _ (mode : Mode) (honest : Type 0) (within : Within) (bytes script : List ℕ) (image : Parts) (kernel later : KernelState)
+    (a b : Option (List ℕ))
+    (short : length script ≤ most_bytes) (loads : Loads bytes (lines script) image) (items : List Numbered)
+    (all : items ≡ commands_of image (lines script)) where
   pub script-ran : (refused : Option RefusedCommand) → RanCommands mode honest within image items refused kernel later a b
       → RanScript mode honest within bytes script refused kernel later a b
   script-ran refused (text, leads, appends) = (text, of_script, appends)
     where
-      of_script : Leads honest within kernel later (λ before after keeps. From (RunsScript mode (IsAllowed honest) bytes script refused before after text) before keeps)
+      of_script : Leads honest within kernel later
+          (λ before after keeps. From (RunsScript mode (IsAllowed honest) bytes script refused before after text) before keeps)
       of_script f tied =
           let l = subst (λ cs. Leads honest within kernel later
           (λ before after keeps. From (PrintsTo mode (IsAllowed honest) image cs refused before after text) before keeps)) all leads f tied in
-          record { file = l.file; tied = l.tied; lasts = l.lasts; keeps = l.keeps; does = (l.does.0, (short, (image, loads, l.does.1)), l.does.2); stops = l.stops }
+          record {
+            file = l.file;
+            tied = l.tied;
+            lasts = l.lasts;
+            keeps = l.keeps;
+            does =
+                (l.does.0, (short, (image, loads, l.does.1)), l.does.2);
+            stops = l.stops;
+          }
 
-  pub script-stopped : StoppedCommands mode honest within image items kernel later a b → StoppedScript mode honest within bytes script kernel later a b
+  pub script-stopped : StoppedCommands mode honest within image items kernel later a b
+      → StoppedScript mode honest within bytes script kernel later a b
   script-stopped (text, leads, appends) = (text, of_script, appends)
     where
-      of_script : Leads honest within kernel later (λ before after keeps. From (StopsScript mode (IsAllowed honest) bytes script before after text) before keeps)
+      of_script : Leads honest within kernel later
+          (λ before after keeps. From (StopsScript mode (IsAllowed honest) bytes script before after text) before keeps)
       of_script f tied =
           let l = subst (λ cs. Leads honest within kernel later
           (λ before after keeps. From (PrintsUpTo mode (IsAllowed honest) image cs before after text) before keeps)) all leads f tied in
-          record { file = l.file; tied = l.tied; lasts = l.lasts; keeps = l.keeps; does = (l.does.0, (short, (image, loads, l.does.1)), l.does.2); stops = l.stops }
+          record {
+            file = l.file;
+            tied = l.tied;
+            lasts = l.lasts;
+            keeps = l.keeps;
+            does =
+                (l.does.0, (short, (image, loads, l.does.1)), l.does.2);
+            stops = l.stops;
+          }

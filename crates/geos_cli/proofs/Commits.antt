@@ -21,8 +21,10 @@ left-unlocked choice m pair refusal.Disk none = cond_both choice.unsure (in_doub
 left-unlocked choice m pair why none = none
 
 -- nor behind any
-pub commit-unlocked : (keeper : Keeper) (choice : Choice) (m after : Memory) (result : Result (Unit {0}) Refusal) → NoneLocked m → outcome (effect_of (commit keeper) choice m) ≡ (result, after) → NoneLocked after
-commit-unlocked keeper choice m after result none comes = subst NoneLocked (ap (λ (x : Result (Unit {0}) Refusal × Memory). x.1) comes) (go (first_refusal (effect_of (commit keeper) choice m).refusals))
+pub commit-unlocked : (keeper : Keeper) (choice : Choice) (m after : Memory) (result : Result (Unit {0}) Refusal)
+    → NoneLocked m → outcome (effect_of (commit keeper) choice m) ≡ (result, after) → NoneLocked after
+commit-unlocked keeper choice m after result none comes = subst NoneLocked (ap (λ (x : Result (Unit {0}) Refusal × Memory). x.1) comes)
+    (go (first_refusal (effect_of (commit keeper) choice m).refusals))
   where
     given : Memory
     given = given_memory choice.given m

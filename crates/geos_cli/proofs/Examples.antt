@@ -44,7 +44,8 @@ commit_computed keeper before now choice memory allowed =
     pair = pair_to_keep keeper given
 
     on : (unsure big memory device : Bool) → device ≡ false
-        → (come_to {A = Unit {0}} (first_refusal ((unsure, refusal.Unsure) ∷ (big, refusal.TooBig) ∷ (memory, refusal.Memory) ∷ (device, refusal.Disk) ∷ [])) (left_by_commit choice given pair) tt (committed given pair)).0 ≡ Err refusal.Disk → ⊥
+        → (come_to {A = Unit {0}} (first_refusal ((unsure, refusal.Unsure) ∷ (big, refusal.TooBig) ∷ (memory, refusal.Memory)
+        ∷ (device, refusal.Disk) ∷ [])) (left_by_commit choice given pair) tt (committed given pair)).0 ≡ Err refusal.Disk → ⊥
     on true big memory device none is = absurd cc
     on false true memory device none is = absurd cc
     on false false true device none is = absurd cc

@@ -27,18 +27,22 @@ use Rattle.geos_text.specs.Words.{most_bytes}
 use Rattle.geos_cli.specs.Script.{commands_of, Loads, GoesOn, RanCommand, StoppedCommand, IsBadImage, IsBadLine}
 
 -- a command that was stopped while it printed into memory was carried out all the same
-pub stopped-plainly : {D : Type 0} (medium : Medium D) (form : Form) (image : Parts) (command : Command) (kernel later : KernelOn D) (a b : Option (List ℕ)) (c : Option (List ℕ))
+pub stopped-plainly : {D : Type 0} (medium : Medium D) (form : Form) (image : Parts) (command : Command)
+    (kernel later : KernelOn D) (a b : Option (List ℕ)) (c : Option (List ℕ))
     → StoppedCommand (medium.honest kernel.device) (Throughout medium kernel.device later.device) image command kernel.core later.core b c
     → StoppedShown medium form image command kernel later a a
 stopped-plainly medium form image command kernel later a b c (part, rest, result, some, leads, appends) =
     (result, part ++ rest, [], shown_in form image command (part ++ rest), (part ++ rest, leads, refl), refl, Appends-nil a)
 
 -- a command ran, and printed into nothing so far; the text is that in the form
-module _ {D : Type 0} (medium : Medium D) (form : Form) (image : Parts) (command : Command) (result : Result (Unit {0}) Refusal) (kernel later : KernelOn D)
+module _ {D : Type 0} (medium : Medium D) (form : Form) (image : Parts) (command : Command) (result : Result (Unit {0}) Refusal)
+    (kernel later : KernelOn D)
     (first plain text : List ℕ) (a b : Option (List ℕ)) (empty : first ≡ []) (is : text ≡ shown_in form image command plain)
-    (ran : RanCommand (medium.honest kernel.device) (Throughout medium kernel.device later.device) image command result kernel.core later.core (Some first) (Some plain)) where
+    (ran : RanCommand (medium.honest kernel.device) (Throughout medium kernel.device later.device) image command
+    result kernel.core later.core (Some first) (Some plain)) where
   runs : RunsPlainly medium image command result kernel later plain
-  runs = subst (λ f. RanCommand (medium.honest kernel.device) (Throughout medium kernel.device later.device) image command result kernel.core later.core (Some f) (Some plain)) empty ran
+  runs = subst (λ f. RanCommand (medium.honest kernel.device) (Throughout medium kernel.device later.device) image
+      command result kernel.core later.core (Some f) (Some plain)) empty ran
 
   -- a writer got it
   pub shown-all : Appends a b text → RanShown medium form image command result kernel later a b
@@ -58,12 +62,22 @@ any_command = record { line = 0; command = command.Commit Update }
 
 module _ {D : Type 0} (medium : Medium D) (form : Form) (image : Parts) where
   -- one more command is carried out behind the others
-  pub runs-more : (mode : Mode) (commands : List Numbered) (kernel between later : KernelOn D) (text : List ℕ) (last : Numbered) (result : Result (Unit {0}) Refusal) (plain : List ℕ)
-      → RunsInForm medium form mode image commands kernel between text → RunsPlainly medium image last.command result between later plain → GoesOn mode result
+  pub runs-more : (mode : Mode) (commands : List Numbered) (kernel between later : KernelOn D) (text : List ℕ)
+      (last : Numbered) (result : Result (Unit {0}) Refusal) (plain : List ℕ)
+      → RunsInForm medium form mode image commands kernel between text → RunsPlainly medium image last.command result between later plain
+      → GoesOn mode result
       → RunsInForm medium form mode image (commands ++ last ∷ []) kernel later (text ++ shown_in form image last.command plain)
   runs-more mode [] kernel between later text last result plain (same, none) runs goes =
-      let shown = shown_in form image last.command plain in
-      (later, plain, [], result, subst (λ k. RunsPlainly medium image last.command result k later plain) same runs, goes, (refl, refl), ap (λ t. t ++ shown) none ∙ sym (append-nil shown))
+      let shown = shown_in form image last.command plain in (
+        later,
+        plain,
+        [],
+        result,
+        subst (λ k. RunsPlainly medium image last.command result k later plain) same runs,
+        goes,
+        (refl, refl),
+        ap (λ t. t ++ shown) none ∙ sym (append-nil shown),
+      )
   runs-more mode (first ∷ commands) kernel between later text last result plain (next, own, others, came, runs_first, went, rest, e) runs goes =
       let shown = shown_in form image last.command plain in (
         next,
@@ -100,15 +114,22 @@ module _ {D : Type 0} (medium : Medium D) (form : Form) (image : Parts) where
       split = sym (take-append-drop k commands) ∙ ap (λ cs. take k commands ++ cs) (drop-cons commands k default in_range)
 
       -- one more was carried out, and the script goes on
-      pub more-ran : (result : Result (Unit {0}) Refusal) → GoesOn mode result → RanInForm medium form mode image (take k commands) None kernel between a b
-          → RanShown medium form image here.command result between later b c → RanInForm medium form mode image (take (k + 1) commands) None kernel later a c
+      pub more-ran : (result : Result (Unit {0}) Refusal) → GoesOn mode result
+          → RanInForm medium form mode image (take k commands) None kernel between a b
+          → RanShown medium form image here.command result between later b c
+          → RanInForm medium form mode image (take (k + 1) commands) None kernel later a c
       more-ran result goes (text, runs, appends) (plain, own, shows) =
-          let all = runs-more mode (take k commands) kernel between later text here result plain runs own goes in
-          (text ++ shown_in form image here.command plain, rw (take_more commands k default in_range) all, Appends-trans a b c text (shown_in form image here.command plain) appends shows)
+          let all = runs-more mode (take k commands) kernel between later text here result plain runs own goes in (
+            text ++ shown_in form image here.command plain,
+            rw (take_more commands k default in_range) all,
+            Appends-trans a b c text (shown_in form image here.command plain) appends shows,
+          )
 
       -- it was refused, and the script does not go on
-      pub refused-ran : (refused : RefusedCommand) → mode ≡ Strict → refused.line ≡ here.line → (result : Result (Unit {0}) Refusal) → result ≡ Err refused.refusal
-          → RanInForm medium form mode image (take k commands) None kernel between a b → RanShown medium form image here.command result between later b c
+      pub refused-ran : (refused : RefusedCommand) → mode ≡ Strict → refused.line ≡ here.line → (result : Result (Unit {0}) Refusal)
+          → result ≡ Err refused.refusal
+          → RanInForm medium form mode image (take k commands) None kernel between a b
+          → RanShown medium form image here.command result between later b c
           → RanInForm medium form mode image commands (Some refused) kernel later a c
       refused-ran refused strict at result is (text, runs, appends) (plain, own, shows) =
           let ends : RefusesInForm medium form mode image commands refused kernel later (text ++ shown_in form image here.command plain) = record {
@@ -123,11 +144,16 @@ module _ {D : Type 0} (medium : Medium D) (form : Form) (image : Parts) where
             runs = runs;
             refuses = subst (λ r. RunsPlainly medium image here.command r between later plain) is own;
             written = refl;
-          } in
-          (text ++ shown_in form image here.command plain, (strict, ends), Appends-trans a b c text (shown_in form image here.command plain) appends shows)
+          } in (
+            text ++ shown_in form image here.command plain,
+            (strict, ends),
+            Appends-trans a b c text
+                (shown_in form image here.command plain) appends shows,
+          )
 
       -- the writer failed, or memory was refused, while it was printed
-      pub stopped-at : RanInForm medium form mode image (take k commands) None kernel between a b → StoppedShown medium form image here.command between later b c
+      pub stopped-at : RanInForm medium form mode image (take k commands) None kernel between a b
+          → StoppedShown medium form image here.command between later b c
           → StoppedInForm medium form mode image commands kernel later a c
       stopped-at (text, runs, appends) (result, plain, part, rest, own, parts, shows) = (
         text ++ part,
@@ -167,9 +193,12 @@ module _ {D : Type 0} (medium : Medium D) (form : Form) (image : Parts) where
     )
 
 -- the commands of a script on an image that was loaded
-module _ {D : Type 0} (medium : Medium D) (form : Form) (own mode : Mode) (bytes script : List ℕ) (image : Parts) (kernel later : KernelOn D) (a b : Option (List ℕ))
-    (short : length script ≤ most_bytes) (loads : Loads bytes (lines script) image) (items : List Numbered) (all : items ≡ commands_of image (lines script)) (as_said : own ≡ mode) where
-  pub script-ran : (refused : Option RefusedCommand) → RanInForm medium form own image items refused kernel later a b → RanScriptInForm medium form mode bytes script refused kernel later a b
+module _ {D : Type 0} (medium : Medium D) (form : Form) (own mode : Mode) (bytes script : List ℕ) (image : Parts)
+    (kernel later : KernelOn D) (a b : Option (List ℕ))
+    (short : length script ≤ most_bytes) (loads : Loads bytes (lines script) image) (items : List Numbered)
+    (all : items ≡ commands_of image (lines script)) (as_said : own ≡ mode) where
+  pub script-ran : (refused : Option RefusedCommand) → RanInForm medium form own image items refused kernel later a b
+      → RanScriptInForm medium form mode bytes script refused kernel later a b
   script-ran refused ran =
       let of_script = subst (λ cs. RanInForm medium form own image cs refused kernel later a b) all ran in
       (image, short, loads, subst (λ m. RanInForm medium form m image (commands_of image (lines script)) refused kernel later a b) as_said of_script)
@@ -191,7 +220,8 @@ leaves-kept bytes (BadScript line) kept stopped bad k = k
 leaves-kept bytes Read kept stopped bad k = k
 leaves-kept bytes Write kept stopped bad k = absurd bad
 
-pub leaves-bad_line : (image : Parts) (ls : List (List ℕ)) (fault : ScriptFault) (kept stopped : Type 0) → IsBadLine image ls fault → kept → Leaves fault kept stopped
+pub leaves-bad_line : (image : Parts) (ls : List (List ℕ)) (fault : ScriptFault) (kept stopped : Type 0)
+    → IsBadLine image ls fault → kept → Leaves fault kept stopped
 leaves-bad_line image ls (BadScript line) kept stopped bad k = k
 leaves-bad_line image ls Memory kept stopped bad k = inl k
 leaves-bad_line image ls (BadImage at) kept stopped bad k = k
@@ -206,7 +236,8 @@ leaves-stopped fault kept stopped (inl is) s = subst (λ f. Leaves f kept stoppe
 leaves-stopped fault kept stopped (inr is) s = subst (λ f. Leaves f kept stopped) (sym is) (inr s)
 
 -- so it is of each fault of commands
-pub fault-leaves : {A : Type 0} (result : Result A ScriptFault) (kept stopped whole : Type 0) → (stopped → whole) → IfErr result (λ fault. (fault ≡ Write) ⊎ (fault ≡ Memory))
+pub fault-leaves : {A : Type 0} (result : Result A ScriptFault) (kept stopped whole : Type 0) → (stopped → whole)
+    → IfErr result (λ fault. (fault ≡ Write) ⊎ (fault ≡ Memory))
     → IfErr result (λ _. stopped) → IfErr result (λ fault. Leaves fault kept whole)
 fault-leaves (Ok x) kept stopped whole m which s = tt
 fault-leaves (Err e) kept stopped whole m which s = leaves-stopped e kept whole which (m s)

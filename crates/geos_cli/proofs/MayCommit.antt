@@ -38,7 +38,8 @@ module _ {A : Type 0} (test : A → Bool) where
       go false e others = let end : k + suc n ≡ k + 1 + n = omega arith in rw (e, end) others
 
 -- a call may commit where the first instruction that commits stands in front of the end of its routine
-pub call-may : (image : Parts) (call : Call) (routine : Routine) (start : ℕ) → slice_get image.routines call.routine ≡ Some routine → start ≡ start_of image.routines call.routine
+pub call-may : (image : Parts) (call : Call) (routine : Routine) (start : ℕ) → slice_get image.routines call.routine ≡ Some routine
+    → start ≡ start_of image.routines call.routine
     → may_commit image (command.Call call) ≡ is_before (start + routine.count) (first_commit image.points)
 call-may image call routine start there start_is =
     let end : start_of image.routines (call.routine + 1) ≡ start + routine.count =

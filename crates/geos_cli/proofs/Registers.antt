@@ -6,7 +6,8 @@ use Rattle.std.specs.Prelude.{nat_le, cond, option_map}
 use Rattle.geos_text.specs.Numbers.{number_of}
 use Rattle.geos_cli.specs.Script.{before_blocks, from_blocks, names_block, numbers_of, registers_of}
 
-map-front : (front : List ℕ) (n : ℕ) (ns : Option (List ℕ)) → option_map (λ ms. front ++ ms) (option_map (λ ms. n ∷ ms) ns) ≡ option_map (λ ms. (front ++ n ∷ []) ++ ms) ns
+map-front : (front : List ℕ) (n : ℕ) (ns : Option (List ℕ)) → option_map (λ ms. front ++ ms) (option_map (λ ms. n ∷ ms) ns) ≡ option_map
+    (λ ms. (front ++ n ∷ []) ++ ms) ns
 map-front front n None = refl
 map-front front n (Some ns) = ap Some (sym (append_assoc front (n ∷ []) ns))
 
@@ -18,10 +19,12 @@ one-less zero = refl
 one-less (suc m) = let e : suc m - 1 ≡ m = omega arith in rw e refl
 
 -- what stands behind a register that is set is still 0
-pub zeros-behind : (registers : List ℕ) (i n : ℕ) → drop i registers ≡ replicate (8 - i) 0 → drop (i + 1) (set registers i n) ≡ replicate (8 - (i + 1)) 0
+pub zeros-behind : (registers : List ℕ) (i n : ℕ) → drop i registers ≡ replicate (8 - i) 0
+    → drop (i + 1) (set registers i n) ≡ replicate (8 - (i + 1)) 0
 zeros-behind registers i n zeros =
     let less : 8 - i - 1 ≡ 8 - (i + 1) = omega arith in
-    drop-set-lt (i + 1) registers i n (omega arith) ∙ sym (drop-drop 1 i registers) ∙ ap (drop 1) zeros ∙ one-less (8 - i) ∙ ap (λ k. replicate k 0) less
+    drop-set-lt (i + 1) registers i n (omega arith) ∙ sym (drop-drop 1 i registers) ∙ ap (drop 1) zeros ∙ one-less (8 - i)
+    ∙ ap (λ k. replicate k 0) less
 
 -- each word so far is a number
 pub numbers-more : (all rest : List (List ℕ)) (word : List ℕ) (registers : List ℕ) (i n : ℕ) → i < length registers → number_of word ≡ Some n
@@ -44,7 +47,8 @@ numbers-bad all rest word front e so_far =
     rw none (neither (nat_le (length all) 8))
 
 -- no more than eight words
-pub numbers-end : (all : List (List ℕ)) (registers : List ℕ) (i : ℕ) → length registers ≡ 8 → i ≤ 8 → length all ≡ i + 0 → drop i registers ≡ replicate (8 - i) 0
+pub numbers-end : (all : List (List ℕ)) (registers : List ℕ) (i : ℕ) → length registers ≡ 8 → i ≤ 8 → length all ≡ i + 0
+    → drop i registers ≡ replicate (8 - i) 0
     → numbers_of all ≡ option_map (λ ns. take i registers ++ ns) (numbers_of []) → registers_of all ≡ Some registers
 numbers-end all registers i eight le len zeros so_far =
     let few : nat_le (length all) 8 ≡ true = grind (arith, len) in

@@ -24,7 +24,8 @@ use Rattle.geos_cli.specs.Commits.{commits_at, OtherCallsKeep}
 use Rattle.geos_cli.proofs.StepsKeep.{IsUpTo, Keeps, exec-keeps}
 
 -- none of the first points commits
-none-commits : (points : List Point) (n k : ℕ) (point : Point) → list_any commits_at (take n points) ≡ false → k < n → slice_get points k ≡ Some point → commits_at point ≡ false
+none-commits : (points : List Point) (n k : ℕ) (point : Point) → list_any commits_at (take n points) ≡ false → k < n
+    → slice_get points k ≡ Some point → commits_at point ≡ false
 none-commits [] n k point never lt there = absurd cc
 none-commits (x ∷ points) zero k point never lt there = absurd (omega arith)
 none-commits (x ∷ points) (suc n) zero point never lt there =
@@ -39,7 +40,8 @@ routine-of : (start pc : ℕ) (o : Option Routine) → elim o [ None ↦ false |
 routine-of start pc None inside = absurd cc
 routine-of start pc (Some routine) inside = (routine, refl, inside)
 
-module _ (image : Parts) (legal : is_image image ≡ true) (accepted : Accepted image) (r : ℕ) (never : list_any commits_at (take (start_of image.routines (r + 1)) image.points) ≡ false)
+module _ (image : Parts) (legal : is_image image ≡ true) (accepted : Accepted image) (r : ℕ)
+    (never : list_any commits_at (take (start_of image.routines (r + 1)) image.points) ≡ false)
     (kept : Kept) where
   -- the instruction at a pc of a routine up to r does not commit, and calls a routine up to r
   here-keeps : (choice : Choice) (s : State) → s.memory.file.kept ≡ kept → IsUpTo r s → (point : Point) → slice_get image.points s.pc ≡ Some point
@@ -78,11 +80,13 @@ module _ (image : Parts) (legal : is_image image ≡ true) (accepted : Accepted 
       at (Some point) there = within-keeps point there (in_routine image s.routine s.pc) refl
 
   -- what is kept in each state of a run
-  along-keeps : (choices : List Choice) (s : State) → s.memory.file.kept ≡ kept → IsUpTo r s → AllByRecursion (λ k. k ≡ kept) (kept_along image choices s)
+  along-keeps : (choices : List Choice) (s : State) → s.memory.file.kept ≡ kept → IsUpTo r s
+      → AllByRecursion (λ k. k ≡ kept) (kept_along image choices s)
   along-keeps [] s same below = (same, tt)
   along-keeps (choice ∷ choices) s same below = (same, next (along-keeps choices) (step image choice s) (step-keeps choice s same below))
     where
-      next : ((t : State) → t.memory.file.kept ≡ kept → IsUpTo r t → AllByRecursion (λ k. k ≡ kept) (kept_along image choices t)) → (o : Outcome) → Keeps kept r o
+      next : ((t : State) → t.memory.file.kept ≡ kept → IsUpTo r t → AllByRecursion (λ k. k ≡ kept) (kept_along image choices t))
+          → (o : Outcome) → Keeps kept r o
           → AllByRecursion (λ k. k ≡ kept) (elim o [ Fault ↦ [] | Next t ↦ kept_along image choices t | Done t ↦ t.memory.file.kept ∷ [] ])
       next later Fault keeps = tt
       next later (Next t) keeps = later t keeps.0 keeps.1
@@ -92,19 +96,27 @@ module _ (image : Parts) (legal : is_image image ≡ true) (accepted : Accepted 
   run-keeps : (choices : List Choice) (n : ℕ) (s : State) → s.memory.file.kept ≡ kept → IsUpTo r s → (steps : ℕ) (last : State)
       → run image 0 choices n s ≡ Returned steps last → last.memory.file.kept ≡ kept
   run-keeps [] n s same below steps last ran = absurd cc
-  run-keeps (choice ∷ choices) n s same below steps last ran = next (run-keeps choices (n + 1)) (step image choice s) (step-keeps choice s same below) ran
+  run-keeps (choice ∷ choices) n s same below steps last ran = next (run-keeps choices (n + 1)) (step image choice s)
+      (step-keeps choice s same below) ran
     where
       back : (t : State) → t.memory.file.kept ≡ kept → (b : Bool) (rest : Ending) → (rest ≡ Returned steps last → last.memory.file.kept ≡ kept)
           → cond b (Returned (n + 1) t) rest ≡ Returned steps last → last.memory.file.kept ≡ kept
       back t same true rest later is = let at : t ≡ last = cc in subst (λ (u : State). u.memory.file.kept ≡ kept) at same
       back t same false rest later is = later is
 
-      next : ((t : State) → t.memory.file.kept ≡ kept → IsUpTo r t → (steps : ℕ) (last : State) → run image 0 choices (n + 1) t ≡ Returned steps last → last.memory.file.kept ≡ kept)
+      next : ((t : State) → t.memory.file.kept ≡ kept → IsUpTo r t → (steps : ℕ) (last : State)
+          → run image 0 choices (n + 1) t ≡ Returned steps last → last.memory.file.kept ≡ kept)
           → (o : Outcome) → Keeps kept r o
-          → elim o [ Fault ↦ Faulted | Next t ↦ cond (nat_lt (length t.stack) 0) (Returned (n + 1) t) (run image 0 choices (n + 1) t) | Done t ↦ Returned (n + 1) t ] ≡ Returned steps last
+          → elim o [
+            | Fault ↦ Faulted
+            | Next t ↦ cond (nat_lt (length t.stack) 0) (Returned (n + 1) t)
+                (run image 0 choices (n + 1) t)
+            | Done t ↦ Returned (n + 1) t
+          ] ≡ Returned steps last
           → last.memory.file.kept ≡ kept
       next later Fault keeps is = absurd cc
-      next later (Next t) keeps is = back t keeps.0 (nat_lt (length t.stack) 0) (run image 0 choices (n + 1) t) (later t keeps.0 keeps.1 steps last) is
+      next later (Next t) keeps is = back t keeps.0 (nat_lt (length t.stack) 0) (run image 0 choices (n + 1) t)
+          (later t keeps.0 keeps.1 steps last) is
       next later (Done t) keeps is = let at : t ≡ last = cc in subst (λ (u : State). u.memory.file.kept ≡ kept) at keeps
 
 -- a call that may not commit keeps what is kept

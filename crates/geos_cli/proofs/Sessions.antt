@@ -53,33 +53,46 @@ hex-ends bytes short Write h = absurd h
 module _ (honest : Type 0) (good : honest) where
   never-failed : (before now : ℕ) (choice : Choice) → IsAllowed honest before now choice → now ≡ 0 → before ≡ 0
   never-failed before now choice allowed zero =
-      ⊎_elim (λ same. sym same ∙ zero) (λ risen. ⊎_elim (λ less. omega (arith, less, zero)) (λ most. omega (arith, most, zero)) risen) (allowed.lasts good)
+      ⊎_elim (λ same. sym same ∙ zero) (λ risen. ⊎_elim (λ less. omega (arith, less, zero)) (λ most. omega (arith, most, zero)) risen)
+      (allowed.lasts good)
 
   in-memory : (before now : ℕ) → before ≡ 0 → now ≡ 0 → (choice : Choice) → IsAllowed honest before now choice → IsInMemory before now choice
   in-memory before now first last choice allowed = record { device = refuses choice.device refl; given = allowed.given good }
     where
       refuses : (b : Bool) → choice.device ≡ b → choice.device ≡ false
       refuses false is = is
-      refuses true is = (let risen : ⊥ = ⊎_elim (λ less. omega (arith, less, last)) (λ most. omega (arith, most, last)) (allowed.device good is) in absurd risen)
+      refuses true is = (let risen : ⊥ = ⊎_elim (λ less. omega (arith, less, last)) (λ most. omega (arith, most, last)) (allowed.device good is) in
+          absurd risen)
 
   runs-honest : (bytes : List ℕ) (ls : List (List ℕ)) (before after : Stage) (text : List ℕ) (keeps : List Kept) → after.failed ≡ 0
       → Runs Lenient (IsAllowed honest) bytes ls None before after text keeps → Runs Lenient IsInMemory bytes ls None before after text keeps
-  runs-honest bytes ls before after text keeps zero (image, loads, prints) =
-      (image, loads, prints-still (IsAllowed honest) IsInMemory never-failed in-memory Lenient image (commands_of image ls) before after text keeps zero prints)
+  runs-honest bytes ls before after text keeps zero (image, loads, prints) = (
+    image,
+    loads,
+    prints-still (IsAllowed honest) IsInMemory never-failed in-memory Lenient image (commands_of image ls)
+        before after text keeps zero prints,
+  )
 
   stops-honest : (bytes : List ℕ) (ls : List (List ℕ)) (before after : Stage) (text : List ℕ) (keeps : List Kept) → after.failed ≡ 0
       → Stops Lenient (IsAllowed honest) bytes ls before after text keeps → Stops Lenient IsInMemory bytes ls before after text keeps
-  stops-honest bytes ls before after text keeps zero (image, loads, part) =
-      (image, loads, up_to-still (IsAllowed honest) IsInMemory never-failed in-memory Lenient image (commands_of image ls) before after text keeps zero part)
+  stops-honest bytes ls before after text keeps zero (image, loads, part) = (
+    image,
+    loads,
+    up_to-still (IsAllowed honest) IsInMemory never-failed in-memory Lenient image (commands_of image ls)
+        before after text keeps zero part,
+  )
 
 -- a device that fails at no call within its length, and has room for the file, has not failed behind a script
-pub never-fails : {D : Type 0} (medium : Medium D) (old new : KernelOn D) → IsSteady medium → HasRoom medium.image (vm_file_of old) → Steadily medium (vm_file_of old) (vm_file_of new)
+pub never-fails : {D : Type 0} (medium : Medium D) (old new : KernelOn D) → IsSteady medium → HasRoom medium.image (vm_file_of old)
+    → Steadily medium (vm_file_of old) (vm_file_of new)
     → SeesDevice medium old × SeesDevice medium new → failed_in old.core ≡ 0 → failed_in new.core ≡ 0
 never-fails medium old new steady room steadily sees none = sees.1 ∙ (steadily steady room).1 ∙ sym sees.0 ∙ none
 
 -- bytes have an image and a script, which runs on a kernel without a block
-module _ (honest : Type 0) (bytes items image script : List ℕ) (kernel later : KernelState) (good : honest) (short : length bytes ≤ most_bytes) (digits : hex_fault (lines bytes) ≡ None)
-    (items_is : items ≡ image_bytes (lines bytes)) (script_is : lines script ≡ script_lines (lines bytes)) (lent : image ≡ items) (tied : IsFileOf honest kernel (empty_file 65536))
+module _ (honest : Type 0) (bytes items image script : List ℕ) (kernel later : KernelState) (good : honest)
+    (short : length bytes ≤ most_bytes) (digits : hex_fault (lines bytes) ≡ None)
+    (items_is : items ≡ image_bytes (lines bytes)) (script_is : lines script ≡ script_lines (lines bytes))
+    (lent : image ≡ items) (tied : IsFileOf honest kernel (empty_file 65536))
     (empty : (f : VmFile) → memory_of kernel f ≡ record no_blocks { file = f }) (none : failed_in kernel ≡ 0)
     (still : failed_in later ≡ 0) where
   -- where the first command begins
@@ -92,32 +105,42 @@ module _ (honest : Type 0) (bytes items image script : List ℕ) (kernel later :
       ∙ ap (λ n. let s : Stage = record { memory = no_blocks; failed = n } in s) none
 
   -- what holds of the script holds of the lines behind `end`
-  in-session : (P : List ℕ → List (List ℕ) → Stage → Type 0) → P image (lines script) first → P (image_bytes (lines bytes)) (script_lines (lines bytes)) begun
+  in-session : (P : List ℕ → List (List ℕ) → Stage → Type 0) → P image (lines script) first
+      → P (image_bytes (lines bytes)) (script_lines (lines bytes)) begun
   in-session P h =
       let with_image = subst (λ i. P i (lines script) first) (lent ∙ items_is) h in
       let with_script = subst (λ ls. P (image_bytes (lines bytes)) ls first) script_is with_image in
       subst (λ s. P (image_bytes (lines bytes)) (script_lines (lines bytes)) s) first-begun with_script
 
   -- the script ran
-  runs : (text : List ℕ) (after : Stage) (keeps : List Kept) → after.failed ≡ 0 → RunsScript Lenient (IsAllowed honest) image script None first after text keeps
-      → (after : Stage) × (keeps : List Kept) × Runs Lenient IsInMemory (image_bytes (lines bytes)) (script_lines (lines bytes)) None begun after text keeps
-  runs text after keeps zero h =
-      (after, keeps, in-session (λ i ls s. Runs Lenient IsInMemory i ls None s after text keeps) (runs-honest honest good image (lines script) first after text keeps zero h.1))
+  runs : (text : List ℕ) (after : Stage) (keeps : List Kept) → after.failed ≡ 0
+      → RunsScript Lenient (IsAllowed honest) image script None first after text keeps
+      → (after : Stage) × (keeps : List Kept) × Runs Lenient IsInMemory (image_bytes (lines bytes))
+      (script_lines (lines bytes)) None begun after text keeps
+  runs text after keeps zero h = (
+    after,
+    keeps,
+    in-session (λ i ls s. Runs Lenient IsInMemory i ls None s after text keeps)
+        (runs-honest honest good image (lines script) first after text keeps zero h.1),
+  )
 
   -- and the flush kept what the writer got
-  pub session-ran : {within : Within} (a b c : Option (List ℕ)) → RanScript Lenient honest within image script None kernel later a b → Keeps b c → RanBytes bytes a c
+  pub session-ran : {within : Within} (a b c : Option (List ℕ)) → RanScript Lenient honest within image script None kernel later a b
+      → Keeps b c → RanBytes bytes a c
   session-ran {within} a b c (text, leads, appends) kept =
       let l = leads (empty_file 65536) tied in
       (text, (short, digits, runs text (stage_of later l.file) l.does.0 still l.does.1), Appends-kept a b c text appends kept)
 
   -- or the flush failed
-  pub session-unflushed : {within : Within} (a b c : Option (List ℕ)) → RanScript Lenient honest within image script None kernel later a b → Keeps b c → StoppedBytes bytes a c
+  pub session-unflushed : {within : Within} (a b c : Option (List ℕ)) → RanScript Lenient honest within image script None kernel later a b
+      → Keeps b c → StoppedBytes bytes a c
   session-unflushed {within} a b c (text, leads, appends) kept =
       let l = leads (empty_file 65536) tied in
       (text, (short, digits, inr (runs text (stage_of later l.file) l.does.0 still l.does.1)), Appends-kept a b c text appends kept)
 
   -- where it ran, the writer may have failed
-  pub session-due : {within : Within} (a b : Option (List ℕ)) → RanScript Lenient honest within image script None kernel later a b → EndsBytes bytes Write
+  pub session-due : {within : Within} (a b : Option (List ℕ)) → RanScript Lenient honest within image script None kernel later a b
+      → EndsBytes bytes Write
   session-due {within} a b (text, leads, appends) =
       let h = (leads (empty_file 65536) tied).does.1 in
       (short, digits, in-session (λ i ls s. (parts : Parts) × Loads i ls parts) (h.1.0, h.1.1))
@@ -134,7 +157,8 @@ module _ (honest : Type 0) (bytes items image script : List ℕ) (kernel later :
   session-ends shorter Memory h = tt
 
   -- the script was stopped
-  pub session-stopped : {within : Within} (a b : Option (List ℕ)) → StoppedScript Lenient honest within image script kernel later a b → StoppedBytes bytes a b
+  pub session-stopped : {within : Within} (a b : Option (List ℕ)) → StoppedScript Lenient honest within image script kernel later a b
+      → StoppedBytes bytes a b
   session-stopped {within} a b (text, leads, appends) =
       let l = leads (empty_file 65536) tied in
       let after = stage_of later l.file in
@@ -144,7 +168,8 @@ module _ (honest : Type 0) (bytes items image script : List ℕ) (kernel later :
       (text, (short, digits, inl (after, keeps, stops)), appends)
 
 -- a fault that is the writer's
-pub if-write : {A : Type 0} (P : Type 0) (Q : ScriptFault → Type 0) (result : Result A ScriptFault) → IfErr result (λ fault. (fault ≡ Write) × P) → Q Write → IfErr result Q
+pub if-write : {A : Type 0} (P : Type 0) (Q : ScriptFault → Type 0) (result : Result A ScriptFault)
+    → IfErr result (λ fault. (fault ≡ Write) × P) → Q Write → IfErr result Q
 if-write P Q (Ok x) h q = tt
 if-write P Q (Err e) h q = subst Q (sym h.0) q
 

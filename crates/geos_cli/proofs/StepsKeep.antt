@@ -51,7 +51,8 @@ abbrev Puts : {A : Type 0} → (A → State → State) → Type 0
 Puts {A} put = (x : A) (t : State) → ((put x t).memory ≡ t.memory) × ((put x t).routine ≡ t.routine) × ((put x t).stack ≡ t.stack)
 
 -- what a call answers changes nothing in memory
-unanswered-same : {A : Type 0} (o : Option Refusal) (left : Refusal → Memory) (x : A) (after : Memory) → (come_to {A = Unit {0}} o left tt after).1 ≡ (come_to o left x after).1
+unanswered-same : {A : Type 0} (o : Option Refusal) (left : Refusal → Memory) (x : A) (after : Memory)
+    → (come_to {A = Unit {0}} o left tt after).1 ≡ (come_to o left x after).1
 unanswered-same None left x after = refl
 unanswered-same (Some why) left x after = refl
 
@@ -69,7 +70,9 @@ module _ (kept : Kept) (r : ℕ) (choice : Choice) (i : Instr) (s : State) (same
   out-keeps (Some why) words = (same, below)
 
   call-keeps : (image : Parts) (b : Bool) → i.imm ≤ r
-      → Keeps kept r (if b then Next (record s { routine = i.imm; pc = start_of image.routines i.imm; stack = record { routine = s.routine; pc = s.pc + 1 } ∷ s.stack }) else Fault)
+      → Keeps kept r (if b then Next
+      (record s { routine = i.imm; pc = start_of image.routines i.imm; stack = record { routine = s.routine; pc = s.pc + 1 } ∷ s.stack }) else
+      Fault)
   call-keeps image true low = (same, (low, below))
   call-keeps image false low = tt
 
@@ -77,11 +80,15 @@ module _ (kept : Kept) (r : ℕ) (choice : Choice) (i : Instr) (s : State) (same
   return-keeps [] each = same
   return-keeps (frame ∷ stack) each = (same, each)
 
-  answered-keeps : {A : Type 0} (put : A → State → State) → Puts put → (pointers : List (Option SlotReference)) (p : Result A Refusal × Memory) → p.1.file.kept ≡ kept
+  answered-keeps : {A : Type 0} (put : A → State → State) → Puts put → (pointers : List (Option SlotReference)) (p : Result A Refusal × Memory)
+      → p.1.file.kept ≡ kept
       → Keeps kept r (answered i put (record s { pointers = pointers }) p)
   answered-keeps put puts pointers (Ok x, memory) k =
-      let here = puts x (record s { pointers = pointers; memory = memory }) in
-      (ap (λ (m : Memory). m.file.kept) here.0 ∙ k, (subst (λ n. n ≤ r) (sym here.1) below.0, subst (Each (λ (frame : Frame). frame.routine ≤ r)) (sym here.2) below.1))
+      let here = puts x (record s { pointers = pointers; memory = memory }) in (
+        ap (λ (m : Memory). m.file.kept) here.0
+            ∙ k,
+        (subst (λ n. n ≤ r) (sym here.1) below.0, subst (Each (λ (frame : Frame). frame.routine ≤ r)) (sym here.2) below.1),
+      )
   answered-keeps put puts pointers (Err why, memory) k = (k, below)
 
   -- a call of the table that is no commit
@@ -96,13 +103,16 @@ module _ (kept : Kept) (r : ℕ) (choice : Choice) (i : Instr) (s : State) (same
       let e = row choice s.memory in
       sym (unanswered-same (first_refusal e.refusals) e.left e.answer e.after)
 
-  tested : {A : Type 0} (b : Bool) (why : Refusal) (x : A) (after : Memory) → after.file.kept ≡ kept → (come_to (if b then Some why else None) (unchanged s.memory) x after).1.file.kept ≡ kept
+  tested : {A : Type 0} (b : Bool) (why : Refusal) (x : A) (after : Memory) → after.file.kept ≡ kept
+      → (come_to (if b then Some why else None) (unchanged s.memory) x after).1.file.kept ≡ kept
   tested true why x after k = same
   tested false why x after k = k
 
   load-keeps : (width : Width) (at : ℕ) → Keeps kept r (reads width at choice i s)
-  load-keeps Byte at = answered-keeps (with_word i.a) (λ x t. (refl, refl, refl)) (kept_pointers i.a Nothing s.pointers) (outcome (load8 (reference_at s i.b) at choice s.memory)) same
-  load-keeps Both at = answered-keeps (with_word i.a) (λ x t. (refl, refl, refl)) (kept_pointers i.a Nothing s.pointers) (outcome (load16 (reference_at s i.b) at choice s.memory)) same
+  load-keeps Byte at = answered-keeps (with_word i.a) (λ x t. (refl, refl, refl)) (kept_pointers i.a Nothing s.pointers)
+      (outcome (load8 (reference_at s i.b) at choice s.memory)) same
+  load-keeps Both at = answered-keeps (with_word i.a) (λ x t. (refl, refl, refl)) (kept_pointers i.a Nothing s.pointers)
+      (outcome (load16 (reference_at s i.b) at choice s.memory)) same
 
   load_within-keeps : (width : Width) (at : ℕ) → Keeps kept r (reads_within width at choice i s)
   load_within-keeps Byte at =
@@ -121,7 +131,8 @@ module _ (kept : Kept) (r : ℕ) (choice : Choice) (i : Instr) (s : State) (same
   store-keeps width at =
       let ref = reference_at s i.b in
       let bytes = low_bytes width (word s i.a) in
-      answered-keeps nowhere (λ x t. (refl, refl, refl)) (kept_pointers i.a Nothing s.pointers) (outcome (store ref at bytes choice s.memory)) (stored ref at bytes)
+      answered-keeps nowhere (λ x t. (refl, refl, refl)) (kept_pointers i.a Nothing s.pointers)
+      (outcome (store ref at bytes choice s.memory)) (stored ref at bytes)
 
   store_within-keeps : (width : Width) (at : ℕ) → Keeps kept r (writes_within width at choice i s)
   store_within-keeps width at =
@@ -131,32 +142,40 @@ module _ (kept : Kept) (r : ℕ) (choice : Choice) (i : Instr) (s : State) (same
       (tested (nat_lt ref.len (at + bytes_in width)) Range tt (store ref at bytes choice s.memory).after (stored ref at bytes))
 
   change-keeps : (change : Change) → Keeps kept r (changing change choice i s)
-  change-keeps change = row-keeps (change_row (name_at s i.a) change) nowhere (λ x t. (refl, refl, refl)) (table.Changes (name_at s i.a) change) refl refl
+  change-keeps change = row-keeps (change_row (name_at s i.a) change) nowhere (λ x t. (refl, refl, refl))
+      (table.Changes (name_at s i.a) change) refl refl
 
   make-keeps : (make : Make) → Keeps kept r (making make choice i s)
-  make-keeps make = row-keeps (make_row (name_at s i.a) make) (with_word i.b) (λ x t. (refl, refl, refl)) (table.Makes (name_at s i.a) make) refl (told (make_row (name_at s i.a) make))
+  make-keeps make = row-keeps (make_row (name_at s i.a) make) (with_word i.b) (λ x t. (refl, refl, refl))
+      (table.Makes (name_at s i.a) make) refl (told (make_row (name_at s i.a) make))
 
   ask-keeps : (ask : Ask) → Keeps kept r (asking ask choice i s)
-  ask-keeps ask = row-keeps (ask_row (name_at s i.a) ask) (with_word i.b) (λ x t. (refl, refl, refl)) (table.Asks (name_at s i.a) ask) refl (told (ask_row (name_at s i.a) ask))
+  ask-keeps ask = row-keeps (ask_row (name_at s i.a) ask) (with_word i.b) (λ x t. (refl, refl, refl))
+      (table.Asks (name_at s i.a) ask) refl (told (ask_row (name_at s i.a) ask))
 
   refer-keeps : (refer : Refer) → Keeps kept r (referring refer choice i s)
-  refer-keeps refer = row-keeps (refer_row (name_at s i.a) refer) (leading i.b i.a) (λ x t. (refl, refl, refl)) (table.Refers (name_at s i.a) refer) refl (told (refer_row (name_at s i.a) refer))
+  refer-keeps refer = row-keeps (refer_row (name_at s i.a) refer) (leading i.b i.a) (λ x t. (refl, refl, refl))
+      (table.Refers (name_at s i.a) refer) refl (told (refer_row (name_at s i.a) refer))
 
   unlock-keeps : Keeps kept r (unlocking choice i s)
-  unlock-keeps = row-keeps (unlock (name_at s i.a)) (λ done t. with_slot i.a None t) (λ x t. (refl, refl, refl)) (table.Unlock (name_at s i.a)) refl refl
+  unlock-keeps = row-keeps (unlock (name_at s i.a)) (λ done t. with_slot i.a None t) (λ x t. (refl, refl, refl))
+      (table.Unlock (name_at s i.a)) refl refl
 
   mark-keeps : Keeps kept r (marking choice i s)
   mark-keeps = row-keeps (vdirty (name_at s i.a).h) nowhere (λ x t. (refl, refl, refl)) (table.Vdirty (name_at s i.a).h) refl refl
 
   change_item-keeps : (g : ℕ) (change : Change) → Keeps kept r (changing_items g change choice i s)
-  change_item-keeps g change = row-keeps (on_group g (change_row (vm g) change)) nowhere (λ x t. (refl, refl, refl)) (table.ChangesItem g change) refl refl
+  change_item-keeps g change = row-keeps (on_group g (change_row (vm g) change)) nowhere (λ x t. (refl, refl, refl))
+      (table.ChangesItem g change) refl refl
 
   make_item-keeps : (g : ℕ) (make : Make) → Keeps kept r (making_item g make choice i s)
   make_item-keeps g make =
-      row-keeps (on_group g (make_row (vm g) make)) (with_word i.a) (λ x t. (refl, refl, refl)) (table.MakesItem g make) refl (told (on_group g (make_row (vm g) make)))
+      row-keeps (on_group g (make_row (vm g) make)) (with_word i.a) (λ x t. (refl, refl, refl)) (table.MakesItem g make)
+      refl (told (on_group g (make_row (vm g) make)))
 
   -- an instruction that does not commit
-  pub exec-keeps : (image : Parts) (opcode : Opcode) → commits opcode ≡ false → (opcode ≡ op.Call → i.imm ≤ r) → Keeps kept r (exec image choice i opcode s)
+  pub exec-keeps : (image : Parts) (opcode : Opcode) → commits opcode ≡ false → (opcode ≡ op.Call → i.imm ≤ r)
+      → Keeps kept r (exec image choice i opcode s)
   exec-keeps image op.Ldi never low = (same, below)
   exec-keeps image op.Mov never low = (same, below)
   exec-keeps image op.Add never low = (same, below)
@@ -174,8 +193,10 @@ module _ (kept : Kept) (r : ℕ) (choice : Choice) (i : Instr) (s : State) (same
   exec-keeps image op.Call never low = call-keeps image (nat_lt (length s.stack) most_returns) (low refl)
   exec-keeps image op.Ret never low = return-keeps s.stack below.1
   exec-keeps image op.Out never low = out-keeps (first_refusal ((nat_le most_output (length s.output), Full) ∷ [])) (s.output ++ word s i.a ∷ [])
-  exec-keeps image op.Mnew never low = row-keeps mnew (λ h t. holding MemBlock i.a h (with_word i.b h t)) (λ x t. (refl, refl, refl)) table.Mnew refl (told mnew)
-  exec-keeps image op.Mlock never low = row-keeps (mlock (word s i.b)) (λ done t. holding MemBlock i.a (word s i.b) t) (λ x t. (refl, refl, refl)) (table.Mlock (word s i.b)) refl refl
+  exec-keeps image op.Mnew never low = row-keeps mnew (λ h t. holding MemBlock i.a h (with_word i.b h t))
+      (λ x t. (refl, refl, refl)) table.Mnew refl (told mnew)
+  exec-keeps image op.Mlock never low = row-keeps (mlock (word s i.b)) (λ done t. holding MemBlock i.a (word s i.b) t)
+      (λ x t. (refl, refl, refl)) (table.Mlock (word s i.b)) refl refl
   exec-keeps image op.Munlock never low = unlock-keeps
   exec-keeps image op.Mfree never low = row-keeps (mfree (word s i.a)) nowhere (λ x t. (refl, refl, refl)) (table.Mfree (word s i.a)) refl refl
   exec-keeps image op.Sne never low = branch-keeps (same_name (name_at s i.a) (name_at s i.b))
@@ -201,7 +222,8 @@ module _ (kept : Kept) (r : ℕ) (choice : Choice) (i : Instr) (s : State) (same
   exec-keeps image op.Stcw never low = store_within-keeps Both (word s i.c)
   exec-keeps image op.Movp never low = (same, below)
   exec-keeps image op.Copy never low =
-      row-keeps (copy (reference_at s i.a) (reference_at s i.b) i.imm) nowhere (λ x t. (refl, refl, refl)) (table.Copy (reference_at s i.a) (reference_at s i.b) i.imm) refl refl
+      row-keeps (copy (reference_at s i.a) (reference_at s i.b) i.imm) nowhere (λ x t. (refl, refl, refl))
+      (table.Copy (reference_at s i.a) (reference_at s i.b) i.imm) refl refl
   exec-keeps image op.Plen never low = (same, below)
   exec-keeps image op.Canew never low = make-keeps (make.Canew i.imm)
   exec-keeps image op.Caadd never low = change-keeps (change.Caadd (word s i.b) (word s i.c))
@@ -211,13 +233,17 @@ module _ (kept : Kept) (r : ℕ) (choice : Choice) (i : Instr) (s : State) (same
   exec-keeps image op.Caelt never low = refer-keeps (refer.Caelt (word s i.c) (word s i.d) i.imm)
   exec-keeps image op.Cazero never low = change-keeps (change.Cazero (word s i.b))
   exec-keeps image op.Caresize never low = change-keeps (change.Caresize (word s i.b) (word s i.c) (word s i.d))
-  exec-keeps image op.Vnew never low = row-keeps (vnew (word s i.c)) (λ h t. holding VmBlock i.a h (with_word i.b h t)) (λ x t. (refl, refl, refl)) (table.Vnew (word s i.c)) refl (told (vnew (word s i.c)))
-  exec-keeps image op.Vlock never low = row-keeps (vlock (word s i.b)) (λ done t. holding VmBlock i.a (word s i.b) t) (λ x t. (refl, refl, refl)) (table.Vlock (word s i.b)) refl refl
+  exec-keeps image op.Vnew never low = row-keeps (vnew (word s i.c)) (λ h t. holding VmBlock i.a h (with_word i.b h t))
+      (λ x t. (refl, refl, refl)) (table.Vnew (word s i.c)) refl (told (vnew (word s i.c)))
+  exec-keeps image op.Vlock never low = row-keeps (vlock (word s i.b)) (λ done t. holding VmBlock i.a (word s i.b) t)
+      (λ x t. (refl, refl, refl)) (table.Vlock (word s i.b)) refl refl
   exec-keeps image op.Vdirty never low = mark-keeps
   exec-keeps image op.Vunlock never low = unlock-keeps
   exec-keeps image op.Vfree never low = row-keeps (vfree (word s i.a)) nowhere (λ x t. (refl, refl, refl)) (table.Vfree (word s i.a)) refl refl
-  exec-keeps image op.Vfind never low = row-keeps (vfind (word s i.b) (word s i.c)) (with_word i.a) (λ x t. (refl, refl, refl)) (table.Vfind (word s i.b) (word s i.c)) refl (told (vfind (word s i.b) (word s i.c)))
-  exec-keeps image op.Vuid never low = row-keeps (vuid (word s i.b)) (with_word i.a) (λ x t. (refl, refl, refl)) (table.Vuid (word s i.b)) refl (told (vuid (word s i.b)))
+  exec-keeps image op.Vfind never low = row-keeps (vfind (word s i.b) (word s i.c)) (with_word i.a) (λ x t. (refl, refl, refl))
+      (table.Vfind (word s i.b) (word s i.c)) refl (told (vfind (word s i.b) (word s i.c)))
+  exec-keeps image op.Vuid never low = row-keeps (vuid (word s i.b)) (with_word i.a) (λ x t. (refl, refl, refl))
+      (table.Vuid (word s i.b)) refl (told (vuid (word s i.b)))
   exec-keeps image op.Vgetmap never low = row-keeps vgetmap (with_word i.a) (λ x t. (refl, refl, refl)) table.Vgetmap refl (told vgetmap)
   exec-keeps image op.Vsetmap never low = row-keeps (vsetmap (word s i.a)) nowhere (λ x t. (refl, refl, refl)) (table.Vsetmap (word s i.a)) refl refl
   exec-keeps image op.Vupdate never low = absurd cc
@@ -231,9 +257,12 @@ module _ (kept : Kept) (r : ℕ) (choice : Choice) (i : Instr) (s : State) (same
   exec-keeps image op.Iins never low = change_item-keeps (word s i.a) (change.Lins (word s i.b) (word s i.c) (word s i.d))
   exec-keeps image op.Idel never low = change_item-keeps (word s i.a) (change.Ldel (word s i.b) (word s i.c) (word s i.d))
   exec-keeps image op.Ilock never low =
-      row-keeps (ilock (word s i.c) (word s i.d) i.imm) (λ ref t. leading i.b i.a ref (holding DbGroup i.a (word s i.c) t)) (λ x t. (refl, refl, refl)) (table.Ilock (word s i.c) (word s i.d) i.imm) refl
+      row-keeps (ilock (word s i.c) (word s i.d) i.imm) (λ ref t. leading i.b i.a ref (holding DbGroup i.a (word s i.c) t))
+      (λ x t. (refl, refl, refl)) (table.Ilock (word s i.c) (word s i.d) i.imm) refl
       (told (ilock (word s i.c) (word s i.d) i.imm))
   exec-keeps image op.Idirty never low = mark-keeps
   exec-keeps image op.Iunlock never low = unlock-keeps
-  exec-keeps image op.Igetmap never low = row-keeps igetmap (λ item t. with_word i.b item.1 (with_word i.a item.0 t)) (λ x t. (refl, refl, refl)) table.Igetmap refl (told igetmap)
-  exec-keeps image op.Isetmap never low = row-keeps (isetmap (word s i.a) (word s i.b)) nowhere (λ x t. (refl, refl, refl)) (table.Isetmap (word s i.a) (word s i.b)) refl refl
+  exec-keeps image op.Igetmap never low = row-keeps igetmap (λ item t. with_word i.b item.1 (with_word i.a item.0 t))
+      (λ x t. (refl, refl, refl)) table.Igetmap refl (told igetmap)
+  exec-keeps image op.Isetmap never low = row-keeps (isetmap (word s i.a) (word s i.b)) nowhere (λ x t. (refl, refl, refl))
+      (table.Isetmap (word s i.a) (word s i.b)) refl refl

@@ -21,7 +21,8 @@ pub record IsUnwritten {D : Type 0} (medium : Medium D) (old new : D) : Type 0 w
 
 -- bytes were put and the file updated, or a step before that was refused and nothing was written, or the update was refused
 abbrev pub EndsWithUpdate : {D : Type 0} → Medium D → KernelOn D → KernelOn D → Result (Unit {0}) Refusal → Type 0
-EndsWithUpdate {D} medium old new (Ok done) = (between : KernelOn D) × IsUnwritten medium old.device between.device × Commits medium Update between new (Ok done)
+EndsWithUpdate {D} medium old new (Ok done) = (between : KernelOn D) × IsUnwritten medium old.device between.device
+    × Commits medium Update between new (Ok done)
 EndsWithUpdate {D} medium old new (Err refusal) =
     IsUnwritten medium old.device new.device
     ⊎ ((between : KernelOn D) × IsUnwritten medium old.device between.device × Commits medium Update between new (Err refusal))

@@ -42,7 +42,8 @@ pub record IsFirstWrong (image : Parts) (name : List ℕ) (numbers : List (List 
 -- those behind the numbers
 abbrev pub IsWhyNoCall : Parts → List ℕ → List (List ℕ) → CallFault → Type 0
 IsWhyNoCall image name words (BadWord at) = IsFirstWrong image name (before_blocks words) at
-IsWhyNoCall image name words (BadBlocks n) = (takes image name (before_blocks words) ≡ true) × (call_named image name words ≡ None) × (n ≡ borrowed image name)
+IsWhyNoCall image name words (BadBlocks n) = (takes image name (before_blocks words) ≡ true) × (call_named image name words ≡ None)
+    × (n ≡ borrowed image name)
 IsWhyNoCall image name words (Script fault) = ⊥
 
 -- bytes spell an image that the verifier accepts, and the call is that of its routine with the name, on the numbers and the blocks behind them
@@ -54,12 +55,14 @@ pub record Asks (bytes name : List ℕ) (words : List (List ℕ)) (image : Parts
 -- that call runs, from stage to stage, and prints the text
 abbrev pub RunsCall : Allows → List ℕ → List ℕ → List (List ℕ) → Stage → Stage → List ℕ → List Kept → Type 0
 RunsCall allows bytes name words before after text keeps =
-    (image : Parts) × (call : Call) × Asks bytes name words image call × Prints Lenient allows image (on_line 1 (command.Call call) ∷ []) before after text keeps
+    (image : Parts) × (call : Call) × Asks bytes name words image call
+    × Prints Lenient allows image (on_line 1 (command.Call call) ∷ []) before after text keeps
 
 -- that call has come to the stage after and printed the text when the writer fails
 abbrev pub StopsCall : Allows → List ℕ → List ℕ → List (List ℕ) → Stage → Stage → List ℕ → List Kept → Type 0
 StopsCall allows bytes name words before after text keeps =
-    (image : Parts) × (call : Call) × Asks bytes name words image call × PrintsUpTo Lenient allows image (on_line 1 (command.Call call) ∷ []) before after text keeps
+    (image : Parts) × (call : Call) × Asks bytes name words image call
+    × PrintsUpTo Lenient allows image (on_line 1 (command.Call call) ∷ []) before after text keeps
 
 -- the call ran, from kernel to kernel, and a writer got its text
 abbrev pub RanCall : Type 0 → Within → List ℕ → List ℕ → List (List ℕ) → KernelState → KernelState → Option (List ℕ) → Option (List ℕ) → Type 0
@@ -78,6 +81,7 @@ StoppedCall honest within bytes name words kernel later old new =
 -- when such a call ends with a fault: the image's come first, then those of the words
 abbrev pub CallEndsBy : List ℕ → List ℕ → List (List ℕ) → CallFault → Type 0
 CallEndsBy bytes name words (BadWord at) = (image : Parts) × (image_at bytes ≡ Ok image) × Accepted image × IsWhyNoCall image name words (BadWord at)
-CallEndsBy bytes name words (BadBlocks n) = (image : Parts) × (image_at bytes ≡ Ok image) × Accepted image × IsWhyNoCall image name words (BadBlocks n)
+CallEndsBy bytes name words (BadBlocks n) = (image : Parts) × (image_at bytes ≡ Ok image) × Accepted image
+    × IsWhyNoCall image name words (BadBlocks n)
 CallEndsBy bytes name words (Script Write) = (image : Parts) × (call : Call) × Asks bytes name words image call
 CallEndsBy bytes name words (Script fault) = IsBadImage bytes fault

@@ -27,10 +27,12 @@ use Rattle.geos_cli.specs.Script.{commands_of, on_line, GoesOn, Loads, RanComman
 -- a command is carried out, from kernel to kernel, and comes to this result; this is what it prints plainly
 abbrev pub RunsPlainly : {D : Type 0} → Medium D → Parts → Command → Result (Unit {0}) Refusal → KernelOn D → KernelOn D → List ℕ → Type 0
 RunsPlainly medium image command result kernel later plain =
-    RanCommand (medium.honest kernel.device) (Throughout medium kernel.device later.device) image command result kernel.core later.core (Some []) (Some plain)
+    RanCommand (medium.honest kernel.device) (Throughout medium kernel.device later.device) image command result
+    kernel.core later.core (Some []) (Some plain)
 
 -- and a writer got that in the form
-abbrev pub RanShown : {D : Type 0} → Medium D → Form → Parts → Command → Result (Unit {0}) Refusal → KernelOn D → KernelOn D → Option (List ℕ) → Option (List ℕ) → Type 0
+abbrev pub RanShown : {D : Type 0} → Medium D → Form → Parts → Command → Result (Unit {0}) Refusal → KernelOn D
+    → KernelOn D → Option (List ℕ) → Option (List ℕ) → Type 0
 RanShown medium form image command result kernel later old new =
     (plain : List ℕ) × RunsPlainly medium image command result kernel later plain × Appends old new (shown_in form image command plain)
 
@@ -55,7 +57,8 @@ RunsInForm {D} medium form mode image (here ∷ commands) kernel later text =
     × (text ≡ shown_in form image here.command plain ++ others)
 
 -- so some of them are, and the last one is refused, at this line and with this refusal; the others are not begun
-pub record RefusesInForm {D : Type 0} (medium : Medium D) (form : Form) (mode : Mode) (image : Parts) (commands : List Numbered) (refused : RefusedCommand) (kernel later : KernelOn D) (text : List ℕ) : Type 0 where
+pub record RefusesInForm {D : Type 0} (medium : Medium D) (form : Form) (mode : Mode) (image : Parts) (commands : List Numbered)
+    (refused : RefusedCommand) (kernel later : KernelOn D) (text : List ℕ) : Type 0 where
   pub done : List Numbered
   pub last : Numbered
   pub others : List Numbered
@@ -71,7 +74,8 @@ pub record RefusesInForm {D : Type 0} (medium : Medium D) (form : Form) (mode : 
 -- commands are carried out, all or up to this refused command, as far as the mode goes on
 abbrev pub RunsTo : {D : Type 0} → Medium D → Form → Mode → Parts → List Numbered → Option RefusedCommand → KernelOn D → KernelOn D → List ℕ → Type 0
 RunsTo medium form mode image commands None kernel later text = RunsInForm medium form mode image commands kernel later text
-RunsTo medium form mode image commands (Some refused) kernel later text = (mode ≡ Strict) × RefusesInForm medium form mode image commands refused kernel later text
+RunsTo medium form mode image commands (Some refused) kernel later text = (mode ≡ Strict)
+    × RefusesInForm medium form mode image commands refused kernel later text
 
 -- a command was not begun; or it was carried out, and the text is a beginning of what it prints in the form
 abbrev pub EndsAt : {D : Type 0} → Medium D → Form → Parts → Command → KernelOn D → KernelOn D → List ℕ → Type 0
@@ -82,7 +86,8 @@ EndsAt medium form image command kernel later text =
 
 -- some of the commands were carried out, and the text has all that they print in the form; the next one was not begun, or the text ends
 -- with a beginning of what it prints; the others were not begun
-pub record StopsInForm {D : Type 0} (medium : Medium D) (form : Form) (mode : Mode) (image : Parts) (commands : List Numbered) (kernel later : KernelOn D) (text : List ℕ) : Type 0 where
+pub record StopsInForm {D : Type 0} (medium : Medium D) (form : Form) (mode : Mode) (image : Parts) (commands : List Numbered)
+    (kernel later : KernelOn D) (text : List ℕ) : Type 0 where
   pub done : List Numbered
   pub next : Numbered
   pub others : List Numbered
@@ -95,35 +100,41 @@ pub record StopsInForm {D : Type 0} (medium : Medium D) (form : Form) (mode : Mo
   pub written : text ≡ earlier ++ part
 
 -- commands ran, and a writer got their text
-abbrev pub RanInForm : {D : Type 0} → Medium D → Form → Mode → Parts → List Numbered → Option RefusedCommand → KernelOn D → KernelOn D → Option (List ℕ) → Option (List ℕ) → Type 0
+abbrev pub RanInForm : {D : Type 0} → Medium D → Form → Mode → Parts → List Numbered → Option RefusedCommand → KernelOn D
+    → KernelOn D → Option (List ℕ) → Option (List ℕ) → Type 0
 RanInForm medium form mode image commands refused kernel later old new =
     (text : List ℕ) × RunsTo medium form mode image commands refused kernel later text × Appends old new text
 
 -- commands were stopped, and a writer got their text up to there
-abbrev pub StoppedInForm : {D : Type 0} → Medium D → Form → Mode → Parts → List Numbered → KernelOn D → KernelOn D → Option (List ℕ) → Option (List ℕ) → Type 0
+abbrev pub StoppedInForm : {D : Type 0} → Medium D → Form → Mode → Parts → List Numbered → KernelOn D → KernelOn D
+    → Option (List ℕ) → Option (List ℕ) → Type 0
 StoppedInForm medium form mode image commands kernel later old new =
     (text : List ℕ) × StopsInForm medium form mode image commands kernel later text × Appends old new text
 
 -- a script ran on the image that the bytes spell, to its end or to this refused command, and a writer got its text
-abbrev pub RanScriptInForm : {D : Type 0} → Medium D → Form → Mode → List ℕ → List ℕ → Option RefusedCommand → KernelOn D → KernelOn D → Option (List ℕ) → Option (List ℕ) → Type 0
+abbrev pub RanScriptInForm : {D : Type 0} → Medium D → Form → Mode → List ℕ → List ℕ → Option RefusedCommand → KernelOn D
+    → KernelOn D → Option (List ℕ) → Option (List ℕ) → Type 0
 RanScriptInForm medium form mode bytes script refused kernel later old new =
     (image : Parts) × (length script ≤ most_bytes) × Loads bytes (lines script) image
     × RanInForm medium form mode image (commands_of image (lines script)) refused kernel later old new
 
 -- it was stopped
-abbrev pub StoppedScriptInForm : {D : Type 0} → Medium D → Form → Mode → List ℕ → List ℕ → KernelOn D → KernelOn D → Option (List ℕ) → Option (List ℕ) → Type 0
+abbrev pub StoppedScriptInForm : {D : Type 0} → Medium D → Form → Mode → List ℕ → List ℕ → KernelOn D → KernelOn D
+    → Option (List ℕ) → Option (List ℕ) → Type 0
 StoppedScriptInForm medium form mode bytes script kernel later old new =
     (image : Parts) × (length script ≤ most_bytes) × Loads bytes (lines script) image
     × StoppedInForm medium form mode image (commands_of image (lines script)) kernel later old new
 
 -- the call that words name ran on the image that the bytes spell, and a writer got its text
-abbrev pub RanCallInForm : {D : Type 0} → Medium D → Form → List ℕ → List ℕ → List (List ℕ) → KernelOn D → KernelOn D → Option (List ℕ) → Option (List ℕ) → Type 0
+abbrev pub RanCallInForm : {D : Type 0} → Medium D → Form → List ℕ → List ℕ → List (List ℕ) → KernelOn D → KernelOn D
+    → Option (List ℕ) → Option (List ℕ) → Type 0
 RanCallInForm medium form bytes name words kernel later old new =
     (image : Parts) × (call : Call) × Asks bytes name words image call
     × RanInForm medium form Lenient image (on_line 1 (command.Call call) ∷ []) None kernel later old new
 
 -- it was stopped
-abbrev pub StoppedCallInForm : {D : Type 0} → Medium D → Form → List ℕ → List ℕ → List (List ℕ) → KernelOn D → KernelOn D → Option (List ℕ) → Option (List ℕ) → Type 0
+abbrev pub StoppedCallInForm : {D : Type 0} → Medium D → Form → List ℕ → List ℕ → List (List ℕ) → KernelOn D → KernelOn D
+    → Option (List ℕ) → Option (List ℕ) → Type 0
 StoppedCallInForm medium form bytes name words kernel later old new =
     (image : Parts) × (call : Call) × Asks bytes name words image call
     × StoppedInForm medium form Lenient image (on_line 1 (command.Call call) ∷ []) kernel later old new

@@ -47,7 +47,8 @@ is_arrow word = bytes_eq word (codes "->")
 -- the line of these words up to `->`, with numbers in the place of names
 abbrev pub in_place : Names → List (List ℕ) → Option (List ℕ)
 in_place names [] = Some []
-in_place names (w ∷ ws) = if is_arrow w then Some [] else option_and_then (λ own. option_map (λ rest. 32 ∷ own ++ rest) (in_place names ws)) (word_in_place names w)
+in_place names (w ∷ ws) = if is_arrow w then Some [] else option_and_then (λ own. option_map (λ rest. 32 ∷ own ++ rest) (in_place names ws))
+    (word_in_place names w)
 
 -- the words behind `->`, if it is there
 abbrev pub behind_arrow : List (List ℕ) → Option (List (List ℕ))
@@ -100,7 +101,8 @@ said_by line = record { number = line.number; words = words line.text.now }
 -- the lines that say something, counted from n on
 abbrev pub said_from : ℕ → List (List ℕ) → List Said
 said_from n [] = []
-said_from n (line ∷ lines) = if is_empty (said line) then said_from (n + 1) lines else record { number = n; words = said line } ∷ said_from (n + 1) lines
+said_from n (line ∷ lines) = if is_empty (said line) then said_from (n + 1) lines else record { number = n; words = said line }
+    ∷ said_from (n + 1) lines
 
 -- those of a script
 abbrev pub lines_said : List ℕ → List Said

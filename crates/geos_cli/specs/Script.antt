@@ -107,7 +107,8 @@ if_admitted image call = if may_ask image call then Some call else None
 -- the call of the routine of that name on those numbers, which are followed by the blocks that it lends
 abbrev pub call_named : Parts → List ℕ → List (List ℕ) → Option Call
 call_named image name ws =
-    option_and_then (λ r. option_and_then (λ words. option_and_then (λ handles. if_admitted image (record { routine = r; words = words; handles = handles }))
+    option_and_then (λ r. option_and_then
+    (λ words. option_and_then (λ handles. if_admitted image (record { routine = r; words = words; handles = handles }))
     (placed (entry_slots image r) (from_blocks ws))) (registers_of (before_blocks ws))) (routine_named image name)
 
 -- which pair of directories is kept
@@ -172,7 +173,8 @@ lent_by image call = lent_handles (entry_slots image call.routine) call.handles
 
 -- the blocks that a call lends are locked, its routine runs, and they are unlocked
 abbrev pub RunsLent : Allows → Parts → Call → List ℕ → Stage → Stage → List Kept → Type 0
-RunsLent allows image call text = Then (Then (Locks allows (lent_by image call)) (RunsOn allows image call text)) (Unlocks allows (lent_by image call))
+RunsLent allows image call text = Then (Then (Locks allows (lent_by image call)) (RunsOn allows image call text))
+    (Unlocks allows (lent_by image call))
 
 -- one of the blocks is refused: those before it are unlocked again, and no routine runs
 pub record NotLent (allows : Allows) (handles : List ℕ) (why : Refusal) (before after : Stage) (keeps : List Kept) : Type 0 where
@@ -222,7 +224,8 @@ Prints mode allows image (here ∷ commands) before after text keeps =
 -- what the commands have printed where one was refused, at this line and with this
 -- refusal, and is the last: those before it are done, and behind each the script went on; it prints its
 -- refusal; the others were not begun
-pub record PrintsRefused (mode : Mode) (allows : Allows) (image : Parts) (commands : List Numbered) (refused : RefusedCommand) (before after : Stage) (text : List ℕ) (keeps : List Kept) : Type 0 where
+pub record PrintsRefused (mode : Mode) (allows : Allows) (image : Parts) (commands : List Numbered) (refused : RefusedCommand)
+    (before after : Stage) (text : List ℕ) (keeps : List Kept) : Type 0 where
   pub done : List Numbered
   pub last : Numbered
   pub others : List Numbered
@@ -246,7 +249,8 @@ PrintsTo mode allows image commands (Some refused) before after text keeps = Pri
 -- what the commands have printed when a write fails: some are done, with all that they print; the
 -- next one was carried out, where they left it, and to the stage after; a beginning of what it prints
 -- is written, not all; the others were not begun
-pub record PrintsPart (mode : Mode) (allows : Allows) (image : Parts) (commands : List Numbered) (before after : Stage) (text : List ℕ) (keeps : List Kept) : Type 0 where
+pub record PrintsPart (mode : Mode) (allows : Allows) (image : Parts) (commands : List Numbered) (before after : Stage)
+    (text : List ℕ) (keeps : List Kept) : Type 0 where
   pub done : List Numbered
   pub last : Numbered
   pub others : List Numbered
@@ -266,7 +270,8 @@ pub record PrintsPart (mode : Mode) (allows : Allows) (image : Parts) (commands 
 
 -- what the commands have printed when a flush fails: some are done, with all that they print; the next
 -- one, before which a flush is due, was not begun, nor the others
-pub record PrintsAhead (mode : Mode) (allows : Allows) (image : Parts) (commands : List Numbered) (before after : Stage) (text : List ℕ) (keeps : List Kept) : Type 0 where
+pub record PrintsAhead (mode : Mode) (allows : Allows) (image : Parts) (commands : List Numbered) (before after : Stage)
+    (text : List ℕ) (keeps : List Kept) : Type 0 where
   pub done : List Numbered
   pub next : Numbered
   pub others : List Numbered
@@ -281,7 +286,8 @@ PrintsUpTo mode allows image commands before after text keeps =
 
 -- from a kernel with this VM file this leads to another kernel, with a VM file that the model may know
 -- then; and a stop meanwhile leaves a file in which `open` finds what is kept in one of the states
-pub record LeadsFrom (honest : Type 0) (within : Within) (kernel later : KernelState) (this : Stage → Stage → List Kept → Type 0) (f : VmFile) : Type 0 where
+pub record LeadsFrom (honest : Type 0) (within : Within) (kernel later : KernelState) (this : Stage → Stage → List Kept → Type 0)
+    (f : VmFile) : Type 0 where
   pub file : VmFile
   pub tied : IsFileOf honest later file
   pub lasts : NeverFell honest kernel later
@@ -295,14 +301,16 @@ Leads honest within kernel later this = (f : VmFile) → IsFileOf honest kernel 
 
 -- the same over a device, with what is allowed of one as honest as this one
 abbrev pub LeadsOn : {D : Type 0} → Medium D → KernelOn D → KernelOn D → (Allows → Way) → Type 0
-LeadsOn medium old new way = Leads (medium.honest old.device) (Throughout medium old.device new.device) old.core new.core (way (IsAllowed (medium.honest old.device)))
+LeadsOn medium old new way = Leads (medium.honest old.device) (Throughout medium old.device new.device) old.core new.core
+    (way (IsAllowed (medium.honest old.device)))
 
 -- what is kept before, and then these
 abbrev pub From : (List Kept → Type 0) → Stage → List Kept → Type 0
 From this before keeps = (rest : List Kept) × this rest × (keeps ≡ before.memory.file.kept ∷ rest)
 
 -- a command was carried out, from kernel to kernel, came to this result, and a writer got its text
-abbrev pub RanCommand : Type 0 → Within → Parts → Command → Result (Unit {0}) Refusal → KernelState → KernelState → Option (List ℕ) → Option (List ℕ) → Type 0
+abbrev pub RanCommand : Type 0 → Within → Parts → Command → Result (Unit {0}) Refusal → KernelState → KernelState
+    → Option (List ℕ) → Option (List ℕ) → Type 0
 RanCommand honest within image command result kernel later old new =
     (text : List ℕ)
     × Leads honest within kernel later (λ before after keeps. Does (IsAllowed honest) image command result before after text keeps)
@@ -317,10 +325,12 @@ StoppedCommand honest within image command kernel later old new =
 
 -- the commands were carried out, from kernel to kernel, all or up to this refused one, and a writer
 -- got their text
-abbrev pub RanCommands : Mode → Type 0 → Within → Parts → List Numbered → Option RefusedCommand → KernelState → KernelState → Option (List ℕ) → Option (List ℕ) → Type 0
+abbrev pub RanCommands : Mode → Type 0 → Within → Parts → List Numbered → Option RefusedCommand → KernelState
+    → KernelState → Option (List ℕ) → Option (List ℕ) → Type 0
 RanCommands mode honest within image commands refused kernel later old new =
     (text : List ℕ)
-    × Leads honest within kernel later (λ before after keeps. From (PrintsTo mode (IsAllowed honest) image commands refused before after text) before keeps)
+    × Leads honest within kernel later
+    (λ before after keeps. From (PrintsTo mode (IsAllowed honest) image commands refused before after text) before keeps)
     × Appends old new text
 
 -- the commands were stopped by a writer that failed, which got the text up to there
@@ -381,13 +391,16 @@ RunsScript mode allows bytes script refused before after text keeps =
 -- the script runs on the image that the bytes spell, and has come to the stage after and printed the
 -- text when the writer fails
 abbrev pub StopsScript : Mode → Allows → List ℕ → List ℕ → Stage → Stage → List ℕ → List Kept → Type 0
-StopsScript mode allows bytes script before after text keeps = (length script ≤ most_bytes) × Stops mode allows bytes (lines script) before after text keeps
+StopsScript mode allows bytes script before after text keeps = (length script ≤ most_bytes)
+    × Stops mode allows bytes (lines script) before after text keeps
 
 -- the script ran, from kernel to kernel, to its end or to this refused command, and a writer got its text
-abbrev pub RanScript : Mode → Type 0 → Within → List ℕ → List ℕ → Option RefusedCommand → KernelState → KernelState → Option (List ℕ) → Option (List ℕ) → Type 0
+abbrev pub RanScript : Mode → Type 0 → Within → List ℕ → List ℕ → Option RefusedCommand → KernelState → KernelState
+    → Option (List ℕ) → Option (List ℕ) → Type 0
 RanScript mode honest within bytes script refused kernel later old new =
     (text : List ℕ)
-    × Leads honest within kernel later (λ before after keeps. From (RunsScript mode (IsAllowed honest) bytes script refused before after text) before keeps)
+    × Leads honest within kernel later
+    (λ before after keeps. From (RunsScript mode (IsAllowed honest) bytes script refused before after text) before keeps)
     × Appends old new text
 
 -- the script was stopped by a writer that failed, which got the text up to there

@@ -30,11 +30,13 @@ begun = record { memory = no_blocks; failed = 0 }
 
 -- the script in the lines behind `end` runs on the image in front of it, and prints the text
 abbrev pub RunsLines : List (List ℕ) → List ℕ → Type 0
-RunsLines lines text = (after : Stage) × (keeps : List Kept) × Runs Lenient IsInMemory (image_bytes lines) (script_lines lines) None begun after text keeps
+RunsLines lines text = (after : Stage) × (keeps : List Kept) × Runs Lenient IsInMemory (image_bytes lines)
+    (script_lines lines) None begun after text keeps
 
 -- such a script has printed the text when the writer fails
 abbrev pub StopsLines : List (List ℕ) → List ℕ → Type 0
-StopsLines lines text = (after : Stage) × (keeps : List Kept) × Stops Lenient IsInMemory (image_bytes lines) (script_lines lines) begun after text keeps
+StopsLines lines text = (after : Stage) × (keeps : List Kept) × Stops Lenient IsInMemory (image_bytes lines)
+    (script_lines lines) begun after text keeps
 
 -- the bytes are an image in digits, a line `end`, and a script that runs on the image and
 -- prints the text

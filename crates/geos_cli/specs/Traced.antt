@@ -19,11 +19,14 @@ use Rattle.geos_cli.specs.Script.{lent_by, routine_named}
 -- the first pc of the routine of a name, and the end behind its last one; or those of all routines
 abbrev pub stretch_of : Parts → Option (List ℕ) → Option (ℕ × ℕ)
 stretch_of image None = Some (0, length image.points)
-stretch_of image (Some name) = option_and_then (λ r. option_map (λ routine. (start_of image.routines r, start_of image.routines r + routine.count)) (slice_get image.routines r)) (routine_named image name)
+stretch_of image (Some name) =
+    option_and_then (λ r. option_map (λ routine. (start_of image.routines r, start_of image.routines r + routine.count)) (slice_get image.routines r))
+    (routine_named image name)
 
 -- the call that words name ran on the image that the bytes spell, and notes were taken of it, of so many steps at most, of the routine of the
 -- name or of all
-pub record IsTracedCall (honest : Type 0) (within : Within) (bytes name : List ℕ) (words : List (List ℕ)) (only : Option (List ℕ)) (most : ℕ) (kernel later : KernelState) (traced : TracedCall) (f : VmFile) : Type 0 where
+pub record IsTracedCall (honest : Type 0) (within : Within) (bytes name : List ℕ) (words : List (List ℕ))
+    (only : Option (List ℕ)) (most : ℕ) (kernel later : KernelState) (traced : TracedCall) (f : VmFile) : Type 0 where
   pub call : Call
   pub asks : Asks bytes name words traced.checked call
   pub routine : traced.routine ≡ call.routine

@@ -24,9 +24,11 @@ use Rattle.geos_cli.specs.Script.{GoesOn}
 
 -- a command was carried out, from kernel to kernel, came to this result, and put out this word first, or none; a writer got its text in
 -- the form
-abbrev pub RanNoting : {D : Type 0} → Medium D → Form → Parts → Command → Result (Unit {0}) Refusal → Option ℕ → KernelOn D → KernelOn D → Option (List ℕ) → Option (List ℕ) → Type 0
+abbrev pub RanNoting : {D : Type 0} → Medium D → Form → Parts → Command → Result (Unit {0}) Refusal → Option ℕ
+    → KernelOn D → KernelOn D → Option (List ℕ) → Option (List ℕ) → Type 0
 RanNoting medium form image command result word kernel later old new =
-    (plain : List ℕ) × RunsPlainly medium image command result kernel later plain × (word ≡ first_put_out plain) × Appends old new (shown_in form image command plain)
+    (plain : List ℕ) × RunsPlainly medium image command result kernel later plain × (word ≡ first_put_out plain)
+    × Appends old new (shown_in form image command plain)
 
 -- lines are carried out one after another, each where the one before left the kernel and the names, and behind each the script goes on: a
 -- line is the command of the same line with numbers in the place of names; the text is what each prints, in the form
@@ -45,14 +47,16 @@ RunsLines {D} medium form mode image (line ∷ lines) names kernel left later te
     × (text ≡ shown_in form image command plain ++ others)
 
 -- some of the lines are done, from no name on, and this one is next
-pub record ComesTo {D : Type 0} (medium : Medium D) (form : Form) (mode : Mode) (image : Parts) (lines : List Said) (kernel : KernelOn D) (names : Names) (later : KernelOn D) (text : List ℕ) (next : Said) : Type 0 where
+pub record ComesTo {D : Type 0} (medium : Medium D) (form : Form) (mode : Mode) (image : Parts) (lines : List Said)
+    (kernel : KernelOn D) (names : Names) (later : KernelOn D) (text : List ℕ) (next : Said) : Type 0 where
   pub done : List Said
   pub others : List Said
   pub in_order : lines ≡ done ++ next ∷ others
   pub runs : RunsLines medium form mode image done [] kernel names later text
 
 -- the next line is carried out, and it is refused, at this line and with this refusal; the others are not begun
-pub record RefusesLine {D : Type 0} (medium : Medium D) (form : Form) (mode : Mode) (image : Parts) (lines : List Said) (refused : RefusedCommand) (kernel later : KernelOn D) (text : List ℕ) : Type 0 where
+pub record RefusesLine {D : Type 0} (medium : Medium D) (form : Form) (mode : Mode) (image : Parts) (lines : List Said)
+    (refused : RefusedCommand) (kernel later : KernelOn D) (text : List ℕ) : Type 0 where
   pub names : Names
   pub between : KernelOn D
   pub earlier : List ℕ
@@ -68,33 +72,39 @@ pub record RefusesLine {D : Type 0} (medium : Medium D) (form : Form) (mode : Mo
 -- the next line is no command with the numbers that its names stand for, and is not begun, nor the others
 abbrev pub EndsBadly : {D : Type 0} → Medium D → Form → Mode → Parts → List Said → ℕ → KernelOn D → KernelOn D → List ℕ → Type 0
 EndsBadly medium form mode image lines n kernel later text =
-    (names : Names) × (next : Said) × ComesTo medium form mode image lines kernel names later text next × (n ≡ next.number) × (command_in image names next.words ≡ None)
+    (names : Names) × (next : Said) × ComesTo medium form mode image lines kernel names later text next × (n ≡ next.number)
+    × (command_in image names next.words ≡ None)
 
 -- lines are carried out: all of them, or up to this end
 abbrev pub RunsLinesTo : {D : Type 0} → Medium D → Form → Mode → Parts → List Said → Option EarlyEnd → KernelOn D → KernelOn D → List ℕ → Type 0
 RunsLinesTo medium form mode image lines None kernel later text = (names : Names) × RunsLines medium form mode image lines [] kernel names later text
-RunsLinesTo medium form mode image lines (Some (Refused refused)) kernel later text = (mode ≡ Strict) × RefusesLine medium form mode image lines refused kernel later text
+RunsLinesTo medium form mode image lines (Some (Refused refused)) kernel later text = (mode ≡ Strict)
+    × RefusesLine medium form mode image lines refused kernel later text
 RunsLinesTo medium form mode image lines (Some (BadLine n)) kernel later text = EndsBadly medium form mode image lines n kernel later text
 
 -- the writer failed, or memory was refused: some lines are done; the next one was not begun, or was carried out, and the text ends with a
 -- beginning of what it prints; the others were not begun
-pub record StopsLines {D : Type 0} (medium : Medium D) (form : Form) (mode : Mode) (image : Parts) (lines : List Said) (kernel later : KernelOn D) (text : List ℕ) : Type 0 where
+pub record StopsLines {D : Type 0} (medium : Medium D) (form : Form) (mode : Mode) (image : Parts) (lines : List Said)
+    (kernel later : KernelOn D) (text : List ℕ) : Type 0 where
   pub names : Names
   pub between : KernelOn D
   pub earlier : List ℕ
   pub next : Said
   pub comes : ComesTo medium form mode image lines kernel names between earlier next
   pub part : List ℕ
-  pub ends : ((later ≡ between) × (part ≡ [])) ⊎ ((command : Command) × (command_in image names next.words ≡ Some command) × EndsAt medium form image command between later part)
+  pub ends : ((later ≡ between) × (part ≡ [])) ⊎ ((command : Command) × (command_in image names next.words ≡ Some command)
+      × EndsAt medium form image command between later part)
   pub written : text ≡ earlier ++ part
 
 -- lines ran, and a writer got their text
-abbrev pub RanLines : {D : Type 0} → Medium D → Form → Mode → Parts → List Said → Option EarlyEnd → KernelOn D → KernelOn D → Option (List ℕ) → Option (List ℕ) → Type 0
+abbrev pub RanLines : {D : Type 0} → Medium D → Form → Mode → Parts → List Said → Option EarlyEnd → KernelOn D
+    → KernelOn D → Option (List ℕ) → Option (List ℕ) → Type 0
 RanLines medium form mode image lines end kernel later old new =
     (text : List ℕ) × RunsLinesTo medium form mode image lines end kernel later text × Appends old new text
 
 -- lines were stopped, and a writer got their text up to there
-abbrev pub StoppedLines : {D : Type 0} → Medium D → Form → Mode → Parts → List Said → KernelOn D → KernelOn D → Option (List ℕ) → Option (List ℕ) → Type 0
+abbrev pub StoppedLines : {D : Type 0} → Medium D → Form → Mode → Parts → List Said → KernelOn D → KernelOn D
+    → Option (List ℕ) → Option (List ℕ) → Type 0
 StoppedLines medium form mode image lines kernel later old new =
     (text : List ℕ) × StopsLines medium form mode image lines kernel later text × Appends old new text
 
@@ -116,12 +126,14 @@ pub record LoadsNamed (bytes script : List ℕ) (image : Parts) : Type 0 where
   pub good : first_bad_in image [] (lines_said script) ≡ None
 
 -- a script ran on the image that the bytes spell, to its end or to this one, and a writer got its text
-abbrev pub RanNamedScript : {D : Type 0} → Medium D → Form → Mode → List ℕ → List ℕ → Option EarlyEnd → KernelOn D → KernelOn D → Option (List ℕ) → Option (List ℕ) → Type 0
+abbrev pub RanNamedScript : {D : Type 0} → Medium D → Form → Mode → List ℕ → List ℕ → Option EarlyEnd → KernelOn D
+    → KernelOn D → Option (List ℕ) → Option (List ℕ) → Type 0
 RanNamedScript medium form mode bytes script end kernel later old new =
     (image : Parts) × LoadsNamed bytes script image × RanLines medium form mode image (lines_said script) end kernel later old new
 
 -- it was stopped
-abbrev pub StoppedNamedScript : {D : Type 0} → Medium D → Form → Mode → List ℕ → List ℕ → KernelOn D → KernelOn D → Option (List ℕ) → Option (List ℕ) → Type 0
+abbrev pub StoppedNamedScript : {D : Type 0} → Medium D → Form → Mode → List ℕ → List ℕ → KernelOn D → KernelOn D
+    → Option (List ℕ) → Option (List ℕ) → Type 0
 StoppedNamedScript medium form mode bytes script kernel later old new =
     (image : Parts) × LoadsNamed bytes script image × StoppedLines medium form mode image (lines_said script) kernel later old new
 
@@ -132,7 +144,8 @@ NamedScriptEndsBy bytes script (BadImage at) = (length script ≤ most_bytes) ×
 NamedScriptEndsBy bytes script (Rejected pc rule) =
     (length script ≤ most_bytes) × ((image : Parts) × (image_at bytes ≡ Ok image) × FirstRefusal image (record { pc = pc; rule = rule }))
 NamedScriptEndsBy bytes script (BadScript line) =
-    (length script ≤ most_bytes) × ((image : Parts) × (image_at bytes ≡ Ok image) × Accepted image × (first_bad_in image [] (lines_said script) ≡ Some line))
+    (length script ≤ most_bytes) × ((image : Parts) × (image_at bytes ≡ Ok image) × Accepted image
+    × (first_bad_in image [] (lines_said script) ≡ Some line))
 NamedScriptEndsBy bytes script Write = (image : Parts) × LoadsNamed bytes script image
 NamedScriptEndsBy bytes script Memory = length script ≤ most_bytes
 NamedScriptEndsBy bytes script (BadHex line) = ⊥

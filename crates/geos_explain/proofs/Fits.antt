@@ -49,7 +49,8 @@ zip2-get f (x ∷ xs) (y ∷ ys) d zero same lt = refl
 zip2-get f (x ∷ xs) (y ∷ ys) d (suc k) same lt = zip2-get f xs ys d k (omega arith) (omega arith)
 
 -- where a test holds of two lists, it does at an index
-pub all2-get : {X : Type 0} (test : X → X → Bool) (xs ys : List X) (d : X) (k : ℕ) → all2 test xs ys ≡ true → k < length xs → test (get_or xs k d) (get_or ys k d) ≡ true
+pub all2-get : {X : Type 0} (test : X → X → Bool) (xs ys : List X) (d : X) (k : ℕ) → all2 test xs ys ≡ true
+    → k < length xs → test (get_or xs k d) (get_or ys k d) ≡ true
 all2-get test [] ys d k all lt = absurd (omega arith)
 all2-get test (x ∷ xs) [] d k all lt = absurd cc
 all2-get test (x ∷ xs) (y ∷ ys) d zero all lt = (and_parts (test x y) (all2 test xs ys) all).0
@@ -70,7 +71,8 @@ all2-of test (x ∷ xs) (y ∷ ys) d same each =
 bound-none : (i known wanted : ℕ) → nat_le known wanted ≡ true → bound_item i (lacking_bound known wanted) ≡ []
 bound-none i known wanted fit = rw fit refl
 
-none-bound_by : (i known wanted : ℕ) (kept : Bool) → nat_le known wanted ≡ kept → known ≤ 65535 → bound_item i (lacking_bound known wanted) ≡ [] → nat_le known wanted ≡ true
+none-bound_by : (i known wanted : ℕ) (kept : Bool) → nat_le known wanted ≡ kept → known ≤ 65535
+    → bound_item i (lacking_bound known wanted) ≡ [] → nat_le known wanted ≡ true
 none-bound_by i known wanted true is most none = is
 none-bound_by i known wanted false is most none =
     let below : wanted < known = grind (arith, nat_tests) in
@@ -92,7 +94,8 @@ slot-none i known Mem fit = (rw fit refl, refl)
 slot-none i known (Vm b c) fit = (rw fit refl, refl)
 slot-none i known (Db b) fit = (rw fit refl, refl)
 
-none-slot : (i : ℕ) (known wanted : SlotState) → slot_item i (lacking_slot known wanted) ≡ [] → held_item i known wanted ≡ [] → slot_fits known wanted ≡ true
+none-slot : (i : ℕ) (known wanted : SlotState) → slot_item i (lacking_slot known wanted) ≡ [] → held_item i known wanted ≡ []
+    → slot_fits known wanted ≡ true
 none-slot i Empty Empty none held = refl
 none-slot i Mem Empty none held = absurd cc
 none-slot i (Vm a c) Empty none held = absurd cc
@@ -193,17 +196,21 @@ none-fits r s whole whole_s words none =
     let first = none-append bounds slots third.0 in
     let b : all2 nat_le r.bounds s.bounds ≡ true = all2-of nat_le r.bounds s.bounds 0 (omega arith) (λ k lt.
     let item = texts_below-none 8 (bound_text r s) first.0 k (omega arith) in
-    none-bound k (get_or r.bounds k 0) (get_or s.bounds k 0) (words k) (rw (zip2-get lacking_bound r.bounds s.bounds 0 k (omega arith) lt) at item)) in
+    none-bound k (get_or r.bounds k 0) (get_or s.bounds k 0) (words k)
+    (rw (zip2-get lacking_bound r.bounds s.bounds 0 k (omega arith) lt) at item)) in
     let t : all2 slot_fits r.slots s.slots ≡ true = all2-of slot_fits r.slots s.slots Empty (omega arith) (λ k lt.
     let item = texts_below-none 4 (slot_text r s) first.1 k (omega arith) in
     let other = texts_below-none 4 (held_text r s) held.1 k (omega arith) in
-    none-slot k (get_or r.slots k Empty) (get_or s.slots k Empty) (rw (zip2-get lacking_slot r.slots s.slots Empty k (omega arith) lt) at item) other) in
+    none-slot k (get_or r.slots k Empty) (get_or s.slots k Empty) (rw (zip2-get lacking_slot r.slots s.slots Empty k (omega arith) lt) at item)
+    other) in
     let p : all2 pointer_fits r.pointers s.pointers ≡ true = all2-of pointer_fits r.pointers s.pointers None (omega arith) (λ k lt.
     let item = texts_below-none 4 (pointer_text r s) third.1 k (omega arith) in
-    none-pointer k (get_or r.pointers k None) (get_or s.pointers k None) (rw (zip2-get lacking_pointer r.pointers s.pointers None k (omega arith) lt) at item)) in
+    none-pointer k (get_or r.pointers k None) (get_or s.pointers k None)
+    (rw (zip2-get lacking_pointer r.pointers s.pointers None k (omega arith) lt) at item)) in
     let q : all2 pair_fits r.pairs s.pairs ≡ true = all2-of pair_fits r.pairs s.pairs false (omega arith) (λ k lt.
     let item = texts_below-none 6 (pair_text r s) pairs.1 k (omega arith) in
-    none-pair (get_or pair_slots k (0, 0)) (get_or r.pairs k false) (get_or s.pairs k false) (rw (zip2-get lacking_pair r.pairs s.pairs false k (omega arith) lt) at item)) in
+    none-pair (get_or pair_slots k (0, 0)) (get_or r.pairs k false) (get_or s.pairs k false)
+    (rw (zip2-get lacking_pair r.pairs s.pairs false k (omega arith) lt) at item)) in
     rw (b, t, p, q) refl
 
 -- and where it fits, none is
@@ -226,10 +233,12 @@ fits-none r s whole whole_s fit =
     (slot-none k (get_or r.slots k Empty) (get_or s.slots k Empty) (all2-get slot_fits r.slots s.slots Empty k first.1 (omega arith))).1) in
     let p = none-texts_below 4 (pointer_text r s) (λ k lt.
     rw (zip2-get lacking_pointer r.pointers s.pointers None k (omega arith) (omega arith))
-    (pointer-none k (get_or r.pointers k None) (get_or s.pointers k None) (all2-get pointer_fits r.pointers s.pointers None k third.1 (omega arith)))) in
+    (pointer-none k (get_or r.pointers k None) (get_or s.pointers k None)
+    (all2-get pointer_fits r.pointers s.pointers None k third.1 (omega arith)))) in
     let q = none-texts_below 6 (pair_text r s) (λ k lt.
     rw (zip2-get lacking_pair r.pairs s.pairs false k (omega arith) (omega arith))
-    (pair-none (get_or pair_slots k (0, 0)) (get_or r.pairs k false) (get_or s.pairs k false) (all2-get pair_fits r.pairs s.pairs false k pairs.1 (omega arith)))) in
+    (pair-none (get_or pair_slots k (0, 0)) (get_or r.pairs k false) (get_or s.pairs k false)
+    (all2-get pair_fits r.pairs s.pairs false k pairs.1 (omega arith)))) in
     rw (b, t, p, q, h) refl
 
 pub lacks-nothing : LacksNothingWhereItFits

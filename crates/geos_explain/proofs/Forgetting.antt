@@ -35,7 +35,8 @@ module _ (place : Place) (item : Item) (to : ℕ) where
     alike : comes_alike place from ≡ true
     on : LackedFrom (end_of (record { from = from; branch = branch }) point.instr)
 
-  edge-leads : (marks : List Bool) → AllLacked marks → (from : ℕ) (branch : Bool) (point : KnownPlace) → comes_to_marked place marks (record { from = from; branch = branch }) point ≡ true → Leads from branch point
+  edge-leads : (marks : List Bool) → AllLacked marks → (from : ℕ) (branch : Bool) (point : KnownPlace)
+      → comes_to_marked place marks (record { from = from; branch = branch }) point ≡ true → Leads from branch point
   edge-leads marks lacked from branch point is =
       let end = end_of (record { from = from; branch = branch }) point.instr in
       let alike = comes_alike place from in
@@ -44,24 +45,32 @@ module _ (place : Place) (item : Item) (to : ℕ) where
       let first = and_parts (is_marked marks end) alike last.0 in
       record { has = last.1; alike = first.1; on = lacked end (and_parts (nat_lt end 4096) (get_or marks end false) first.0).1 }
 
-  comes-on : (marks : List Bool) → AllLacked marks → (from : ℕ) (point : KnownPlace) → comes_on place marks from point ≡ true → (branch : Bool) × Leads from branch point
-  comes-on marks lacked from point is = elim (or_parts (comes_to_marked place marks (record { from = from; branch = false }) point) (comes_to_marked place marks (record { from = from; branch = true }) point) is) [
-    | inl along ↦ (false, edge-leads marks lacked from false point along)
-    | inr aside ↦ (true, edge-leads marks lacked from true point aside)
-  ]
+  comes-on : (marks : List Bool) → AllLacked marks → (from : ℕ) (point : KnownPlace) → comes_on place marks from point ≡ true
+      → (branch : Bool) × Leads from branch point
+  comes-on marks lacked from point is =
+      elim (or_parts (comes_to_marked place marks (record { from = from; branch = false }) point)
+      (comes_to_marked place marks (record { from = from; branch = true }) point) is) [
+        | inl along ↦ (false, edge-leads marks lacked from false point along)
+        | inr aside ↦ (true, edge-leads marks lacked from true point aside)
+      ]
 
-  marked-lacked : (marks : List Bool) → AllLacked marks → (from : ℕ) → IsInside place from → (point : KnownPlace) → slice_get (places place.image) from ≡ Some point → AllLacked (lacking_marked place item marks from point)
-  marked-lacked marks lacked from inside point there = by_test (not (is_marked marks from) && not (knows point.row item) && comes_on place marks from point) refl
+  marked-lacked : (marks : List Bool) → AllLacked marks → (from : ℕ) → IsInside place from → (point : KnownPlace)
+      → slice_get (places place.image) from ≡ Some point → AllLacked (lacking_marked place item marks from point)
+  marked-lacked marks lacked from inside point there =
+      by_test (not (is_marked marks from) && not (knows point.row item) && comes_on place marks from point) refl
     where
-      by_test : (b : Bool) → (not (is_marked marks from) && not (knows point.row item) && comes_on place marks from point) ≡ b → AllLacked (cond b (marked marks from) marks)
+      by_test : (b : Bool) → (not (is_marked marks from) && not (knows point.row item) && comes_on place marks from point) ≡ b
+          → AllLacked (cond b (marked marks from) marks)
       by_test true is k has = elim (mark-was marks from k has) [
         | inl same ↦
             let tests = and_parts (not (is_marked marks from) && not (knows point.row item)) (comes_on place marks from point) is in
             let before = (and_parts (not (is_marked marks from)) (not (knows point.row item)) tests.0).1 in
             let leads = comes-on marks lacked from point tests.1 in
             let edge : Edge = record { from = from; branch = leads.0 } in
-            let comes : ComesTo place edge (end_of edge point.instr) = record { point = point; there = there; alike = leads.1.alike; has = leads.1.has; ends = refl } in
-            let over : IsLackedOver place item edge (end_of edge point.instr) = record { inside = inside; comes = comes; before = not-true (knows point.row item) before } in
+            let comes : ComesTo place edge (end_of edge point.instr) =
+            record { point = point; there = there; alike = leads.1.alike; has = leads.1.has; ends = refl } in
+            let over : IsLackedOver place item edge (end_of edge point.instr) =
+            record { inside = inside; comes = comes; before = not-true (knows point.row item) before } in
             (edge ∷ leads.1.on.0, (sym same, (end_of edge point.instr, over, leads.1.on.1)))
         | inr was ↦ lacked k was
       ]
@@ -71,7 +80,8 @@ module _ (place : Place) (item : Item) (to : ℕ) where
   unfolding lacking_marked_at
   marked_at-lacked marks lacked from inside = by_point (slice_get (places place.image) from) refl
     where
-      by_point : (o : Option KnownPlace) → slice_get (places place.image) from ≡ o → AllLacked (elim o [ None ↦ marks | Some point ↦ lacking_marked place item marks from point ])
+      by_point : (o : Option KnownPlace) → slice_get (places place.image) from ≡ o
+          → AllLacked (elim o [ None ↦ marks | Some point ↦ lacking_marked place item marks from point ])
       by_point None e = lacked
       by_point (Some point) e = marked-lacked marks lacked from inside point e
 
@@ -79,7 +89,8 @@ module _ (place : Place) (item : Item) (to : ℕ) where
   unfolding lacking_round
   round-lacked marks lacked zero short = lacked
   round-lacked marks lacked (suc n) short =
-      round-lacked (lacking_marked_at place item marks (start + n)) (marked_at-lacked marks lacked (start + n) (inside-at place 0 n (omega arith))) n (omega arith)
+      round-lacked (lacking_marked_at place item marks (start + n)) (marked_at-lacked marks lacked (start + n) (inside-at place 0 n (omega arith))) n
+      (omega arith)
 
   within-lacked : (n : ℕ) → AllLacked (lacking_within place item to n)
   unfolding lacking_within
@@ -89,17 +100,20 @@ module _ (place : Place) (item : Item) (to : ℕ) where
   ]
   within-lacked (suc n) = round-lacked (lacking_within place item to n) (within-lacked n) place.routine.count (omega arith)
 
-  forgets-forgotten : (is_place : to ≡ place.pc) (from : ℕ) → IsInside place from → forgets_at place item (lacking_from place item to) from ≡ true → IsForgottenBy place item from
+  forgets-forgotten : (is_place : to ≡ place.pc) (from : ℕ) → IsInside place from → forgets_at place item (lacking_from place item to) from ≡ true
+      → IsForgottenBy place item from
   unfolding forgets_at
   forgets-forgotten is_place from inside = by_point (slice_get (places place.image) from) refl
     where
       by_point : (o : Option KnownPlace) → slice_get (places place.image) from ≡ o
-          → elim o [ None ↦ false | Some point ↦ forgets_item place item (lacking_from place item to) from point ] ≡ true → IsForgottenBy place item from
+          → elim o [ None ↦ false | Some point ↦ forgets_item place item (lacking_from place item to) from point ] ≡ true
+          → IsForgottenBy place item from
       by_point None e is = absurd cc
       by_point (Some point) e is =
           let edge : Edge = record { from = from; branch = false } in
           let table = lacking_from place item to in
-          let last = and_parts (forgets point.instr.opcode && knows point.row item && comes_to_marked place table edge point) (not (knows (after place.image from point.row false) item)) is in
+          let last = and_parts (forgets point.instr.opcode && knows point.row item && comes_to_marked place table edge point)
+          (not (knows (after place.image from point.row false) item)) is in
           let second = and_parts (forgets point.instr.opcode && knows point.row item) (comes_to_marked place table edge point) last.0 in
           let first = and_parts (forgets point.instr.opcode) (knows point.row item) second.0 in
           let leads = edge-leads table (within-lacked 8) from false point second.1 in
@@ -125,8 +139,11 @@ pub said-of-calls : WhatIsSaidOfCallsHolds
 unfolding last_forgetting
 said-of-calls place item from is_place = below place.routine.count (omega arith)
   where
-    one-more : (n : ℕ) → n < place.routine.count → (b : Bool) → forgets_at place item (lacking_from place item place.pc) (start_of place.image.routines place.r + n) ≡ b
-        → Said place item from (last_forgetting place item (lacking_from place item place.pc) n) → Said place item from (cond b (Some (start_of place.image.routines place.r + n)) (last_forgetting place item (lacking_from place item place.pc) n))
+    one-more : (n : ℕ) → n < place.routine.count → (b : Bool) → forgets_at place item (lacking_from place item place.pc)
+        (start_of place.image.routines place.r + n) ≡ b
+        → Said place item from (last_forgetting place item (lacking_from place item place.pc) n)
+        → Said place item from (cond b (Some (start_of place.image.routines place.r + n))
+        (last_forgetting place item (lacking_from place item place.pc) n))
     one-more n short true here rest same =
         let is_from : start_of place.image.routines place.r + n ≡ from = cc in
         subst (IsForgottenBy place item) is_from
@@ -136,10 +153,12 @@ said-of-calls place item from is_place = below place.routine.count (omega arith)
     below : (n : ℕ) → n ≤ place.routine.count → Said place item from (last_forgetting place item (lacking_from place item place.pc) n)
     below zero short = none-said place item from
     below (suc n) short =
-        one-more n (omega arith) (forgets_at place item (lacking_from place item place.pc) (start_of place.image.routines place.r + n)) refl (below n (omega arith))
+        one-more n (omega arith) (forgets_at place item (lacking_from place item place.pc) (start_of place.image.routines place.r + n))
+        refl (below n (omega arith))
 
 -- from a pc that is marked, a way leads on
-pub marked-lacks : (place : Place) (item : Item) (to pc : ℕ) → is_marked (lacking_from place item to) pc ≡ true → (edges : List Edge) × LackedAlong place item to pc edges
+pub marked-lacks : (place : Place) (item : Item) (to pc : ℕ) → is_marked (lacking_from place item to) pc ≡ true
+    → (edges : List Edge) × LackedAlong place item to pc edges
 marked-lacks place item to pc is =
     within-lacked place item to 8 pc (and_parts (nat_lt pc 4096) (get_or (lacking_from place item to) pc false) is).1
 
@@ -155,7 +174,9 @@ unfolding last_moving moves_at
 said-of-rounds place item w from is_place said = by_last (last_moving place w (lacking_from place item place.pc) place.routine.count) refl said
   where
     one-more : (n found : ℕ) (b : Bool) → moves_at place w (lacking_from place item place.pc) (start_of place.image.routines place.r + n) ≡ b
-        → Moves place item w found (last_moving place w (lacking_from place item place.pc) n) → Moves place item w found (cond b (Some (start_of place.image.routines place.r + n)) (last_moving place w (lacking_from place item place.pc) n))
+        → Moves place item w found (last_moving place w (lacking_from place item place.pc) n)
+        → Moves place item w found (cond b (Some (start_of place.image.routines place.r + n))
+        (last_moving place w (lacking_from place item place.pc) n))
     one-more n found true here rest same =
         let is_found : start_of place.image.routines place.r + n ≡ found = cc in
         subst (λ pc. moves_at place w (lacking_from place item place.pc) pc ≡ true) is_found here
@@ -166,11 +187,16 @@ said-of-rounds place item w from is_place said = by_last (last_moving place w (l
     below (suc n) found =
         one-more n found (moves_at place w (lacking_from place item place.pc) (start_of place.image.routines place.r + n)) refl (below n found)
 
-    moved : (found : ℕ) → moves_at place w (lacking_from place item place.pc) found ≡ true → is_marked (lacking_from place item found) place.pc ≡ true → IsMovedRound place item w found
+    moved : (found : ℕ) → moves_at place w (lacking_from place item place.pc) found ≡ true
+        → is_marked (lacking_from place item found) place.pc ≡ true → IsMovedRound place item w found
     moved found here round = by_point (slice_get (places place.image) found) refl here
       where
         by_point : (o : Option KnownPlace) → slice_get (places place.image) found ≡ o
-            → elim o [ None ↦ false | Some point ↦ is_marked (lacking_from place item place.pc) found && moves point.instr point.instr.opcode w ] ≡ true → IsMovedRound place item w found
+            → elim o [
+              | None ↦ false
+              | Some point ↦ is_marked (lacking_from place item place.pc) found && moves
+                  point.instr point.instr.opcode w
+            ] ≡ true → IsMovedRound place item w found
         by_point None e is = absurd cc
         by_point (Some point) e is =
             let tests = and_parts (is_marked (lacking_from place item place.pc) found) (moves point.instr point.instr.opcode w) is in
@@ -178,11 +204,13 @@ said-of-rounds place item w from is_place said = by_last (last_moving place w (l
             let back = marked-lacks place item found place.pc round in
             record { point = point; there = e; does = tests.1; edges = there.0; there_to = there.1; back_edges = back.0; back = back.1 }
 
-    by_last : (last : Option ℕ) → last_moving place w (lacking_from place item place.pc) place.routine.count ≡ last → if_round place item last ≡ Some from → IsMovedRound place item w from
+    by_last : (last : Option ℕ) → last_moving place w (lacking_from place item place.pc) place.routine.count ≡ last
+        → if_round place item last ≡ Some from → IsMovedRound place item w from
     by_last None e is = absurd cc
     by_last (Some found) e is = by_round (is_marked (lacking_from place item found) place.pc) refl is
       where
-        by_round : (b : Bool) → is_marked (lacking_from place item found) place.pc ≡ b → cond b (Some found) None ≡ Some from → IsMovedRound place item w from
+        by_round : (b : Bool) → is_marked (lacking_from place item found) place.pc ≡ b → cond b (Some found) None ≡ Some from
+            → IsMovedRound place item w from
         by_round true round same =
             let is_from : found ≡ from = cc in
             subst (IsMovedRound place item w) is_from (moved found (below place.routine.count found e) round)

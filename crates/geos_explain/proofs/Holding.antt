@@ -45,7 +45,8 @@ module _ (place : Place) (a : ℕ) where
   pub inside-at : (k : ℕ) → k < place.routine.count → IsInside place (start + k)
   inside-at k short =
       let below : start + k < start + place.routine.count = omega arith in
-      and-both (nat_le start (start + k)) (nat_lt (start + k) (start + place.routine.count)) (le-leb start (start + k) (omega arith)) (lt-ltb (start + k) (start + place.routine.count) below)
+      and-both (nat_le start (start + k)) (nat_lt (start + k) (start + place.routine.count)) (le-leb start (start + k) (omega arith))
+      (lt-ltb (start + k) (start + place.routine.count) below)
 
   abbrev HeldFrom : ℕ → Type 0
   HeldFrom pc = (edges : List Edge) × HeldAlong place a pc edges
@@ -64,7 +65,8 @@ module _ (place : Place) (a : ℕ) where
     held : holds (after place.image from point.row branch) a ≡ true
     on : HeldFrom (end_of (record { from = from; branch = branch }) point.instr)
 
-  edge-leads : (marks : List Bool) → AllHeld marks → (from : ℕ) (branch : Bool) (point : KnownPlace) → leads_to_marked place a marks (record { from = from; branch = branch }) point ≡ true → Leads from point
+  edge-leads : (marks : List Bool) → AllHeld marks → (from : ℕ) (branch : Bool) (point : KnownPlace)
+      → leads_to_marked place a marks (record { from = from; branch = branch }) point ≡ true → Leads from point
   edge-leads marks held from branch point is =
       let to = end_of (record { from = from; branch = branch }) point.instr in
       let alike = comes_alike place from in
@@ -76,23 +78,29 @@ module _ (place : Place) (a : ℕ) where
       record { branch = branch; has = second.1; alike = second.0; held = last.1; on = marked-held marks held to first.0 }
 
   on-leads : (marks : List Bool) → AllHeld marks → (from : ℕ) (point : KnownPlace) → leads_on place a marks from point ≡ true → Leads from point
-  on-leads marks held from point is = elim (or_parts (leads_to_marked place a marks (record { from = from; branch = false }) point) (leads_to_marked place a marks (record { from = from; branch = true }) point) is) [
-    | inl along ↦ edge-leads marks held from false point along
-    | inr aside ↦ edge-leads marks held from true point aside
-  ]
+  on-leads marks held from point is =
+      elim (or_parts (leads_to_marked place a marks (record { from = from; branch = false }) point)
+      (leads_to_marked place a marks (record { from = from; branch = true }) point) is) [
+        | inl along ↦ edge-leads marks held from false point along
+        | inr aside ↦ edge-leads marks held from true point aside
+      ]
 
-  back-held : (marks : List Bool) → AllHeld marks → (from : ℕ) → IsInside place from → (point : KnownPlace) → slice_get (places place.image) from ≡ Some point → AllHeld (marked_back place a marks from point)
+  back-held : (marks : List Bool) → AllHeld marks → (from : ℕ) → IsInside place from → (point : KnownPlace)
+      → slice_get (places place.image) from ≡ Some point → AllHeld (marked_back place a marks from point)
   back-held marks held from inside point there = by_test (not (is_marked marks from) && holds point.row a && leads_on place a marks from point) refl
     where
-      by_test : (b : Bool) → (not (is_marked marks from) && holds point.row a && leads_on place a marks from point) ≡ b → AllHeld (cond b (marked marks from) marks)
+      by_test : (b : Bool) → (not (is_marked marks from) && holds point.row a && leads_on place a marks from point) ≡ b
+          → AllHeld (cond b (marked marks from) marks)
       by_test true is k has = elim (mark-was marks from k has) [
         | inl same ↦
             let tests = and_parts (not (is_marked marks from) && holds point.row a) (leads_on place a marks from point) is in
             let before = (and_parts (not (is_marked marks from)) (holds point.row a) tests.0).1 in
             let leads = on-leads marks held from point tests.1 in
             let edge : Edge = record { from = from; branch = leads.branch } in
-            let comes : ComesTo place edge (end_of edge point.instr) = record { point = point; there = there; alike = leads.alike; has = leads.has; ends = refl } in
-            let over : IsHeldOver place a edge (end_of edge point.instr) = record { inside = inside; comes = comes; before = before; behind = leads.held } in
+            let comes : ComesTo place edge (end_of edge point.instr) =
+            record { point = point; there = there; alike = leads.alike; has = leads.has; ends = refl } in
+            let over : IsHeldOver place a edge (end_of edge point.instr) =
+            record { inside = inside; comes = comes; before = before; behind = leads.held } in
             (edge ∷ leads.on.0, (sym same, (end_of edge point.instr, over, leads.on.1)))
         | inr was ↦ held k was
       ]
@@ -102,7 +110,8 @@ module _ (place : Place) (a : ℕ) where
   unfolding marked_back_at
   back_at-held marks held from inside = by_point (slice_get (places place.image) from) refl
     where
-      by_point : (o : Option KnownPlace) → slice_get (places place.image) from ≡ o → AllHeld (elim o [ None ↦ marks | Some point ↦ marked_back place a marks from point ])
+      by_point : (o : Option KnownPlace) → slice_get (places place.image) from ≡ o
+          → AllHeld (elim o [ None ↦ marks | Some point ↦ marked_back place a marks from point ])
       by_point None e = held
       by_point (Some point) e = back-held marks held from inside point e
 
@@ -185,7 +194,8 @@ module _ (place : Place) (a : ℕ) where
   later-below (Once first) from below = omega arith
   later-below (Often last) from below = omega arith
 
-  also-said : (since : Since) (from : ℕ) (here : Bool) → Said from since → (here ≡ true → IsSince place a from) → Said (suc from) (also place.pc since from here)
+  also-said : (since : Since) (from : ℕ) (here : Bool) → Said from since → (here ≡ true → IsSince place a from)
+      → Said (suc from) (also place.pc since from here)
   also-said since from true said is = more-said since from said (is refl)
   also-said since from false said is = record { is = said.is; below = later-below since from said.below }
 
@@ -193,7 +203,8 @@ module _ (place : Place) (a : ℕ) where
   entry-said marks held pc =
       by_test (holds place.routine.entry a && is_marked marks (start_of place.image.routines place.r)) refl
     where
-      by_test : (b : Bool) → (holds place.routine.entry a && is_marked marks (start_of place.image.routines place.r)) ≡ b → Said pc (cond b Entry Unknown)
+      by_test : (b : Bool) → (holds place.routine.entry a && is_marked marks (start_of place.image.routines place.r)) ≡ b
+          → Said pc (cond b Entry Unknown)
       by_test true is =
           let tests = and_parts (holds place.routine.entry a) (is_marked marks (start_of place.image.routines place.r)) is in
           let from = marked-held marks held (start_of place.image.routines place.r) tests.1 in
@@ -206,7 +217,8 @@ module _ (place : Place) (a : ℕ) where
   below-said marks held (suc n) short =
       let next : suc (start + n) ≡ start + suc n = omega arith in
       subst (λ k. Said k (since_below place a marks (suc n))) next
-      (also-said (since_below place a marks n) (start + n) (fills_at place a marks (start + n)) (below-said marks held n (omega arith)) (fills-since marks held (start + n) (inside-at n (omega arith))))
+      (also-said (since_below place a marks n) (start + n) (fills_at place a marks (start + n))
+      (below-said marks held n (omega arith)) (fills-since marks held (start + n) (inside-at n (omega arith))))
 
   -- ---- All that is so is said
 
@@ -233,34 +245,47 @@ module _ (place : Place) (a : ℕ) where
       grows-on marks next (back_round place a next n) (at-grows marks (start + n)) (round-grows next n)
 
   -- an edge on which the slot is held behind it, to a pc that is marked, is one on which its instruction leads on
-  on-there : (marks : List Bool) (from : ℕ) (branch : Bool) (to : ℕ) (point : KnownPlace) → end_of (record { from = from; branch = branch }) point.instr ≡ to → to < 4096 → Has marks to
-      → comes_alike place from ≡ true → has_edge point.instr branch ≡ true → holds (after place.image from point.row branch) a ≡ true → leads_on place a marks from point ≡ true
+  on-there : (marks : List Bool) (from : ℕ) (branch : Bool) (to : ℕ) (point : KnownPlace)
+      → end_of (record { from = from; branch = branch }) point.instr ≡ to → to < 4096 → Has marks to
+      → comes_alike place from ≡ true → has_edge point.instr branch ≡ true → holds (after place.image from point.row branch) a ≡ true
+      → leads_on place a marks from point ≡ true
   on-there marks from branch to point ends low has alike edge held =
-      let mark : is_marked marks (end_of (record { from = from; branch = branch }) point.instr) ≡ true = subst (λ k. is_marked marks k ≡ true) (sym ends) (is-marked marks to low has) in
+      let mark : is_marked marks (end_of (record { from = from; branch = branch }) point.instr) ≡ true =
+      subst (λ k. is_marked marks k ≡ true) (sym ends) (is-marked marks to low has) in
       let keeps : keeps_along place a (record { from = from; branch = branch }) point ≡ true =
-      and-both (comes_alike place from && has_edge point.instr branch) (holds (after place.image from point.row branch) a) (and-both (comes_alike place from) (has_edge point.instr branch) alike edge) held in
-      by_branch branch (and-both (is_marked marks (end_of (record { from = from; branch = branch }) point.instr)) (keeps_along place a (record { from = from; branch = branch }) point) mark keeps)
+      and-both (comes_alike place from && has_edge point.instr branch) (holds (after place.image from point.row branch) a)
+      (and-both (comes_alike place from) (has_edge point.instr branch) alike edge) held in
+      by_branch branch (and-both (is_marked marks (end_of (record { from = from; branch = branch }) point.instr))
+      (keeps_along place a (record { from = from; branch = branch }) point) mark keeps)
     where
-      by_branch : (b : Bool) → leads_to_marked place a marks (record { from = from; branch = b }) point ≡ true → leads_on place a marks from point ≡ true
-      by_branch false is = or-one (leads_to_marked place a marks (record { from = from; branch = false }) point) (leads_to_marked place a marks (record { from = from; branch = true }) point) (inl is)
-      by_branch true is = or-one (leads_to_marked place a marks (record { from = from; branch = false }) point) (leads_to_marked place a marks (record { from = from; branch = true }) point) (inr is)
+      by_branch : (b : Bool) → leads_to_marked place a marks (record { from = from; branch = b }) point ≡ true
+          → leads_on place a marks from point ≡ true
+      by_branch false is = or-one (leads_to_marked place a marks (record { from = from; branch = false }) point)
+          (leads_to_marked place a marks (record { from = from; branch = true }) point) (inl is)
+      by_branch true is = or-one (leads_to_marked place a marks (record { from = from; branch = false }) point)
+          (leads_to_marked place a marks (record { from = from; branch = true }) point) (inr is)
 
-  back-there : (marks : List Bool) (from : ℕ) (point : KnownPlace) → length marks ≡ 4096 → from < 4096 → holds point.row a ≡ true → leads_on place a marks from point ≡ true → Has (marked_back place a marks from point) from
+  back-there : (marks : List Bool) (from : ℕ) (point : KnownPlace) → length marks ≡ 4096 → from < 4096
+      → holds point.row a ≡ true → leads_on place a marks from point ≡ true → Has (marked_back place a marks from point) from
   back-there marks from point full low held leads = by_mark (is_marked marks from) refl
     where
-      by_mark : (b : Bool) → is_marked marks from ≡ b → Has (cond (not b && holds point.row a && leads_on place a marks from point) (marked marks from) marks) from
+      by_mark : (b : Bool) → is_marked marks from ≡ b
+          → Has (cond (not b && holds point.row a && leads_on place a marks from point) (marked marks from) marks) from
       by_mark true is = (and_parts (nat_lt from 4096) (get_or marks from false) is).1
       by_mark false is =
-          let test = and-both (not false && holds point.row a) (leads_on place a marks from point) (and-both (not false) (holds point.row a) refl held) leads in
+          let test = and-both (not false && holds point.row a) (leads_on place a marks from point)
+          (and-both (not false) (holds point.row a) refl held) leads in
           subst (λ (b : Bool). Has (cond b (marked marks from) marks) from) (sym test) (mark-there marks from full low)
 
-  at-there : (marks : List Bool) (edge : Edge) (to : ℕ) → length marks ≡ 4096 → edge.from < 4096 → IsHeldOver place a edge to → to < 4096 → Has marks to → Has (marked_back_at place a marks edge.from) edge.from
+  at-there : (marks : List Bool) (edge : Edge) (to : ℕ) → length marks ≡ 4096 → edge.from < 4096 → IsHeldOver place a edge to
+      → to < 4096 → Has marks to → Has (marked_back_at place a marks edge.from) edge.from
   unfolding marked_back_at
   at-there marks edge to full low over below has =
       rw (over.comes.there, marked_back_at) (back-there marks edge.from over.comes.point full low over.before
       (on-there marks edge.from edge.branch to over.comes.point over.comes.ends below has over.comes.alike over.comes.has over.behind))
 
-  round-there : (marks : List Bool) (n k : ℕ) → k < n → length marks ≡ 4096 → (edge : Edge) (to : ℕ) → edge.from ≡ start + k → edge.from < 4096 → IsHeldOver place a edge to → to < 4096 → Has marks to → Has (back_round place a marks n) edge.from
+  round-there : (marks : List Bool) (n k : ℕ) → k < n → length marks ≡ 4096 → (edge : Edge) (to : ℕ) → edge.from ≡ start + k
+      → edge.from < 4096 → IsHeldOver place a edge to → to < 4096 → Has marks to → Has (back_round place a marks n) edge.from
   unfolding back_round
   round-there marks zero k less full edge to is low over below has = absurd (omega arith)
   round-there marks (suc n) k less full edge to is low over below has =
@@ -277,7 +302,8 @@ module _ (place : Place) (a : ℕ) where
   within-grows : (n : ℕ) → Grows (marked no_marks place.pc) (back_within place a n)
   unfolding back_within
   within-grows zero = grows-same (marked no_marks place.pc)
-  within-grows (suc n) = grows-on (marked no_marks place.pc) (back_within place a n) (back_round place a (back_within place a n) place.routine.count) (within-grows n) (round-grows (back_within place a n) place.routine.count)
+  within-grows (suc n) = grows-on (marked no_marks place.pc) (back_within place a n)
+      (back_round place a (back_within place a n) place.routine.count) (within-grows n) (round-grows (back_within place a n) place.routine.count)
 
   within-full : (n : ℕ) → length (back_within place a n) ≡ 4096
   unfolding no_marks
@@ -295,7 +321,8 @@ module _ (place : Place) (a : ℕ) where
     along-low (edge ∷ edges) pc way = let low = inside-low edge.from way.1.1.inside in let room = is.room in let from = way.0 in omega arith
 
     few-marked : (n : ℕ) → count (back_within place a n) ≤ length place.image.points
-    few-marked n = count-bound (back_within place a n) (length place.image.points) (λ k has. (let from = within-held n k has in along-low from.0 k from.1))
+    few-marked n = count-bound (back_within place a n) (length place.image.points)
+        (λ k has. (let from = within-held n k has in along-low from.0 k from.1))
 
     abbrev IsStable : List Bool → Type 0
     IsStable marks = back_round place a marks place.routine.count ≡ marks
@@ -328,7 +355,8 @@ module _ (place : Place) (a : ℕ) where
 
     along-marked : (edges : List Edge) (pc : ℕ) → HeldAlong place a pc edges → Has (held_from place a) pc
     unfolding held_from
-    along-marked [] pc way = let grows = within-grows (length place.image.points) in grows.keeps pc (subst (λ k. Has (marked no_marks place.pc) k) (sym way) first-there)
+    along-marked [] pc way = let grows = within-grows (length place.image.points) in
+        grows.keeps pc (subst (λ k. Has (marked no_marks place.pc) k) (sym way) first-there)
     along-marked (edge ∷ edges) pc way =
         let marks = held_from place a in
         let to = way.1.0 in
@@ -339,7 +367,8 @@ module _ (place : Place) (a : ℕ) where
         let below = along-low edges to way.1.2 in
         let k : ℕ = edge.from - start in
         let here : edge.from ≡ start + k = omega arith in
-        let next = round-there marks place.routine.count k (omega arith) (within-full (length place.image.points)) edge to here (omega arith) over (omega arith) (along-marked edges to way.1.2) in
+        let next = round-there marks place.routine.count k (omega arith) (within-full (length place.image.points))
+        edge to here (omega arith) over (omega arith) (along-marked edges to way.1.2) in
         subst (λ m. Has (held_from place a) m) way.0 (subst (λ (m : List Bool). Has m edge.from) stable next)
 
     entry-all : IsSinceEntry place a → since_entry place a (held_from place a) ≡ Entry
@@ -354,8 +383,11 @@ module _ (place : Place) (a : ℕ) where
     fills-all from since =
         let short = is.short in
         let low = along-low since.edges since.to since.way in
-        let on = on-there (held_from place a) from since.branch since.to since.comes.point since.comes.ends (omega arith) (along-marked since.edges since.to since.way) since.comes.alike since.comes.has since.held in
-        rw (since.comes.there, fills_at) (and-both (not (holds since.comes.point.row a)) (leads_on place a (held_from place a) from since.comes.point) (of-not (holds since.comes.point.row a) since.empty) on)
+        let on = on-there (held_from place a) from since.branch since.to since.comes.point since.comes.ends (omega arith)
+        (along-marked since.edges since.to since.way) since.comes.alike since.comes.has since.held in
+        rw (since.comes.there, fills_at)
+        (and-both (not (holds since.comes.point.row a)) (leads_on place a (held_from place a) from since.comes.point)
+        (of-not (holds since.comes.point.row a) since.empty) on)
 
     -- where it is not said of the first n instructions of the routine, it is not so
     abbrev AllBelow : ℕ → Since → Type 0
@@ -366,7 +398,8 @@ module _ (place : Place) (a : ℕ) where
     AllBelow n (Often from) = IsSinceEntry place a → ⊥
 
     -- no more is so where the next instruction is none
-    none-more : (n : ℕ) → (IsSince place a (start + n) → ⊥) → ((k : ℕ) → k < n → IsSince place a (start + k) → ⊥) → (k : ℕ) → k < suc n → IsSince place a (start + k) → ⊥
+    none-more : (n : ℕ) → (IsSince place a (start + n) → ⊥) → ((k : ℕ) → k < n → IsSince place a (start + k) → ⊥)
+        → (k : ℕ) → k < suc n → IsSince place a (start + k) → ⊥
     none-more n none before k less since = elim (cases_lt k n) [
       | inl within ↦ before k within since
       | inr past ↦ (let same : k ≡ n = omega arith in none (subst (λ m. IsSince place a (start + m)) same since))
@@ -398,7 +431,8 @@ module _ (place : Place) (a : ℕ) where
     )
     no-more (Often last) n all none = all
 
-    also-all : (since : Since) (n : ℕ) (here : Bool) → AllBelow n since → (IsSince place a (start + n) → here ≡ true) → AllBelow (suc n) (also place.pc since (start + n) here)
+    also-all : (since : Since) (n : ℕ) (here : Bool) → AllBelow n since → (IsSince place a (start + n) → here ≡ true)
+        → AllBelow (suc n) (also place.pc since (start + n) here)
     also-all since n true all is_here = one-more since n all
     also-all since n false all is_here = no-more since n all (λ since. (let wrong = is_here since in absurd cc))
 
@@ -409,7 +443,8 @@ module _ (place : Place) (a : ℕ) where
     below-all : (n : ℕ) → AllBelow n (since_below place a (held_from place a) n)
     unfolding since_below
     below-all zero = entry-below (holds place.routine.entry a && is_marked (held_from place a) start) entry-all
-    below-all (suc n) = also-all (since_below place a (held_from place a) n) n (fills_at place a (held_from place a) (start + n)) (below-all n) (fills-all (start + n))
+    below-all (suc n) = also-all (since_below place a (held_from place a) n) n (fills_at place a (held_from place a) (start + n))
+        (below-all n) (fills-all (start + n))
 
     -- each is one of the routine's
     nth : (from : ℕ) → IsSince place a from → (k : ℕ) × (k < place.routine.count) × (start + k ≡ from)
@@ -419,7 +454,11 @@ module _ (place : Place) (a : ℕ) where
     all-of Unknown all = (all.0, λ from since. (let n = nth from since in all.1 n.0 n.1 (subst (λ m. IsSince place a m) (sym n.2) since)))
     all-of Entry all = λ from since. (let n = nth from since in all n.0 n.1 (subst (λ m. IsSince place a m) (sym n.2) since))
     all-of EntryOrOther all = tt
-    all-of (Once first) all = (all.0, λ from since. (let n = nth from since in sym n.2 ∙ all.1 n.0 n.1 (subst (λ m. IsSince place a m) (sym n.2) since)))
+    all-of (Once first) all = (
+      all.0,
+      λ from since. (let n = nth from since in sym n.2
+          ∙ all.1 n.0 n.1 (subst (λ m. IsSince place a m) (sym n.2) since)),
+    )
     all-of (Often last) all = all
 
 pub said-of-slots : WhatIsSaidOfSlotsHolds

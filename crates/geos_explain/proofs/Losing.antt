@@ -64,7 +64,8 @@ module _ (place : Place) (p : ℕ) where
       by_hint None e = inl refl
       by_hint (Some pointer) e = inr (pointer, refl, found.brings pc pointer e)
 
-  arrived-found : (arrivals : Arrivals) → Found arrivals → (pc : ℕ) (pointer : Option Pointer) → ((q : Pointer) → pointer ≡ Some q → Known pc q) → Found (arrived arrivals pc pointer)
+  arrived-found : (arrivals : Arrivals) → Found arrivals → (pc : ℕ) (pointer : Option Pointer)
+      → ((q : Pointer) → pointer ≡ Some q → Known pc q) → Found (arrived arrivals pc pointer)
   arrived-found arrivals found pc pointer comes = by_test (nat_lt pc 4096 && not (is_stale pointer))
     where
       by_test : (b : Bool) → Found (cond b (record arrivals { at = set arrivals.at pc pointer; goes_on = true }) arrivals)
@@ -78,7 +79,8 @@ module _ (place : Place) (p : ℕ) where
       }
       by_test false = found
 
-  behind-known : (edge : Edge) (point : KnownPlace) (hint : Option Pointer) → slice_get (places place.image) edge.from ≡ Some point → comes_alike place edge.from ≡ true → IsHint place p edge.from hint
+  behind-known : (edge : Edge) (point : KnownPlace) (hint : Option Pointer) → slice_get (places place.image) edge.from ≡ Some point
+      → comes_alike place edge.from ≡ true → IsHint place p edge.from hint
       → (q : Pointer) → behind place.image (record { p = p; hint = hint }) edge point ≡ Some q → Known (end_of edge point.instr) q
   behind-known edge point hint there alike known q e =
       let row = with_hint point.row (record { p = p; hint = hint }) in
@@ -89,11 +91,13 @@ module _ (place : Place) (p : ℕ) where
         | inr some ↦ (edge ∷ some.2.0, (comes, (hint, inr (some.0, some.1, some.2.1), e)))
       ]
 
-  along-found : (arrivals : Arrivals) → Found arrivals → (edge : Edge) (point : KnownPlace) → slice_get (places place.image) edge.from ≡ Some point → Found (arrived_along place p arrivals edge point)
+  along-found : (arrivals : Arrivals) → Found arrivals → (edge : Edge) (point : KnownPlace)
+      → slice_get (places place.image) edge.from ≡ Some point → Found (arrived_along place p arrivals edge point)
   along-found arrivals found edge point there = by_test (is_stale (arrival arrivals (end_of edge point.instr)) && comes_alike place edge.from) refl
     where
       by_test : (b : Bool) → (is_stale (arrival arrivals (end_of edge point.instr)) && comes_alike place edge.from) ≡ b
-          → Found (cond b (arrived arrivals (end_of edge point.instr) (behind place.image (record { p = p; hint = arrival arrivals edge.from }) edge point)) arrivals)
+          → Found (cond b (arrived arrivals (end_of edge point.instr)
+          (behind place.image (record { p = p; hint = arrival arrivals edge.from }) edge point)) arrivals)
       by_test true is =
           let alike = (and_parts (is_stale (arrival arrivals (end_of edge point.instr))) (comes_alike place edge.from) is).1 in
           arrived-found arrivals found (end_of edge point.instr) (behind place.image (record { p = p; hint = arrival arrivals edge.from }) edge point)
@@ -106,17 +110,20 @@ module _ (place : Place) (p : ℕ) where
     where
       by_point : (o : Option KnownPlace) → slice_get (places place.image) from ≡ o → Found (elim o [
         | None ↦ arrivals
-        | Some point ↦ arrived_along place p (arrived_along place p arrivals (record { from = from; branch = false }) point) (record { from = from; branch = true }) point
+        | Some point ↦ arrived_along place p (arrived_along place p arrivals (record { from = from; branch = false }) point)
+            (record { from = from; branch = true }) point
       ])
       by_point None e = found
       by_point (Some point) e =
           let first = along-found arrivals found (record { from = from; branch = false }) point e in
-          along-found (arrived_along place p arrivals (record { from = from; branch = false }) point) first (record { from = from; branch = true }) point e
+          along-found (arrived_along place p arrivals (record { from = from; branch = false }) point) first
+          (record { from = from; branch = true }) point e
 
   over-found : (arrivals : Arrivals) → Found arrivals → (n : ℕ) → Found (arrived_over place p arrivals n)
   unfolding arrived_over
   over-found arrivals found zero = found
-  over-found arrivals found (suc n) = from-found (arrived_over place p arrivals n) (over-found arrivals found n) (start_of place.image.routines place.r + n)
+  over-found arrivals found (suc n) = from-found (arrived_over place p arrivals n) (over-found arrivals found n)
+      (start_of place.image.routines place.r + n)
 
   next-found : (arrivals : Arrivals) → Found arrivals → Found (next_arrivals place p arrivals)
   next-found arrivals found = by_test arrivals.goes_on
@@ -134,7 +141,8 @@ module _ (place : Place) (p : ℕ) where
             let nothing : get_or no_arrivals pc None ≡ None = replicate-there None 4096 pc in
             absurd cc);
       } in
-      arrived-found (record { at = no_arrivals; goes_on = true }) none (start_of place.image.routines place.r) (entry_pointer place.routine p) (λ q e. ([], (refl, e)))
+      arrived-found (record { at = no_arrivals; goes_on = true }) none (start_of place.image.routines place.r)
+      (entry_pointer place.routine p) (λ q e. ([], (refl, e)))
 
   all-found : (n : ℕ) → Found (all_arrivals place p n)
   unfolding all_arrivals
@@ -156,7 +164,9 @@ module _ (place : Place) (p : ℕ) where
   found-way known reached Entry to found = found
   found-way known reached (Along edge) to found = found.0
 
-  sought-found : (known : Bool) (to : ℕ) (reached : Bool) (edge : Edge) (point : KnownPlace) → slice_get (places place.image) edge.from ≡ Some point → is_sought place (asked known reached) to edge point ≡ true → IsFound known reached (Along edge) to
+  sought-found : (known : Bool) (to : ℕ) (reached : Bool) (edge : Edge) (point : KnownPlace)
+      → slice_get (places place.image) edge.from ≡ Some point → is_sought place (asked known reached) to edge point ≡ true
+      → IsFound known reached (Along edge) to
   sought-found known to reached edge point there is =
       let ends = end_of edge point.instr == to in
       let comes = agrees reached (is_reached place.image edge.from) in
@@ -172,26 +182,32 @@ module _ (place : Place) (p : ℕ) where
   AllFound known reached o to = (way : Way) → o ≡ Some way → IsFound known reached way to
 
   -- of two ways the first, if there is one
-  or-all : (P : Way → Type 0) (a b : Option Way) → ((way : Way) → a ≡ Some way → P way) → ((way : Way) → b ≡ Some way → P way) → (way : Way) → option_or a b ≡ Some way → P way
+  or-all : (P : Way → Type 0) (a b : Option Way) → ((way : Way) → a ≡ Some way → P way) → ((way : Way) → b ≡ Some way → P way)
+      → (way : Way) → option_or a b ≡ Some way → P way
   or-all P None b left right = right
   or-all P (Some way) b left right = left
 
-  along-way : (known : Bool) (to : ℕ) (reached : Bool) (edge : Edge) (point : KnownPlace) → slice_get (places place.image) edge.from ≡ Some point → AllFound known reached (way_along place (asked known reached) to edge point) to
+  along-way : (known : Bool) (to : ℕ) (reached : Bool) (edge : Edge) (point : KnownPlace)
+      → slice_get (places place.image) edge.from ≡ Some point → AllFound known reached (way_along place (asked known reached) to edge point) to
   along-way known to reached edge point there way e =
       let is = cond-some (is_sought place (asked known reached) to edge point) (Some (Along edge)) way e in
       subst (λ w. IsFound known reached w to) (some-same _ _ is.1) (sought-found known to reached edge point there is.0)
 
-  of-found : (known : Bool) (to : ℕ) (reached : Bool) (from : ℕ) (point : KnownPlace) → slice_get (places place.image) from ≡ Some point → AllFound known reached (way_of place (asked known reached) to from point) to
+  of-found : (known : Bool) (to : ℕ) (reached : Bool) (from : ℕ) (point : KnownPlace) → slice_get (places place.image) from ≡ Some point
+      → AllFound known reached (way_of place (asked known reached) to from point) to
   of-found known to reached from point there =
       let along : Edge = record { from = from; branch = false } in
       let aside : Edge = record { from = from; branch = true } in
-      or-all (λ way. IsFound known reached way to) (way_along place (asked known reached) to along point) (way_along place (asked known reached) to aside point) (along-way known to reached along point there) (along-way known to reached aside point there)
+      or-all (λ way. IsFound known reached way to) (way_along place (asked known reached) to along point)
+      (way_along place (asked known reached) to aside point) (along-way known to reached along point there)
+      (along-way known to reached aside point there)
 
   at-found : (known : Bool) (to : ℕ) (reached : Bool) (from : ℕ) → AllFound known reached (way_at place (asked known reached) to from) to
   unfolding way_at
   at-found known to reached from = by_point (slice_get (places place.image) from) refl
     where
-      by_point : (o : Option KnownPlace) → slice_get (places place.image) from ≡ o → AllFound known reached (elim o [ None ↦ None | Some point ↦ way_of place (asked known reached) to from point ]) to
+      by_point : (o : Option KnownPlace) → slice_get (places place.image) from ≡ o
+          → AllFound known reached (elim o [ None ↦ None | Some point ↦ way_of place (asked known reached) to from point ]) to
       by_point None e way is = absurd cc
       by_point (Some point) e way is = of-found known to reached from point e way is
 
@@ -200,7 +216,8 @@ module _ (place : Place) (p : ℕ) where
   first-found known to reached zero = λ way is. absurd cc
   first-found known to reached (suc n) =
       let from = start_of place.image.routines place.r + n in
-      or-all (λ way. IsFound known reached way to) (first_way place (asked known reached) to n) (way_at place (asked known reached) to from) (first-found known to reached n) (at-found known to reached from)
+      or-all (λ way. IsFound known reached way to) (first_way place (asked known reached) to n)
+      (way_at place (asked known reached) to from) (first-found known to reached n) (at-found known to reached from)
 
   entry-way : (known : Bool) (to : ℕ) (reached : Bool) → AllFound known reached (entry_way place (asked known reached) to) to
   entry-way known to reached way is =
@@ -212,7 +229,8 @@ module _ (place : Place) (p : ℕ) where
   to-found : (known : Bool) (to : ℕ) (reached : Bool) → AllFound known reached (way_to place (asked known reached) to) to
   unfolding way_to
   to-found known to reached =
-      or-all (λ way. IsFound known reached way to) (entry_way place (asked known reached) to) (first_way place (asked known reached) to place.routine.count) (entry-way known to reached) (first-found known to reached place.routine.count)
+      or-all (λ way. IsFound known reached way to) (entry_way place (asked known reached) to)
+      (first_way place (asked known reached) to place.routine.count) (entry-way known to reached) (first-found known to reached place.routine.count)
 
   bringing-way : (to : ℕ) (way : Way) → bringing place p to ≡ Some way → IsWay place p true way to × IsAlike place way
   unfolding bringing
@@ -274,7 +292,8 @@ module _ (place : Place) (p : ℕ) where
   ends_at at = end_at place p (bringing place p at) at (losing place p at)
 
   -- what the caller does not bring is not known to the entry row, unless it leads into an empty slot
-  entry-stale : (slots : List SlotState) (o : Option Pointer) → is_stale (if leads_nowhere slots o then None else o) ≡ true → empty_behind slots o ≡ None → is_stale o ≡ true
+  entry-stale : (slots : List SlotState) (o : Option Pointer) → is_stale (if leads_nowhere slots o then None else o) ≡ true
+      → empty_behind slots o ≡ None → is_stale o ≡ true
   entry-stale slots None stale none = refl
   entry-stale slots (Some pointer) stale none = by_test (leads_nowhere slots (Some pointer)) stale none
     where
@@ -282,19 +301,22 @@ module _ (place : Place) (p : ℕ) where
       by_test true is_stale none = absurd cc
       by_test false is_stale none = is_stale
 
-  along-nowhere : (slot : ℕ) (edge : Edge) (point : KnownPlace) → slice_get (places place.image) edge.from ≡ Some point → empty_from place.image p edge ≡ Some slot
+  along-nowhere : (slot : ℕ) (edge : Edge) (point : KnownPlace) → slice_get (places place.image) edge.from ≡ Some point
+      → empty_from place.image p edge ≡ Some slot
       → empty_slot (after place.image edge.from point.row edge.branch) p ≡ Some slot
   unfolding empty_from
   along-nowhere slot edge point there e =
       let here : empty_along place.image p edge point ≡ Some slot = rw (there, empty_from) at e in
       (cond-some (has_edge point.instr edge.branch) (empty_slot (after place.image edge.from point.row edge.branch) p) slot here).1
 
-  way-nowhere : (known : Bool) (to slot : ℕ) (way : Way) → IsWay place p known way to → empty_on place p way ≡ Some slot → BringsNowhere place p way slot to
+  way-nowhere : (known : Bool) (to slot : ℕ) (way : Way) → IsWay place p known way to → empty_on place p way ≡ Some slot
+      → BringsNowhere place p way slot to
   way-nowhere known to slot Entry is e = (is.0, e)
   way-nowhere known to slot (Along edge) is e =
       record { point = is.point; there = is.there; has = is.has; ends = is.ends; empty = along-nowhere slot edge is.point is.there e }
 
-  or-end : (known : Bool) (at : ℕ) (way : Way) (end : End) → LacksFrom at → IsWay place p known way at → (empty_on place p way ≡ None → IsEnd end) → IsEnd (nowhere_or place p way end)
+  or-end : (known : Bool) (at : ℕ) (way : Way) (end : End) → LacksFrom at → IsWay place p known way at
+      → (empty_on place p way ≡ None → IsEnd end) → IsEnd (nowhere_or place p way end)
   or-end known at way end from is other = by_slot (empty_on place p way) refl
     where
       by_slot : (o : Option ℕ) → empty_on place p way ≡ o → IsEnd (elim o [ None ↦ end | Some slot ↦ Nowhere way slot ])
@@ -312,7 +334,12 @@ module _ (place : Place) (p : ℕ) where
       entry-end is =
           let start = subst LacksFrom is.0 from in
           or-end false at Entry Unset from is
-          (λ none. record { entry = entry-stale place.routine.entry.slots (pointer_at place.routine.entry p) is.1 none; edges = start.0; way = start.1 })
+          (λ none. record {
+            entry = entry-stale place.routine.entry.slots (pointer_at place.routine.entry p) is.1 none;
+            edges =
+                start.0;
+            way = start.1;
+          })
 
       by_lost : (lost : Option Way) → losing place p at ≡ lost → end_at place p (bringing place p at) at lost ≡ Some end → IsEnd end
       by_lost None is e = subst IsEnd (some-same _ _ e) (by_known (bringing place p at) refl)
@@ -353,7 +380,14 @@ module _ (place : Place) (p : ℕ) where
           → Sound (cond (is_none before && is_some (option_or before new))
           (record trace { passed = marked trace.passed at; goes_on = true; found = true; meeting = option_or before new; end = ends_at at })
           (record trace { passed = marked trace.passed at; goes_on = true; meeting = option_or before new; end = option_or trace.end (ends_at at) }))
-      by_meeting None None is_before is_new = record { found = sound.found; passed = marks; lost = sound.lost; meeting = λ m e. absurd cc; end = later }
+      by_meeting None None is_before is_new = record {
+        found = sound.found;
+        passed = marks;
+        lost = sound.lost;
+        meeting =
+            λ m e. absurd cc;
+        end = later;
+      }
       by_meeting None (Some new) is_before is_new = record {
         found = sound.found;
         passed = marks;
@@ -369,10 +403,12 @@ module _ (place : Place) (p : ℕ) where
         end = later;
       }
 
-  by-sound : (trace : Trace) → Sound trace → (edge : Edge) (point : KnownPlace) → slice_get (places place.image) edge.from ≡ Some point → LacksFrom (end_of edge point.instr) → Sound (back_by place p trace edge point)
+  by-sound : (trace : Trace) → Sound trace → (edge : Edge) (point : KnownPlace) → slice_get (places place.image) edge.from ≡ Some point
+      → LacksFrom (end_of edge point.instr) → Sound (back_by place p trace edge point)
   by-sound trace sound edge point there from = by_lack (lacks_on place p edge point) refl
     where
-      by_loss : (comes_alike place edge.from ≡ true) → (has_edge point.instr edge.branch ≡ true) → (is_stale (pointer_at (after place.image edge.from point.row edge.branch) p) ≡ true)
+      by_loss : (comes_alike place edge.from ≡ true) → (has_edge point.instr edge.branch ≡ true)
+          → (is_stale (pointer_at (after place.image edge.from point.row edge.branch) p) ≡ true)
           → (b : Bool) → loses place.image (hint_at trace p edge.from) edge point ≡ b → Sound (back_as place p trace edge (cond b Loses Lacks))
       by_loss alike has stale true is = record {
         found = sound.found;
@@ -410,11 +446,13 @@ module _ (place : Place) (p : ℕ) where
           by_loss first.0 first.1 last.1 (loses place.image (hint_at trace p edge.from) edge point) refl
       by_lack false is = sound
 
-  along-sound : (trace : Trace) → Sound trace → (edge : Edge) (point : KnownPlace) → slice_get (places place.image) edge.from ≡ Some point → Sound (back_along place p trace edge point)
+  along-sound : (trace : Trace) → Sound trace → (edge : Edge) (point : KnownPlace) → slice_get (places place.image) edge.from ≡ Some point
+      → Sound (back_along place p trace edge point)
   unfolding back_along
   along-sound trace sound edge point there = by_test (not trace.found && is_marked trace.passed (end_of edge point.instr)) refl
     where
-      by_test : (b : Bool) → (not trace.found && is_marked trace.passed (end_of edge point.instr)) ≡ b → Sound (cond b (back_by place p trace edge point) trace)
+      by_test : (b : Bool) → (not trace.found && is_marked trace.passed (end_of edge point.instr)) ≡ b
+          → Sound (cond b (back_by place p trace edge point) trace)
       by_test true is =
           let to = end_of edge point.instr in
           let tests = and_parts (not trace.found) (is_marked trace.passed to) is in
@@ -428,7 +466,8 @@ module _ (place : Place) (p : ℕ) where
     where
       by_point : (o : Option KnownPlace) → slice_get (places place.image) from ≡ o → Sound (elim o [
         | None ↦ trace
-        | Some point ↦ back_along place p (back_along place p trace (record { from = from; branch = false }) point) (record { from = from; branch = true }) point
+        | Some point ↦ back_along place p (back_along place p trace (record { from = from; branch = false }) point)
+            (record { from = from; branch = true }) point
       ])
       by_point None e = sound
       by_point (Some point) e =
@@ -443,7 +482,8 @@ module _ (place : Place) (p : ℕ) where
       over-sound (back_from place p trace from) (from-sound trace sound from) n
 
   -- what else was noted does not count
-  same-sound : (trace next : Trace) → Sound trace → next.arrivals ≡ trace.arrivals → ((k : ℕ) → Has next.passed k → Has trace.passed k) → next.lost ≡ trace.lost → next.meeting ≡ trace.meeting → next.end ≡ trace.end → Sound next
+  same-sound : (trace next : Trace) → Sound trace → next.arrivals ≡ trace.arrivals → ((k : ℕ) → Has next.passed k → Has trace.passed k)
+      → next.lost ≡ trace.lost → next.meeting ≡ trace.meeting → next.end ≡ trace.end → Sound next
   same-sound trace next sound arrivals passed lost meeting end = record {
     found = subst Found (sym arrivals) sound.found;
     passed = λ k h. sound.passed k (passed k h);
@@ -456,7 +496,8 @@ module _ (place : Place) (p : ℕ) where
   next-sound trace sound = by_test trace.goes_on
     where
       by_test : (b : Bool) → Sound (cond b (back_over place p (record trace { goes_on = false }) place.routine.count) trace)
-      by_test true = over-sound (record trace { goes_on = false }) (same-sound trace (record trace { goes_on = false }) sound refl (λ k h. h) refl refl refl) place.routine.count
+      by_test true = over-sound (record trace { goes_on = false })
+          (same-sound trace (record trace { goes_on = false }) sound refl (λ k h. h) refl refl refl) place.routine.count
       by_test false = sound
 
   rounds-sound : (trace : Trace) → Sound trace → (n : ℕ) → Sound (rounds place p trace n)
@@ -466,7 +507,16 @@ module _ (place : Place) (p : ℕ) where
 
   begun-sound : Sound (begun place p)
   begun-sound =
-      let start : Trace = record { arrivals = all_arrivals place p place.routine.count; passed = no_marks; goes_on = false; found = false; meeting = None; end = None; lost = None } in
+      let start : Trace = record {
+        arrivals = all_arrivals place p place.routine.count;
+        passed = no_marks;
+        goes_on =
+            false;
+        found = false;
+        meeting = None;
+        end = None;
+        lost = None;
+      } in
       let sound : Sound start = record {
         found = all-found place.routine.count;
         passed = λ k h. absurd (none-marked k h);
@@ -476,12 +526,15 @@ module _ (place : Place) (p : ℕ) where
       } in
       pass-sound start sound place.pc ([], refl)
 
-  aside-sound : (trace : Trace) → Sound trace → (edge : Edge) (to : ℕ) → LeadsBy place p false edge to → LacksFrom to → Sound (aside place p trace edge)
+  aside-sound : (trace : Trace) → Sound trace → (edge : Edge) (to : ℕ) → LeadsBy place p false edge to → LacksFrom to
+      → Sound (aside place p trace edge)
   unfolding aside
-  aside-sound trace sound edge to leads from = rw (leads.there, aside) (by-sound trace sound edge leads.point leads.there (subst LacksFrom (sym leads.ends) from))
+  aside-sound trace sound edge to leads from = rw (leads.there, aside)
+      (by-sound trace sound edge leads.point leads.there (subst LacksFrom (sym leads.ends) from))
 
   -- on from a meeting, where nothing else was passed
-  anew-sound : (trace : Trace) → Sound trace → (o : Option End) (way : Way) (to : ℕ) → IsWay place p false way to → LacksFrom to → Sound (cond (is_some o) trace (aside_by place p trace way))
+  anew-sound : (trace : Trace) → Sound trace → (o : Option End) (way : Way) (to : ℕ) → IsWay place p false way to
+      → LacksFrom to → Sound (cond (is_some o) trace (aside_by place p trace way))
   anew-sound trace sound (Some end) way to losing from = sound
   anew-sound trace sound None Entry to losing from = sound
   anew-sound trace sound None (Along edge) to losing from = aside-sound trace sound edge to losing from

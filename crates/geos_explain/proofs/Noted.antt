@@ -90,7 +90,8 @@ comment-refusal refused place = by_rule (rule_at refused place.pc)
   where
     by_rule : (rule : Option Rule) → AreComments (elim rule [ None ↦ [] | Some found ↦ refused_text refused place found ])
     by_rule None = none-told
-    by_rule (Some rule) = comment-told (most_told (length place.image.points)) (count_by is_told (take place.pc refused)) (count_by is_told refused) place rule
+    by_rule (Some rule) = comment-told (most_told (length place.image.points)) (count_by is_told (take place.pc refused))
+        (count_by is_told refused) place rule
 
 comment-over_line : (first : Place) → AreComments (over_line first)
 comment-over_line first = by_test (over_budget first.routine first.pc first.pc first.potential)
@@ -103,7 +104,8 @@ comment-over : (explained : Explained) (r : ℕ) (routine : Routine) (pc : ℕ) 
 unfolding over_text
 comment-over explained r routine pc = by_last (is_last (start_of explained.image.routines r) routine pc)
   where
-    by_first : (o : Option KnownPlace) → AreComments (option_map_or (λ known. over_line (place_at explained r routine (start_of explained.image.routines r) known)) o [])
+    by_first : (o : Option KnownPlace)
+        → AreComments (option_map_or (λ known. over_line (place_at explained r routine (start_of explained.image.routines r) known)) o [])
     by_first None = none-told
     by_first (Some known) = comment-over_line (place_at explained r routine (start_of explained.image.routines r) known)
 
@@ -134,7 +136,8 @@ noted-note explained r routine place =
     let head = note-head place in
     let known = known_here place in
     let steps = potential_text place.potential in
-    let told = both-told (refusal_text explained.refused place) (over_text explained r routine place.pc) (comment-refusal explained.refused place) (comment-over explained r routine place.pc) in
+    let told = both-told (refusal_text explained.refused place) (over_text explained r routine place.pc)
+    (comment-refusal explained.refused place) (comment-over explained r routine place.pc) in
     record {
       words = head.0 ++ known ++ steps;
       comments = told.0;
@@ -147,9 +150,11 @@ noted-note explained r routine place =
 -- what is said of the instruction of routine r at a pc
 note_at : Explained → ℕ → ℕ → List ℕ
 note_at explained r pc =
-    option_map_or (λ routine. option_map_or (λ known. noted explained r routine (place_at explained r routine pc known)) (slice_get (places explained.image) pc) []) (slice_get explained.image.routines r) []
+    option_map_or (λ routine. option_map_or (λ known. noted explained r routine (place_at explained r routine pc known))
+    (slice_get (places explained.image) pc) []) (slice_get explained.image.routines r) []
 
-note_at-note : (explained : Explained) (r pc : ℕ) → r < length explained.image.routines → pc < length explained.image.points → IsNote (note_at explained r pc)
+note_at-note : (explained : Explained) (r pc : ℕ) → r < length explained.image.routines → pc < length explained.image.points
+    → IsNote (note_at explained r pc)
 unfolding note_at
 note_at-note explained r pc within there =
     let routine = item_at explained.image.routines r within in
@@ -179,13 +184,15 @@ place-with explained r pc routine is = rw is (by_place (slice_get (places explai
     by_place None e = rw (no-point explained.image pc e) refl
     by_place (Some known) e =
         let found = point-of explained.image pc known e in
-        rw found.1 (ap (λ (i : Instr). label_line explained.image.points pc ++ (instr_code explained.image.routines i ++ noted explained r routine (place_at explained r routine pc known))) found.2.instr)
+        rw found.1 (ap (λ (i : Instr). label_line explained.image.points pc
+        ++ (instr_code explained.image.routines i ++ noted explained r routine (place_at explained r routine pc known))) found.2.instr)
 
 routine-with : (explained : Explained) (r : ℕ) → numbered_routine explained r ≡ numbered_with (note_at explained r) explained.image r
 routine-with explained r = by_routine (slice_get explained.image.routines r) refl
   where
     by_routine : (o : Option Routine) → slice_get explained.image.routines r ≡ o
-        → option_map_or (routine_text explained r (start_of explained.image.routines r)) o [] ≡ option_map_or (routine_with (note_at explained r) explained.image (start_of explained.image.routines r)) o []
+        → option_map_or (routine_text explained r (start_of explained.image.routines r)) o [] ≡ option_map_or
+        (routine_with (note_at explained r) explained.image (start_of explained.image.routines r)) o []
     by_routine None is = refl
     by_routine (Some routine) is =
         let start = start_of explained.image.routines r in
@@ -200,7 +207,8 @@ explanation-listed image refused =
     let listed : IsListingWithNotes image (explanation image refused) = record {
       note = note_at explained;
       notes = λ r pc within there. note_at-note explained r pc within there;
-      whole = texts_below-same (length image.routines) (λ r. numbered_routine explained r) (λ r. numbered_with (note_at explained r) image r) (routine-with explained);
+      whole = texts_below-same (length image.routines) (λ r. numbered_routine explained r)
+          (λ r. numbered_with (note_at explained r) image r) (routine-with explained);
     } in
     (listed, refl)
 
@@ -221,18 +229,21 @@ last-begun image pc (suc zero) some =
     (0, rw before refl, omega arith)
 last-begun image pc (suc (suc n)) some = by_start (last-begun image pc (suc n) (omega arith)) (nat_le (start_of image.routines (suc n)) pc)
   where
-    by_start : (r : ℕ) × (last_begun image pc (suc n) ≡ Some r) × (r < suc n) → (before : Bool) → (r : ℕ) × (cond before (Some (suc n)) (last_begun image pc (suc n)) ≡ Some r) × (r < suc (suc n))
+    by_start : (r : ℕ) × (last_begun image pc (suc n) ≡ Some r) × (r < suc n) → (before : Bool) → (r : ℕ)
+        × (cond before (Some (suc n)) (last_begun image pc (suc n)) ≡ Some r) × (r < suc (suc n))
     by_start rest true = (suc n, refl, omega arith)
     by_start rest false = (rest.0, rest.1, omega (arith, rest.2))
 
-noted_at-note : (explained : Explained) (pc : ℕ) → is_image explained.image ≡ true → pc < length explained.image.points → IsNote (noted_at explained pc)
+noted_at-note : (explained : Explained) (pc : ℕ) → is_image explained.image ≡ true → pc < length explained.image.points
+    → IsNote (noted_at explained pc)
 unfolding noted_at noted_of noted_in
 noted_at-note explained pc legal there =
     let image = explained.image in
     let last = last-begun image pc (length image.routines) ((image_parts image legal).some) in
     let routine = item_at image.routines last.0 last.2 in
     let known = item_at (places image) pc (omega (arith, there, places-length image)) in
-    rw (last.1, noted_at, routine.1, noted_of, known.1, noted_in) (noted-note explained last.0 routine.0 (place_at explained last.0 routine.0 pc known.0))
+    rw (last.1, noted_at, routine.1, noted_of, known.1, noted_in)
+    (noted-note explained last.0 routine.0 (place_at explained last.0 routine.0 pc known.0))
 
 -- behind a line stand its end or a note
 line-behind : (explained : Explained) (pc number : ℕ) → is_image explained.image ≡ true → IsBehind (behind_line explained pc number)
@@ -246,7 +257,8 @@ line-behind explained pc number legal = by_line (is_line_of explained.lines pc n
     by_line false is = inl refl
 
 lines-behind : (explained : Explained) → is_image explained.image ≡ true → (pc number : ℕ) (texts : List (List ℕ))
-    → (behind : List (List ℕ)) × All IsBehind behind × (length behind ≡ length texts) × (lines_text explained pc number texts ≡ lines_with behind number texts)
+    → (behind : List (List ℕ)) × All IsBehind behind × (length behind ≡ length texts)
+    × (lines_text explained pc number texts ≡ lines_with behind number texts)
 unfolding line_text
 lines-behind explained legal pc number [] = ([], All-nil IsBehind, refl, refl)
 lines-behind explained legal pc number (line ∷ texts) =

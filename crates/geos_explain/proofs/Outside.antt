@@ -79,7 +79,8 @@ open-slots : (slots : List SlotState) → slots_text (record open_row { slots = 
 unfolding row_items texts_below
 open-slots slots none = rw none refl
 
-open-pointers : (pointers : List (Option Pointer)) → pointers_text (record open_row { pointers = pointers }) ≡ [] → row_items (record open_row { pointers = pointers }) ≡ []
+open-pointers : (pointers : List (Option Pointer)) → pointers_text (record open_row { pointers = pointers }) ≡ []
+    → row_items (record open_row { pointers = pointers }) ≡ []
 unfolding row_items texts_below
 open-pointers pointers none = rw none refl
 
@@ -105,7 +106,8 @@ slot-given i (Vm false true) given = (refl, refl)
 slot-given i (Db a) given = absurd cc
 
 -- the same of a slot that is left as it was given
-left-slot : (i : ℕ) (entry exit : SlotState) → slot_item i (missing_only entry exit) ≡ [] → slot_item i (kept_only entry exit) ≡ [] → may_be_given entry ≡ true → is_left entry exit ≡ true
+left-slot : (i : ℕ) (entry exit : SlotState) → slot_item i (missing_only entry exit) ≡ [] → slot_item i (kept_only entry exit) ≡ []
+    → may_be_given entry ≡ true → is_left entry exit ≡ true
 left-slot i Empty Empty missing kept given = refl
 left-slot i Empty Mem missing kept given = absurd cc
 left-slot i Empty (Vm a b) missing kept given = absurd cc
@@ -120,7 +122,8 @@ left-slot i (Vm false true) (Vm a false) missing kept given = absurd cc
 left-slot i (Vm false true) (Vm a true) missing kept given = refl
 left-slot i (Vm false true) (Db a) missing kept given = absurd cc
 
-slot-left : (i : ℕ) (entry exit : SlotState) → is_left entry exit ≡ true → (slot_item i (missing_only entry exit) ≡ []) × (slot_item i (kept_only entry exit) ≡ [])
+slot-left : (i : ℕ) (entry exit : SlotState) → is_left entry exit ≡ true → (slot_item i (missing_only entry exit) ≡ [])
+    × (slot_item i (kept_only entry exit) ≡ [])
 slot-left i Empty Empty left = (refl, refl)
 slot-left i Empty Mem left = absurd cc
 slot-left i Empty (Vm a b) left = absurd cc
@@ -145,7 +148,8 @@ pointer-stale i (Some q) stale = absurd cc
 
 stale-pointers : (row : Row) → length row.pointers ≡ 4 → row_items (known_pointers row) ≡ [] → list_all is_stale row.pointers ≡ true
 stale-pointers row four none = all-of is_stale row.pointers None (λ k lt.
-    stale-pointer k (get_or row.pointers k None) (texts_below-none 4 (λ i. pointer_item i (get_or row.pointers i None)) ((no_items (known_pointers row) none).pointers) k (omega arith)))
+    stale-pointer k (get_or row.pointers k None) (texts_below-none 4 (λ i. pointer_item i (get_or row.pointers i None))
+    ((no_items (known_pointers row) none).pointers) k (omega arith)))
 
 pointers-stale : (row : Row) → length row.pointers ≡ 4 → list_all is_stale row.pointers ≡ true → row_items (known_pointers row) ≡ []
 pointers-stale row four stale = open-pointers row.pointers (none-texts_below 4 (λ i. pointer_item i (get_or row.pointers i None)) (λ k lt.
@@ -165,14 +169,16 @@ one-pair pair true false true one = refl
 one-pair pair true false false one = absurd cc
 
 -- an operation and a test on pairs, at an index
-pairs-at : (change : Bool → ℕ × ℕ → Bool) (known : List Bool) (pairs : List (ℕ × ℕ)) (d : ℕ × ℕ) (k : ℕ) → length known ≡ length pairs → k < length known
+pairs-at : (change : Bool → ℕ × ℕ → Bool) (known : List Bool) (pairs : List (ℕ × ℕ)) (d : ℕ × ℕ) (k : ℕ)
+    → length known ≡ length pairs → k < length known
     → get_or (each_pair change known pairs) k false ≡ change (get_or known k false) (get_or pairs k d)
 pairs-at change [] pairs d k same lt = absurd (omega arith)
 pairs-at change (x ∷ known) [] d k same lt = absurd (omega arith)
 pairs-at change (x ∷ known) (pair ∷ pairs) d zero same lt = refl
 pairs-at change (x ∷ known) (pair ∷ pairs) d (suc k) same lt = pairs-at change known pairs d k (omega arith) (omega arith)
 
-test-at : {X Y : Type 0} (test : X → Y → Bool) (xs : List X) (ys : List Y) (d : X) (e : Y) (k : ℕ) → all2 test xs ys ≡ true → k < length xs → test (get_or xs k d) (get_or ys k e) ≡ true
+test-at : {X Y : Type 0} (test : X → Y → Bool) (xs : List X) (ys : List Y) (d : X) (e : Y) (k : ℕ) → all2 test xs ys ≡ true
+    → k < length xs → test (get_or xs k d) (get_or ys k e) ≡ true
 test-at test [] ys d e k all lt = absurd (omega arith)
 test-at test (x ∷ xs) [] d e k all lt = absurd cc
 test-at test (x ∷ xs) (y ∷ ys) d e zero all lt = (and_parts (test x y) (all2 test xs ys) all).0
@@ -194,38 +200,48 @@ is_empty_at row a = is_empty (get_or row.slots a Empty)
 pairs-one : (row : Row) → length row.pairs ≡ 6 → row_items (held_pairs row) ≡ [] → all2 (may_be_one row.slots) row.pairs slot_pairs ≡ true
 pairs-one row six none = test-of (may_be_one row.slots) row.pairs slot_pairs false (0, 0) six (λ k lt.
     let pair = get_or slot_pairs k (0, 0) in
-    let item = texts_below-none 6 (λ i. pair_item (get_or pair_slots i (0, 0)) (get_or (held_pairs row).pairs i false)) ((no_items (held_pairs row) none).pairs) k (omega arith) in
+    let item = texts_below-none 6 (λ i. pair_item (get_or pair_slots i (0, 0)) (get_or (held_pairs row).pairs i false))
+    ((no_items (held_pairs row) none).pairs) k (omega arith) in
     pair-one (get_or pair_slots k (0, 0)) (get_or row.pairs k false) (is_empty_at row pair.0) (is_empty_at row pair.1)
     (rw (pairs-at (differ_held row.slots) row.pairs slot_pairs (0, 0) k six lt) at item))
 
 one-pairs : (row : Row) → length row.pairs ≡ 6 → all2 (may_be_one row.slots) row.pairs slot_pairs ≡ true → row_items (held_pairs row) ≡ []
-one-pairs row six one = open-pairs (held_pairs row).pairs (none-texts_below 6 (λ i. pair_item (get_or pair_slots i (0, 0)) (get_or (held_pairs row).pairs i false)) (λ k lt.
+one-pairs row six one = open-pairs (held_pairs row).pairs
+    (none-texts_below 6 (λ i. pair_item (get_or pair_slots i (0, 0)) (get_or (held_pairs row).pairs i false)) (λ k lt.
     let pair = get_or slot_pairs k (0, 0) in
     rw (pairs-at (differ_held row.slots) row.pairs slot_pairs (0, 0) k six (omega arith))
     (one-pair (get_or pair_slots k (0, 0)) (get_or row.pairs k false) (is_empty_at row pair.0) (is_empty_at row pair.1)
     (test-at (may_be_one row.slots) row.pairs slot_pairs false (0, 0) k one (omega arith)))))
 
 -- slots of which none is named may be given, and those that may be given are not named
-given-slots : (row : Row) → length row.slots ≡ 4 → row_items (own_slots row) ≡ [] → row_items (marked_slots row) ≡ [] → list_all may_be_given row.slots ≡ true
+given-slots : (row : Row) → length row.slots ≡ 4 → row_items (own_slots row) ≡ [] → row_items (marked_slots row) ≡ []
+    → list_all may_be_given row.slots ≡ true
 given-slots row four own marked = all-of may_be_given row.slots Empty (λ k lt.
     let first = texts_below-none 4 (λ i. slot_item i (get_or (own_slots row).slots i Empty)) ((no_items (own_slots row) own).slots) k (omega arith) in
-    let second = texts_below-none 4 (λ i. slot_item i (get_or (marked_slots row).slots i Empty)) ((no_items (marked_slots row) marked).slots) k (omega arith) in
-    given-slot k (get_or row.slots k Empty) (rw (map-at own_only row.slots Empty k lt) at first) (rw (map-at marked_only row.slots Empty k lt) at second))
+    let second = texts_below-none 4 (λ i. slot_item i (get_or (marked_slots row).slots i Empty))
+    ((no_items (marked_slots row) marked).slots) k (omega arith) in
+    given-slot k (get_or row.slots k Empty) (rw (map-at own_only row.slots Empty k lt) at first)
+    (rw (map-at marked_only row.slots Empty k lt) at second))
 
-slots-given : (row : Row) → length row.slots ≡ 4 → list_all may_be_given row.slots ≡ true → (row_items (own_slots row) ≡ []) × (row_items (marked_slots row) ≡ [])
+slots-given : (row : Row) → length row.slots ≡ 4 → list_all may_be_given row.slots ≡ true → (row_items (own_slots row) ≡ [])
+    × (row_items (marked_slots row) ≡ [])
 slots-given row four given = (
   open-slots (own_slots row).slots (none-texts_below 4 (λ i. slot_item i (get_or (own_slots row).slots i Empty)) (λ k lt.
-      rw (map-at own_only row.slots Empty k (omega arith)) ((slot-given k (get_or row.slots k Empty) (all-at may_be_given row.slots Empty k given (omega arith))).0))),
+      rw (map-at own_only row.slots Empty k (omega arith))
+      ((slot-given k (get_or row.slots k Empty) (all-at may_be_given row.slots Empty k given (omega arith))).0))),
   open-slots (marked_slots row).slots (none-texts_below 4 (λ i. slot_item i (get_or (marked_slots row).slots i Empty)) (λ k lt.
-      rw (map-at marked_only row.slots Empty k (omega arith)) ((slot-given k (get_or row.slots k Empty) (all-at may_be_given row.slots Empty k given (omega arith))).1))),
+      rw (map-at marked_only row.slots Empty k (omega arith))
+      ((slot-given k (get_or row.slots k Empty) (all-at may_be_given row.slots Empty k given (omega arith))).1))),
 )
 
 -- the same of slots that are left
 left-slots : (entry exit : Row) → length entry.slots ≡ 4 → length exit.slots ≡ 4 → list_all may_be_given entry.slots ≡ true
     → row_items (missing_slots entry exit) ≡ [] → row_items (kept_slots entry exit) ≡ [] → all2 is_left entry.slots exit.slots ≡ true
 left-slots entry exit four also_four given missing kept = all2-of is_left entry.slots exit.slots Empty (omega arith) (λ k lt.
-    let first = texts_below-none 4 (λ i. slot_item i (get_or (missing_slots entry exit).slots i Empty)) ((no_items (missing_slots entry exit) missing).slots) k (omega arith) in
-    let second = texts_below-none 4 (λ i. slot_item i (get_or (kept_slots entry exit).slots i Empty)) ((no_items (kept_slots entry exit) kept).slots) k (omega arith) in
+    let first = texts_below-none 4 (λ i. slot_item i (get_or (missing_slots entry exit).slots i Empty))
+    ((no_items (missing_slots entry exit) missing).slots) k (omega arith) in
+    let second = texts_below-none 4 (λ i. slot_item i (get_or (kept_slots entry exit).slots i Empty))
+    ((no_items (kept_slots entry exit) kept).slots) k (omega arith) in
     left-slot k (get_or entry.slots k Empty) (get_or exit.slots k Empty)
     (rw (zip2-get missing_only entry.slots exit.slots Empty k (omega arith) lt) at first)
     (rw (zip2-get kept_only entry.slots exit.slots Empty k (omega arith) lt) at second)
@@ -236,10 +252,12 @@ slots-left : (entry exit : Row) → length entry.slots ≡ 4 → length exit.slo
 slots-left entry exit four also_four left = (
   open-slots (missing_slots entry exit).slots (none-texts_below 4 (λ i. slot_item i (get_or (missing_slots entry exit).slots i Empty)) (λ k lt.
       rw (zip2-get missing_only entry.slots exit.slots Empty k (omega arith) (omega arith))
-      ((slot-left k (get_or entry.slots k Empty) (get_or exit.slots k Empty) (all2-get is_left entry.slots exit.slots Empty k left (omega arith))).0))),
+      ((slot-left k (get_or entry.slots k Empty) (get_or exit.slots k Empty)
+      (all2-get is_left entry.slots exit.slots Empty k left (omega arith))).0))),
   open-slots (kept_slots entry exit).slots (none-texts_below 4 (λ i. slot_item i (get_or (kept_slots entry exit).slots i Empty)) (λ k lt.
       rw (zip2-get kept_only entry.slots exit.slots Empty k (omega arith) (omega arith))
-      ((slot-left k (get_or entry.slots k Empty) (get_or exit.slots k Empty) (all2-get is_left entry.slots exit.slots Empty k left (omega arith))).1))),
+      ((slot-left k (get_or entry.slots k Empty) (get_or exit.slots k Empty)
+      (all2-get is_left entry.slots exit.slots Empty k left (omega arith))).1))),
 )
 
 -- texts that are none, one behind another
@@ -264,16 +282,19 @@ enters entry whole none =
 entered : (entry : Row) → HasLengths entry → may_enter entry ≡ true → entry_faults entry ≡ []
 unfolding entry_faults
 entered entry whole enter =
-    let last = and_parts (list_all may_be_given entry.slots && list_all is_stale entry.pointers) (all2 (may_be_one entry.slots) entry.pairs slot_pairs) enter in
+    let last = and_parts (list_all may_be_given entry.slots && list_all is_stale entry.pointers)
+    (all2 (may_be_one entry.slots) entry.pairs slot_pairs) enter in
     let first = and_parts (list_all may_be_given entry.slots) (list_all is_stale entry.pointers) last.0 in
     let slots = slots-given entry whole.slots first.0 in
-    none-four _ _ _ _ (none-also _ _ slots.0) (none-also _ _ slots.1) (none-also _ _ (one-pairs entry whole.pairs last.1)) (none-also _ _ (pointers-stale entry whole.pointers first.1))
+    none-four _ _ _ _ (none-also _ _ slots.0) (none-also _ _ slots.1) (none-also _ _ (one-pairs entry whole.pairs last.1))
+    (none-also _ _ (pointers-stale entry whole.pointers first.1))
 
 -- and leave by an exit row, where it entered so
 leaves : (entry exit : Row) → HasLengths entry → HasLengths exit → may_enter entry ≡ true → exit_faults entry exit ≡ [] → may_leave entry exit ≡ true
 unfolding exit_faults missing_words
 leaves entry exit whole whole_exit enter none =
-    let given = and_parts (list_all may_be_given entry.slots && list_all is_stale entry.pointers) (all2 (may_be_one entry.slots) entry.pairs slot_pairs) enter in
+    let given = and_parts (list_all may_be_given entry.slots && list_all is_stale entry.pointers)
+    (all2 (may_be_one entry.slots) entry.pairs slot_pairs) enter in
     let slots_given = and_parts (list_all may_be_given entry.slots) (list_all is_stale entry.pointers) given.0 in
     let last = none-append _ _ none in
     let first = none-append _ _ last.0 in

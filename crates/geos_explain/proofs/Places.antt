@@ -5,7 +5,8 @@ use Rattle.geos_explain.specs.Lacks.{lacking_bound}
 
 -- an operation at each place of two lists of four
 pub zip2_four : {X : Type 0} (f : X → X → X) (d : X) (xs ys : List X) → length xs ≡ 4 → length ys ≡ 4
-    → zip2 f xs ys ≡ f (get_or xs 0 d) (get_or ys 0 d) ∷ f (get_or xs 1 d) (get_or ys 1 d) ∷ f (get_or xs 2 d) (get_or ys 2 d) ∷ f (get_or xs 3 d) (get_or ys 3 d) ∷ []
+    → zip2 f xs ys ≡ f (get_or xs 0 d) (get_or ys 0 d) ∷ f (get_or xs 1 d) (get_or ys 1 d) ∷ f (get_or xs 2 d)
+    (get_or ys 2 d) ∷ f (get_or xs 3 d) (get_or ys 3 d) ∷ []
 zip2_four f d (a ∷ b ∷ c ∷ g ∷ []) (h ∷ i ∷ j ∷ k ∷ []) p q = refl
 zip2_four f d (a ∷ b ∷ c ∷ g ∷ []) [] p q = absurd (omega arith)
 zip2_four f d (a ∷ b ∷ c ∷ g ∷ []) (h ∷ []) p q = absurd (omega arith)
@@ -54,8 +55,11 @@ eight (a ∷ b ∷ c ∷ d ∷ e ∷ f ∷ g ∷ h ∷ i ∷ xs) p = absurd (ome
 -- what is lacking of eight bounds
 pub lacking_eight : (xs ys : List ℕ) → length xs ≡ 8 → length ys ≡ 8
     → zip2 lacking_bound xs ys
-    ≡ lacking_bound (get_or xs 0 0) (get_or ys 0 0) ∷ lacking_bound (get_or xs 1 0) (get_or ys 1 0) ∷ lacking_bound (get_or xs 2 0) (get_or ys 2 0) ∷ lacking_bound (get_or xs 3 0) (get_or ys 3 0)
-    ∷ lacking_bound (get_or xs 4 0) (get_or ys 4 0) ∷ lacking_bound (get_or xs 5 0) (get_or ys 5 0) ∷ lacking_bound (get_or xs 6 0) (get_or ys 6 0) ∷ lacking_bound (get_or xs 7 0) (get_or ys 7 0) ∷ []
+    ≡ lacking_bound (get_or xs 0 0) (get_or ys 0 0) ∷ lacking_bound (get_or xs 1 0) (get_or ys 1 0) ∷ lacking_bound
+    (get_or xs 2 0) (get_or ys 2 0) ∷ lacking_bound (get_or xs 3 0) (get_or ys 3 0)
+    ∷ lacking_bound (get_or xs 4 0) (get_or ys 4 0) ∷ lacking_bound (get_or xs 5 0) (get_or ys 5 0) ∷ lacking_bound
+    (get_or xs 6 0) (get_or ys 6 0) ∷ lacking_bound (get_or xs 7 0) (get_or ys 7 0) ∷ []
 lacking_eight xs ys p q =
     ap (λ zs. zip2 lacking_bound zs ys) (eight xs p)
-    ∙ ap (zip2 lacking_bound (get_or xs 0 0 ∷ get_or xs 1 0 ∷ get_or xs 2 0 ∷ get_or xs 3 0 ∷ get_or xs 4 0 ∷ get_or xs 5 0 ∷ get_or xs 6 0 ∷ get_or xs 7 0 ∷ [])) (eight ys q)
+    ∙ ap (zip2 lacking_bound (get_or xs 0 0 ∷ get_or xs 1 0 ∷ get_or xs 2 0 ∷ get_or xs 3 0 ∷ get_or xs 4 0 ∷ get_or
+    xs 5 0 ∷ get_or xs 6 0 ∷ get_or xs 7 0 ∷ [])) (eight ys q)

@@ -111,34 +111,42 @@ unfolding marked_from
 from-grows image marks from i = by_test (is_marked marks from)
   where
     by_test : (b : Bool) → Grows marks (cond b (end_marked image (end_marked image marks (along from) i) (aside from) i) marks)
-    by_test true = grows-on marks (end_marked image marks (along from) i) (end_marked image (end_marked image marks (along from) i) (aside from) i) (end-grows image marks (along from) i) (end-grows image (end_marked image marks (along from) i) (aside from) i)
+    by_test true = grows-on marks (end_marked image marks (along from) i) (end_marked image (end_marked image marks (along from) i) (aside from) i)
+        (end-grows image marks (along from) i) (end-grows image (end_marked image marks (along from) i) (aside from) i)
     by_test false = grows-same marks
 
 -- control goes from an instruction to a pc
 abbrev GoesTo : Parts → ℕ → Instr → ℕ → Type 0
-GoesTo image from i to = (branch : Bool) × (takes image (record { from = from; branch = branch }) i ≡ true) × (end_of (record { from = from; branch = branch }) i ≡ to)
+GoesTo image from i to = (branch : Bool) × (takes image (record { from = from; branch = branch }) i ≡ true)
+    × (end_of (record { from = from; branch = branch }) i ≡ to)
 
 -- what is marked from there was marked, or an edge leads to it from what was
-from-was : (image : Parts) (marks : List Bool) (from : ℕ) (i : Instr) (k : ℕ) → Has (marked_from image marks from i) k → Has marks k ⊎ (Has marks from × GoesTo image from i k)
+from-was : (image : Parts) (marks : List Bool) (from : ℕ) (i : Instr) (k : ℕ) → Has (marked_from image marks from i) k
+    → Has marks k ⊎ (Has marks from × GoesTo image from i k)
 unfolding marked_from
 from-was image marks from i k h = by_test (is_marked marks from) refl h
   where
-    by_test : (b : Bool) → is_marked marks from ≡ b → Has (cond b (end_marked image (end_marked image marks (along from) i) (aside from) i) marks) k → Has marks k ⊎ (Has marks from × GoesTo image from i k)
+    by_test : (b : Bool) → is_marked marks from ≡ b → Has (cond b (end_marked image (end_marked image marks (along from) i) (aside from) i) marks) k
+        → Has marks k ⊎ (Has marks from × GoesTo image from i k)
     by_test true is e =
         let here = (and_parts (nat_lt from 4096) (get_or marks from false) is).1 in
         elim (step-was (end_marked image marks (along from) i) i.target (takes image (aside from) i) k e) [
           | inl aside ↦ inr (here, (true, aside.1, sym aside.0))
-          | inr before ↦ elim (step-was marks (from + 1) (takes image (along from) i) k before) [ inl along ↦ inr (here, (false, along.1, sym along.0)) | inr was ↦ inl was ]
+          | inr before ↦ elim (step-was marks (from + 1) (takes image (along from) i) k before)
+              [ inl along ↦ inr (here, (false, along.1, sym along.0)) | inr was ↦ inl was ]
         ]
     by_test false is e = inl e
 
 -- where an edge leads from what is marked is marked
-from-there : (image : Parts) (marks : List Bool) (from : ℕ) (i : Instr) (branch : Bool) → length marks ≡ 4096 → from < 4096 → Has marks from → takes image (record { from = from; branch = branch }) i ≡ true
-    → end_of (record { from = from; branch = branch }) i < 4096 → Has (marked_from image marks from i) (end_of (record { from = from; branch = branch }) i)
+from-there : (image : Parts) (marks : List Bool) (from : ℕ) (i : Instr) (branch : Bool) → length marks ≡ 4096
+    → from < 4096 → Has marks from → takes image (record { from = from; branch = branch }) i ≡ true
+    → end_of (record { from = from; branch = branch }) i < 4096 → Has (marked_from image marks from i)
+    (end_of (record { from = from; branch = branch }) i)
 unfolding marked_from
 from-there image marks from i true full low here goes lt =
     let grows = end-grows image marks (along from) i in
-    rw (is-marked marks from low here, marked_from) (step-there (end_marked image marks (along from) i) i.target (takes image (aside from) i) (grows.len ∙ full) lt goes)
+    rw (is-marked marks from low here, marked_from) (step-there (end_marked image marks (along from) i) i.target
+    (takes image (aside from) i) (grows.len ∙ full) lt goes)
 from-there image marks from i false full low here goes lt =
     let grows = end-grows image (end_marked image marks (along from) i) (aside from) i in
     rw (is-marked marks from low here, marked_from) (grows.keeps (from + 1) (step-there marks (from + 1) (takes image (along from) i) full lt goes))
@@ -151,11 +159,13 @@ at-grows image marks from = by_point (slice_get image.points from)
     by_point None = grows-same marks
     by_point (Some point) = from-grows image marks from point.instr
 
-at-was : (image : Parts) (marks : List Bool) (from k : ℕ) → Has (marked_at image marks from) k → Has marks k ⊎ (Has marks from × ((branch : Bool) × LeadsTo image (record { from = from; branch = branch }) k))
+at-was : (image : Parts) (marks : List Bool) (from k : ℕ) → Has (marked_at image marks from) k
+    → Has marks k ⊎ (Has marks from × ((branch : Bool) × LeadsTo image (record { from = from; branch = branch }) k))
 unfolding marked_at
 at-was image marks from k h = by_point (slice_get image.points from) refl h
   where
-    by_point : (o : Option Point) → slice_get image.points from ≡ o → Has (elim o [ None ↦ marks | Some point ↦ marked_from image marks from point.instr ]) k
+    by_point : (o : Option Point) → slice_get image.points from ≡ o
+        → Has (elim o [ None ↦ marks | Some point ↦ marked_from image marks from point.instr ]) k
         → Has marks k ⊎ (Has marks from × ((branch : Bool) × LeadsTo image (record { from = from; branch = branch }) k))
     by_point None e h = inl h
     by_point (Some point) e h = elim (from-was image marks from point.instr k h) [
@@ -163,17 +173,20 @@ at-was image marks from k h = by_point (slice_get image.points from) refl h
       | inr led ↦ inr (led.0, (led.1.0, record { point = point; there = e; goes = led.1.1; ends = led.1.2 }))
     ]
 
-at-there : (image : Parts) (marks : List Bool) (edge : Edge) (to : ℕ) → length marks ≡ 4096 → edge.from < 4096 → Has marks edge.from → LeadsTo image edge to → to < 4096 → Has (marked_at image marks edge.from) to
+at-there : (image : Parts) (marks : List Bool) (edge : Edge) (to : ℕ) → length marks ≡ 4096 → edge.from < 4096
+    → Has marks edge.from → LeadsTo image edge to → to < 4096 → Has (marked_at image marks edge.from) to
 unfolding marked_at
 at-there image marks edge to full low here L lt =
-    rw (L.there, marked_at) (subst (λ (k : ℕ). Has (marked_from image marks edge.from L.point.instr) k) L.ends (from-there image marks edge.from L.point.instr edge.branch full low here L.goes (let is = L.ends in omega arith)))
+    rw (L.there, marked_at) (subst (λ (k : ℕ). Has (marked_from image marks edge.from L.point.instr) k) L.ends
+    (from-there image marks edge.from L.point.instr edge.branch full low here L.goes (let is = L.ends in omega arith)))
 
 -- ---- Rounds
 
 round-grows : (image : Parts) (marks : List Bool) (n : ℕ) → Grows marks (marked_round image marks n)
 unfolding marked_round
 round-grows image marks zero = grows-same marks
-round-grows image marks (suc n) = grows-on marks (marked_round image marks n) (marked_at image (marked_round image marks n) n) (round-grows image marks n) (at-grows image (marked_round image marks n) n)
+round-grows image marks (suc n) = grows-on marks (marked_round image marks n) (marked_at image (marked_round image marks n) n)
+    (round-grows image marks n) (at-grows image (marked_round image marks n) n)
 
 -- one round over more instructions marks no less
 round-more : (image : Parts) (marks : List Bool) (m n : ℕ) → m ≤ n → Grows (marked_round image marks m) (marked_round image marks n)
@@ -185,7 +198,8 @@ round-more image marks m (suc n) le = elim (cases_lt n m) [
   | inl past ↦
       let same : suc n ≡ m = omega arith in
       subst (λ (k : ℕ). Grows (marked_round image marks k) (marked_round image marks (suc n))) same (grows-same (marked_round image marks (suc n)))
-  | inr within ↦ grows-on (marked_round image marks m) (marked_round image marks n) (marked_at image (marked_round image marks n) n) (round-more image marks m n within) (at-grows image (marked_round image marks n) n)
+  | inr within ↦ grows-on (marked_round image marks m) (marked_round image marks n) (marked_at image (marked_round image marks n) n)
+      (round-more image marks m n within) (at-grows image (marked_round image marks n) n)
 ]
 
 -- what a round marks beside what was marked is what an edge leads to
@@ -204,7 +218,8 @@ round-reached image marks (suc n) all = λ k h. elim (at-was image (marked_round
 ]
 
 -- where a round marks no more, an edge from what is marked leads to what is marked
-round-closed : (image : Parts) (marks : List Bool) → length marks ≡ 4096 → length image.points ≤ 4096 → marked_round image marks (length image.points) ≡ marks
+round-closed : (image : Parts) (marks : List Bool) → length marks ≡ 4096 → length image.points ≤ 4096
+    → marked_round image marks (length image.points) ≡ marks
     → (edge : Edge) (to : ℕ) → Has marks edge.from → LeadsTo image edge to → to < 4096 → Has marks to
 unfolding marked_round
 round-closed image marks full short same edge to here L lt =
@@ -242,16 +257,21 @@ start-there : (image : Parts) (n r : ℕ) → r < n → start_of image.routines 
 unfolding starts_marked
 start-there image zero r lt low = absurd (omega arith)
 start-there image (suc n) r lt low = elim (cases_lt r n) [
-  | inl before ↦ let grows = mark-grows (starts_marked image n) (start_of image.routines n) in grows.keeps (start_of image.routines r) (start-there image n r before low)
+  | inl before ↦ let grows = mark-grows (starts_marked image n) (start_of image.routines n) in
+      grows.keeps (start_of image.routines r) (start-there image n r before low)
   | inr past ↦
       let same : n ≡ r = omega arith in
-      subst (λ (k : ℕ). Has (marked (starts_marked image n) (start_of image.routines n)) (start_of image.routines k)) same (mark-there (starts_marked image n) (start_of image.routines n) (starts-full image n) (subst (λ (k : ℕ). start_of image.routines k < 4096) (sym same) low))
+      subst (λ (k : ℕ). Has (marked (starts_marked image n) (start_of image.routines n)) (start_of image.routines k)) same
+      (mark-there (starts_marked image n) (start_of image.routines n) (starts-full image n)
+      (subst (λ (k : ℕ). start_of image.routines k < 4096) (sym same) low))
 ]
 
 within-grows : (image : Parts) (n : ℕ) → Grows (starts_marked image (length image.routines)) (reached_within image n)
 unfolding reached_within
 within-grows image zero = grows-same (starts_marked image (length image.routines))
-within-grows image (suc n) = grows-on (starts_marked image (length image.routines)) (reached_within image n) (marked_round image (reached_within image n) (length image.points)) (within-grows image n) (round-grows image (reached_within image n) (length image.points))
+within-grows image (suc n) = grows-on (starts_marked image (length image.routines)) (reached_within image n)
+    (marked_round image (reached_within image n) (length image.points)) (within-grows image n)
+    (round-grows image (reached_within image n) (length image.points))
 
 within-full : (image : Parts) (n : ℕ) → length (reached_within image n) ≡ 4096
 within-full image n = let grows = within-grows image n in grows.len ∙ starts-full image (length image.routines)
@@ -278,15 +298,19 @@ count-bound (false ∷ marks) zero below = count-bound marks zero (λ k h. (let 
 count-bound (false ∷ marks) (suc m) below = let rest = count-bound marks m (λ k h. (let lt = below (suc k) h in omega arith)) in omega arith
 
 -- what grows is the same, or marks more
-pub count-grows : (marks next : List Bool) → length next ≡ length marks → ((k : ℕ) → Has marks k → Has next k) → (next ≡ marks) ⊎ (count marks < count next)
+pub count-grows : (marks next : List Bool) → length next ≡ length marks → ((k : ℕ) → Has marks k → Has next k)
+    → (next ≡ marks) ⊎ (count marks < count next)
 unfolding count
 count-grows [] [] len keeps = inl refl
 count-grows [] (b ∷ next) len keeps = absurd (omega arith)
 count-grows (a ∷ marks) [] len keeps = absurd (omega arith)
-count-grows (true ∷ marks) (true ∷ next) len keeps = elim (count-grows marks next (omega arith) (λ k h. keeps (suc k) h)) [ inl same ↦ inl (ap (λ (l : List Bool). true ∷ l) same) | inr more ↦ inr (omega arith) ]
+count-grows (true ∷ marks) (true ∷ next) len keeps = elim (count-grows marks next (omega arith) (λ k h. keeps (suc k) h))
+    [ inl same ↦ inl (ap (λ (l : List Bool). true ∷ l) same) | inr more ↦ inr (omega arith) ]
 count-grows (true ∷ marks) (false ∷ next) len keeps = absurd (false≢true (keeps 0 refl))
-count-grows (false ∷ marks) (true ∷ next) len keeps = elim (count-grows marks next (omega arith) (λ k h. keeps (suc k) h)) [ inl same ↦ inr (let n = ap count same in omega arith) | inr more ↦ inr (omega arith) ]
-count-grows (false ∷ marks) (false ∷ next) len keeps = elim (count-grows marks next (omega arith) (λ k h. keeps (suc k) h)) [ inl same ↦ inl (ap (λ (l : List Bool). false ∷ l) same) | inr more ↦ inr more ]
+count-grows (false ∷ marks) (true ∷ next) len keeps = elim (count-grows marks next (omega arith) (λ k h. keeps (suc k) h))
+    [ inl same ↦ inr (let n = ap count same in omega arith) | inr more ↦ inr (omega arith) ]
+count-grows (false ∷ marks) (false ∷ next) len keeps = elim (count-grows marks next (omega arith) (λ k h. keeps (suc k) h))
+    [ inl same ↦ inl (ap (λ (l : List Bool). false ∷ l) same) | inr more ↦ inr more ]
 
 pub count-some : (marks : List Bool) (k : ℕ) → Has marks k → 1 ≤ count marks
 unfolding count
@@ -331,7 +355,8 @@ module _ (image : Parts) (legal : is_image image ≡ true) where
   reached-bound pc R = lead-bound (start_of image.routines R.r) (start-bound R.r R.within) R.edges pc R.lead
 
   few-marked : (n : ℕ) → count (reached_within image n) ≤ suc (length image.points)
-  few-marked n = count-bound (reached_within image n) (suc (length image.points)) (λ k h. (let low = reached-bound k (within-reached image n k h) in omega arith))
+  few-marked n = count-bound (reached_within image n) (suc (length image.points))
+      (λ k h. (let low = reached-bound k (within-reached image n k h) in omega arith))
 
   -- after so many rounds no more is marked, or more than so many are
   stable-or : (n : ℕ) → IsStable image (reached_within image n) ⊎ (n < count (reached_within image n))
@@ -372,7 +397,8 @@ module _ (image : Parts) (legal : is_image image ≡ true) where
   short = (image_parts image legal).short
 
   -- what edges lead to is marked
-  lead-marked : (r : ℕ) → r < length image.routines → (edges : List Edge) (pc : ℕ) → Lead image (start_of image.routines r) edges pc → pc < 4096 → Has (reached image) pc
+  lead-marked : (r : ℕ) → r < length image.routines → (edges : List Edge) (pc : ℕ) → Lead image (start_of image.routines r) edges pc
+      → pc < 4096 → Has (reached image) pc
   unfolding reached
   lead-marked r within [] pc lead low =
       let grows = within-grows image (length image.points) in

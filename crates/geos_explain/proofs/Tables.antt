@@ -29,7 +29,8 @@ or-or None b c = refl
 or-or (Some x) b c = refl
 
 -- an edge is no way to where it does not lead
-along-other : (place : Place) (sought : Sought) (edge : Edge) (point : KnownPlace) (to : ℕ) → to ≢ end_of edge point.instr → way_along place sought to edge point ≡ None
+along-other : (place : Place) (sought : Sought) (edge : Edge) (point : KnownPlace) (to : ℕ) → to ≢ end_of edge point.instr
+    → way_along place sought to edge point ≡ None
 along-other place sought edge point to ne = by_test (end_of edge point.instr == to) refl
   where
     by_test : (b : Bool) → (end_of edge point.instr == to) ≡ b → cond (b && is_as_sought place sought edge point) (Some (Along edge)) None ≡ None
@@ -37,7 +38,8 @@ along-other place sought edge point to ne = by_test (end_of edge point.instr == 
     by_test false is = refl
 
 -- an edge that is not sought is no way
-pub along-not : (place : Place) (sought : Sought) (edge : Edge) (point : KnownPlace) (to : ℕ) → is_as_sought place sought edge point ≡ false → way_along place sought to edge point ≡ None
+pub along-not : (place : Place) (sought : Sought) (edge : Edge) (point : KnownPlace) (to : ℕ)
+    → is_as_sought place sought edge point ≡ false → way_along place sought to edge point ≡ None
 along-not place sought edge point to is = rw is (by_test (end_of edge point.instr == to))
   where
     by_test : (b : Bool) → cond (b && false) (Some (Along edge)) None ≡ None
@@ -45,34 +47,40 @@ along-not place sought edge point to is = rw is (by_test (end_of edge point.inst
     by_test false = refl
 
 -- an edge that is sought is a way to where it leads
-along-here : (place : Place) (sought : Sought) (edge : Edge) (point : KnownPlace) → is_as_sought place sought edge point ≡ true → way_along place sought (end_of edge point.instr) edge point ≡ Some (Along edge)
+along-here : (place : Place) (sought : Sought) (edge : Edge) (point : KnownPlace) → is_as_sought place sought edge point ≡ true
+    → way_along place sought (end_of edge point.instr) edge point ≡ Some (Along edge)
 along-here place sought edge point is = rw (eq-eqb (end_of edge point.instr) (end_of edge point.instr) refl, is) refl
 
 -- an edge is noted where none was before
-pub noted-new : (place : Place) (sought : Sought) (ways : List (Option Way)) (edge : Edge) (point : KnownPlace) → is_as_sought place sought edge point ≡ true
+pub noted-new : (place : Place) (sought : Sought) (ways : List (Option Way)) (edge : Edge) (point : KnownPlace)
+    → is_as_sought place sought edge point ≡ true
     → get_or ways (end_of edge point.instr) None ≡ None → end_of edge point.instr < length ways → (to : ℕ)
     → get_or (set ways (end_of edge point.instr) (Some (Along edge))) to None ≡ option_or (get_or ways to None) (way_along place sought to edge point)
 noted-new place sought ways edge point is none within to =
     let end = end_of edge point.instr in
     elim (cases_eq to end) [
       | inl same ↦
-          let here : get_or (set ways end (Some (Along edge))) end None ≡ Some (Along edge) = get_or-set_same ways end (Some (Along edge)) None within in
+          let here : get_or (set ways end (Some (Along edge))) end None ≡ Some (Along edge) = get_or-set_same ways end
+          (Some (Along edge)) None within in
           let sought_here : option_or (get_or ways end None) (way_along place sought end edge point) ≡ Some (Along edge) =
           ap (λ o. option_or o (way_along place sought end edge point)) none ∙ along-here place sought edge point is in
-          subst (λ t. get_or (set ways end (Some (Along edge))) t None ≡ option_or (get_or ways t None) (way_along place sought t edge point)) (sym same) (here ∙ sym sought_here)
+          subst (λ t. get_or (set ways end (Some (Along edge))) t None ≡ option_or (get_or ways t None) (way_along place sought t edge point))
+          (sym same) (here ∙ sym sought_here)
       | inr ne ↦
           get_or-set_other ways end to (Some (Along edge)) None ne
           ∙ sym (ap (λ o. option_or (get_or ways to None) o) (along-other place sought edge point to ne) ∙ or-none (get_or ways to None))
     ]
 
 -- one that is not sought is not
-pub noted-not : (place : Place) (sought : Sought) (ways : List (Option Way)) (edge : Edge) (point : KnownPlace) (to : ℕ) → is_as_sought place sought edge point ≡ false
+pub noted-not : (place : Place) (sought : Sought) (ways : List (Option Way)) (edge : Edge) (point : KnownPlace) (to : ℕ)
+    → is_as_sought place sought edge point ≡ false
     → get_or ways to None ≡ option_or (get_or ways to None) (way_along place sought to edge point)
 noted-not place sought ways edge point to is =
     sym (ap (λ o. option_or (get_or ways to None) o) (along-not place sought edge point to is) ∙ or-none (get_or ways to None))
 
 -- nor is one behind another
-pub noted-old : (place : Place) (sought : Sought) (ways : List (Option Way)) (edge : Edge) (point : KnownPlace) (to : ℕ) (way : Way) → get_or ways (end_of edge point.instr) None ≡ Some way
+pub noted-old : (place : Place) (sought : Sought) (ways : List (Option Way)) (edge : Edge) (point : KnownPlace) (to : ℕ) (way : Way)
+    → get_or ways (end_of edge point.instr) None ≡ Some way
     → get_or ways to None ≡ option_or (get_or ways to None) (way_along place sought to edge point)
 noted-old place sought ways edge point to way some = elim (cases_eq to (end_of edge point.instr)) [
   | inl same ↦
@@ -82,33 +90,38 @@ noted-old place sought ways edge point to way some = elim (cases_eq to (end_of e
 ]
 
 -- nor one that leads past the end of an image
-pub noted-past : (place : Place) (sought : Sought) (ways : List (Option Way)) (edge : Edge) (point : KnownPlace) (to : ℕ) → to < 4096 → 4096 ≤ end_of edge point.instr
+pub noted-past : (place : Place) (sought : Sought) (ways : List (Option Way)) (edge : Edge) (point : KnownPlace) (to : ℕ)
+    → to < 4096 → 4096 ≤ end_of edge point.instr
     → get_or ways to None ≡ option_or (get_or ways to None) (way_along place sought to edge point)
 noted-past place sought ways edge point to within past =
     let ne : to ≢ end_of edge point.instr = λ same. omega arith in
     sym (ap (λ o. option_or (get_or ways to None) o) (along-other place sought edge point to ne) ∙ or-none (get_or ways to None))
 
 -- the first ways of one more instruction
-pub first_ways-next : (place : Place) (sought : Sought) (n from : ℕ) (old new : List (Option Way)) → from ≡ start_of place.image.routines place.r + n → FirstWays place sought n old
+pub first_ways-next : (place : Place) (sought : Sought) (n from : ℕ) (old new : List (Option Way))
+    → from ≡ start_of place.image.routines place.r + n → FirstWays place sought n old
     → ((to : ℕ) → to < 4096 → get_or new to None ≡ option_or (get_or old to None) (way_at place sought to from)) → FirstWays place sought (n + 1) new
 unfolding first_way
 first_ways-next place sought n from old new is ways noted = record {
   at = λ to within.
       (let next : suc n ≡ n + 1 = omega arith in
       let one : get_or new to None ≡ option_or (first_way place sought to n) (way_at place sought to (start_of place.image.routines place.r + n)) =
-      noted to within ∙ ap (λ o. option_or o (way_at place sought to from)) (ways.at to within) ∙ ap (λ f. option_or (first_way place sought to n) (way_at place sought to f)) is in
+      noted to within ∙ ap (λ o. option_or o (way_at place sought to from)) (ways.at to within)
+      ∙ ap (λ f. option_or (first_way place sought to n) (way_at place sought to f)) is in
       one ∙ ap (first_way place sought to) next);
 }
 
 -- what holds of the item at each place of a table up to one, and of the next, holds up to that
-pub below-next : {X : Type 0} (P : ℕ → X → Type 0) (d : X) (old new : List X) (start k : ℕ) → ((n : ℕ) → start ≤ n → n < start + k → P n (get_or old n d)) → P (start + k) (get_or new (start + k) d)
+pub below-next : {X : Type 0} (P : ℕ → X → Type 0) (d : X) (old new : List X) (start k : ℕ)
+    → ((n : ℕ) → start ≤ n → n < start + k → P n (get_or old n d)) → P (start + k) (get_or new (start + k) d)
     → ((n : ℕ) → n ≢ start + k → get_or new n d ≡ get_or old n d) → (n : ℕ) → start ≤ n → n < start + (k + 1) → P n (get_or new n d)
 below-next P d old new start k so_far here others n above below = elim (cases_eq n (start + k)) [
   | inl same ↦ subst (λ m. P m (get_or new m d)) (sym same) here
   | inr ne ↦ subst (P n) (sym (others n ne)) (so_far n above (omega arith))
 ]
 
-pub at-along : (place : Place) (sought : Sought) (from to : ℕ) (point : KnownPlace) (old one new : List (Option Way)) → slice_get (places place.image) from ≡ Some point
+pub at-along : (place : Place) (sought : Sought) (from to : ℕ) (point : KnownPlace) (old one new : List (Option Way))
+    → slice_get (places place.image) from ≡ Some point
     → get_or one to None ≡ option_or (get_or old to None) (way_along place sought to (record { from = from; branch = false }) point)
     → get_or new to None ≡ option_or (get_or one to None) (way_along place sought to (record { from = from; branch = true }) point)
     → get_or new to None ≡ option_or (get_or old to None) (way_at place sought to from)
@@ -118,12 +131,14 @@ at-along place sought from to point old one new there first second =
     let aside = way_along place sought to (record { from = from; branch = true }) point in
     rw (there, way_at) (second ∙ ap (λ o. option_or o aside) first ∙ or-or (get_or old to None) along aside)
 
-pub at-none : (place : Place) (sought : Sought) (from to : ℕ) (ways : List (Option Way)) → slice_get (places place.image) from ≡ None → get_or ways to None ≡ option_or (get_or ways to None) (way_at place sought to from)
+pub at-none : (place : Place) (sought : Sought) (from to : ℕ) (ways : List (Option Way)) → slice_get (places place.image) from ≡ None
+    → get_or ways to None ≡ option_or (get_or ways to None) (way_at place sought to from)
 unfolding way_at
 at-none place sought from to ways none = rw (none, way_at) (sym (or-none (get_or ways to None)))
 
 -- where a pointer comes to a pc, as much is known behind the edges of the instruction there, and nothing else changes
-pub arrived-behind : (place : Place) (p : ℕ) (old new : Arrivals) (before behind : List BothBehind) (end : ℕ) (hint : Option Pointer) → new ≡ arrived old end hint → end < 4096 → is_stale hint ≡ false
+pub arrived-behind : (place : Place) (p : ℕ) (old new : Arrivals) (before behind : List BothBehind) (end : ℕ) (hint : Option Pointer)
+    → new ≡ arrived old end hint → end < 4096 → is_stale hint ≡ false
     → length old.at ≡ 4096 → AreBehind place p old before → IsBehind place.image (record { p = p; hint = hint }) end (get_or behind end no_behind)
     → ((n : ℕ) → n ≢ end → get_or behind n no_behind ≡ get_or before n no_behind) → AreBehind place p new behind
 arrived-behind place p old new before behind end hint is within known long were here others = record { at = at_pc }
@@ -143,7 +158,8 @@ arrived-behind place p old new before behind end hint is within known long were 
           let there = subst (λ h. IsBehind place.image (record { p = p; hint = h }) end (get_or behind end no_behind)) (sym at_end) here in
           subst (λ n. IsBehind place.image (record { p = p; hint = arrival new n }) n (get_or behind n no_behind)) (sym same) there
       | inr ne ↦
-          let was = subst (λ h. IsBehind place.image (record { p = p; hint = h }) from (get_or before from no_behind)) (sym (elsewhere from ne)) (were.at from inside) in
+          let was = subst (λ h. IsBehind place.image (record { p = p; hint = h }) from (get_or before from no_behind))
+          (sym (elsewhere from ne)) (were.at from inside) in
           subst (λ known_here. IsBehind place.image (record { p = p; hint = arrival new from }) from known_here) (sym (others from ne)) was
     ]
 

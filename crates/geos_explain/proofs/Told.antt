@@ -32,7 +32,8 @@ items-some before after (x ∷ items) behind written some =
     rw (filled, written) (append_assoc before (x ∷ items) behind)
 
 -- items that were written, and behind them what is said of them
-pub behind-items : {T E : Type 0} (result : Result T E) (start mid after items : List ℕ) (n : ℕ) (say : List ℕ → List ℕ) → n ≡ length start → mid ≡ start ++ items
+pub behind-items : {T E : Type 0} (result : Result T E) (start mid after items : List ℕ) (n : ℕ) (say : List ℕ → List ℕ)
+    → n ≡ length start → mid ≡ start ++ items
     → OnOk result (after ≡ mid ++ say (drop n mid)) → OnOk result (after ≡ start ++ (items ++ say items))
 behind-items result start mid after items n say long written said =
     let same : drop n mid ≡ items = ap (drop n) written ∙ drop_at start items n (sym long) in

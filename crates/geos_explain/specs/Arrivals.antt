@@ -45,7 +45,8 @@ IsBehind image followed from known = (point : KnownPlace) → slice_get (places 
 
 -- the same of each instruction of the routine, with what is known there on some way
 pub record AreBehind (place : Place) (p : ℕ) (arrivals : Arrivals) (known : List BothBehind) : Type 0 where
-  pub at : (from : ℕ) → IsPcOf place from → IsBehind place.image (record { p = p; hint = arrival arrivals from }) from (slice_index_or known from no_behind)
+  pub at : (from : ℕ) → IsPcOf place from → IsBehind place.image (record { p = p; hint = arrival arrivals from }) from
+      (slice_index_or known from no_behind)
 
 -- what is known behind an instruction comes to the end of its edge, if nothing did yet
 abbrev pub arrived_along : Place → ℕ → Arrivals → Edge → KnownPlace → Arrivals
@@ -58,7 +59,8 @@ arrived_along place p arrivals edge point =
 unfoldable pub arrived_from : Place → ℕ → Arrivals → ℕ → Arrivals
 arrived_from place p arrivals from = elim (slice_get (places place.image) from) [
   | None ↦ arrivals
-  | Some point ↦ arrived_along place p (arrived_along place p arrivals (record { from = from; branch = false }) point) (record { from = from; branch = true }) point
+  | Some point ↦ arrived_along place p (arrived_along place p arrivals (record { from = from; branch = false }) point)
+      (record { from = from; branch = true }) point
 ]
 
 -- the same of the first n instructions of the routine

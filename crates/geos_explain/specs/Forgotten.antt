@@ -111,4 +111,5 @@ pub record IsForgottenBy (place : Place) (item : Item) (from : ℕ) : Type 0 whe
 
 -- a call that is named forgets the item on a way to the place
 abbrev pub WhatIsSaidOfCallsHolds : Type 0
-WhatIsSaidOfCallsHolds = (place : Place) (item : Item) (from : ℕ) → IsPlace place → forgetting_call place item ≡ Some from → IsForgottenBy place item from
+WhatIsSaidOfCallsHolds = (place : Place) (item : Item) (from : ℕ) → IsPlace place → forgetting_call place item ≡ Some from
+    → IsForgottenBy place item from

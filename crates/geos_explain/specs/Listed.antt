@@ -73,4 +73,5 @@ pub record IsTextWithNotes (text whole : List ℕ) : Type 0 where
 -- a note
 abbrev pub ExplanationIsTextWithNotes : Type 0
 ExplanationIsTextWithNotes =
-    (text table : List ℕ) (image : Parts) (refused : List (Option Rule)) → is_image image ≡ true → IsTextWithNotes text (text_explanation text table image refused)
+    (text table : List ℕ) (image : Parts) (refused : List (Option Rule)) → is_image image ≡ true
+    → IsTextWithNotes text (text_explanation text table image refused)

@@ -74,4 +74,5 @@ pub record IsMovedRound (place : Place) (item : Item) (w from : ℕ) : Type 0 wh
 
 -- an instruction that is said to move a word going round does
 abbrev pub WhatIsSaidOfRoundsHolds : Type 0
-WhatIsSaidOfRoundsHolds = (place : Place) (item : Item) (w from : ℕ) → IsPlace place → moving place item w ≡ Some from → IsMovedRound place item w from
+WhatIsSaidOfRoundsHolds = (place : Place) (item : Item) (w from : ℕ) → IsPlace place → moving place item w ≡ Some from
+    → IsMovedRound place item w from

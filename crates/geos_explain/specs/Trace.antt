@@ -109,7 +109,8 @@ back_along place p trace edge point =
 unfoldable pub back_from : Place → ℕ → Trace → ℕ → Trace
 back_from place p trace from = elim (slice_get (places place.image) from) [
   | None ↦ trace
-  | Some point ↦ back_along place p (back_along place p trace (record { from = from; branch = false }) point) (record { from = from; branch = true }) point
+  | Some point ↦ back_along place p (back_along place p trace (record { from = from; branch = false }) point)
+      (record { from = from; branch = true }) point
 ]
 
 -- the same of the first n instructions of the routine, the last of them first

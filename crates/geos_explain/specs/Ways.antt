@@ -75,7 +75,8 @@ way_along place sought to edge point = if is_sought place sought to edge point t
 -- the first way of the instruction at a pc that is sought
 abbrev pub way_of : Place → Sought → ℕ → ℕ → KnownPlace → Option Way
 way_of place sought to from point =
-    option_or (way_along place sought to (record { from = from; branch = false }) point) (way_along place sought to (record { from = from; branch = true }) point)
+    option_or (way_along place sought to (record { from = from; branch = false }) point)
+    (way_along place sought to (record { from = from; branch = true }) point)
 
 -- the same, if there is an instruction
 unfoldable pub way_at : Place → Sought → ℕ → ℕ → Option Way

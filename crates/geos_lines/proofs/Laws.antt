@@ -31,7 +31,8 @@ no_other (Some fault) e = absurd cc
 faulty-none : (n : ℕ) (whys : List (Option Why)) (earlier : List ℕ) → first_in n whys ≡ None → with_faulty n whys earlier ≡ earlier
 faulty-none n [] earlier e = refl
 faulty-none n (None ∷ whys) earlier e = faulty-none (n + 1) whys earlier e
-faulty-none n (Some why ∷ whys) earlier e = absurd (let no = at_line-none n (Some why) (first-none (at_line n (Some why)) (first_in (n + 1) whys) e).0 in cc)
+faulty-none n (Some why ∷ whys) earlier e =
+    absurd (let no = at_line-none n (Some why) (first-none (at_line n (Some why)) (first_in (n + 1) whys) e).0 in cc)
 
 -- the next line of a table
 pub faulty-step : (whys : List (Option Why)) (i : ℕ) (why : Option Why) (earlier : List ℕ) → i < length whys → why ≡ get_or whys i why

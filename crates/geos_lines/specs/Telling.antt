@@ -34,4 +34,5 @@ line_of (Some fault) = fault.line ∷ []
 -- that the reader of texts names
 abbrev pub TellsFaults : List ℕ → List ℕ → Type 0
 TellsFaults text told =
-    (whys : List (Option Why)) × (other : Option BadLine) × (first (first_in 1 whys) other ≡ fault_of text) × IsTold (with_faulty 1 whys (line_of other)) told
+    (whys : List (Option Why)) × (other : Option BadLine) × (first (first_in 1 whys) other ≡ fault_of text)
+    × IsTold (with_faulty 1 whys (line_of other)) told

@@ -81,7 +81,8 @@ impl Faults {
         number: usize,
         line: &[u8],
     ) -> Result<(), AllocError>
-        ensures noted { IfOk result (λ _. noted (fault_in self.new) (declared_of declarations.new) ≡ with_line number line.now (noted (fault_in self.old) (declared_of declarations.old))) }
+        ensures noted { IfOk result (λ _. noted (fault_in self.new) (declared_of declarations.new) ≡ with_line number line.now
+            (noted (fault_in self.old) (declared_of declarations.old))) }
         ensures settled { IfOk result (λ _. declarations.new.fault ≡ None) }
     {
         self.add_line()?;

@@ -22,11 +22,13 @@ pub steps-more : (steps more : List Step) (step : Step) → more ≡ steps ++ (s
 steps-more steps more step is = ap reverse is ∙ reverse-append steps (step ∷ [])
 
 -- where one step more was noted, it was before it or after it
-left-more : (bytes : List ℕ) (had : ℕ) (step : Step) (before : List Step) (c : List ℕ) → LeavesSince bytes (suc (length before) - had) (step ∷ before) c
+left-more : (bytes : List ℕ) (had : ℕ) (step : Step) (before : List Step) (c : List ℕ)
+    → LeavesSince bytes (suc (length before) - had) (step ∷ before) c
     → LeavesSince (before_step bytes step) (length before - had) before c ⊎ Leaves bytes (step ∷ before) c
 left-more bytes had step before c since = by (suc (length before) - had) refl since
   where
-    by : (count : ℕ) → suc (length before) - had ≡ count → LeavesSince bytes count (step ∷ before) c → LeavesSince (before_step bytes step) (length before - had) before c ⊎ Leaves bytes (step ∷ before) c
+    by : (count : ℕ) → suc (length before) - had ≡ count → LeavesSince bytes count (step ∷ before) c
+        → LeavesSince (before_step bytes step) (length before - had) before c ⊎ Leaves bytes (step ∷ before) c
     by zero is now = inr now
     by (suc count) is (inl now) = inr now
     by (suc count) is (inr past) =
@@ -80,7 +82,8 @@ module _ (old new : HostDevice) where
     }
 
   -- a write
-  module _ (at : ℕ) (ws : List ℕ) (step : Step) (w : IsWriteOf old at ws step) (noted : steps_of new ≡ step ∷ steps_of old) (written : bytes_of new ≡ with_part (bytes_of old) at ws)
+  module _ (at : ℕ) (ws : List ℕ) (step : Step) (w : IsWriteOf old at ws step) (noted : steps_of new ≡ step ∷ steps_of old)
+      (written : bytes_of new ≡ with_part (bytes_of old) at ws)
       (torn : Touched at (length ws) (bytes_of old) (bytes_of new)) (long : length w.stood.items ≡ length ws) where
     steps : steps_of new ≡ Write at w.stood w.given ∷ steps_of old
     steps = noted ∙ ap (λ (step : Step). step ∷ steps_of old) w.is
@@ -149,7 +152,8 @@ module _ (old new : HostDevice) where
         stays = (λ _. tt);
         was = (λ _. tt);
         stop = (λ _ c now. left-now settled.bytes c (subst (λ es. Leaves (bytes_of new) es c) none now));
-        time = (λ _ s c past. inr (left-now settled.bytes c (none-left (bytes_of new) (0 - length (steps_of s)) c (subst (λ es. LeavesSince (bytes_of new) (length es - length (steps_of s)) es c) none past))));
+        time = (λ _ s c past. inr (left-now settled.bytes c (none-left (bytes_of new) (0 - length (steps_of s)) c
+            (subst (λ es. LeavesSince (bytes_of new) (length es - length (steps_of s)) es c) none past))));
       }
 
 -- a part that lies within the bytes has its length

@@ -100,7 +100,8 @@ MayRead old at bytes result new = OnOk result (bytes ≡ part (bytes_of old) at 
 
 -- a write puts the bytes there and is noted, or changes nothing
 abbrev pub MayWrite : HostDevice → ℕ → List ℕ → Result (Unit {0}) Disk → HostDevice → Type 0
-MayWrite old at bytes result new = OnOk result ((bytes_of new ≡ with_part (bytes_of old) at bytes) × Notes at bytes old new) × OnErr result (IsStill old new)
+MayWrite old at bytes result new = OnOk result ((bytes_of new ≡ with_part (bytes_of old) at bytes) × Notes at bytes old new)
+    × OnErr result (IsStill old new)
 
 -- a sync is noted, or changes nothing
 abbrev pub MaySync : HostDevice → Result (Unit {0}) Disk → HostDevice → Type 0
@@ -124,7 +125,8 @@ pub leaves_now : (steps : List Step) (bytes : List ℕ) → Leaves bytes steps b
 leaves_now [] bytes = refl
 leaves_now (Write at stood given ∷ before) bytes =
     let t = touched_part at bytes stood.items in
-    let back : Touched at (length stood.items) (with_part bytes at stood.items) bytes = record { long = sym t.long; before = sym t.before; behind = sym t.behind } in
+    let back : Touched at (length stood.items) (with_part bytes at stood.items) bytes =
+    record { long = sym t.long; before = sym t.before; behind = sym t.behind } in
     (with_part bytes at stood.items, leaves_now before (with_part bytes at stood.items), back)
 leaves_now (Sync ∷ before) bytes = refl
 

@@ -21,5 +21,8 @@ loop-i-preserved c =
     let inside : i < length registers = omega (arith, so_far.0, c.loop-i-test.true, c.if-numbers-gt8.false) in
     let kept : length (set registers i n) ≡ 8 = length-set registers i n ∙ so_far.0 in
     let more = texts-at words i none c.loop-i-test.true in
-    let numbers = so_far.1 ∙ ap (λ ws. option_map (λ ns. take i registers ++ ns) (numbers_of ws)) more in
-    (kept, numbers-more (texts words) (texts (drop (i + 1) words)) (get_or words i none).now registers i n inside says numbers, zeros-behind registers i n so_far.2)
+    let numbers = so_far.1 ∙ ap (λ ws. option_map (λ ns. take i registers ++ ns) (numbers_of ws)) more in (
+      kept,
+      numbers-more (texts words) (texts (drop (i + 1) words)) (get_or words i none).now registers i n inside says numbers,
+      zeros-behind registers i n so_far.2,
+    )

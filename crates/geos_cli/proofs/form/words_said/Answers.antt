@@ -3,8 +3,11 @@ use Rattle.geos_cli.proofs.FormWords.{said-zero, said-all}
 use Rattle.geos_cli.proofs.form.words_said.Goals as goal
 
 pub loop-count-preserved : goal.loop-count-preserved
-loop-count-preserved c =
-    (omega (arith, c.loop-count.invariant.0), c.loop-count.invariant.1 ∙ said-zero c.args.words.now c.loop-count.count (omega (arith, c.loop-count-test.true)) c.if-words-count-eq0.true)
+loop-count-preserved c = (
+  omega (arith, c.loop-count.invariant.0),
+  c.loop-count.invariant.1 ∙ said-zero c.args.words.now c.loop-count.count
+      (omega (arith, c.loop-count-test.true)) c.if-words-count-eq0.true,
+)
 
 pub returns-else-words-count-eq0-clause-count : goal.returns-else-words-count-eq0-clause-count
 returns-else-words-count-eq0-clause-count c =

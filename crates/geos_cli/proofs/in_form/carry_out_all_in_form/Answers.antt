@@ -17,31 +17,39 @@ loop-numbered-init g c = (
 
 pub returns-clause-ran : goal.returns-clause-ran
 returns-clause-ran g c =
-    all-ran g.D.Device.medium c.args.form c.args.checked.now c.args.mode c.args.commands.now c.loop-numbered.numbered-index c.args.kernel.now c.loop-numbered.kernel _ _
+    all-ran g.D.Device.medium c.args.form c.args.checked.now c.args.mode c.args.commands.now c.loop-numbered.numbered-index
+    c.args.kernel.now c.loop-numbered.kernel _ _
     (omega (arith, c.loop-numbered-test.false)) c.loop-numbered.invariant.0
 
 pub loop-numbered-preserved : goal.loop-numbered-preserved
 loop-numbered-preserved g c =
-    let before = shown-kept g.D.Device.medium c.args.form c.args.checked.now c.args.mode _ _ _ _ _ _ c.loop-numbered.invariant.0 c.give_before.ensures.bytes in
+    let before = shown-kept g.D.Device.medium c.args.form c.args.checked.now c.args.mode _ _ _ _ _ _ c.loop-numbered.invariant.0
+    c.give_before.ensures.bytes in
     let alike = c.loop-numbered.invariant.2 in
     let next = c.carry_out_in_form.ensures.honest in (
-      more-ran g.D.Device.medium c.args.form c.args.checked.now c.args.mode c.args.commands.now c.loop-numbered.numbered-index _ _ _ _ _ _ _ c.loop-numbered-test.true _ c.in_default.ensures before c.in_ok-done.ensures.ok,
+      more-ran g.D.Device.medium c.args.form c.args.checked.now c.args.mode c.args.commands.now c.loop-numbered.numbered-index
+          _ _ _ _ _ _ _ c.loop-numbered-test.true _ c.in_default.ensures before c.in_ok-done.ensures.ok,
       c.in_ok-done.ensures.kept ∙ c.in_ok-give_before.ensures.kept ∙ c.loop-numbered.invariant.1,
       ((λ h. alike.0 (next.0 h)), (λ h. next.1 (alike.1 h))),
       c.carry_out_in_form.ensures.unlocked,
       c.carry_out_in_form.ensures.sees.1,
-      steadily_then g.D.Device.medium (vm_file_of c.args.kernel.now) (vm_file_of c.loop-numbered.kernel) (vm_file_of c.carry_out_in_form.new.kernel) c.loop-numbered.invariant.5 c.carry_out_in_form.ensures.steadily,
+      steadily_then g.D.Device.medium (vm_file_of c.args.kernel.now) (vm_file_of c.loop-numbered.kernel)
+          (vm_file_of c.carry_out_in_form.new.kernel) c.loop-numbered.invariant.5 c.carry_out_in_form.ensures.steadily,
     )
 
 pub returns-in_err-done-clause-stopped : goal.returns-in_err-done-clause-stopped
 returns-in_err-done-clause-stopped g c =
-    let before = shown-kept g.D.Device.medium c.args.form c.args.checked.now c.args.mode _ _ _ _ _ _ c.loop-numbered.invariant.0 c.give_before.ensures.bytes in
-    IfErr-any _ (stopped-at g.D.Device.medium c.args.form c.args.checked.now c.args.mode c.args.commands.now c.loop-numbered.numbered-index _ _ _ _ _ _ _ c.loop-numbered-test.true before c.in_err-done.ensures.stopped)
+    let before = shown-kept g.D.Device.medium c.args.form c.args.checked.now c.args.mode _ _ _ _ _ _ c.loop-numbered.invariant.0
+    c.give_before.ensures.bytes in
+    IfErr-any _ (stopped-at g.D.Device.medium c.args.form c.args.checked.now c.args.mode c.args.commands.now
+    c.loop-numbered.numbered-index _ _ _ _ _ _ _ c.loop-numbered-test.true before c.in_err-done.ensures.stopped)
 
 pub returns-in_err-give_before-clause-stopped : goal.returns-in_err-give_before-clause-stopped
 returns-in_err-give_before-clause-stopped g c =
-    let before = shown-kept g.D.Device.medium c.args.form c.args.checked.now c.args.mode _ _ _ _ _ _ c.loop-numbered.invariant.0 c.give_before.ensures.bytes in
-    IfErr-any _ (stopped-ahead g.D.Device.medium c.args.form c.args.checked.now c.args.mode c.args.commands.now c.loop-numbered.numbered-index c.args.kernel.now c.loop-numbered.kernel
+    let before = shown-kept g.D.Device.medium c.args.form c.args.checked.now c.args.mode _ _ _ _ _ _ c.loop-numbered.invariant.0
+    c.give_before.ensures.bytes in
+    IfErr-any _ (stopped-ahead g.D.Device.medium c.args.form c.args.checked.now c.args.mode c.args.commands.now
+    c.loop-numbered.numbered-index c.args.kernel.now c.loop-numbered.kernel
     (g.W.Write.contents c.args.out.now.stream) (g.W.Write.contents c.give_before.new.out.stream) any_command c.loop-numbered-test.true before)
 
 pub returns-clause-sees : goal.returns-clause-sees
@@ -52,16 +60,21 @@ returns-in_err-done-clause-sees g c = (c.memory_is_legal.ensures.sees, c.carry_o
 
 pub returns-in-Some-clause-ran : goal.returns-in-Some-clause-ran
 returns-in-Some-clause-ran g c =
-    let before = shown-kept g.D.Device.medium c.args.form c.args.checked.now c.args.mode _ _ _ _ _ _ c.loop-numbered.invariant.0 c.give_before.ensures.bytes in
-    refused-ran g.D.Device.medium c.args.form c.args.checked.now c.args.mode c.args.commands.now c.loop-numbered.numbered-index _ _ _ _ _ _ _ c.loop-numbered-test.true c.in-Some.refused c.in-Some.ensures.0 c.in-Some.ensures.1 _ c.in-Some.ensures.2 before c.in_ok-done.ensures.ok
+    let before = shown-kept g.D.Device.medium c.args.form c.args.checked.now c.args.mode _ _ _ _ _ _ c.loop-numbered.invariant.0
+    c.give_before.ensures.bytes in
+    refused-ran g.D.Device.medium c.args.form c.args.checked.now c.args.mode c.args.commands.now c.loop-numbered.numbered-index
+    _ _ _ _ _ _ _ c.loop-numbered-test.true c.in-Some.refused c.in-Some.ensures.0 c.in-Some.ensures.1 _
+    c.in-Some.ensures.2 before c.in_ok-done.ensures.ok
 
 pub returns-in-Some-clause-sees : goal.returns-in-Some-clause-sees
 returns-in-Some-clause-sees g c = (c.memory_is_legal.ensures.sees, c.carry_out_in_form.ensures.sees.1)
 
 pub returns-in_err-done-clause-steadily : goal.returns-in_err-done-clause-steadily
 returns-in_err-done-clause-steadily g c =
-    steadily_then g.D.Device.medium (vm_file_of c.args.kernel.now) (vm_file_of c.loop-numbered.kernel) (vm_file_of c.carry_out_in_form.new.kernel) c.loop-numbered.invariant.5 c.carry_out_in_form.ensures.steadily
+    steadily_then g.D.Device.medium (vm_file_of c.args.kernel.now) (vm_file_of c.loop-numbered.kernel)
+    (vm_file_of c.carry_out_in_form.new.kernel) c.loop-numbered.invariant.5 c.carry_out_in_form.ensures.steadily
 
 pub returns-in-Some-clause-steadily : goal.returns-in-Some-clause-steadily
 returns-in-Some-clause-steadily g c =
-    steadily_then g.D.Device.medium (vm_file_of c.args.kernel.now) (vm_file_of c.loop-numbered.kernel) (vm_file_of c.carry_out_in_form.new.kernel) c.loop-numbered.invariant.5 c.carry_out_in_form.ensures.steadily
+    steadily_then g.D.Device.medium (vm_file_of c.args.kernel.now) (vm_file_of c.loop-numbered.kernel)
+    (vm_file_of c.carry_out_in_form.new.kernel) c.loop-numbered.invariant.5 c.carry_out_in_form.ensures.steadily

@@ -12,22 +12,29 @@ use Rattle.geos_cli.proofs.in_form.run_script_in_form.Goals as goal
 pub carry_out_all_in_form-requires-clause-admitted : goal.carry_out_all_in_form-requires-clause-admitted
 carry_out_all_in_form-requires-clause-admitted g c =
     let same = c.deref.ensures.value ∙ c.in_ok-commands.ensures.commands.1 in
-    subst (All (λ (n : Numbered). IsAdmitted c.in_ok-checked.checked n.command)) (sym same) (commands-admitted c.in_ok-checked.checked (lines c.args.script.now))
+    subst (All (λ (n : Numbered). IsAdmitted c.in_ok-checked.checked n.command)) (sym same)
+    (commands-admitted c.in_ok-checked.checked (lines c.args.script.now))
 
 pub returns-clause-ran : goal.returns-clause-ran
 returns-clause-ran g c =
-    let loads : Loads c.args.image.now (lines c.args.script.now) c.in_ok-checked.checked = record { read = c.in_ok-checked.ensures.image.0; accepted = c.in_ok-checked.ensures.image.1; good = c.in_ok-commands.ensures.commands.0 } in
+    let loads : Loads c.args.image.now (lines c.args.script.now) c.in_ok-checked.checked =
+    record { read = c.in_ok-checked.ensures.image.0; accepted = c.in_ok-checked.ensures.image.1; good = c.in_ok-commands.ensures.commands.0 } in
     let same = c.deref.ensures.value ∙ c.in_ok-commands.ensures.commands.1 in
     if_ok-map c.carry_out_all_in_form.result
-    (script-ran g.D.Device.medium c.args.form c.mode_of.result (mode_of c.args.strict) c.args.image.now c.args.script.now c.in_ok-checked.checked c.args.kernel.now c.carry_out_all_in_form.new.kernel
-    (g.W.Write.contents c.args.out.now.stream) (g.W.Write.contents c.carry_out_all_in_form.new.out.stream) (omega (arith, c.if-script-gt-MOST_BYTES.false)) loads c.deref.result.now same c.mode_of.ensures)
+    (script-ran g.D.Device.medium c.args.form c.mode_of.result (mode_of c.args.strict) c.args.image.now c.args.script.now
+    c.in_ok-checked.checked c.args.kernel.now c.carry_out_all_in_form.new.kernel
+    (g.W.Write.contents c.args.out.now.stream) (g.W.Write.contents c.carry_out_all_in_form.new.out.stream)
+    (omega (arith, c.if-script-gt-MOST_BYTES.false)) loads c.deref.result.now same c.mode_of.ensures)
     c.carry_out_all_in_form.ensures.ran
 
 pub returns-clause-left : goal.returns-clause-left
 returns-clause-left g c =
-    let loads : Loads c.args.image.now (lines c.args.script.now) c.in_ok-checked.checked = record { read = c.in_ok-checked.ensures.image.0; accepted = c.in_ok-checked.ensures.image.1; good = c.in_ok-commands.ensures.commands.0 } in
+    let loads : Loads c.args.image.now (lines c.args.script.now) c.in_ok-checked.checked =
+    record { read = c.in_ok-checked.ensures.image.0; accepted = c.in_ok-checked.ensures.image.1; good = c.in_ok-commands.ensures.commands.0 } in
     let same = c.deref.ensures.value ∙ c.in_ok-commands.ensures.commands.1 in
     fault-leaves c.carry_out_all_in_form.result _ _ _
-    (script-stopped g.D.Device.medium c.args.form c.mode_of.result (mode_of c.args.strict) c.args.image.now c.args.script.now c.in_ok-checked.checked c.args.kernel.now c.carry_out_all_in_form.new.kernel
-    (g.W.Write.contents c.args.out.now.stream) (g.W.Write.contents c.carry_out_all_in_form.new.out.stream) (omega (arith, c.if-script-gt-MOST_BYTES.false)) loads c.deref.result.now same c.mode_of.ensures)
+    (script-stopped g.D.Device.medium c.args.form c.mode_of.result (mode_of c.args.strict) c.args.image.now
+    c.args.script.now c.in_ok-checked.checked c.args.kernel.now c.carry_out_all_in_form.new.kernel
+    (g.W.Write.contents c.args.out.now.stream) (g.W.Write.contents c.carry_out_all_in_form.new.out.stream)
+    (omega (arith, c.if-script-gt-MOST_BYTES.false)) loads c.deref.result.now same c.mode_of.ensures)
     c.carry_out_all_in_form.ensures.fault c.carry_out_all_in_form.ensures.stopped

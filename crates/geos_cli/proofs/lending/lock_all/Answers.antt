@@ -17,8 +17,10 @@ use Rattle.geos_cli.proofs.lending.lock_all.Goals as goal
 
 pub loop-k-init : goal.loop-k-init
 loop-k-init g c = (
-  stays-leads (g.D.Device.medium.honest c.args.kernel.now.device) (Throughout g.D.Device.medium c.args.kernel.now.device c.args.kernel.now.device) c.args.kernel.now.core
-      (λ f tied h. stops-first g.D.Device.medium c.args.kernel.now f tied (g.met.D.Device.at_once c.args.kernel.now.device) c.memory_is_legal.ensures.kept h _ (λ x opens. inl opens)),
+  stays-leads (g.D.Device.medium.honest c.args.kernel.now.device) (Throughout g.D.Device.medium c.args.kernel.now.device c.args.kernel.now.device)
+      c.args.kernel.now.core
+      (λ f tied h. stops-first g.D.Device.medium c.args.kernel.now f tied (g.met.D.Device.at_once c.args.kernel.now.device)
+      c.memory_is_legal.ensures.kept h _ (λ x opens. inl opens)),
   (λ n. omega arith),
   All-nil _,
   ((λ h. h), (λ h. h)),
@@ -34,25 +36,30 @@ loop-k-preserved g c =
     let so_far = c.loop-k.invariant in
     let next = c.lock.ensures.honest in (
       on-locks medium c.args.kernel.now c.loop-k.kernel c.lock.new.kernel so_far.3 handles k c.loop-k-test.true so_far.0 c.in_default.ensures.leads,
-      (λ n. c.in_default.ensures.counts n ∙ times-one n handles k c.loop-k-test.true (locks_of c.loop-k.kernel.core.blocks (vm_slot n)) (locks_of c.args.kernel.now.core.blocks (vm_slot n)) (so_far.1 n)),
+      (λ n. c.in_default.ensures.counts n ∙ times-one n handles k c.loop-k-test.true (locks_of c.loop-k.kernel.core.blocks (vm_slot n))
+          (locks_of c.args.kernel.now.core.blocks (vm_slot n)) (so_far.1 n)),
       All-more (λ h. has_block c.lock.new.kernel.core h ≡ true) handles k 0 c.loop-k-test.true
-          (All-weaker (λ h. has_block c.loop-k.kernel.core h ≡ true) (λ h. has_block c.lock.new.kernel.core h ≡ true) (λ h there. c.lock.ensures.stay h there) (take k handles) so_far.2) c.in_default.ensures.there,
+          (All-weaker (λ h. has_block c.loop-k.kernel.core h ≡ true) (λ h. has_block c.lock.new.kernel.core h ≡ true)
+          (λ h there. c.lock.ensures.stay h there) (take k handles) so_far.2) c.in_default.ensures.there,
       ((λ h. so_far.3.0 (next.0 h)), (λ h. next.1 (so_far.3.1 h))),
       c.lock.ensures.sees.1,
-      steadily_then medium (vm_file_of c.args.kernel.now) (vm_file_of c.loop-k.kernel) (vm_file_of c.lock.new.kernel) so_far.5 c.lock.ensures.steadily,
+      steadily_then medium (vm_file_of c.args.kernel.now) (vm_file_of c.loop-k.kernel) (vm_file_of c.lock.new.kernel)
+          so_far.5 c.lock.ensures.steadily,
     )
 
 pub returns-in-Err-clause-refused : goal.returns-in-Err-clause-refused
 returns-in-Err-clause-refused g c =
     on-comes g.D.Device.medium c.args.kernel.now c.loop-k.kernel c.lock.new.kernel c.loop-k.invariant.3
-    (Locks (IsAllowed (g.D.Device.medium.honest c.args.kernel.now.device)) (take c.loop-k.k c.args.handles.now)) (vlock (get_or c.args.handles.now c.loop-k.k 0)) (Err c.in-Err.refusal) c.loop-k.invariant.0 c.in-Err.ensures.leads
+    (Locks (IsAllowed (g.D.Device.medium.honest c.args.kernel.now.device)) (take c.loop-k.k c.args.handles.now))
+    (vlock (get_or c.args.handles.now c.loop-k.k 0)) (Err c.in-Err.refusal) c.loop-k.invariant.0 c.in-Err.ensures.leads
 
 pub returns-clause-locked : goal.returns-clause-locked
 returns-clause-locked g c =
     let medium = g.D.Device.medium in
     let old = c.args.kernel.now in
     let past : length c.args.handles.now ≤ c.loop-k.k = omega (arith, c.loop-k-test.false) in
-    subst (λ hs. Leads (medium.honest old.device) (Throughout medium old.device c.loop-k.kernel.device) old.core c.loop-k.kernel.core (Locks (IsAllowed (medium.honest old.device)) hs))
+    subst (λ hs. Leads (medium.honest old.device) (Throughout medium old.device c.loop-k.kernel.device) old.core
+    c.loop-k.kernel.core (Locks (IsAllowed (medium.honest old.device)) hs))
     (take_all c.loop-k.k c.args.handles.now past) c.loop-k.invariant.0
 
 pub returns-clause-counts : goal.returns-clause-counts

@@ -12,7 +12,8 @@ use Rattle.geos_cli.proofs.lending.lock_all.Given as goal
 
 abbrev pub invariant-loop-k : goal.invariant-loop-k
 invariant-loop-k g l =
-    Leads (g.D.Device.medium.honest l.fn.kernel.device) (Throughout g.D.Device.medium l.fn.kernel.device l.kernel.device) l.fn.kernel.core l.kernel.core (Locks (IsAllowed (g.D.Device.medium.honest l.fn.kernel.device)) (take l.k l.handles))
+    Leads (g.D.Device.medium.honest l.fn.kernel.device) (Throughout g.D.Device.medium l.fn.kernel.device l.kernel.device)
+    l.fn.kernel.core l.kernel.core (Locks (IsAllowed (g.D.Device.medium.honest l.fn.kernel.device)) (take l.k l.handles))
     × ((n : ℕ) → locks_of l.kernel.core.blocks (vm_slot n) ≡ locks_of l.fn.kernel.core.blocks (vm_slot n) + times n (take l.k l.handles))
     × All (λ h. has_block l.kernel.core h ≡ true) (take l.k l.handles)
     × (g.D.Device.medium.honest l.kernel.device ↔ g.D.Device.medium.honest l.fn.kernel.device)

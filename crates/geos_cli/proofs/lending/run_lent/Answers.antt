@@ -12,7 +12,8 @@ pub run-outcome-requires-clause-counts : goal.run-outcome-requires-clause-counts
 run-outcome-requires-clause-counts g c n =
     let image = c.args.checked.now in
     let call = c.args.call.now in
-    let slots = entry-of image call.routine c.routine.result.now (subst (λ (i : Parts). slice_get i.routines call.routine ≡ Some c.routine.result.now) c.image.ensures.image c.routine.ensures) in
+    let slots = entry-of image call.routine c.routine.result.now
+    (subst (λ (i : Parts). slice_get i.routines call.routine ≡ Some c.routine.result.now) c.image.ensures.image c.routine.ensures) in
     let lent = c.as_slice.ensures.value ∙ c.lent_handles-lent.ensures ∙ ap (λ s. lent_handles s call.handles) slots in
     let known = c.memory_is_legal.ensures.file in
     let none = (c.memory_is_legal.ensures.unlocked known.0 known.1).0 c.requires.unlocked in
@@ -27,15 +28,18 @@ returns-in-Ok-clause-ran g c =
     let locked = c.lock_all.new.kernel in
     let ran = c.run-outcome.new.kernel in
     let new = c.unlock_all.new.kernel in
-    let slots = entry-of image call.routine c.routine.result.now (subst (λ (i : Parts). slice_get i.routines call.routine ≡ Some c.routine.result.now) c.image.ensures.image c.routine.ensures) in
+    let slots = entry-of image call.routine c.routine.result.now
+    (subst (λ (i : Parts). slice_get i.routines call.routine ≡ Some c.routine.result.now) c.image.ensures.image c.routine.ensures) in
     let lent = c.lent_handles-lent.ensures ∙ ap (λ s. lent_handles s call.handles) slots in
     let alike = c.lock_all.ensures.honest in
     let alike_ran : medium.honest ran.device ↔ medium.honest old.device =
     ((λ h. alike.0 (c.run-outcome.ensures.honest.0 h)), (λ h. c.run-outcome.ensures.honest.1 (alike.1 h))) in
     lent-ran medium old locked ran new alike alike_ran image call c.run-outcome.result.now
-    (subst (λ hs. Leads (medium.honest old.device) (Throughout medium old.device locked.device) old.core locked.core (Locks (IsAllowed (medium.honest old.device)) hs)) (c.as_slice.ensures.value ∙ lent) c.in-Ok.ensures.locked)
+    (subst (λ hs. Leads (medium.honest old.device) (Throughout medium old.device locked.device) old.core locked.core
+    (Locks (IsAllowed (medium.honest old.device)) hs)) (c.as_slice.ensures.value ∙ lent) c.in-Ok.ensures.locked)
     c.run-outcome.ensures.ran
-    (subst (λ hs. Leads (medium.honest ran.device) (Throughout medium ran.device new.device) ran.core new.core (Unlocks (IsAllowed (medium.honest ran.device)) hs)) (c.as_slice-in-Ok.ensures.value ∙ lent) c.unlock_all.ensures.leads)
+    (subst (λ hs. Leads (medium.honest ran.device) (Throughout medium ran.device new.device) ran.core new.core
+    (Unlocks (IsAllowed (medium.honest ran.device)) hs)) (c.as_slice-in-Ok.ensures.value ∙ lent) c.unlock_all.ensures.leads)
 
 pub returns-in-Err-clause-refused : goal.returns-in-Err-clause-refused
 returns-in-Err-clause-refused g c =
@@ -45,9 +49,13 @@ returns-in-Err-clause-refused g c =
     let old = c.args.kernel.now in
     let locked = c.lock_all.new.kernel in
     let new = c.unlock_all-in-Err.new.kernel in
-    let slots = entry-of image call.routine c.routine.result.now (subst (λ (i : Parts). slice_get i.routines call.routine ≡ Some c.routine.result.now) c.image.ensures.image c.routine.ensures) in
+    let slots = entry-of image call.routine c.routine.result.now
+    (subst (λ (i : Parts). slice_get i.routines call.routine ≡ Some c.routine.result.now) c.image.ensures.image c.routine.ensures) in
     let lent = c.as_slice.ensures.value ∙ c.lent_handles-lent.ensures ∙ ap (λ s. lent_handles s call.handles) slots in
-    subst (λ hs. Leads (medium.honest old.device) (Throughout medium old.device new.device) old.core new.core (NotLent (IsAllowed (medium.honest old.device)) hs c.in-Err.refusal)) lent
-    (lent-refused medium old locked new c.lock_all.ensures.honest c.as_slice.result.now c.in-Err.locked c.in-Err.ensures.within c.in-Err.refusal c.in-Err.ensures.refused
-    (subst (λ hs. Leads (medium.honest locked.device) (Throughout medium locked.device new.device) locked.core new.core (Unlocks (IsAllowed (medium.honest locked.device)) (take c.in-Err.locked hs)))
+    subst (λ hs. Leads (medium.honest old.device) (Throughout medium old.device new.device) old.core new.core
+    (NotLent (IsAllowed (medium.honest old.device)) hs c.in-Err.refusal)) lent
+    (lent-refused medium old locked new c.lock_all.ensures.honest c.as_slice.result.now c.in-Err.locked
+    c.in-Err.ensures.within c.in-Err.refusal c.in-Err.ensures.refused
+    (subst (λ hs. Leads (medium.honest locked.device) (Throughout medium locked.device new.device) locked.core new.core
+    (Unlocks (IsAllowed (medium.honest locked.device)) (take c.in-Err.locked hs)))
     (c.as_slice-in-Err.ensures.value ∙ sym c.as_slice.ensures.value) c.unlock_all-in-Err.ensures.leads))

@@ -17,7 +17,8 @@ returns-clause-leads g c =
     let calls : Calls (d.medium.honest k.device) (vunlock c.args.h) (Ok (tt {0})) k.core new.core =
     subst (λ (n : Name). Calls (d.medium.honest k.device) (vunlock n.h) (Ok (tt {0})) k.core new.core) c.vm.ensures c.vunlock.ensures.calls in
     comes-leads (d.medium.honest k.device) _ k.core new.core (vunlock c.args.h) (Ok (tt {0}))
-    (stops-between d.medium k new (g.met.D.Device.at_once k.device) c.memory_is_legal.ensures.kept (between-leaving d.medium k new c.vunlock.ensures.vm).stops) calls
+    (stops-between d.medium k new (g.met.D.Device.at_once k.device) c.memory_is_legal.ensures.kept
+    (between-leaving d.medium k new c.vunlock.ensures.vm).stops) calls
 
 pub returns-clause-counts : goal.returns-clause-counts
 returns-clause-counts g c =

@@ -13,8 +13,10 @@ use Rattle.geos_cli.proofs.lending.unlock_all.Goals as goal
 
 pub loop-h-init : goal.loop-h-init
 loop-h-init g c = (
-  stays-leads (g.D.Device.medium.honest c.args.kernel.now.device) (Throughout g.D.Device.medium c.args.kernel.now.device c.args.kernel.now.device) c.args.kernel.now.core
-      (λ f tied h. stops-first g.D.Device.medium c.args.kernel.now f tied (g.met.D.Device.at_once c.args.kernel.now.device) c.memory_is_legal.ensures.kept h _ (λ x opens. inl opens)),
+  stays-leads (g.D.Device.medium.honest c.args.kernel.now.device) (Throughout g.D.Device.medium c.args.kernel.now.device c.args.kernel.now.device)
+      c.args.kernel.now.core
+      (λ f tied h. stops-first g.D.Device.medium c.args.kernel.now f tied (g.met.D.Device.at_once c.args.kernel.now.device)
+      c.memory_is_legal.ensures.kept h _ (λ x opens. inl opens)),
   (λ n. omega arith),
   c.requires,
   ((λ h. h), (λ h. h)),
@@ -33,11 +35,19 @@ loop-h-preserved g c =
     let so_far = c.loop-h.invariant in
     let next = c.unlock.ensures.honest in (
       on-unlocks medium c.args.kernel.now c.loop-h.kernel c.unlock.new.kernel so_far.3 handles k c.loop-h-test.true so_far.0 c.unlock.ensures.leads,
-      (λ n. omega (arith, c.unlock.ensures.counts n, so_far.1 n, times-one n handles k c.loop-h-test.true (times n (take k handles)) 0 (omega arith))),
-      (λ n. times-fewer n handles k c.loop-h-test.true (locks_of c.unlock.new.kernel.core.blocks (vm_slot n)) (locks_of c.loop-h.kernel.core.blocks (vm_slot n)) (c.unlock.ensures.counts n) (so_far.2 n)),
+      (λ n. omega (
+        arith,
+        c.unlock.ensures.counts n,
+        so_far.1 n,
+        times-one n handles k c.loop-h-test.true
+            (times n (take k handles)) 0 (omega arith),
+      )),
+      (λ n. times-fewer n handles k c.loop-h-test.true (locks_of c.unlock.new.kernel.core.blocks (vm_slot n))
+          (locks_of c.loop-h.kernel.core.blocks (vm_slot n)) (c.unlock.ensures.counts n) (so_far.2 n)),
       ((λ h. so_far.3.0 (next.0 h)), (λ h. next.1 (so_far.3.1 h))),
       c.unlock.ensures.sees.1,
-      steadily_then medium (vm_file_of c.args.kernel.now) (vm_file_of c.loop-h.kernel) (vm_file_of c.unlock.new.kernel) so_far.5 c.unlock.ensures.steadily,
+      steadily_then medium (vm_file_of c.args.kernel.now) (vm_file_of c.loop-h.kernel) (vm_file_of c.unlock.new.kernel)
+          so_far.5 c.unlock.ensures.steadily,
     )
 
 pub returns-clause-leads : goal.returns-clause-leads
@@ -45,7 +55,8 @@ returns-clause-leads g c =
     let medium = g.D.Device.medium in
     let old = c.args.kernel.now in
     let past : length c.args.handles.now ≤ c.loop-h.h-index = omega (arith, c.loop-h-test.false) in
-    subst (λ hs. Leads (medium.honest old.device) (Throughout medium old.device c.loop-h.kernel.device) old.core c.loop-h.kernel.core (Unlocks (IsAllowed (medium.honest old.device)) hs))
+    subst (λ hs. Leads (medium.honest old.device) (Throughout medium old.device c.loop-h.kernel.device) old.core
+    c.loop-h.kernel.core (Unlocks (IsAllowed (medium.honest old.device)) hs))
     (take_all c.loop-h.h-index c.args.handles.now past) c.loop-h.invariant.0
 
 pub returns-clause-counts : goal.returns-clause-counts

@@ -11,7 +11,8 @@ use Rattle.geos_cli.proofs.lending.unlock_all.Given as goal
 
 abbrev pub invariant-loop-h : goal.invariant-loop-h
 invariant-loop-h g l =
-    Leads (g.D.Device.medium.honest l.fn.kernel.device) (Throughout g.D.Device.medium l.fn.kernel.device l.kernel.device) l.fn.kernel.core l.kernel.core (Unlocks (IsAllowed (g.D.Device.medium.honest l.fn.kernel.device)) (take l.h-index l.handles))
+    Leads (g.D.Device.medium.honest l.fn.kernel.device) (Throughout g.D.Device.medium l.fn.kernel.device l.kernel.device)
+    l.fn.kernel.core l.kernel.core (Unlocks (IsAllowed (g.D.Device.medium.honest l.fn.kernel.device)) (take l.h-index l.handles))
     × ((n : ℕ) → locks_of l.kernel.core.blocks (vm_slot n) + times n (take l.h-index l.handles) ≡ locks_of l.fn.kernel.core.blocks (vm_slot n))
     × ((n : ℕ) → times n (drop l.h-index l.handles) ≤ locks_of l.kernel.core.blocks (vm_slot n))
     × (g.D.Device.medium.honest l.kernel.device ↔ g.D.Device.medium.honest l.fn.kernel.device)

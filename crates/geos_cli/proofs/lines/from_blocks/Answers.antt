@@ -11,9 +11,11 @@ pub loop-word-smaller : goal.loop-word-smaller
 loop-word-smaller c = rw c.in-Some.ensures.some (omega arith)
 
 pub loop-word-preserved : goal.loop-word-preserved
-loop-word-preserved c = c.loop-word.invariant ∙ ap from_blocks c.in-Some.ensures.some ∙ from-number c.in-Some.word.now (words c.in-Some.behind.now) (sym c.names_block.ensures ∙ c.if-names_block.false)
+loop-word-preserved c = c.loop-word.invariant ∙ ap from_blocks c.in-Some.ensures.some
+    ∙ from-number c.in-Some.word.now (words c.in-Some.behind.now) (sym c.names_block.ensures ∙ c.if-names_block.false)
 
 pub returns-then-names_block : goal.returns-then-names_block
 returns-then-names_block c =
     let more = c.in-Some.ensures.some in
-    sym (c.loop-word.invariant ∙ ap from_blocks more ∙ from-block c.in-Some.word.now (words c.in-Some.behind.now) (sym c.names_block.ensures ∙ c.if-names_block.true) ∙ sym more)
+    sym (c.loop-word.invariant ∙ ap from_blocks more ∙ from-block c.in-Some.word.now (words c.in-Some.behind.now)
+    (sym c.names_block.ensures ∙ c.if-names_block.true) ∙ sym more)

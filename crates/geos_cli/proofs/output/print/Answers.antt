@@ -17,4 +17,5 @@ returns-in_err-write-2-clause-part g c =
     let words = c.args.words.now in
     let k = c.loop-word.word-index in
     let digits : c.as_bytes.result.now ≡ decimal (get_or words k 0) = search rules in
-    IfErr-any _ (part-line-feed _ _ _ _ words k c.loop-word-test.true c.loop-word.invariant.0 (subst (Appends _ _) digits c.in_ok-write.ensures.ok) c.in_err-write-2.ensures.part)
+    IfErr-any _ (part-line-feed _ _ _ _ words k c.loop-word-test.true c.loop-word.invariant.0
+    (subst (Appends _ _) digits c.in_ok-write.ensures.ok) c.in_err-write-2.ensures.part)

@@ -24,7 +24,8 @@ loop-numbered-init g c = (
 
 pub returns-clause-ok : goal.returns-clause-ok
 returns-clause-ok g c = ran-all c.args.mode
-    (g.D.Device.medium.honest c.args.kernel.now.device) _ c.args.checked.now c.args.commands.now c.loop-numbered.numbered-index c.args.kernel.now.core c.loop-numbered.kernel.core _ _ (omega (arith, c.loop-numbered-test.false)) c.loop-numbered.invariant.0
+    (g.D.Device.medium.honest c.args.kernel.now.device) _ c.args.checked.now c.args.commands.now c.loop-numbered.numbered-index
+    c.args.kernel.now.core c.loop-numbered.kernel.core _ _ (omega (arith, c.loop-numbered-test.false)) c.loop-numbered.invariant.0
 
 pub loop-numbered-preserved : goal.loop-numbered-preserved
 loop-numbered-preserved g c =
@@ -35,12 +36,15 @@ loop-numbered-preserved g c =
     let ran = ran-alike (g.D.Device.medium.honest c.loop-numbered.kernel.device)
     (g.D.Device.medium.honest c.args.kernel.now.device) alike _ c.args.checked.now _ _ _ _ _ _ c.in_ok-done.ensures.ok in (
       ran-more c.args.mode (g.D.Device.medium.honest c.args.kernel.now.device) _ _ _
-          (throughout-then g.D.Device.medium c.args.kernel.now.device c.loop-numbered.kernel.device c.carry_out.new.kernel.device) c.args.checked.now c.args.commands.now c.loop-numbered.numbered-index _ _ _ _ _ _ _ c.loop-numbered-test.true _ c.in_default.ensures before ran,
+          (throughout-then g.D.Device.medium c.args.kernel.now.device c.loop-numbered.kernel.device c.carry_out.new.kernel.device)
+          c.args.checked.now c.args.commands.now c.loop-numbered.numbered-index _ _ _ _ _ _ _ c.loop-numbered-test.true
+          _ c.in_default.ensures before ran,
       c.in_ok-done.ensures.kept ∙ c.in_ok-give_before.ensures.kept ∙ c.loop-numbered.invariant.1,
       ((λ h. alike.0 (next.0 h)), (λ h. next.1 (alike.1 h))),
       c.carry_out.ensures.unlocked,
       c.carry_out.ensures.sees.1,
-      steadily_then g.D.Device.medium (vm_file_of c.args.kernel.now) (vm_file_of c.loop-numbered.kernel) (vm_file_of c.carry_out.new.kernel) c.loop-numbered.invariant.5 c.carry_out.ensures.steadily,
+      steadily_then g.D.Device.medium (vm_file_of c.args.kernel.now) (vm_file_of c.loop-numbered.kernel)
+          (vm_file_of c.carry_out.new.kernel) c.loop-numbered.invariant.5 c.carry_out.ensures.steadily,
       c.may_commit-ahead.ensures ∙ sym (last-done c.args.checked.now c.args.commands.now c.loop-numbered.numbered-index _ c.loop-numbered-test.true),
     )
 
@@ -52,13 +56,15 @@ returns-in_err-done-clause-stopped g c =
     let stopped = stopped-alike (g.D.Device.medium.honest c.loop-numbered.kernel.device)
     (g.D.Device.medium.honest c.args.kernel.now.device) alike _ c.args.checked.now _ _ _ _ _ c.in_err-done.ensures.stopped in
     IfErr-any _ (stopped-at c.args.mode (g.D.Device.medium.honest c.args.kernel.now.device) _ _ _
-    (throughout-then g.D.Device.medium c.args.kernel.now.device c.loop-numbered.kernel.device c.carry_out.new.kernel.device) c.args.checked.now c.args.commands.now c.loop-numbered.numbered-index _ _ _ _ _ _ _ c.loop-numbered-test.true before stopped)
+    (throughout-then g.D.Device.medium c.args.kernel.now.device c.loop-numbered.kernel.device c.carry_out.new.kernel.device)
+    c.args.checked.now c.args.commands.now c.loop-numbered.numbered-index _ _ _ _ _ _ _ c.loop-numbered-test.true before stopped)
 
 pub returns-in_err-give_before-clause-stopped : goal.returns-in_err-give_before-clause-stopped
 returns-in_err-give_before-clause-stopped g c =
     let honest = g.D.Device.medium.honest c.args.kernel.now.device in
     let before = ran-kept c.args.mode honest _ c.args.checked.now _ _ _ _ _ _ c.loop-numbered.invariant.0 c.give_before.ensures.bytes in
-    IfErr-any _ (stopped-ahead c.args.mode honest _ c.args.checked.now c.args.commands.now c.loop-numbered.numbered-index _ _ _ _ _ c.loop-numbered-test.true before
+    IfErr-any _ (stopped-ahead c.args.mode honest _ c.args.checked.now c.args.commands.now c.loop-numbered.numbered-index
+    _ _ _ _ _ c.loop-numbered-test.true before
     _ _ c.loop-numbered.invariant.6 c.may_commit-ahead.ensures c.in_err-give_before.ensures.due)
 
 pub returns-clause-sees : goal.returns-clause-sees
@@ -75,15 +81,19 @@ returns-in-Some-clause-ok g c =
     let ran = ran-alike (g.D.Device.medium.honest c.loop-numbered.kernel.device)
     (g.D.Device.medium.honest c.args.kernel.now.device) alike _ c.args.checked.now _ _ _ _ _ _ c.in_ok-done.ensures.ok in
     ran-refused c.args.mode honest _ _ _
-    (throughout-then g.D.Device.medium c.args.kernel.now.device c.loop-numbered.kernel.device c.carry_out.new.kernel.device) c.args.checked.now c.args.commands.now c.loop-numbered.numbered-index _ _ _ _ _ _ _ c.loop-numbered-test.true c.in-Some.refused c.in-Some.ensures.1 _ c.in-Some.ensures.2 before ran
+    (throughout-then g.D.Device.medium c.args.kernel.now.device c.loop-numbered.kernel.device c.carry_out.new.kernel.device)
+    c.args.checked.now c.args.commands.now c.loop-numbered.numbered-index _ _ _ _ _ _ _ c.loop-numbered-test.true
+    c.in-Some.refused c.in-Some.ensures.1 _ c.in-Some.ensures.2 before ran
 
 pub returns-in-Some-clause-sees : goal.returns-in-Some-clause-sees
 returns-in-Some-clause-sees g c = (c.memory_is_legal.ensures.sees, c.carry_out.ensures.sees.1)
 
 pub returns-in_err-done-clause-steadily : goal.returns-in_err-done-clause-steadily
 returns-in_err-done-clause-steadily g c =
-    steadily_then g.D.Device.medium (vm_file_of c.args.kernel.now) (vm_file_of c.loop-numbered.kernel) (vm_file_of c.carry_out.new.kernel) c.loop-numbered.invariant.5 c.carry_out.ensures.steadily
+    steadily_then g.D.Device.medium (vm_file_of c.args.kernel.now) (vm_file_of c.loop-numbered.kernel)
+    (vm_file_of c.carry_out.new.kernel) c.loop-numbered.invariant.5 c.carry_out.ensures.steadily
 
 pub returns-in-Some-clause-steadily : goal.returns-in-Some-clause-steadily
 returns-in-Some-clause-steadily g c =
-    steadily_then g.D.Device.medium (vm_file_of c.args.kernel.now) (vm_file_of c.loop-numbered.kernel) (vm_file_of c.carry_out.new.kernel) c.loop-numbered.invariant.5 c.carry_out.ensures.steadily
+    steadily_then g.D.Device.medium (vm_file_of c.args.kernel.now) (vm_file_of c.loop-numbered.kernel)
+    (vm_file_of c.carry_out.new.kernel) c.loop-numbered.invariant.5 c.carry_out.ensures.steadily

@@ -11,7 +11,8 @@ use Rattle.geos_cli.proofs.script.carry_out_all.Given as goal
 
 abbrev pub invariant-loop-numbered : goal.invariant-loop-numbered
 invariant-loop-numbered g l =
-    RanCommands l.fn.mode (g.D.Device.medium.honest l.fn.kernel.device) (Throughout g.D.Device.medium l.fn.kernel.device l.kernel.device) l.fn.checked (take l.numbered-index l.fn.commands) None l.fn.kernel.core l.kernel.core
+    RanCommands l.fn.mode (g.D.Device.medium.honest l.fn.kernel.device) (Throughout g.D.Device.medium l.fn.kernel.device l.kernel.device)
+    l.fn.checked (take l.numbered-index l.fn.commands) None l.fn.kernel.core l.kernel.core
     (g.W.Write.contents l.fn.out.stream) (g.W.Write.contents l.out.stream)
     × (l.out.failures ≡ l.fn.out.failures)
     × (g.D.Device.medium.honest l.kernel.device ↔ g.D.Device.medium.honest l.fn.kernel.device)

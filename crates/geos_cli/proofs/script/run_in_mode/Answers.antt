@@ -11,18 +11,23 @@ use Rattle.geos_cli.proofs.script.run_in_mode.Goals as goal
 pub carry_out_all-requires-clause-admitted : goal.carry_out_all-requires-clause-admitted
 carry_out_all-requires-clause-admitted g c =
     let same = c.deref.ensures.value ∙ c.in_ok-commands.ensures.commands.1 in
-    subst (All (λ (n : Numbered). IsAdmitted c.in_ok-checked.checked n.command)) (sym same) (commands-admitted c.in_ok-checked.checked (lines c.args.script.now))
+    subst (All (λ (n : Numbered). IsAdmitted c.in_ok-checked.checked n.command)) (sym same)
+    (commands-admitted c.in_ok-checked.checked (lines c.args.script.now))
 
 pub returns-clause-ran : goal.returns-clause-ran
 returns-clause-ran g c =
-    let loads : Loads c.args.image.now (lines c.args.script.now) c.in_ok-checked.checked = record { read = c.in_ok-checked.ensures.image.0; accepted = c.in_ok-checked.ensures.image.1; good = c.in_ok-commands.ensures.commands.0 } in
+    let loads : Loads c.args.image.now (lines c.args.script.now) c.in_ok-checked.checked =
+    record { read = c.in_ok-checked.ensures.image.0; accepted = c.in_ok-checked.ensures.image.1; good = c.in_ok-commands.ensures.commands.0 } in
     if_ok-map c.carry_out_all.result
-    (script-ran c.args.mode (g.D.Device.medium.honest c.args.kernel.now.device) _ c.args.image.now c.args.script.now c.in_ok-checked.checked c.args.kernel.now.core c.carry_out_all.new.kernel.core _ _ (omega (arith, c.if-script-gt-MOST_BYTES.false)) loads
+    (script-ran c.args.mode (g.D.Device.medium.honest c.args.kernel.now.device) _ c.args.image.now c.args.script.now
+    c.in_ok-checked.checked c.args.kernel.now.core c.carry_out_all.new.kernel.core _ _ (omega (arith, c.if-script-gt-MOST_BYTES.false)) loads
     c.deref.result.now (c.deref.ensures.value ∙ c.in_ok-commands.ensures.commands.1)) c.carry_out_all.ensures.ok
 
 pub returns-clause-stopped : goal.returns-clause-stopped
 returns-clause-stopped g c =
-    let loads : Loads c.args.image.now (lines c.args.script.now) c.in_ok-checked.checked = record { read = c.in_ok-checked.ensures.image.0; accepted = c.in_ok-checked.ensures.image.1; good = c.in_ok-commands.ensures.commands.0 } in
+    let loads : Loads c.args.image.now (lines c.args.script.now) c.in_ok-checked.checked =
+    record { read = c.in_ok-checked.ensures.image.0; accepted = c.in_ok-checked.ensures.image.1; good = c.in_ok-commands.ensures.commands.0 } in
     if_err-map c.carry_out_all.result Write
-    (script-stopped c.args.mode (g.D.Device.medium.honest c.args.kernel.now.device) _ c.args.image.now c.args.script.now c.in_ok-checked.checked c.args.kernel.now.core c.carry_out_all.new.kernel.core _ _ (omega (arith, c.if-script-gt-MOST_BYTES.false)) loads
+    (script-stopped c.args.mode (g.D.Device.medium.honest c.args.kernel.now.device) _ c.args.image.now c.args.script.now
+    c.in_ok-checked.checked c.args.kernel.now.core c.carry_out_all.new.kernel.core _ _ (omega (arith, c.if-script-gt-MOST_BYTES.false)) loads
     c.deref.result.now (c.deref.ensures.value ∙ c.in_ok-commands.ensures.commands.1)) c.carry_out_all.ensures.stopped

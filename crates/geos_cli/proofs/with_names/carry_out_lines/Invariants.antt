@@ -10,7 +10,8 @@ use Rattle.geos_cli.proofs.with_names.carry_out_lines.Given as goal
 
 abbrev pub invariant-loop-line : goal.invariant-loop-line
 invariant-loop-line g l =
-    RanSoFar g.D.Device.medium l.fn.form l.fn.mode l.fn.checked (map said_by (take l.line-index l.fn.lines)) (names_of l.names.items) l.fn.kernel l.kernel
+    RanSoFar g.D.Device.medium l.fn.form l.fn.mode l.fn.checked (map said_by (take l.line-index l.fn.lines))
+    (names_of l.names.items) l.fn.kernel l.kernel
     (g.W.Write.contents l.fn.out.stream) (g.W.Write.contents l.out.stream)
     × (l.out.failures ≡ l.fn.out.failures)
     × (g.D.Device.medium.honest l.kernel.device ↔ g.D.Device.medium.honest l.fn.kernel.device)

@@ -12,7 +12,8 @@ loop-k-init c = sym (append-nil c.args.out.now.items)
 
 pub loop-k-preserved : goal.loop-k-preserved
 loop-k-preserved c =
-    texts_below-step c.args.out.now.items c.loop-k.out.items c.put_forgotten_of.new.out.items _ (λ k. forgotten_of (place_of c.args.place.now) c.args.wanted.now k)
+    texts_below-step c.args.out.now.items c.loop-k.out.items c.put_forgotten_of.new.out.items _
+    (λ k. forgotten_of (place_of c.args.place.now) c.args.wanted.now k)
     c.loop-k.k c.loop-k.invariant c.in_ok-put_forgotten_of.ensures refl
 
 pub returns : goal.returns

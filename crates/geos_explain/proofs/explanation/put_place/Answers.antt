@@ -12,5 +12,7 @@ unfolding place_text point_text
 returns c =
     let within = c.args.within.now in
     let explained = explained_of within.explained.now in
-    rw (told-at (point_text explained within.r within.routine.now) (place_at explained within.r within.routine.now c.args.pc) (places explained.image) c.args.pc (place_of c.place_at-place.result) (omega (arith, c.requires.within, places-length explained.image)) c.place_at-place.ensures.known)
+    rw (told-at (point_text explained within.r within.routine.now) (place_at explained within.r within.routine.now c.args.pc)
+    (places explained.image) c.args.pc (place_of c.place_at-place.result) (omega (arith, c.requires.within, places-length explained.image))
+    c.place_at-place.ensures.known)
     (grind (arith, common_steps))

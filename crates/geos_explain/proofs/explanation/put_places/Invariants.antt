@@ -6,4 +6,5 @@ use Rattle.geos_explain.proofs.explanation.put_places.Given as goal
 
 abbrev pub invariant-loop-k : goal.invariant-loop-k
 invariant-loop-k l =
-    l.out.items ≡ l.initial.out.items ++ texts_below l.k (λ (k : ℕ). place_text (explained_of l.within.explained.now) l.within.r l.within.routine.now (l.start + k))
+    l.out.items ≡ l.initial.out.items ++ texts_below l.k (λ (k : ℕ). place_text (explained_of l.within.explained.now)
+    l.within.r l.within.routine.now (l.start + k))

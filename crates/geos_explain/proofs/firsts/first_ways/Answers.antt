@@ -8,5 +8,6 @@ loop-k-init c = first_ways-none (place_of c.args.place.now) c.args.sought c.no_w
 
 pub loop-k-preserved : goal.loop-k-preserved
 loop-k-preserved c =
-    first_ways-next (place_of c.args.place.now) c.args.sought c.loop-k.k (c.start-start.result + c.loop-k.k) c.loop-k.ways c.note_at.new.ways (ap (λ s. s + c.loop-k.k) c.start-start.ensures.start)
+    first_ways-next (place_of c.args.place.now) c.args.sought c.loop-k.k (c.start-start.result + c.loop-k.k)
+    c.loop-k.ways c.note_at.new.ways (ap (λ s. s + c.loop-k.k) c.start-start.ensures.start)
     c.loop-k.invariant c.note_at.ensures

@@ -6,7 +6,8 @@ use Rattle.geos_explain.specs.Forgotten.{lacking_marked_at, lacking_round}
 use Rattle.geos_explain.proofs.forgotten.mark_round_lacking.Goals as goal
 
 -- one more instruction, and the ones before it
-lacking_round-next : (place : Place) (item : Item) (marks after : List Bool) (start m n : ℕ) → suc m ≡ n → start ≡ start_of place.image.routines place.r
+lacking_round-next : (place : Place) (item : Item) (marks after : List Bool) (start m n : ℕ) → suc m ≡ n
+    → start ≡ start_of place.image.routines place.r
     → after ≡ lacking_marked_at place item marks (start + m) → lacking_round place item after m ≡ lacking_round place item marks n
 unfolding lacking_round
 lacking_round-next place item marks after start m n next first step = rw (sym next, step, first) refl
@@ -18,7 +19,8 @@ loop-rest-preserved c =
     let next : suc (rest - 1) ≡ rest = omega arith in
     record {
       within = omega arith;
-      same = lacking_round-next (place_of c.args.place.now) c.args.item c.loop-rest.marks c.mark_lacking.new.marks c.start-start.result (rest - 1) rest next c.start-start.ensures.start c.mark_lacking.ensures
+      same = lacking_round-next (place_of c.args.place.now) c.args.item c.loop-rest.marks c.mark_lacking.new.marks
+          c.start-start.result (rest - 1) rest next c.start-start.ensures.start c.mark_lacking.ensures
           ∙ c.loop-rest.invariant.same;
     }
 

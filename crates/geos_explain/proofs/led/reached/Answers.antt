@@ -7,7 +7,8 @@ use Rattle.geos_explain.proofs.led.reached.Goals.{then-not-settled, else-not-set
 use Rattle.geos_explain.proofs.led.reached.Goals as goal
 
 -- one more round
-reached_within-next : (image : Parts) (n : ℕ) (marks after : List Bool) → marks ≡ reached_within image n → after ≡ marked_round image marks (length image.points)
+reached_within-next : (image : Parts) (n : ℕ) (marks after : List Bool) → marks ≡ reached_within image n
+    → after ≡ marked_round image marks (length image.points)
     → after ≡ reached_within image (n + 1)
 unfolding reached_within
 reached_within-next image n marks after so_far round =

@@ -12,7 +12,8 @@ unfolding known_here known_text
 returns-then-before-len c =
     let place = c.args.place.now in
     let reached : is_reached place.image.now place.pc ≡ true = sym c.is_reached.ensures ∙ c.if-not-is_reached.false in
-    let some : length c.args.out.now.items < length c.put_items.new.out.items = omega (arith, c.len-before.ensures, c.len.ensures, c.if-before-len.true) in
+    let some : length c.args.out.now.items < length c.put_items.new.out.items =
+    omega (arith, c.len-before.ensures, c.len.ensures, c.if-before-len.true) in
     let told = items-some c.args.out.now.items c.put_items.new.out.items (row_items place.row.now) (codes ",") c.in_ok-put_items.ensures.value some in
     rw (reached, sym told) (grind (arith, common_steps))
 
@@ -21,5 +22,6 @@ unfolding known_here known_text
 returns-else-before-len c =
     let place = c.args.place.now in
     let reached : is_reached place.image.now place.pc ≡ true = sym c.is_reached.ensures ∙ c.if-not-is_reached.false in
-    let none : length c.put_items.new.out.items ≤ length c.args.out.now.items = omega (arith, c.len-before.ensures, c.len.ensures, c.if-before-len.false) in
+    let none : length c.put_items.new.out.items ≤ length c.args.out.now.items =
+    omega (arith, c.len-before.ensures, c.len.ensures, c.if-before-len.false) in
     rw reached (items-none c.args.out.now.items c.put_items.new.out.items (row_items place.row.now) (codes ",") c.in_ok-put_items.ensures.value none)

@@ -10,7 +10,8 @@ use Rattle.geos_explain.proofs.numbers.put_also.Goals as goal
 pub returns : goal.returns
 unfolding also_are
 returns c =
-    let out = c.args.out.now.items in let before = c.extend_from_slice.new.self.items in
+    let out = c.args.out.now.items in
+    let before = c.extend_from_slice.new.self.items in
     let items = row_items c.args.row.now in
     let what = c.args.what.now in
     let written : c.put_items.new.out.items ≡ before ++ items = c.in_ok-put_items.ensures.value in

@@ -10,5 +10,6 @@ pub returns : goal.returns
 returns c =
     let within = c.args.within.now in
     let explained = explained_of within.explained.now in
-    rw (told-at over_line (place_at explained within.r within.routine.now c.args.start) (places explained.image) c.args.start (place_of c.place_at-first.result) (omega (arith, c.requires, places-length explained.image)) c.place_at-first.ensures.known)
+    rw (told-at over_line (place_at explained within.r within.routine.now c.args.start) (places explained.image)
+    c.args.start (place_of c.place_at-first.result) (omega (arith, c.requires, places-length explained.image)) c.place_at-first.ensures.known)
     c.put_over_line.ensures

@@ -8,7 +8,8 @@ told-exactly : (found : Option Rule) (rule : Rule) → (told_rule found ≡ Some
 told-exactly None rule = ((λ is. absurd cc), (λ is. (let none : None ≡ Some rule = is.0 in absurd cc)))
 told-exactly (Some lowest) rule = by_rule (is_of_budget lowest) refl
   where
-    by_rule : (budget : Bool) → is_of_budget lowest ≡ budget → (cond budget None (Some lowest) ≡ Some rule) ↔ ((Some lowest ≡ Some rule) × (is_of_budget rule ≡ false))
+    by_rule : (budget : Bool) → is_of_budget lowest ≡ budget → (cond budget None (Some lowest) ≡ Some rule)
+        ↔ ((Some lowest ≡ Some rule) × (is_of_budget rule ≡ false))
     by_rule true is = ((λ none. absurd cc), (λ both. (let same : Some lowest ≡ Some rule = both.0 in let not_so = both.1 in absurd cc)))
     by_rule false is = ((λ same. (same, cc)), (λ both. both.0))
 

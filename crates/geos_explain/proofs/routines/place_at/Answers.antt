@@ -27,4 +27,5 @@ returns-clause-known c =
     let explained = explained_of within.explained.now in
     let known : KnownPlace = record { instr = c.instr.result.now; row = c.row.result.now; potential = c.potential.result.now } in
     let of : KnownPlace → Place = place_at explained within.r within.routine.now c.args.pc in
-    by-parts explained.image c.args.pc known.instr known.row known.potential (λ (x : KnownPlace). of known ≡ of x) c.instr.ensures.there c.row.ensures c.potential.ensures c.requires refl
+    by-parts explained.image c.args.pc known.instr known.row known.potential (λ (x : KnownPlace). of known ≡ of x)
+    c.instr.ensures.there c.row.ensures c.potential.ensures c.requires refl

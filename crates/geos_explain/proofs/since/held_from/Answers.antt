@@ -7,7 +7,8 @@ use Rattle.geos_explain.proofs.since.held_from.Goals.{then-not-settled, else-not
 use Rattle.geos_explain.proofs.since.held_from.Goals as goal
 
 -- one more round
-back_within-next : (place : Place) (a n : ℕ) (marks after : List Bool) → marks ≡ back_within place a n → after ≡ back_round place a marks place.routine.count → after ≡ back_within place a (n + 1)
+back_within-next : (place : Place) (a n : ℕ) (marks after : List Bool) → marks ≡ back_within place a n
+    → after ≡ back_round place a marks place.routine.count → after ≡ back_within place a (n + 1)
 unfolding back_within
 back_within-next place a n marks after so_far round =
     let next : suc n ≡ n + 1 = omega arith in

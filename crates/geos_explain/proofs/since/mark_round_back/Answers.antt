@@ -17,7 +17,8 @@ loop-rest-preserved c =
     let next : suc (rest - 1) ≡ rest = omega arith in
     record {
       within = omega arith;
-      same = back_round-next (place_of c.args.place.now) c.args.a c.loop-rest.marks c.mark_back.new.marks c.start-start.result (rest - 1) rest next c.start-start.ensures.start c.mark_back.ensures
+      same = back_round-next (place_of c.args.place.now) c.args.a c.loop-rest.marks c.mark_back.new.marks c.start-start.result
+          (rest - 1) rest next c.start-start.ensures.start c.mark_back.ensures
           ∙ c.loop-rest.invariant.same;
     }
 

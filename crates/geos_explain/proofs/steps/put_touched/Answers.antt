@@ -8,4 +8,8 @@ use Rattle.geos_explain.proofs.steps.put_touched.Goals as goal
 pub returns : goal.returns
 returns c =
     let callee = codes " " ++ name_of c.args.callee.now ++ codes " touches a counter that still pays behind the call:" in
-    rw (sym (append_assoc c.args.out.now.items callee (paying_items 4 c.args.q.now.coefficients)), sym c.name_text.ensures, sym c.in_ok-put_parts.ensures) c.put_all_paying.ensures
+    rw (
+      sym (append_assoc c.args.out.now.items callee (paying_items 4 c.args.q.now.coefficients)),
+      sym c.name_text.ensures,
+      sym c.in_ok-put_parts.ensures,
+    ) c.put_all_paying.ensures

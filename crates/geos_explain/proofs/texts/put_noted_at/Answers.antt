@@ -15,6 +15,8 @@ returns c =
     rw (
       sym c.in-Some.ensures,
       c.routine-routine.ensures,
-      told-at (noted explained c.in-Some.r c.routine-routine.result.now) (place_at explained c.in-Some.r c.routine-routine.result.now c.args.pc) (places explained.image) c.args.pc (place_of c.place_at-place.result) (omega (arith, c.requires, places-length explained.image)) c.place_at-place.ensures.known,
+      told-at (noted explained c.in-Some.r c.routine-routine.result.now) (place_at explained c.in-Some.r c.routine-routine.result.now c.args.pc)
+          (places explained.image) c.args.pc (place_of c.place_at-place.result) (omega (arith, c.requires, places-length explained.image))
+          c.place_at-place.ensures.known,
     )
     (grind (arith, common_steps))

@@ -19,7 +19,8 @@ loop-rest-preserved c =
     record {
       within = omega arith;
       arrivals = c.step_from.ensures.arrivals ∙ c.loop-rest.invariant.arrivals;
-      same = back_over-next (place_of c.args.tracing.now.place.now) c.args.tracing.now.p c.loop-rest.trace c.step_from.new.trace c.start-start.result (rest - 1) rest next c.start-start.ensures.start c.step_from.ensures.steps
+      same = back_over-next (place_of c.args.tracing.now.place.now) c.args.tracing.now.p c.loop-rest.trace
+          c.step_from.new.trace c.start-start.result (rest - 1) rest next c.start-start.ensures.start c.step_from.ensures.steps
           ∙ c.loop-rest.invariant.same;
     }
 
@@ -29,4 +30,5 @@ returns-clause-steps c =
     let none = c.loop-rest-test.false in
     let zero_left : c.loop-rest.rest ≡ 0 = omega arith in
     let goes_on : c.args.trace.now.goes_on ≡ true = cc in
-    rw goes_on (sym (ap (back_over (place_of c.args.tracing.now.place.now) c.args.tracing.now.p c.loop-rest.trace) zero_left) ∙ c.loop-rest.invariant.same)
+    rw goes_on (sym (ap (back_over (place_of c.args.tracing.now.place.now) c.args.tracing.now.p c.loop-rest.trace) zero_left)
+    ∙ c.loop-rest.invariant.same)

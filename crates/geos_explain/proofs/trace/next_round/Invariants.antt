@@ -7,7 +7,8 @@ abbrev pub invariant-loop-rest : goal.invariant-loop-rest
 invariant-loop-rest l = record {
   within : l.rest ≤ l.tracing.place.now.routine.now.count;
   arrivals : l.trace.arrivals ≡ arrivals_of (place_of l.tracing.place.now) l.tracing.p;
-  same : back_over (place_of l.tracing.place.now) l.tracing.p l.trace l.rest ≡ back_over (place_of l.tracing.place.now) l.tracing.p l.initial.trace l.tracing.place.now.routine.now.count;
+  same : back_over (place_of l.tracing.place.now) l.tracing.p l.trace l.rest ≡ back_over (place_of l.tracing.place.now)
+      l.tracing.p l.initial.trace l.tracing.place.now.routine.now.count;
 }
 
 abbrev pub decreases-loop-rest : goal.decreases-loop-rest

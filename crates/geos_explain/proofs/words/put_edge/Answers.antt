@@ -10,7 +10,9 @@ use Rattle.geos_explain.proofs.words.put_edge.Goals as goal
 pub returns-else-len-before : goal.returns-else-len-before
 unfolding edge_words wanted_words
 returns-else-len-before c =
-    let out = c.args.out.now.items in let mid = c.put_wanted_behind.new.out.items in let place = place_of c.args.place.now in
+    let out = c.args.out.now.items in
+    let mid = c.put_wanted_behind.new.out.items in
+    let place = place_of c.args.place.now in
     let items = wanted_behind place false (place.pc + 1) in
     let filled : (length items == 0) ≡ false = some-written out mid items c.in_ok-put_wanted_behind.ensures (λ same. omega (arith, same)) in
     rw filled (

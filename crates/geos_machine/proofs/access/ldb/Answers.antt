@@ -6,15 +6,26 @@ use Rattle.geos_machine.proofs.access.ldb.Goals as goal
 
 pub load8-requires-clause-stands : goal.load8-requires-clause-stands
 load8-requires-clause-stands g c =
-    let i = c.args.i.now in let k = c.args.kernel.now.core in let m = c.args.m.now in let honest : Type 0 = g.D.Device.medium.honest c.args.kernel.now.device in
+    let i = c.args.i.now in
+    let k = c.args.kernel.now.core in
+    let m = c.args.m.now in
+    let honest : Type 0 = g.D.Device.medium.honest c.args.kernel.now.device in
     load-stands honest i k m Byte Fixed (rw c.requires.instr.is refl) c.requires.ready
 
 pub load8-requires-clause-within : goal.load8-requires-clause-within
 load8-requires-clause-within g c =
-    let i = c.args.i.now in let k = c.args.kernel.now.core in let m = c.args.m.now in let honest : Type 0 = g.D.Device.medium.honest c.args.kernel.now.device in
-    let long = load-reaches honest i k m Byte Fixed (rw c.requires.instr.is refl) c.requires.ready (i.imm + 1) (λ beside pc. refl) in omega (arith, long)
+    let i = c.args.i.now in
+    let k = c.args.kernel.now.core in
+    let m = c.args.m.now in
+    let honest : Type 0 = g.D.Device.medium.honest c.args.kernel.now.device in
+    let long = load-reaches honest i k m Byte Fixed (rw c.requires.instr.is refl) c.requires.ready (i.imm + 1) (λ beside pc. refl) in
+    omega (arith, long)
 
 pub returns : goal.returns
 returns g c =
-    let i = c.args.i.now in let k = c.args.kernel.now.core in let m = c.args.m.now in let honest : Type 0 = g.D.Device.medium.honest c.args.kernel.now.device in
-    load-done honest i k m Byte Fixed (rw c.requires.instr.is refl) i.imm c.load8.result _ (λ image choice kernel beside pc. rw c.requires.instr.is refl) c.load8.ensures (rw (c.requires.instr.a_is, c.from.ensures) refl)
+    let i = c.args.i.now in
+    let k = c.args.kernel.now.core in
+    let m = c.args.m.now in
+    let honest : Type 0 = g.D.Device.medium.honest c.args.kernel.now.device in
+    load-done honest i k m Byte Fixed (rw c.requires.instr.is refl) i.imm c.load8.result _
+    (λ image choice kernel beside pc. rw c.requires.instr.is refl) c.load8.ensures (rw (c.requires.instr.a_is, c.from.ensures) refl)

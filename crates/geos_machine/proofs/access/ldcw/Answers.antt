@@ -7,15 +7,28 @@ use Rattle.geos_machine.proofs.access.ldcw.Goals as goal
 
 pub load16-requires-clause-stands : goal.load16-requires-clause-stands
 load16-requires-clause-stands g c =
-    let i = c.args.i.now in let k = c.args.kernel.now.core in let m = c.args.m.now in let honest : Type 0 = g.D.Device.medium.honest c.args.kernel.now.device in
+    let i = c.args.i.now in
+    let k = c.args.kernel.now.core in
+    let m = c.args.m.now in
+    let honest : Type 0 = g.D.Device.medium.honest c.args.kernel.now.device in
     load-stands honest i k m Both Tested (rw c.requires.instr.is refl) c.requires.ready
 
 pub returns-then-not-reaches : goal.returns-then-not-reaches
 returns-then-not-reaches g c =
-    let i = c.args.i.now in let k = c.args.kernel.now.core in let m = c.args.m.now in let honest : Type 0 = g.D.Device.medium.honest c.args.kernel.now.device in
-    rw c.refuse.ensures.goes (load-past honest i k m Both Tested (rw c.requires.instr.is refl) (get_or c.args.m.now.words i.c 0) _ (not-false _ (sym c.reaches.ensures ∙ c.if-not-reaches.true)) (λ image choice kernel beside pc. rw c.requires.instr.is refl) c.refuse.ensures.registers)
+    let i = c.args.i.now in
+    let k = c.args.kernel.now.core in
+    let m = c.args.m.now in
+    let honest : Type 0 = g.D.Device.medium.honest c.args.kernel.now.device in
+    rw c.refuse.ensures.goes (load-past honest i k m Both Tested (rw c.requires.instr.is refl) (get_or c.args.m.now.words i.c 0) _
+    (not-false _ (sym c.reaches.ensures ∙ c.if-not-reaches.true)) (λ image choice kernel beside pc. rw c.requires.instr.is refl)
+    c.refuse.ensures.registers)
 
 pub returns : goal.returns
 returns g c =
-    let i = c.args.i.now in let k = c.args.kernel.now.core in let m = c.args.m.now in let honest : Type 0 = g.D.Device.medium.honest c.args.kernel.now.device in
-    load-tested honest i k m Both Tested (rw c.requires.instr.is refl) (get_or c.args.m.now.words i.c 0) c.load16.result _ (not-true _ (sym c.reaches.ensures ∙ c.if-not-reaches.false)) (λ image choice kernel beside pc. rw c.requires.instr.is refl) c.load16.ensures (rw c.requires.instr.a_is refl)
+    let i = c.args.i.now in
+    let k = c.args.kernel.now.core in
+    let m = c.args.m.now in
+    let honest : Type 0 = g.D.Device.medium.honest c.args.kernel.now.device in
+    load-tested honest i k m Both Tested (rw c.requires.instr.is refl) (get_or c.args.m.now.words i.c 0) c.load16.result _
+    (not-true _ (sym c.reaches.ensures ∙ c.if-not-reaches.false)) (λ image choice kernel beside pc. rw c.requires.instr.is refl)
+    c.load16.ensures (rw c.requires.instr.a_is refl)

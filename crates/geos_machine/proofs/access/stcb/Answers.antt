@@ -7,15 +7,29 @@ use Rattle.geos_machine.proofs.access.stcb.Goals as goal
 
 pub store8-requires-clause-stands : goal.store8-requires-clause-stands
 store8-requires-clause-stands g c =
-    let i = c.args.i.now in let k = c.args.kernel.now.core in let m = c.args.m.now in let honest : Type 0 = g.D.Device.medium.honest c.args.kernel.now.device in
+    let i = c.args.i.now in
+    let k = c.args.kernel.now.core in
+    let m = c.args.m.now in
+    let honest : Type 0 = g.D.Device.medium.honest c.args.kernel.now.device in
     store-writable honest i k k m Byte Tested (rw c.requires.instr.is refl) c.requires.ready
 
 pub returns-then-not-reaches-clause-works : goal.returns-then-not-reaches-clause-works
 returns-then-not-reaches-clause-works g c =
-    let i = c.args.i.now in let k = c.args.kernel.now.core in let m = c.args.m.now in let honest : Type 0 = g.D.Device.medium.honest c.args.kernel.now.device in
-    rw c.refuse.ensures.goes (store-past honest i k k m Byte Tested (rw c.requires.instr.is refl) (get_or c.args.m.now.words i.c 0) _ (not-false _ (sym c.reaches.ensures ∙ c.if-not-reaches.true)) (λ image choice kernel beside pc. rw c.requires.instr.is refl) c.refuse.ensures.registers)
+    let i = c.args.i.now in
+    let k = c.args.kernel.now.core in
+    let m = c.args.m.now in
+    let honest : Type 0 = g.D.Device.medium.honest c.args.kernel.now.device in
+    rw c.refuse.ensures.goes (store-past honest i k k m Byte Tested (rw c.requires.instr.is refl)
+    (get_or c.args.m.now.words i.c 0) _ (not-false _ (sym c.reaches.ensures ∙ c.if-not-reaches.true))
+    (λ image choice kernel beside pc. rw c.requires.instr.is refl) c.refuse.ensures.registers)
 
 pub returns-clause-works : goal.returns-clause-works
 returns-clause-works g c =
-    let i = c.args.i.now in let k = c.args.kernel.now.core in let m = c.args.m.now in let honest : Type 0 = g.D.Device.medium.honest c.args.kernel.now.device in
-    store-tested honest i k c.store8.new.self.core m Byte Tested (rw c.requires.instr.is refl) (get_or c.args.m.now.words i.c 0) (c.low_byte.result ∷ []) (ap (λ b. b ∷ []) (c.low_byte.ensures ∙ rw c.requires.instr.a_is refl)) (not-true _ (sym c.reaches.ensures ∙ c.if-not-reaches.false)) (λ image choice kernel beside pc. rw c.requires.instr.is refl) c.store8.ensures.row
+    let i = c.args.i.now in
+    let k = c.args.kernel.now.core in
+    let m = c.args.m.now in
+    let honest : Type 0 = g.D.Device.medium.honest c.args.kernel.now.device in
+    store-tested honest i k c.store8.new.self.core m Byte Tested (rw c.requires.instr.is refl) (get_or c.args.m.now.words i.c 0)
+    (c.low_byte.result ∷ []) (ap (λ b. b ∷ []) (c.low_byte.ensures ∙ rw c.requires.instr.a_is refl))
+    (not-true _ (sym c.reaches.ensures ∙ c.if-not-reaches.false)) (λ image choice kernel beside pc. rw c.requires.instr.is refl)
+    c.store8.ensures.row

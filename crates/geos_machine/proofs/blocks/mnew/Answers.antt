@@ -10,12 +10,15 @@ pub returns-in-Ok-clause-works : goal.returns-in-Ok-clause-works
 returns-in-Ok-clause-works g c =
     let i = c.args.i.now in
     let honest : Type 0 = g.D.Device.medium.honest c.args.kernel.now.device in
-    slot-locked-into honest i c.args.kernel.now.core c.mnew.new.self.core c.args.m.now _ mnew (λ h t. holding MemBlock i.a h (with_word i.b h t)) c.in-Ok.h (record { kind = MemBlock; handle = c.in-Ok.h; borrowed = false }) c.in-Ok.ensures.calls (λ choice memory. refl) (λ image choice beside pc. rw c.requires.instr.is refl) (λ beside pc. refl)
+    slot-locked-into honest i c.args.kernel.now.core c.mnew.new.self.core c.args.m.now _ mnew
+    (λ h t. holding MemBlock i.a h (with_word i.b h t)) c.in-Ok.h (record { kind = MemBlock; handle = c.in-Ok.h; borrowed = false })
+    c.in-Ok.ensures.calls (λ choice memory. refl) (λ image choice beside pc. rw c.requires.instr.is refl) (λ beside pc. refl)
     (rw (c.requires.instr.a_is, c.mem.ensures) refl) refl
 
 pub returns-in-Err-clause-works : goal.returns-in-Err-clause-works
 returns-in-Err-clause-works g c =
     let i = c.args.i.now in
     let honest : Type 0 = g.D.Device.medium.honest c.args.kernel.now.device in
-    rw c.refuse.ensures.goes (call-refused honest i c.args.kernel.now.core c.mnew.new.self.core c.args.m.now _ mnew (λ h t. holding MemBlock i.a h (with_word i.b h t)) (λ choice memory. tt) (λ image choice beside pc. rw c.requires.instr.is refl)
+    rw c.refuse.ensures.goes (call-refused honest i c.args.kernel.now.core c.mnew.new.self.core c.args.m.now _ mnew
+    (λ h t. holding MemBlock i.a h (with_word i.b h t)) (λ choice memory. tt) (λ image choice beside pc. rw c.requires.instr.is refl)
     c.in-Err.refusal c.in-Err.ensures.calls c.refuse.ensures.registers)

@@ -12,21 +12,25 @@ pub change-requires-clause-locked : goal.change-requires-clause-locked
 change-requires-clause-locked g c =
     let i = c.args.i.now in
     let honest : Type 0 = g.D.Device.medium.honest c.args.kernel.now.device in
-    rw c.requires.a (slot-locked honest i c.args.kernel.now.core c.args.m.now (mem 0) c.requires.ready (λ beside pc safe. change-held i _ safe c.requires.changes))
+    rw c.requires.a (slot-locked honest i c.args.kernel.now.core c.args.m.now (mem 0) c.requires.ready
+    (λ beside pc safe. change-held i _ safe c.requires.changes))
 
 pub change-requires-clause-marked : goal.change-requires-clause-marked
 change-requires-clause-marked g c =
     let i = c.args.i.now in
     let honest : Type 0 = g.D.Device.medium.honest c.args.kernel.now.device in
-    rw c.requires.a (slot-may-change honest i c.args.kernel.now.core c.args.m.now (mem 0) c.requires.ready (λ beside pc safe. change-marked i _ safe c.requires.changes))
+    rw c.requires.a (slot-may-change honest i c.args.kernel.now.core c.args.m.now (mem 0) c.requires.ready
+    (λ beside pc safe. change-marked i _ safe c.requires.changes))
 
 pub returns-in-Ok-clause-works : goal.returns-in-Ok-clause-works
 returns-in-Ok-clause-works g c =
     let i = c.args.i.now in
     let honest : Type 0 = g.D.Device.medium.honest c.args.kernel.now.device in
     let change = c.change_at-change.result in
-    slot-done honest i c.args.kernel.now.core c.change.new.self.core c.args.m.now _ (mem 0) (λ name. change_row name change) nowhere (λ name choice memory. subst IsPlain (sym (change-shape name change memory choice).1) tt)
-    (λ beside pc safe. change-held i _ safe c.requires.changes) (λ image choice beside pc. c.change_at-change.ensures.chunks c.requires.changes image choice c.args.kernel.now.core beside pc) tt
+    slot-done honest i c.args.kernel.now.core c.change.new.self.core c.args.m.now _ (mem 0) (λ name. change_row name change)
+    nowhere (λ name choice memory. subst IsPlain (sym (change-shape name change memory choice).1) tt)
+    (λ beside pc safe. change-held i _ safe c.requires.changes)
+    (λ image choice beside pc. c.change_at-change.ensures.chunks c.requires.changes image choice c.args.kernel.now.core beside pc) tt
     (rw c.requires.a at c.in-Ok.ensures.calls) (λ beside pc. refl) refl refl
 
 pub returns-in-Err-clause-works : goal.returns-in-Err-clause-works
@@ -34,6 +38,8 @@ returns-in-Err-clause-works g c =
     let i = c.args.i.now in
     let honest : Type 0 = g.D.Device.medium.honest c.args.kernel.now.device in
     let change = c.change_at-change.result in
-    rw c.refuse.ensures.goes (slot-refused honest i c.args.kernel.now.core c.change.new.self.core c.args.m.now _ (mem 0) (λ name. change_row name change) nowhere (λ name choice memory. subst IsPlain (sym (change-shape name change memory choice).1) tt)
-    (λ beside pc safe. change-held i _ safe c.requires.changes) (λ image choice beside pc. c.change_at-change.ensures.chunks c.requires.changes image choice c.args.kernel.now.core beside pc) c.in-Err.refusal
+    rw c.refuse.ensures.goes (slot-refused honest i c.args.kernel.now.core c.change.new.self.core c.args.m.now _
+    (mem 0) (λ name. change_row name change) nowhere (λ name choice memory. subst IsPlain (sym (change-shape name change memory choice).1) tt)
+    (λ beside pc safe. change-held i _ safe c.requires.changes)
+    (λ image choice beside pc. c.change_at-change.ensures.chunks c.requires.changes image choice c.args.kernel.now.core beside pc) c.in-Err.refusal
     (rw c.requires.a at c.in-Err.ensures.calls) c.refuse.ensures.registers)

@@ -12,18 +12,26 @@ pub deref-requires : goal.deref-requires
 deref-requires g c =
     let i = c.args.i.now in
     let honest : Type 0 = g.D.Device.medium.honest c.args.kernel.now.device in
-    rw c.index_a-a.ensures (slot-locked honest i c.args.kernel.now.core c.args.m.now (mem 0) c.requires.ready (λ beside pc safe. looks-held i _ (uses_of Deref) (rw c.requires.instr.is refl) (λ t. refl) safe))
+    rw c.index_a-a.ensures (slot-locked honest i c.args.kernel.now.core c.args.m.now (mem 0) c.requires.ready
+    (λ beside pc safe. looks-held i _ (uses_of Deref) (rw c.requires.instr.is refl) (λ t. refl) safe))
 
 pub returns-in-Ok : goal.returns-in-Ok
 returns-in-Ok g c =
     let i = c.args.i.now in
     let honest : Type 0 = g.D.Device.medium.honest c.args.kernel.now.device in
-    rw c.index_b-b.ensures (on-further honest i c.args.kernel.now.core c.args.kernel.now.core c.args.m.now _ (pointer-set honest i c.args.kernel.now.core c.args.m.now _ (mem 0) (λ name. deref name (get_or c.args.m.now.words i.c 0) i.imm) (λ name choice memory. refl)
-    (λ beside pc safe. looks-held i _ (uses_of Deref) (rw c.requires.instr.is refl) (λ t. refl) safe) (λ image choice beside pc. rw c.requires.instr.is refl) c.in-Ok.field-0 (rw (c.index_a-a.ensures, c.index_c-c.ensures) at c.in-Ok.ensures.gives) refl))
+    rw c.index_b-b.ensures (on-further honest i c.args.kernel.now.core c.args.kernel.now.core c.args.m.now _
+    (pointer-set honest i c.args.kernel.now.core c.args.m.now _ (mem 0) (λ name. deref name (get_or c.args.m.now.words i.c 0) i.imm)
+    (λ name choice memory. refl)
+    (λ beside pc safe. looks-held i _ (uses_of Deref) (rw c.requires.instr.is refl) (λ t. refl) safe)
+    (λ image choice beside pc. rw c.requires.instr.is refl) c.in-Ok.field-0
+    (rw (c.index_a-a.ensures, c.index_c-c.ensures) at c.in-Ok.ensures.gives) refl))
 
 pub returns-in-Err : goal.returns-in-Err
 returns-in-Err g c =
     let i = c.args.i.now in
     let honest : Type 0 = g.D.Device.medium.honest c.args.kernel.now.device in
-    rw c.refuse.ensures.goes (pointer-refused honest i c.args.kernel.now.core c.args.m.now _ (mem 0) (λ name. deref name (get_or c.args.m.now.words i.c 0) i.imm) (λ name choice memory. refl)
-    (λ beside pc safe. looks-held i _ (uses_of Deref) (rw c.requires.instr.is refl) (λ t. refl) safe) (λ image choice beside pc. rw c.requires.instr.is refl) c.in-Err.refusal (rw (c.index_a-a.ensures, c.index_c-c.ensures) at c.in-Err.ensures.gives) c.refuse.ensures.registers)
+    rw c.refuse.ensures.goes (pointer-refused honest i c.args.kernel.now.core c.args.m.now _ (mem 0)
+    (λ name. deref name (get_or c.args.m.now.words i.c 0) i.imm) (λ name choice memory. refl)
+    (λ beside pc safe. looks-held i _ (uses_of Deref) (rw c.requires.instr.is refl) (λ t. refl) safe)
+    (λ image choice beside pc. rw c.requires.instr.is refl) c.in-Err.refusal
+    (rw (c.index_a-a.ensures, c.index_c-c.ensures) at c.in-Err.ensures.gives) c.refuse.ensures.registers)

@@ -6,9 +6,11 @@ use Rattle.geos_machine.proofs.files.settle.Goals as goal
 pub returns-in-Ok-clause-works : goal.returns-in-Ok-clause-works
 returns-in-Ok-clause-works g c =
     let honest : Type 0 = g.D.Device.medium.honest c.args.kernel.now.device in
-    answered-done honest c.args.i.now c.args.kernel.now.core c.carry_out.new.kernel.core c.args.m.now _ nowhere tt c.in-Ok.ensures.answers (λ beside pc. refl) refl refl
+    answered-done honest c.args.i.now c.args.kernel.now.core c.carry_out.new.kernel.core c.args.m.now _ nowhere tt
+    c.in-Ok.ensures.answers (λ beside pc. refl) refl refl
 
 pub returns-in-Err-clause-works : goal.returns-in-Err-clause-works
 returns-in-Err-clause-works g c =
     let honest : Type 0 = g.D.Device.medium.honest c.args.kernel.now.device in
-    rw c.refuse.ensures.goes (answered-refused honest c.args.i.now c.args.kernel.now.core c.carry_out.new.kernel.core c.args.m.now _ nowhere c.in-Err.refusal c.in-Err.ensures.answers c.refuse.ensures.registers)
+    rw c.refuse.ensures.goes (answered-refused honest c.args.i.now c.args.kernel.now.core c.carry_out.new.kernel.core
+    c.args.m.now _ nowhere c.in-Err.refusal c.in-Err.ensures.answers c.refuse.ensures.registers)

@@ -14,7 +14,8 @@ edge-is i true = refl
 edge-is i false = refl
 
 -- an edge that a place has is one that the image has
-edge-of : (image : Parts) (pc : ℕ) (branch : Bool) → pc < length image.points → at_place image pc (λ place. has_edge place.instr branch) ≡ true → HasEdge image pc branch
+edge-of : (image : Parts) (pc : ℕ) (branch : Bool) → pc < length image.points → at_place image pc (λ place. has_edge place.instr branch) ≡ true
+    → HasEdge image pc branch
 edge-of image pc branch lt has =
     let found = item_at image.points pc lt in
     let there = place-at image pc found.0 found.1 in
@@ -30,4 +31,5 @@ after-requires-clause-there c =
 pub after-requires-clause-edge : goal.after-requires-clause-edge
 after-requires-clause-edge c =
     let image = c.args.self.now in
-    subst (λ (p : Parts). HasEdge p c.args.pc c.args.branch) (sym c.self.view_is) (edge-of image c.args.pc c.args.branch (omega (arith, c.requires.there, places-length image)) c.requires.edge)
+    subst (λ (p : Parts). HasEdge p c.args.pc c.args.branch) (sym c.self.view_is)
+    (edge-of image c.args.pc c.args.branch (omega (arith, c.requires.there, places-length image)) c.requires.edge)

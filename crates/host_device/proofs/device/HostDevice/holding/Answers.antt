@@ -7,6 +7,7 @@ use Rattle.host_device.proofs.device.HostDevice.holding.Goals as goal
 
 pub returns-clause-bytes : goal.returns-clause-bytes
 returns-clause-bytes c =
-    let zeros = bytes_of c.in_ok-device.device in let bs = c.args.bytes.now in
+    let zeros = bytes_of c.in_ok-device.device in
+    let bs = c.args.bytes.now in
     let long : length bs ≡ length zeros = sym (ap length c.in_ok-device.ensures.bytes ∙ length-replicate (length bs) 0) in
     c.in-Ok.ensures.written ∙ with_whole zeros bs long

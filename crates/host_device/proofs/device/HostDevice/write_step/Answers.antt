@@ -5,7 +5,9 @@ use Rattle.host_device.proofs.device.HostDevice.write_step.Goals as goal
 
 pub returns : goal.returns
 returns c =
-    let at = c.args.at in let n = length c.args.bytes.now in let all = c.as_slice-all.result.now in
+    let at = c.args.at in
+    let n = length c.args.bytes.now in
+    let all = c.as_slice-all.result.now in
     let stood : c.in_ok-stood.stood.items ≡ take (at + n - at) (drop at all) = search rules in
     let same : at + n - at ≡ n = omega arith in
     record {
