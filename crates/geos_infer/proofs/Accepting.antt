@@ -58,18 +58,22 @@ or-true false = refl
 spent-zero : (a b c d : Bool) → all2 (λ is_touched k. not is_touched || k == 0) (a ∷ b ∷ c ∷ d ∷ []) zeros ≡ true
 spent-zero a b c d = rw (or-true (not a), or-true (not b), or-true (not c), or-true (not d)) refl
 
-calling-zero : (budget m n : ℕ) (a b c d : Bool) → n + 1 + budget ≤ m → pays_calling budget (a ∷ b ∷ c ∷ d ∷ []) (potential_of m) (potential_of n) ≡ true
+calling-zero : (budget m n : ℕ) (a b c d : Bool) → n + 1 + budget ≤ m → pays_calling budget (a ∷ b ∷ c ∷ d ∷ [])
+    (potential_of m) (potential_of n) ≡ true
 calling-zero budget m n a b c d h =
-    both (nat_le (n + 1 + budget) m && true) (all2 (λ is_touched k. not is_touched || k == 0) (a ∷ b ∷ c ∷ d ∷ []) zeros) (both (nat_le (n + 1 + budget) m) true (le-leb (n + 1 + budget) m h) refl) (spent-zero a b c d)
+    both (nat_le (n + 1 + budget) m && true) (all2 (λ is_touched k. not is_touched || k == 0) (a ∷ b ∷ c ∷ d ∷ []) zeros)
+    (both (nat_le (n + 1 + budget) m) true (le-leb (n + 1 + budget) m h) refl) (spent-zero a b c d)
 
 without-call : (m n : ℕ) → n + 1 + 0 ≤ m → n + 1 ≤ m
 without-call m n h = omega arith
 
-along-zero : (image : Parts) (i : Instr) (opcode : Opcode) (row : Row) (m n : ℕ) → n + 1 + called image i opcode ≤ m → pays_along image i opcode row (potential_of m) (potential_of n) ≡ true
+along-zero : (image : Parts) (i : Instr) (opcode : Opcode) (row : Row) (m n : ℕ) → n + 1 + called image i opcode ≤ m
+    → pays_along image i opcode row (potential_of m) (potential_of n) ≡ true
 along-zero image i Setk row m n h = setting-zero i.a i.imm m n (omega arith)
 along-zero image i Setkw row m n h = setting-zero i.a (bound row i.b) m n (omega arith)
 along-zero image i Loop row m n h = setting-zero i.a 0 m n (omega arith)
-along-zero image i Call row m n h = calling-zero (budget_of image i.imm) m n (touches image 0 i.imm) (touches image 1 i.imm) (touches image 2 i.imm) (touches image 3 i.imm) h
+along-zero image i Call row m n h = calling-zero (budget_of image i.imm) m n (touches image 0 i.imm) (touches image 1 i.imm)
+    (touches image 2 i.imm) (touches image 3 i.imm) h
 along-zero image i _ row m n h = pays-zero m n (without-call m n h)
 
 branching-zero : (i : Instr) (opcode : Opcode) (m n : ℕ) → n + 1 ≤ m → pays_branching i opcode (potential_of m) (potential_of n) ≡ true
@@ -89,22 +93,29 @@ pub record Beside (found : Parts) (routine : Routine) (start pc : ℕ) (i : Inst
       → (fits (row_branching i i.opcode row) next.row ≡ true) × ((n : ℕ) × (next.potential ≡ potential_of n) × (n + 1 + call_steps found i ≤ steps))
   pub return : returns i.opcode ≡ true → 1 ≤ steps
 
-pub at-point-true : (image : Parts) (pc : ℕ) (test : Point → Bool) (o : Option Point) → slice_get image.points pc ≡ o → ((point : Point) → slice_get image.points pc ≡ Some point → test point ≡ true) → at_point image pc test ≡ true
+pub at-point-true : (image : Parts) (pc : ℕ) (test : Point → Bool) (o : Option Point) → slice_get image.points pc ≡ o
+    → ((point : Point) → slice_get image.points pc ≡ Some point → test point ≡ true) → at_point image pc test ≡ true
 at-point-true image pc test None e h = rw (e, at_point) refl
 at-point-true image pc test (Some point) e h = rw (e, at_point) (h point e)
 
-pub at-place-true : (image : Parts) (pc : ℕ) (test : Place → Bool) (o : Option Place) → slice_get (places image) pc ≡ o → ((place : Place) → slice_get (places image) pc ≡ Some place → test place ≡ true) → at_place image pc test ≡ true
+pub at-place-true : (image : Parts) (pc : ℕ) (test : Place → Bool) (o : Option Place) → slice_get (places image) pc ≡ o
+    → ((place : Place) → slice_get (places image) pc ≡ Some place → test place ≡ true) → at_place image pc test ≡ true
 at-place-true image pc test None e h = rw (e, at_place) refl
 at-place-true image pc test (Some place) e h = rw (e, at_place) (h place e)
 
 -- the rule on calls reads no more of an image than its routines
-same-call : (image other : Parts) → other.routines ≡ image.routines → (r : ℕ) (i : Instr) (row : Row) → call_misfits other r i row ≡ call_misfits image r i row
+same-call : (image other : Parts) → other.routines ≡ image.routines → (r : ℕ) (i : Instr) (row : Row)
+    → call_misfits other r i row ≡ call_misfits image r i row
 unfolding call_misfits
 same-call image other same r i row =
-    ap (λ (routines : List Routine). calls i.opcode && (not (nat_lt i.imm r) || not (elim (slice_get routines i.imm) [ None ↦ true | Some routine ↦ fits row routine.entry ]))) same
+    ap (λ (routines : List Routine). calls i.opcode &&
+    (not (nat_lt i.imm r) || not (elim (slice_get routines i.imm) [ None ↦ true | Some routine ↦ fits row routine.entry ]))) same
 
-pub accepts : (o found : Parts) → o.routines ≡ found.routines → (r : ℕ) (routine : Routine) (start pc : ℕ) (i : Instr) (row wanted : Row) (steps : ℕ) (potential : Potential) → steps ≤ potential.constant
-    → refusal o r routine start pc (record { instr = i; row = wanted; potential = potential }) ≡ None → Beside found routine start pc i row wanted steps → refusal found r routine start pc (record { instr = i; row = row; potential = potential_of steps }) ≡ None
+pub accepts : (o found : Parts) → o.routines ≡ found.routines → (r : ℕ) (routine : Routine) (start pc : ℕ) (i : Instr)
+    (row wanted : Row) (steps : ℕ) (potential : Potential) → steps ≤ potential.constant
+    → refusal o r routine start pc (record { instr = i; row = wanted; potential = potential }) ≡ None
+    → Beside found routine start pc i row wanted steps
+    → refusal found r routine start pc (record { instr = i; row = row; potential = potential_of steps }) ≡ None
 unfolding leaves_routine entry_misfits misfits_at edge_misfits unpaid_along unpaid_branching edge_unpaid over_budget
 accepts o found same r routine start pc i row wanted steps potential le accepted B =
     let all = none-refuses o r routine start pc (record { instr = i; row = wanted; potential = potential }) accepted in
@@ -122,32 +133,52 @@ accepts o found same r routine start pc i row wanted steps potential le accepted
     let call = sym (same-call found o same r i row) ∙ here.call in
     all-pass (tests found r routine start pc (record { instr = i; row = row; potential = potential_of steps })) (
       all.stays,
-      (B.clean, (entry all.entry, (here.fresh, (here.within, (here.marked, (here.unheld, (here.held, (here.freed, (call, (here.exit, (edges, (paid, (budget all.budget, tt))))))))))))),
+      (
+        B.clean,
+        (
+          entry all.entry,
+          (
+            here.fresh,
+            (
+              here.within,
+              (here.marked, (here.unheld, (here.held, (here.freed, (call, (here.exit, (edges, (paid, (budget all.budget, tt))))))))),
+            ),
+          ),
+        ),
+      ),
     )
   where
     entry : entry_misfits routine start pc wanted ≡ false → entry_misfits routine start pc row ≡ false
     entry h = not-both (pc == start) _ (λ at.
-        let other = second-false (pc == start) (not (fits routine.entry wanted) || (routine.public && not (may_enter routine.entry && may_leave routine.entry routine.exit))) h at in
-        let parts = or_parts (not (fits routine.entry wanted)) (routine.public && not (may_enter routine.entry && may_leave routine.entry routine.exit)) other in
-        neither (not (fits routine.entry row)) (routine.public && not (may_enter routine.entry && may_leave routine.entry routine.exit)) (true-not (fits routine.entry row) (B.entry (eqb-true pc start at))) parts.1)
+        let other = second-false (pc == start)
+        (not (fits routine.entry wanted) || (routine.public && not (may_enter routine.entry && may_leave routine.entry routine.exit))) h at in
+        let parts = or_parts (not (fits routine.entry wanted))
+        (routine.public && not (may_enter routine.entry && may_leave routine.entry routine.exit)) other in
+        neither (not (fits routine.entry row)) (routine.public && not (may_enter routine.entry && may_leave routine.entry routine.exit))
+        (true-not (fits routine.entry row) (B.entry (eqb-true pc start at))) parts.1)
 
     edges : edge_misfits found pc i row ≡ false
-    edges = neither (falls_through i.opcode && misfits_at found (pc + 1) (row_along found i i.opcode row)) (branches i.opcode && misfits_at found i.target (row_branching i i.opcode row))
+    edges = neither (falls_through i.opcode && misfits_at found (pc + 1) (row_along found i i.opcode row))
+        (branches i.opcode && misfits_at found i.target (row_branching i i.opcode row))
         (not-both (falls_through i.opcode) (misfits_at found (pc + 1) (row_along found i i.opcode row)) (λ falls.
         true-not (at_place found (pc + 1) (λ next. fits (row_along found i i.opcode row) next.row))
-        (at-place-true found (pc + 1) (λ next. fits (row_along found i i.opcode row) next.row) (slice_get (places found) (pc + 1)) refl (λ next e. (B.along next falls e).0))))
+        (at-place-true found (pc + 1) (λ next. fits (row_along found i i.opcode row) next.row)
+        (slice_get (places found) (pc + 1)) refl (λ next e. (B.along next falls e).0))))
         (not-both (branches i.opcode) (misfits_at found i.target (row_branching i i.opcode row)) (λ goes.
         true-not (at_place found i.target (λ next. fits (row_branching i i.opcode row) next.row))
-        (at-place-true found i.target (λ next. fits (row_branching i i.opcode row) next.row) (slice_get (places found) i.target) refl (λ next e. (B.branch next goes e).0))))
+        (at-place-true found i.target (λ next. fits (row_branching i i.opcode row) next.row) (slice_get (places found) i.target)
+        refl (λ next e. (B.branch next goes e).0))))
 
-    paid-along : (next : Point) → falls_through i.opcode ≡ true → slice_get found.points (pc + 1) ≡ Some next → pays_along found i i.opcode row (potential_of steps) next.potential ≡ true
+    paid-along : (next : Point) → falls_through i.opcode ≡ true → slice_get found.points (pc + 1) ≡ Some next
+        → pays_along found i i.opcode row (potential_of steps) next.potential ≡ true
     paid-along next falls e =
         let there = place-at found (pc + 1) next e in
         let next_pays = (B.along there.0 falls there.1).1 in
         let P : Potential → Type 0 = λ q. pays_along found i i.opcode row (potential_of steps) q ≡ true in
         subst P (sym next_pays.1 ∙ there.2.potential) (along-zero found i i.opcode row steps next_pays.0 next_pays.2)
 
-    paid-branching : (next : Point) → branches i.opcode ≡ true → slice_get found.points i.target ≡ Some next → pays_branching i i.opcode (potential_of steps) next.potential ≡ true
+    paid-branching : (next : Point) → branches i.opcode ≡ true → slice_get found.points i.target ≡ Some next
+        → pays_branching i i.opcode (potential_of steps) next.potential ≡ true
     paid-branching next goes e =
         let there = place-at found i.target next e in
         let next_pays = (B.branch there.0 goes there.1).1 in
@@ -162,14 +193,18 @@ accepts o found same r routine start pc i row wanted steps potential le accepted
         by_test false e = e
 
     paid : edge_unpaid found pc i row (potential_of steps) ≡ false
-    paid = neither ((falls_through i.opcode && unpaid_along found pc i row (potential_of steps)) || (branches i.opcode && unpaid_branching found i (potential_of steps))) (returns i.opcode && steps == 0)
-        (neither (falls_through i.opcode && unpaid_along found pc i row (potential_of steps)) (branches i.opcode && unpaid_branching found i (potential_of steps))
+    paid = neither ((falls_through i.opcode && unpaid_along found pc i row (potential_of steps)) ||
+        (branches i.opcode && unpaid_branching found i (potential_of steps))) (returns i.opcode && steps == 0)
+        (neither (falls_through i.opcode && unpaid_along found pc i row (potential_of steps))
+        (branches i.opcode && unpaid_branching found i (potential_of steps))
         (not-both (falls_through i.opcode) (unpaid_along found pc i row (potential_of steps)) (λ falls.
         true-not (at_point found (pc + 1) (λ next. pays_along found i i.opcode row (potential_of steps) next.potential))
-        (at-point-true found (pc + 1) (λ next. pays_along found i i.opcode row (potential_of steps) next.potential) (slice_get found.points (pc + 1)) refl (λ next e. paid-along next falls e))))
+        (at-point-true found (pc + 1) (λ next. pays_along found i i.opcode row (potential_of steps) next.potential)
+        (slice_get found.points (pc + 1)) refl (λ next e. paid-along next falls e))))
         (not-both (branches i.opcode) (unpaid_branching found i (potential_of steps)) (λ goes.
         true-not (at_point found i.target (λ next. pays_branching i i.opcode (potential_of steps) next.potential))
-        (at-point-true found i.target (λ next. pays_branching i i.opcode (potential_of steps) next.potential) (slice_get found.points i.target) refl (λ next e. paid-branching next goes e)))))
+        (at-point-true found i.target (λ next. pays_branching i i.opcode (potential_of steps) next.potential)
+        (slice_get found.points i.target) refl (λ next e. paid-branching next goes e)))))
         (not-both (returns i.opcode) (steps == 0) (λ is. some-steps steps (B.return is)))
 
     budget : over_budget routine start pc potential ≡ false → over_budget routine start pc (potential_of steps) ≡ false
@@ -177,4 +212,5 @@ accepts o found same r routine start pc i row wanted steps potential le accepted
         let within = not-false (is_within routine.budget potential) (second-false (pc == start) (not (is_within routine.budget potential)) h at) in
         let parts = and_parts (nat_le potential.constant routine.budget) (not (list_any (λ k. nat_lt 0 k) potential.coefficients)) within in
         let most = leb-true potential.constant routine.budget parts.0 in
-        true-not (is_within routine.budget (potential_of steps)) (both (nat_le steps routine.budget) true (le-leb steps routine.budget (omega arith)) refl))
+        true-not (is_within routine.budget (potential_of steps))
+        (both (nat_le steps routine.budget) true (le-leb steps routine.budget (omega arith)) refl))

@@ -73,7 +73,8 @@ alike-sym r s h = alike-both s r s (alike-refl s) h
 
 -- After an instruction
 
-slots-after : (i : Instr) (slot : SlotUse) (xs ys : List SlotState) → all2 slots_agree xs ys ≡ true → all2 slots_agree (slots_after i slot xs) (slots_after i slot ys) ≡ true
+slots-after : (i : Instr) (slot : SlotUse) (xs ys : List SlotState) → all2 slots_agree xs ys ≡ true
+    → all2 slots_agree (slots_after i slot xs) (slots_after i slot ys) ≡ true
 slots-after i (LocksNew kind) xs ys h = let state = held_state kind true in all2-set slots_agree xs ys i.a state state h (slot-alike state)
 slots-after i (Locks kind) xs ys h = let state = held_state kind false in all2-set slots_agree xs ys i.a state state h (slot-alike state)
 slots-after i (Unlocks kind) xs ys h = all2-set slots_agree xs ys i.a Empty Empty h refl
@@ -92,27 +93,33 @@ module _ (i : Instr) (r s : Row) (h : agree r s ≡ true) where
   result-alike opcode Computed = computed-alike opcode
   result-alike opcode _ = h
 
-exit-alike : (image : Parts) (callee : ℕ) (r s : Row) (o : Option Routine) → slice_get image.routines callee ≡ o → agree r s ≡ true → agree (exit_row image callee r) (exit_row image callee s) ≡ true
+exit-alike : (image : Parts) (callee : ℕ) (r s : Row) (o : Option Routine) → slice_get image.routines callee ≡ o
+    → agree r s ≡ true → agree (exit_row image callee r) (exit_row image callee s) ≡ true
 exit-alike image callee r s None e h = rw (e, exit_row) h
 exit-alike image callee r s (Some routine) e h = rw (e, exit_row) (alike-refl routine.exit)
 
-along-alike : (image : Parts) (i : Instr) (opcode : Opcode) (r s : Row) → agree r s ≡ true → agree (row_along image i opcode r) (row_along image i opcode s) ≡ true
+along-alike : (image : Parts) (i : Instr) (opcode : Opcode) (r s : Row) → agree r s ≡ true
+    → agree (row_along image i opcode r) (row_along image i opcode s) ≡ true
 along-alike image i opcode r s h = by_test (calls opcode) refl
   where
     by_test : (b : Bool) → calls opcode ≡ b → agree (row_along image i opcode r) (row_along image i opcode s) ≡ true
     by_test true e = rw (is-call opcode e) (exit-alike image i.imm r s (slice_get image.routines i.imm) refl h)
     by_test false e =
         let no_call : opcode ≡ op.Call → ⊥ = (λ same. absurd (called same e)) in
-        rw (row_along-used image i opcode r no_call, row_along-used image i opcode s no_call) (slots-after i (uses_of opcode).slot (bounded i opcode r).slots (bounded i opcode s).slots (result-alike i r s h opcode (facts opcode).yields))
+        rw (row_along-used image i opcode r no_call, row_along-used image i opcode s no_call)
+        (slots-after i (uses_of opcode).slot (bounded i opcode r).slots (bounded i opcode s).slots
+        (result-alike i r s h opcode (facts opcode).yields))
       where
         called : opcode ≡ op.Call → calls opcode ≡ false → ⊥
         called same e = (let at_call : calls op.Call ≡ false = rw same at e in absurd cc)
 
-branch-alike : (i : Instr) (refusable : Bool) (slot : SlotUse) (r s : Row) → agree r s ≡ true → agree (if refusable then refused i slot r else r) (if refusable then refused i slot s else s) ≡ true
+branch-alike : (i : Instr) (refusable : Bool) (slot : SlotUse) (r s : Row) → agree r s ≡ true
+    → agree (if refusable then refused i slot r else r) (if refusable then refused i slot s else s) ≡ true
 branch-alike i true slot r s h = h
 branch-alike i false slot r s h = h
 
-pub after-alike : (image : Parts) (pc : ℕ) (branch : Bool) (r s : Row) (o : Option Point) → slice_get image.points pc ≡ o → agree r s ≡ true → agree (after image pc r branch) (after image pc s branch) ≡ true
+pub after-alike : (image : Parts) (pc : ℕ) (branch : Bool) (r s : Row) (o : Option Point) → slice_get image.points pc ≡ o
+    → agree r s ≡ true → agree (after image pc r branch) (after image pc s branch) ≡ true
 after-alike image pc branch r s None e h = rw (e, after) h
 after-alike image pc true r s (Some point) e h =
     let i = point.instr in

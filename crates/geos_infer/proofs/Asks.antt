@@ -57,14 +57,16 @@ asks-set k n q e =
 abbrev pub called : Parts → Instr → Opcode → ℕ
 called image i opcode = if calls opcode then budget_of image i.imm else 0
 
-asks-along : (image : Parts) (i : Instr) (opcode : Opcode) (row : Row) (q : Potential) → q.coefficients ≡ zeros → AsksFor (q.constant + 1 + called image i opcode) (Some (asked_along image i opcode row q))
+asks-along : (image : Parts) (i : Instr) (opcode : Opcode) (row : Row) (q : Potential) → q.coefficients ≡ zeros
+    → AsksFor (q.constant + 1 + called image i opcode) (Some (asked_along image i opcode row q))
 asks-along image i Setk row q e = asks-set i.a i.imm q e
 asks-along image i Setkw row q e = asks-set i.a (bound row i.b) q e
 asks-along image i Loop row q e = asks-set i.a 0 q e
 asks-along image i Call row q e = record { steps = refl; zero = e }
 asks-along image i _ row q e = asks-plain q e
 
-asks-branching : (image : Parts) (i : Instr) (opcode : Opcode) (q : Potential) → branches opcode ≡ true → q.coefficients ≡ zeros → AsksFor (q.constant + 1 + called image i opcode) (Some (asked_branching i opcode q))
+asks-branching : (image : Parts) (i : Instr) (opcode : Opcode) (q : Potential) → branches opcode ≡ true
+    → q.coefficients ≡ zeros → AsksFor (q.constant + 1 + called image i opcode) (Some (asked_branching i opcode q))
 asks-branching image i Loop q b e = record { steps = omega arith; zero = e }
 asks-branching image i Call q b e = absurd cc
 asks-branching image i _ q b e = asks-plain q e
@@ -85,7 +87,8 @@ edge-some limit pc i branch false edge e is =
     let none : edge_ahead limit pc i branch ≡ None = rw e refl in
     absurd (none-some edge (sym none ∙ sym is))
 
-none-ahead : (limit pc : ℕ) (i : Instr) (branch b : Bool) → leads_ahead limit pc i branch ≡ b → None ≡ edge_ahead limit pc i branch → leads_ahead limit pc i branch ≡ false
+none-ahead : (limit pc : ℕ) (i : Instr) (branch b : Bool) → leads_ahead limit pc i branch ≡ b → None ≡ edge_ahead limit pc i branch
+    → leads_ahead limit pc i branch ≡ false
 none-ahead limit pc i branch false e is = e
 none-ahead limit pc i branch true e is =
     let there : edge_ahead limit pc i branch ≡ Some (edge_of pc i branch) = rw e refl in
@@ -94,7 +97,8 @@ none-ahead limit pc i branch true e is =
 module _ (image : Parts) (limit pc : ℕ) (branch : Bool) (lt : pc < length image.points) where
   -- what is read of an edge that leads ahead
   pub read-ahead : (edge : Edge) → IfSome (slice_get image.points pc) (λ point. Some edge ≡ edge_ahead limit pc point.instr branch)
-      → (point : Point) × (slice_get image.points pc ≡ Some point) × (leads_ahead limit pc point.instr branch ≡ true) × (edge_end pc point.instr branch ≡ edge.to) × (pc < edge.to) × (has_edge point.instr branch ≡ true)
+      → (point : Point) × (slice_get image.points pc ≡ Some point) × (leads_ahead limit pc point.instr branch ≡ true)
+      × (edge_end pc point.instr branch ≡ edge.to) × (pc < edge.to) × (has_edge point.instr branch ≡ true)
   read-ahead edge h =
       let found = item_at image.points pc lt in
       let here = if_some (λ point. Some edge ≡ edge_ahead limit pc point.instr branch) (slice_get image.points pc) found.0 found.1 h in
@@ -111,8 +115,10 @@ module _ (image : Parts) (limit pc : ℕ) (branch : Bool) (lt : pc < length imag
       let P : Option Point → Type 0 = λ o. IfSome o (λ point. AsksFor (edge_steps image limit pc point.instr branch steps) None) in
       subst P (sym found.1) (record { steps = nothing; zero = refl })
 
-  pub asks-some : (edge : Edge) (asked : Asked) (i : Instr) (row : Row) (q : Potential) (numbers : Numbers) → ZerosFrom image limit (pc + 1) numbers.coefficients → edge.to < limit
-      → IfSome (slice_get image.points pc) (λ point. Some edge ≡ edge_ahead limit pc point.instr branch) → IfSome (slice_get image.points pc) (λ point. i ≡ point.instr)
+  pub asks-some : (edge : Edge) (asked : Asked) (i : Instr) (row : Row) (q : Potential) (numbers : Numbers)
+      → ZerosFrom image limit (pc + 1) numbers.coefficients → edge.to < limit
+      → IfSome (slice_get image.points pc) (λ point. Some edge ≡ edge_ahead limit pc point.instr branch)
+      → IfSome (slice_get image.points pc) (λ point. i ≡ point.instr)
       → q.constant ≡ get_or numbers.steps edge.to 0 → q.coefficients ≡ get_or numbers.coefficients edge.to []
       → asked ≡ (if branch then asked_branching i i.opcode q else asked_along image i i.opcode row q)
       → IfSome (slice_get image.points pc) (λ point. AsksFor (edge_steps image limit pc point.instr branch numbers.steps) (Some asked))
@@ -121,14 +127,18 @@ module _ (image : Parts) (limit pc : ℕ) (branch : Bool) (lt : pc < length imag
       let same : i ≡ found.0.instr = if_some (λ point. i ≡ point.instr) (slice_get image.points pc) found.0 found.1 there in
       let free : q.coefficients ≡ zeros = coefficients ∙ none.each edge.to (let later = found.4 in omega arith) within in
       let has : has_edge i branch ≡ true = ap (λ x. has_edge x branch) same ∙ found.5 in
-      let asked_is : AsksFor (q.constant + 1 + call_steps image i) (Some asked) = subst (λ (a : Asked). AsksFor (q.constant + 1 + call_steps image i) (Some a)) (sym is) (by_branch branch has free) in
-      let steps : edge_steps image limit pc found.0.instr branch numbers.steps ≡ get_or numbers.steps edge.to 0 + 1 + call_steps image found.0.instr = rw (found.2, found.3) refl in
+      let asked_is : AsksFor (q.constant + 1 + call_steps image i) (Some asked) =
+      subst (λ (a : Asked). AsksFor (q.constant + 1 + call_steps image i) (Some a)) (sym is) (by_branch branch has free) in
+      let steps : edge_steps image limit pc found.0.instr branch numbers.steps ≡ get_or numbers.steps edge.to
+      0 + 1 + call_steps image found.0.instr = rw (found.2, found.3) refl in
       let calls_it : call_steps image i ≡ call_steps image found.0.instr = ap (call_steps image) same in
-      let number : q.constant + 1 + call_steps image i ≡ edge_steps image limit pc found.0.instr branch numbers.steps = omega (arith, steps, calls_it, constant) in
+      let number : q.constant + 1 + call_steps image i ≡ edge_steps image limit pc found.0.instr branch numbers.steps =
+      omega (arith, steps, calls_it, constant) in
       let P : Option Point → Type 0 = λ o. IfSome o (λ point. AsksFor (edge_steps image limit pc point.instr branch numbers.steps) (Some asked)) in
       subst P (sym found.1) (subst (λ (n : ℕ). AsksFor n (Some asked)) number asked_is)
     where
-      by_branch : (b : Bool) → has_edge i b ≡ true → q.coefficients ≡ zeros → AsksFor (q.constant + 1 + call_steps image i) (Some (if b then asked_branching i i.opcode q else asked_along image i i.opcode row q))
+      by_branch : (b : Bool) → has_edge i b ≡ true → q.coefficients ≡ zeros
+          → AsksFor (q.constant + 1 + call_steps image i) (Some (if b then asked_branching i i.opcode q else asked_along image i i.opcode row q))
       by_branch true has free = asks-branching image i i.opcode q has free
       by_branch false has free = asks-along image i i.opcode row q free
 
@@ -142,7 +152,8 @@ no-call Call other = absurd (other refl)
 no-call _ other = refl
 
 -- there is no LOOP
-pub no-loop : (image : Parts) (r : ℕ) → ForwardIn image r → (pc : ℕ) (i : Instr) → IsPcOf image r pc → pc < length image.points → IfSome (slice_get image.points pc) (λ point. i ≡ point.instr) → i.opcode ≢ Loop
+pub no-loop : (image : Parts) (r : ℕ) → ForwardIn image r → (pc : ℕ) (i : Instr) → IsPcOf image r pc → pc < length image.points
+    → IfSome (slice_get image.points pc) (λ point. i ≡ point.instr) → i.opcode ≢ Loop
 no-loop image r forward pc i within lt there =
     let found = item_at image.points pc lt in
     let same : i ≡ found.0.instr = if_some (λ point. i ≡ point.instr) (slice_get image.points pc) found.0 found.1 there in
@@ -150,7 +161,8 @@ no-loop image r forward pc i within lt there =
 
 -- What is read at a pc
 
-module _ (image : Parts) (pc : ℕ) (i : Instr) (lt : pc < length image.points) (there : IfSome (slice_get image.points pc) (λ point. i ≡ point.instr)) where
+module _ (image : Parts) (pc : ℕ) (i : Instr) (lt : pc < length image.points)
+    (there : IfSome (slice_get image.points pc) (λ point. i ≡ point.instr)) where
   -- it passes a test there that it passes
   pub passes-at : (test : Instr → Bool) → test i ≡ true → PassesAt image pc test
   passes-at test passes =
@@ -175,7 +187,8 @@ module _ (image : Parts) (pc : ℕ) (i : Instr) (lt : pc < length image.points) 
   taken-is steps is =
       let found = item_at image.points pc lt in
       let same : i ≡ found.0.instr = if_some (λ point. i ≡ point.instr) (slice_get image.points pc) found.0 found.1 there in
-      let at : taken_at image pc ≡ 1 + call_steps image found.0.instr = ap (λ (o : Option Point). elim o [ None ↦ 0 | Some point ↦ 1 + call_steps image point.instr ]) found.1 in
+      let at : taken_at image pc ≡ 1 + call_steps image found.0.instr =
+      ap (λ (o : Option Point). elim o [ None ↦ 0 | Some point ↦ 1 + call_steps image point.instr ]) found.1 in
       is ∙ ap (λ (x : Instr). 1 + call_steps image x) same ∙ sym at
 
   pub taken-call : (routine : Routine) → i.opcode ≡ Call → slice_get image.routines i.imm ≡ Some routine → 1 + routine.budget ≡ taken_at image pc
@@ -205,18 +218,22 @@ module _ (image : Parts) (limit pc : ℕ) (steps : List ℕ) (i : Instr) (along 
       let same : i ≡ found.0.instr = if_some (λ point. i ≡ point.instr) (slice_get image.points pc) found.0 found.1 there in
       let a = if_some (λ point. AsksFor (edge_steps image limit pc point.instr false steps) along) (slice_get image.points pc) found.0 found.1 A in
       let b = if_some (λ point. AsksFor (edge_steps image limit pc point.instr true steps) branching) (slice_get image.points pc) found.0 found.1 B in
-      let free : coefficients ≡ zeros = joins ∙ ap (λ (x : List ℕ). zip2 max x (asked_coefficients branching)) a.zero ∙ ap (λ (x : List ℕ). zip2 max zeros x) b.zero in
+      let free : coefficients ≡ zeros = joins ∙ ap (λ (x : List ℕ). zip2 max x (asked_coefficients branching)) a.zero
+      ∙ ap (λ (x : List ℕ). zip2 max zeros x) b.zero in
       let returning : return_steps i ≡ return_steps found.0.instr = ap return_steps same in
       let one : first ≡ edge_steps image limit pc found.0.instr false steps = owes free ∙ a.steps in
       let two : second ≡ edge_steps image limit pc found.0.instr true steps = owes_too free ∙ b.steps in
-      let number : value ≡ steps_at image limit pc found.0.instr steps = is ∙ ap (λ n. max n (max first second)) returning ∙ ap (λ n. max (return_steps found.0.instr) (max n second)) one
+      let number : value ≡ steps_at image limit pc found.0.instr steps = is ∙ ap (λ n. max n (max first second)) returning
+      ∙ ap (λ n. max (return_steps found.0.instr) (max n second)) one
       ∙ ap (λ n. max (return_steps found.0.instr) (max (edge_steps image limit pc found.0.instr false steps) n)) two in
       (found.0, found.1, free, number)
 
-  pub found-some : (constant : ℕ) → value ≡ constant → IfSome (slice_get image.points pc) (λ point. HasSteps (steps_at image limit pc point.instr steps) (Some (record { constant = constant; coefficients = coefficients })))
+  pub found-some : (constant : ℕ) → value ≡ constant → IfSome (slice_get image.points pc)
+      (λ point. HasSteps (steps_at image limit pc point.instr steps) (Some (record { constant = constant; coefficients = coefficients })))
   found-some constant same =
       let at = at_point in
-      let P : Option Point → Type 0 = λ o. IfSome o (λ point. HasSteps (steps_at image limit pc point.instr steps) (Some (record { constant = constant; coefficients = coefficients }))) in
+      let P : Option Point → Type 0 = λ o. IfSome o (λ point. HasSteps (steps_at image limit pc point.instr steps)
+      (Some (record { constant = constant; coefficients = coefficients }))) in
       subst P (sym at.1) (sym same ∙ at.3, at.2)
 
   pub found-none : most_steps < value → IfSome (slice_get image.points pc) (λ point. HasSteps (steps_at image limit pc point.instr steps) None)

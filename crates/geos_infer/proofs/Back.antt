@@ -14,7 +14,8 @@ use Rattle.geos_infer.proofs.Bodies.{in-body}
 use Rattle.geos_infer.proofs.Ends.{code-at}
 
 -- of the edges of the instruction at a pc of a routine whose edges all lead ahead, those that stay in it are those that lead ahead
-within-ahead : (start limit pc to : ℕ) (has : Bool) → start ≤ pc → (has ≡ true → pc < to) → (has && nat_le start to && nat_lt to limit) ≡ (has && nat_lt pc to && nat_lt to limit)
+within-ahead : (start limit pc to : ℕ) (has : Bool) → start ≤ pc → (has ≡ true → pc < to)
+    → (has && nat_le start to && nat_lt to limit) ≡ (has && nat_lt pc to && nat_lt to limit)
 within-ahead start limit pc to false low ahead = refl
 within-ahead start limit pc to true low ahead =
     let less = ahead refl in
@@ -38,8 +39,10 @@ ahead-alone body forward pc branch edge low high h =
     subst P (sym found.1) (here ∙ ap (λ (b : Bool). if b then Some (edge_of pc i branch) else None) same)
 
 -- the edge of an instruction that is read at a pc
-module _ (body : Body) (pc : ℕ) (branch : Bool) (i : Instr) (high : pc < body.end) (there : IfSome (slice_get body.image.now.points pc) (λ point. i ≡ point.instr)) where
-  pub within-is : (edge : Option Edge) → edge ≡ edge_within body.start body.end pc i branch → IfSome (slice_get body.image.now.points pc) (λ point. edge ≡ edge_within body.start body.end pc point.instr branch)
+module _ (body : Body) (pc : ℕ) (branch : Bool) (i : Instr) (high : pc < body.end)
+    (there : IfSome (slice_get body.image.now.points pc) (λ point. i ≡ point.instr)) where
+  pub within-is : (edge : Option Edge) → edge ≡ edge_within body.start body.end pc i branch
+      → IfSome (slice_get body.image.now.points pc) (λ point. edge ≡ edge_within body.start body.end pc point.instr branch)
   within-is edge is =
       let image = body.image.now in
       let found = item_at image.points pc (omega (arith, body.room)) in
@@ -48,9 +51,11 @@ module _ (body : Body) (pc : ℕ) (branch : Bool) (i : Instr) (high : pc < body.
       subst P (sym found.1) (is ∙ ap (λ (x : Instr). edge_within body.start body.end pc x branch) same)
 
   pub within-some : (to : ℕ) → to ≡ edge_end pc i branch → has_edge i branch ≡ true → body.start ≤ to → to < body.end
-      → IfSome (slice_get body.image.now.points pc) (λ point. Some (record { pc = pc; branch = branch; to = to }) ≡ edge_within body.start body.end pc point.instr branch)
+      → IfSome (slice_get body.image.now.points pc)
+      (λ point. Some (record { pc = pc; branch = branch; to = to }) ≡ edge_within body.start body.end pc point.instr branch)
   within-some to to_is has low below =
       let above : nat_le body.start (edge_end pc i branch) ≡ true = subst (λ (n : ℕ). nat_le body.start n ≡ true) to_is (le-leb body.start to low) in
       let before : nat_lt (edge_end pc i branch) body.end ≡ true = subst (λ (n : ℕ). nat_lt n body.end ≡ true) to_is (lt-ltb to body.end below) in
       let is : edge_within body.start body.end pc i branch ≡ Some (edge_of pc i branch) = rw (has, above, before) refl in
-      within-is (Some (record { pc = pc; branch = branch; to = to })) (ap (λ (n : ℕ). Some (record { pc = pc; branch = branch; to = n })) to_is ∙ sym is)
+      within-is (Some (record { pc = pc; branch = branch; to = to })) (ap (λ (n : ℕ). Some (record { pc = pc; branch = branch; to = n })) to_is
+      ∙ sym is)

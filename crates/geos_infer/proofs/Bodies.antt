@@ -9,7 +9,8 @@ use Rattle.geos_verify.proofs.Leads.{routine_parts}
 use Rattle.geos_infer.specs.declared.body.Body.{Body}
 use Rattle.geos_infer.specs.Code.{IsPcOf}
 
-is-pc : (image : Parts) (r start end pc : ℕ) → start ≡ start_of image.routines r → end ≡ start_of image.routines (r + 1) → start ≤ pc → pc < end → IsPcOf image r pc
+is-pc : (image : Parts) (r start end pc : ℕ) → start ≡ start_of image.routines r → end ≡ start_of image.routines (r + 1)
+    → start ≤ pc → pc < end → IsPcOf image r pc
 is-pc image r start end pc begins ends low high = record { above = omega arith; below = omega arith }
 
 -- the instructions of a body are those of its routine

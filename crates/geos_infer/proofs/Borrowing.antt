@@ -19,10 +19,13 @@ routine-too borrows earlier r h =
     let front = is_name r.name && not (is_named r.name earlier) && nat_lt 0 r.count in
     let p = and_parts (front && is_row borrows r.entry) (is_row borrows r.exit) h in
     let q = and_parts front (is_row borrows r.entry) p.0 in
-    both (front && is_row true r.entry) (is_row true r.exit) (both front (is_row true r.entry) q.0 (row-too borrows r.entry q.1)) (row-too borrows r.exit p.1)
+    both (front && is_row true r.entry) (is_row true r.exit) (both front (is_row true r.entry) q.0 (row-too borrows r.entry q.1))
+    (row-too borrows r.exit p.1)
 
-pub routines-too : (borrows : Bool) (earlier routines : List Routine) → are_routines borrows earlier routines ≡ true → are_routines true earlier routines ≡ true
+pub routines-too : (borrows : Bool) (earlier routines : List Routine) → are_routines borrows earlier routines ≡ true
+    → are_routines true earlier routines ≡ true
 routines-too borrows earlier [] h = h
 routines-too borrows earlier (r ∷ routines) h =
     let p = and_parts (is_routine borrows earlier r) (are_routines borrows (earlier ++ r ∷ []) routines) h in
-    both (is_routine true earlier r) (are_routines true (earlier ++ r ∷ []) routines) (routine-too borrows earlier r p.0) (routines-too borrows (earlier ++ r ∷ []) routines p.1)
+    both (is_routine true earlier r) (are_routines true (earlier ++ r ∷ []) routines) (routine-too borrows earlier r p.0)
+    (routines-too borrows (earlier ++ r ∷ []) routines p.1)

@@ -21,7 +21,8 @@ comes-by image r edge row by = record {
   way = (by.before, by.comes.way, by.leads, by.stays, by.row_is);
 }
 
-comes-from : (image : Parts) (r to : ℕ) (from : Option Edge) (row : Row) → IsComing image r to (record { from = from; row = row }) → ComesFromStart image r to row
+comes-from : (image : Parts) (r to : ℕ) (from : Option Edge) (row : Row) → IsComing image r to (record { from = from; row = row })
+    → ComesFromStart image r to row
 comes-from image r to None row begins = record { routine = begins.routine; there = begins.there; edges = []; way = (begins.start, begins.row_is) }
 comes-from image r to (Some edge) row by = subst (λ (n : ℕ). ComesFromStart image r n row) by.0 (comes-by image r edge row by.1)
 
@@ -30,7 +31,8 @@ pub comes-to : (image : Parts) (r to : ℕ) (coming : Coming) → IsComing image
 comes-to image r to coming comes = comes-from image r to coming.from coming.row comes
 
 -- a row comes along the edge of the instruction at a pc
-pub comes-along : (image : Parts) (r pc : ℕ) (branch : Bool) (edge : Edge) (before row : Row) → edge.pc ≡ pc → edge.branch ≡ branch → ComesFromStart image r pc before → LeadsTo image pc branch edge.to → IsPcOf image r edge.to
+pub comes-along : (image : Parts) (r pc : ℕ) (branch : Bool) (edge : Edge) (before row : Row) → edge.pc ≡ pc
+    → edge.branch ≡ branch → ComesFromStart image r pc before → LeadsTo image pc branch edge.to → IsPcOf image r edge.to
     → row ≡ after image pc before branch → ComesBy image r edge row
 comes-along image r pc branch edge before row pc_is branch_is comes leads stays row_is = record {
   before = before;
@@ -40,7 +42,8 @@ comes-along image r pc branch edge before row pc_is branch_is comes leads stays 
   row_is = row_is ∙ ap (λ (n : ℕ). after image n before branch) (sym pc_is) ∙ ap (after image edge.pc before) (sym branch_is);
 }
 
-all_come-within : (image : Parts) (r : ℕ) (known : List (Option Coming)) (to : ℕ) (coming : Coming) → to < length known → AllCome image r known → IsComing image r to coming
+all_come-within : (image : Parts) (r : ℕ) (known : List (Option Coming)) (to : ℕ) (coming : Coming) → to < length known
+    → AllCome image r known → IsComing image r to coming
     → AllCome image r (set known to (Some coming))
 all_come-within image r known to coming within all comes = λ pc other e. elim (cases_eq pc to) [
   | inl same ↦
@@ -51,7 +54,8 @@ all_come-within image r known to coming within all comes = λ pc other e. elim (
 ]
 
 -- also where what comes to a place is known there
-pub all_come-set : (image : Parts) (r : ℕ) (known : List (Option Coming)) (to : ℕ) (coming : Coming) → AllCome image r known → IsComing image r to coming → AllCome image r (set known to (Some coming))
+pub all_come-set : (image : Parts) (r : ℕ) (known : List (Option Coming)) (to : ℕ) (coming : Coming) → AllCome image r known
+    → IsComing image r to coming → AllCome image r (set known to (Some coming))
 all_come-set image r known to coming all comes = elim (cases_lt to (length known)) [
   | inl within ↦ all_come-within image r known to coming within all comes
   | inr past ↦ subst (AllCome image r) (sym (set_past known to (Some coming) past)) all

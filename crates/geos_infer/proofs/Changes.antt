@@ -43,13 +43,15 @@ zeros-so = record { four = refl; each = zero-so }
 -- One counter
 
 -- one counter is set to what is known of it then
-pub so-set : (known : List Counter) (begin now : List ℕ) (a n : ℕ) (counter : Counter) → AreSo known begin now → a < 4 → IsSo counter (get_or begin a 0) n → AreSo (set known a counter) begin (set now a n)
+pub so-set : (known : List Counter) (begin now : List ℕ) (a n : ℕ) (counter : Counter) → AreSo known begin now → a < 4
+    → IsSo counter (get_or begin a 0) n → AreSo (set known a counter) begin (set now a n)
 so-set known begin now a n counter so few is = record { four = length-set now a n ∙ so.four; each = each }
   where
     here : IsSo (counter_at (set known a counter) a) (get_or begin a 0) n
     here = elim (cases_lt a (length known)) [
       | inl lt ↦ subst (λ c. IsSo c (get_or begin a 0) n) (sym (get_or-set_same known a counter Unknown lt)) is
-      | inr past ↦ subst (λ c. IsSo c (get_or begin a 0) n) (sym (ap (λ (l : List Counter). counter_at l a) (set_past known a counter past) ∙ get_or_past known a Unknown past)) tt
+      | inr past ↦ subst (λ c. IsSo c (get_or begin a 0) n)
+          (sym (ap (λ (l : List Counter). counter_at l a) (set_past known a counter past) ∙ get_or_past known a Unknown past)) tt
     ]
 
     each : (k : ℕ) → IsSo (counter_at (set known a counter) k) (get_or begin k 0) (get_or (set now a n) k 0)
@@ -66,23 +68,27 @@ so-set known begin now a n counter so few is = record { four = length-set now a 
 
 -- Behind a further way
 
-so-unless : (way counter : Counter) (begin now next : ℕ) → IsSo counter begin now → (way ≡ Kept → next ≡ now) → IsSo (unless_changed way counter) begin next
+so-unless : (way counter : Counter) (begin now next : ℕ) → IsSo counter begin now → (way ≡ Kept → next ≡ now)
+    → IsSo (unless_changed way counter) begin next
 so-unless Kept counter begin now next so kept = subst (IsSo counter begin) (sym (kept refl)) so
 so-unless (Is n) counter begin now next so kept = tt
 so-unless Unknown counter begin now next so kept = tt
 
-unless-at : (way known : List Counter) (k : ℕ) → (counter_at (zip2 unless_changed way known) k ≡ Unknown) ⊎ (counter_at (zip2 unless_changed way known) k ≡ unless_changed (counter_at way k) (counter_at known k))
+unless-at : (way known : List Counter) (k : ℕ) → (counter_at (zip2 unless_changed way known) k ≡ Unknown) ⊎
+    (counter_at (zip2 unless_changed way known) k ≡ unless_changed (counter_at way k) (counter_at known k))
 unless-at [] known k = inl refl
 unless-at (w ∷ way) [] k = inl refl
 unless-at (w ∷ way) (c ∷ known) zero = inr refl
 unless-at (w ∷ way) (c ∷ known) (suc k) = unless-at way known k
 
 -- counters that the way does not keep are unknown behind it
-pub so-behind : (way known : List Counter) (begin now next : List ℕ) (k : ℕ) → AreSo known begin now → (counter_at way k ≡ Kept → get_or next k 0 ≡ get_or now k 0)
+pub so-behind : (way known : List Counter) (begin now next : List ℕ) (k : ℕ) → AreSo known begin now
+    → (counter_at way k ≡ Kept → get_or next k 0 ≡ get_or now k 0)
     → IsSo (counter_at (zip2 unless_changed way known) k) (get_or begin k 0) (get_or next k 0)
 so-behind way known begin now next k so kept = elim (unless-at way known k) [
   | inl unknown ↦ subst (λ c. IsSo c (get_or begin k 0) (get_or next k 0)) (sym unknown) tt
-  | inr is ↦ subst (λ c. IsSo c (get_or begin k 0) (get_or next k 0)) (sym is) (so-unless (counter_at way k) (counter_at known k) (get_or begin k 0) (get_or now k 0) (get_or next k 0) (so.each k) kept)
+  | inr is ↦ subst (λ c. IsSo c (get_or begin k 0) (get_or next k 0)) (sym is)
+      (so-unless (counter_at way k) (counter_at known k) (get_or begin k 0) (get_or now k 0) (get_or next k 0) (so.each k) kept)
 ]
 
 -- Behind an edge
@@ -93,7 +99,8 @@ pub record CountsTo (image : Parts) (i : Instr) (opcode : Opcode) (branch : Bool
   pub counts : Counts image i opcode branch now after
   pub so : AreSo known begin after
 
-loop-false : (image : Parts) (i : Instr) (known next : List Counter) (begin now : List ℕ) (n : ℕ) (b : Bool) → (n == 0) ≡ b → AreSo known begin now → i.a < 4 → get_or now i.a 0 ≡ n
+loop-false : (image : Parts) (i : Instr) (known next : List Counter) (begin now : List ℕ) (n : ℕ) (b : Bool)
+    → (n == 0) ≡ b → AreSo known begin now → i.a < 4 → get_or now i.a 0 ≡ n
     → option_map (set known i.a) (if b then Some (Is 0) else None) ≡ Some next → CountsTo image i Loop false next begin now
 loop-false image i known next begin now n true test so few is e =
     let none : get_or now i.a 0 ≡ 0 = is ∙ eqb-true n 0 test in
@@ -101,11 +108,13 @@ loop-false image i known next begin now n true test so few is e =
     record {
       after = now;
       counts = (none, refl);
-      so = subst (λ c. AreSo c begin now) (same_Some (set known i.a (Is 0)) next e) (subst (AreSo (set known i.a (Is 0)) begin) same (so-set known begin now i.a 0 (Is 0) so few refl));
+      so = subst (λ c. AreSo c begin now) (same_Some (set known i.a (Is 0)) next e)
+          (subst (AreSo (set known i.a (Is 0)) begin) same (so-set known begin now i.a 0 (Is 0) so few refl));
     }
 loop-false image i known next begin now n false test so few is e = absurd (none-some next e)
 
-loop-true : (image : Parts) (i : Instr) (known next : List Counter) (begin now : List ℕ) (n : ℕ) (b : Bool) → (n == 0) ≡ b → AreSo known begin now → i.a < 4 → get_or now i.a 0 ≡ n
+loop-true : (image : Parts) (i : Instr) (known next : List Counter) (begin now : List ℕ) (n : ℕ) (b : Bool) → (n == 0) ≡ b
+    → AreSo known begin now → i.a < 4 → get_or now i.a 0 ≡ n
     → option_map (set known i.a) (if b then None else Some (Is (n - 1))) ≡ Some next → CountsTo image i Loop true next begin now
 loop-true image i known next begin now n true test so few is e = absurd (none-some next e)
 loop-true image i known next begin now n false test so few is e =
@@ -117,7 +126,8 @@ loop-true image i known next begin now n false test so few is e =
           (so-set known begin now i.a (get_or now i.a 0 - 1) (Is (n - 1)) so few (ap (λ (m : ℕ). m - 1) is));
     }
 
-loop-counts : (image : Parts) (i : Instr) (branch : Bool) (known next : List Counter) (begin now : List ℕ) (counter : Counter) → counter_at known i.a ≡ counter → AreSo known begin now → i.a < 4
+loop-counts : (image : Parts) (i : Instr) (branch : Bool) (known next : List Counter) (begin now : List ℕ) (counter : Counter)
+    → counter_at known i.a ≡ counter → AreSo known begin now → i.a < 4
     → option_map (set known i.a) (loop_after counter branch) ≡ Some next → CountsTo image i Loop branch next begin now
 loop-counts image i false known next begin now (Is n) at so few e =
     loop-false image i known next begin now n (n == 0) refl so few (subst (λ c. IsSo c (get_or begin i.a 0) (get_or now i.a 0)) at (so.each i.a)) e
@@ -127,18 +137,31 @@ loop-counts image i branch known next begin now Kept at so few e = absurd (none-
 loop-counts image i branch known next begin now Unknown at so few e = absurd (none-some next e)
 
 -- what is known of counters behind an edge is so
-pub counts-to : (image : Parts) (i : Instr) (opcode : Opcode) (branch : Bool) (called known next : List Counter) (begin now : List ℕ) → FieldsFit opcode i → AreSo known begin now
+pub counts-to : (image : Parts) (i : Instr) (opcode : Opcode) (branch : Bool) (called known next : List Counter) (begin now : List ℕ)
+    → FieldsFit opcode i → AreSo known begin now
     → counters_after i opcode branch called known ≡ Some next → CountsTo image i opcode branch next begin now
 counts-to image i Setk branch called known next begin now fields so e =
-    record { after = set now i.a i.imm; counts = refl; so = subst (λ c. AreSo c begin (set now i.a i.imm)) (same_Some (set known i.a (Is i.imm)) next e) (so-set known begin now i.a i.imm (Is i.imm) so fields.0 refl) }
+    record {
+      after = set now i.a i.imm;
+      counts = refl;
+      so = subst (λ c. AreSo c begin (set now i.a i.imm))
+          (same_Some (set known i.a (Is i.imm)) next e) (so-set known begin now i.a i.imm (Is i.imm) so fields.0 refl);
+    }
 counts-to image i Setkw branch called known next begin now fields so e =
-    record { after = set now i.a 0; counts = refl; so = subst (λ c. AreSo c begin (set now i.a 0)) (same_Some (set known i.a (Is 0)) next e) (so-set known begin now i.a 0 (Is 0) so fields.0 refl) }
-counts-to image i Loop branch called known next begin now fields so e = loop-counts image i branch known next begin now (counter_at known i.a) refl so fields.0 e
+    record {
+      after = set now i.a 0;
+      counts = refl;
+      so = subst (λ c. AreSo c begin (set now i.a 0))
+          (same_Some (set known i.a (Is 0)) next e) (so-set known begin now i.a 0 (Is 0) so fields.0 refl);
+    }
+counts-to image i Loop branch called known next begin now fields so e = loop-counts image i branch known next begin now
+    (counter_at known i.a) refl so fields.0 e
 counts-to image i Call branch called known next begin now fields so e =
     record {
       after = now;
       counts = record { len = refl; each = λ k touched. refl };
-      so = subst (λ c. AreSo c begin now) (same_Some (zip2 unless_changed called known) next e) (record { four = so.four; each = λ k. so-behind called known begin now now k so (λ kept. refl) });
+      so = subst (λ c. AreSo c begin now) (same_Some (zip2 unless_changed called known) next e)
+          (record { four = so.four; each = λ k. so-behind called known begin now now k so (λ kept. refl) });
     }
 counts-to image i _ branch called known next begin now fields so e =
     record { after = now; counts = refl; so = subst (λ c. AreSo c begin now) (same_Some known next e) so }

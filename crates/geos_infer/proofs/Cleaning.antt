@@ -23,7 +23,8 @@ module _ (slots : List SlotState) where
 
   all-weaker : (ps : List (Option Pointer)) → all2 pointer_fits ps (map (without_empty slots) ps) ≡ true
   all-weaker [] = refl
-  all-weaker (p ∷ ps) = both (pointer_fits p (without_empty slots p)) (all2 pointer_fits ps (map (without_empty slots) ps)) (weaker p (leads_nowhere slots p) refl) (all-weaker ps)
+  all-weaker (p ∷ ps) = both (pointer_fits p (without_empty slots p)) (all2 pointer_fits ps (map (without_empty slots) ps))
+      (weaker p (leads_nowhere slots p) refl) (all-weaker ps)
 
   somewhere : (p : Option Pointer) (b : Bool) → leads_nowhere slots p ≡ b → leads_nowhere slots (without_empty slots p) ≡ false
   somewhere p true e = rw e refl
@@ -39,17 +40,20 @@ module _ (slots : List SlotState) where
     least None (Some u) j e = absurd cc
     least (Some p) (Some u) j e =
         let a = and_parts (p.slot == u.slot) (nat_le u.least p.least) j in
-        let held : is_empty (get_or slots p.slot Empty) ≡ false = empty-at slots us p.slot fit ∙ ap (λ k. is_empty (get_or us k Empty)) (eqb-true p.slot u.slot a.0) ∙ e in
+        let held : is_empty (get_or slots p.slot Empty) ≡ false = empty-at slots us p.slot fit
+        ∙ ap (λ k. is_empty (get_or us k Empty)) (eqb-true p.slot u.slot a.0) ∙ e in
         rw held j
 
-    all-least : (ps qs : List (Option Pointer)) → all2 pointer_fits ps qs ≡ true → list_any (leads_nowhere us) qs ≡ false → all2 pointer_fits (map (without_empty slots) ps) qs ≡ true
+    all-least : (ps qs : List (Option Pointer)) → all2 pointer_fits ps qs ≡ true → list_any (leads_nowhere us) qs ≡ false
+        → all2 pointer_fits (map (without_empty slots) ps) qs ≡ true
     all-least [] [] j e = refl
     all-least [] (q ∷ qs) j e = absurd cc
     all-least (p ∷ ps) [] j e = absurd cc
     all-least (p ∷ ps) (q ∷ qs) j e =
         let a = and_parts (pointer_fits p q) (all2 pointer_fits ps qs) j in
         let b = or_parts (leads_nowhere us q) (list_any (leads_nowhere us) qs) e in
-        both (pointer_fits (without_empty slots p) q) (all2 pointer_fits (map (without_empty slots) ps) qs) (least p q a.0 b.0) (all-least ps qs a.1 b.1)
+        both (pointer_fits (without_empty slots p) q) (all2 pointer_fits (map (without_empty slots) ps) qs)
+        (least p q a.0 b.0) (all-least ps qs a.1 b.1)
 
 pub clean-least : (row : Row) → IsLeastClean row (clean row)
 unfolding names_empty_slot
@@ -79,7 +83,8 @@ held-within [] k e = absurd cc
 held-within (x ∷ slots) zero e = omega arith
 held-within (x ∷ slots) (suc k) e = let lt = held-within slots k e in omega arith
 
-pointers-legal : (slots : List SlotState) (ps : List (Option Pointer)) → length slots ≡ 4 → list_any (leads_nowhere slots) ps ≡ false → list_all is_pointer ps ≡ true
+pointers-legal : (slots : List SlotState) (ps : List (Option Pointer)) → length slots ≡ 4 → list_any (leads_nowhere slots) ps ≡ false
+    → list_all is_pointer ps ≡ true
 pointers-legal slots [] len e = refl
 pointers-legal slots (None ∷ ps) len e = pointers-legal slots ps len e
 pointers-legal slots (Some p ∷ ps) len e =

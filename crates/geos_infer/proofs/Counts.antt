@@ -23,20 +23,24 @@ some-is : (x y : Instr) → Some x ≡ Some y → x ≡ y
 some-is x y e = cc
 
 -- an edge that there is, and that leads ahead and before a limit
-pub ahead-true : (code : List Instr) (limit pc to : ℕ) (branch : Bool) (i j : Instr) → slice_get code pc ≡ Some i → Edge code pc branch to j → pc < to → to < limit
+pub ahead-true : (code : List Instr) (limit pc to : ℕ) (branch : Bool) (i j : Instr) → slice_get code pc ≡ Some i
+    → Edge code pc branch to j → pc < to → to < limit
     → (leads_ahead limit pc i branch ≡ true) × (edge_end pc i branch ≡ to) × (i ≡ j)
 ahead-true code limit pc to branch i j read edge lt within =
     let same : i ≡ j = some-is i j (sym read ∙ edge.read) in
     let has : has_edge i branch ≡ true = ap (λ x. has_edge x branch) same ∙ edge.has in
     let leads : edge_end pc i branch ≡ to = ap (λ x. edge_end pc x branch) same ∙ edge.leads in (
       both (has_edge i branch && nat_lt pc (edge_end pc i branch)) (nat_lt (edge_end pc i branch) limit)
-          (both (has_edge i branch) (nat_lt pc (edge_end pc i branch)) has (lt-ltb pc (edge_end pc i branch) (omega arith))) (lt-ltb (edge_end pc i branch) limit (omega arith)),
+          (both (has_edge i branch) (nat_lt pc (edge_end pc i branch)) has (lt-ltb pc (edge_end pc i branch) (omega arith)))
+          (lt-ltb (edge_end pc i branch) limit (omega arith)),
       leads,
       same,
     )
 
-module _ (image : Parts) (r : ℕ) (forward : ForwardIn image r) (want steps : List ℕ) (holds : StepsHoldIn image r want) (pc : ℕ) (i : Instr) (read : slice_get (instrs_of image) pc ≡ Some i) (within : IsPcOf image r pc)
-    (limit : ℕ) (small : limit ≤ length (instrs_of image)) (ends : limit ≡ start_of image.routines (r + 1)) (C : Counting image limit want steps (pc + 1)) where
+module _ (image : Parts) (r : ℕ) (forward : ForwardIn image r) (want steps : List ℕ) (holds : StepsHoldIn image r want)
+    (pc : ℕ) (i : Instr) (read : slice_get (instrs_of image) pc ≡ Some i) (within : IsPcOf image r pc)
+    (limit : ℕ) (small : limit ≤ length (instrs_of image)) (ends : limit ≡ start_of image.routines (r + 1))
+    (C : Counting image limit want steps (pc + 1)) where
   -- what an edge asks for is at most the number that holds
   asks-below : (branch b : Bool) → leads_ahead limit pc i branch ≡ b → edge_steps image limit pc i branch steps ≤ get_or want pc 0
   asks-below branch true e =
@@ -74,7 +78,8 @@ module _ (image : Parts) (r : ℕ) (forward : ForwardIn image r) (want steps : L
       max-second x y z = omega arith
 
   -- each edge is paid for
-  paid : (to : ℕ) (branch : Bool) (j : Instr) → Edge (instrs_of image) pc branch to j → get_or steps to 0 + 1 + call_steps image j ≤ steps_at image limit pc i steps
+  paid : (to : ℕ) (branch : Bool) (j : Instr) → Edge (instrs_of image) pc branch to j
+      → get_or steps to 0 + 1 + call_steps image j ≤ steps_at image limit pc i steps
   paid t branch j edge =
       let lt = forward.ahead pc t branch j within edge in
       let inside = holds.closed pc t branch j within edge in
@@ -101,7 +106,8 @@ module _ (image : Parts) (r : ℕ) (forward : ForwardIn image r) (want steps : L
       record {
         len = (let same = length-set steps pc (steps_at image limit pc i steps) in let len = C.len in omega arith);
         below = λ k from end. elim (cases_eq k pc) [
-          | inl same ↦ let P : ℕ → Type 0 = λ n. get_or (set steps pc (steps_at image limit pc i steps)) n 0 ≤ get_or want n 0 in subst P (sym same) (rw here at-below)
+          | inl same ↦ let P : ℕ → Type 0 = λ n. get_or (set steps pc (steps_at image limit pc i steps)) n 0 ≤ get_or want n 0 in
+              subst P (sym same) (rw here at-below)
           | inr ne ↦ rw (others k ne) (C.below k (omega arith) end)
         ];
         edges = λ k t branch j from end edge. (
@@ -125,8 +131,10 @@ module _ (image : Parts) (r : ℕ) (forward : ForwardIn image r) (want steps : L
       }
 
 -- the same, where the instruction is given by its point; and the number is one that a potential can say
-pub counted : (image : Parts) (r : ℕ) → ForwardIn image r → (want steps : List ℕ) → StepsHoldIn image r want → (limit pc more value : ℕ) → limit ≡ start_of image.routines (r + 1) → limit ≤ length image.points → IsPcOf image r pc
-    → more ≡ pc + 1 → IfSome (slice_get image.points pc) (λ point. value ≡ steps_at image limit pc point.instr steps) → Counting image limit want steps more
+pub counted : (image : Parts) (r : ℕ) → ForwardIn image r → (want steps : List ℕ) → StepsHoldIn image r want
+    → (limit pc more value : ℕ) → limit ≡ start_of image.routines (r + 1) → limit ≤ length image.points → IsPcOf image r pc
+    → more ≡ pc + 1 → IfSome (slice_get image.points pc) (λ point. value ≡ steps_at image limit pc point.instr steps)
+    → Counting image limit want steps more
     → Counting image limit want (set steps pc value) pc × (value ≤ most_steps)
 counted image r forward want steps holds limit pc more value ends small within more_is there C =
     let len = code-length image in
@@ -143,7 +151,8 @@ counted image r forward want steps holds limit pc more value ends small within m
     (subst (λ v. Counting image limit want (set steps pc v) pc) (sym value_is) next, omega arith)
 
 -- coefficients are 0 from one more place on
-pub zeros-more : (image : Parts) (limit pc more : ℕ) (coefficients : List (List ℕ)) → more ≡ pc + 1 → pc < length image.points → ZerosFrom image limit more coefficients → ZerosFrom image limit pc (set coefficients pc zeros)
+pub zeros-more : (image : Parts) (limit pc more : ℕ) (coefficients : List (List ℕ)) → more ≡ pc + 1 → pc < length image.points
+    → ZerosFrom image limit more coefficients → ZerosFrom image limit pc (set coefficients pc zeros)
 zeros-more image limit pc more coefficients more_is lt none = record {
   len = (let same = length-set coefficients pc zeros in let len = none.len in omega arith);
   each = λ k from within. elim (cases_eq k pc) [
@@ -153,7 +162,8 @@ zeros-more image limit pc more coefficients more_is lt none = record {
 }
 
 -- nothing is counted from the limit on
-pub counts-begin : (image : Parts) (limit : ℕ) (want : List ℕ) (numbers : Numbers) → length image.points ≤ 4096 → length numbers.steps ≡ 4096 → length numbers.coefficients ≡ 4096 → Counted image limit want numbers limit
+pub counts-begin : (image : Parts) (limit : ℕ) (want : List ℕ) (numbers : Numbers) → length image.points ≤ 4096
+    → length numbers.steps ≡ 4096 → length numbers.coefficients ≡ 4096 → Counted image limit want numbers limit
 counts-begin image limit want numbers short steps_len coefficients_len =
     let code = code-length image in
     record {
@@ -167,26 +177,37 @@ counts-begin image limit want numbers short steps_len coefficients_len =
     }
 
 -- one more instruction is counted
-pub counted-more : (image : Parts) (r : ℕ) → ForwardIn image r → (want : List ℕ) → StepsHoldIn image r want → (numbers : Numbers) (limit pc more : ℕ) (found : Potential) → limit ≡ start_of image.routines (r + 1) → limit ≤ length image.points → IsPcOf image r pc
-    → more ≡ pc + 1 → IfSome (slice_get image.points pc) (λ point. HasSteps (steps_at image limit pc point.instr numbers.steps) (Some found)) → Counted image limit want numbers more
-    → Counted image limit want (record { steps = set numbers.steps pc found.constant; coefficients = set numbers.coefficients pc found.coefficients }) pc
+pub counted-more : (image : Parts) (r : ℕ) → ForwardIn image r → (want : List ℕ) → StepsHoldIn image r want
+    → (numbers : Numbers) (limit pc more : ℕ) (found : Potential) → limit ≡ start_of image.routines (r + 1)
+    → limit ≤ length image.points → IsPcOf image r pc
+    → more ≡ pc + 1 → IfSome (slice_get image.points pc) (λ point. HasSteps (steps_at image limit pc point.instr numbers.steps) (Some found))
+    → Counted image limit want numbers more
+    → Counted image limit want (record { steps = set numbers.steps pc found.constant; coefficients = set numbers.coefficients pc found.coefficients })
+    pc
 counted-more image r forward want holds numbers limit pc more found ends small within more_is there C =
     let lt : pc < length image.points = (let below = within.below in omega arith) in
     let point = item_at image.points pc lt in
-    let here = if_some (λ point. HasSteps (steps_at image limit pc point.instr numbers.steps) (Some found)) (slice_get image.points pc) point.0 point.1 there in
+    let here = if_some (λ point. HasSteps (steps_at image limit pc point.instr numbers.steps) (Some found))
+    (slice_get image.points pc) point.0 point.1 there in
     let P : Option Point → Type 0 = λ o. IfSome o (λ point. found.constant ≡ steps_at image limit pc point.instr numbers.steps) in
-    let next = counted image r forward want numbers.steps holds limit pc more found.constant ends small within more_is (subst P (sym point.1) here.0) C.steps in
+    let next = counted image r forward want numbers.steps holds limit pc more found.constant ends small within more_is
+    (subst P (sym point.1) here.0) C.steps in
     let zero = zeros-more image limit pc more numbers.coefficients more_is lt C.zero in
     record { steps = next.0; zero = subst (λ (v : List ℕ). ZerosFrom image limit pc (set numbers.coefficients pc v)) (sym here.1) zero }
 
 -- there are not too many steps
-pub counted-few : (image : Parts) (r : ℕ) → ForwardIn image r → (want : List ℕ) → StepsHoldIn image r want → (numbers : Numbers) (limit pc more : ℕ) → limit ≡ start_of image.routines (r + 1) → limit ≤ length image.points → IsPcOf image r pc
-    → more ≡ pc + 1 → IfSome (slice_get image.points pc) (λ point. HasSteps (steps_at image limit pc point.instr numbers.steps) None) → Counted image limit want numbers more → ⊥
+pub counted-few : (image : Parts) (r : ℕ) → ForwardIn image r → (want : List ℕ) → StepsHoldIn image r want
+    → (numbers : Numbers) (limit pc more : ℕ) → limit ≡ start_of image.routines (r + 1) → limit ≤ length image.points → IsPcOf image r pc
+    → more ≡ pc + 1 → IfSome (slice_get image.points pc) (λ point. HasSteps (steps_at image limit pc point.instr numbers.steps) None)
+    → Counted image limit want numbers more → ⊥
 counted-few image r forward want holds numbers limit pc more ends small within more_is there C =
     let point = item_at image.points pc (let below = within.below in omega arith) in
-    let past = if_some (λ point. HasSteps (steps_at image limit pc point.instr numbers.steps) None) (slice_get image.points pc) point.0 point.1 there in
-    let P : Option Point → Type 0 = λ o. IfSome o (λ x. steps_at image limit pc point.0.instr numbers.steps ≡ steps_at image limit pc x.instr numbers.steps) in
-    let next = counted image r forward want numbers.steps holds limit pc more (steps_at image limit pc point.0.instr numbers.steps) ends small within more_is (subst P (sym point.1) refl) C.steps in
+    let past = if_some (λ point. HasSteps (steps_at image limit pc point.instr numbers.steps) None)
+    (slice_get image.points pc) point.0 point.1 there in
+    let P : Option Point → Type 0 = λ o. IfSome o (λ x. steps_at image limit pc point.0.instr numbers.steps ≡ steps_at
+    image limit pc x.instr numbers.steps) in
+    let next = counted image r forward want numbers.steps holds limit pc more (steps_at image limit pc point.0.instr numbers.steps)
+    ends small within more_is (subst P (sym point.1) refl) C.steps in
     let most = next.1 in
     absurd (omega arith)
 
@@ -200,12 +221,14 @@ pub stays-set : (pc at constant : ℕ) (coefficients : List ℕ) (initial number
     → StaysFrom pc initial (record { steps = set numbers.steps at constant; coefficients = set numbers.coefficients at coefficients })
 stays-set pc at constant coefficients initial numbers lt S = record {
   steps = λ k from. (let ne : k ≢ at = (λ same. absurd (omega arith)) in get_or-set_other numbers.steps at k constant 0 ne ∙ S.steps k from);
-  coefficients = λ k from. (let ne : k ≢ at = (λ same. absurd (omega arith)) in get_or-set_other numbers.coefficients at k coefficients [] ne ∙ S.coefficients k from);
+  coefficients = λ k from. (let ne : k ≢ at = (λ same. absurd (omega arith)) in get_or-set_other numbers.coefficients at k coefficients [] ne
+      ∙ S.coefficients k from);
 }
 
 -- Routine after routine
 
-counted-stays : (image : Parts) (q : ℕ) (want : List ℕ) (numbers next : Numbers) (pc : ℕ) → ForwardIn image q → pc ≤ start_of image.routines q → length (instrs_of image) ≤ length next.steps → length image.points ≤ length next.coefficients
+counted-stays : (image : Parts) (q : ℕ) (want : List ℕ) (numbers next : Numbers) (pc : ℕ) → ForwardIn image q
+    → pc ≤ start_of image.routines q → length (instrs_of image) ≤ length next.steps → length image.points ≤ length next.coefficients
     → StaysFrom pc numbers next → CountedIn image q want numbers → CountedIn image q want next
 counted-stays image q want numbers next pc forward le steps_len coefficients_len stay C = record {
   steps = record {
@@ -220,20 +243,23 @@ counted-stays image q want numbers next pc forward le steps_len coefficients_len
 }
 
 -- one more routine
-pub are_counted-more : (image : Parts) (r next count : ℕ) (numbers more : Numbers) → next ≡ r + 1 → r < count → AreCounted image next count numbers → CountsOn image r numbers more true → AreCounted image r count more
+pub are_counted-more : (image : Parts) (r next count : ℕ) (numbers more : Numbers) → next ≡ r + 1 → r < count
+    → AreCounted image next count numbers → CountsOn image r numbers more true → AreCounted image r count more
 are_counted-more image r next count numbers more next_is lt before on = λ want all q from q_lt.
     let this = all r lt in
     let here = on want this.0 this.1 in
     elim (cases_lt r q) [
       | inl later ↦
           let le = start_of-le image.routines (r + 1) q (omega arith) in
-          counted-stays image q want numbers more (start_of image.routines (r + 1)) (all q q_lt).0 le here.1.steps.len here.1.zero.len here.2 (before want all q (omega arith) q_lt)
+          counted-stays image q want numbers more (start_of image.routines (r + 1)) (all q q_lt).0 le here.1.steps.len
+          here.1.zero.len here.2 (before want all q (omega arith) q_lt)
       | inr le ↦
           let same : r ≡ q = omega arith in
           subst (λ (n : ℕ). CountedIn image n want more) same here.1
     ]
 
 -- what a sweep over routine r says of the image, where its body is of that routine
-pub counts-in : (image here : Parts) (number r : ℕ) (old new : Numbers) (done : Bool) → here ≡ image → number ≡ r → CountsOn here number old new done → CountsOn image r old new done
+pub counts-in : (image here : Parts) (number r : ℕ) (old new : Numbers) (done : Bool) → here ≡ image → number ≡ r
+    → CountsOn here number old new done → CountsOn image r old new done
 counts-in image here number r old new done same_image same_number counts =
     subst (λ (x : Parts). CountsOn x r old new done) same_image (subst (λ (n : ℕ). CountsOn here n old new done) same_number counts)

@@ -17,6 +17,10 @@ eight (a ∷ b ∷ c ∷ d ∷ e ∷ f ∷ g ∷ []) p = absurd (omega arith)
 eight (a ∷ b ∷ c ∷ d ∷ e ∷ f ∷ g ∷ h ∷ i ∷ xs) p = absurd (omega arith)
 
 pub max_eight : (xs ys : List ℕ) → length xs ≡ 8 → length ys ≡ 8
-    → zip2 max xs ys ≡ max (get_or xs 0 0) (get_or ys 0 0) ∷ max (get_or xs 1 0) (get_or ys 1 0) ∷ max (get_or xs 2 0) (get_or ys 2 0) ∷ max (get_or xs 3 0) (get_or ys 3 0)
-    ∷ max (get_or xs 4 0) (get_or ys 4 0) ∷ max (get_or xs 5 0) (get_or ys 5 0) ∷ max (get_or xs 6 0) (get_or ys 6 0) ∷ max (get_or xs 7 0) (get_or ys 7 0) ∷ []
-max_eight xs ys p q = ap (λ zs. zip2 max zs ys) (eight xs p) ∙ ap (zip2 max (get_or xs 0 0 ∷ get_or xs 1 0 ∷ get_or xs 2 0 ∷ get_or xs 3 0 ∷ get_or xs 4 0 ∷ get_or xs 5 0 ∷ get_or xs 6 0 ∷ get_or xs 7 0 ∷ [])) (eight ys q)
+    → zip2 max xs ys ≡ max (get_or xs 0 0) (get_or ys 0 0) ∷ max (get_or xs 1 0) (get_or ys 1 0) ∷ max (get_or xs 2 0)
+    (get_or ys 2 0) ∷ max (get_or xs 3 0) (get_or ys 3 0)
+    ∷ max (get_or xs 4 0) (get_or ys 4 0) ∷ max (get_or xs 5 0) (get_or ys 5 0) ∷ max (get_or xs 6 0) (get_or ys 6 0) ∷ max
+    (get_or xs 7 0) (get_or ys 7 0) ∷ []
+max_eight xs ys p q = ap (λ zs. zip2 max zs ys) (eight xs p)
+    ∙ ap (zip2 max (get_or xs 0 0 ∷ get_or xs 1 0 ∷ get_or xs 2 0 ∷ get_or xs 3 0 ∷ get_or xs 4 0 ∷ get_or xs 5 0
+    ∷ get_or xs 6 0 ∷ get_or xs 7 0 ∷ [])) (eight ys q)

@@ -20,21 +20,25 @@ use Rattle.geos_infer.specs.Code.{instr_of, instrs_of, edge_row}
 use Rattle.geos_verify.proofs.RowsAfter.{along-mono, branching-mono, is-call}
 
 -- the row at the end of an edge
-pub after-edge : (image : Parts) (pc : ℕ) (branch : Bool) (point : Point) (row : Row) → slice_get image.points pc ≡ Some point → after image pc row branch ≡ edge_row image point.instr branch row
+pub after-edge : (image : Parts) (pc : ℕ) (branch : Bool) (point : Point) (row : Row) → slice_get image.points pc ≡ Some point
+    → after image pc row branch ≡ edge_row image point.instr branch row
 after-edge image pc true point row e = rw (e, after) refl
 after-edge image pc false point row e = rw (e, after) refl
 
-pub edge-mono : (image : Parts) (i : Instr) (branch : Bool) (r s : Row) → fits r s ≡ true → fits (edge_row image i branch r) (edge_row image i branch s) ≡ true
+pub edge-mono : (image : Parts) (i : Instr) (branch : Bool) (r s : Row) → fits r s ≡ true
+    → fits (edge_row image i branch r) (edge_row image i branch s) ≡ true
 edge-mono image i true r s h = branching-mono i i.opcode r s h
 edge-mono image i false r s h = along-mono image i i.opcode r s h
 
 -- what a call leaves is the same in images with the same routines
-pub same-along : (image other : Parts) → other.routines ≡ image.routines → (i : Instr) (opcode : Opcode) (row : Row) → row_along other i opcode row ≡ row_along image i opcode row
+pub same-along : (image other : Parts) → other.routines ≡ image.routines → (i : Instr) (opcode : Opcode) (row : Row)
+    → row_along other i opcode row ≡ row_along image i opcode row
 same-along image other same i opcode row = by_test (calls opcode) refl
   where
     by_test : (b : Bool) → calls opcode ≡ b → row_along other i opcode row ≡ row_along image i opcode row
     by_test true e =
-        let exits : exit_row other i.imm row ≡ exit_row image i.imm row = ap (λ (routines : List Routine). elim (slice_get routines i.imm) [ None ↦ row | Some routine ↦ routine.exit ]) same in
+        let exits : exit_row other i.imm row ≡ exit_row image i.imm row =
+        ap (λ (routines : List Routine). elim (slice_get routines i.imm) [ None ↦ row | Some routine ↦ routine.exit ]) same in
         rw (is-call opcode e) exits
     by_test false e =
         let no_call : opcode ≡ Call → ⊥ = (λ is. absurd (called is e)) in
@@ -43,7 +47,8 @@ same-along image other same i opcode row = by_test (calls opcode) refl
         called : opcode ≡ Call → calls opcode ≡ false → ⊥
         called is e = (let at_call : calls Call ≡ false = rw is at e in absurd cc)
 
-pub same-edge : (image other : Parts) → other.routines ≡ image.routines → (i : Instr) (branch : Bool) (row : Row) → edge_row other i branch row ≡ edge_row image i branch row
+pub same-edge : (image other : Parts) → other.routines ≡ image.routines → (i : Instr) (branch : Bool) (row : Row)
+    → edge_row other i branch row ≡ edge_row image i branch row
 same-edge image other same i true row = refl
 same-edge image other same i false row = same-along image other same i i.opcode row
 
@@ -54,13 +59,15 @@ pub code-length : (image : Parts) → length (instrs_of image) ≡ length image.
 code-length image = length-map image.points instr_of
 
 -- the instruction at a place
-pub place-code-at : (image : Parts) (pc : ℕ) (place : Place) → slice_get (places image) pc ≡ Some place → slice_get (instrs_of image) pc ≡ Some place.instr
+pub place-code-at : (image : Parts) (pc : ℕ) (place : Place) → slice_get (places image) pc ≡ Some place
+    → slice_get (instrs_of image) pc ≡ Some place.instr
 place-code-at image pc place e =
     let found = point-of image pc place e in
     code-at image pc found.0 found.1 ∙ ap (λ (i : Instr). Some i) (sym found.2.instr)
 
 -- the place of an instruction
-pub code-place : (image : Parts) (pc : ℕ) (i : Instr) → slice_get (instrs_of image) pc ≡ Some i → (place : Place) × (slice_get (places image) pc ≡ Some place) × (place.instr ≡ i)
+pub code-place : (image : Parts) (pc : ℕ) (i : Instr) → slice_get (instrs_of image) pc ≡ Some i → (place : Place)
+    × (slice_get (places image) pc ≡ Some place) × (place.instr ≡ i)
 code-place image pc i e =
     let found = item_at (places image) pc (omega (arith, slice_get_within (instrs_of image) pc i e, code-length image, places-length image)) in
     (found.0, found.1, same_Some found.0.instr i (sym (place-code-at image pc found.0 found.1) ∙ e))

@@ -74,17 +74,26 @@ pub record Plain (image : Parts) (known : List (Option Row)) (steps : List ℕ) 
   pub len : length points ≡ length image.points
   pub each : (pc : ℕ) (old : Point) → slice_get image.points pc ≡ Some old → slice_get points pc ≡ Some (found_point known steps pc old.instr)
 
-plain : (image : Parts) → is_image image ≡ true → (known : List (Option Row)) (numbers : Numbers) (points : List Point) → ((pc : ℕ) → pc < length image.points → get_or numbers.coefficients pc [] ≡ zeros)
+plain : (image : Parts) → is_image image ≡ true → (known : List (Option Row)) (numbers : Numbers) (points : List Point)
+    → ((pc : ℕ) → pc < length image.points → get_or numbers.coefficients pc [] ≡ zeros)
     → PointsOf image known numbers points → Plain image known numbers.steps points
 plain image legal known numbers points none P = record {
   len = P.len;
   each = λ pc old read.
       let is = none pc (slice_get_within image.points pc old read) in
-      subst (λ (k : List ℕ). slice_get points pc ≡ Some (record { instr = old.instr; row = Some (row_of (known_at known pc)); potential = record { constant = get_or numbers.steps pc 0; coefficients = k } })) is (P.each pc old read);
+      subst (λ (k : List ℕ). slice_get points pc ≡ Some
+      (record {
+        instr = old.instr;
+        row = Some (row_of (known_at known pc));
+        potential =
+            record { constant = get_or numbers.steps pc 0; coefficients = k };
+      })) is (P.each pc old read);
 }
 
-module _ (image : Parts) (legal : is_image image ≡ true) (o : Parts) (same : SameCode image o) (checked : IsChecked o) (known : List (Option Row)) (steps : List ℕ) (points : List Point) (P : Plain image known steps points)
-    (r : ℕ) (routine : Routine) (there : slice_get image.routines r ≡ Some routine) (forward : ForwardIn image r) (rows : RowsHoldIn image r (map row_at (places o)))
+module _ (image : Parts) (legal : is_image image ≡ true) (o : Parts) (same : SameCode image o) (checked : IsChecked o)
+    (known : List (Option Row)) (steps : List ℕ) (points : List Point) (P : Plain image known steps points)
+    (r : ℕ) (routine : Routine) (there : slice_get image.routines r ≡ Some routine) (forward : ForwardIn image r)
+    (rows : RowsHoldIn image r (map row_at (places o)))
     (F : Flowing image r (map row_at (places o)) known (2 * start_of image.routines (r + 1)))
     (C : Counting image (start_of image.routines (r + 1)) (map constant_at (places o)) steps (start_of image.routines r)) where
   -- everything is reached
@@ -95,18 +104,22 @@ module _ (image : Parts) (legal : is_image image ≡ true) (o : Parts) (same : S
       let end = ends-at image.routines r routine there in
       all-reached image r forward routine there (map row_at (places o)) known F (omega (arith, room.0)) pc within
 
-  found-at : (pc : ℕ) (old : Point) → slice_get image.points pc ≡ Some old → slice_get (places (with_points image points)) pc ≡ Some (found_place known steps pc old.instr)
-  found-at pc old read = given-place (with_points image points) pc old.instr (row_of (known_at known pc)) (potential_of (get_or steps pc 0)) (P.each pc old read)
+  found-at : (pc : ℕ) (old : Point) → slice_get image.points pc ≡ Some old
+      → slice_get (places (with_points image points)) pc ≡ Some (found_place known steps pc old.instr)
+  found-at pc old read = given-place (with_points image points) pc old.instr (row_of (known_at known pc))
+      (potential_of (get_or steps pc 0)) (P.each pc old read)
 
   -- the place in the other image
-  other-at : (pc : ℕ) (old : Point) → slice_get image.points pc ≡ Some old → (place : Place) × (slice_get (places o) pc ≡ Some place) × (place.instr ≡ old.instr)
+  other-at : (pc : ℕ) (old : Point) → slice_get image.points pc ≡ Some old → (place : Place) × (slice_get (places o) pc ≡ Some place)
+      × (place.instr ≡ old.instr)
   other-at pc old read = code-place o pc old.instr (ap (λ (code : List Instr). slice_get code pc) same.instrs ∙ code-at image pc old read)
 
   want-row : (pc : ℕ) (point : Place) → slice_get (places o) pc ≡ Some point → slice_get (map row_at (places o)) pc ≡ Some point.row
   want-row pc point read = slice_get-map row_at (places o) pc ∙ ap (option_map row_at) read
 
   want-steps : (pc : ℕ) (point : Place) → slice_get (places o) pc ≡ Some point → get_or (map constant_at (places o)) pc 0 ≡ point.potential.constant
-  want-steps pc point read = get_or_from_slice_get (map constant_at (places o)) pc point.potential.constant 0 (slice_get-map constant_at (places o) pc ∙ ap (option_map constant_at) read)
+  want-steps pc point read = get_or_from_slice_get (map constant_at (places o)) pc point.potential.constant 0
+      (slice_get-map constant_at (places o) pc ∙ ap (option_map constant_at) read)
 
   row-is : (pc : ℕ) → IsPcOf image r pc → (row : Row) × (known_at known pc ≡ Some row) × (row_of (known_at known pc) ≡ clean row)
   row-is pc within = let got = reached pc within in (got.0, got.1, ap row_of got.1)
@@ -115,7 +128,8 @@ module _ (image : Parts) (legal : is_image image ≡ true) (o : Parts) (same : S
   row-below pc point within at =
       let got = row-is pc within in
       let below = F.below pc got.0 point.row within got.1 (want-row pc point at) in
-      subst (λ (x : Row). fits x point.row ≡ true) (sym got.2) ((clean-least got.0).least point.row below (rows.clean pc point.row within (want-row pc point at)))
+      subst (λ (x : Row). fits x point.row ≡ true) (sym got.2)
+      ((clean-least got.0).least point.row below (rows.clean pc point.row within (want-row pc point at)))
 
   row-clean : (pc : ℕ) → IsPcOf image r pc → names_empty_slot (row_of (known_at known pc)) ≡ false
   row-clean pc within = let got = row-is pc within in subst (λ (x : Row). names_empty_slot x ≡ false) (sym got.2) ((clean-least got.0).clean)
@@ -127,23 +141,30 @@ module _ (image : Parts) (legal : is_image image ≡ true) (o : Parts) (same : S
       subst (λ (x : Row). fits row x ≡ true) (sym is) (fits-trans row K.known_row (clean K.known_row) K.fits ((clean-least K.known_row).weaker))
 
   -- where an edge leads
-  edge-found : (pc to : ℕ) (branch : Bool) (old : Point) (next : Place) → IsPcOf image r pc → slice_get image.points pc ≡ Some old → has_edge old.instr branch ≡ true → edge_end pc old.instr branch ≡ to → slice_get (places (with_points image points)) to ≡ Some next
-      → (fits (edge_row image old.instr branch (row_of (known_at known pc))) next.row ≡ true) × ((n : ℕ) × (next.potential ≡ potential_of n) × (n + 1 + call_steps image old.instr ≤ get_or steps pc 0))
+  edge-found : (pc to : ℕ) (branch : Bool) (old : Point) (next : Place) → IsPcOf image r pc → slice_get image.points pc ≡ Some old
+      → has_edge old.instr branch ≡ true → edge_end pc old.instr branch ≡ to → slice_get (places (with_points image points)) to ≡ Some next
+      → (fits (edge_row image old.instr branch (row_of (known_at known pc))) next.row ≡ true)
+      × ((n : ℕ) × (next.potential ≡ potential_of n) × (n + 1 + call_steps image old.instr ≤ get_or steps pc 0))
   edge-found pc to branch old next within read has leads at =
       let edge : Edge (instrs_of image) pc branch to old.instr = record { read = code-at image pc old read; has = has; leads = leads } in
       let lt = slice_get_within (places (with_points image points)) to next at in
       let points_len = P.len in
       let there = item_at image.points to (omega (arith, places-length (with_points image points))) in
-      let is : found_place known steps to there.0.instr ≡ next = same_Some (found_place known steps to there.0.instr) next (sym (found-at to there.0 there.1) ∙ at) in
+      let is : found_place known steps to there.0.instr ≡ next = same_Some (found_place known steps to there.0.instr) next
+      (sym (found-at to there.0 there.1) ∙ at) in
       let row = row-is pc within in
       let inside = rows.closed pc to branch old.instr within edge in
       let ahead = forward.ahead pc to branch old.instr within edge in
       let low = within.above in
-      let K = F.fit.edges pc to branch old.instr row.0 within (record { above = omega (arith, low, ahead); below = inside }) ahead (number-last pc (start_of image.routines (r + 1)) branch within.below) edge row.1 in
+      let K = F.fit.edges pc to branch old.instr row.0 within (record { above = omega (arith, low, ahead); below = inside }) ahead
+      (number-last pc (start_of image.routines (r + 1)) branch within.below) edge row.1 in
       let fit : fits (edge_row image old.instr branch (row_of (known_at known pc))) (row_of (known_at known to)) ≡ true =
-      subst (λ (x : Row). fits (edge_row image old.instr branch x) (row_of (known_at known to)) ≡ true) (sym row.2) (known-fits to (edge_row image old.instr branch (clean row.0)) K) in
-      let paid = C.edges pc to branch old.instr within.above within.below edge in
-      (subst (λ (x : Place). fits (edge_row image old.instr branch (row_of (known_at known pc))) x.row ≡ true) is fit, (get_or steps to 0, ap (λ (x : Place). x.potential) (sym is), paid))
+      subst (λ (x : Row). fits (edge_row image old.instr branch x) (row_of (known_at known to)) ≡ true) (sym row.2)
+      (known-fits to (edge_row image old.instr branch (clean row.0)) K) in
+      let paid = C.edges pc to branch old.instr within.above within.below edge in (
+        subst (λ (x : Place). fits (edge_row image old.instr branch (row_of (known_at known pc))) x.row ≡ true) is fit,
+        (get_or steps to 0, ap (λ (x : Place). x.potential) (sym is), paid),
+      )
 
   beside : (pc : ℕ) (old : Point) (point : Place) → IsPcOf image r pc → slice_get image.points pc ≡ Some old → slice_get (places o) pc ≡ Some point
       → Beside (with_points image points) routine (start_of image.routines r) pc old.instr (row_of (known_at known pc)) point.row (get_or steps pc 0)
@@ -151,13 +172,18 @@ module _ (image : Parts) (legal : is_image image ≡ true) (o : Parts) (same : S
     below = row-below pc point within at;
     clean = row-clean pc within;
     entry = λ start. known-fits pc routine.entry (subst (λ (n : ℕ). KnownAt known n routine.entry) (sym start) (F.fit.entry routine there));
-    along = λ next falls e. (let f = edge-found pc (pc + 1) false old next within read falls refl e in (subst (λ (x : Row). fits x next.row ≡ true) (sym (same-edge image (with_points image points) refl old.instr false (row_of (known_at known pc)))) f.0, f.1));
+    along = λ next falls e. (let f = edge-found pc (pc + 1) false old next within read falls refl e in (
+      subst (λ (x : Row). fits x next.row ≡ true)
+          (sym (same-edge image (with_points image points) refl old.instr false (row_of (known_at known pc)))) f.0,
+      f.1,
+    ));
     branch = λ next goes e. edge-found pc old.instr.target true old next within read goes refl e;
     return = λ is. C.returns pc old.instr within.above within.below (code-at image pc old read) is;
   }
 
   -- no rule refuses
-  pub found-accepted : (pc : ℕ) (point : Place) → HasPoint (with_points image points) r routine pc point → refusal (with_points image points) r routine (start_of image.routines r) pc point ≡ None
+  pub found-accepted : (pc : ℕ) (point : Place) → HasPoint (with_points image points) r routine pc point
+      → refusal (with_points image points) r routine (start_of image.routines r) pc point ≡ None
   found-accepted pc point has =
       let lt = slice_get_within (places (with_points image points)) pc point has.read in
       let points_len = P.len in
@@ -165,27 +191,33 @@ module _ (image : Parts) (legal : is_image image ≡ true) (o : Parts) (same : S
       let place = place_bounds (start_of image.routines r) routine.count pc has.within in
       let end = ends-at image.routines r routine there in
       let within : IsPcOf image r pc = record { above = place.0; below = omega (arith, place.1) } in
-      let is : found_place known steps pc old.0.instr ≡ point = same_Some (found_place known steps pc old.0.instr) point (sym (found-at pc old.0 old.1) ∙ has.read) in
+      let is : found_place known steps pc old.0.instr ≡ point = same_Some (found_place known steps pc old.0.instr) point
+      (sym (found-at pc old.0 old.1) ∙ has.read) in
       let other = other-at pc old.0 old.1 in
       let there_other : slice_get o.routines r ≡ Some routine = ap (λ (rs : List Routine). slice_get rs r) same.routines ∙ there in
       let within_other = subst (λ (rs : List Routine). has_place (start_of rs r) routine.count pc ≡ true) (sym same.routines) has.within in
-      let accepted : refusal o r routine (start_of o.routines r) pc other.0 ≡ None = checked.1 r pc routine other.0 (record { there = there_other; within = within_other; read = other.1 }) in
+      let accepted : refusal o r routine (start_of o.routines r) pc other.0 ≡ None = checked.1 r pc routine other.0
+      (record { there = there_other; within = within_other; read = other.1 }) in
       let here : refusal o r routine (start_of image.routines r) pc (record other.0 { instr = old.0.instr }) ≡ None =
       subst (λ (rs : List Routine). refusal o r routine (start_of rs r) pc (record other.0 { instr = old.0.instr }) ≡ None) same.routines
       (subst (λ (i : Instr). refusal o r routine (start_of o.routines r) pc (record other.0 { instr = i }) ≡ None) other.2 accepted) in
       let below = C.below pc within.above within.below in
       let want = want-steps pc other.0 other.1 in
       subst (λ (x : Place). refusal (with_points image points) r routine (start_of image.routines r) pc x ≡ None) is
-      (accepts o (with_points image points) same.routines r routine (start_of image.routines r) pc old.0.instr (row_of (known_at known pc)) other.0.row (get_or steps pc 0) other.0.potential (omega arith) here
+      (accepts o (with_points image points) same.routines r routine (start_of image.routines r) pc old.0.instr
+      (row_of (known_at known pc)) other.0.row (get_or steps pc 0) other.0.potential (omega arith) here
       (beside pc old.0 other.0 within old.1 other.1))
 
 -- the format allows what is found
-all-given : (most : ℕ) (points : List Point) → length points ≤ most → ((k : ℕ) (point : Point) → slice_get points k ≡ Some point → row_stands true point.row ≡ true) → rows_stand (replicate most true) points ≡ true
+all-given : (most : ℕ) (points : List Point) → length points ≤ most
+    → ((k : ℕ) (point : Point) → slice_get points k ≡ Some point → row_stands true point.row ≡ true) → rows_stand (replicate most true) points ≡ true
 all-given most [] le each = refl
 all-given zero (point ∷ points) le each = absurd (omega (arith, le))
-all-given (suc most) (point ∷ points) le each = both (row_stands true point.row) (rows_stand (replicate most true) points) (each 0 point refl) (all-given most points (omega (arith, le)) (λ k other e. each (suc k) other e))
+all-given (suc most) (point ∷ points) le each = both (row_stands true point.row) (rows_stand (replicate most true) points)
+    (each 0 point refl) (all-given most points (omega (arith, le)) (λ k other e. each (suc k) other e))
 
-pub found-formed : (image : Parts) (known : List (Option Row)) (numbers : Numbers) (points : List Point) → is_image image ≡ true → PointsOf image known numbers points → is_formed true (with_points image points) ≡ true
+pub found-formed : (image : Parts) (known : List (Option Row)) (numbers : Numbers) (points : List Point)
+    → is_image image ≡ true → PointsOf image known numbers points → is_formed true (with_points image points) ≡ true
 found-formed image known numbers points legal P =
     let parts = image_parts image legal in
     let len = P.len in
@@ -196,18 +228,28 @@ found-formed image known numbers points legal P =
     let short : nat_le n 4096 ≡ true = le-leb n 4096 (let s = parts.short in omega arith) in
     let counts : (total_count image.routines == n) ≡ true = eq-eqb (total_count image.routines) n (parts.counts ∙ sym len) in
     let all : list_all (is_point true r n) points ≡ true = list_all-from (is_point true r n) points one in
-    let given : rows_stand (replicate 4096 true) points ≡ true = all-given 4096 points (let s = parts.short in omega arith) (λ k point at. ap (λ (x : Point). row_stands true x.row) (sym (found k point at).2)) in
-    both (nat_lt 0 r && nat_le r 32 && are_routines true [] image.routines && nat_le n 4096 && total_count image.routines == n && list_all (is_point true r n) points) (rows_stand (replicate 4096 true) points)
-    (both (nat_lt 0 r && nat_le r 32 && are_routines true [] image.routines && nat_le n 4096 && total_count image.routines == n) (list_all (is_point true r n) points)
+    let given : rows_stand (replicate 4096 true) points ≡ true = all-given 4096 points (let s = parts.short in omega arith)
+    (λ k point at. ap (λ (x : Point). row_stands true x.row) (sym (found k point at).2)) in
+    both (nat_lt 0 r && nat_le r 32 && are_routines true [] image.routines && nat_le n 4096 && total_count image.routines
+    == n && list_all (is_point true r n) points) (rows_stand (replicate 4096 true) points)
+    (both (nat_lt 0 r && nat_le r 32 && are_routines true [] image.routines && nat_le n 4096 && total_count image.routines == n)
+    (list_all (is_point true r n) points)
     (both (nat_lt 0 r && nat_le r 32 && are_routines true [] image.routines && nat_le n 4096) (total_count image.routines == n)
     (both (nat_lt 0 r && nat_le r 32 && are_routines true [] image.routines) (nat_le n 4096)
-    (both (nat_lt 0 r && nat_le r 32) (are_routines true [] image.routines) (both (nat_lt 0 r) (nat_le r 32) some few) (routines-too image.keyed [] image.routines parts.routines)) short) counts) all) given
+    (both (nat_lt 0 r && nat_le r 32) (are_routines true [] image.routines) (both (nat_lt 0 r) (nat_le r 32) some few)
+    (routines-too image.keyed [] image.routines parts.routines)) short) counts) all) given
   where
     -- the point that was made for an instruction
     made : ℕ → Instr → Point
-    made k i = record { instr = i; row = Some (row_of (known_at known k)); potential = record { constant = get_or numbers.steps k 0; coefficients = get_or numbers.coefficients k [] } }
+    made k i = record {
+      instr = i;
+      row = Some (row_of (known_at known k));
+      potential =
+          record { constant = get_or numbers.steps k 0; coefficients = get_or numbers.coefficients k [] };
+    }
 
-    found : (k : ℕ) (point : Point) → slice_get points k ≡ Some point → (old : Point) × (slice_get image.points k ≡ Some old) × (made k old.instr ≡ point)
+    found : (k : ℕ) (point : Point) → slice_get points k ≡ Some point → (old : Point) × (slice_get image.points k ≡ Some old)
+        × (made k old.instr ≡ point)
     found k point at =
         let lt = slice_get_within points k point at in
         let points_len = P.len in
@@ -218,15 +260,20 @@ found-formed image known numbers points legal P =
     one k point at =
         let points_len = P.len in
         let old = found k point at in
-        let old_legal = list_all-get (is_point image.keyed (length image.routines) (length image.points)) image.points k old.0 (image_parts image legal).points old.1 in
+        let old_legal = list_all-get (is_point image.keyed (length image.routines) (length image.points)) image.points
+        k old.0 (image_parts image legal).points old.1 in
         let instr = (and_parts (is_instr (length image.routines) (length image.points) old.0.instr) (is_given image.keyed old.0.row) old_legal).0 in
-        let here : is_instr (length image.routines) (length points) old.0.instr ≡ true = subst (λ (m : ℕ). is_instr (length image.routines) m old.0.instr ≡ true) (sym points_len) instr in
+        let here : is_instr (length image.routines) (length points) old.0.instr ≡ true =
+        subst (λ (m : ℕ). is_instr (length image.routines) m old.0.instr ≡ true) (sym points_len) instr in
         subst (λ (x : Point). is_point true (length image.routines) (length points) x ≡ true) old.2
-        (both (is_instr (length image.routines) (length points) old.0.instr) (is_given true (Some (row_of (known_at known k)))) here (P.legal k old.0 old.1))
+        (both (is_instr (length image.routines) (length points) old.0.instr) (is_given true (Some (row_of (known_at known k)))) here
+        (P.legal k old.0 old.1))
 
 -- the code of the image stays
-pub found-code : (image : Parts) (known : List (Option Row)) (numbers : Numbers) (points : List Point) → PointsOf image known numbers points → instrs_of (with_points image points) ≡ instrs_of image
-found-code image known numbers points P = same-lists (map instr_of points) (map instr_of image.points) (length-map points instr_of ∙ P.len ∙ sym (length-map image.points instr_of)) each
+pub found-code : (image : Parts) (known : List (Option Row)) (numbers : Numbers) (points : List Point)
+    → PointsOf image known numbers points → instrs_of (with_points image points) ≡ instrs_of image
+found-code image known numbers points P = same-lists (map instr_of points) (map instr_of image.points)
+    (length-map points instr_of ∙ P.len ∙ sym (length-map image.points instr_of)) each
   where
     each : (k : ℕ) (i : Instr) → slice_get (map instr_of image.points) k ≡ Some i → slice_get (map instr_of points) k ≡ Some i
     each k i e =
@@ -235,9 +282,11 @@ found-code image known numbers points P = same-lists (map instr_of points) (map 
 
 -- code without loops that is accepted has none in any routine
 pub forward-accepted : (image : Parts) → is_image image ≡ true → Forward image → (has : HasAccepted image) → (r : ℕ) → ForwardIn image r
-forward-accepted image legal forward has r = forward-in image legal forward (λ q routine there. closed-wanted image has.other has.same has.checked q routine there) r
+forward-accepted image legal forward has r = forward-in image legal forward
+    (λ q routine there. closed-wanted image has.other has.same has.checked q routine there) r
 
-module _ (image : Parts) (legal : is_image image ≡ true) (known : List (Option Row)) (numbers : Numbers) (points : List Point) (flowed : HaveFlowed image known (length image.routines)) (counts : AreCounted image 0 (length image.routines) numbers)
+module _ (image : Parts) (legal : is_image image ≡ true) (known : List (Option Row)) (numbers : Numbers)
+    (points : List Point) (flowed : HaveFlowed image known (length image.routines)) (counts : AreCounted image 0 (length image.routines) numbers)
     (P : PointsOf image known numbers points) (forward : Forward image) (has : HasAccepted image) where
   forward-at : (r : ℕ) → ForwardIn image r
   forward-at = forward-accepted image legal forward has
@@ -246,7 +295,8 @@ module _ (image : Parts) (legal : is_image image ≡ true) (known : List (Option
   rows-at r lt = let routine = item_at image.routines r lt in rows-wanted image has.other has.same has.checked r routine.0 routine.1
 
   steps-at : (r : ℕ) → r < length image.routines → StepsHoldIn image r (map constant_at (places has.other))
-  steps-at r lt = let routine = item_at image.routines r lt in steps-wanted image has.other has.same has.checked r routine.0 routine.1 forward has.fits
+  steps-at r lt = let routine = item_at image.routines r lt in steps-wanted image has.other has.same has.checked r
+      routine.0 routine.1 forward has.fits
 
   rows-of : (r : ℕ) → r < length image.routines → Flowing image r (map row_at (places has.other)) known (2 * start_of image.routines (r + 1))
   rows-of = flowed (map row_at (places has.other)) (λ r lt. (forward-at r, rows-at r lt))
@@ -265,22 +315,27 @@ module _ (image : Parts) (legal : is_image image ≡ true) (known : List (Option
   all-accepted r pc routine point at =
       let lt = slice_get_within image.routines r routine at.there in
       let L = plain image legal known numbers points zeros-at P in
-      found-accepted image legal has.other has.same has.checked known numbers.steps points L r routine at.there (forward-at r) (rows-at r lt) (rows-of r lt) (counted-of r lt).steps pc point at
+      found-accepted image legal has.other has.same has.checked known numbers.steps points L r routine at.there
+      (forward-at r) (rows-at r lt) (rows-of r lt) (counted-of r lt).steps pc point at
 
 -- where an image with that code is accepted, so is what is found
-pub found-acceptable : (image : Parts) → is_image image ≡ true → (known : List (Option Row)) (numbers : Numbers) (points : List Point) → HaveFlowed image known (length image.routines) → AreCounted image 0 (length image.routines) numbers
+pub found-acceptable : (image : Parts) → is_image image ≡ true → (known : List (Option Row)) (numbers : Numbers) (points : List Point)
+    → HaveFlowed image known (length image.routines) → AreCounted image 0 (length image.routines) numbers
     → PointsOf image known numbers points → FindsWhatThereIs image (with_points image points)
-found-acceptable image legal known numbers points flowed counts P = λ forward has. (found-formed image known numbers points legal P, all-accepted image legal known numbers points flowed counts P forward has)
+found-acceptable image legal known numbers points flowed counts P =
+    λ forward has. (found-formed image known numbers points legal P, all-accepted image legal known numbers points flowed counts P forward has)
 
 -- where nothing holds in some routine, no image is accepted
 pub none-accepted : (image : Parts) → is_image image ≡ true → (r : ℕ) → r < length image.routines → NothingHoldsIn image r → NoneIsAccepted image
 none-accepted image legal r lt nothing = λ forward has.
     let routine = item_at image.routines r lt in
     nothing (forward-accepted image legal forward has r) (map row_at (places has.other)) (map constant_at (places has.other))
-    (rows-wanted image has.other has.same has.checked r routine.0 routine.1) (steps-wanted image has.other has.same has.checked r routine.0 routine.1 forward has.fits)
+    (rows-wanted image has.other has.same has.checked r routine.0 routine.1)
+    (steps-wanted image has.other has.same has.checked r routine.0 routine.1 forward has.fits)
 
 -- the routine that an error names is one in which nothing holds
-pub stuck-in : (image : Parts) (r routines : ℕ) (error : InferError) → NamesRoutine image error → error ≡ NoRows r → (routines < length image.routines → NoRowsHoldIn image routines) → (r ≡ routines) ⊎ NoStepsHoldIn image r
+pub stuck-in : (image : Parts) (r routines : ℕ) (error : InferError) → NamesRoutine image error → error ≡ NoRows r
+    → (routines < length image.routines → NoRowsHoldIn image routines) → (r ≡ routines) ⊎ NoStepsHoldIn image r
     → (r < length image.routines) × NothingHoldsIn image r
 stuck-in image r routines error names e none_rows why =
     let lt : r < length image.routines = subst (NamesRoutine image) e names in (
@@ -300,13 +355,17 @@ made_of routines points = record { keyed = false; routines = routines; points = 
 pub same-routines : (image : Parts) (routines : List Routine) → RoutinesOf image routines → routines ≡ image.routines
 same-routines image routines R = same-lists routines image.routines R.len R.each
 
-pub made-formed : (image : Parts) (routines : List Routine) (points : List Point) → RoutinesOf image routines → is_formed true (with_points image points) ≡ true → is_formed true (made_of routines points) ≡ true
-made-formed image routines points R h = subst (λ (rs : List Routine). is_formed true (made_of rs points) ≡ true) (sym (same-routines image routines R)) h
+pub made-formed : (image : Parts) (routines : List Routine) (points : List Point) → RoutinesOf image routines
+    → is_formed true (with_points image points) ≡ true → is_formed true (made_of routines points) ≡ true
+made-formed image routines points R h = subst (λ (rs : List Routine). is_formed true (made_of rs points) ≡ true)
+    (sym (same-routines image routines R)) h
 
-pub made-is : (image made : Parts) (routines : List Routine) (points : List Point) → RoutinesOf image routines → made ≡ made_of routines points → made ≡ with_points image points
+pub made-is : (image made : Parts) (routines : List Routine) (points : List Point) → RoutinesOf image routines
+    → made ≡ made_of routines points → made ≡ with_points image points
 made-is image made routines points R e = e ∙ ap (λ (rs : List Routine). made_of rs points) (same-routines image routines R)
 
-pub made-code : (image made : Parts) (points : List Point) → made ≡ with_points image points → instrs_of (with_points image points) ≡ instrs_of image → SameCode image made
+pub made-code : (image made : Parts) (points : List Point) → made ≡ with_points image points
+    → instrs_of (with_points image points) ≡ instrs_of image → SameCode image made
 made-code image made points e same =
     let here : SameCode image (with_points image points) = record { routines = refl; instrs = same } in
     subst (λ (x : Parts). SameCode image x) (sym e) here

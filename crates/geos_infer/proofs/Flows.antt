@@ -27,7 +27,8 @@ use Rattle.geos_infer.proofs.Ends.{edge-mono, after-edge, code-at}
 
 -- The order of edges
 
-number-split : (k pc : ℕ) (b branch : Bool) → edge_number k b < suc (edge_number pc branch) → (edge_number k b < edge_number pc branch) ⊎ ((k ≡ pc) × (b ≡ branch))
+number-split : (k pc : ℕ) (b branch : Bool) → edge_number k b < suc (edge_number pc branch)
+    → (edge_number k b < edge_number pc branch) ⊎ ((k ≡ pc) × (b ≡ branch))
 number-split k pc true true h = elim (cases_lt k pc) [ inl lt ↦ inl (omega arith) | inr le ↦ inr (omega arith, refl) ]
 number-split k pc true false h = inl (omega arith)
 number-split k pc false true h = elim (cases_lt k (suc pc)) [ inl lt ↦ inl (omega arith) | inr le ↦ absurd (omega arith) ]
@@ -47,7 +48,8 @@ pub some-is : {X : Type 0} (x y : X) → Some x ≡ Some y → x ≡ y
 some-is x y e = cc
 
 -- What is known at a place stays known, where what comes there is joined with it
-stays : (known : List (Option Row)) (to : ℕ) (joined : Row) → to < length known → ((old : Row) → known_at known to ≡ Some old → fits old joined ≡ true)
+stays : (known : List (Option Row)) (to : ℕ) (joined : Row) → to < length known
+    → ((old : Row) → known_at known to ≡ Some old → fits old joined ≡ true)
     → (pc : ℕ) (row : Row) → KnownAt known pc row → KnownAt (set known to (Some joined)) pc row
 stays known to joined lt above pc row K = elim (cases_eq pc to) [
   | inl e ↦ record {
@@ -72,7 +74,8 @@ join-upper : (o : Option Row) (row joined : Row) → IsJoin o row joined → fit
 join-upper None row joined is = subst (λ (y : Row). fits row y ≡ true) (sym is) (fits-refl row)
 join-upper (Some x) row joined is = is.right
 
-pub join-least : (o : Option Row) (row joined u : Row) → IsJoin o row joined → ((old : Row) → o ≡ Some old → fits old u ≡ true) → fits row u ≡ true → fits joined u ≡ true
+pub join-least : (o : Option Row) (row joined u : Row) → IsJoin o row joined → ((old : Row) → o ≡ Some old → fits old u ≡ true)
+    → fits row u ≡ true → fits joined u ≡ true
 join-least None row joined u is below h = subst (λ (y : Row). fits y u ≡ true) (sym is) h
 join-least (Some x) row joined u is below h = is.least u (below x refl) h
 
@@ -82,7 +85,8 @@ no-join (Some x) row u none below h = none u (below x refl) h
 
 -- One edge
 
-module _ (image : Parts) (r : ℕ) (small : start_of image.routines (r + 1) ≤ length (instrs_of image)) (known next : List (Option Row)) (pc : ℕ) (branch : Bool) (within : IsPcOf image r pc) where
+module _ (image : Parts) (r : ℕ) (small : start_of image.routines (r + 1) ≤ length (instrs_of image))
+    (known next : List (Option Row)) (pc : ℕ) (branch : Bool) (within : IsPcOf image r pc) where
   -- where the row comes there is room
   there : length (instrs_of image) ≤ length known → (goes : GoesAhead image r pc branch known) → goes.to < length known
   there room goes = (let below = goes.stays.below in omega (arith, room, small, below))
@@ -108,66 +112,83 @@ module _ (image : Parts) (r : ℕ) (small : start_of image.routines (r + 1) ≤ 
     }
 
     -- what goes along it is joined with what is known where it leads
-    fit-joined : (goes : GoesAhead image r pc branch known) (J : Joins known goes.to (edge_row image goes.i branch (clean goes.row)) next) → FitAhead image r (set known goes.to (Some J.joined)) (suc (edge_number pc branch))
+    fit-joined : (goes : GoesAhead image r pc branch known) (J : Joins known goes.to (edge_row image goes.i branch (clean goes.row)) next)
+        → FitAhead image r (set known goes.to (Some J.joined)) (suc (edge_number pc branch))
     fit-joined goes J =
         let table = set known goes.to (Some J.joined) in
         let lt = there F.len goes in
-        let keeps = stays known goes.to J.joined lt (join-above (known_at known goes.to) (edge_row image goes.i branch (clean goes.row)) J.joined J.join) in
+        let keeps = stays known goes.to J.joined lt
+        (join-above (known_at known goes.to) (edge_row image goes.i branch (clean goes.row)) J.joined J.join) in
         record {
           len = (let same = length-set known goes.to (Some J.joined) in let len = F.len in omega (arith, same, len));
           entry = λ routine at. keeps (start_of image.routines r) routine.entry (F.entry routine at);
           edges = λ k t b j from k_in t_in ahead less other e. elim (number-split k pc b branch less) [
             | inl before ↦
-                let same_row : known_at table k ≡ known_at known k = get_or-set_other known goes.to k (Some J.joined) None (number-not-behind k pc goes.to b branch goes.ahead before) in
+                let same_row : known_at table k ≡ known_at known k = get_or-set_other known goes.to k (Some J.joined) None
+                (number-not-behind k pc goes.to b branch goes.ahead before) in
                 keeps t (edge_row image j b (clean from)) (F.edges k t b j from k_in t_in ahead before other (sym same_row ∙ e))
             | inr this ↦ this-edge lt k t b j from this.0 this.1 other e
           ];
         }
       where
-        this-edge : goes.to < length known → (k t : ℕ) (b : Bool) (j : Instr) (from : Row) → k ≡ pc → b ≡ branch → Edge (instrs_of image) k b t j → known_at (set known goes.to (Some J.joined)) k ≡ Some from
+        this-edge : goes.to < length known → (k t : ℕ) (b : Bool) (j : Instr) (from : Row) → k ≡ pc → b ≡ branch
+            → Edge (instrs_of image) k b t j → known_at (set known goes.to (Some J.joined)) k ≡ Some from
             → KnownAt (set known goes.to (Some J.joined)) t (edge_row image j b (clean from))
         this-edge lt k t b j from same same_branch other e =
             let table = set known goes.to (Some J.joined) in
             let is_i : goes.i ≡ j = some-is goes.i j (sym goes.edge.read ∙ ap (slice_get (instrs_of image)) (sym same) ∙ other.read) in
-            let is_to : goes.to ≡ t = sym goes.edge.leads ∙ ap (λ x. edge_end pc x branch) is_i ∙ ap (λ x. edge_end pc j x) (sym same_branch) ∙ ap (λ x. edge_end x j b) (sym same) ∙ other.leads in
+            let is_to : goes.to ≡ t = sym goes.edge.leads ∙ ap (λ x. edge_end pc x branch) is_i
+            ∙ ap (λ x. edge_end pc j x) (sym same_branch) ∙ ap (λ x. edge_end x j b) (sym same) ∙ other.leads in
             let ahead = goes.ahead in
             let ne : pc ≢ goes.to = (λ at. absurd (omega (arith, at, ahead))) in
-            let same_row : known_at table k ≡ known_at known pc = ap (known_at table) same ∙ get_or-set_other known goes.to pc (Some J.joined) None ne in
+            let same_row : known_at table k ≡ known_at known pc = ap (known_at table) same
+            ∙ get_or-set_other known goes.to pc (Some J.joined) None ne in
             let is_row : goes.row ≡ from = some-is goes.row from (sym goes.here ∙ sym same_row ∙ e) in
             let rows : edge_row image goes.i branch (clean goes.row) ≡ edge_row image j b (clean from) =
-            ap (λ x. edge_row image x branch (clean goes.row)) is_i ∙ ap (λ x. edge_row image j x (clean goes.row)) (sym same_branch) ∙ ap (λ (x : Row). edge_row image j b (clean x)) is_row in
+            ap (λ x. edge_row image x branch (clean goes.row)) is_i ∙ ap (λ x. edge_row image j x (clean goes.row)) (sym same_branch)
+            ∙ ap (λ (x : Row). edge_row image j b (clean x)) is_row in
             record {
               known_row = J.joined;
               read = ap (known_at table) (sym is_to) ∙ get_or-set_same known goes.to (Some J.joined) None lt;
-              fits = subst (λ (x : Row). fits x J.joined ≡ true) rows (join-upper (known_at known goes.to) (edge_row image goes.i branch (clean goes.row)) J.joined J.join);
+              fits = subst (λ (x : Row). fits x J.joined ≡ true) rows
+                  (join-upper (known_at known goes.to) (edge_row image goes.i branch (clean goes.row)) J.joined J.join);
             }
 
     -- where rows have a join, all fits along one more edge
     pub spreads-fit : (ok : Bool) → ok ≡ true → Spreads image r pc branch known next ok → FitAhead image r next (suc (edge_number pc branch))
     spreads-fit false e S = absurd (false≢true e)
     spreads-fit true e (inl same) = subst (λ (x : List (Option Row)). FitAhead image r x (suc (edge_number pc branch))) (sym same.2) (fit-same same.0)
-    spreads-fit true e (inr came) = subst (λ (x : List (Option Row)). FitAhead image r x (suc (edge_number pc branch))) (sym came.1.is) (fit-joined came.0 came.1)
+    spreads-fit true e (inr came) = subst (λ (x : List (Option Row)). FitAhead image r x (suc (edge_number pc branch)))
+        (sym came.1.is) (fit-joined came.0 came.1)
 
-  module _ (room : length (instrs_of image) ≤ length known) (want : List Row) (holds : RowsHoldIn image r want) (B : AllBelow image r want known) where
+  module _ (room : length (instrs_of image) ≤ length known) (want : List Row) (holds : RowsHoldIn image r want)
+      (B : AllBelow image r want known) where
     want-at : (k : ℕ) → IsPcOf image r k → (w : Row) × (slice_get want k ≡ Some w)
     want-at k k_in = item_at want k (let len = holds.len in let below = k_in.below in omega (arith, len, below, small))
 
     -- the row that comes fits the one that is wanted
-    comes : (goes : GoesAhead image r pc branch known) (w : Row) → slice_get want goes.to ≡ Some w → fits (edge_row image goes.i branch (clean goes.row)) w ≡ true
+    comes : (goes : GoesAhead image r pc branch known) (w : Row) → slice_get want goes.to ≡ Some w
+        → fits (edge_row image goes.i branch (clean goes.row)) w ≡ true
     comes goes w at =
         let before = want-at pc within in
-        let least = (clean-least goes.row).least before.0 (B pc goes.row before.0 within goes.here before.1) (holds.clean pc before.0 within before.1) in
-        fits-trans (edge_row image goes.i branch (clean goes.row)) (edge_row image goes.i branch before.0) w (edge-mono image goes.i branch (clean goes.row) before.0 least)
+        let least = (clean-least goes.row).least before.0 (B pc goes.row before.0 within goes.here before.1)
+        (holds.clean pc before.0 within before.1) in
+        fits-trans (edge_row image goes.i branch (clean goes.row)) (edge_row image goes.i branch before.0) w
+        (edge-mono image goes.i branch (clean goes.row) before.0 least)
         (holds.edges pc goes.to branch goes.i before.0 w within goes.edge before.1 at)
 
-    below-joined : (goes : GoesAhead image r pc branch known) (J : Joins known goes.to (edge_row image goes.i branch (clean goes.row)) next) → AllBelow image r want (set known goes.to (Some J.joined))
+    below-joined : (goes : GoesAhead image r pc branch known) (J : Joins known goes.to (edge_row image goes.i branch (clean goes.row)) next)
+        → AllBelow image r want (set known goes.to (Some J.joined))
     below-joined goes J t row v t_in e f = elim (cases_eq t goes.to) [
       | inl same ↦
-          let at_to : known_at (set known goes.to (Some J.joined)) goes.to ≡ Some row = ap (known_at (set known goes.to (Some J.joined))) (sym same) ∙ e in
-          let is_joined : J.joined ≡ row = some-is J.joined row (sym (get_or-set_same known goes.to (Some J.joined) None (there room goes)) ∙ at_to) in
+          let at_to : known_at (set known goes.to (Some J.joined)) goes.to ≡ Some row = ap (known_at (set known goes.to (Some J.joined))) (sym same)
+          ∙ e in
+          let is_joined : J.joined ≡ row = some-is J.joined row (sym (get_or-set_same known goes.to (Some J.joined) None (there room goes))
+          ∙ at_to) in
           let at : slice_get want goes.to ≡ Some v = ap (slice_get want) (sym same) ∙ f in
           subst (λ (x : Row). fits x v ≡ true) is_joined
-          (join-least (known_at known goes.to) (edge_row image goes.i branch (clean goes.row)) J.joined v J.join (λ old is. B goes.to old v goes.stays is at) (comes goes v at))
+          (join-least (known_at known goes.to) (edge_row image goes.i branch (clean goes.row)) J.joined v J.join
+          (λ old is. B goes.to old v goes.stays is at) (comes goes v at))
       | inr ne ↦ B t row v t_in (sym (get_or-set_other known goes.to t (Some J.joined) None ne) ∙ e) f
     ]
 
@@ -178,27 +199,47 @@ module _ (image : Parts) (r : ℕ) (small : start_of image.routines (r + 1) ≤ 
     spreads-below false (inr came) =
         let goes = came.0 in
         let w = want-at goes.to goes.stays in
-        absurd (no-join (known_at known goes.to) (edge_row image goes.i branch (clean goes.row)) w.0 came.1 (λ old is. B goes.to old w.0 goes.stays is w.1) (comes goes w.0 w.1))
+        absurd (no-join (known_at known goes.to) (edge_row image goes.i branch (clean goes.row)) w.0 came.1
+        (λ old is. B goes.to old w.0 goes.stays is w.1) (comes goes w.0 w.1))
 
 -- what a row brings to a place goes on from there
-pub spreads-on : (image : Parts) (r pc : ℕ) (branch : Bool) (edge : Edge_) (row : Row) (known next : List (Option Row)) (arrival : Arrival) → known_at known pc ≡ Some row → edge.pc ≡ pc → edge.branch ≡ branch
-    → LeadsTo image pc branch edge.to → IsPcOf image r edge.to → pc < edge.to → Arrives arrival known edge.to (after image edge.pc (clean row) edge.branch) next
+pub spreads-on : (image : Parts) (r pc : ℕ) (branch : Bool) (edge : Edge_) (row : Row) (known next : List (Option Row)) (arrival : Arrival)
+    → known_at known pc ≡ Some row → edge.pc ≡ pc → edge.branch ≡ branch
+    → LeadsTo image pc branch edge.to → IsPcOf image r edge.to → pc < edge.to
+    → Arrives arrival known edge.to (after image edge.pc (clean row) edge.branch) next
     → Spreads image r pc branch known next (has_joined arrival)
 spreads-on image r pc branch edge row known next arrival here pc_is branch_is leads inside ahead came =
-    let is : Edge (instrs_of image) pc branch edge.to leads.point.instr = record { read = code-at image pc leads.point leads.there; has = leads.has; leads = leads.leads } in
+    let is : Edge (instrs_of image) pc branch edge.to leads.point.instr =
+    record { read = code-at image pc leads.point leads.there; has = leads.has; leads = leads.leads } in
     let over : after image edge.pc (clean row) edge.branch ≡ edge_row image leads.point.instr branch (clean row) =
-    ap (λ k. after image k (clean row) edge.branch) pc_is ∙ ap (λ b. after image pc (clean row) b) branch_is ∙ after-edge image pc branch leads.point (clean row) leads.there in
-    let goes : GoesAhead image r pc branch known = record { row = row; here = here; to = edge.to; i = leads.point.instr; edge = is; stays = inside; ahead = ahead } in
-    inr (goes, by_arrival arrival (edge_row image leads.point.instr branch (clean row)) (subst (λ (x : Row). Arrives arrival known edge.to x next) over came))
+    ap (λ k. after image k (clean row) edge.branch) pc_is ∙ ap (λ b. after image pc (clean row) b) branch_is
+    ∙ after-edge image pc branch leads.point (clean row) leads.there in
+    let goes : GoesAhead image r pc branch known = record {
+      row = row;
+      here = here;
+      to = edge.to;
+      i = leads.point.instr;
+      edge =
+          is;
+      stays = inside;
+      ahead = ahead;
+    } in
+    inr (
+      goes,
+      by_arrival arrival (edge_row image leads.point.instr branch (clean row))
+          (subst (λ (x : Row). Arrives arrival known edge.to x next) over came),
+    )
   where
-    by_arrival : (a : Arrival) (row : Row) → Arrives a known edge.to row next → MatchBool (has_joined a) (Joins known edge.to row next) (HaveNoJoin (known_at known edge.to) row)
+    by_arrival : (a : Arrival) (row : Row) → Arrives a known edge.to row next
+        → MatchBool (has_joined a) (Joins known edge.to row next) (HaveNoJoin (known_at known edge.to) row)
     by_arrival Same row came = came
     by_arrival Weaker row came = came
     by_arrival Apart row came = came
 
 -- The edges of an instruction
 
-module _ (image : Parts) (r : ℕ) (small : start_of image.routines (r + 1) ≤ length (instrs_of image)) (known middle next : List (Option Row)) (pc more : ℕ) (within : IsPcOf image r pc) (one : more ≡ pc + 1) (along aside : Bool)
+module _ (image : Parts) (r : ℕ) (small : start_of image.routines (r + 1) ≤ length (instrs_of image))
+    (known middle next : List (Option Row)) (pc more : ℕ) (within : IsPcOf image r pc) (one : more ≡ pc + 1) (along aside : Bool)
     (S : Spreads image r pc false known middle along) (A : Spreads image r pc true middle next aside) (F : FitAhead image r known (2 * pc)) where
   pub fit-more : along ≡ true → aside ≡ true → FitAhead image r next (2 * more)
   fit-more e f =
@@ -208,7 +249,8 @@ module _ (image : Parts) (r : ℕ) (small : start_of image.routines (r + 1) ≤ 
       let even : suc (2 * pc + 1) ≡ 2 * more = omega (arith, one) in
       subst (λ (n : ℕ). FitAhead image r next n) even second
 
-  pub below-more : (want : List Row) → RowsHoldIn image r want → AllBelow image r want known → (along ≡ true) × (aside ≡ true) × AllBelow image r want next
+  pub below-more : (want : List Row) → RowsHoldIn image r want → AllBelow image r want known → (along ≡ true)
+      × (aside ≡ true) × AllBelow image r want next
   below-more want holds B =
       let first = spreads-below image r small known middle pc false within F.len want holds B along S in
       let fit = spreads-fit image r small known middle pc false within F along first.0 S in
@@ -216,7 +258,8 @@ module _ (image : Parts) (r : ℕ) (small : start_of image.routines (r + 1) ≤ 
       (first.0, second.0, second.1)
 
 -- where rows have flowed along all edges of a routine, something is known at each instruction
-pub all-reached : (image : Parts) (r : ℕ) → ForwardIn image r → (routine : Routine) → slice_get image.routines r ≡ Some routine → (want : List Row) (known : List (Option Row)) → Flowing image r want known (2 * start_of image.routines (r + 1))
+pub all-reached : (image : Parts) (r : ℕ) → ForwardIn image r → (routine : Routine) → slice_get image.routines r ≡ Some routine
+    → (want : List Row) (known : List (Option Row)) → Flowing image r want known (2 * start_of image.routines (r + 1))
     → start_of image.routines (r + 1) ≤ length (instrs_of image) → AllKnown image r known
 all-reached image r forward routine there want known F small pc within = reached-before (suc pc) pc (omega arith) within
   where
@@ -237,10 +280,12 @@ all-reached image r forward routine there want known F small pc within = reached
 
 -- Routine after routine
 
-known-stays : (known next : List (Option Row)) (start pc : ℕ) (row : Row) → StaysBefore start known next → pc < start → KnownAt known pc row → KnownAt next pc row
+known-stays : (known next : List (Option Row)) (start pc : ℕ) (row : Row) → StaysBefore start known next → pc < start
+    → KnownAt known pc row → KnownAt next pc row
 known-stays known next start pc row stay lt K = record { known_row = K.known_row; read = stay pc lt ∙ K.read; fits = K.fits }
 
-flowing-stays : (image : Parts) (q : ℕ) (want : List Row) (known next : List (Option Row)) (start done : ℕ) → StaysBefore start known next → start_of image.routines q < start → start_of image.routines (q + 1) ≤ start
+flowing-stays : (image : Parts) (q : ℕ) (want : List Row) (known next : List (Option Row)) (start done : ℕ)
+    → StaysBefore start known next → start_of image.routines q < start → start_of image.routines (q + 1) ≤ start
     → length (instrs_of image) ≤ length next → Flowing image q want known done → Flowing image q want next done
 flowing-stays image q want known next start done stay begins ends len F = record {
   below = λ pc row w within e f. (let below = within.below in F.below pc row w within (sym (stay pc (omega arith)) ∙ e) f);
@@ -250,12 +295,14 @@ flowing-stays image q want known next start done stay begins ends len F = record
     edges = λ pc to branch i row within inside ahead less edge e.
         let below = within.below in
         let limit = inside.below in
-        known-stays known next start to (edge_row image i branch (clean row)) stay (omega arith) (F.fit.edges pc to branch i row within inside ahead less edge (sym (stay pc (omega arith)) ∙ e));
+        known-stays known next start to (edge_row image i branch (clean row)) stay (omega arith)
+        (F.fit.edges pc to branch i row within inside ahead less edge (sym (stay pc (omega arith)) ∙ e));
   };
 }
 
 -- one more routine
-pub have_flowed-more : (image : Parts) → is_image image ≡ true → (known next : List (Option Row)) (r : ℕ) → r < length image.routines → HaveFlowed image known r → StaysBefore (start_of image.routines r) known next → FlowsAnew image r next true
+pub have_flowed-more : (image : Parts) → is_image image ≡ true → (known next : List (Option Row)) (r : ℕ)
+    → r < length image.routines → HaveFlowed image known r → StaysBefore (start_of image.routines r) known next → FlowsAnew image r next true
     → HaveFlowed image next (r + 1)
 have_flowed-more image legal known next r lt before stay anew = λ want all q q_lt.
     let this = all r (omega arith) in
@@ -267,7 +314,8 @@ have_flowed-more image legal known next r lt before stay anew = λ want all q q_
           let end = start_of-next image.routines q routine.0 routine.1 in
           let later = start_of-le image.routines (q + 1) r (omega arith) in
           let one : start_of image.routines (q + 1) ≡ start_of image.routines (suc q) = ap (start_of image.routines) (add-one q) in
-          flowing-stays image q want known next (start_of image.routines r) (2 * start_of image.routines (q + 1)) stay (let count = some.1 in omega arith) (omega arith) here.fit.len
+          flowing-stays image q want known next (start_of image.routines r) (2 * start_of image.routines (q + 1)) stay
+          (let count = some.1 in omega arith) (omega arith) here.fit.len
           (before want (λ k k_lt. all k (omega arith)) q less)
       | inr le ↦
           let same : r ≡ q = omega arith in
@@ -275,5 +323,7 @@ have_flowed-more image legal known next r lt before stay anew = λ want all q q_
     ]
 
 -- what is found in a routine, where its body is of it
-pub flows-anew : (image here : Parts) (number r : ℕ) (known : List (Option Row)) (done : Bool) → here ≡ image → number ≡ r → FlowsAnew here number known done → FlowsAnew image r known done
-flows-anew image here number r known done same_image same_number flows = subst (λ (x : Parts). FlowsAnew x r known done) same_image (subst (λ (n : ℕ). FlowsAnew here n known done) same_number flows)
+pub flows-anew : (image here : Parts) (number r : ℕ) (known : List (Option Row)) (done : Bool) → here ≡ image
+    → number ≡ r → FlowsAnew here number known done → FlowsAnew image r known done
+flows-anew image here number r known done same_image same_number flows = subst (λ (x : Parts). FlowsAnew x r known done)
+    same_image (subst (λ (n : ℕ). FlowsAnew here n known done) same_number flows)

@@ -78,10 +78,12 @@ slot-least x y u h j = by_test (slot_fits x y)
 -- Pointers
 
 -- the join of two pointers, by whether their slots are one
-by-slot : (p q : Pointer) (b : Bool) → (p.slot == q.slot) ≡ b → (pointer_fits (Some p) (pointer_join (Some p) (Some q)) ≡ true) × (pointer_fits (Some q) (pointer_join (Some p) (Some q)) ≡ true)
+by-slot : (p q : Pointer) (b : Bool) → (p.slot == q.slot) ≡ b → (pointer_fits (Some p) (pointer_join (Some p) (Some q)) ≡ true)
+    × (pointer_fits (Some q) (pointer_join (Some p) (Some q)) ≡ true)
 by-slot p q true e = rw e (
   both (p.slot == p.slot) (nat_le (min p.least q.least) p.least) (eq-eqb p.slot p.slot refl) (le-leb (min p.least q.least) p.least (omega arith)),
-  both (q.slot == p.slot) (nat_le (min p.least q.least) q.least) (eq-eqb q.slot p.slot (sym (eqb-true p.slot q.slot e))) (le-leb (min p.least q.least) q.least (omega arith)),
+  both (q.slot == p.slot) (nat_le (min p.least q.least) q.least) (eq-eqb q.slot p.slot (sym (eqb-true p.slot q.slot e)))
+      (le-leb (min p.least q.least) q.least (omega arith)),
 )
 by-slot p q false e = rw e (refl, refl)
 

@@ -25,15 +25,20 @@ begins-in image r pc [] steps takes = takes.0
 begins-in image r pc (branch ∷ branches) steps takes = takes.2
 
 -- a way with counters is one without
-along : (image : Parts) (r : ℕ) (from : Place) (places : List Place) (to : Place) (steps : ℕ) (branches : List Bool) (rest : ℕ) → Takes image r from places to steps → TakesAlong image r to.pc branches rest
+along : (image : Parts) (r : ℕ) (from : Place) (places : List Place) (to : Place) (steps : ℕ) (branches : List Bool) (rest : ℕ)
+    → Takes image r from places to steps → TakesAlong image r to.pc branches rest
     → (more : List Bool) × TakesAlong image r from.pc more (steps + rest)
 along image r from [] to steps branches rest way further =
     let none : steps ≡ 0 = way.1 in
-    let same : rest ≡ steps + rest = omega arith in
-    (branches, subst (λ (n : ℕ). TakesAlong image r from.pc branches n) same (subst (λ (p : Place). TakesAlong image r p.pc branches rest) way.0 further))
+    let same : rest ≡ steps + rest = omega arith in (
+      branches,
+      subst (λ (n : ℕ). TakesAlong image r from.pc branches n) same
+          (subst (λ (p : Place). TakesAlong image r p.pc branches rest) way.0 further),
+    )
 along image r from (place ∷ places) to steps branches rest way further =
     let goes = way.2 in
-    let here : TakesAlong image r place.pc (goes.branch ∷ branches) (taken_at image place.pc + rest) = (to.pc, rest, goes.within, goes.leads, further, refl) in
+    let here : TakesAlong image r place.pc (goes.branch ∷ branches) (taken_at image place.pc + rest) =
+    (to.pc, rest, goes.within, goes.leads, further, refl) in
     let so_far = along image r from places place way.0 (goes.branch ∷ branches) (taken_at image place.pc + rest) way.1 here in
     let sum : steps ≡ way.0 + taken_at image place.pc = way.3 in
     let same : way.0 + (taken_at image place.pc + rest) ≡ steps + rest = omega arith in
@@ -43,9 +48,11 @@ module _ (image : Parts) (r : ℕ) (ahead : OnlyAhead image r) where
   -- an edge within the routine leads ahead
   pub leads-ahead : (pc to : ℕ) (branch : Bool) → IsPcOf image r pc → IsPcOf image r to → LeadsTo image pc branch to → pc < to
   leads-ahead pc to false here there leads = let next : pc + 1 ≡ to = leads.leads in omega arith
-  leads-ahead pc to true here there leads = ahead pc here to leads.point.instr there (record { read = code-at image pc leads.point leads.there; has = leads.has; leads = leads.leads })
+  leads-ahead pc to true here there leads = ahead pc here to leads.point.instr there
+      (record { read = code-at image pc leads.point leads.there; has = leads.has; leads = leads.leads })
 
-  trail-ahead : (counter : Option ℕ) (from : ℕ) (branches : List Bool) (to : ℕ) → IsPcOf image r from → IsTrail image r counter from branches to → from ≤ to
+  trail-ahead : (counter : Option ℕ) (from : ℕ) (branches : List Bool) (to : ℕ) → IsPcOf image r from
+      → IsTrail image r counter from branches to → from ≤ to
   trail-ahead counter from [] to here trail = let same : from ≡ to = trail in omega arith
   trail-ahead counter from (branch ∷ branches) to here trail =
       let less = leads-ahead from trail.0 branch here trail.1.stays trail.1.leads in
@@ -72,7 +79,8 @@ module _ (image : Parts) (r : ℕ) (ahead : OnlyAhead image r) where
 
 pub none-other : NoOtherHolds
 none-other image r (SlotsDiffer apart) none other holds =
-    let alike = none.slots apart.to apart.first.row apart.second.row (comes-to image r apart.to apart.first holds.first) (comes-to image r apart.to apart.second holds.second) in
+    let alike = none.slots apart.to apart.first.row apart.second.row (comes-to image r apart.to apart.first holds.first)
+    (comes-to image r apart.to apart.second holds.second) in
     false≢true (sym holds.differ ∙ alike)
 none-other image r (NoLoop back) none other holds =
     let less = leads-ahead image r none.steps.ahead back.from back.to true holds.begins holds.leads.stays holds.leads.leads in
@@ -88,19 +96,23 @@ none-other image r (TouchedWithin within) none other holds =
     let round = round-ahead image r none.steps.ahead within.back.to within.at holds.0.left.loops.to holds.0.round in
     let kept = kept-ahead image r none.steps.ahead within.counter within.at within.back.from holds.0.left.kept in
     omega arith
-none-other image r (TouchedBefore within) none other holds = none-round image r none.steps.ahead within.back within.counter holds.0.left.loops holds.0.round
+none-other image r (TouchedBefore within) none other holds = none-round image r none.steps.ahead within.back
+    within.counter holds.0.left.loops holds.0.round
 none-other image r (InTurn both) none other holds =
     let less = loop-ahead image r none.steps.ahead both.back both.counter holds.loops in
     let round = round-ahead image r none.steps.ahead both.back.to both.at holds.loops.to holds.sets.round in
     let again = round-ahead image r none.steps.ahead both.at both.back.from holds.sets.here holds.sets.again in
     omega arith
 none-other image r StepsPass none other holds =
-    let way = along image r (record { pc = holds.from; counters = zeros }) holds.places holds.end holds.before [] (taken_at image holds.end.pc) holds.way (holds.ends, refl) in
+    let way = along image r (record { pc = holds.from; counters = zeros }) holds.places holds.end holds.before []
+    (taken_at image holds.end.pc) holds.way (holds.ends, refl) in
     let few = none.steps.few holds.from way.0 (holds.before + taken_at image holds.end.pc) way.1 in
     let past = holds.past in
     omega arith
-none-other image r (WordUnbounded by_word) none other holds = none-round image r none.steps.ahead holds.for_loop.back by_word.counter holds.for_loop.loops holds.for_loop.round
-none-other image r (NumberHigh by_number) none other holds = none-round image r none.steps.ahead holds.for_loop.back by_number.counter holds.for_loop.loops holds.for_loop.round
+none-other image r (WordUnbounded by_word) none other holds = none-round image r none.steps.ahead holds.for_loop.back
+    by_word.counter holds.for_loop.loops holds.for_loop.round
+none-other image r (NumberHigh by_number) none other holds = none-round image r none.steps.ahead holds.for_loop.back
+    by_number.counter holds.for_loop.loops holds.for_loop.round
 none-other image r (GivenUp back) none other holds =
     let less = leads-ahead image r none.steps.ahead back.from back.to true holds.from holds.to holds.leads in
     let order = holds.order in
@@ -123,13 +135,15 @@ leads-one image pc branch a b x y =
     let same : x.point ≡ y.point = same_Some x.point y.point (sym x.there ∙ y.there) in
     sym x.leads ∙ ap (λ (point : Point). edge_end pc point.instr branch) same ∙ y.leads
 
-pub over-some : (image : Parts) (r pc to rest : ℕ) (branch : Bool) (longest : List ℕ) → LeadsTo image pc branch to → IsPcOf image r to → rest ≡ get_or longest to 0 → IsLongestOver image r pc branch longest rest
+pub over-some : (image : Parts) (r pc to rest : ℕ) (branch : Bool) (longest : List ℕ) → LeadsTo image pc branch to
+    → IsPcOf image r to → rest ≡ get_or longest to 0 → IsLongestOver image r pc branch longest rest
 over-some image r pc to rest branch longest leads stays is = record {
   most = λ other leads_too stays_too. (let same = leads-one image pc branch other to leads_too leads in rw (same, is) (omega arith));
   some = inr (record { to = to; leads = leads; stays = stays; is = is });
 }
 
-pub both-over : (image : Parts) (r pc : ℕ) (longest : List ℕ) (a b steps : ℕ) → steps ≡ taken_at image pc + max a b → IsLongestOver image r pc false longest a → IsLongestOver image r pc true longest b
+pub both-over : (image : Parts) (r pc : ℕ) (longest : List ℕ) (a b steps : ℕ) → steps ≡ taken_at image pc + max a b
+    → IsLongestOver image r pc false longest a → IsLongestOver image r pc true longest b
     → IsLongestFrom image r pc longest steps
 both-over image r pc longest a b steps is A B = record {
   rest = max a b;
@@ -142,7 +156,8 @@ both-over image r pc longest a b steps is A B = record {
     by_branch false to leads stays = let most = A.most to leads stays in omega arith
     by_branch true to leads stays = let most = B.most to leads stays in omega arith
 
-    some-of : (branch : Bool) (n : ℕ) → max a b ≡ n → (n ≡ 0) ⊎ GoesOn image r pc branch longest n → (max a b ≡ 0) ⊎ ((aside : Bool) × GoesOn image r pc aside longest (max a b))
+    some-of : (branch : Bool) (n : ℕ) → max a b ≡ n → (n ≡ 0) ⊎ GoesOn image r pc branch longest n
+        → (max a b ≡ 0) ⊎ ((aside : Bool) × GoesOn image r pc aside longest (max a b))
     some-of branch n e (inl none) = inl (e ∙ none)
     some-of branch n e (inr goes) = inr (branch, subst (GoesOn image r pc branch longest) (sym e) goes)
 
@@ -161,7 +176,8 @@ measured-none image r end longest none = record {
   some = λ k low high. absurd (omega arith);
 }
 
-module _ (image : Parts) (r end p next steps : ℕ) (longest : List ℕ) (ahead : OnlyAhead image r) (ends : end ≡ start_of image.routines (r + 1)) (one : next ≡ p + 1) (here : IsPcOf image r p)
+module _ (image : Parts) (r end p next steps : ℕ) (longest : List ℕ) (ahead : OnlyAhead image r)
+    (ends : end ≡ start_of image.routines (r + 1)) (one : next ≡ p + 1) (here : IsPcOf image r p)
     (M : Measured image r end next longest) (L : IsLongestFrom image r p longest steps) where
   -- on some way from the pc so many steps are taken
   pub some-from : (branches : List Bool) × TakesAlong image r p branches steps
@@ -221,7 +237,8 @@ module _ (image : Parts) (r end p next steps : ℕ) (longest : List ℕ) (ahead 
       above k low ne = omega (arith, ne)
 
 -- from where the routine begins
-pub none-passes : (image : Parts) (r end : ℕ) (longest : List ℕ) → OnlyAhead image r → end ≡ start_of image.routines (r + 1) → Measured image r end (start_of image.routines r) longest → NonePasses image r
+pub none-passes : (image : Parts) (r end : ℕ) (longest : List ℕ) → OnlyAhead image r → end ≡ start_of image.routines (r + 1)
+    → Measured image r end (start_of image.routines r) longest → NonePasses image r
 none-passes image r end longest ahead ends M = record {
   ahead = ahead;
   few = λ from branches steps takes.

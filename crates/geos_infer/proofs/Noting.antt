@@ -30,13 +30,15 @@ list_any-implied f g [] h e = e
 list_any-implied f g (x ∷ xs) h e = either (f x) (list_any f xs) (g x) (list_any g xs) (h x) (list_any-implied f g xs h) e
 
 here-implied : (f g : ℕ → Bool) (k : ℕ) (i : Instr) → ((c : ℕ) → f c ≡ true → g c ≡ true) → touches_here f k i ≡ true → touches_here g k i ≡ true
-here-implied f g k i h e = or-implied (counts i.opcode && i.a == k) (calls i.opcode && f i.imm) (calls i.opcode && g i.imm) (and-implied (calls i.opcode) (f i.imm) (g i.imm) (h i.imm)) e
+here-implied f g k i h e = or-implied (counts i.opcode && i.a == k) (calls i.opcode && f i.imm) (calls i.opcode && g i.imm)
+    (and-implied (calls i.opcode) (f i.imm) (g i.imm) (h i.imm)) e
 
 -- a longer chain of calls touches as much
 touches-deeper : (image : Parts) (k depth r : ℕ) → touches_within depth image k r ≡ true → touches_within (suc depth) image k r ≡ true
 touches-deeper image k zero r e = absurd cc
 touches-deeper image k (suc depth) r e =
-    list_any-implied (λ point. touches_here (touches_within depth image k) k point.instr) (λ point. touches_here (touches_within (suc depth) image k) k point.instr) (points_of image r)
+    list_any-implied (λ point. touches_here (touches_within depth image k) k point.instr)
+    (λ point. touches_here (touches_within (suc depth) image k) k point.instr) (points_of image r)
     (λ point. here-implied (touches_within depth image k) (touches_within (suc depth) image k) k point.instr (touches-deeper image k depth)) e
 
 -- what the table notes is touched by chains of so many routines
@@ -44,13 +46,17 @@ abbrev pub NotesWithin : Parts → List (List Bool) → ℕ → Type 0
 NotesWithin image table depth = (k c : ℕ) → noted table k c ≡ true → touches_within depth image k c ≡ true
 
 -- also once another routine's counters are noted by the table
-pub notes-step : (image : Parts) (table : List (List Bool)) (r : ℕ) (touched : List Bool) → r < length table → touched ≡ noted_by image table r → NotesWithin image table r → NotesWithin image (set table r touched) (suc r)
+pub notes-step : (image : Parts) (table : List (List Bool)) (r : ℕ) (touched : List Bool) → r < length table
+    → touched ≡ noted_by image table r → NotesWithin image table r → NotesWithin image (set table r touched) (suc r)
 notes-step image table r touched within is notes k c e = elim (cases_eq c r) [
   | inl same ↦
-      let at_r : slice_index_or (noted_by image table r) k false ≡ true = ap (λ (l : List Bool). slice_index_or l k false) (sym (get_or-set_same table r touched [] within ∙ is)) ∙ ap (λ (n : ℕ). noted (set table r touched) k n) (sym same) ∙ e in
-      rw same (list_any-implied (λ point. touches_here (noted table k) k point.instr) (λ point. touches_here (touches_within r image k) k point.instr) (points_of image r)
+      let at_r : slice_index_or (noted_by image table r) k false ≡ true = ap (λ (l : List Bool). slice_index_or l k false)
+      (sym (get_or-set_same table r touched [] within ∙ is)) ∙ ap (λ (n : ℕ). noted (set table r touched) k n) (sym same) ∙ e in
+      rw same (list_any-implied (λ point. touches_here (noted table k) k point.instr)
+      (λ point. touches_here (touches_within r image k) k point.instr) (points_of image r)
       (λ point. here-implied (noted table k) (touches_within r image k) k point.instr (notes k)) (own k at_r))
-  | inr ne ↦ touches-deeper image k r c (notes k c (ap (λ (l : List Bool). slice_index_or l k false) (sym (get_or-set_other table r c touched [] ne)) ∙ e))
+  | inr ne ↦ touches-deeper image k r c
+      (notes k c (ap (λ (l : List Bool). slice_index_or l k false) (sym (get_or-set_other table r c touched [] ne)) ∙ e))
 ]
   where
     own : (k : ℕ) → slice_index_or (noted_by image table r) k false ≡ true → touches_by image table k r ≡ true
@@ -91,7 +97,8 @@ IsWhole image table count = (r : ℕ) → r < count → slice_index_or table r [
 no-routine : (image : Parts) (depth k r : ℕ) → slice_get image.routines r ≡ None → touches_within depth image k r ≡ false
 no-routine image zero k r none = refl
 no-routine image (suc depth) k r none =
-    ap (λ (o : Option Routine). list_any (λ point. touches_here (touches_within depth image k) k point.instr) (elim o [ None ↦ [] | Some routine ↦ take routine.count (drop (start_of image.routines r) image.points) ])) none
+    ap (λ (o : Option Routine). list_any (λ point. touches_here (touches_within depth image k) k point.instr)
+    (elim o [ None ↦ [] | Some routine ↦ take routine.count (drop (start_of image.routines r) image.points) ])) none
 
 -- so there is a routine that touches something
 pub touching-there : (image : Parts) (k r : ℕ) → touches image k r ≡ true → r < length image.routines
@@ -100,7 +107,8 @@ touching-there image k r e = elim (cases_lt r (length image.routines)) [
   | inr le ↦ absurd (false≢true (sym (no-routine image (length image.routines) k r (slice_get_past image.routines r le)) ∙ e))
 ]
 
-noted-own : (image : Parts) (table : List (List Bool)) (r k : ℕ) → k < 4 → touches_by image table k r ≡ true → slice_index_or (noted_by image table r) k false ≡ true
+noted-own : (image : Parts) (table : List (List Bool)) (r k : ℕ) → k < 4 → touches_by image table k r ≡ true
+    → slice_index_or (noted_by image table r) k false ≡ true
 noted-own image table r zero few e = e
 noted-own image table r (suc zero) few e = e
 noted-own image table r (suc (suc zero)) few e = e
@@ -113,7 +121,8 @@ module _ (image : Parts) (table : List (List Bool)) (whole : IsWhole image table
   whole-within (suc depth) r e = elim (cases_lt r (length image.routines)) [
     | inl lt ↦
         let by : touches_by image table k r ≡ true =
-        list_any-implied (λ point. touches_here (touches_within depth image k) k point.instr) (λ point. touches_here (noted table k) k point.instr) (points_of image r)
+        list_any-implied (λ point. touches_here (touches_within depth image k) k point.instr)
+        (λ point. touches_here (noted table k) k point.instr) (points_of image r)
         (λ point. here-implied (touches_within depth image k) (noted table k) k point.instr (whole-within depth)) e in
         ap (λ (l : List Bool). slice_index_or l k false) (whole r lt) ∙ noted-own image table r k few by
     | inr le ↦ absurd (false≢true (sym (no-routine image (suc depth) k r (slice_get_past image.routines r le)) ∙ e))

@@ -38,12 +38,14 @@ some-row : (x y : Row) → Some x ≡ Some y → x ≡ y
 some-row x y e = cc
 
 -- control is in the routine where it reaches
-pub reached-within : (image : Parts) (r : ℕ) → start_of image.routines r < start_of image.routines (r + 1) → (edges : List (ℕ × Bool)) (pc : ℕ) → LeadWithin image r edges pc → IsPcOf image r pc
+pub reached-within : (image : Parts) (r : ℕ) → start_of image.routines r < start_of image.routines (r + 1)
+    → (edges : List (ℕ × Bool)) (pc : ℕ) → LeadWithin image r edges pc → IsPcOf image r pc
 reached-within image r some [] pc lead = record { above = omega arith; below = omega arith }
 reached-within image r some (edge ∷ edges) pc lead = lead.1
 
 -- and something is known there, where what is known fits along all edges
-module _ (image : Parts) (r : ℕ) (some : start_of image.routines r < start_of image.routines (r + 1)) (routine : Routine) (there : slice_get image.routines r ≡ Some routine) (found : List (Option Row)) (fit : AllFit image r found) where
+module _ (image : Parts) (r : ℕ) (some : start_of image.routines r < start_of image.routines (r + 1)) (routine : Routine)
+    (there : slice_get image.routines r ≡ Some routine) (found : List (Option Row)) (fit : AllFit image r found) where
   reached-known : (edges : List (ℕ × Bool)) (pc : ℕ) → LeadWithin image r edges pc → (row : Row) × (known_at found pc ≡ Some row)
   reached-known [] pc lead = let K = fit.entry routine there in (K.known_row, ap (known_at found) lead ∙ K.read)
   reached-known (edge ∷ edges) pc lead =
@@ -63,7 +65,8 @@ module _ (image : Parts) (r : ℕ) (some : start_of image.routines r < start_of 
           let within = reached-within image r some reached.edges pc reached.lead in
           let from = reached-known reached.edges pc reached.lead in
           let is : from.0 ≡ row = some-row from.0 row (sym (K.kept pc from.0 within.above within.below from.1) ∙ e) in
-          kept to (edge_row image i branch (clean row)) inside (fit.edges pc branch within to i row edge inside (from.1 ∙ ap (λ (x : Row). Some x) is));
+          kept to (edge_row image i branch (clean row)) inside
+          (fit.edges pc branch within to i row edge inside (from.1 ∙ ap (λ (x : Row). Some x) is));
       there = λ pc reached.
           let within = reached-within image r some reached.edges pc reached.lead in
           let from = reached-known reached.edges pc reached.lead in
@@ -75,7 +78,8 @@ pub keeps-none : (start : ℕ) (found known : List (Option Row)) → Keeps start
 keeps-none start found known = record { len = refl; kept = λ pc row low high. absurd (omega arith); stays = λ k lt. refl }
 
 -- one more place is
-pub keeps-more : (start pc more : ℕ) (found known next : List (Option Row)) (o : Option Row) → more ≡ pc + 1 → start ≤ pc → pc < length next → ((row : Row) → known_at found pc ≡ Some row → o ≡ Some row)
+pub keeps-more : (start pc more : ℕ) (found known next : List (Option Row)) (o : Option Row) → more ≡ pc + 1 → start ≤ pc
+    → pc < length next → ((row : Row) → known_at found pc ≡ Some row → o ≡ Some row)
     → Keeps start pc found known next → Keeps start more found known (set next pc o)
 keeps-more start pc more found known next o one low within here K = record {
   len = length-set next pc o ∙ K.len;
@@ -87,7 +91,8 @@ keeps-more start pc more found known next o one low within here K = record {
 }
 
 -- one more place is where it stands there already
-pub keeps-same : (start pc more : ℕ) (found known next : List (Option Row)) → more ≡ pc + 1 → known_at next pc ≡ known_at found pc → Keeps start pc found known next → Keeps start more found known next
+pub keeps-same : (start pc more : ℕ) (found known next : List (Option Row)) → more ≡ pc + 1 → known_at next pc ≡ known_at found pc
+    → Keeps start pc found known next → Keeps start more found known next
 keeps-same start pc more found known next one here K = record {
   len = K.len;
   kept = λ k row above below e. elim (cases_eq k pc) [
@@ -102,22 +107,34 @@ pub copies-keep : (start end : ℕ) (found known next : List (Option Row)) → C
 copies-keep start end found known next C = record { len = C.len; kept = λ pc row above below e. C.same pc above below ∙ e; stays = C.stays }
 
 -- what is kept up to a later pc is up to an earlier one
-pub keeps-to : (start pc end : ℕ) (found known next : List (Option Row)) → end ≤ pc → Keeps start pc found known next → Keeps start end found known next
-keeps-to start pc end found known next le K = record { len = K.len; kept = λ k row above below e. K.kept k row above (omega arith) e; stays = K.stays }
+pub keeps-to : (start pc end : ℕ) (found known next : List (Option Row)) → end ≤ pc → Keeps start pc found known next
+    → Keeps start end found known next
+keeps-to start pc end found known next le K = record {
+  len = K.len;
+  kept = λ k row above below e. K.kept k row above
+      (omega arith) e;
+  stays = K.stays;
+}
 
 -- the same of a body as of its routine
-pub kept-in : (body : Body) (found known next : List (Option Row)) → Keeps body.start body.end found known next → Keeps (start_of body.image.now.routines body.r) (start_of body.image.now.routines (body.r + 1)) found known next
-kept-in body found known next K = subst (λ (n : ℕ). Keeps n (start_of body.image.now.routines (body.r + 1)) found known next) body.begins (subst (λ (n : ℕ). Keeps body.start n found known next) body.ends K)
+pub kept-in : (body : Body) (found known next : List (Option Row)) → Keeps body.start body.end found known next
+    → Keeps (start_of body.image.now.routines body.r) (start_of body.image.now.routines (body.r + 1)) found known next
+kept-in body found known next K = subst (λ (n : ℕ). Keeps n (start_of body.image.now.routines (body.r + 1)) found known next)
+    body.begins (subst (λ (n : ℕ). Keeps body.start n found known next) body.ends K)
 
 -- what is kept of what flowed along all edges has
-pub kept-flows : (image : Parts) (r : ℕ) (want : List Row) (found known next : List (Option Row)) → Keeps (start_of image.routines r) (start_of image.routines (r + 1)) found known next
-    → start_of image.routines r < start_of image.routines (r + 1) → length (instrs_of image) ≤ length known → AllKnown image r found → (done : ℕ) → Flowing image r want found done → Flowing image r want next done
+pub kept-flows : (image : Parts) (r : ℕ) (want : List Row) (found known next : List (Option Row))
+    → Keeps (start_of image.routines r) (start_of image.routines (r + 1)) found known next
+    → start_of image.routines r < start_of image.routines (r + 1) → length (instrs_of image) ≤ length known
+    → AllKnown image r found → (done : ℕ) → Flowing image r want found done → Flowing image r want next done
 kept-flows image r want found known next K some len all done F = record {
   below = λ pc row w within e f. F.below pc row w within (same_row pc row within e) f;
   fit = record {
     len = (let same = K.len in omega arith);
-    entry = λ routine there. kept (start_of image.routines r) routine.entry (record { above = omega arith; below = omega arith }) (F.fit.entry routine there);
-    edges = λ pc to branch i row within inside ahead less edge e. kept to (edge_row image i branch (clean row)) inside (F.fit.edges pc to branch i row within inside ahead less edge (same_row pc row within e));
+    entry = λ routine there. kept (start_of image.routines r) routine.entry (record { above = omega arith; below = omega arith })
+        (F.fit.entry routine there);
+    edges = λ pc to branch i row within inside ahead less edge e. kept to (edge_row image i branch (clean row)) inside
+        (F.fit.edges pc to branch i row within inside ahead less edge (same_row pc row within e));
   };
 }
   where
@@ -132,11 +149,13 @@ kept-flows image r want found known next K some len all done F = record {
 
 -- Routine after routine
 
-known-stays : (known next : List (Option Row)) (start pc : ℕ) (row : Row) → StaysBefore start known next → pc < start → KnownAt known pc row → KnownAt next pc row
+known-stays : (known next : List (Option Row)) (start pc : ℕ) (row : Row) → StaysBefore start known next → pc < start
+    → KnownAt known pc row → KnownAt next pc row
 known-stays known next start pc row stay lt K = record { known_row = K.known_row; read = stay pc lt ∙ K.read; fits = K.fits }
 
 -- what fits in a routine still does where later ones are searched
-fit-stays : (image : Parts) (q : ℕ) (known next : List (Option Row)) (start : ℕ) → start_of image.routines q < start_of image.routines (q + 1) → start_of image.routines (q + 1) ≤ start → StaysBefore start known next
+fit-stays : (image : Parts) (q : ℕ) (known next : List (Option Row)) (start : ℕ) → start_of image.routines q < start_of image.routines (q + 1)
+    → start_of image.routines (q + 1) ≤ start → StaysBefore start known next
     → FitWhereReached image q known → FitWhereReached image q next
 fit-stays image q known next start some ends stay F = record {
   entry = λ routine there. known-stays known next start (start_of image.routines q) routine.entry stay (omega arith) (F.entry routine there);
@@ -144,7 +163,8 @@ fit-stays image q known next start some ends stay F = record {
       let within = reached-within image q some reached.edges pc reached.lead in
       let below = within.below in
       let before = inside.below in
-      known-stays known next start to (edge_row image i branch (clean row)) stay (omega arith) (F.edges pc branch reached to i row edge inside (sym (stay pc (omega arith)) ∙ e));
+      known-stays known next start to (edge_row image i branch (clean row)) stay (omega arith)
+      (F.edges pc branch reached to i row edge inside (sym (stay pc (omega arith)) ∙ e));
   there = λ pc reached.
       let within = reached-within image q some reached.edges pc reached.lead in
       let below = within.below in
@@ -153,7 +173,8 @@ fit-stays image q known next start some ends stay F = record {
 }
 
 -- so in all routines below it
-pub fit-before : (image : Parts) → is_image image ≡ true → (known next : List (Option Row)) (r : ℕ) → r < length image.routines → ((q : ℕ) → q < r → FitWhereReached image q known) → StaysBefore (start_of image.routines r) known next
+pub fit-before : (image : Parts) → is_image image ≡ true → (known next : List (Option Row)) (r : ℕ) → r < length image.routines
+    → ((q : ℕ) → q < r → FitWhereReached image q known) → StaysBefore (start_of image.routines r) known next
     → (q : ℕ) → q < r → FitWhereReached image q next
 fit-before image legal known next r lt before stay q less =
     let routine = item_at image.routines q (omega arith) in
@@ -165,7 +186,8 @@ fit-before image legal known next r lt before stay q less =
     fit-stays image q known next (start_of image.routines r) (omega arith) later stay (before q less)
 
 -- and one more
-pub fit-more : (image : Parts) (next : List (Option Row)) (r : ℕ) → ((q : ℕ) → q < r → FitWhereReached image q next) → FitWhereReached image r next → (q : ℕ) → q < r + 1 → FitWhereReached image q next
+pub fit-more : (image : Parts) (next : List (Option Row)) (r : ℕ) → ((q : ℕ) → q < r → FitWhereReached image q next)
+    → FitWhereReached image r next → (q : ℕ) → q < r + 1 → FitWhereReached image q next
 fit-more image next r before here q q_lt = elim (cases_lt q r) [
   | inl less ↦ before q less
   | inr le ↦
@@ -193,7 +215,8 @@ known-fits known pc row K =
 some-place : (x y : Place) → Some x ≡ Some y → x ≡ y
 some-place x y e = cc
 
-module _ (image : Parts) (known : List (Option Row)) (numbers : Numbers) (points : List Point) (P : PointsOf image known numbers points) (codes : instrs_of (with_points image points) ≡ instrs_of image) (r : ℕ) where
+module _ (image : Parts) (known : List (Option Row)) (numbers : Numbers) (points : List Point)
+    (P : PointsOf image known numbers points) (codes : instrs_of (with_points image points) ≡ instrs_of image) (r : ℕ) where
   row-at : (pc : ℕ) (row : Row) → slice_get (rows_of (with_points image points)) pc ≡ Some row → row_of (known_at known pc) ≡ row
   row-at pc row e =
       let found = map-get row_in (places (with_points image points)) pc row e in
@@ -208,7 +231,8 @@ module _ (image : Parts) (known : List (Option Row)) (numbers : Numbers) (points
   within-same : (pc : ℕ) → IsPcOf (with_points image points) r pc → IsPcOf image r pc
   within-same pc within = record { above = within.above; below = within.below }
 
-  edge-same : (pc to : ℕ) (branch : Bool) (i : Instr) → Edge (instrs_of (with_points image points)) pc branch to i → Edge (instrs_of image) pc branch to i
+  edge-same : (pc to : ℕ) (branch : Bool) (i : Instr) → Edge (instrs_of (with_points image points)) pc branch to i
+      → Edge (instrs_of image) pc branch to i
   edge-same pc to branch i edge = subst (λ (code : List Instr). Edge code pc branch to i) codes edge
 
   lead-same : (edges : List (ℕ × Bool)) (pc : ℕ) → LeadWithin (with_points image points) r edges pc → LeadWithin image r edges pc
@@ -219,7 +243,8 @@ module _ (image : Parts) (known : List (Option Row)) (numbers : Numbers) (points
   pub fit-holds : FitWhereReached image r known → HoldWhereReached (with_points image points) r (rows_of (with_points image points))
   fit-holds F = record {
     len = length-map (places (with_points image points)) row_in ∙ places-length (with_points image points) ∙ sym (length-map points instr_of);
-    entry = λ routine row there e. subst (λ (x : Row). fits routine.entry x ≡ true) (row-at (start_of image.routines r) row e) (known-fits known (start_of image.routines r) routine.entry (F.entry routine there));
+    entry = λ routine row there e. subst (λ (x : Row). fits routine.entry x ≡ true) (row-at (start_of image.routines r) row e)
+        (known-fits known (start_of image.routines r) routine.entry (F.entry routine there));
     edges = λ pc to branch i row next reached edge inside e f.
         let there : IsReached image r pc = record { edges = reached.edges; lead = lead-same reached.edges pc reached.lead } in
         let from = F.there pc there in
@@ -227,14 +252,16 @@ module _ (image : Parts) (known : List (Option Row)) (numbers : Numbers) (points
         let K = F.edges pc branch there to i from.0 (edge-same pc to branch i edge) (within-same to inside) from.1 in
         let fit : fits behind next ≡ true = subst (λ (x : Row). fits behind x ≡ true) (row-at to next f) (known-fits known to behind K) in
         let is : clean from.0 ≡ row = sym (ap row_of from.1) ∙ row-at pc row e in
-        let same : behind ≡ edge_row (with_points image points) i branch row = ap (edge_row image i branch) is ∙ sym (same-edge image (with_points image points) refl i branch row) in
+        let same : behind ≡ edge_row (with_points image points) i branch row = ap (edge_row image i branch) is
+        ∙ sym (same-edge image (with_points image points) refl i branch row) in
         subst (λ (x : Row). fits x next ≡ true) same fit;
     clean = λ pc row within given e. subst (λ (x : Row). names_empty_slot x ≡ false) (row-at pc row e) (row-clean (known_at known pc));
   }
 
 -- What the verifier says of such rows
 
-module _ (image : Parts) (r pc : ℕ) (routine : Routine) (point : Place) (holds : HoldWhereReached image r (rows_of image)) (reached : IsReached image r pc) (at : HasPoint image r routine pc point) where
+module _ (image : Parts) (r pc : ℕ) (routine : Routine) (point : Place) (holds : HoldWhereReached image r (rows_of image))
+    (reached : IsReached image r pc) (at : HasPoint image r routine pc point) where
   placed : (k : ℕ) → has_place (start_of image.routines r) routine.count k ≡ true → IsPcOf image r k
   placed k place =
       let bounds = place_bounds (start_of image.routines r) routine.count k place in
@@ -244,7 +271,8 @@ module _ (image : Parts) (r pc : ℕ) (routine : Routine) (point : Place) (holds
   row-there : (k : ℕ) (other : Place) → slice_get (places image) k ≡ Some other → slice_get (rows_of image) k ≡ Some other.row
   row-there k other e = slice_get-map row_in (places image) k ∙ ap (option_map row_in) e
 
-  fits-there : (to : ℕ) (branch : Bool) → has_edge point.instr branch ≡ true → edge_end pc point.instr branch ≡ to → has_place (start_of image.routines r) routine.count to ≡ true → misfits_at image to (edge_row image point.instr branch point.row) ≡ false
+  fits-there : (to : ℕ) (branch : Bool) → has_edge point.instr branch ≡ true → edge_end pc point.instr branch ≡ to
+      → has_place (start_of image.routines r) routine.count to ≡ true → misfits_at image to (edge_row image point.instr branch point.row) ≡ false
   unfolding misfits_at
   fits-there to branch has leads place =
       let row = edge_row image point.instr branch point.row in
@@ -260,12 +288,15 @@ module _ (image : Parts) (r pc : ℕ) (routine : Routine) (point : Place) (holds
       let i = point.instr in
       let along = row_along image i i.opcode point.row in
       let aside = row_branching i i.opcode point.row in
-      let inside = or_parts (falls_through i.opcode && not (has_place start routine.count (pc + 1))) (branches i.opcode && not (has_place start routine.count i.target)) stays in
+      let inside = or_parts (falls_through i.opcode && not (has_place start routine.count (pc + 1)))
+      (branches i.opcode && not (has_place start routine.count i.target)) stays in
       neither (falls_through i.opcode && misfits_at image (pc + 1) along) (branches i.opcode && misfits_at image i.target aside)
       (not-both (falls_through i.opcode) (misfits_at image (pc + 1) along) (λ falls.
-      fits-there (pc + 1) false falls refl (not-false (has_place start routine.count (pc + 1)) (second-false (falls_through i.opcode) (not (has_place start routine.count (pc + 1))) inside.0 falls))))
+      fits-there (pc + 1) false falls refl (not-false (has_place start routine.count (pc + 1))
+      (second-false (falls_through i.opcode) (not (has_place start routine.count (pc + 1))) inside.0 falls))))
       (not-both (branches i.opcode) (misfits_at image i.target aside) (λ goes.
-      fits-there i.target true goes refl (not-false (has_place start routine.count i.target) (second-false (branches i.opcode) (not (has_place start routine.count i.target)) inside.1 goes))))
+      fits-there i.target true goes refl (not-false (has_place start routine.count i.target)
+      (second-false (branches i.opcode) (not (has_place start routine.count i.target)) inside.1 goes))))
 
   -- the rules on rows pass
   pub rules-pass : RowRulesPass image r routine pc point

@@ -39,7 +39,8 @@ use Rattle.geos_infer.proofs.Wanted.{along-steps, ends-at, map-get, pays-steps}
 -- Potentials and counters
 
 -- counters that no coefficient is left on do not matter
-dot-kept : (cs before after : List ℕ) → length after ≡ length before → ((k : ℕ) → (get_or cs k 0 ≡ 0) ⊎ (get_or after k 0 ≡ get_or before k 0)) → dot cs after ≡ dot cs before
+dot-kept : (cs before after : List ℕ) → length after ≡ length before → ((k : ℕ) → (get_or cs k 0 ≡ 0) ⊎ (get_or after k 0 ≡ get_or before k 0))
+    → dot cs after ≡ dot cs before
 dot-kept [] before after len each = refl
 dot-kept (c ∷ cs) [] [] len each = refl
 dot-kept (c ∷ cs) [] (a ∷ after) len each = absurd (omega arith)
@@ -71,31 +72,38 @@ code_of routines code r = elim (slice_get routines r) [ None ↦ [] | Some routi
 points-code : (image : Parts) (r : ℕ) → map instr_of (points_of image r) ≡ code_of image.routines (instrs_of image) r
 points-code image r = by_routine (slice_get image.routines r)
   where
-    by_routine : (o : Option Routine) → map instr_of (elim o [ None ↦ [] | Some routine ↦ take routine.count (drop (start_of image.routines r) image.points) ])
+    by_routine : (o : Option Routine)
+        → map instr_of (elim o [ None ↦ [] | Some routine ↦ take routine.count (drop (start_of image.routines r) image.points) ])
         ≡ elim o [ None ↦ [] | Some routine ↦ take routine.count (drop (start_of image.routines r) (instrs_of image)) ]
     by_routine None = refl
     by_routine (Some routine) =
-        sym (take-map instr_of routine.count (drop (start_of image.routines r) image.points)) ∙ ap (take routine.count) (sym (drop-map instr_of (start_of image.routines r) image.points))
+        sym (take-map instr_of routine.count (drop (start_of image.routines r) image.points))
+        ∙ ap (take routine.count) (sym (drop-map instr_of (start_of image.routines r) image.points))
 
 touches-within : (image other : Parts) → SameCode image other → (depth k r : ℕ) → touches_within depth other k r ≡ touches_within depth image k r
 touches-within image other same zero k r = refl
 touches-within image other same (suc depth) k r =
     let f : Instr → Bool = touches_here (touches_within depth other k) k in
     let g : Instr → Bool = touches_here (touches_within depth image k) k in
-    let equal : (i : Instr) → f i ≡ g i = λ i. ap (λ (b : Bool). (counts i.opcode && i.a == k) || (calls i.opcode && b)) (touches-within image other same depth k i.imm) in
+    let equal : (i : Instr) → f i ≡ g i = λ i. ap (λ (b : Bool). (counts i.opcode && i.a == k) || (calls i.opcode && b))
+    (touches-within image other same depth k i.imm) in
     let code : code_of other.routines (instrs_of other) r ≡ code_of image.routines (instrs_of image) r =
-    ap (λ (routines : List Routine). code_of routines (instrs_of other) r) same.routines ∙ ap (λ (code : List Instr). code_of image.routines code r) same.instrs in
-    list_any-map f (points_of other r) ∙ ap (list_any f) (points-code other r) ∙ ap (list_any f) code ∙ list_any-same f g (code_of image.routines (instrs_of image) r) equal
+    ap (λ (routines : List Routine). code_of routines (instrs_of other) r) same.routines
+    ∙ ap (λ (code : List Instr). code_of image.routines code r) same.instrs in
+    list_any-map f (points_of other r) ∙ ap (list_any f) (points-code other r) ∙ ap (list_any f) code
+    ∙ list_any-same f g (code_of image.routines (instrs_of image) r) equal
     ∙ ap (list_any g) (sym (points-code image r)) ∙ sym (list_any-map g (points_of image r))
 
 pub touches-same : (image other : Parts) → SameCode image other → (k r : ℕ) → touches other k r ≡ touches image k r
 touches-same image other same k r =
-    ap (λ (routines : List Routine). touches_within (length routines) other k r) same.routines ∙ touches-within image other same (length image.routines) k r
+    ap (λ (routines : List Routine). touches_within (length routines) other k r) same.routines
+    ∙ touches-within image other same (length image.routines) k r
 
 -- Edges
 
 -- what the edge to the next instruction takes is paid for
-along-value : (image other : Parts) (i : Instr) (opcode : Opcode) (row : Row) (p q : Potential) (before after : List ℕ) → ((k r : ℕ) → touches other k r ≡ touches image k r) → length q.coefficients ≡ 4
+along-value : (image other : Parts) (i : Instr) (opcode : Opcode) (row : Row) (p q : Potential) (before after : List ℕ)
+    → ((k r : ℕ) → touches other k r ≡ touches image k r) → length q.coefficients ≡ 4
     → pays_along other i opcode row p q ≡ true → Counts image i opcode false before after → value q after + 1 + called other i opcode ≤ value p before
 along-value image other i Setk row p q before after touched four h is =
     rw is (let paid = pays_setting-value p q before i.a i.imm i.imm h (omega arith) in omega arith)
@@ -124,7 +132,8 @@ along-value image other i _ row p q before after touched four h is =
     rw is (let paid = pays-value p q before h in omega arith)
 
 -- what the edge to the target takes is
-branching-value : (image other : Parts) (i : Instr) (opcode : Opcode) (p q : Potential) (before after : List ℕ) → branches opcode ≡ true → pays_branching i opcode p q ≡ true → Counts image i opcode true before after
+branching-value : (image other : Parts) (i : Instr) (opcode : Opcode) (p q : Potential) (before after : List ℕ)
+    → branches opcode ≡ true → pays_branching i opcode p q ≡ true → Counts image i opcode true before after
     → value q after + 1 + called other i opcode ≤ value p before
 branching-value image other i Setk p q before after b h is = absurd cc
 branching-value image other i Setkw p q before after b h is = absurd cc
@@ -142,38 +151,48 @@ ends _ = inr (inl refl)
 
 module _ (image : Parts) (has : HasAccepted image) (r : ℕ) (routine : Routine) (there : slice_get has.other.routines r ≡ Some routine) where
   -- an instruction is the same in the image that is accepted
-  pub same-instr : (pc : ℕ) (old : Point) (point : Known) → slice_get image.points pc ≡ Some old → slice_get (places has.other) pc ≡ Some point → point.instr ≡ old.instr
+  pub same-instr : (pc : ℕ) (old : Point) (point : Known) → slice_get image.points pc ≡ Some old
+      → slice_get (places has.other) pc ≡ Some point → point.instr ≡ old.instr
   same-instr pc old point read at =
-      same_Some point.instr old.instr (sym (place-code-at has.other pc point at) ∙ ap (λ (code : List Instr). slice_get code pc) has.same.instrs ∙ code-at image pc old read)
+      same_Some point.instr old.instr (sym (place-code-at has.other pc point at) ∙ ap (λ (code : List Instr). slice_get code pc) has.same.instrs
+      ∙ code-at image pc old read)
 
   pub point-of : (pc : ℕ) → IsPcOf image r pc → (point : Known) × HasPoint has.other r routine pc point
   point-of pc within =
-      let low : start_of has.other.routines r ≤ pc = subst (λ (routines : List Routine). start_of routines r ≤ pc) (sym has.same.routines) within.above in
-      let high : pc < start_of has.other.routines (r + 1) = subst (λ (routines : List Routine). pc < start_of routines (r + 1)) (sym has.same.routines) within.below in
+      let low : start_of has.other.routines r ≤ pc = subst (λ (routines : List Routine). start_of routines r ≤ pc)
+      (sym has.same.routines) within.above in
+      let high : pc < start_of has.other.routines (r + 1) = subst (λ (routines : List Routine). pc < start_of routines (r + 1))
+      (sym has.same.routines) within.below in
       let end = ends-at has.other.routines r routine there in
-      point_at has.other.keyed has.other r routine pc has.checked.0 there (place_true (start_of has.other.routines r) routine.count pc low (omega (arith, high, end)))
+      point_at has.other.keyed has.other r routine pc has.checked.0 there
+      (place_true (start_of has.other.routines r) routine.count pc low (omega (arith, high, end)))
 
   takes-here : (pc : ℕ) (old : Point) → slice_get image.points pc ≡ Some old → taken_at image pc ≡ 1 + call_steps image old.instr
   takes-here pc old read = rw (read, taken_at) refl
 
   calls-same : (i j : Instr) → i ≡ j → call_steps has.other i ≡ call_steps image j
-  calls-same i j same = ap (call_steps has.other) same ∙ ap (λ (routines : List Routine). if calls j.opcode then (elim (slice_get routines j.imm) [ None ↦ 0 | Some routine ↦ routine.budget ]) else 0) has.same.routines
+  calls-same i j same = ap (call_steps has.other) same
+      ∙ ap (λ (routines : List Routine). if calls j.opcode then (elim (slice_get routines j.imm) [ None ↦ 0 | Some routine ↦ routine.budget ]) else 0)
+      has.same.routines
 
   pub four-at : (pc : ℕ) (place : Known) → slice_get (places has.other) pc ≡ Some place → PotentialFits place.potential
   four-at pc place read =
       let found = find-point has.other pc place read in
-      let fitting : PointFits found.0 = subst PointFits (get_or_from_slice_get has.other.points pc found.0 found.0 found.1) (has.fits.points pc found.0 (slice_get_within has.other.points pc found.0 found.1)) in
+      let fitting : PointFits found.0 = subst PointFits (get_or_from_slice_get has.other.points pc found.0 found.0 found.1)
+      (has.fits.points pc found.0 (slice_get_within has.other.points pc found.0 found.1)) in
       subst PotentialFits (sym found.2.potential) fitting.potential
 
   -- what an edge takes is paid for
-  edge-value : (pc to : ℕ) (before after : List ℕ) (point : Known) (branch : Bool) → HasPoint has.other r routine pc point → (leads : LeadsTo image pc branch to) → Counts image leads.point.instr leads.point.instr.opcode branch before after
+  edge-value : (pc to : ℕ) (before after : List ℕ) (point : Known) (branch : Bool) → HasPoint has.other r routine pc point
+      → (leads : LeadsTo image pc branch to) → Counts image leads.point.instr leads.point.instr.opcode branch before after
       → (next : Known) × HasPoint has.other r routine to next × (value next.potential after + taken_at image pc ≤ value point.potential before)
   edge-value pc to before after point false at leads counts =
       let same = same-instr pc leads.point point leads.there at.read in
       let falls : falls_through point.instr.opcode ≡ true = ap (λ (x : Instr). falls_through x.opcode) same ∙ leads.has in
       let L = leads-along has.other.keyed has.other has.checked.0 has.checked.1 r pc routine point at point.instr.opcode refl falls in
       let here = subst (λ (x : Instr). Counts image x x.opcode false before after) (sym same) counts in
-      let paid = along-value image has.other point.instr point.instr.opcode point.row point.potential L.point.potential before after (touches-same image has.other has.same) (four-at (pc + 1) L.point L.has.read).four L.pays here in
+      let paid = along-value image has.other point.instr point.instr.opcode point.row point.potential L.point.potential
+      before after (touches-same image has.other has.same) (four-at (pc + 1) L.point L.has.read).four L.pays here in
       let taken = takes-here pc leads.point leads.there in
       let calls_it = calls-same point.instr leads.point.instr same in
       (L.point, subst (λ (n : ℕ). HasPoint has.other r routine n L.point) leads.leads L.has, omega (arith, paid, taken, calls_it))
@@ -184,14 +203,22 @@ module _ (image : Parts) (has : HasAccepted image) (r : ℕ) (routine : Routine)
       let here = subst (λ (x : Instr). Counts image x x.opcode true before after) (sym same) counts in
       let paid = branching-value image has.other point.instr point.instr.opcode point.potential L.point.potential before after goes L.pays here in
       let taken = takes-here pc leads.point leads.there in
-      let calls_it = calls-same point.instr leads.point.instr same in
-      (L.point, subst (λ (n : ℕ). HasPoint has.other r routine n L.point) (ap (λ (x : Instr). x.target) same ∙ leads.leads) L.has, omega (arith, paid, taken, calls_it))
+      let calls_it = calls-same point.instr leads.point.instr same in (
+        L.point,
+        subst (λ (n : ℕ). HasPoint has.other r routine n L.point) (ap (λ (x : Instr). x.target) same ∙ leads.leads) L.has,
+        omega (arith, paid, taken, calls_it),
+      )
 
   -- what a way takes is
-  way-value : (from to : Place) (places : List Place) (steps : ℕ) (point : Known) → HasPoint has.other r routine from.pc point → Takes image r from places to steps
+  way-value : (from to : Place) (places : List Place) (steps : ℕ) (point : Known) → HasPoint has.other r routine from.pc point
+      → Takes image r from places to steps
       → (next : Known) × HasPoint has.other r routine to.pc next × (value next.potential to.counters + steps ≤ value point.potential from.counters)
-  way-value from to [] steps point at way =
-      (point, subst (λ (p : Place). HasPoint has.other r routine p.pc point) (sym way.0) at, subst (λ (p : Place). value point.potential p.counters + steps ≤ value point.potential from.counters) (sym way.0) (let none = way.1 in omega arith))
+  way-value from to [] steps point at way = (
+    point,
+    subst (λ (p : Place). HasPoint has.other r routine p.pc point) (sym way.0) at,
+    subst (λ (p : Place). value point.potential p.counters + steps ≤ value point.potential from.counters)
+        (sym way.0) (let none = way.1 in omega arith),
+  )
   way-value from to (place ∷ places) steps point at way =
       let so_far = way-value from place places way.0 point at way.1 in
       let goes = way.2 in
@@ -209,7 +236,8 @@ module _ (image : Parts) (has : HasAccepted image) (r : ℕ) (routine : Routine)
   -- what an instruction takes is paid for, also that of a return
   instr-paid : (pc : ℕ) (point : Known) → HasPoint has.other r routine pc point → taken_at image pc ≤ point.potential.constant
   instr-paid pc point at =
-      let old = map-get instr_of image.points pc point.instr (ap (λ (code : List Instr). slice_get code pc) (sym has.same.instrs) ∙ place-code-at has.other pc point at.read) in
+      let old = map-get instr_of image.points pc point.instr (ap (λ (code : List Instr). slice_get code pc) (sym has.same.instrs)
+      ∙ place-code-at has.other pc point at.read) in
       let taken = takes-here pc old.0 old.1 in
       let calls_it = calls-same point.instr old.0.instr (sym old.2) in
       by_end (call_steps image old.0.instr) taken calls_it (ends point.instr.opcode)
@@ -218,7 +246,9 @@ module _ (image : Parts) (has : HasAccepted image) (r : ℕ) (routine : Routine)
       no-call Ret is = refl
       no-call _ is = absurd (false≢true is)
 
-      by_end : (n : ℕ) → taken_at image pc ≡ 1 + n → call_steps has.other point.instr ≡ n → (returns point.instr.opcode ≡ true) ⊎ ((falls_through point.instr.opcode ≡ true) ⊎ (point.instr.opcode ≡ Jmp)) → taken_at image pc ≤ point.potential.constant
+      by_end : (n : ℕ) → taken_at image pc ≡ 1 + n → call_steps has.other point.instr ≡ n
+          → (returns point.instr.opcode ≡ true) ⊎ ((falls_through point.instr.opcode ≡ true) ⊎ (point.instr.opcode ≡ Jmp))
+          → taken_at image pc ≤ point.potential.constant
       by_end n taken calls_it (inl is) =
           let paid = (may_return has.other.keyed has.other has.checked.0 has.checked.1 r pc routine point at is).1 in
           omega (arith, taken, calls_it, no-call point.instr.opcode is, paid)
@@ -236,9 +266,11 @@ module _ (image : Parts) (has : HasAccepted image) (r : ℕ) (routine : Routine)
 pub none-accepted-past : NoneIsAcceptedPast
 none-accepted-past image r lt past has =
     let there = item_at has.other.routines r (subst (λ (routines : List Routine). r < length routines) (sym has.same.routines) lt) in
-    let begins = begins-in image has r there.0 there.1 (record { pc = past.from; counters = zeros }) past.end past.places past.before past.way past.ends in
+    let begins = begins-in image has r there.0 there.1 (record { pc = past.from; counters = zeros }) past.end
+    past.places past.before past.way past.ends in
     let first = point-of image has r there.0 there.1 past.from begins in
-    let last = way-value image has r there.0 there.1 (record { pc = past.from; counters = zeros }) past.end past.places past.before first.0 first.1 past.way in
+    let last = way-value image has r there.0 there.1 (record { pc = past.from; counters = zeros }) past.end past.places
+    past.before first.0 first.1 past.way in
     let paid = instr-paid image has r there.0 there.1 past.end.pc last.0 last.1 in
     let none : dot first.0.potential.coefficients zeros ≡ 0 = dot-zeros first.0.potential.coefficients zeros zero-at in
     let long = (four-at image has r there.0 there.1 past.from first.0 first.1.read).constant in

@@ -23,19 +23,23 @@ use Rattle.geos_infer.proofs.Ends.{edge-mono, after-edge, code-at}
 use Rattle.geos_infer.proofs.Flows.{join-least, no-join, some-is}
 
 -- so it is where a routine begins
-pub at-first : (image : Parts) (r : ℕ) (routine : Routine) → slice_get image.routines r ≡ Some routine → (least : List (Option Row)) → Seeded image r least → AreAtMostAny image r least
+pub at-first : (image : Parts) (r : ℕ) (routine : Routine) → slice_get image.routines r ≡ Some routine
+    → (least : List (Option Row)) → Seeded image r least → AreAtMostAny image r least
 at-first image r routine there least S = λ known F pc row within e. elim (cases_eq pc (start_of image.routines r)) [
   | inl same ↦
       let is : row ≡ routine.entry = some-is row routine.entry (sym e ∙ ap (known_at least) same ∙ S.entry routine there) in
       let begins : (at : ℕ) → start_of image.routines r ≡ at → IsReached image r at × KnownAt known at routine.entry =
-      (λ at is_at. subst (λ (n : ℕ). IsReached image r n × KnownAt known n routine.entry) is_at (record { edges = []; lead = refl }, F.entry routine there)) in
+      (λ at is_at. subst (λ (n : ℕ). IsReached image r n × KnownAt known n routine.entry) is_at
+      (record { edges = []; lead = refl }, F.entry routine there)) in
       rw is (begins pc (sym same))
   | inr ne ↦ (let above = within.above in absurd (none-some row (sym (S.only pc (omega arith) within.below) ∙ e)))
 ]
 
 -- and so it stays along an edge
-module _ (image : Parts) (r pc : ℕ) (branch : Bool) (edge : Edge_) (row : Row) (least next : List (Option Row)) (within : IsPcOf image r pc) (here : known_at least pc ≡ Some row) (pc_is : edge.pc ≡ pc) (branch_is : edge.branch ≡ branch)
-    (leads : LeadsTo image pc branch edge.to) (inside : IsPcOf image r edge.to) (room : edge.to < length least) (before : AreAtMostAny image r least) where
+module _ (image : Parts) (r pc : ℕ) (branch : Bool) (edge : Edge_) (row : Row) (least next : List (Option Row))
+    (within : IsPcOf image r pc) (here : known_at least pc ≡ Some row) (pc_is : edge.pc ≡ pc) (branch_is : edge.branch ≡ branch)
+    (leads : LeadsTo image pc branch edge.to) (inside : IsPcOf image r edge.to) (room : edge.to < length least)
+    (before : AreAtMostAny image r least) where
   abbrev comes : Row
   comes = after image edge.pc (clean row) edge.branch
 
@@ -43,7 +47,8 @@ module _ (image : Parts) (r pc : ℕ) (branch : Bool) (edge : Edge_) (row : Row)
   is-edge = record { read = code-at image pc leads.point leads.there; has = leads.has; leads = leads.leads }
 
   over : comes ≡ edge_row image leads.point.instr branch (clean row)
-  over = ap (λ k. after image k (clean row) edge.branch) pc_is ∙ ap (λ b. after image pc (clean row) b) branch_is ∙ after-edge image pc branch leads.point (clean row) leads.there
+  over = ap (λ k. after image k (clean row) edge.branch) pc_is ∙ ap (λ b. after image pc (clean row) b) branch_is
+      ∙ after-edge image pc branch leads.point (clean row) leads.there
 
   module _ (known : List (Option Row)) (F : FitWhereReached image r known) where
     -- control reaches where it leads
@@ -57,12 +62,15 @@ module _ (image : Parts) (r pc : ℕ) (branch : Bool) (edge : Edge_) (row : Row)
     brings =
         let from = before known F pc row within here in
         let weaker = from.1.known_row in
-        let cleaned = (clean-least row).least (clean weaker) (fits-trans row weaker (clean weaker) from.1.fits (clean-least weaker).weaker) (clean-least weaker).clean in
+        let cleaned = (clean-least row).least (clean weaker) (fits-trans row weaker (clean weaker) from.1.fits (clean-least weaker).weaker)
+        (clean-least weaker).clean in
         let there = F.edges pc branch from.0 edge.to leads.point.instr weaker is-edge inside from.1.read in
         record {
           known_row = there.known_row;
           read = there.read;
-          fits = rw over (fits-trans (edge_row image leads.point.instr branch (clean row)) (edge_row image leads.point.instr branch (clean weaker)) there.known_row (edge-mono image leads.point.instr branch (clean row) (clean weaker) cleaned) there.fits);
+          fits = rw over (fits-trans (edge_row image leads.point.instr branch (clean row))
+              (edge_row image leads.point.instr branch (clean weaker)) there.known_row
+              (edge-mono image leads.point.instr branch (clean row) (clean weaker) cleaned) there.fits);
         }
 
     -- what is known there fits what they say
@@ -72,12 +80,20 @@ module _ (image : Parts) (r pc : ℕ) (branch : Bool) (edge : Edge_) (row : Row)
         let is : there.known_row ≡ brings.known_row = some-is there.known_row brings.known_row (sym there.read ∙ brings.read) in
         subst (λ (x : Row). fits old x ≡ true) is there.fits
 
-    joined-there : (J : Joins least edge.to comes next) → (at : ℕ) (now : Row) → IsPcOf image r at → known_at (set least edge.to (Some J.joined)) at ≡ Some now → IsReached image r at × KnownAt known at now
+    joined-there : (J : Joins least edge.to comes next) → (at : ℕ) (now : Row) → IsPcOf image r at
+        → known_at (set least edge.to (Some J.joined)) at ≡ Some now → IsReached image r at × KnownAt known at now
     joined-there J at now at_in e = elim (cases_eq at edge.to) [
       | inl same ↦
-          let is : J.joined ≡ now = some-is J.joined now (sym (get_or-set_same least edge.to (Some J.joined) None room) ∙ ap (known_at (set least edge.to (Some J.joined))) (sym same) ∙ e) in
-          let below : KnownAt known edge.to J.joined = record { known_row = brings.known_row; read = brings.read; fits = join-least (known_at least edge.to) comes J.joined brings.known_row J.join fits-there brings.fits } in
-          subst (λ (x : Row). IsReached image r at × KnownAt known at x) is (subst (λ (n : ℕ). IsReached image r n × KnownAt known n J.joined) (sym same) (reaches, below))
+          let is : J.joined ≡ now = some-is J.joined now (sym (get_or-set_same least edge.to (Some J.joined) None room)
+          ∙ ap (known_at (set least edge.to (Some J.joined))) (sym same) ∙ e) in
+          let below : KnownAt known edge.to J.joined = record {
+            known_row = brings.known_row;
+            read = brings.read;
+            fits =
+                join-least (known_at least edge.to) comes J.joined brings.known_row J.join fits-there brings.fits;
+          } in
+          subst (λ (x : Row). IsReached image r at × KnownAt known at x) is
+          (subst (λ (n : ℕ). IsReached image r n × KnownAt known n J.joined) (sym same) (reaches, below))
       | inr ne ↦ before known F at now at_in (sym (get_or-set_other least edge.to at (Some J.joined) None ne) ∙ e)
     ]
 
@@ -99,5 +115,6 @@ bound-at (x ∷ xs) (u ∷ us) zero h = leb-true x u ((and_parts (nat_le x u) (a
 bound-at (x ∷ xs) (u ∷ us) (suc k) h = bound-at xs us k ((and_parts (nat_le x u) (all2 nat_le xs us) h).1)
 
 -- a word is as much at least by rows that say no more
-pub least-bound : (known : List (Option Row)) (pc : ℕ) (row : Row) (word : ℕ) → KnownAt known pc row → bound row word ≤ bound (row_of (known_at known pc)) word
+pub least-bound : (known : List (Option Row)) (pc : ℕ) (row : Row) (word : ℕ) → KnownAt known pc row
+    → bound row word ≤ bound (row_of (known_at known pc)) word
 least-bound known pc row word K = rw K.read (bound-at row.bounds K.known_row.bounds word ((fitting row K.known_row K.fits).bounds))

@@ -14,7 +14,8 @@ OnlyAhead image r = (pc : ℕ) → IsPcOf image r pc → TargetAhead image r pc
 -- is the one to a target, and tests and LOOPs may go either way
 abbrev pub TakesAlong : Parts → ℕ → ℕ → List Bool → ℕ → Type 0
 TakesAlong image r pc [] steps = IsPcOf image r pc × (steps ≡ taken_at image pc)
-TakesAlong image r pc (branch ∷ branches) steps = (next : ℕ) × (rest : ℕ) × IsPcOf image r pc × LeadsTo image pc branch next × TakesAlong image r next branches rest × (steps ≡ taken_at image pc + rest)
+TakesAlong image r pc (branch ∷ branches) steps = (next : ℕ) × (rest : ℕ) × IsPcOf image r pc × LeadsTo image pc branch next
+    × TakesAlong image r next branches rest × (steps ≡ taken_at image pc + rest)
 
 -- no way leads back in routine r, and on some more steps are taken than a potential can say, if LOOPs may go either way
 pub record MayPass (image : Parts) (r : ℕ) : Type 0 where

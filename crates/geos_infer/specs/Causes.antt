@@ -262,4 +262,5 @@ is_final _ = false
 
 -- where such a cause holds of some routine, no image is accepted that has this code
 abbrev pub NoneIsAcceptedFor : Type 0
-NoneIsAcceptedFor = (image : Parts) (r : ℕ) (cause : Cause) → r < length image.routines → is_final cause ≡ true → Holds image r cause → HasAccepted image → ⊥
+NoneIsAcceptedFor = (image : Parts) (r : ℕ) (cause : Cause) → r < length image.routines → is_final cause ≡ true
+    → Holds image r cause → HasAccepted image → ⊥

@@ -49,7 +49,8 @@ pub record IsPcOf (image : Parts) (r pc : ℕ) : Type 0 where
 
 -- no edge leaves routine r
 abbrev pub ClosedIn : Parts → ℕ → Type 0
-ClosedIn image r = (pc to : ℕ) (branch : Bool) (i : Instr) → IsPcOf image r pc → Edge (instrs_of image) pc branch to i → to < start_of image.routines (r + 1)
+ClosedIn image r = (pc to : ℕ) (branch : Bool) (i : Instr) → IsPcOf image r pc → Edge (instrs_of image) pc branch to i
+    → to < start_of image.routines (r + 1)
 
 -- the edge to the target at a pc, if it stays in routine r, leads ahead
 abbrev pub TargetAhead : Parts → ℕ → ℕ → Type 0
@@ -69,7 +70,8 @@ pub record EnteredIn (image : Parts) (r to : ℕ) : Type 0 where
 pub record ForwardIn (image : Parts) (r : ℕ) : Type 0 where
   pub no_loop : (pc : ℕ) (i : Instr) → IsPcOf image r pc → slice_get (instrs_of image) pc ≡ Some i → i.opcode ≢ Loop
   pub ahead : (pc to : ℕ) (branch : Bool) (i : Instr) → IsPcOf image r pc → Edge (instrs_of image) pc branch to i → pc < to
-  pub entered : (pc : ℕ) (i : Instr) → IsPcOf image r pc → slice_get (instrs_of image) pc ≡ Some i → (pc ≡ start_of image.routines r) ⊎ EnteredIn image r pc
+  pub entered : (pc : ℕ) (i : Instr) → IsPcOf image r pc → slice_get (instrs_of image) pc ≡ Some i
+      → (pc ≡ start_of image.routines r) ⊎ EnteredIn image r pc
 
 -- some edge leads to the pc
 pub record Entered (code : List Instr) (to : ℕ) : Type 0 where

@@ -29,14 +29,16 @@ PaysSteps asked p = asked.steps ≤ left_with asked.counter p
 -- with these rows and coefficients, so many steps at each pc pay for each edge of routine r that stays in it, and for its returns
 pub record ConstantsPay (image : Parts) (r : ℕ) (row : ℕ → Row) (coefficients : ℕ → List ℕ) (steps : ℕ → ℕ) : Type 0 where
   pub edges : (pc to : ℕ) (branch : Bool) → IsPcOf image r pc → (leads : LeadsTo image pc branch to) → IsPcOf image r to
-      → PaysSteps (asked_over image leads.point.instr (row pc) branch (record { constant = steps to; coefficients = coefficients to })) (record { constant = steps pc; coefficients = coefficients pc })
+      → PaysSteps (asked_over image leads.point.instr (row pc) branch (record { constant = steps to; coefficients = coefficients to }))
+      (record { constant = steps pc; coefficients = coefficients pc })
   pub returns : (pc : ℕ) (point : Point) → IsPcOf image r pc → slice_get image.points pc ≡ Some point → return_steps point.instr ≤ steps pc
 
 -- with these rows, each edge of routine r that stays in it is paid for by the potentials at its ends, and its returns are
 pub record PotentialsPay (image : Parts) (r : ℕ) (row : ℕ → Row) (potential : ℕ → Potential) : Type 0 where
   pub edges : (pc to : ℕ) (branch : Bool) → IsPcOf image r pc → (leads : LeadsTo image pc branch to) → IsPcOf image r to
       → is_paid (asked_over image leads.point.instr (row pc) branch (potential to)) (potential pc) ≡ true
-  pub returns : (pc : ℕ) (point : Point) → IsPcOf image r pc → slice_get image.points pc ≡ Some point → return_steps point.instr ≤ (potential pc).constant
+  pub returns : (pc : ℕ) (point : Point) → IsPcOf image r pc → slice_get image.points pc ≡ Some point
+      → return_steps point.instr ≤ (potential pc).constant
 
 -- the row that an image gives at a pc
 abbrev pub given_row : Parts → ℕ → Row
@@ -70,7 +72,8 @@ pub record HasLoops (image : Parts) (r : ℕ) : Type 0 where
 
 -- in routines with loops, the constants of an image that gives all rows are at most any that pay with its rows and coefficients
 abbrev pub HasLeastConstants : Parts → Type 0
-HasLeastConstants image = (r : ℕ) (steps : ℕ → ℕ) → r < length image.routines → HasLoops image r → ConstantsPay image r (given_row image) (coefficients_in image) steps
+HasLeastConstants image = (r : ℕ) (steps : ℕ → ℕ) → r < length image.routines → HasLoops image r
+    → ConstantsPay image r (given_row image) (coefficients_in image) steps
     → (pc : ℕ) (point : Point) → IsPcOf image r pc → slice_get image.points pc ≡ Some point → point.potential.constant ≤ steps pc
 
 -- in routines with loops, the potentials of an image that gives all rows pay for the edges that stay in the routine, and for returns
@@ -130,7 +133,8 @@ coefficients_at coefficients pc = slice_index_or coefficients pc []
 
 -- the steps of routine r that are counted are at most any that pay with the rows that are known and the coefficients that are counted
 abbrev pub AreLeastIn : Parts → ℕ → List (Option Row) → Numbers → Type 0
-AreLeastIn image r known numbers = (steps : ℕ → ℕ) → ConstantsPay image r (row_known known) (coefficients_at numbers.coefficients) steps → (pc : ℕ) → IsPcOf image r pc → slice_index numbers.steps pc ≤ steps pc
+AreLeastIn image r known numbers = (steps : ℕ → ℕ) → ConstantsPay image r (row_known known) (coefficients_at numbers.coefficients) steps
+    → (pc : ℕ) → IsPcOf image r pc → slice_index numbers.steps pc ≤ steps pc
 
 -- the potential at a pc that is counted
 abbrev pub potential_in : Numbers → ℕ → Potential
@@ -139,7 +143,8 @@ potential_in numbers pc = record { constant = slice_index numbers.steps pc; coef
 -- this is what the edge of a pc asks, or none stays in routine r
 abbrev pub IsAsked : Parts → ℕ → List (Option Row) → Numbers → ℕ → Bool → Option Asked → Type 0
 IsAsked image r known numbers pc branch None = (to : ℕ) → LeadsTo image pc branch to → IsPcOf image r to → ⊥
-IsAsked image r known numbers pc branch (Some asked) = (to : ℕ) → (leads : LeadsTo image pc branch to) → IsPcOf image r to → asked ≡ asked_over image leads.point.instr (row_known known pc) branch (potential_in numbers to)
+IsAsked image r known numbers pc branch (Some asked) = (to : ℕ) → (leads : LeadsTo image pc branch to) → IsPcOf image r to
+    → asked ≡ asked_over image leads.point.instr (row_known known pc) branch (potential_in numbers to)
 
 -- the edge of a pc is paid for, if one stays in routine r
 abbrev pub IsPaidOver : Parts → ℕ → List (Option Row) → Numbers → ℕ → Bool → Type 0
@@ -152,7 +157,8 @@ ArePaidIn image r known numbers = PotentialsPay image r (row_known known) (poten
 
 -- they pay, the steps are the least that do, and the coefficients are wanted for LOOPs
 abbrev pub PayLeastIn : Parts → ℕ → List (Option Row) → Numbers → Type 0
-PayLeastIn image r known numbers = ArePaidIn image r known numbers × AreLeastIn image r known numbers × AreForLoops image r (coefficients_at numbers.coefficients)
+PayLeastIn image r known numbers = ArePaidIn image r known numbers × AreLeastIn image r known numbers
+    × AreForLoops image r (coefficients_at numbers.coefficients)
 
 -- the same of each routine with loops from one on up to another
 abbrev pub AreLeastFrom : Parts → ℕ → ℕ → List (Option Row) → Numbers → Type 0

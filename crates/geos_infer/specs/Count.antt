@@ -12,7 +12,8 @@ use Rattle.geos_infer.specs.Solutions.{StepsHoldIn, call_steps, most_steps}
 
 -- what an edge that leads ahead asks for
 abbrev pub edge_steps : Parts → ℕ → ℕ → Instr → Bool → List ℕ → ℕ
-edge_steps image limit pc i branch steps = if leads_ahead limit pc i branch then slice_index steps (edge_end pc i branch) + 1 + call_steps image i else 0
+edge_steps image limit pc i branch steps = if leads_ahead limit pc i branch then slice_index steps
+    (edge_end pc i branch) + 1 + call_steps image i else 0
 
 -- what a return asks for
 abbrev pub return_steps : Instr → ℕ
@@ -26,7 +27,8 @@ steps_at image limit pc i steps = max (return_steps i) (max (edge_steps image li
 pub record Counting (image : Parts) (limit : ℕ) (want steps : List ℕ) (pc : ℕ) : Type 0 where
   pub len : length (instrs_of image) ≤ length steps
   pub below : (k : ℕ) → pc ≤ k → k < limit → slice_index steps k ≤ slice_index want k
-  pub edges : (k to : ℕ) (branch : Bool) (i : Instr) → pc ≤ k → k < limit → Edge (instrs_of image) k branch to i → slice_index steps to + 1 + call_steps image i ≤ slice_index steps k
+  pub edges : (k to : ℕ) (branch : Bool) (i : Instr) → pc ≤ k → k < limit → Edge (instrs_of image) k branch to i
+      → slice_index steps to + 1 + call_steps image i ≤ slice_index steps k
   pub returns : (k : ℕ) (i : Instr) → pc ≤ k → k < limit → slice_get (instrs_of image) k ≡ Some i → returns i.opcode ≡ true → 1 ≤ slice_index steps k
 
 -- no counter counts from a pc on up to a limit
@@ -87,4 +89,5 @@ CountsOn image r numbers next done = (want : List ℕ) → ForwardIn image r →
 
 -- of the first so many routines, the numbers of those from this one on are counted; of code without loops
 abbrev pub AreCounted : Parts → ℕ → ℕ → Numbers → Type 0
-AreCounted image from count numbers = (want : List ℕ) → ((r : ℕ) → r < count → ForwardIn image r × StepsHoldIn image r want) → (r : ℕ) → from ≤ r → r < count → CountedIn image r want numbers
+AreCounted image from count numbers = (want : List ℕ) → ((r : ℕ) → r < count → ForwardIn image r × StepsHoldIn image r want)
+    → (r : ℕ) → from ≤ r → r < count → CountedIn image r want numbers

@@ -28,7 +28,8 @@ taken_from _ = None
 -- those that an edge keeps, 0 of the others
 abbrev pub kept_over : Counting → List ℕ → List ℕ
 kept_over counting numbers =
-    (if keeps counting 0 then slice_index numbers 0 else 0) ∷ (if keeps counting 1 then slice_index numbers 1 else 0) ∷ (if keeps counting 2 then slice_index numbers 2 else 0) ∷ (if keeps counting 3 then slice_index numbers 3 else 0) ∷ []
+    (if keeps counting 0 then slice_index numbers 0 else 0) ∷ (if keeps counting 1 then slice_index numbers 1 else 0)
+    ∷ (if keeps counting 2 then slice_index numbers 2 else 0) ∷ (if keeps counting 3 then slice_index numbers 3 else 0) ∷ []
 
 -- the numbers at a place are at least these next, and no more than that, and those elsewhere are the same
 pub record AreRaised (old next : List (List ℕ)) (pc : ℕ) (numbers : List ℕ) : Type 0 where
@@ -40,7 +41,8 @@ pub record AreRaised (old next : List (List ℕ)) (pc : ℕ) (numbers : List ℕ
 -- edges that are noted, and keep a counter, lead from a place to another; each says whether it is the one to a target
 abbrev pub IsKeptOver : List (List (Option Arc)) → ℕ → ℕ → List Bool → ℕ → Type 0
 IsKeptOver arcs k from [] to = from ≡ to
-IsKeptOver arcs k from (branch ∷ branches) to = (arc : Arc) × (arc_at arcs from branch ≡ Some arc) × (keeps arc.counting k ≡ true) × IsKeptOver arcs k arc.to branches to
+IsKeptOver arcs k from (branch ∷ branches) to = (arc : Arc) × (arc_at arcs from branch ≡ Some arc) × (keeps arc.counting k ≡ true)
+    × IsKeptOver arcs k arc.to branches to
 
 -- a LOOP on a counter is at the end of a way on which that is kept, and a unit of it pays for so much there, at least
 pub record IsWanted (arcs : List (List (Option Arc))) (pay : List (List ℕ)) (pc k n : ℕ) : Type 0 where

@@ -51,12 +51,14 @@ edge_number pc false = 2 * pc
 pub record FitAhead (image : Parts) (r : ℕ) (known : List (Option Row)) (done : ℕ) : Type 0 where
   pub len : length (instrs_of image) ≤ length known
   pub entry : (routine : Routine) → slice_get image.routines r ≡ Some routine → KnownAt known (start_of image.routines r) routine.entry
-  pub edges : (pc to : ℕ) (branch : Bool) (i : Instr) (row : Row) → IsPcOf image r pc → IsPcOf image r to → pc < to → edge_number pc branch < done → Edge (instrs_of image) pc branch to i
+  pub edges : (pc to : ℕ) (branch : Bool) (i : Instr) (row : Row) → IsPcOf image r pc → IsPcOf image r to → pc < to
+      → edge_number pc branch < done → Edge (instrs_of image) pc branch to i
       → known_at known pc ≡ Some row → KnownAt known to (edge_row image i branch (clean row))
 
 -- all that is known in routine r fits rows that hold
 abbrev pub AllBelow : Parts → ℕ → List Row → List (Option Row) → Type 0
-AllBelow image r want known = (pc : ℕ) (row w : Row) → IsPcOf image r pc → known_at known pc ≡ Some row → slice_get want pc ≡ Some w → fits row w ≡ true
+AllBelow image r want known = (pc : ℕ) (row w : Row) → IsPcOf image r pc → known_at known pc ≡ Some row
+    → slice_get want pc ≡ Some w → fits row w ≡ true
 
 -- rows have flowed along the edges of routine r that lead ahead and are among the first so many, and all that is known in it fits
 -- rows that hold
@@ -123,7 +125,8 @@ pub record GoesAhead (image : Parts) (r pc : ℕ) (branch : Bool) (known : List 
 abbrev pub Spreads : Parts → ℕ → ℕ → Bool → List (Option Row) → List (Option Row) → Bool → Type 0
 Spreads image r pc branch known next done =
     ((GoesAhead image r pc branch known → ⊥) × (done ≡ true) × (next ≡ known)) ⊎ ((goes : GoesAhead image r pc branch known)
-    × MatchBool done (Joins known goes.to (edge_row image goes.i branch (clean goes.row)) next) (HaveNoJoin (known_at known goes.to) (edge_row image goes.i branch (clean goes.row))))
+    × MatchBool done (Joins known goes.to (edge_row image goes.i branch (clean goes.row)) next)
+    (HaveNoJoin (known_at known goes.to) (edge_row image goes.i branch (clean goes.row))))
 
 -- what is known in routine r fits any rows that hold, and there are none where rows have no join
 abbrev pub FlowsBelow : Parts → ℕ → List (Option Row) → Bool → Type 0

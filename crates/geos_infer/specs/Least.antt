@@ -69,7 +69,8 @@ IsLookedAt arcs jumps pay pc branch (Some link) = (arc : Arc) × (arc_at arcs pc
 
 -- the same of each edge of routine r
 abbrev pub AreLookedAt : Parts → ℕ → List (List (Option Arc)) → List Jump → List (List ℕ) → List (List (Option Link)) → Type 0
-AreLookedAt image r arcs jumps pay links = (pc : ℕ) (branch : Bool) → IsPcOf image r pc → IsLookedAt arcs jumps pay pc branch (link_at links pc branch)
+AreLookedAt image r arcs jumps pay links = (pc : ℕ) (branch : Bool) → IsPcOf image r pc
+    → IsLookedAt arcs jumps pay pc branch (link_at links pc branch)
 
 -- What is made of these
 
@@ -83,7 +84,8 @@ pub record AsksNoMore (arcs : List (List (Option Arc))) (pay : List (List ℕ)) 
 
 -- the same of each edge of routine r that is looked at
 abbrev pub AskNoMore : Parts → ℕ → List (List (Option Arc)) → List (List ℕ) → List (List (Option Link)) → Type 0
-AskNoMore image r arcs pay links = (pc : ℕ) (branch : Bool) (link : Link) → IsPcOf image r pc → link_at links pc branch ≡ Some link → AsksNoMore arcs pay pc branch link
+AskNoMore image r arcs pay links = (pc : ℕ) (branch : Bool) (link : Link) → IsPcOf image r pc → link_at links pc branch ≡ Some link
+    → AsksNoMore arcs pay pc branch link
 
 -- no edge from outside of routine r is looked at
 abbrev pub NoneOutside : Parts → ℕ → List (List (Option Link)) → Type 0
@@ -91,4 +93,5 @@ NoneOutside image r links = (pc : ℕ) (branch : Bool) → (IsPcOf image r pc �
 
 -- the numbers of routine r are the steps of these ways, and these units
 abbrev pub ArePut : Parts → ℕ → List (List ℕ) → List Way → Numbers → Type 0
-ArePut image r pay ways numbers = (pc : ℕ) → IsPcOf image r pc → (slice_index numbers.steps pc ≡ steps_at ways pc) × (slice_index_or numbers.coefficients pc [] ≡ slice_index_or pay pc [])
+ArePut image r pay ways numbers = (pc : ℕ) → IsPcOf image r pc → (slice_index numbers.steps pc ≡ steps_at ways pc)
+    × (slice_index_or numbers.coefficients pc [] ≡ slice_index_or pay pc [])

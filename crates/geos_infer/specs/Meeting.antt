@@ -42,7 +42,8 @@ pub record BringsAlong (image : Parts) (known : List (Option Coming)) (pc : ℕ)
 
 -- what is known at a pc has gone along an edge, if that stays in routine r
 abbrev pub HasGone : Parts → ℕ → List (Option Coming) → ℕ → Bool → Type 0
-HasGone image r known pc branch = (coming : Coming) (to : ℕ) → coming_at known pc ≡ Some coming → LeadsTo image pc branch to → IsPcOf image r to → IsMet known to (after image pc coming.row branch)
+HasGone image r known pc branch = (coming : Coming) (to : ℕ) → coming_at known pc ≡ Some coming → LeadsTo image pc branch to
+    → IsPcOf image r to → IsMet known to (after image pc coming.row branch)
 
 -- control is known to come to where routine r begins, and what is known comes there; what does not wait has gone along both edges
 pub record IsSpread (image : Parts) (r : ℕ) (known : List (Option Coming)) (waits : List Bool) : Type 0 where

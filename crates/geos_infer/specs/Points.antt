@@ -18,7 +18,13 @@ potential_of n = record { constant = n; coefficients = 0 ∷ 0 ∷ 0 ∷ 0 ∷ [
 pub record PointsOf (image : Parts) (known : List (Option Row)) (numbers : Numbers) (points : List Point) : Type 0 where
   pub len : length points ≡ length image.points
   pub each : (pc : ℕ) (old : Point) → slice_get image.points pc ≡ Some old
-      → slice_get points pc ≡ Some (record { instr = old.instr; row = Some (row_of (known_at known pc)); potential = record { constant = slice_index numbers.steps pc; coefficients = slice_index_or numbers.coefficients pc [] } })
+      → slice_get points pc ≡ Some
+      (record {
+        instr = old.instr;
+        row = Some (row_of (known_at known pc));
+        potential =
+            record { constant = slice_index numbers.steps pc; coefficients = slice_index_or numbers.coefficients pc [] };
+      })
   pub legal : (pc : ℕ) (old : Point) → slice_get image.points pc ≡ Some old → is_row true (row_of (known_at known pc)) ≡ true
 
 -- the routines of the image

@@ -17,7 +17,8 @@ noted_idle classes pc k = not (unit_at classes.touched pc k == 0) || not (unit_a
 
 -- where it is noted at a pc that a counter may not pay, it is noted, too, where an edge leads that keeps it
 abbrev pub GoesOn : Parts → ℕ → Classes → ℕ → Bool → ℕ → Type 0
-GoesOn image r classes pc branch k = (to : ℕ) → LeadsKeeping image r (Some k) pc branch to → noted_idle classes pc k ≡ true → noted_idle classes to k ≡ true
+GoesOn image r classes pc branch k = (to : ℕ) → LeadsKeeping image r (Some k) pc branch to → noted_idle classes pc k ≡ true
+    → noted_idle classes to k ≡ true
 
 -- behind a call of a routine that touches a counter it is noted that this may not pay
 abbrev pub IsNotedBehind : Parts → ℕ → Classes → ℕ → ℕ → Type 0

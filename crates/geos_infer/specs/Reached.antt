@@ -28,8 +28,10 @@ pub record IsReached (image : Parts) (r pc : ℕ) : Type 0 where
 -- it leads, if that is in the routine; and no pointer leads into an empty slot where the image gives a row
 pub record HoldWhereReached (image : Parts) (r : ℕ) (rows : List Row) : Type 0 where
   pub len : length rows ≡ length (instrs_of image)
-  pub entry : (routine : Routine) (row : Row) → slice_get image.routines r ≡ Some routine → slice_get rows (start_of image.routines r) ≡ Some row → fits routine.entry row ≡ true
-  pub edges : (pc to : ℕ) (branch : Bool) (i : Instr) (row next : Row) → IsReached image r pc → Edge (instrs_of image) pc branch to i → IsPcOf image r to → slice_get rows pc ≡ Some row
+  pub entry : (routine : Routine) (row : Row) → slice_get image.routines r ≡ Some routine
+      → slice_get rows (start_of image.routines r) ≡ Some row → fits routine.entry row ≡ true
+  pub edges : (pc to : ℕ) (branch : Bool) (i : Instr) (row next : Row) → IsReached image r pc → Edge (instrs_of image) pc branch to i
+      → IsPcOf image r to → slice_get rows pc ≡ Some row
       → slice_get rows to ≡ Some next → fits (edge_row image i branch row) next ≡ true
   pub clean : (pc : ℕ) (row : Row) → IsPcOf image r pc → gives image pc ≡ true → slice_get rows pc ≡ Some row → names_empty_slot row ≡ false
 
@@ -60,14 +62,16 @@ pub record RowRulesPass (image : Parts) (r : ℕ) (routine : Routine) (pc : ℕ)
 
 -- where the rows of an image hold, the rules on rows pass wherever control reaches
 abbrev pub RowsThatHoldPass : Type 0
-RowsThatHoldPass = (image : Parts) (r pc : ℕ) (routine : Routine) (place : Place) → HoldWhereReached image r (rows_of image) → IsReached image r pc → HasPoint image r routine pc place
+RowsThatHoldPass = (image : Parts) (r pc : ℕ) (routine : Routine) (place : Place) → HoldWhereReached image r (rows_of image)
+    → IsReached image r pc → HasPoint image r routine pc place
     → RowRulesPass image r routine pc place
 
 -- What the search finds
 
 -- what is known behind an edge of the instruction at a pc of routine r fits what is known where it leads, if that is in the routine
 abbrev pub EdgeFits : Parts → ℕ → List (Option Row) → ℕ → Bool → Type 0
-EdgeFits image r known pc branch = (to : ℕ) (i : Instr) (row : Row) → Edge (instrs_of image) pc branch to i → IsPcOf image r to → known_at known pc ≡ Some row → KnownAt known to (edge_row image i branch (clean row))
+EdgeFits image r known pc branch = (to : ℕ) (i : Instr) (row : Row) → Edge (instrs_of image) pc branch to i
+    → IsPcOf image r to → known_at known pc ≡ Some row → KnownAt known to (edge_row image i branch (clean row))
 
 -- what is known behind each edge of routine r to a target fits what is known there, unless the target lies ahead
 abbrev pub BackFit : Parts → ℕ → List (Option Row) → Type 0
@@ -86,7 +90,8 @@ pub record FitWhereReached (image : Parts) (r : ℕ) (known : List (Option Row))
 
 -- control reaches each pc of routine r where a row is known, and no rows that hold wherever control reaches say more there than that row
 abbrev pub AreAtMostAny : Parts → ℕ → List (Option Row) → Type 0
-AreAtMostAny image r least = (known : List (Option Row)) → FitWhereReached image r known → (pc : ℕ) (row : Row) → IsPcOf image r pc → known_at least pc ≡ Some row → IsReached image r pc × KnownAt known pc row
+AreAtMostAny image r least = (known : List (Option Row)) → FitWhereReached image r known → (pc : ℕ) (row : Row)
+    → IsPcOf image r pc → known_at least pc ≡ Some row → IsReached image r pc × KnownAt known pc row
 
 -- what is known next from a pc up to another is what another table has there, and what was known before the former stays
 pub record Copies (start end : ℕ) (from known next : List (Option Row)) : Type 0 where

@@ -19,8 +19,10 @@ most_steps = 4294967295
 pub record RowsHoldIn (image : Parts) (r : ℕ) (rows : List Row) : Type 0 where
   pub len : length rows ≡ length (instrs_of image)
   pub closed : ClosedIn image r
-  pub entry : (routine : Routine) (row : Row) → slice_get image.routines r ≡ Some routine → slice_get rows (start_of image.routines r) ≡ Some row → fits routine.entry row ≡ true
-  pub edges : (pc to : ℕ) (branch : Bool) (i : Instr) (row next : Row) → IsPcOf image r pc → Edge (instrs_of image) pc branch to i → slice_get rows pc ≡ Some row → slice_get rows to ≡ Some next
+  pub entry : (routine : Routine) (row : Row) → slice_get image.routines r ≡ Some routine
+      → slice_get rows (start_of image.routines r) ≡ Some row → fits routine.entry row ≡ true
+  pub edges : (pc to : ℕ) (branch : Bool) (i : Instr) (row next : Row) → IsPcOf image r pc → Edge (instrs_of image) pc branch to i
+      → slice_get rows pc ≡ Some row → slice_get rows to ≡ Some next
       → fits (edge_row image i branch row) next ≡ true
   pub clean : (pc : ℕ) (row : Row) → IsPcOf image r pc → slice_get rows pc ≡ Some row → names_empty_slot row ≡ false
 
@@ -36,8 +38,10 @@ call_steps image i = if calls i.opcode then budget_of image i.imm else 0
 -- for the number where an edge leads, and for a return; and no edge leaves the routine
 pub record StepsHoldIn (image : Parts) (r : ℕ) (steps : List ℕ) : Type 0 where
   pub closed : ClosedIn image r
-  pub edges : (pc to : ℕ) (branch : Bool) (i : Instr) → IsPcOf image r pc → Edge (instrs_of image) pc branch to i → slice_index steps to + 1 + call_steps image i ≤ slice_index steps pc
-  pub returns : (pc : ℕ) (i : Instr) → IsPcOf image r pc → slice_get (instrs_of image) pc ≡ Some i → returns i.opcode ≡ true → 1 ≤ slice_index steps pc
+  pub edges : (pc to : ℕ) (branch : Bool) (i : Instr) → IsPcOf image r pc → Edge (instrs_of image) pc branch to i
+      → slice_index steps to + 1 + call_steps image i ≤ slice_index steps pc
+  pub returns : (pc : ℕ) (i : Instr) → IsPcOf image r pc → slice_get (instrs_of image) pc ≡ Some i → returns i.opcode ≡ true
+      → 1 ≤ slice_index steps pc
   pub long : (pc : ℕ) → IsPcOf image r pc → slice_index steps pc ≤ most_steps
 
 -- no numbers of steps hold in routine r, or it has loops

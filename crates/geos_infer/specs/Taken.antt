@@ -45,7 +45,8 @@ pub record Goes (image : Parts) (r : ℕ) (from to : Place) : Type 0 where
 -- control goes from one place to another, through these on the way, the last first, and takes so many steps
 abbrev pub Takes : Parts → ℕ → Place → List Place → Place → ℕ → Type 0
 Takes image r from [] to steps = (to ≡ from) × (steps ≡ 0)
-Takes image r from (place ∷ places) to steps = (before : ℕ) × Takes image r from places place before × Goes image r place to × (steps ≡ before + taken_at image place.pc)
+Takes image r from (place ∷ places) to steps = (before : ℕ) × Takes image r from places place before × Goes image r place to
+    × (steps ≡ before + taken_at image place.pc)
 
 -- on a way in routine r on which all counters are 0 at first, more steps are taken than a potential can say
 pub record StepsPass (image : Parts) (r : ℕ) : Type 0 where

@@ -31,4 +31,5 @@ pub record LeadsKeeping (image : Parts) (r : ℕ) (counter : Option ℕ) (pc : �
 -- such edges lead from a pc to another; each says whether it is the one to a target
 abbrev pub IsTrail : Parts → ℕ → Option ℕ → ℕ → List Bool → ℕ → Type 0
 IsTrail image r counter from [] to = from ≡ to
-IsTrail image r counter from (branch ∷ branches) to = (next : ℕ) × LeadsKeeping image r counter from branch next × IsTrail image r counter next branches to
+IsTrail image r counter from (branch ∷ branches) to = (next : ℕ) × LeadsKeeping image r counter from branch next
+    × IsTrail image r counter next branches to

@@ -95,7 +95,8 @@ GoOn image r pc reach to next = (begin : Begin) → AlwaysComesTo image r begin 
 
 -- from a pc up to another, what a table says of ways to places is so
 abbrev pub AreReached : Parts → ℕ → Begin → ℕ → ℕ → List (Option Reach) → Type 0
-AreReached image r begin low high reached = (pc : ℕ) (reach : Reach) → low ≤ pc → pc ≤ high → slice_index_or reached pc None ≡ Some reach → AlwaysComesTo image r begin pc reach
+AreReached image r begin low high reached = (pc : ℕ) (reach : Reach) → low ≤ pc → pc ≤ high → slice_index_or reached pc None ≡ Some reach
+    → AlwaysComesTo image r begin pc reach
 
 -- what a table says of ways to these places is so next, if it was
 abbrev pub StayReached : Parts → ℕ → ℕ → ℕ → List (Option Reach) → List (Option Reach) → Type 0

@@ -22,7 +22,8 @@ pub record LeadsTo (image : Parts) (pc : ℕ) (branch : Bool) (to : ℕ) : Type 
 abbrev pub IsWay : Parts → ℕ → Row → List (ℕ × Bool) → ℕ → Row → Type 0
 IsWay image r entry [] pc row = (pc ≡ start_of image.routines r) × (row ≡ entry)
 IsWay image r entry (edge ∷ edges) pc row =
-    (before : Row) × IsWay image r entry edges edge.0 before × LeadsTo image edge.0 edge.1 pc × IsPcOf image r pc × (row ≡ after image edge.0 before edge.1)
+    (before : Row) × IsWay image r entry edges edge.0 before × LeadsTo image edge.0 edge.1 pc × IsPcOf image r pc
+    × (row ≡ after image edge.0 before edge.1)
 
 -- control comes to a pc of routine r with a row, from where the routine begins, along some edges
 pub record ComesFromStart (image : Parts) (r pc : ℕ) (row : Row) : Type 0 where
@@ -48,7 +49,11 @@ pub record BeginsWith (image : Parts) (r pc : ℕ) (row : Row) : Type 0 where
 
 -- control comes to a pc along an edge, or there the routine begins
 abbrev pub IsComing : Parts → ℕ → ℕ → Coming → Type 0
-IsComing image r to coming = elim coming.from [ None ↦ BeginsWith image r to coming.row | Some edge ↦ (edge.to ≡ to) × ComesBy image r edge coming.row ]
+IsComing image r to coming = elim coming.from [
+  | None ↦ BeginsWith image r to coming.row
+  | Some edge ↦ (edge.to ≡ to)
+      × ComesBy image r edge coming.row
+]
 
 -- control comes to a place of routine r on two ways, with slots that differ in more than marks
 pub record AreApart (image : Parts) (r : ℕ) (apart : Apart) : Type 0 where

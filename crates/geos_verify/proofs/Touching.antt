@@ -21,7 +21,8 @@ rows-blank (row ∷ rows) h zero k = row-blank row (or_parts (list_any (λ b. b)
 rows-blank (row ∷ rows) h (suc c) k = rows-blank rows (or_parts (list_any (λ b. b) row) (list_any (λ other. list_any (λ b. b) other) rows) h).1 c k
 
 -- what is noted of a routine by a table
-pub noted_by-own : (image : Parts) (table : List (List Bool)) (r k : ℕ) → k < 4 → slice_index_or (noted_by image table r) k false ≡ touches_by image table k r
+pub noted_by-own : (image : Parts) (table : List (List Bool)) (r k : ℕ) → k < 4
+    → slice_index_or (noted_by image table r) k false ≡ touches_by image table k r
 noted_by-own image table r zero few = refl
 noted_by-own image table r (suc zero) few = refl
 noted_by-own image table r (suc (suc zero)) few = refl
@@ -37,6 +38,7 @@ pub knows-more : (image : Parts) (table next : List (List Bool)) (depth : ℕ) �
     → ((c k : ℕ) → k < 4 → noted next k c ≡ touches_by image table k c) → KnowsTouchedWithin image next (suc depth)
 knows-more image table next depth known by c k few =
     by c k few
-    ∙ list_any-same (λ point. touches_here (noted table k) k point.instr) (λ point. touches_here (touches_within depth image k) k point.instr) (points_of image c)
+    ∙ list_any-same (λ point. touches_here (noted table k) k point.instr) (λ point. touches_here (touches_within depth image k) k point.instr)
+    (points_of image c)
     (λ j point there.
     ap (λ touched. (counts point.instr.opcode && point.instr.a == k) || (calls point.instr.opcode && touched)) (known point.instr.imm k few))

@@ -8,4 +8,5 @@ returns-clause-by c =
     let inside = c.in_ok-edge.ensures.inside in
     let before = c.in_ok-before.before in
     let comes = comes-to body.image.now body.r c.args.pc before (c.requires.come c.args.pc before (sym (c.in_ok-before.ensures None))) in
-    comes-along body.image.now body.r c.args.pc c.args.branch c.in_ok-edge.edge before.row c.after.result inside.from inside.way comes c.in_ok-edge.ensures.leads c.in_ok-edge.ensures.stays c.after.ensures
+    comes-along body.image.now body.r c.args.pc c.args.branch c.in_ok-edge.edge before.row c.after.result inside.from
+    inside.way comes c.in_ok-edge.ensures.leads c.in_ok-edge.ensures.stays c.after.ensures

@@ -10,4 +10,5 @@ first_apart-requires c =
     let in_known : body.start < length known = omega (arith, c.lengths.ensures, body.some, body.room, body.short) in
     let in_waits : body.start < length waits = omega (arith, c.lengths-2.ensures, body.some, body.room, body.short) in
     rw (c.set.ensures, c.set-2.ensures)
-    (spread-first body.image.now body.r body.start c.routine.result.now known waits body.begins c.routine.ensures c.in_ok-known.ensures.one c.in_ok-known.ensures.other in_known in_waits)
+    (spread-first body.image.now body.r body.start c.routine.result.now known waits body.begins c.routine.ensures
+    c.in_ok-known.ensures.one c.in_ok-known.ensures.other in_known in_waits)

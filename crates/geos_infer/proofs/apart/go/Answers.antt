@@ -21,7 +21,8 @@ returns-in-None-clause-ok c =
     let coming : Coming = record { from = Some brought.edge; row = brought.row } in
     let in_known : brought.edge.to < length c.args.known.now = omega (arith, c.in-Some.ensures.inside, c.lengths.ensures, body.room, body.short) in
     let in_waits : brought.edge.to < length c.args.waits.now = omega (arith, c.in-Some.ensures.inside, c.lengths-2.ensures, body.room, body.short) in
-    rw (c.set.ensures, c.set-in-None.ensures) (goes-new c.args.known.now c.args.waits.now brought.edge.to coming in_known in_waits (sym (c.in-None.ensures None)))
+    rw (c.set.ensures, c.set-in-None.ensures) (goes-new c.args.known.now c.args.waits.now brought.edge.to coming
+    in_known in_waits (sym (c.in-None.ensures None)))
 
 pub returns-in-None-clause-gone : goal.returns-in-None-clause-gone
 returns-in-None-clause-gone c =
@@ -34,8 +35,10 @@ returns-in-None-clause-gone c =
     let waits = c.args.waits.now in
     let to = brought.edge.to in
     let further = goes-new known waits to coming in_known in_waits (sym (c.in-None.ensures None)) in
-    let met : IsMet (set known to (Some coming)) to brought.row = record { first = coming; read = get_or-set_same known to (Some coming) None in_known; alike = alike-refl brought.row } in
-    rw c.set.ensures (gone-along body.image.now body.r known (set known to (Some coming)) waits (set waits to true) true further c.args.pc c.args.branch to brought.row c.in-Some.ensures.some met)
+    let met : IsMet (set known to (Some coming)) to brought.row =
+    record { first = coming; read = get_or-set_same known to (Some coming) None in_known; alike = alike-refl brought.row } in
+    rw c.set.ensures (gone-along body.image.now body.r known (set known to (Some coming)) waits (set waits to true)
+    true further c.args.pc c.args.branch to brought.row c.in-Some.ensures.some met)
 
 pub returns-in-Some-2-clause-err : goal.returns-in-Some-2-clause-err
 returns-in-Some-2-clause-err c = record {

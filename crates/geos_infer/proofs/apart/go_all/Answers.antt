@@ -12,6 +12,8 @@ loop-pc-preserved c =
     elim c.if-at.branch [
       | then-at+in_ok-further w ↦
           let ok = w.in_ok-further.ensures in
-          rw (w.known-is, w.waits-is, w.further-is) (going-on image r before at.known at.waits at.pc w.go_on.new.known w.go_on.new.waits at.further w.in_ok-further.field-0 at.invariant ok.spread ok.ok)
-      | else-at w ↦ rw (w.known-is, w.waits-is, w.further-is) (going-past image r before at.known at.waits at.pc at.further at.invariant (sym (w.if-at.ensures false)))
+          rw (w.known-is, w.waits-is, w.further-is) (going-on image r before at.known at.waits at.pc w.go_on.new.known
+          w.go_on.new.waits at.further w.in_ok-further.field-0 at.invariant ok.spread ok.ok)
+      | else-at w ↦ rw (w.known-is, w.waits-is, w.further-is)
+          (going-past image r before at.known at.waits at.pc at.further at.invariant (sym (w.if-at.ensures false)))
     ]

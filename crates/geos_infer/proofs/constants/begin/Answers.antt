@@ -25,14 +25,19 @@ loop-pc-preserved c =
     let here = in-body body p c.loop-pc.auto.pc c.loop-pc-test.true in
     let links = c.set_steps.ensures.links ∙ c.set_links.ensures.links in record {
       outside = outside-more image body.r c.loop-pc.units.lengths.links c.set_steps.new.self.links p _ here links c.loop-pc.invariant.outside;
-      looked = looked-more image body.r c.args.graph.now.arcs c.args.splitting.now.jumps c.loop-pc.units.pay c.loop-pc.units.lengths.links c.set_steps.new.self.links p (p + 1) _ _ refl links c.set_links.ensures.room c.link_at-along.ensures c.link_at-branching.ensures c.loop-pc.invariant.looked;
+      looked = looked-more image body.r c.args.graph.now.arcs c.args.splitting.now.jumps c.loop-pc.units.pay
+          c.loop-pc.units.lengths.links c.set_steps.new.self.links p (p + 1) _ _ refl links c.set_links.ensures.room
+          c.link_at-along.ensures c.link_at-branching.ensures c.loop-pc.invariant.looked;
       pay = c.loop-pc.invariant.pay;
       ends = λ want ends pc low.
           let found = item_at image.points p (omega (arith, body.room, c.loop-pc-test.true)) in
-          let same : c.instr.result.now ≡ found.0.instr = if_some (λ point. c.instr.result.now ≡ point.instr) (slice_get image.points p) found.0 found.1 c.instr.ensures.there in
+          let same : c.instr.result.now ≡ found.0.instr = if_some (λ point. c.instr.result.now ≡ point.instr)
+          (slice_get image.points p) found.0 found.1 c.instr.ensures.there in
           let is : c.return_steps-steps.result ≡ return_steps found.0.instr = c.return_steps-steps.ensures ∙ ap return_steps same in
           let paid = ends.returns p found.0 here found.1 in
-          rw (c.set_steps.ensures.ways, c.set_links.ensures.ways) (ends-more c.loop-pc.units.lengths.ways p _ want pc (omega arith) (λ ne. c.loop-pc.invariant.ends want ends pc (λ within. (let less = low within in omega (arith, ne)))));
+          rw (c.set_steps.ensures.ways, c.set_links.ensures.ways)
+          (ends-more c.loop-pc.units.lengths.ways p _ want pc (omega arith)
+          (λ ne. c.loop-pc.invariant.ends want ends pc (λ within. (let less = low within in omega (arith, ne)))));
     }
 
 pub returns-clause-ends : goal.returns-clause-ends
@@ -44,4 +49,5 @@ pub returns-clause-outside : goal.returns-clause-outside
 returns-clause-outside c = c.loop-pc.invariant.outside
 
 pub returns-clause-looked : goal.returns-clause-looked
-returns-clause-looked c = λ pc branch within. (let body = c.args.body.now in c.loop-pc.invariant.looked pc branch within (omega (arith, within.below, body.ends, c.loop-pc-test.false)))
+returns-clause-looked c = λ pc branch within. (let body = c.args.body.now in
+    c.loop-pc.invariant.looked pc branch within (omega (arith, within.below, body.ends, c.loop-pc-test.false)))

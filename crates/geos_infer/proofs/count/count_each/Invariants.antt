@@ -8,5 +8,6 @@ use Rattle.geos_infer.proofs.count.count_each.Given as goal
 
 -- steps are counted in the routines from r on, and none hold in a routine that is left; where none is, they are the least
 abbrev pub invariant-loop-r : goal.invariant-loop-r
-invariant-loop-r l = AreCounted l.image l.r l.routines (numbers_of l.potentials) × IfSome l.left (λ r. r < l.routines) × IfSome l.left (NoStepsHoldIn l.image)
+invariant-loop-r l = AreCounted l.image l.r l.routines (numbers_of l.potentials) × IfSome l.left (λ r. r < l.routines)
+    × IfSome l.left (NoStepsHoldIn l.image)
     × (l.left ≡ None → AreLeastFrom l.image l.r l.routines l.known (numbers_of l.potentials))

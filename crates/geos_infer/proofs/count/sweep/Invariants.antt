@@ -8,4 +8,5 @@ use Rattle.geos_infer.proofs.count.sweep.Given as goal
 -- steps are counted from pc on, and what is behind the routine stays
 abbrev pub invariant-loop-pc : goal.invariant-loop-pc
 invariant-loop-pc l = (l.body.start ≤ l.pc) × StaysFrom l.body.end (numbers_of l.fn.potentials) (numbers_of l.potentials)
-    × ((want : List ℕ) → ForwardIn l.body.image.now l.body.r → StepsHoldIn l.body.image.now l.body.r want → Counted l.body.image.now l.body.end want (numbers_of l.potentials) l.pc)
+    × ((want : List ℕ) → ForwardIn l.body.image.now l.body.r → StepsHoldIn l.body.image.now l.body.r want
+    → Counted l.body.image.now l.body.end want (numbers_of l.potentials) l.pc)

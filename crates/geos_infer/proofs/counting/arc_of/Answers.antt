@@ -12,7 +12,8 @@ returns c =
     let image = body.image.now in
     let leads = c.in_ok-edge.ensures.leads in
     let row = row_of (known_at c.args.known.now c.args.pc) in
-    let same : c.instr.result.now ≡ leads.point.instr = if_some (λ point. c.instr.result.now ≡ point.instr) (slice_get image.points c.args.pc) leads.point leads.there c.instr.ensures.there in
+    let same : c.instr.result.now ≡ leads.point.instr = if_some (λ point. c.instr.result.now ≡ point.instr)
+    (slice_get image.points c.args.pc) leads.point leads.there c.instr.ensures.there in
     record {
       leads = leads;
       stays = c.in_ok-edge.ensures.stays;

@@ -5,7 +5,8 @@ use Rattle.geos_infer.proofs.counting.called_at.Goals as goal
 pub returns-in-Call : goal.returns-in-Call
 returns-in-Call c =
     let body = c.args.body.now in
-    taken-call body.image.now c.args.pc c.instr-i.result.now (omega (arith, body.room)) c.instr-i.ensures.there c.routine.result.now c.in-Call.is c.routine.ensures
+    taken-call body.image.now c.args.pc c.instr-i.result.now (omega (arith, body.room)) c.instr-i.ensures.there
+    c.routine.result.now c.in-Call.is c.routine.ensures
 
 pub returns-in_default : goal.returns-in_default
 returns-in_default c =

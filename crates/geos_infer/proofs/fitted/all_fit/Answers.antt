@@ -14,7 +14,8 @@ loop-pc-init c = λ pc branch within lt.
 pub loop-pc-preserved : goal.loop-pc-preserved
 loop-pc-preserved c =
     let body = c.args.body.now in
-    fits-more body.image.now body.r c.args.known.now c.loop-pc.pc (c.loop-pc.pc + 1) refl c.loop-pc.invariant (c.edge_fits.ensures.0 c.if-not-edge_fits.false) (c.edge_fits-in-loop-pc.ensures.0 c.if-not-edge_fits-2.false)
+    fits-more body.image.now body.r c.args.known.now c.loop-pc.pc (c.loop-pc.pc + 1) refl c.loop-pc.invariant
+    (c.edge_fits.ensures.0 c.if-not-edge_fits.false) (c.edge_fits-in-loop-pc.ensures.0 c.if-not-edge_fits-2.false)
 
 pub returns : goal.returns
 returns c = λ e.
@@ -22,10 +23,12 @@ returns c = λ e.
     let image = body.image.now in
     let known = c.args.known.now in
     let entry = c.routine.result.now.entry in
-    let first = known-from known body.start entry (ap (λ o. fits_known o entry) (sym (c.at.ensures None)) ∙ sym c.fits_known.ensures ∙ c.if-not-fits_known.false) in
+    let first = known-from known body.start entry (ap (λ o. fits_known o entry) (sym (c.at.ensures None))
+    ∙ sym c.fits_known.ensures ∙ c.if-not-fits_known.false) in
     record {
       entry = λ routine there.
           let is = some_routine c.routine.result.now routine (sym c.routine.ensures ∙ there) in
-          subst (λ (x : Routine). KnownAt known (start_of image.routines body.r) x.entry) is (subst (λ (n : ℕ). KnownAt known n entry) body.begins first);
+          subst (λ (x : Routine). KnownAt known (start_of image.routines body.r) x.entry) is
+          (subst (λ (n : ℕ). KnownAt known n entry) body.begins first);
       edges = λ pc branch within. c.loop-pc.invariant pc branch within (omega (arith, within.below, body.ends, c.loop-pc-test.false));
     }

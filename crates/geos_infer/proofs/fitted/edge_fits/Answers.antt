@@ -12,7 +12,8 @@ use Rattle.geos_infer.proofs.fitted.edge_fits.Goals as goal
 pub after-next-requires-clause-edge : goal.after-next-requires-clause-edge
 after-next-requires-clause-edge c =
     let body = c.args.body.now in
-    has-there body.image.now body.r c.args.known.now c.args.pc c.args.branch c.instr-i.result.now (omega (arith, body.room)) c.instr-i.ensures.there (sym c.has_edge.ensures ∙ c.if-has_edge.true)
+    has-there body.image.now body.r c.args.known.now c.args.pc c.args.branch c.instr-i.result.now (omega (arith, body.room))
+    c.instr-i.ensures.there (sym c.has_edge.ensures ∙ c.if-has_edge.true)
 
 pub returns-then-to-body : goal.returns-then-to-body
 returns-then-to-body c =
@@ -23,15 +24,19 @@ returns-then-to-body c =
     let branch = c.args.branch in
     let row = c.in-Some.row in
     let next = c.after-next.result in
-    let inside = subst (λ (n : ℕ). IsPcOf image body.r n) c.edge_end-to.ensures (in-body body c.edge_end-to.result c.if-body-to.true c.if-to-body.true) in
-    inside-fits image body.r known pc branch c.instr-i.result.now (omega (arith, body.room)) c.instr-i.ensures.there row next c.fits_known.result (sym (c.at.ensures None) ∙ c.in-Some.is) (sym c.has_edge.ensures ∙ c.if-has_edge.true) inside
-    (c.after-next.ensures ∙ ap (λ (x : Row). after image pc x branch) c.clean.ensures.value) (c.fits_known.ensures ∙ ap (λ o. fits_known o next) (c.at-then-to-body.ensures None ∙ ap (known_at known) c.edge_end-to.ensures))
+    let inside = subst (λ (n : ℕ). IsPcOf image body.r n) c.edge_end-to.ensures
+    (in-body body c.edge_end-to.result c.if-body-to.true c.if-to-body.true) in
+    inside-fits image body.r known pc branch c.instr-i.result.now (omega (arith, body.room)) c.instr-i.ensures.there
+    row next c.fits_known.result (sym (c.at.ensures None) ∙ c.in-Some.is) (sym c.has_edge.ensures ∙ c.if-has_edge.true) inside
+    (c.after-next.ensures ∙ ap (λ (x : Row). after image pc x branch) c.clean.ensures.value) (c.fits_known.ensures
+    ∙ ap (λ o. fits_known o next) (c.at-then-to-body.ensures None ∙ ap (known_at known) c.edge_end-to.ensures))
 
 pub returns-else-has_edge : goal.returns-else-has_edge
 returns-else-has_edge c =
     let body = c.args.body.now in
     let image = body.image.now in (
-      λ e. outside-fits image body.r c.args.known.now c.args.pc c.args.branch c.instr-i.result.now (omega (arith, body.room)) c.instr-i.ensures.there (λ has inside.
+      λ e. outside-fits image body.r c.args.known.now c.args.pc c.args.branch c.instr-i.result.now (omega (arith, body.room))
+          c.instr-i.ensures.there (λ has inside.
           let within = subst (λ (n : ℕ). IsPcOf image body.r n) (sym c.edge_end-to.ensures) inside in
           elim c.else-has_edge.branch [
             | else-has_edge-via-then-has_edge+then-body-to+else-to-body w ↦ absurd (omega (arith, within.below, body.ends, w.if-to-body.false))

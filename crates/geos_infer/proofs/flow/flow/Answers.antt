@@ -29,7 +29,8 @@ returns-then-not-spread_ahead-clause-below c = λ seeded want holds.
     let image = body.image.now in
     let pc = c.loop-pc.pc in
     let so_far = c.loop-pc.invariant.flowed seeded in
-    let step = spreads-below image body.r (omega (arith, code-length image, body.ends, body.room)) c.loop-pc.known c.spread_ahead.new.known pc false (in-body body pc c.loop-pc.auto.pc c.loop-pc-test.true) so_far.0.len
+    let step = spreads-below image body.r (omega (arith, code-length image, body.ends, body.room)) c.loop-pc.known
+    c.spread_ahead.new.known pc false (in-body body pc c.loop-pc.auto.pc c.loop-pc-test.true) so_far.0.len
     want holds (so_far.1 want holds) c.spread_ahead.result c.spread_ahead.ensures.spreads in
     absurd (false≢true (sym c.if-not-spread_ahead.true ∙ step.0))
 
@@ -39,8 +40,10 @@ returns-then-not-spread_ahead-2-clause-below c = λ seeded want holds.
     let image = body.image.now in
     let pc = c.loop-pc.pc in
     let so_far = c.loop-pc.invariant.flowed seeded in
-    let step = below-more image body.r (omega (arith, code-length image, body.ends, body.room)) c.loop-pc.known c.spread_ahead.new.known c.spread_ahead-in-loop-pc.new.known pc (pc + 1) (in-body body pc c.loop-pc.auto.pc c.loop-pc-test.true) refl
-    c.spread_ahead.result c.spread_ahead-in-loop-pc.result c.spread_ahead.ensures.spreads c.spread_ahead-in-loop-pc.ensures.spreads so_far.0 want holds (so_far.1 want holds) in
+    let step = below-more image body.r (omega (arith, code-length image, body.ends, body.room)) c.loop-pc.known
+    c.spread_ahead.new.known c.spread_ahead-in-loop-pc.new.known pc (pc + 1) (in-body body pc c.loop-pc.auto.pc c.loop-pc-test.true) refl
+    c.spread_ahead.result c.spread_ahead-in-loop-pc.result c.spread_ahead.ensures.spreads c.spread_ahead-in-loop-pc.ensures.spreads
+    so_far.0 want holds (so_far.1 want holds) in
     absurd (false≢true (sym c.if-not-spread_ahead-2.true ∙ step.1))
 
 pub loop-pc-preserved : goal.loop-pc-preserved
@@ -54,9 +57,12 @@ loop-pc-preserved c =
       flowed = λ seeded.
           let so_far = c.loop-pc.invariant.flowed seeded in (
             fit-more image body.r small c.loop-pc.known c.spread_ahead.new.known c.spread_ahead-in-loop-pc.new.known pc (pc + 1) within refl
-                c.spread_ahead.result c.spread_ahead-in-loop-pc.result c.spread_ahead.ensures.spreads c.spread_ahead-in-loop-pc.ensures.spreads so_far.0 c.if-not-spread_ahead.false c.if-not-spread_ahead-2.false,
-            λ want holds. (below-more image body.r small c.loop-pc.known c.spread_ahead.new.known c.spread_ahead-in-loop-pc.new.known pc (pc + 1) within refl
-                c.spread_ahead.result c.spread_ahead-in-loop-pc.result c.spread_ahead.ensures.spreads c.spread_ahead-in-loop-pc.ensures.spreads so_far.0 want holds (so_far.1 want holds)).2,
+                c.spread_ahead.result c.spread_ahead-in-loop-pc.result c.spread_ahead.ensures.spreads
+                c.spread_ahead-in-loop-pc.ensures.spreads so_far.0 c.if-not-spread_ahead.false c.if-not-spread_ahead-2.false,
+            λ want holds. (below-more image body.r small c.loop-pc.known c.spread_ahead.new.known c.spread_ahead-in-loop-pc.new.known pc
+                (pc + 1) within refl
+                c.spread_ahead.result c.spread_ahead-in-loop-pc.result c.spread_ahead.ensures.spreads
+                c.spread_ahead-in-loop-pc.ensures.spreads so_far.0 want holds (so_far.1 want holds)).2,
           );
       stays = λ k lt. (
           let before : k < pc = omega (arith, lt, c.loop-pc.auto.pc) in
@@ -66,7 +72,8 @@ loop-pc-preserved c =
 
 -- what is known before the routine stays, also where rows have no join
 pub returns-then-not-spread_ahead-clause-stays : goal.returns-then-not-spread_ahead-clause-stays
-returns-then-not-spread_ahead-clause-stays c = λ k lt. c.spread_ahead.ensures.stays k (omega (arith, lt, c.loop-pc.auto.pc)) ∙ c.loop-pc.invariant.stays k lt
+returns-then-not-spread_ahead-clause-stays c = λ k lt. c.spread_ahead.ensures.stays k (omega (arith, lt, c.loop-pc.auto.pc))
+    ∙ c.loop-pc.invariant.stays k lt
 
 pub returns-then-not-spread_ahead-2-clause-stays : goal.returns-then-not-spread_ahead-2-clause-stays
 returns-then-not-spread_ahead-2-clause-stays c = λ k lt.

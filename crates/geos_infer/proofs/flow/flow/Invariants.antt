@@ -7,6 +7,7 @@ use Rattle.geos_infer.proofs.flow.flow.Given as goal
 -- rows have flowed along the edges before pc, and what is known before the routine stays
 abbrev pub invariant-loop-pc : goal.invariant-loop-pc
 invariant-loop-pc l = record {
-  flowed : Seeded l.body.image.now l.body.r l.fn.known → FitAhead l.body.image.now l.body.r l.known (2 * l.pc) × ((want : List Row) → RowsHoldIn l.body.image.now l.body.r want → AllBelow l.body.image.now l.body.r want l.known);
+  flowed : Seeded l.body.image.now l.body.r l.fn.known → FitAhead l.body.image.now l.body.r l.known (2 * l.pc)
+      × ((want : List Row) → RowsHoldIn l.body.image.now l.body.r want → AllBelow l.body.image.now l.body.r want l.known);
   stays : StaysBefore l.body.start l.fn.known l.known;
 }

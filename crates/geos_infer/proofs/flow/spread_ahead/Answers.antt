@@ -8,7 +8,8 @@ returns-clause-spreads c =
     let edge = c.in-Some-edge_in.edge in
     let said = c.in-Some-edge_in.ensures in
     rw c.has_joined.ensures
-    (spreads-on body.image.now body.r c.args.pc c.args.branch edge c.in-Some.row c.args.known.now c.spread.new.known c.spread.result (sym (c.at.ensures None) ∙ c.in-Some.is) said.inside.from said.inside.way said.leads said.stays
+    (spreads-on body.image.now body.r c.args.pc c.args.branch edge c.in-Some.row c.args.known.now c.spread.new.known
+    c.spread.result (sym (c.at.ensures None) ∙ c.in-Some.is) said.inside.from said.inside.way said.leads said.stays
     (omega (arith, c.if-edge-pc.false)) c.spread.ensures.arrives)
 
 pub returns-clause-stays : goal.returns-clause-stays

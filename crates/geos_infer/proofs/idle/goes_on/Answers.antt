@@ -15,8 +15,11 @@ pub returns-then-not-may_keep : goal.returns-then-not-may_keep
 returns-then-not-may_keep c = λ is to lead e.
     let image = c.args.body.now.image.now in
     let i = c.instr.result.now in
-    let same : i ≡ lead.leads.point.instr = if_some (λ point. i ≡ point.instr) (slice_get image.points c.args.pc) lead.leads.point lead.leads.there c.instr.ensures.there in
-    let kept : keeps_counter image c.args.counter i i.opcode c.args.branch ≡ true = subst (λ (x : Instr). keeps_counter image c.args.counter x x.opcode c.args.branch ≡ true) (sym same) (lead.kept lead.leads.point lead.leads.there) in
+    let same : i ≡ lead.leads.point.instr = if_some (λ point. i ≡ point.instr) (slice_get image.points c.args.pc)
+    lead.leads.point lead.leads.there c.instr.ensures.there in
+    let kept : keeps_counter image c.args.counter i i.opcode c.args.branch ≡ true =
+    subst (λ (x : Instr). keeps_counter image c.args.counter x x.opcode c.args.branch ≡ true) (sym same)
+    (lead.kept lead.leads.point lead.leads.there) in
     absurd (false≢true (sym c.if-not-may_keep.true ∙ c.may_keep.ensures image c.requires.touched.certain kept))
 
 pub returns-in-Some : goal.returns-in-Some

@@ -11,5 +11,6 @@ returns-then-not-may_touch c = λ is within passes.
     let image = c.args.body.now.image.now in
     let i = c.instr.result.now in
     let same : i ≡ passes.0.instr = if_some (λ point. i ≡ point.instr) (slice_get image.points c.args.pc) passes.0 passes.1 c.instr.ensures.there in
-    let touching : calls_touching image c.args.counter i ≡ true = subst (λ (x : Instr). calls_touching image c.args.counter x ≡ true) (sym same) passes.2 in
+    let touching : calls_touching image c.args.counter i ≡ true = subst (λ (x : Instr). calls_touching image c.args.counter x ≡ true)
+    (sym same) passes.2 in
     absurd (false≢true (sym c.if-not-may_touch.true ∙ c.may_touch.ensures image c.requires.touched.possible touching))

@@ -20,7 +20,8 @@ returns-then-not-is_idle-clause-all c = λ to noted idle.
     let point = idle.leads.point in
     let same : i ≡ point.instr = if_some (λ point. i ≡ point.instr) (slice_get image.points pc) point idle.leads.there c.instr-i.ensures.there in
     let loops : is_loop i.opcode ≡ true = sym c.is_loop.ensures ∙ c.if-is_loop.true in
-    let both : (c.args.branch && is_loop point.instr.opcode) ≡ true = ap (λ (b : Bool). b && is_loop point.instr.opcode) c.if-branch.true ∙ ap (λ (x : Instr). is_loop x.opcode) (sym same) ∙ loops in
+    let both : (c.args.branch && is_loop point.instr.opcode) ≡ true = ap (λ (b : Bool). b && is_loop point.instr.opcode) c.if-branch.true
+    ∙ ap (λ (x : Instr). is_loop x.opcode) (sym same) ∙ loops in
     let may = subst (λ (x : Instr). MayNotPay image body.r x.a pc) (sym same) (idle.idle both) in
     let few : i.a < 4 = (subst (λ (o : Opcode). FieldsFit o i) (loop-only i.opcode loops) c.instr-i.ensures.fields).0 in
     let is = idle-noted image body.r c.args.classes.now noted i.a pc few (in-body body pc c.requires.above c.requires.below) may in

@@ -17,5 +17,6 @@ returns c = λ is.
     record {
       leads = leads;
       stays = subst (IsPcOf image body.r) same c.in-Some.ensures.stays;
-      idle = if_some (λ point. (branch && is_loop point.instr.opcode) ≡ true → MayNotPay image body.r point.instr.a from) (slice_get image.points from) leads.point leads.there (c.is_idle.ensures is);
+      idle = if_some (λ point. (branch && is_loop point.instr.opcode) ≡ true → MayNotPay image body.r point.instr.a from)
+          (slice_get image.points from) leads.point leads.there (c.is_idle.ensures is);
     }

@@ -14,11 +14,13 @@ use Rattle.geos_infer.proofs.inference.infer.Goals as goal
 pub returns-in-Err-clause-none : goal.returns-in-Err-clause-none
 returns-in-Err-clause-none c = λ r e.
     let image = c.args.skeleton.now in
-    let stuck = stuck-in image r c.in_ok-known.routines c.in-Err.error c.in-Err.ensures.within e c.in_ok-known.ensures.none (c.in-Err.ensures.none r e) in
+    let stuck = stuck-in image r c.in_ok-known.routines c.in-Err.error c.in-Err.ensures.within e c.in_ok-known.ensures.none
+    (c.in-Err.ensures.none r e) in
     none-accepted image c.len-legal.ensures.legal r stuck.0 stuck.1
 
 pub returns-in-Err-clause-stuck : goal.returns-in-Err-clause-stuck
-returns-in-Err-clause-stuck c = λ r e. (stuck-in c.args.skeleton.now r c.in_ok-known.routines c.in-Err.error c.in-Err.ensures.within e c.in_ok-known.ensures.none (c.in-Err.ensures.none r e)).1
+returns-in-Err-clause-stuck c = λ r e. (stuck-in c.args.skeleton.now r c.in_ok-known.routines c.in-Err.error
+    c.in-Err.ensures.within e c.in_ok-known.ensures.none (c.in-Err.ensures.none r e)).1
 
 pub of_formed-requires : goal.of_formed-requires
 of_formed-requires c =
@@ -42,7 +44,8 @@ returns-clause-found c =
     let all = c.in-Ok.ensures.all in
     let flowed = subst (λ (n : ℕ). HaveFlowed image c.in_ok-known.known n) all (c.in_ok-known.ensures.found all) in
     let counted = subst (λ (n : ℕ). AreCounted image 0 n (numbers_of c.in-Ok.potentials)) all c.in-Ok.ensures.counted in
-    let found = found-acceptable image c.len-legal.ensures.legal c.in_ok-known.known (numbers_of c.in-Ok.potentials) points flowed counted c.in_ok-points.ensures in
+    let found = found-acceptable image c.len-legal.ensures.legal c.in_ok-known.known (numbers_of c.in-Ok.potentials)
+    points flowed counted c.in_ok-points.ensures in
     subst (λ (x : Parts). FindsWhatThereIs image x) (sym is) found
 
 pub returns-clause-rows : goal.returns-clause-rows
@@ -52,7 +55,9 @@ returns-clause-rows c =
     let points = c.in_ok-points.points.items in
     let is = made-is image c.of_formed.result c.in_ok-routines.routines.items points c.in_ok-routines.ensures c.of_formed.ensures in
     let codes = found-code image known (numbers_of c.in-Ok.potentials) points c.in_ok-points.ensures in
-    let hold : AllHoldWhereReached (with_points image points) = (λ r lt. fit-holds image known (numbers_of c.in-Ok.potentials) points c.in_ok-points.ensures codes r (c.in_ok-known.ensures.fit r (let all = c.in-Ok.ensures.all in omega arith))) in
+    let hold : AllHoldWhereReached (with_points image points) =
+    (λ r lt. fit-holds image known (numbers_of c.in-Ok.potentials) points c.in_ok-points.ensures codes r
+    (c.in_ok-known.ensures.fit r (let all = c.in-Ok.ensures.all in omega arith))) in
     subst AllHoldWhereReached (sym is) hold
 
 pub returns-clause-least : goal.returns-clause-least

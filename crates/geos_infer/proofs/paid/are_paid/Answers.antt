@@ -14,10 +14,12 @@ loop-pc-preserved c = λ pc within lt. elim (cases_lt pc c.loop-pc.pc) [
       let same : c.loop-pc.pc ≡ pc = omega arith in
       let paid = c.is_paid_at.ensures in
       let is = c.if-not-is_paid_at.false in
-      subst (PaidAt c.args.body.now.image.now c.args.body.now.r c.args.known.now (numbers_of c.args.potentials.now)) same (record { along = paid.along is; branching = paid.branching is; returns = paid.returns is })
+      subst (PaidAt c.args.body.now.image.now c.args.body.now.r c.args.known.now (numbers_of c.args.potentials.now)) same
+      (record { along = paid.along is; branching = paid.branching is; returns = paid.returns is })
 ]
 
 pub returns : goal.returns
 returns c = λ is.
     let body = c.args.body.now in
-    all-paid-in body.image.now body.r c.args.known.now (numbers_of c.args.potentials.now) (λ pc within. (let below = within.below in c.loop-pc.invariant pc within (omega (arith, below, body.ends, c.loop-pc-test.false))))
+    all-paid-in body.image.now body.r c.args.known.now (numbers_of c.args.potentials.now)
+    (λ pc within. (let below = within.below in c.loop-pc.invariant pc within (omega (arith, below, body.ends, c.loop-pc-test.false))))

@@ -6,4 +6,5 @@ use Rattle.geos_infer.proofs.paid.are_paid.Given as goal
 
 -- what is before pc is paid for
 abbrev pub invariant-loop-pc : goal.invariant-loop-pc
-invariant-loop-pc l = (pc : ℕ) → IsPcOf l.body.image.now l.body.r pc → pc < l.pc → PaidAt l.body.image.now l.body.r l.known (numbers_of l.potentials) pc
+invariant-loop-pc l = (pc : ℕ) → IsPcOf l.body.image.now l.body.r pc → pc < l.pc
+    → PaidAt l.body.image.now l.body.r l.known (numbers_of l.potentials) pc

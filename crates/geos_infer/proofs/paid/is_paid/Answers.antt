@@ -13,4 +13,5 @@ returns-in-Some c = λ is to leads inside.
     let numbers = numbers_of c.args.potentials.now in
     let here = numbers-at c.args.potentials.now c.args.pc c.at.result c.at.ensures in
     subst (λ (asked : Asked). is_paid asked (potential_in numbers c.args.pc) ≡ true) (c.in-Some.ensures.asks to leads inside)
-    (subst (λ (p : Potential). is_paid c.in-Some.asked p ≡ true) (potential-at numbers c.args.pc c.at.result here.0 here.1) (sym c.is_paid.ensures ∙ is))
+    (subst (λ (p : Potential). is_paid c.in-Some.asked p ≡ true) (potential-at numbers c.args.pc c.at.result here.0 here.1)
+    (sym c.is_paid.ensures ∙ is))

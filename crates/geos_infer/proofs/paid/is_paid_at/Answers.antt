@@ -11,7 +11,8 @@ returns-clause-returns c = λ paid.
     let body = c.args.body.now in
     let points = body.image.now.points in
     let found = item_at points c.args.pc (omega (arith, c.requires.below, body.room)) in
-    let same : c.instr.result.now ≡ found.0.instr = if_some (λ point. c.instr.result.now ≡ point.instr) (slice_get points c.args.pc) found.0 found.1 c.instr.ensures.there in
+    let same : c.instr.result.now ≡ found.0.instr = if_some (λ point. c.instr.result.now ≡ point.instr)
+    (slice_get points c.args.pc) found.0 found.1 c.instr.ensures.there in
     let steps = ap return_steps same in
     let here = (numbers-at c.args.potentials.now c.args.pc c.at.result c.at.ensures).0 in
     let le = leb-true c.return_steps.result c.from.result paid in

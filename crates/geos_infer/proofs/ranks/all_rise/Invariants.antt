@@ -6,4 +6,5 @@ use Rattle.geos_infer.proofs.ranks.all_rise.Given as goal
 
 -- ranks rise along the edges from before pc
 abbrev pub invariant-loop-pc : goal.invariant-loop-pc
-invariant-loop-pc l = (pc to : ℕ) (branch : Bool) → IsPcOf l.body.image.now l.body.r pc → pc < l.pc → LeadsIdle l.body.image.now l.body.r pc branch to → slice_index l.ranks pc < slice_index l.ranks to
+invariant-loop-pc l = (pc to : ℕ) (branch : Bool) → IsPcOf l.body.image.now l.body.r pc → pc < l.pc
+    → LeadsIdle l.body.image.now l.body.r pc branch to → slice_index l.ranks pc < slice_index l.ranks to

@@ -26,22 +26,26 @@ loop-pc-preserved c =
     elim c.if-is_none.branch [
       | then-is_none w ↦
           let is : c.if-is_none.known ≡ set known pc w.at.result = w.known-is ∙ w.set.ensures in
-          let none : known_at known pc ≡ None = sym (c.get.ensures None) ∙ is-none c.get.result.now c.is_none.result c.is_none.ensures w.if-is_none.true in
+          let none : known_at known pc ≡ None = sym (c.get.ensures None) ∙ is-none c.get.result.now c.is_none.result
+          c.is_none.ensures w.if-is_none.true in
           record {
             kept = subst (λ (next : List (Option Row)). Keeps start (pc + 1) old old next) (sym is)
                 (keeps-more start pc (pc + 1) old old known w.at.result refl c.loop-pc.auto.pc
                 (omega (arith, so_far.kept.len, c.lengths.ensures, c.loop-pc-test.true, c.args.body.now.room, c.args.body.now.short))
                 (λ row e. absurd (none-some row (sym none ∙ so_far.ahead pc (omega arith) ∙ e))) so_far.kept);
             ahead = λ k le. let ne : k ≢ pc = (λ same. absurd (omega (arith, same, le))) in
-                ap (λ (next : List (Option Row)). known_at next k) is ∙ get_or-set_other known pc k w.at.result None ne ∙ so_far.ahead k (omega (arith, le));
+                ap (λ (next : List (Option Row)). known_at next k) is ∙ get_or-set_other known pc k w.at.result None ne
+                ∙ so_far.ahead k (omega (arith, le));
           }
       | else-is_none w ↦
           let is = w.known-is in
           record {
-            kept = subst (λ (next : List (Option Row)). Keeps start (pc + 1) old old next) (sym is) (keeps-same start pc (pc + 1) old old known refl (so_far.ahead pc (omega arith)) so_far.kept);
+            kept = subst (λ (next : List (Option Row)). Keeps start (pc + 1) old old next) (sym is)
+                (keeps-same start pc (pc + 1) old old known refl (so_far.ahead pc (omega arith)) so_far.kept);
             ahead = λ k le. ap (λ (next : List (Option Row)). known_at next k) is ∙ so_far.ahead k (omega (arith, le));
           }
     ]
 
 pub returns : goal.returns
-returns c = keeps-to c.args.body.now.start c.loop-pc.pc c.args.body.now.end c.args.known.now c.args.known.now c.loop-pc.known (omega (arith, c.loop-pc-test.false)) c.loop-pc.invariant.kept
+returns c = keeps-to c.args.body.now.start c.loop-pc.pc c.args.body.now.end c.args.known.now c.args.known.now c.loop-pc.known
+    (omega (arith, c.loop-pc-test.false)) c.loop-pc.invariant.kept

@@ -15,16 +15,19 @@ returns-then-not-find_rows_in-clause-found c = λ all. absurd (omega (arith, c.c
 
 pub returns-then-not-find_rows_in-clause-none : goal.returns-then-not-find_rows_in-clause-none
 returns-then-not-find_rows_in-clause-none c = λ lt want forward holds.
-    let anew = flows-anew c.args.image.now c.body_of.result.image.now c.body_of.result.r c.loop-r.r c.find_rows_in.new.known c.find_rows_in.result c.body_of.ensures.image c.body_of.ensures.r c.find_rows_in.ensures.flows in
+    let anew = flows-anew c.args.image.now c.body_of.result.image.now c.body_of.result.r c.loop-r.r c.find_rows_in.new.known
+    c.find_rows_in.result c.body_of.ensures.image c.body_of.ensures.r c.find_rows_in.ensures.flows in
     false≢true (sym c.if-not-find_rows_in.true ∙ (anew want forward holds).0)
 
 pub returns-then-not-find_rows_in-clause-fit : goal.returns-then-not-find_rows_in-clause-fit
 returns-then-not-find_rows_in-clause-fit c =
     let image = c.args.image.now in
     let here = c.body_of.result in
-    let start = here.begins ∙ ap (λ (x : Parts). start_of x.routines here.r) c.body_of.ensures.image ∙ ap (start_of image.routines) c.body_of.ensures.r in
+    let start = here.begins ∙ ap (λ (x : Parts). start_of x.routines here.r) c.body_of.ensures.image
+    ∙ ap (start_of image.routines) c.body_of.ensures.r in
     let stay = subst (λ (n : ℕ). StaysBefore n c.loop-r.known c.find_rows_in.new.known) start c.find_rows_in.ensures.stays in
-    fit-before image c.count-r-end.ensures.legal c.loop-r.known c.find_rows_in.new.known c.loop-r.r (omega (arith, c.count-r-end.ensures.count)) c.loop-r.invariant.fit stay
+    fit-before image c.count-r-end.ensures.legal c.loop-r.known c.find_rows_in.new.known c.loop-r.r
+    (omega (arith, c.count-r-end.ensures.count)) c.loop-r.invariant.fit stay
 
 pub loop-r-preserved : goal.loop-r-preserved
 loop-r-preserved c =
@@ -34,17 +37,22 @@ loop-r-preserved c =
     let here = c.body_of.result in
     let within : r < length image.routines = omega (arith, c.count-r-end.ensures.count) in
     let legal = c.count-r-end.ensures.legal in
-    let start = here.begins ∙ ap (λ (x : Parts). start_of x.routines here.r) c.body_of.ensures.image ∙ ap (start_of image.routines) c.body_of.ensures.r in
+    let start = here.begins ∙ ap (λ (x : Parts). start_of x.routines here.r) c.body_of.ensures.image
+    ∙ ap (start_of image.routines) c.body_of.ensures.r in
     let stay = subst (λ (n : ℕ). StaysBefore n c.loop-r.known next) start c.find_rows_in.ensures.stays in
-    let anew = flows-anew image here.image.now here.r r next c.find_rows_in.result c.body_of.ensures.image c.body_of.ensures.r c.find_rows_in.ensures.flows in
-    let fit = subst (λ (x : Parts). FitWhereReached x r next) c.body_of.ensures.image (subst (λ (n : ℕ). FitWhereReached here.image.now n next) c.body_of.ensures.r (c.find_rows_in.ensures.fit c.if-not-find_rows_in.false)) in
+    let anew = flows-anew image here.image.now here.r r next c.find_rows_in.result c.body_of.ensures.image
+    c.body_of.ensures.r c.find_rows_in.ensures.flows in
+    let fit = subst (λ (x : Parts). FitWhereReached x r next) c.body_of.ensures.image
+    (subst (λ (n : ℕ). FitWhereReached here.image.now n next) c.body_of.ensures.r (c.find_rows_in.ensures.fit c.if-not-find_rows_in.false)) in
     record {
-      flowed = have_flowed-more image legal c.loop-r.known next r within c.loop-r.invariant.flowed stay (subst (λ (b : Bool). FlowsAnew image r next b) c.if-not-find_rows_in.false anew);
+      flowed = have_flowed-more image legal c.loop-r.known next r within c.loop-r.invariant.flowed stay
+          (subst (λ (b : Bool). FlowsAnew image r next b) c.if-not-find_rows_in.false anew);
       fit = fit-more image next r (fit-before image legal c.loop-r.known next r within c.loop-r.invariant.fit stay) fit;
     }
 
 pub returns-clause-found : goal.returns-clause-found
-returns-clause-found c = λ all. subst (λ (n : ℕ). HaveFlowed c.args.image.now c.loop-r.known n) (omega (arith, c.loop-r-test.false, c.count-r-end.ensures.count, c.count.ensures.count)) c.loop-r.invariant.flowed
+returns-clause-found c = λ all. subst (λ (n : ℕ). HaveFlowed c.args.image.now c.loop-r.known n)
+    (omega (arith, c.loop-r-test.false, c.count-r-end.ensures.count, c.count.ensures.count)) c.loop-r.invariant.flowed
 
 pub returns-clause-none : goal.returns-clause-none
 returns-clause-none c = λ lt. absurd (omega (arith, c.count.ensures.count))

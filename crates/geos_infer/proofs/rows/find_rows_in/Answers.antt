@@ -8,7 +8,8 @@ use Rattle.geos_infer.proofs.Reaching.{copies-keep, kept-in, kept-fits, kept-flo
 use Rattle.geos_infer.proofs.rows.find_rows_in.Goals as goal
 
 pub returns-then-not-search-clause-flows : goal.returns-then-not-search-clause-flows
-returns-then-not-search-clause-flows c = λ want forward holds. absurd (false≢true (sym c.if-not-search.true ∙ (c.search.ensures.flows want forward holds).0))
+returns-then-not-search-clause-flows c = λ want forward holds. absurd
+    (false≢true (sym c.if-not-search.true ∙ (c.search.ensures.flows want forward holds).0))
 
 pub returns-clause-flows : goal.returns-clause-flows
 returns-clause-flows c = λ want forward holds.
@@ -18,8 +19,11 @@ returns-clause-flows c = λ want forward holds.
     let routine = item_at image.routines body.r body.there in
     let F = (c.search.ensures.flows want forward holds).1 in
     let all = all-reached image body.r forward routine.0 routine.1 want known F (omega (arith, code-length image, body.ends, body.room)) in
-    let K = kept-in body known known c.complete.new.known c.complete.ensures in
-    (refl, kept-flows image body.r want known known c.complete.new.known K (omega (arith, body.begins, body.ends, body.some)) F.fit.len all (2 * start_of image.routines (body.r + 1)) F)
+    let K = kept-in body known known c.complete.new.known c.complete.ensures in (
+      refl,
+      kept-flows image body.r want known known c.complete.new.known K (omega (arith, body.begins, body.ends, body.some))
+          F.fit.len all (2 * start_of image.routines (body.r + 1)) F,
+    )
 
 pub returns-clause-fit : goal.returns-clause-fit
 returns-clause-fit c = λ e.
@@ -28,7 +32,8 @@ returns-clause-fit c = λ e.
     let known = c.search.new.known in
     let routine = item_at image.routines body.r body.there in
     let K = kept-in body known known c.complete.new.known c.complete.ensures in
-    kept-fits image body.r (omega (arith, body.begins, body.ends, body.some)) routine.0 routine.1 known (c.search.ensures.fit c.if-not-search.false) known c.complete.new.known K
+    kept-fits image body.r (omega (arith, body.begins, body.ends, body.some)) routine.0 routine.1 known
+    (c.search.ensures.fit c.if-not-search.false) known c.complete.new.known K
 
 pub returns-clause-stays : goal.returns-clause-stays
 returns-clause-stays c = λ k lt. c.complete.ensures.stays k lt ∙ c.search.ensures.stays k lt
@@ -40,7 +45,8 @@ returns-then-weaken-clause-flows c = λ want forward holds.
     let image = body.image.now in
     let routine = item_at image.routines body.r body.there in
     let F = (c.search.ensures.flows want forward holds).1 in
-    let all = all-reached image body.r forward routine.0 routine.1 want c.search.new.known F (omega (arith, code-length image, body.ends, body.room)) in
+    let all = all-reached image body.r forward routine.0 routine.1 want c.search.new.known F
+    (omega (arith, code-length image, body.ends, body.room)) in
     absurd (c.weaken.ensures.some c.if-weaken.true all)
 
 pub returns-then-weaken-clause-fit : goal.returns-then-weaken-clause-fit
@@ -48,8 +54,10 @@ returns-then-weaken-clause-fit c = λ e.
     let body = c.args.body.now in
     let image = body.image.now in
     let routine = item_at image.routines body.r body.there in
-    let K = kept-in body c.weaken.new.weaker c.search.new.known c.copy_rows.new.known (copies-keep body.start body.end c.weaken.new.weaker c.search.new.known c.copy_rows.new.known c.copy_rows.ensures) in
-    kept-fits image body.r (omega (arith, body.begins, body.ends, body.some)) routine.0 routine.1 c.weaken.new.weaker (c.weaken.ensures.fit c.if-weaken.true) c.search.new.known c.copy_rows.new.known K
+    let K = kept-in body c.weaken.new.weaker c.search.new.known c.copy_rows.new.known
+    (copies-keep body.start body.end c.weaken.new.weaker c.search.new.known c.copy_rows.new.known c.copy_rows.ensures) in
+    kept-fits image body.r (omega (arith, body.begins, body.ends, body.some)) routine.0 routine.1 c.weaken.new.weaker
+    (c.weaken.ensures.fit c.if-weaken.true) c.search.new.known c.copy_rows.new.known K
 
 pub returns-then-weaken-clause-stays : goal.returns-then-weaken-clause-stays
 returns-then-weaken-clause-stays c = λ k lt. c.copy_rows.ensures.stays k lt ∙ c.search.ensures.stays k lt

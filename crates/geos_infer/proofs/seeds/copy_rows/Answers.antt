@@ -12,8 +12,11 @@ loop-pc-preserved c =
     let body = c.args.body.now in
     let from = c.args.from.now in
     let pc = c.loop-pc.pc in
-    let more = copies-more body.start pc (pc + 1) from c.args.known.now c.loop-pc.known c.at.result refl c.loop-pc.auto.pc (omega (arith, c.loop-pc.invariant.len, c.lengths.ensures, c.loop-pc-test.true, body.room, body.short)) (c.at.ensures None) c.loop-pc.invariant in
+    let more = copies-more body.start pc (pc + 1) from c.args.known.now c.loop-pc.known c.at.result refl c.loop-pc.auto.pc
+    (omega (arith, c.loop-pc.invariant.len, c.lengths.ensures, c.loop-pc-test.true, body.room, body.short))
+    (c.at.ensures None) c.loop-pc.invariant in
     subst (λ (next : List (Option Row)). Copies body.start (pc + 1) from c.args.known.now next) (sym c.set.ensures) more
 
 pub returns : goal.returns
-returns c = copies-to c.args.body.now.start c.loop-pc.pc c.args.body.now.end c.args.from.now c.args.known.now c.loop-pc.known (omega (arith, c.loop-pc-test.false)) c.loop-pc.invariant
+returns c = copies-to c.args.body.now.start c.loop-pc.pc c.args.body.now.end c.args.from.now c.args.known.now c.loop-pc.known
+    (omega (arith, c.loop-pc-test.false)) c.loop-pc.invariant

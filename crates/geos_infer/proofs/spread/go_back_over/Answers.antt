@@ -5,4 +5,6 @@ use Rattle.geos_infer.proofs.spread.go_back_over.Goals as goal
 
 pub returns-in-Some : goal.returns-in-Some
 returns-in-Some c =
-    back-wanted c.args.graph.now.arcs c.args.spread.now c.raise.new.spread c.args.pc c.args.branch c.in-Some.arc c.kept-numbers.result (sym c.arc.ensures ∙ c.in-Some.is) (c.kept-numbers.ensures ∙ ap (kept_over c.in-Some.arc.counting) (c.get.ensures [])) c.raise.ensures
+    back-wanted c.args.graph.now.arcs c.args.spread.now c.raise.new.spread c.args.pc c.args.branch c.in-Some.arc
+    c.kept-numbers.result (sym c.arc.ensures ∙ c.in-Some.is) (c.kept-numbers.ensures ∙ ap (kept_over c.in-Some.arc.counting) (c.get.ensures []))
+    c.raise.ensures

@@ -15,7 +15,8 @@ use Rattle.geos_infer.proofs.Bodies.{in-body}
 use Rattle.geos_infer.proofs.Onward.{begins-at}
 use Rattle.geos_infer.proofs.turns.find_turn.Goals as goal
 
-turn-at : (image : Parts) (r pc : ℕ) (i : Instr) (turn : Reach) → IsPcOf image r pc → pc < length image.points → IfSome (slice_get image.points pc) (λ point. i ≡ point.instr) → FieldsFit i.opcode i → i.opcode ≡ Loop
+turn-at : (image : Parts) (r pc : ℕ) (i : Instr) (turn : Reach) → IsPcOf image r pc → pc < length image.points
+    → IfSome (slice_get image.points pc) (λ point. i ≡ point.instr) → FieldsFit i.opcode i → i.opcode ≡ Loop
     → AlwaysComesTo image r (begin_at i.target) pc turn → counter_at turn.counters i.a ≡ Kept → IsTurn image r pc turn
 turn-at image r pc i turn within lt there fields loops reached kept =
     let found = item_at image.points pc lt in
@@ -39,6 +40,8 @@ returns-in-Kept c =
     let turn = c.in_ok-turn.turn in
     let loops = loop-only i.opcode (sym c.is_loop.ensures ∙ c.if-not-is_loop.false) in
     let begun = subst (AreReached body.image.now body.r (begin_at i.target) i.target pc) (sym c.set.ensures)
-    (begins-at body.image.now body.r i.target pc c.fill_from.new.self (record { steps = 0; counters = all_are Kept }) refl refl (λ k low high. c.fill_from.ensures.same k None low (omega (arith, high, c.requires.below, body.room, body.short)))) in
+    (begins-at body.image.now body.r i.target pc c.fill_from.new.self (record { steps = 0; counters = all_are Kept })
+    refl refl (λ k low high. c.fill_from.ensures.same k None low (omega (arith, high, c.requires.below, body.room, body.short)))) in
     let reached = c.go_all.ensures (begin_at i.target) begun pc turn c.if-pc-i.false (omega arith) (sym (c.in_ok-turn.ensures None)) in
-    turn-at body.image.now body.r pc i turn (in-body body pc c.requires.above c.requires.below) (omega (arith, c.requires.below, body.room)) c.instr-i.ensures.there c.instr-i.ensures.fields loops reached (sym c.in-Kept.ensures)
+    turn-at body.image.now body.r pc i turn (in-body body pc c.requires.above c.requires.below)
+    (omega (arith, c.requires.below, body.room)) c.instr-i.ensures.there c.instr-i.ensures.fields loops reached (sym c.in-Kept.ensures)

@@ -9,8 +9,10 @@ returns-in-Some-go_along c = λ low above below begin all.
     let r = c.args.loops.now.body.r in
     let to = c.in-Some-edge_in.edge.to in
     let next = c.in-Some-go_along.next in
-    let comes = c.in-Some-go_along.ensures to c.in-Some-edge_in.ensures.leads begin (all c.args.pc c.in-Some.reach above below (sym (c.in-Some.ensures None))) in
+    let comes = c.in-Some-go_along.ensures to c.in-Some-edge_in.ensures.leads begin
+    (all c.args.pc c.in-Some.reach above below (sym (c.in-Some.ensures None))) in
     elim c.note.ensures [
       | inl same ↦ subst (AreReached image r begin low c.args.high) (sym same) all
-      | inr is ↦ subst (AreReached image r begin low c.args.high) (sym is) (reached-set image r begin low c.args.high c.args.reached.now to next all comes)
+      | inr is ↦ subst (AreReached image r begin low c.args.high) (sym is)
+          (reached-set image r begin low c.args.high c.args.reached.now to next all comes)
     ]

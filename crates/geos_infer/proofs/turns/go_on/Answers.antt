@@ -8,5 +8,6 @@ returns c = λ to leads.
     let body = c.args.body.now in
     let within = in-body body c.args.pc c.requires.above c.requires.below in
     goes-on body.image.now body.r c.args.pc to c.args.branch leads within c.instr-i.result.now c.untouched-called.result c.args.reach.now
-    (record { steps = c.capped.result + c.taken_at.result; counters = c.in_ok-counters.counters }) c.instr-i.ensures.there c.instr-i.ensures.fields c.in_ok-counters.ensures
+    (record { steps = c.capped.result + c.taken_at.result; counters = c.in_ok-counters.counters }) c.instr-i.ensures.there
+    c.instr-i.ensures.fields c.in_ok-counters.ensures
     (omega (arith, c.capped.ensures.less, c.taken_at.ensures.value))

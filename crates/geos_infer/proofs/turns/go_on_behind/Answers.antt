@@ -10,7 +10,8 @@ use Rattle.geos_infer.proofs.turns.go_on_behind.Goals as goal
 pub with_counter-spent-requires : goal.with_counter-spent-requires
 with_counter-spent-requires c =
     let turn = c.requires.turns c.args.pc c.in_ok-turn.turn (sym (c.in_ok-turn.ensures None)) in
-    let same = if_some (λ point. c.instr.result.now ≡ point.instr) (slice_get c.args.body.now.image.now.points c.args.pc) turn.point turn.there c.instr.ensures.there in
+    let same = if_some (λ point. c.instr.result.now ≡ point.instr) (slice_get c.args.body.now.image.now.points c.args.pc)
+    turn.point turn.there c.instr.ensures.there in
     omega (arith, turn.few, ap (λ (i : Instr). i.a) same)
 
 pub returns : goal.returns

@@ -11,5 +11,6 @@ returns-clause-loops c =
       leads = c.in_ok-edge.ensures.leads;
       from = record { above = omega arith; below = omega arith };
       to = c.in_ok-edge.ensures.stays;
-      loops = loops-at body.image.now c.args.from c.instr-i.result.now (omega (arith, body.room)) c.instr-i.ensures.there (sym c.is_loop.ensures ∙ c.if-not-is_loop.false);
+      loops = loops-at body.image.now c.args.from c.instr-i.result.now (omega (arith, body.room)) c.instr-i.ensures.there
+          (sym c.is_loop.ensures ∙ c.if-not-is_loop.false);
     }

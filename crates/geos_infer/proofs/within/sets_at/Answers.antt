@@ -6,4 +6,5 @@ use Rattle.geos_infer.proofs.within.sets_at.Goals as goal
 pub returns : goal.returns
 returns c = λ is.
     let body = c.args.body.now in
-    passes-at body.image.now c.args.pc c.instr.result.now (omega (arith, body.room)) c.instr.ensures.there (λ i. sets_counter c.args.counter i i.opcode) (sym c.sets_counter.ensures ∙ is)
+    passes-at body.image.now c.args.pc c.instr.result.now (omega (arith, body.room)) c.instr.ensures.there
+    (λ i. sets_counter c.args.counter i i.opcode) (sym c.sets_counter.ensures ∙ is)

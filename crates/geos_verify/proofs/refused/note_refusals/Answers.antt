@@ -33,13 +33,15 @@ loop-pc-preserved c =
     let is = c.from.ensures in
     let short : at < length rules = omega (arith, c.loop-pc.invariant.3, c.loop-pc-test.true, body.end, body.short) in (
       λ pc place above below read.
-          let by_order : (pc < at) ⊎ (at ≤ pc) → slice_index_or (slice_set rules at set_to) pc None ≡ refusal image body.r body.routine.now body.start pc place = λ order. elim order [
+          let by_order : (pc < at) ⊎ (at ≤ pc) → slice_index_or (slice_set rules at set_to) pc None ≡ refusal image
+          body.r body.routine.now body.start pc place = λ order. elim order [
             | inl before ↦ rw (get_or-set_other rules at pc set_to None (omega arith)) (c.loop-pc.invariant.0 pc place above before read)
             | inr behind ↦
                 let here : pc ≡ at = omega (arith, below, behind) in
                 let read_here : slice_get (places image) at ≡ _ = ap (slice_get (places image)) (sym here) ∙ read in
                 rw (here, get_or-set_same rules at set_to None short)
-                (if_some (λ other. set_to ≡ refusal image body.r body.routine.now body.start at other) (slice_get (places image) at) place read_here c.refusal.ensures)
+                (if_some (λ other. set_to ≡ refusal image body.r body.routine.now body.start at other)
+                (slice_get (places image) at) place read_here c.refusal.ensures)
           ] in
           rw is (by_order (cases_lt pc at)),
       λ pc below. rw (is, get_or-set_other rules at pc set_to None (omega (arith, below, c.loop-pc.auto))) (c.loop-pc.invariant.1 pc below),

@@ -9,7 +9,8 @@ loop-round-init c b k few = rows-blank (replicate 32 (replicate 4 false)) refl b
 
 pub loop-round-preserved : goal.loop-round-preserved
 loop-round-preserved c =
-    let more = knows-more c.args.image.now c.loop-round.table c.touched_once_more-table.result c.loop-round.round c.loop-round.invariant c.touched_once_more-table.ensures in
+    let more = knows-more c.args.image.now c.loop-round.table c.touched_once_more-table.result c.loop-round.round
+    c.loop-round.invariant c.touched_once_more-table.ensures in
     rw add-one more
 
 pub returns : goal.returns

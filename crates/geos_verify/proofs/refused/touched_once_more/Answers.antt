@@ -24,7 +24,12 @@ loop-r-preserved c =
             | inl below ↦ rw (get_or-set_other next at b set_to [] (omega arith)) (c.loop-r.invariant.0 b k below few)
             | inr above ↦
                 let here : b ≡ at = omega (arith, lt, above) in
-                rw (here, get_or-set_same next at set_to [] (omega (arith, few_routines, c.loop-r-test.true, c.count-r-end.ensures.count, c.loop-r.invariant.2)), c.touched_in.ensures)
+                rw (
+                  here,
+                  get_or-set_same next at set_to []
+                      (omega (arith, few_routines, c.loop-r-test.true, c.count-r-end.ensures.count, c.loop-r.invariant.2)),
+                  c.touched_in.ensures,
+                )
                 (noted_by-own image table at k few)
           ] in
           rw is (by_order (cases_lt b at)),
@@ -37,6 +42,7 @@ returns c b k few =
     let image = c.args.image.now in
     let by_order : (b < c.loop-r.r) ⊎ (c.loop-r.r ≤ b) → noted c.loop-r.next k b ≡ touches_by image c.args.table.now k b = λ order. elim order [
       | inl below ↦ c.loop-r.invariant.0 b k below few
-      | inr above ↦ c.loop-r.invariant.1 b k above ∙ sym (touches_by-past image c.args.table.now k b (omega (arith, above, c.loop-r-test.false, c.count-r-end.ensures.count)))
+      | inr above ↦ c.loop-r.invariant.1 b k above
+          ∙ sym (touches_by-past image c.args.table.now k b (omega (arith, above, c.loop-r-test.false, c.count-r-end.ensures.count)))
     ] in
     by_order (cases_lt b c.loop-r.r)

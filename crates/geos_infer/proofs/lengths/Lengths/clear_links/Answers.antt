@@ -14,6 +14,8 @@ neither false = refl
 
 pub returns-clause-links : goal.returns-clause-links
 returns-clause-links c = λ pc branch. elim (cases_lt pc 4096) [
-  | inl lt ↦ ap (λ (x : List (Option Link)). get_or x (if branch then 1 else 0) None) (c.fill_from.ensures.same pc [] (omega arith) lt) ∙ neither branch
-  | inr past ↦ ap (λ (x : List (Option Link)). get_or x (if branch then 1 else 0) None) (get_or_past c.fill_from.new.self pc [] (omega (arith, past, c.lengths.ensures)))
+  | inl lt ↦ ap (λ (x : List (Option Link)). get_or x (if branch then 1 else 0) None) (c.fill_from.ensures.same pc [] (omega arith) lt)
+      ∙ neither branch
+  | inr past ↦ ap (λ (x : List (Option Link)). get_or x (if branch then 1 else 0) None)
+      (get_or_past c.fill_from.new.self pc [] (omega (arith, past, c.lengths.ensures)))
 ]

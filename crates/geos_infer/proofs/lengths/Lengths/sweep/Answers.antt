@@ -5,5 +5,8 @@ use Rattle.geos_infer.proofs.lengths.Lengths.sweep.Goals as goal
 
 pub loop-x-preserved : goal.loop-x-preserved
 loop-x-preserved c =
-    let longer = c.lengthen-longer.ensures in
-    (longer.links ∙ c.loop-x.invariant.0, λ want pays most. longer.below want (subst (λ (links : List (List (Option Link))). PayAll links want) (sym c.loop-x.invariant.0) pays) (c.loop-x.invariant.1 want pays most))
+    let longer = c.lengthen-longer.ensures in (
+      longer.links ∙ c.loop-x.invariant.0,
+      λ want pays most. longer.below want
+          (subst (λ (links : List (List (Option Link))). PayAll links want) (sym c.loop-x.invariant.0) pays) (c.loop-x.invariant.1 want pays most),
+    )

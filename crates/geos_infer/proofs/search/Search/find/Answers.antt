@@ -15,7 +15,8 @@ returns-clause-least c =
     let old = c.pay_all.new.self.lengths.ways in
     let least = subst (λ (x : Lengths). AreLeast image body.r x.links old x.ways) (sym c.free_loops.ensures.lengths) c.find_constants.ensures.least in
     let outside = subst (λ (x : Lengths). NoneOutside image body.r x.links) (sym c.free_loops.ensures.lengths) c.find_constants.ensures.outside in
-    found-least image body.r c.args.known.now c.args.touched.now c.note.new.self.arcs c.note.ensures units.pay units.lengths.links (c.all_ask_no_more.ensures c.if-not-all_ask_no_more.false) outside old units.lengths.ways least
+    found-least image body.r c.args.known.now c.args.touched.now c.note.new.self.arcs c.note.ensures units.pay
+    units.lengths.links (c.all_ask_no_more.ensures c.if-not-all_ask_no_more.false) outside old units.lengths.ways least
     (numbers_of c.put_potentials.new.potentials) c.in_ok-put_potentials.ensures.put
 
 pub returns-clause-wanted : goal.returns-clause-wanted
@@ -24,4 +25,5 @@ returns-clause-wanted c =
     let arcs = c.note.new.self.arcs in
     let before = subst (AreWanted arcs) (sym c.find_constants.ensures.pay) c.pay_all.ensures in
     let numbers = numbers_of c.put_potentials.new.potentials in
-    for-loops body.image.now body.r c.args.known.now c.args.touched.now arcs c.note.ensures c.free_loops.new.units.pay numbers.coefficients (c.free_loops.ensures.wanted before) (λ pc within. (c.in_ok-put_potentials.ensures.put pc within).1)
+    for-loops body.image.now body.r c.args.known.now c.args.touched.now arcs c.note.ensures c.free_loops.new.units.pay
+    numbers.coefficients (c.free_loops.ensures.wanted before) (λ pc within. (c.in_ok-put_potentials.ensures.put pc within).1)

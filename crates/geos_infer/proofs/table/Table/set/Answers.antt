@@ -13,11 +13,13 @@ returns-then-at-len g c =
     let same : filled next.rest 4096 next.items.items ≡ c.args.self.now = elim c.if-len-at.branch [
       | then-len-at w ↦
           ap (λ (i : Inside g.row.T.Denot). filled i.rest 4096 i.items.items) w.self-inside-is
-          ∙ filled-reach now.rest 4096 (pc - vec_len now.items) now.items.items w.reach.new.items.items (omega (arith, now.items.ok.0, c.requires, c.self.invariant.few)) w.reach.ensures.items
+          ∙ filled-reach now.rest 4096 (pc - vec_len now.items) now.items.items w.reach.new.items.items
+          (omega (arith, now.items.ok.0, c.requires, c.self.invariant.few)) w.reach.ensures.items
           ∙ c.self.view_is
       | else-len-at w ↦ ap (λ (i : Inside g.row.T.Denot). filled i.rest 4096 i.items.items) w.self-inside-is ∙ c.self.view_is
     ] in
-    filled-set next.rest 4096 pc c.args.item next.items.items (omega (arith, next.items.ok.0, c.if-at-len.true, c.len-2.ensures)) ∙ ap (λ (xs : List g.row.T.Denot). set xs pc c.args.item) same
+    filled-set next.rest 4096 pc c.args.item next.items.items (omega (arith, next.items.ok.0, c.if-at-len.true, c.len-2.ensures))
+    ∙ ap (λ (xs : List g.row.T.Denot). set xs pc c.args.item) same
 
 pub returns-else-at-len : goal.returns-else-at-len
 returns-else-at-len g c =
@@ -29,9 +31,17 @@ returns-else-at-len g c =
           let k = pc - vec_len now.items in
           let long = longer now.rest k now.items.items w.reach.new.items.items w.reach.ensures.items in (
             ap (λ (i : Inside g.row.T.Denot). filled i.rest 4096 i.items.items) w.self-inside-is
-                ∙ filled-reach now.rest 4096 k now.items.items w.reach.new.items.items (omega (arith, now.items.ok.0, c.requires, c.self.invariant.few)) w.reach.ensures.items
+                ∙ filled-reach now.rest 4096 k now.items.items w.reach.new.items.items
+                (omega (arith, now.items.ok.0, c.requires, c.self.invariant.few)) w.reach.ensures.items
                 ∙ c.self.view_is,
-            omega (arith, ap (λ (i : Inside g.row.T.Denot). length i.items.items) w.self-inside-is, long, now.items.ok.0, w.if-len-at.true, c.len.ensures),
+            omega (
+              arith,
+              ap (λ (i : Inside g.row.T.Denot). length i.items.items) w.self-inside-is,
+              long,
+              now.items.ok.0,
+              w.if-len-at.true,
+              c.len.ensures,
+            ),
           )
       | else-len-at w ↦ (
         ap (λ (i : Inside g.row.T.Denot). filled i.rest 4096 i.items.items) w.self-inside-is ∙ c.self.view_is,

@@ -6,7 +6,8 @@ pub loop-init : goal.loop-init
 loop-init c = (omega arith, ([], refl))
 
 pub returns-then-at-from : goal.returns-then-at-from
-returns-then-at-from c = λ is. subst (λ (n : ℕ). (branches : List Bool) × IsTrail c.args.body.now.image.now c.args.body.now.r c.args.counter n branches c.args.to) c.if-at-from.true c.loop.invariant.1
+returns-then-at-from c = λ is. subst (λ (n : ℕ). (branches : List Bool)
+    × IsTrail c.args.body.now.image.now c.args.body.now.r c.args.counter n branches c.args.to) c.if-at-from.true c.loop.invariant.1
 
 pub loop-preserved : goal.loop-preserved
 loop-preserved c =

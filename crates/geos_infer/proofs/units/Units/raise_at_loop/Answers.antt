@@ -8,4 +8,5 @@ returns-in-Some-takes-clause-wanted c =
     let old = c.args.self.now.pay in
     let next = c.raise.new.spread in
     let raised = subst (AreRaised old next c.args.pc) c.only-units.ensures c.raise.ensures in
-    loop-wanted c.args.graph.now.arcs old next c.args.pc c.in-Some-takes.counter c.args.unit c.in-Some.arc (sym c.arc.ensures ∙ c.in-Some.is) (sym c.takes.ensures ∙ c.in-Some-takes.is) raised
+    loop-wanted c.args.graph.now.arcs old next c.args.pc c.in-Some-takes.counter c.args.unit c.in-Some.arc
+    (sym c.arc.ensures ∙ c.in-Some.is) (sym c.takes.ensures ∙ c.in-Some-takes.is) raised

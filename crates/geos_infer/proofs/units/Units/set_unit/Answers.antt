@@ -6,6 +6,7 @@ use Rattle.geos_infer.proofs.units.Units.set_unit.Goals as goal
 
 pub loop-x-preserved : goal.loop-x-preserved
 loop-x-preserved c = λ before. elim c.if-pays_in.branch [
-  | then-pays_in w ↦ subst (λ (u : Units). AreWanted c.args.graph.now.arcs u.pay) (sym w.self-is) (w.raise_at_loop.ensures.wanted (c.loop-x.invariant before))
+  | then-pays_in w ↦ subst (λ (u : Units). AreWanted c.args.graph.now.arcs u.pay) (sym w.self-is)
+      (w.raise_at_loop.ensures.wanted (c.loop-x.invariant before))
   | else-pays_in w ↦ subst (λ (u : Units). AreWanted c.args.graph.now.arcs u.pay) (sym w.self-is) (c.loop-x.invariant before)
 ]
