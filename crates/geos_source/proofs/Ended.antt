@@ -43,19 +43,22 @@ formed-from image h =
     and_from (some && few && routines && short && counts && points) rows six h.rows
 
 -- a text that is not outside of all routines at its end has one
-has_routine : (part : Part) (done : List TextRoutine) (current : Option TextRoutine) → Current part done current → without_routine part ≡ None → 0 < length (with_current done current)
+has_routine : (part : Part) (done : List TextRoutine) (current : Option TextRoutine) → Current part done current
+    → without_routine part ≡ None → 0 < length (with_current done current)
 has_routine Outside done current h inside = absurd cc
 has_routine (Head line has_in has_out) done None h inside = absurd h
 has_routine (Head line has_in has_out) done (Some r) h inside = omega (arith, length_push done r)
 has_routine Body done None h inside = absurd h
 has_routine Body done (Some r) h inside = omega (arith, length_push done r)
 
-blank_points-legal : (routines instrs : ℕ) (code : List Instr) → list_all (is_instr routines instrs) code ≡ true → list_all (is_point true routines instrs) (map blank_point code) ≡ true
+blank_points-legal : (routines instrs : ℕ) (code : List Instr) → list_all (is_instr routines instrs) code ≡ true
+    → list_all (is_point true routines instrs) (map blank_point code) ≡ true
 blank_points-legal routines instrs [] h = refl
 blank_points-legal routines instrs (i ∷ code) h =
     let parts = and_parts (is_instr routines instrs i) (list_all (is_instr routines instrs) code) h in
     let here = and_from (is_instr routines instrs i) (is_given true (Some open_row)) parts.0 refl in
-    and_from (is_instr routines instrs i && is_given true (Some open_row)) (list_all (is_point true routines instrs) (map blank_point code)) here (blank_points-legal routines instrs code parts.1)
+    and_from (is_instr routines instrs i && is_given true (Some open_row)) (list_all (is_point true routines instrs) (map blank_point code)) here
+    (blank_points-legal routines instrs code parts.1)
 
 -- each of them gives its row
 blank_points-given : (most : ℕ) (code : List Instr) → length code ≤ most → rows_stand (replicate most true) (map blank_point code) ≡ true
@@ -88,7 +91,8 @@ ended d t h quiet inside =
     formed-from (bare_whole (record { routines = all_of t; instrs = t.code })) parts
 
 -- a code is there if there is no fault
-code_is : (t : Draft) (fault : Option BadLine) (code : Code) → unless_bad t fault ≡ Ok code → (fault ≡ None) × (record { routines = t.routines; instrs = t.code } ≡ code)
+code_is : (t : Draft) (fault : Option BadLine) (code : Code) → unless_bad t fault ≡ Ok code → (fault ≡ None)
+    × (record { routines = t.routines; instrs = t.code } ≡ code)
 code_is t None code e = (refl, cc)
 code_is t (Some fault) code e = absurd cc
 

@@ -35,7 +35,17 @@ pub record Faults : Type 0 where
 
 faults_computed : Faults
 unfolding with_line label_of name_of is_name_byte take_line header instruction constant register
-faults_computed = record { none = refl; unknown = refl; register = refl; range = refl; undefined = refl; twice = refl; empty_routine = refl; empty = refl }
+faults_computed = record {
+  none = refl;
+  unknown = refl;
+  register = refl;
+  range = refl;
+  undefined = refl;
+  twice =
+      refl;
+  empty_routine = refl;
+  empty = refl;
+}
 
 -- names have 1 to 16 letters, digits and underscores; a `:` behind a name makes a label
 pub record Names : Type 0 where
@@ -73,7 +83,25 @@ pub record Operands : Type 0 where
 
 operands_computed : Operands
 unfolding with_line label_of name_of is_name_byte take_line header instruction constant register
-operands_computed = record { few = refl; many = refl; zero = refl; minus = refl; hexadecimal = refl; form = refl; lower = refl; shift = refl; both = refl; callee = refl; sets = refl; few_first = refl; many_first = refl; many_names = refl; huge = refl; zeros = refl }
+operands_computed = record {
+  few = refl;
+  many = refl;
+  zero = refl;
+  minus = refl;
+  hexadecimal = refl;
+  form = refl;
+  lower =
+      refl;
+  shift = refl;
+  both = refl;
+  callee = refl;
+  sets = refl;
+  few_first = refl;
+  many_first = refl;
+  many_names = refl;
+  huge = refl;
+  zeros = refl;
+}
 
 -- lines out of place: rows behind an instruction or twice, labels that no instruction follows,
 -- instructions before any routine
@@ -91,7 +119,19 @@ pub record Places : Type 0 where
 
 places_computed : Places
 unfolding with_line label_of name_of is_name_byte take_line header instruction constant register row_of item
-places_computed = record { second_in = refl; rows = refl; late_in = refl; outer_in = refl; label_in = refl; label_routine = refl; label_end = refl; outer = refl; outer_lower = refl; comments = refl }
+places_computed = record {
+  second_in = refl;
+  rows = refl;
+  late_in = refl;
+  outer_in = refl;
+  label_in = refl;
+  label_routine =
+      refl;
+  label_end = refl;
+  outer = refl;
+  outer_lower = refl;
+  comments = refl;
+}
 
 -- items of rows, in either order of a pair
 pub record Items : Type 0 where
@@ -110,7 +150,21 @@ pub record Items : Type 0 where
 
 items_computed : Items
 unfolding with_line label_of name_of is_name_byte take_line header instruction constant register row_of item
-items_computed = record { bound = refl; slot = refl; borrowed = refl; borrowed_marked = refl; other_order = refl; group = refl; pointer = refl; pair = refl; same = refl; form = refl; large = refl; least = refl }
+items_computed = record {
+  bound = refl;
+  slot = refl;
+  borrowed = refl;
+  borrowed_marked = refl;
+  other_order = refl;
+  group =
+      refl;
+  pointer = refl;
+  pair = refl;
+  same = refl;
+  form = refl;
+  large = refl;
+  least = refl;
+}
 
 -- lines: their ends, their comments, words with a colon, labels of the whole text
 pub record Said : Type 0 where
@@ -131,7 +185,23 @@ pub record Said : Type 0 where
 
 said_computed : Said
 unfolding with_line label_of name_of is_name_byte take_line header instruction constant register
-said_computed = record { ends = refl; comment = refl; other = refl; digit = refl; joined = refl; labels = refl; ahead = refl; callee = refl; faulty = refl; defined = refl; colon = refl; small = refl; return = refl; last_return = refl }
+said_computed = record {
+  ends = refl;
+  comment = refl;
+  other = refl;
+  digit = refl;
+  joined = refl;
+  labels = refl;
+  ahead =
+      refl;
+  callee = refl;
+  faulty = refl;
+  defined = refl;
+  colon = refl;
+  small = refl;
+  return = refl;
+  last_return = refl;
+}
 
 -- lines that begin routines
 pub record Headers : Type 0 where
@@ -148,7 +218,19 @@ pub record Headers : Type 0 where
 
 headers_computed : Headers
 unfolding with_line label_of name_of is_name_byte take_line header instruction constant register
-headers_computed = record { name = refl; few = refl; order = refl; most = refl; large = refl; twice = refl; named = refl; gives_name = refl; begins = refl; zero = refl }
+headers_computed = record {
+  name = refl;
+  few = refl;
+  order = refl;
+  most = refl;
+  large = refl;
+  twice = refl;
+  named =
+      refl;
+  gives_name = refl;
+  begins = refl;
+  zero = refl;
+}
 
 -- names that are used twice, by labels of the whole text or by routines: these are two sets of
 -- names, and the case of letters counts
@@ -166,7 +248,19 @@ pub record Twice : Type 0 where
 
 twice_computed : Twice
 unfolding with_line label_of name_of is_name_byte take_line header instruction constant register row_of
-twice_computed = record { line = refl; apart = refl; elsewhere = refl; first = refl; routine = refl; lower = refl; higher = refl; faulty = refl; sets = refl; case = refl }
+twice_computed = record {
+  line = refl;
+  apart = refl;
+  elsewhere = refl;
+  first = refl;
+  routine = refl;
+  lower =
+      refl;
+  higher = refl;
+  faulty = refl;
+  sets = refl;
+  case = refl;
+}
 
 -- a routine of five instructions, with a row at its entry
 add_computed : code_of (codes "routine add public budget 5\nin w0<=9 w0<=3\nLDI w0 2\nLDI w1 3\nADD w0 w0 w1\nOUT w0 end\nend: RET\n")

@@ -41,7 +41,8 @@ from_rank : (t : Bool) (a b c d : ℕ) → b < 8 → d < 8 → t ≡ (nat_lt a c
 from_rank t a b c d e f g = grind arith
 
 precedes-rank : (f g : BadLine) → precedes f g ≡ nat_le (rank f) (rank g)
-precedes-rank f g = from_rank (precedes f g) f.line (why_number f.why) g.line (why_number g.why) (why_number-small f.why) (why_number-small g.why) refl
+precedes-rank f g = from_rank (precedes f g) f.line (why_number f.why) g.line (why_number g.why) (why_number-small f.why)
+    (why_number-small g.why) refl
 
 -- of two faults the one of the lower rank, or of equal ranks the first
 by_rank : (f g : BadLine) → first (Some f) (Some g) ≡ cond (nat_le (rank f) (rank g)) (Some f) (Some g)
@@ -51,7 +52,8 @@ first-cond : (t : Bool) (f g : BadLine) (h : Option BadLine) → first (cond t (
 first-cond true f g h = refl
 first-cond false f g h = refl
 
-first-on_cond : (t : Bool) (f : BadLine) (g h : BadLine) → first (Some f) (cond t (Some g) (Some h)) ≡ cond t (first (Some f) (Some g)) (first (Some f) (Some h))
+first-on_cond : (t : Bool) (f : BadLine) (g h : BadLine) → first (Some f) (cond t (Some g) (Some h)) ≡ cond t
+    (first (Some f) (Some g)) (first (Some f) (Some h))
 first-on_cond true f g h = refl
 first-on_cond false f g h = refl
 
@@ -113,7 +115,8 @@ first-comm None None = refl
 first-comm None (Some g) = refl
 first-comm (Some f) None = refl
 first-comm (Some f) (Some g) =
-    pick-comm (precedes f g) (precedes g f) (rank f) (rank g) (Some f) (Some g) (λ e. ap Some (rank-same f g e)) (precedes-rank f g) (precedes-rank g f)
+    pick-comm (precedes f g) (precedes g f) (rank f) (rank g) (Some f) (Some g) (λ e. ap Some (rank-same f g e))
+    (precedes-rank f g) (precedes-rank g f)
 
 -- ---- the first of lines
 
@@ -131,7 +134,8 @@ at_line-least line (Some a) (Some b) =
     let f : BadLine = record { line = line; why = a } in
     let g : BadLine = record { line = line; why = b } in
     least-cond line (nat_le (why_number a) (why_number b)) a b
-    ∙ ap (λ t. cond t (Some f) (Some g)) (same_line (nat_le (why_number a) (why_number b)) (precedes f g) (why_number a) (why_number b) line refl (precedes-rank f g))
+    ∙ ap (λ t. cond t (Some f) (Some g)) (same_line (nat_le (why_number a) (why_number b)) (precedes f g) (why_number a)
+    (why_number b) line refl (precedes-rank f g))
 
 pub first_in-push : (n : ℕ) (whys : List (Option Why)) → first_in n (whys ++ None ∷ []) ≡ first_in n whys
 first_in-push n [] = refl
@@ -141,7 +145,8 @@ pub swap : (a b c : Option BadLine) → first (first a b) c ≡ first (first a c
 swap a b c = first-assoc a b c ∙ ap (first a) (first-comm b c) ∙ sym (first-assoc a c b)
 
 -- a fault of one of the lines comes to them
-pub first_in-set : (n line : ℕ) (whys : List (Option Why)) (at : ℕ) (old : Option Why) (why : Why) → line ≡ n + at → at < length whys → old ≡ get_or whys at old
+pub first_in-set : (n line : ℕ) (whys : List (Option Why)) (at : ℕ) (old : Option Why) (why : Why) → line ≡ n + at
+    → at < length whys → old ≡ get_or whys at old
     → first_in n (set whys at (least old (Some why))) ≡ first (first_in n whys) (Some (record { line = line; why = why }))
 first_in-set n line [] at old why e within h = absurd (omega arith)
 first_in-set n line (w ∷ ws) zero old why e within h =

@@ -73,5 +73,10 @@ legal_name (word ∷ words) name e = (name_of-legal word name e).0
 pub header-made : (words : List (List ℕ)) (r : Routine) → header words ≡ Ok r → (name_in_front words ≡ Some r.name) × (r.count ≡ 0) × LegalHead r
 header-made words r e =
     let begun = header_begun words r e in
-    let legal : LegalHead r = record { name = legal_name words r.name begun.named; entry = ap (is_row true) begun.entry; exit = ap (is_row true) begun.exit } in
+    let legal : LegalHead r = record {
+      name = legal_name words r.name begun.named;
+      entry = ap (is_row true) begun.entry;
+      exit =
+          ap (is_row true) begun.exit;
+    } in
     (begun.named, begun.empty, legal)

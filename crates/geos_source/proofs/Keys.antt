@@ -56,7 +56,8 @@ places-apart f g k small small' same =
     same_from_place _ _ _ _ 256 (small 0 (omega arith)) (small' 0 (omega arith)) (sym (worth-first f k) ∙ same ∙ worth-first g k)
 
 -- bytes that are worth the same are the same
-worth-apart : (f g : ℕ → ℕ) (k : ℕ) → ((i : ℕ) → i ≤ k → f i < 256) → ((i : ℕ) → i ≤ k → g i < 256) → worth f k ≡ worth g k → (i : ℕ) → i ≤ k → f i ≡ g i
+worth-apart : (f g : ℕ → ℕ) (k : ℕ) → ((i : ℕ) → i ≤ k → f i < 256) → ((i : ℕ) → i ≤ k → g i < 256) → worth f k ≡ worth g k
+    → (i : ℕ) → i ≤ k → f i ≡ g i
 worth-apart f g zero small small' same zero le = same
 worth-apart f g zero small small' same (suc i) le = absurd (omega arith)
 worth-apart f g (suc k) small small' same zero le = (places-apart f g k small small' same).1
@@ -111,7 +112,8 @@ unfolding table_of
 table_of-other table name other = ap (λ b. cond b (value_at table.trees.items (key_of name)) None) other
 
 -- each key has a tree in a table
-tree_there : (table : code.Table) (key : ℕ) (here : BTreeMap ℕ ℕ) → here ≡ slice_index_or table.trees.items (key % TREES) here → slice_get table.trees.items (key % TREES) ≡ Some here
+tree_there : (table : code.Table) (key : ℕ) (here : BTreeMap ℕ ℕ) → here ≡ slice_index_or table.trees.items (key % TREES) here
+    → slice_get table.trees.items (key % TREES) ≡ Some here
 tree_there table key here is =
     slice_get_read table.trees.items table.trees.len (key % TREES) here table.trees.ok.0 (omega (arith, table.all_trees)) is
 
@@ -119,12 +121,14 @@ tree_there table key here is =
 pub table_of-there : (table : code.Table) (name : List ℕ) (key : ℕ) (here : BTreeMap ℕ ℕ) → is_keyed name ≡ true → key ≡ key_of name
     → here ≡ slice_index_or table.trees.items (key % TREES) here → tree.get nat_cmp here key ≡ table_of table name
 table_of-there table name key here keyed its_key is =
-    sym (value_at-by table.trees.items key (Some here) (tree_there table key here is)) ∙ ap (value_at table.trees.items) its_key ∙ sym (table_of-keyed table name keyed)
+    sym (value_at-by table.trees.items key (Some here) (tree_there table key here is)) ∙ ap (value_at table.trees.items) its_key
+    ∙ sym (table_of-keyed table name keyed)
 
 -- a table of trees with no keys has no names
 pub table_of-none : (table : code.Table) → All (λ t. t.entries ≡ []) table.trees.items → table_of table ≡ none_defined
 table_of-none table empty = fun_ext (λ name.
-    ⊎_elim (λ yes. table_of-keyed table name yes ∙ value_at-none table.trees.items empty (key_of name)) (λ no. table_of-other table name no) (cases_Bool (is_keyed name)))
+    ⊎_elim (λ yes. table_of-keyed table name yes ∙ value_at-none table.trees.items empty (key_of name))
+    (λ no. table_of-other table name no) (cases_Bool (is_keyed name)))
 
 -- a table with one more key has one more name
 table_of-with : (old new : code.Table) (name : List ℕ) (value : ℕ) → is_keyed name ≡ true

@@ -30,7 +30,8 @@ text_ends : (word : List ℕ) (k : ℕ) → list_all is_name_byte word ≡ true 
 text_ends word k h e =
     let long : length (word ++ replicate k 0) ≡ 16 = length_padded word k ∙ e in
     let len = length word in
-    let ends = cond_both (nat_lt len 16) (Some len) None (λ o. unwrap_or o 16 ≡ len) (λ within. refl) (λ past. omega (arith, ltb-false len 16 past)) in
+    let ends = cond_both (nat_lt len 16) (Some len) None (λ o. unwrap_or o 16 ≡ len) (λ within. refl)
+    (λ past. omega (arith, ltb-false len 16 past)) in
     rw (text_reaches word k h, long) ends
 
 all_zeros : (k : ℕ) → list_all (λ b. b == 0) (replicate k 0) ≡ true

@@ -23,21 +23,25 @@ use Rattle.geos_source.proofs.Quiet.{declared_by, taken_by}
 with_label-noted : (n : ℕ) (name : List ℕ) (f : Option BadLine) (d : Declared) → with_label n name (noted f d) ≡ noted f (with_label n name d)
 with_label-noted n name f d = ap (λ fault. record (with_label n name d) { fault = fault }) (first-assoc f d.fault _)
 
-with_labels-noted : (n : ℕ) (names : List (List ℕ)) (f : Option BadLine) (d : Declared) → with_labels n names (noted f d) ≡ noted f (with_labels n names d)
+with_labels-noted : (n : ℕ) (names : List (List ℕ)) (f : Option BadLine) (d : Declared)
+    → with_labels n names (noted f d) ≡ noted f (with_labels n names d)
 with_labels-noted n [] f d = refl
 with_labels-noted n (name ∷ names) f d = ap (with_labels n names) (with_label-noted n name f d) ∙ with_labels-noted n names f (with_label n name d)
 
-with_routine_name-noted : (n : ℕ) (name : Option (List ℕ)) (f : Option BadLine) (d : Declared) → with_routine_name n name (noted f d) ≡ noted f (with_routine_name n name d)
+with_routine_name-noted : (n : ℕ) (name : Option (List ℕ)) (f : Option BadLine) (d : Declared)
+    → with_routine_name n name (noted f d) ≡ noted f (with_routine_name n name d)
 with_routine_name-noted n None f d = refl
 with_routine_name-noted n (Some name) f d = ap (λ fault. record (with_routine_name n (Some name) d) { fault = fault }) (first-assoc f d.fault _)
 
-declared_by-noted : (a b c : Bool) (n : ℕ) (words : List (List ℕ)) (f : Option BadLine) (d : Declared) → declared_by a b c n words (noted f d) ≡ noted f (declared_by a b c n words d)
+declared_by-noted : (a b c : Bool) (n : ℕ) (words : List (List ℕ)) (f : Option BadLine) (d : Declared)
+    → declared_by a b c n words (noted f d) ≡ noted f (declared_by a b c n words d)
 declared_by-noted true b c n words f d = ap one_more_routine (with_routine_name-noted n (name_in_front words) f d)
 declared_by-noted false true c n words f d = refl
 declared_by-noted false false true n words f d = refl
 declared_by-noted false false false n words f d = refl
 
-with_statement-noted : (n : ℕ) (words : List (List ℕ)) (f : Option BadLine) (d : Declared) → with_statement n words (noted f d) ≡ noted f (with_statement n words d)
+with_statement-noted : (n : ℕ) (words : List (List ℕ)) (f : Option BadLine) (d : Declared)
+    → with_statement n words (noted f d) ≡ noted f (with_statement n words d)
 with_statement-noted n [] f d = refl
 with_statement-noted n (word ∷ words) f d = declared_by-noted (bytes_eq word (codes "routine")) (bytes_eq word (codes "in")) (bytes_eq word (codes "out")) n words f d
 
@@ -45,14 +49,16 @@ pub with_line-noted : (n : ℕ) (line : List ℕ) (f : Option BadLine) (d : Decl
 unfolding with_line
 with_line-noted n line f d =
     let parts = parted (said line) in
-    ap (with_statement n parts.statement) (with_labels-noted n parts.labels f d) ∙ with_statement-noted n parts.statement f (with_labels n parts.labels d)
+    ap (with_statement n parts.statement) (with_labels-noted n parts.labels f d)
+    ∙ with_statement-noted n parts.statement f (with_labels n parts.labels d)
 
 -- ---- what lines say
 
 with_fault : Option BadLine → Draft → Draft
 with_fault fault t = record t { progress = record t.progress { fault = fault } }
 
-pub drop_labels-told : (f : Option BadLine) (t : Draft) → record (told f t) { progress = drop_labels (told f t).progress } ≡ told f (record t { progress = drop_labels t.progress })
+pub drop_labels-told : (f : Option BadLine) (t : Draft) → record (told f t) { progress = drop_labels (told f t).progress } ≡ told f
+    (record t { progress = drop_labels t.progress })
 unfolding with_fault
 drop_labels-told f t = ap (λ fault. with_fault fault (record t { progress = drop_labels t.progress })) (first-assoc f t.progress.fault _)
 
@@ -90,7 +96,8 @@ taken_by-told false false true names n word words f t =
     ∙ take_out-told n (row_of words) f (record t { progress = drop_labels t.progress })
 taken_by-told false false false names n word words f t = take_instr-told n (instruction names word words) f t
 
-take_statement-told : (names : Names) (n : ℕ) (words : List (List ℕ)) (f : Option BadLine) (t : Draft) → take_statement names n words (told f t) ≡ told f (take_statement names n words t)
+take_statement-told : (names : Names) (n : ℕ) (words : List (List ℕ)) (f : Option BadLine) (t : Draft)
+    → take_statement names n words (told f t) ≡ told f (take_statement names n words t)
 take_statement-told names n [] f t = refl
 take_statement-told names n (word ∷ words) f t = taken_by-told (bytes_eq word (codes "routine")) (bytes_eq word (codes "in")) (bytes_eq word (codes "out")) names n word words f t
 
@@ -99,7 +106,8 @@ take_labels-told : (n : ℕ) (some : Bool) (f : Option BadLine) (t : Draft)
 take_labels-told n true f t = refl
 take_labels-told n false f t = refl
 
-take_line-told : (names : Names) (n : ℕ) (line : List ℕ) (f : Option BadLine) (t : Draft) → take_line names n line (told f t) ≡ told f (take_line names n line t)
+take_line-told : (names : Names) (n : ℕ) (line : List ℕ) (f : Option BadLine) (t : Draft)
+    → take_line names n line (told f t) ≡ told f (take_line names n line t)
 unfolding take_line
 take_line-told names n line f t =
     let parts = parted (said line) in
@@ -107,14 +115,17 @@ take_line-told names n line f t =
     ap (take_statement names n parts.statement) (take_labels-told n some f t)
     ∙ take_statement-told names n parts.statement f (record t { progress = take_labels n some t.progress })
 
-pub take_lines-told : (names : Names) (n : ℕ) (lines : List (List ℕ)) (f : Option BadLine) (t : Draft) → take_lines names n lines (told f t) ≡ told f (take_lines names n lines t)
+pub take_lines-told : (names : Names) (n : ℕ) (lines : List (List ℕ)) (f : Option BadLine) (t : Draft)
+    → take_lines names n lines (told f t) ≡ told f (take_lines names n lines t)
 take_lines-told names n [] f t = refl
-take_lines-told names n (line ∷ lines) f t = ap (take_lines names (n + 1) lines) (take_line-told names n line f t) ∙ take_lines-told names (n + 1) lines f (take_line names n line t)
+take_lines-told names n (line ∷ lines) f t = ap (take_lines names (n + 1) lines) (take_line-told names n line f t)
+    ∙ take_lines-told names (n + 1) lines f (take_line names n line t)
 
 -- labels that were dropped are dropped when a routine ends
 pub close-dropped : (t : Draft) → close (record t { progress = drop_labels t.progress }) ≡ close t
 unfolding with_fault
-close-dropped t = ap (λ fault. with_fault fault (close t)) (ap (λ x. first x (unfilled t.progress.part)) (first-none (first t.progress.fault (unfollowed t.progress.waiting))))
+close-dropped t = ap (λ fault. with_fault fault (close t))
+    (ap (λ x. first x (unfilled t.progress.part)) (first-none (first t.progress.fault (unfollowed t.progress.waiting))))
 
 -- ---- a line, and a text
 

@@ -157,7 +157,8 @@ module _ (routines instrs : ℕ) (names : Names) (callees : TableBelow routines 
       record { a = a-below.1; b = b-below.1; c = c-below.1; d = d-below.1; imm = imm-below.1; target = target-below.1 } in
       subst (λ (j : Instr). is_instr routines instrs j ≡ true) read.1 (all_below routines instrs made all)
 
-  instr_by-legal : (opcode : Option Opcode) (words : List (List ℕ)) (i : Instr) → instr_by names opcode words ≡ Ok i → is_instr routines instrs i ≡ true
+  instr_by-legal : (opcode : Option Opcode) (words : List (List ℕ)) (i : Instr) → instr_by names opcode words ≡ Ok i
+      → is_instr routines instrs i ≡ true
   instr_by-legal None words i e = absurd cc
   instr_by-legal (Some opcode) words i e = instr_of-legal opcode words i e
 

@@ -14,7 +14,8 @@ use Rattle.geos_source.specs.Skeletons.{routine_of}
 pub routines-push : (done : List TextRoutine) (r : TextRoutine) → map routine_of (done ++ r ∷ []) ≡ map routine_of done ++ r.routine ∷ []
 routines-push done r = map-append routine_of done (r ∷ [])
 
-pub counts-push : (done : List TextRoutine) (r : TextRoutine) → total_count (map routine_of (done ++ r ∷ [])) ≡ total_count (map routine_of done) + r.routine.count
+pub counts-push : (done : List TextRoutine) (r : TextRoutine) → total_count (map routine_of (done ++ r ∷ [])) ≡ total_count
+    (map routine_of done) + r.routine.count
 counts-push done r = ap total_count (routines-push done r) ∙ total_count-push (map routine_of done) r.routine
 
 or_nothing : (b : Bool) → (b || false) ≡ b
@@ -29,7 +30,8 @@ is_named-push name done r =
     ∙ ap (λ b. is_named name (map routine_of done) || b) (or_nothing (bytes_eq r.routine.name name))
 
 -- a routine that may stand behind others
-pub is_routine-from : (earlier : List Routine) (r : Routine) → is_name r.name ≡ true → is_named r.name earlier ≡ false → 0 < r.count → is_row true r.entry ≡ true → is_row true r.exit ≡ true → is_routine true earlier r ≡ true
+pub is_routine-from : (earlier : List Routine) (r : Routine) → is_name r.name ≡ true → is_named r.name earlier ≡ false
+    → 0 < r.count → is_row true r.entry ≡ true → is_row true r.exit ≡ true → is_routine true earlier r ≡ true
 is_routine-from earlier r name new some entry exit =
     let a = is_name r.name in
     let b = not (is_named r.name earlier) in
@@ -41,7 +43,8 @@ is_routine-from earlier r name new some entry exit =
     and_from (a && b && c && d) (is_row true r.exit) four exit
 
 -- what holds of a new value and of the old one holds of what a name stands for
-pub named-holds : (P : ℕ → Type 0) (same : Bool) (value v : ℕ) (old : Option ℕ) → P value → (old ≡ Some v → P v) → cond same (Some value) old ≡ Some v → P v
+pub named-holds : (P : ℕ → Type 0) (same : Bool) (value v : ℕ) (old : Option ℕ) → P value → (old ≡ Some v → P v)
+    → cond same (Some value) old ≡ Some v → P v
 named-holds P true value v old p h e = let equal : value ≡ v = cc in subst P equal p
 named-holds P false value v old p h e = h e
 

@@ -105,13 +105,15 @@ taken_by is_routine is_in is_out names n word words t =
     else if is_out then record t { progress = take_out n (row_of words) (drop_labels t.progress) }
     else take_instr n (instruction names word words) t
 
-taken_by-quiet : (a b c : Bool) (names : Names) (n : ℕ) (word : List ℕ) (words : List (List ℕ)) (t : Draft) → (taken_by a b c names n word words t).progress.fault ≡ None → t.progress.fault ≡ None
+taken_by-quiet : (a b c : Bool) (names : Names) (n : ℕ) (word : List ℕ) (words : List (List ℕ)) (t : Draft)
+    → (taken_by a b c names n word words t).progress.fault ≡ None → t.progress.fault ≡ None
 taken_by-quiet true b c names n word words t e = (first-none _ _ (first-none _ _ (first-none _ _ e).0).0).0
 taken_by-quiet false true c names n word words t e = (first-none _ _ (first-none _ _ e).0).0
 taken_by-quiet false false true names n word words t e = (first-none _ _ (first-none _ _ e).0).0
 taken_by-quiet false false false names n word words t e = (first-none _ _ e).0
 
-take_statement-quiet : (names : Names) (n : ℕ) (words : List (List ℕ)) (t : Draft) → (take_statement names n words t).progress.fault ≡ None → t.progress.fault ≡ None
+take_statement-quiet : (names : Names) (n : ℕ) (words : List (List ℕ)) (t : Draft) → (take_statement names n words t).progress.fault ≡ None
+    → t.progress.fault ≡ None
 take_statement-quiet names n [] t e = e
 take_statement-quiet names n (word ∷ words) t e = taken_by-quiet (bytes_eq word (codes "routine")) (bytes_eq word (codes "in")) (bytes_eq word (codes "out")) names n word words t e
 
@@ -127,6 +129,7 @@ take_line-quiet names n line t e =
     take_labels-quiet n some t.progress (take_statement-quiet names n parts.statement (record t { progress = take_labels n some t.progress }) e)
 
 -- lines without fault did not begin with one
-pub take_lines-quiet : (names : Names) (n : ℕ) (lines : List (List ℕ)) (t : Draft) → (take_lines names n lines t).progress.fault ≡ None → t.progress.fault ≡ None
+pub take_lines-quiet : (names : Names) (n : ℕ) (lines : List (List ℕ)) (t : Draft) → (take_lines names n lines t).progress.fault ≡ None
+    → t.progress.fault ≡ None
 take_lines-quiet names n [] t e = e
 take_lines-quiet names n (line ∷ lines) t e = take_line-quiet names n line t (take_lines-quiet names (n + 1) lines (take_line names n line t) e)

@@ -17,6 +17,7 @@ pub code_of-known : (text : List ℕ) (d : Declared) (draft : Draft) → d ≡ d
     → code_of text ≡ code_by text d draft
 code_of-known text d draft e f = ap (λ x. code_by text x (draft_of x.names (lines text))) (sym e) ∙ ap (code_by text d) (sym f)
 
-pub code_of-found : (text : List ℕ) (d : Declared) (draft : Draft) (fault : Option BadLine) → d ≡ declared (lines text) → draft ≡ draft_of d.names (lines text)
+pub code_of-found : (text : List ℕ) (d : Declared) (draft : Draft) (fault : Option BadLine) → d ≡ declared (lines text)
+    → draft ≡ draft_of d.names (lines text)
     → fault ≡ fault_by text d draft → code_of text ≡ unless_bad draft fault
 code_of-found text d draft fault e f known = code_of-known text d draft e f ∙ ap (unless_bad draft) (sym known)

@@ -57,7 +57,8 @@ pub record Told (names : Names) (d : Declared) (t : Draft) : Type 0 where
   pub callees : TableBelow d.routines d.names.routines
   pub labels : (name : List ℕ) (pc : ℕ) → d.names.labels name ≡ Some pc → pc ≤ d.instrs
   pub followed : t.progress.waiting ≡ None → TableBelow d.instrs d.names.labels
-  pub code : (routines instrs : ℕ) → TableBelow routines names.routines → TableBelow instrs names.labels → list_all (is_instr routines instrs) t.code ≡ true
+  pub code : (routines instrs : ℕ) → TableBelow routines names.routines → TableBelow instrs names.labels
+      → list_all (is_instr routines instrs) t.code ≡ true
 
 pub told-blank : (names : Names) → Told names nothing blank
 told-blank names =
@@ -84,9 +85,11 @@ waiting_from-some n None = (n, refl)
 waiting_from-some n (Some line) = (line, refl)
 
 -- names may stand for what follows, where something waits
-waits-told : (names : Names) (labels : List ℕ → Option ℕ) (waiting : Option ℕ) (line : ℕ) (fault : Option BadLine) (d : Declared) (t : Draft) → waiting ≡ Some line
+waits-told : (names : Names) (labels : List ℕ → Option ℕ) (waiting : Option ℕ) (line : ℕ) (fault : Option BadLine) (d : Declared) (t : Draft)
+    → waiting ≡ Some line
     → ((name : List ℕ) (pc : ℕ) → labels name ≡ Some pc → pc ≤ d.instrs) → Told names d t
-    → Told names (record { routines = d.routines; instrs = d.instrs; names = record { labels = labels; routines = d.names.routines }; fault = fault }) (record t { progress = record t.progress { waiting = waiting } })
+    → Told names (record { routines = d.routines; instrs = d.instrs; names = record { labels = labels; routines = d.names.routines }; fault = fault })
+    (record t { progress = record t.progress { waiting = waiting } })
 waits-told names labels waiting line fault d t waits within h =
     record {
       part = h.part;
@@ -103,16 +106,20 @@ waits-told names labels waiting line fault d t waits within h =
       code = h.code;
     }
 
-label-told : (names : Names) (n : ℕ) (name : List ℕ) (line : ℕ) (d : Declared) (t : Draft) → t.progress.waiting ≡ Some line → Told names d t → Told names (with_label n name d) t
+label-told : (names : Names) (n : ℕ) (name : List ℕ) (line : ℕ) (d : Declared) (t : Draft) → t.progress.waiting ≡ Some line
+    → Told names d t → Told names (with_label n name d) t
 label-told names n name line d t waits h =
     waits-told names (with_name d.names.labels name d.instrs) t.progress.waiting line _ d t waits
     (λ other pc e. named-holds (λ k. k ≤ d.instrs) (bytes_eq name other) d.instrs pc (d.names.labels other) (omega arith) (h.labels other pc) e) h
 
-later_labels-told : (names : Names) (n : ℕ) (others : List (List ℕ)) (line : ℕ) (d : Declared) (t : Draft) → t.progress.waiting ≡ Some line → Told names d t → Told names (with_labels n others d) t
+later_labels-told : (names : Names) (n : ℕ) (others : List (List ℕ)) (line : ℕ) (d : Declared) (t : Draft)
+    → t.progress.waiting ≡ Some line → Told names d t → Told names (with_labels n others d) t
 later_labels-told names n [] line d t waits h = h
-later_labels-told names n (name ∷ others) line d t waits h = later_labels-told names n others line (with_label n name d) t waits (label-told names n name line d t waits h)
+later_labels-told names n (name ∷ others) line d t waits h = later_labels-told names n others line (with_label n name d)
+    t waits (label-told names n name line d t waits h)
 
-waiting-told : (names : Names) (n : ℕ) (d : Declared) (t : Draft) → Told names d t → Told names d (record t { progress = take_labels n true t.progress })
+waiting-told : (names : Names) (n : ℕ) (d : Declared) (t : Draft) → Told names d t
+    → Told names d (record t { progress = take_labels n true t.progress })
 waiting-told names n d t h =
     let waits = waiting_from-some n t.progress.waiting in
     waits-told names d.names.labels (waiting_from n t.progress.waiting) waits.0 d.fault d t waits.1 h.labels h
@@ -140,11 +147,24 @@ complete-told Body done (Some r) h filled legal =
     subst (λ rs. are_routines true [] rs ≡ true) (sym (routines-push done r)) (are_routines-push true (map routine_of done) r.routine legal here)
 
 -- a routine of a new name has begun
-pub begun-told : (names : Names) (d : Declared) (t : Draft) (r : Routine) (line : ℕ) (f g : Option BadLine) → Told names d t → t.progress.waiting ≡ None → unfilled t.progress.part ≡ None
-    → length (all_of t) < 32 → d.names.routines r.name ≡ None → r.count ≡ 0 → is_name r.name ≡ true → is_row true r.entry ≡ true → is_row true r.exit ≡ true
+pub begun-told : (names : Names) (d : Declared) (t : Draft) (r : Routine) (line : ℕ) (f g : Option BadLine)
+    → Told names d t → t.progress.waiting ≡ None → unfilled t.progress.part ≡ None
+    → length (all_of t) < 32 → d.names.routines r.name ≡ None → r.count ≡ 0 → is_name r.name ≡ true → is_row true r.entry ≡ true
+    → is_row true r.exit ≡ true
     → Told names
-    (record { routines = min (d.routines + 1) 32; instrs = d.instrs; names = record { labels = d.names.labels; routines = with_name d.names.routines r.name d.routines }; fault = f })
-    (record { routines = all_of t; code = t.code; progress = record { part = Head line false false; current = Some (record { line = line; routine = r }); waiting = None; fault = g } })
+    (record {
+      routines = min (d.routines + 1) 32;
+      instrs = d.instrs;
+      names =
+          record { labels = d.names.labels; routines = with_name d.names.routines r.name d.routines };
+      fault = f;
+    })
+    (record {
+      routines = all_of t;
+      code = t.code;
+      progress =
+          record { part = Head line false false; current = Some (record { line = line; routine = r }); waiting = None; fault = g };
+    })
 begun-told names d t r line f g h none filled room new empty name entry exit =
     let begun : TextRoutine = record { line = line; routine = r } in
     let number = h.routines in
@@ -161,8 +181,10 @@ begun-told names d t r line f g h none filled room new empty name entry exit =
       counts = omega arith;
       unnamed = λ other e.
           let unknown = named-unknown (bytes_eq r.name other) d.routines (d.names.routines other) e in
-          is_named-push other (all_of t) begun ∙ or_from (is_named other (map routine_of (all_of t))) (bytes_eq r.name other) (h.unnamed other unknown.1) unknown.0;
-      callees = λ other v e. named-holds (λ k. k < min (d.routines + 1) 32) (bytes_eq r.name other) d.routines v (d.names.routines other) (omega arith)
+          is_named-push other (all_of t) begun ∙ or_from (is_named other (map routine_of (all_of t))) (bytes_eq r.name other)
+          (h.unnamed other unknown.1) unknown.0;
+      callees = λ other v e. named-holds (λ k. k < min (d.routines + 1) 32) (bytes_eq r.name other) d.routines v
+          (d.names.routines other) (omega arith)
           (λ known. let below = h.callees other v known in omega arith) e;
       labels = h.labels;
       followed = λ same. h.followed none;

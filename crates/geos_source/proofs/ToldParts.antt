@@ -18,12 +18,19 @@ use Rattle.geos_source.proofs.Told.{LegalInstr, MayStandBehind, Current, Told}
 
 -- a draft of these parts
 abbrev pub drafted : List TextRoutine → List Instr → Part → Option TextRoutine → Option ℕ → Option BadLine → Draft
-drafted routines code part current waiting fault = record { routines = routines; code = code; progress = record { part = part; current = current; waiting = waiting; fault = fault } }
+drafted routines code part current waiting fault = record {
+  routines = routines;
+  code = code;
+  progress =
+      record { part = part; current = current; waiting = waiting; fault = fault };
+}
 
 module _ (names : Names) (d : Declared) (routines : List TextRoutine) (code : List Instr) where
   -- the routine that has begun has other rows
-  rows-told : (part next : Part) (r s : TextRoutine) (waiting : Option ℕ) (fault other : Option BadLine) → Told names d (drafted routines code part (Some r) waiting fault) → waiting ≡ None
-      → Current next routines (Some s) → s.routine.name ≡ r.routine.name → s.routine.count ≡ r.routine.count → Told names d (drafted routines code next (Some s) None other)
+  rows-told : (part next : Part) (r s : TextRoutine) (waiting : Option ℕ) (fault other : Option BadLine)
+      → Told names d (drafted routines code part (Some r) waiting fault) → waiting ≡ None
+      → Current next routines (Some s) → s.routine.name ≡ r.routine.name → s.routine.count ≡ r.routine.count
+      → Told names d (drafted routines code next (Some s) None other)
   rows-told part next r s waiting fault other h none current same_name same_count =
       let number = h.routines in
       let few = h.few in
@@ -52,9 +59,15 @@ module _ (names : Names) (d : Declared) (routines : List TextRoutine) (code : Li
       }
 
   -- a line `in`
-  pub in_part-told : (part : Part) (current : Option TextRoutine) (waiting : Option ℕ) (fault : Option BadLine) (n : ℕ) (row : Row) → Told names d (drafted routines code part current waiting fault)
+  pub in_part-told : (part : Part) (current : Option TextRoutine) (waiting : Option ℕ) (fault : Option BadLine) (n : ℕ) (row : Row)
+      → Told names d (drafted routines code part current waiting fault)
       → misplaced_in part ≡ None → waiting ≡ None → is_row true row ≡ true
-      → Told names d (record { routines = routines; code = code; progress = take_in n (Ok row) (drop_labels (record { part = part; current = current; waiting = waiting; fault = fault })) })
+      → Told names d (record {
+        routines = routines;
+        code = code;
+        progress = take_in n (Ok row)
+            (drop_labels (record { part = part; current = current; waiting = waiting; fault = fault }));
+      })
   in_part-told Outside current waiting fault n row h placed none legal = absurd cc
   in_part-told Body current waiting fault n row h placed none legal = absurd cc
   in_part-told (Head line has_in has_out) None waiting fault n row h placed none legal = absurd h.part
@@ -65,9 +78,15 @@ module _ (names : Names) (d : Declared) (routines : List TextRoutine) (code : Li
       rows-told (Head line has_in has_out) (Head line true has_out) r s waiting fault _ h none begins refl refl
 
   -- a line `out`
-  pub out_part-told : (part : Part) (current : Option TextRoutine) (waiting : Option ℕ) (fault : Option BadLine) (n : ℕ) (row : Row) → Told names d (drafted routines code part current waiting fault)
+  pub out_part-told : (part : Part) (current : Option TextRoutine) (waiting : Option ℕ) (fault : Option BadLine) (n : ℕ) (row : Row)
+      → Told names d (drafted routines code part current waiting fault)
       → misplaced_out part ≡ None → waiting ≡ None → is_row true row ≡ true
-      → Told names d (record { routines = routines; code = code; progress = take_out n (Ok row) (drop_labels (record { part = part; current = current; waiting = waiting; fault = fault })) })
+      → Told names d (record {
+        routines = routines;
+        code = code;
+        progress = take_out n (Ok row)
+            (drop_labels (record { part = part; current = current; waiting = waiting; fault = fault }));
+      })
   out_part-told Outside current waiting fault n row h placed none legal = absurd cc
   out_part-told Body current waiting fault n row h placed none legal = absurd cc
   out_part-told (Head line has_in has_out) None waiting fault n row h placed none legal = absurd h.part
@@ -78,9 +97,12 @@ module _ (names : Names) (d : Declared) (routines : List TextRoutine) (code : Li
       rows-told (Head line has_in has_out) (Head line has_in true) r s waiting fault _ h none begins refl refl
 
   -- the routine that has begun has one more instruction
-  counted-told : (part : Part) (r : TextRoutine) (waiting : Option ℕ) (fault other : Option BadLine) (i : Instr) → Told names d (drafted routines code part (Some r) waiting fault) → MayStandBehind routines r.routine
+  counted-told : (part : Part) (r : TextRoutine) (waiting : Option ℕ) (fault other : Option BadLine) (i : Instr)
+      → Told names d (drafted routines code part (Some r) waiting fault) → MayStandBehind routines r.routine
       → length code < 4096 → LegalInstr names i
-      → Told names (one_more_instr d) (drafted routines (code ++ i ∷ []) Body (Some (record { line = r.line; routine = record r.routine { count = min (r.routine.count + 1) 4096 } })) None other)
+      → Told names (one_more_instr d)
+      (drafted routines (code ++ i ∷ []) Body
+      (Some (record { line = r.line; routine = record r.routine { count = min (r.routine.count + 1) 4096 } })) None other)
   counted-told part r waiting fault other i h b room legal =
       let s : TextRoutine = record { line = r.line; routine = record r.routine { count = min (r.routine.count + 1) 4096 } } in
       let instrs = h.instrs in
@@ -105,15 +127,24 @@ module _ (names : Names) (d : Declared) (routines : List TextRoutine) (code : Li
         labels = λ name pc e. let most = h.labels name pc e in omega arith;
         followed = λ same name pc e. let most = h.labels name pc e in omega arith;
         code = λ most_routines most_instrs callees labels.
-            list_all-push (is_instr most_routines most_instrs) code i (h.code most_routines most_instrs callees labels) (legal most_routines most_instrs callees labels);
+            list_all-push (is_instr most_routines most_instrs) code i (h.code most_routines most_instrs callees labels)
+            (legal most_routines most_instrs callees labels);
       }
 
   -- an instruction
-  pub instr_part-told : (part : Part) (current : Option TextRoutine) (waiting : Option ℕ) (fault : Option BadLine) (n : ℕ) (i : Instr) → Told names d (drafted routines code part current waiting fault)
+  pub instr_part-told : (part : Part) (current : Option TextRoutine) (waiting : Option ℕ) (fault : Option BadLine) (n : ℕ) (i : Instr)
+      → Told names d (drafted routines code part current waiting fault)
       → outside part ≡ None → length code < 4096 → LegalInstr names i
-      → Told names (one_more_instr d) (record { routines = routines; code = code ++ i ∷ []; progress = with_instr_at n None (record { part = part; current = current; waiting = waiting; fault = fault }) })
+      → Told names (one_more_instr d)
+      (record {
+        routines = routines;
+        code = code ++ i ∷ [];
+        progress = with_instr_at n None
+            (record { part = part; current = current; waiting = waiting; fault = fault });
+      })
   instr_part-told Outside current waiting fault n i h placed room legal = absurd cc
   instr_part-told (Head line has_in has_out) None waiting fault n i h placed room legal = absurd h.part
-  instr_part-told (Head line has_in has_out) (Some r) waiting fault n i h placed room legal = counted-told (Head line has_in has_out) r waiting fault _ i h h.part room legal
+  instr_part-told (Head line has_in has_out) (Some r) waiting fault n i h placed room legal =
+      counted-told (Head line has_in has_out) r waiting fault _ i h h.part room legal
   instr_part-told Body None waiting fault n i h placed room legal = absurd h.part
   instr_part-told Body (Some r) waiting fault n i h placed room legal = counted-told Body r waiting fault _ i h h.part.0 room legal

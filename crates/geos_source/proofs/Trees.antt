@@ -37,7 +37,8 @@ value_at-by trees key its is = ap (option_and_then (λ (t : BTreeMap ℕ ℕ). t
 pub value_at-none : (trees : List (BTreeMap ℕ ℕ)) → All (λ t. t.entries ≡ []) trees → (key : ℕ) → value_at trees key ≡ None
 value_at-none trees empty key =
     ⊎_elim
-    (λ inside. value_at-by trees key (Some inside.0) inside.2 ∙ ap (lookup (is_at (nat_cmp key))) (ap (λ (t : BTreeMap ℕ ℕ). t.entries) (sym inside.3) ∙ empty (key % TREES) inside.0 inside.1))
+    (λ inside. value_at-by trees key (Some inside.0) inside.2 ∙ ap (lookup (is_at (nat_cmp key)))
+    (ap (λ (t : BTreeMap ℕ ℕ). t.entries) (sym inside.3) ∙ empty (key % TREES) inside.0 inside.1))
     (λ past. value_at-by trees key None past.1)
     (slice_get_cases trees (key % TREES)).1
 
@@ -49,11 +50,13 @@ value_at-with trees old new key value here one_more other =
     let next = slice_set trees (key % TREES) new in
     ⊎_elim
     (λ same.
-    value_at-by next other (Some new) (ap (slice_get next) same ∙ slice_get-set_same trees (key % TREES) new (slice_get_within trees (key % TREES) old here))
+    value_at-by next other (Some new) (ap (slice_get next) same ∙ slice_get-set_same trees (key % TREES) new
+    (slice_get_within trees (key % TREES) old here))
     ∙ one_more other
     ∙ ap (cond (is_eq (nat_cmp key other)) (Some value)) (sym (value_at-by trees other (Some old) (ap (slice_get trees) same ∙ here))))
     (λ apart.
     value_at-by next other (slice_get trees (other % TREES)) (slice_get-set_other trees (key % TREES) (other % TREES) new apart)
     ∙ sym (value_at-by trees other (slice_get trees (other % TREES)) refl)
-    ∙ ap (λ same. cond same (Some value) (value_at trees other)) (sym (unsigned_tied key other ∙ ne_eqb _ _ (λ same. apart (ap (λ n. n % TREES) (sym same))))))
+    ∙ ap (λ same. cond same (Some value) (value_at trees other))
+    (sym (unsigned_tied key other ∙ ne_eqb _ _ (λ same. apart (ap (λ n. n % TREES) (sym same))))))
     (cases_eq (other % TREES) (key % TREES))

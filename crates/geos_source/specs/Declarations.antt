@@ -27,7 +27,14 @@ twice (Some value) = Some UsedTwice
 -- a label stands for the next instruction
 abbrev pub with_label : ℕ → List ℕ → Declared → Declared
 with_label line name d =
-    record { routines = d.routines; instrs = d.instrs; names = record { labels = with_name d.names.labels name d.instrs; routines = d.names.routines }; fault = first d.fault (at_line line (twice (d.names.labels name))) }
+    record {
+      routines = d.routines;
+      instrs = d.instrs;
+      names =
+          record { labels = with_name d.names.labels name d.instrs; routines = d.names.routines };
+      fault =
+          first d.fault (at_line line (twice (d.names.labels name)));
+    }
 
 -- labels of one line, from the first on
 abbrev pub with_labels : ℕ → List (List ℕ) → Declared → Declared
@@ -38,7 +45,14 @@ with_labels line (name ∷ names) d = with_labels line names (with_label line na
 abbrev pub with_routine_name : ℕ → Option (List ℕ) → Declared → Declared
 with_routine_name line None d = d
 with_routine_name line (Some name) d =
-    record { routines = d.routines; instrs = d.instrs; names = record { labels = d.names.labels; routines = with_name d.names.routines name d.routines }; fault = first d.fault (at_line line (twice (d.names.routines name))) }
+    record {
+      routines = d.routines;
+      instrs = d.instrs;
+      names =
+          record { labels = d.names.labels; routines = with_name d.names.routines name d.routines };
+      fault =
+          first d.fault (at_line line (twice (d.names.routines name)));
+    }
 
 -- the name in front of the words behind `routine`
 abbrev pub name_in_front : List (List ℕ) → Option (List ℕ)

@@ -25,7 +25,12 @@ noted fault d = record { routines = d.routines; instrs = d.instrs; names = d.nam
 -- what is said, behind faults that were noted
 abbrev pub told : Option BadLine → Draft → Draft
 told fault t =
-    record { routines = t.routines; code = t.code; progress = record { part = t.progress.part; current = t.progress.current; waiting = t.progress.waiting; fault = first fault t.progress.fault } }
+    record {
+      routines = t.routines;
+      code = t.code;
+      progress =
+          record { part = t.progress.part; current = t.progress.current; waiting = t.progress.waiting; fault = first fault t.progress.fault };
+    }
 
 -- what is said so far, with all faults that were noted
 abbrev pub told_in : Tally → Draft

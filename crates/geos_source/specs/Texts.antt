@@ -125,12 +125,24 @@ with_exit (Err why) (Some r) = Some r
 -- a line `in`
 abbrev pub take_in : ℕ → Result Row Why → Progress → Progress
 take_in line read p =
-    record { part = with_in p.part; current = with_entry read p.current; waiting = p.waiting; fault = first p.fault (at_line line (least (why_of read) (misplaced_in p.part))) }
+    record {
+      part = with_in p.part;
+      current = with_entry read p.current;
+      waiting = p.waiting;
+      fault =
+          first p.fault (at_line line (least (why_of read) (misplaced_in p.part)));
+    }
 
 -- a line `out`
 abbrev pub take_out : ℕ → Result Row Why → Progress → Progress
 take_out line read p =
-    record { part = with_out p.part; current = with_exit read p.current; waiting = p.waiting; fault = first p.fault (at_line line (least (why_of read) (misplaced_out p.part))) }
+    record {
+      part = with_out p.part;
+      current = with_exit read p.current;
+      waiting = p.waiting;
+      fault =
+          first p.fault (at_line line (least (why_of read) (misplaced_out p.part)));
+    }
 
 -- an instruction stands in no routine
 abbrev pub outside : Part → Option Why

@@ -5,7 +5,8 @@ ghost use Rattle.std.specs.Str.Lines.{lines};
 ghost use Rattle.geos_text.specs.Words.{words};
 ghost use Rattle.geos_source.specs.Faults.{first};
 ghost use Rattle.geos_source.specs.Declarations.{declared, with_line};
-ghost use Rattle.geos_source.specs.Texts.{begin, close, drop_labels, fault_of, take_in, take_instr, take_labels, take_line, take_lines, take_out, take_statement};
+ghost use Rattle.geos_source.specs.Texts.{begin, close, drop_labels, fault_of, take_in, take_instr};
+ghost use Rattle.geos_source.specs.Texts.{take_labels, take_line, take_lines, take_out, take_statement};
 ghost use Rattle.geos_source.specs.Readings.{names_of};
 ghost use Rattle.geos_source.specs.Views.{declared_of};
 ghost use Rattle.geos_source.specs.Tallies.{fault_in, noted, told_in};
@@ -81,8 +82,8 @@ impl Faults {
         number: usize,
         line: &[u8],
     ) -> Result<(), AllocError>
-        ensures noted { IfOk result (λ _. noted (fault_in self.new) (declared_of declarations.new) ≡ with_line number line.now
-            (noted (fault_in self.old) (declared_of declarations.old))) }
+        ensures noted { IfOk result (λ _. noted (fault_in self.new) (declared_of declarations.new)
+            ≡ with_line number line.now (noted (fault_in self.old) (declared_of declarations.old))) }
         ensures settled { IfOk result (λ _. declarations.new.fault ≡ None) }
     {
         self.add_line()?;

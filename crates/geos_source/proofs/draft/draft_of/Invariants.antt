@@ -8,7 +8,8 @@ use Rattle.geos_source.proofs.draft.draft_of.Given as goal
 abbrev pub invariant-loop-rest : goal.invariant-loop-rest
 invariant-loop-rest l =
     (l.number + length l.rest ≤ length l.fn.text)
-    × (take_lines (names_of l.declared.names) 1 (lines l.fn.text) blank ≡ take_lines (names_of l.declared.names) (l.number + 1) (lines l.rest) (draft_in l.draft))
+    × (take_lines (names_of l.declared.names) 1 (lines l.fn.text) blank ≡ take_lines (names_of l.declared.names)
+    (l.number + 1) (lines l.rest) (draft_in l.draft))
 
 abbrev pub decreases-loop-rest : goal.decreases-loop-rest
 decreases-loop-rest l = length l.rest

@@ -5,11 +5,13 @@ use Rattle.geos_source.proofs.parser.parse.Goals as goal
 
 pub returns-clause-parsed : goal.returns-clause-parsed
 returns-clause-parsed c =
-    code_of-found c.args.text.now (declared_of c.in_ok-declarations.declarations) (draft_in c.in_ok-draft.draft) _ c.in_ok-declarations.ensures c.in_ok-draft.ensures c.in-None.ensures
+    code_of-found c.args.text.now (declared_of c.in_ok-declarations.declarations) (draft_in c.in_ok-draft.draft) _
+    c.in_ok-declarations.ensures c.in_ok-draft.ensures c.in-None.ensures
 
 pub returns-clause-formed : goal.returns-clause-formed
 returns-clause-formed c = no_fault-formed c.args.text.now _ (returns-clause-parsed c)
 
 pub returns-in-Some-clause-bad : goal.returns-in-Some-clause-bad
 returns-in-Some-clause-bad c =
-    code_of-found c.args.text.now (declared_of c.in_ok-declarations.declarations) (draft_in c.in_ok-draft.draft) _ c.in_ok-declarations.ensures c.in_ok-draft.ensures c.in-Some.ensures
+    code_of-found c.args.text.now (declared_of c.in_ok-declarations.declarations) (draft_in c.in_ok-draft.draft) _
+    c.in_ok-declarations.ensures c.in_ok-draft.ensures c.in-Some.ensures

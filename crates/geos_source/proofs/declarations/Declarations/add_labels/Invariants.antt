@@ -8,7 +8,8 @@ use Rattle.geos_source.proofs.declarations.Declarations.add_labels.Given as goal
 abbrev pub invariant-loop-word : goal.invariant-loop-word
 invariant-loop-word l =
     ((parted (words l.fn.said)).statement ≡ (parted (words l.rest)).statement)
-    × (with_labels l.line (parted (words l.fn.said)).labels (declared_of l.fn.self) ≡ with_labels l.line (parted (words l.rest)).labels (declared_of l.self))
+    × (with_labels l.line (parted (words l.fn.said)).labels (declared_of l.fn.self) ≡ with_labels l.line
+    (parted (words l.rest)).labels (declared_of l.self))
 
 abbrev pub decreases-loop-word : goal.decreases-loop-word
 decreases-loop-word l = length (words l.rest)

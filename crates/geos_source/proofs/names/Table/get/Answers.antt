@@ -6,4 +6,5 @@ pub returns : goal.returns
 returns c =
     c.copied.ensures
     ∙ c.get.ensures.value
-    ∙ table_of-there c.args.self.now c.args.name.now c.key_of-key.result c.index.result.now c.key_of-key.ensures.name c.key_of-key.ensures.key c.index.ensures
+    ∙ table_of-there c.args.self.now c.args.name.now c.key_of-key.result c.index.result.now c.key_of-key.ensures.name
+    c.key_of-key.ensures.key c.index.ensures
