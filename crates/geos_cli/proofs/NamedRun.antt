@@ -77,7 +77,7 @@ pub admitted-named : (image : Parts) (names : Names) (ws : List (List ℕ)) (c :
 admitted-named image names ws c e = subst (λ o. IfSome o (IsAdmitted image)) e (command_in-admitted image names ws)
 
 -- stands where a list asks for one beyond its end
-pub any_line : Line
+abbrev pub any_line : Line
 any_line = record { number = 0; text = record { ref_ptr = (0, 0); now = [] } }
 
 module _ {D : Type 0} (medium : Medium D) (form : Form) (mode : Mode) (image : Parts) where

@@ -35,7 +35,8 @@ set_stays (z ∷ xs) (suc n) y zero x other e = e
 set_stays (z ∷ xs) (suc n) y (suc m) x other e = set_stays xs n y m x other e
 
 -- and so does each at another place
-pub others_stay : {X : Type 0} (xs : List X) (n : ℕ) (y : X) (m : ℕ) (x : X) → (m ≡ n → ⊥) → slice_get xs m ≡ Some x → slice_get (slice_set xs n y) m ≡ Some x
+pub others_stay : {X : Type 0} (xs : List X) (n : ℕ) (y : X) (m : ℕ) (x : X) → (m ≡ n → ⊥) → slice_get xs m ≡ Some x
+    → slice_get (slice_set xs n y) m ≡ Some x
 others_stay [] n y m x other e = absurd cc
 others_stay (z ∷ xs) zero y zero x other e = absurd (other refl)
 others_stay (z ∷ xs) zero y (suc m) x other e = e

@@ -16,7 +16,8 @@ use Rattle.host_device.specs.declared.device.HostDevice.{HostDevice}
 use Rattle.takhvoi.specs.Starts.{Began}
 
 -- a kernel that was made on a file begins with it
-pub began-with : (file : FileState HostDevice) (region : ℕ) (k : KernelOn HostDevice) (core : KernelState) → core ≡ k.core → IsEmpty k.core.blocks region → file_over k.device k.core.vm.file ≡ file
+pub began-with : (file : FileState HostDevice) (region : ℕ) (k : KernelOn HostDevice) (core : KernelState) → core ≡ k.core
+    → IsEmpty k.core.blocks region → file_over k.device k.core.vm.file ≡ file
     → IsListOf k.core.vm file.current → IsFileOf (Unit {0}) k.core (opened_file bytes_of file) → Began file region core
 began-with file region k core same store is lists tied = subst (Began file region) (sym same) (record {
   area = ap (λ (f : FileState HostDevice). f.area) is;
@@ -30,8 +31,11 @@ began-with file region k core same store is lists tied = subst (Began file regio
 
 -- on a file that was made, the model has a new one
 pub new-file : (file : FileState HostDevice) (area region : ℕ) (core : KernelState) → Began file region core
-    → file ≡ record { device = file.device; area = area; second = false; sure = true; current = listed empty_contents; saved = listed empty_contents } → IsFileOf (Unit {0}) core (empty_file area)
+    → file ≡ record { device = file.device; area = area; second = false; sure = true; current = listed empty_contents; saved = listed empty_contents }
+    → IsFileOf (Unit {0}) core (empty_file area)
 new-file file area region core b is =
     let current = ap (λ (f : FileState HostDevice). f.current) is in
-    file-begun (Unit {0}) core area (b.area ∙ ap (λ (f : FileState HostDevice). f.area) is) (b.sure ∙ ap (λ (f : FileState HostDevice). f.sure) is) (b.current ∙ current)
-    (b.saved ∙ ap (λ (f : FileState HostDevice). f.saved) is) (subst (λ (d : Directory). IsListOf core.vm d) current b.lists) (λ h p. b.store.none (vm_slot h))
+    file-begun (Unit {0}) core area (b.area ∙ ap (λ (f : FileState HostDevice). f.area) is)
+    (b.sure ∙ ap (λ (f : FileState HostDevice). f.sure) is) (b.current ∙ current)
+    (b.saved ∙ ap (λ (f : FileState HostDevice). f.saved) is) (subst (λ (d : Directory). IsListOf core.vm d) current b.lists)
+    (λ h p. b.store.none (vm_slot h))

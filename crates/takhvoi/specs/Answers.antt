@@ -14,11 +14,13 @@ IsStatus (Err refusal) status = status ≡ refusal_number refusal
 
 -- the kernel answered as the call's row says, and the number is that of its reply
 abbrev pub IsAnswer : Call (Unit {0}) → ℕ → System → System → Type 0
-IsAnswer call status old new = (reply : Result (Unit {0}) Refusal) × Calls (Unit {0}) call reply old.kernel.core new.kernel.core × IsStatus reply status
+IsAnswer call status old new = (reply : Result (Unit {0}) Refusal) × Calls (Unit {0}) call reply old.kernel.core new.kernel.core
+    × IsStatus reply status
 
 -- the same, and where the call is done, n is what the row answers
 abbrev pub IsTold : Call ℕ → ℕ → ℕ → System → System → Type 0
-IsTold call n status old new = (reply : Result ℕ Refusal) × Calls (Unit {0}) call reply old.kernel.core new.kernel.core × IsStatus reply status × IfOk reply (λ m. n ≡ m)
+IsTold call n status old new = (reply : Result ℕ Refusal) × Calls (Unit {0}) call reply old.kernel.core new.kernel.core
+    × IsStatus reply status × IfOk reply (λ m. n ≡ m)
 
 -- the same of a row that answers two numbers, and refuses nothing
 abbrev pub IsToldTwo : Call (ℕ × ℕ) → ℕ → ℕ → ℕ → System → System → Type 0

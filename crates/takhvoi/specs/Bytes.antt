@@ -11,7 +11,8 @@ use Rattle.takhvoi.specs.Answers.{IsStatus}
 -- the kernel answered with a reference as the call's row says, of n bytes, and the number is that of its reply
 abbrev pub IsReferred : Call Reference → ℕ → ℕ → System → System → Type 0
 IsReferred call n status old new =
-    (reply : Result Reference Refusal) × Calls (Unit {0}) call reply old.kernel.core new.kernel.core × IsStatus reply status × IfOk reply (λ ref. n ≡ ref.len)
+    (reply : Result Reference Refusal) × Calls (Unit {0}) call reply old.kernel.core new.kernel.core × IsStatus reply status
+    × IfOk reply (λ ref. n ≡ ref.len)
 
 -- bytes are those that are loaded from an offset of the reference on
 abbrev pub AreLoaded : Reference → ℕ → List ℕ → KernelState → Type 0
@@ -29,7 +30,8 @@ IsCopied call at bytes status old new =
 abbrev pub IsMeasured : Call Reference → ℕ → ℕ → System → System → Type 0
 IsMeasured call n status old new =
     (new.kernel ≡ old.kernel)
-    × ((reply : Result Reference Refusal) × Calls (Unit {0}) call reply old.kernel.core old.kernel.core × IsStatus reply status × IfOk reply (λ ref. n ≡ ref.len))
+    × ((reply : Result Reference Refusal) × Calls (Unit {0}) call reply old.kernel.core old.kernel.core
+    × IsStatus reply status × IfOk reply (λ ref. n ≡ ref.len))
 
 -- the kernel answered with a reference as the call's row says, and the number is that of its reply; where there is one, the bytes were
 -- stored there

@@ -39,7 +39,8 @@ IsUnloaded n status old new =
 -- the bytes spell an image, and this is the first instruction that a rule refuses, with the lowest such rule
 abbrev pub IsRejected : List ℕ → ℕ → ℕ → Type 0
 IsRejected bytes place rule =
-    (image : Parts) × (reject : Reject) × (image_at bytes ≡ Ok image) × FirstRefusal image reject × (place ≡ reject.pc) × (rule ≡ rule_number reject.rule)
+    (image : Parts) × (reject : Reject) × (image_at bytes ≡ Ok image) × FirstRefusal image reject × (place ≡ reject.pc)
+    × (rule ≡ rule_number reject.rule)
 
 -- the number stands for a checked image, of which the model's run, on these words and with these blocks lent, met no fault and came to
 -- such words, such an output in front of the buffer, so long, and so many steps; a host that is stopped while it

@@ -58,7 +58,7 @@ fn make_in(system: &mut System, name: Name, make: Make, told: &mut u16) -> u32
     if !may_change(system, name) {
         return NOT_MARKED;
     }
-    tell(system.kernel.make(name, make), told)
+    tell(system.kernel.make_chunk(name, make), told)
 }
 
 /// Makes a chunk in a block, as the value says, and tells its handle.

@@ -61,7 +61,12 @@ pub extern "C" fn takhvoi_step(
     let Some(system) = take(alloc, handle) else {
         return NO_KERNEL;
     };
-    tell_step(system.kernel.device().journal().get(n as usize), kind, at, len);
+    tell_step(
+        system.kernel.device().journal().get(n as usize),
+        kind,
+        at,
+        len,
+    );
     put(handle, system);
     DONE
 }

@@ -6,10 +6,11 @@ ghost use Rattle.geos_image.specs.Reading.{image_at};
 ghost use Rattle.takhvoi.specs.Texts.{HasFaultAt, IsExplainedAs, IsImageOf, IsListedAs};
 
 use crate::status::{BAD_IMAGE, DONE, NO_MEMORY, REFUSED, SHORT_BUFFER};
-use geos_asm::{AssembleError, assemble, list};
+use geos_asm::{AssembleError, assemble};
 use geos_explain::explain;
 use geos_image::ReadError;
-use geos_verify::check;
+use geos_verify::{check, refused_places};
+use round_trip::list;
 use std::alloc::Global;
 
 /// Copies bytes into a buffer, where they fit; tells how many there are.
@@ -98,8 +99,8 @@ pub extern "C" fn takhvoi_explain(
         Err(ReadError::Memory) => return NO_MEMORY,
     };
     let text = match check(image) {
-        Ok(checked) => explain(alloc, checked.image(), None),
-        Err((image, reject)) => explain(alloc, &image, Some(reject)),
+        Ok(checked) => explain(alloc, checked.image(), &[]),
+        Err((image, _)) => explain(alloc, &image, &refused_places(&image)),
     };
     match text {
         Ok(text) => give(&text, into, told),

@@ -12,7 +12,8 @@ pub returns-in-Ok : goal.returns-in-Ok
 returns-in-Ok c =
     let s = c.args.system.now.kernel.core in
     let gives = c.in-Ok.ensures.gives in
-    let told = given-span s c.in-Ok.span gives.0 (λ ref. Calls (Unit {0}) (store ref c.args.at c.args.from.now) (Ok tt) s c.store.new.self.core) gives.2 c.store.ensures.row in
+    let told = given-span s c.in-Ok.span gives.0 (λ ref. Calls (Unit {0}) (store ref c.args.at c.args.from.now) (Ok tt) s c.store.new.self.core)
+    gives.2 c.store.ensures.row in
     (refl, (λ _. (gives.0, gives.1, told.0, given-no-refusal s c.in-Ok.span gives.0 _ gives.2, told.1)), λ past. absurd (past-none past))
   where
     past-none : 100 ≤ 0 → ⊥

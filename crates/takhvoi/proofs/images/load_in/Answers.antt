@@ -7,7 +7,8 @@ returns-in-Ok-check-clause-loaded c = (
   λ done. (
     c.in-Ok.image,
     c.in-Ok.ensures.exact,
-    subst (λ image. slice_get c.keep.new.images.items c.keep.new.number ≡ Some (Some image)) c.in-Ok-check.ensures.checked (c.keep.ensures.stands done),
+    subst (λ image. slice_get c.keep.new.images.items c.keep.new.number ≡ Some (Some image)) c.in-Ok-check.ensures.checked
+        (c.keep.ensures.stands done),
   ),
   record { kernel = refl; images = c.keep.ensures.stay },
 )

@@ -10,15 +10,18 @@ use Rattle.takhvoi.proofs.images.run_in.Goals as goal
 
 pub returns : goal.returns
 returns c =
-    let system = c.args.system.now in let old = system.kernel in let image = c.in-Some-Some.checked in
-    let outcome = c.run-outcome.result in let left = c.run-outcome.new.kernel.device in
+    let system = c.args.system.now in
+    let old = system.kernel in
+    let image = c.in-Some-Some.checked in
+    let outcome = c.run-outcome.result in
+    let left = c.run-outcome.new.kernel.device in
     let loaded : slice_get system.images.items c.args.number ≡ Some (Some image) = search rules in
     let ran : (f : VmFile) → IsFileOf (Unit {0}) old.core f
-        → RanWith (Unit {0}) (Throughout medium old.device left) image c.args.routine c.args.words.now c.args.handles.now old.core c.run-outcome.new.kernel.core outcome f = search rules in
+    → RanWith (Unit {0}) (Throughout medium old.device left) image c.args.routine c.args.words.now c.args.handles.now
+    old.core c.run-outcome.new.kernel.core outcome f = search rules in
     let put : take (length outcome.output.items) c.put_words.new.into ≡ take (length c.args.output.now) outcome.output.items = search rules in
     let count : c.len.result ≡ length outcome.output.items = search rules in
-    let within : IfSome (slice_get image.routines c.args.routine) (λ r. outcome.steps ≤ r.budget) = search rules in
-    (
+    let within : IfSome (slice_get image.routines c.args.routine) (λ r. outcome.steps ≤ r.budget) = search rules in (
       refl,
       (λ came. record {
         done = refl;
@@ -26,7 +29,8 @@ returns c =
         loaded = loaded;
         outcome = outcome;
         left = left;
-        ran = λ f is. subst (λ s. RanWith (Unit {0}) (Throughout medium old.device left) image c.args.routine c.args.words.now c.args.handles.now old.core s outcome f) (sym c.rest.ensures.core) (ran f is);
+        ran = λ f is. subst (λ s. RanWith (Unit {0}) (Throughout medium old.device left) image c.args.routine
+            c.args.words.now c.args.handles.now old.core s outcome f) (sym c.rest.ensures.core) (ran f is);
         device = λ hosted. ap (λ (k : KernelOn HostDevice). k.device) (c.rest.ensures.hosted hosted);
         words_out = refl;
         put_out = put;

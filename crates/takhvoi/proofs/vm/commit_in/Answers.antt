@@ -9,13 +9,13 @@ use Rattle.takhvoi.proofs.vm.commit_in.Goals as goal
 
 pub returns : goal.returns
 returns c =
-    let old = c.args.system.now.kernel in
-    (
+    let old = c.args.system.now.kernel in (
       refl,
       (λ came. (
         (
           c.commit.result,
-          subst (λ s. Calls (Unit {0}) (table.commit (keeper_of c.args.how)) c.commit.result old.core s) (sym c.rest.ensures.core) c.commit.ensures.calls,
+          subst (λ s. Calls (Unit {0}) (table.commit (keeper_of c.args.how)) c.commit.result old.core s)
+              (sym c.rest.ensures.core) c.commit.ensures.calls,
           c.end-status.ensures.status,
         ),
         λ hosted. subst (λ k. Between medium old k) (sym (c.rest.ensures.hosted hosted)) c.commit.ensures.commits.between,

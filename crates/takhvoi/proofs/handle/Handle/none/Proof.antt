@@ -63,9 +63,13 @@ nothing_held a = record {
 
 pub none_spec : {M : Type 1} → statement M
 none_spec 𝓤 𝓛 𝓜 𝓡 wired =
-    let H = 𝓛.H in let 𝓣 = tables 𝓤 H 𝓜 𝓡 𝓡.env in let c = clauses 𝓛 𝓜.mem 𝓡.returns in let fn = code.function in
+    let H = 𝓛.H in
+    let 𝓣 = tables 𝓤 H 𝓜 𝓡 𝓡.env in
+    let c = clauses 𝓛 𝓜.mem 𝓡.returns in
+    let fn = code.function in
     proved_at 𝓛 ended stayed c 𝓜 𝓡 (Goes-blank 𝓛 0 (plain (λ _. global_row)) yes (λ κs x f. tt), tt) #self fn (code.unfolded 𝓤 H 𝓜 𝓡 wired) (λ z are.
-    let Post : Val → SProp 𝓤 = (walk_of 𝓛 ended stayed c).post z in let a = z.0.3.0 in
+    let Post : Val → SProp 𝓤 = (walk_of 𝓛 ended stayed c).post z in
+    let a = z.0.3.0 in
     let told = global_told a z.0.4.0 are.0 in
     qed 𝓛 ((raw (alive 𝓛 ended.signature z.0.0 z.0.1) ⊛ ‵ (owns (types_at ended.signature.params z.0.0) z.0.3 z.0.4)) ∷ raw (emp 𝓤) ∷ []) ∵
     move ! (1 ∷ []) $ drop ! $ split ! $ move ! (1 ∷ []) $ fsplit ! $ drop ! $
@@ -78,4 +82,5 @@ none_spec 𝓤 𝓛 𝓜 𝓡 wired =
     nothing ! $ use0 𝓛 (‵ (handle_own null_ptr 0 a (handle_val null_ptr 0 ∷ []))) (handle_made 𝓛 null_ptr 0 a (lit< tt)) $ fjoin ! $
     use0 𝓛 (raw (fact 𝓤 (0 ≡ 0))) (fact_i 𝓤 (0 ≡ 0) (emp 𝓤) refl) $
     move ! (2 ∷ []) $ drop ! $ nothing ! $ nothing ! $ fjoin ! $ move ! (3 ∷ 0 ∷ 2 ∷ 1 ∷ []) $
-    by ! (leaves 𝓛 ended stayed c z (handle_val null_ptr 0) (record { at = null_ptr; live = 0; alloc = a; value = nothing_held a }) (tt, tt) (tt, tt))))
+    by ! (leaves 𝓛 ended stayed c z (handle_val null_ptr 0) (record { at = null_ptr; live = 0; alloc = a; value = nothing_held a })
+    (tt, tt) (tt, tt))))
