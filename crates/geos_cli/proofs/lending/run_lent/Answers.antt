@@ -36,9 +36,9 @@ returns-in-Ok g c =
     ((λ h. alike.0 (c.run-outcome.ensures.honest.0 h)), (λ h. c.run-outcome.ensures.honest.1 (alike.1 h))) in
     record {
       ran = lent-ran medium old locked ran new alike alike_ran image call c.run-outcome.result.now
-      (subst (λ hs. Leads (medium.honest old.device) (Throughout medium old.device locked.device) old.core locked.core (Locks (IsAllowed (medium.honest old.device)) hs)) (c.as_slice.ensures.value ∙ lent) c.in-Ok.ensures.locked)
-      c.run-outcome.ensures.ran
-      (subst (λ hs. Leads (medium.honest ran.device) (Throughout medium ran.device new.device) ran.core new.core (Unlocks (IsAllowed (medium.honest ran.device)) hs)) (c.as_slice-in-Ok.ensures.value ∙ lent) c.unlock_all.ensures.leads);
+          (subst (λ hs. Leads (medium.honest old.device) (Throughout medium old.device locked.device) old.core locked.core (Locks (IsAllowed (medium.honest old.device)) hs)) (c.as_slice.ensures.value ∙ lent) c.in-Ok.ensures.locked)
+          c.run-outcome.ensures.ran
+          (subst (λ hs. Leads (medium.honest ran.device) (Throughout medium ran.device new.device) ran.core new.core (Unlocks (IsAllowed (medium.honest ran.device)) hs)) (c.as_slice-in-Ok.ensures.value ∙ lent) c.unlock_all.ensures.leads);
       refused = tt;
       honest = ((λ h. alike_ran.0 (c.unlock_all.ensures.honest.0 h)), (λ h. c.unlock_all.ensures.honest.1 (alike_ran.1 h)));
       unlocked = λ h handle.
@@ -61,13 +61,18 @@ returns-in-Err g c =
     record {
       ran = tt;
       refused = subst (λ hs. Leads (medium.honest old.device) (Throughout medium old.device new.device) old.core new.core (NotLent (IsAllowed (medium.honest old.device)) hs c.in-Err.refusal)) lent
-      (lent-refused medium old locked new c.lock_all.ensures.honest c.as_slice.result.now c.in-Err.locked c.in-Err.ensures.within c.in-Err.refusal c.in-Err.ensures.refused
-      (subst (λ hs. Leads (medium.honest locked.device) (Throughout medium locked.device new.device) locked.core new.core (Unlocks (IsAllowed (medium.honest locked.device)) (take c.in-Err.locked hs)))
-      (c.as_slice-in-Err.ensures.value ∙ sym c.as_slice.ensures.value) c.unlock_all-in-Err.ensures.leads));
+          (lent-refused medium old locked new c.lock_all.ensures.honest c.as_slice.result.now c.in-Err.locked c.in-Err.ensures.within c.in-Err.refusal c.in-Err.ensures.refused
+          (subst (λ hs. Leads (medium.honest locked.device) (Throughout medium locked.device new.device) locked.core new.core (Unlocks (IsAllowed (medium.honest locked.device)) (take c.in-Err.locked hs)))
+          (c.as_slice-in-Err.ensures.value ∙ sym c.as_slice.ensures.value) c.unlock_all-in-Err.ensures.leads));
       honest = ((λ h. c.lock_all.ensures.honest.0 (c.unlock_all-in-Err.ensures.honest.0 h)), (λ h. c.unlock_all-in-Err.ensures.honest.1 (c.lock_all.ensures.honest.1 h)));
       unlocked = λ h handle.
-          omega (arith, c.unlock_all-in-Err.ensures.counts h, c.in-Err.ensures.fewer h, c.requires.unlocked h handle,
-          ap (λ hs. times h (take c.in-Err.locked hs)) (c.as_slice-in-Err.ensures.value ∙ sym c.as_slice.ensures.value));
+          omega (
+            arith,
+            c.unlock_all-in-Err.ensures.counts h,
+            c.in-Err.ensures.fewer h,
+            c.requires.unlocked h handle,
+            ap (λ hs. times h (take c.in-Err.locked hs)) (c.as_slice-in-Err.ensures.value ∙ sym c.as_slice.ensures.value),
+          );
       sees = (c.lock_all.ensures.sees.0, c.unlock_all-in-Err.ensures.sees.1);
       steadily = steadily_then medium (vm_file_of old) (vm_file_of locked) (vm_file_of new) c.lock_all.ensures.steadily c.unlock_all-in-Err.ensures.steadily;
     }
