@@ -3,8 +3,6 @@ use Rattle.std.proofs.Common.{◌≡◌, ℕ, ◌+◌, Bool, true, false, List, 
 use Rattle.std.specs.Prelude.{All, IfSome, option_and_then, option_map, bytes_eq, codes, if◌then◌else◌, ◌&&◌, not}
 use Rattle.std.specs.List.{position_from, cons_option, AllByRecursion}
 use Rattle.std.proofs.lemmas.List.Elements.{All-from_recursion}
-use Rattle.geos_image.specs.declared.row.SlotState.{SlotState}
-use Rattle.geos_image.specs.declared.row.SlotState.TheVariants.{Empty, Mem, Vm, Db}
 use Rattle.geos_image.specs.Parts.{Parts}
 use Rattle.geos_cli.specs.declared.script.Call.{Call}
 use Rattle.geos_cli.specs.declared.script.Command.{Command}
@@ -12,7 +10,7 @@ use Rattle.geos_cli.specs.declared.script.Command.TheVariants as command
 use Rattle.geos_text.specs.Words.{is_empty}
 use Rattle.geos_cli.specs.declared.script.Numbered.{Numbered}
 use Rattle.geos_machine.specs.Runs.{entry_slots}
-use Rattle.geos_cli.specs.Script.{IsAdmitted, before_blocks, from_blocks, placed, routine_named, registers_of, call_named, how_named, command_of, commands_from, commands_of, is_bad, on_line, said, may_ask, if_admitted, lent_by, lent_handles, plain_call}
+use Rattle.geos_cli.specs.Script.{IsAdmitted, before_blocks, from_blocks, placed, routine_named, registers_of, call_named, how_named, command_of, commands_from, commands_of, is_bad, on_line, said, may_ask, if_admitted}
 
 -- a line that says nothing
 pub commands-blank : (image : Parts) (n : ℕ) (line : List ℕ) (lines : List (List ℕ)) → said line ≡ []
@@ -65,43 +63,8 @@ call_named-admitted image name numbers =
     (λ ws. and_then-some (λ c. may_ask image c ≡ true) _ (placed (entry_slots image r) (from_blocks numbers))
     (λ hs. if_admitted-some image (record { routine = r; words = ws; handles = hs }) _ refl)))
 
--- behind a slot that is not borrowed, the handles of the others
-behind-own : (o : Option (List ℕ)) (handles : List ℕ) → option_map (λ hs. 0 ∷ hs) o ≡ Some handles → (rest : List ℕ) × (o ≡ Some rest) × (handles ≡ 0 ∷ rest)
-behind-own None handles e = absurd cc
-behind-own (Some rest) handles e = (rest, refl, cc)
-
--- where no word names a block, and no handle is missing, no slot is borrowed
-placed-none : (states : List SlotState) (handles : List ℕ) → placed states [] ≡ Some handles → lent_handles states handles ≡ []
-placed-none [] handles e = refl
-placed-none (Vm marked true ∷ states) handles e = absurd cc
-placed-none (Vm marked false ∷ states) handles e =
-    let behind = behind-own (placed states []) handles e in
-    subst (λ hs. lent_handles (Vm marked false ∷ states) hs ≡ []) (sym behind.2) (placed-none states behind.0 behind.1)
-placed-none (Empty ∷ states) handles e =
-    let behind = behind-own (placed states []) handles e in
-    subst (λ hs. lent_handles (Empty ∷ states) hs ≡ []) (sym behind.2) (placed-none states behind.0 behind.1)
-placed-none (Mem ∷ states) handles e =
-    let behind = behind-own (placed states []) handles e in
-    subst (λ hs. lent_handles (Mem ∷ states) hs ≡ []) (sym behind.2) (placed-none states behind.0 behind.1)
-placed-none (Db marked ∷ states) handles e =
-    let behind = behind-own (placed states []) handles e in
-    subst (λ hs. lent_handles (Db marked ∷ states) hs ≡ []) (sym behind.2) (placed-none states behind.0 behind.1)
-
--- a call that names no block lends none
-pub plain-lends-none : (image : Parts) (name : List ℕ) (numbers : List (List ℕ)) → IfSome (plain_call image name numbers) (λ c. lent_by image c ≡ [])
-plain-lends-none image name numbers =
-    and_then-some (λ c. lent_by image c ≡ []) _ (routine_named image name)
-    (λ r. and_then-some (λ c. lent_by image c ≡ []) _ (registers_of numbers) (λ ws. with_words r ws (placed (entry_slots image r) []) refl))
-  where
-    with_words : (r : ℕ) (ws : List ℕ) (o : Option (List ℕ)) → placed (entry_slots image r) [] ≡ o
-        → IfSome (option_and_then (λ hs. if_admitted image (record { routine = r; words = ws; handles = hs })) o) (λ c. lent_by image c ≡ [])
-    with_words r ws None e = tt
-    with_words r ws (Some hs) e =
-        let call : Call = record { routine = r; words = ws; handles = hs } in
-        chosen (λ c. lent_by image c ≡ []) (may_ask image call) (Some call) (placed-none (entry_slots image r) hs e)
-
 -- a command is one that may be asked for
-command_of-admitted : (image : Parts) (ws : List (List ℕ)) → IfSome (command_of image ws) (IsAdmitted image)
+pub command_of-admitted : (image : Parts) (ws : List (List ℕ)) → IfSome (command_of image ws) (IsAdmitted image)
 command_of-admitted image [] = tt
 command_of-admitted image (word ∷ []) = mapped (IsAdmitted image) command.Commit (how_named word) (any-some (how_named word))
 command_of-admitted image (word ∷ name ∷ numbers) = chosen (IsAdmitted image) (bytes_eq word (codes "call")) (option_map command.Call (call_named image name numbers))

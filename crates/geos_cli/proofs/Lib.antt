@@ -5,6 +5,7 @@ pub mod Examples
 pub mod FormWords
 pub mod InFormRun
 pub mod MayCommit
+pub mod NamedRun
 pub mod Parts
 pub mod Prints
 pub mod CommandsRun

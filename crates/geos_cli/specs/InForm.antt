@@ -11,7 +11,7 @@ use Rattle.geos_text.specs.Words.{most_bytes}
 use Rattle.geos_input.specs.declared.fault.ScriptFault.{ScriptFault}
 use Rattle.geos_input.specs.declared.fault.ScriptFault.TheVariants.{TooLong, BadHex, BadImage, Rejected, BadScript, Read, Write, Memory}
 use Rattle.geos_cli.specs.declared.call_fault.CallFault.{CallFault}
-use Rattle.geos_cli.specs.declared.call_fault.CallFault.TheVariants.{BadWord, Script}
+use Rattle.geos_cli.specs.declared.call_fault.CallFault.TheVariants.{BadBlocks, BadWord, Script}
 use Rattle.geos_cli.specs.declared.form.Form.{Form}
 use Rattle.geos_cli.specs.declared.script.Call.{Call}
 use Rattle.geos_cli.specs.declared.script.Command.{Command}
@@ -118,14 +118,14 @@ StoppedScriptInForm medium form mode bytes script kernel later old new =
 
 -- the call that words name ran on the image that the bytes spell, and a writer got its text
 abbrev pub RanCallInForm : {D : Type 0} → Medium D → Form → List ℕ → List ℕ → List (List ℕ) → KernelOn D → KernelOn D → Option (List ℕ) → Option (List ℕ) → Type 0
-RanCallInForm medium form bytes name numbers kernel later old new =
-    (image : Parts) × (call : Call) × Asks bytes name numbers image call
+RanCallInForm medium form bytes name words kernel later old new =
+    (image : Parts) × (call : Call) × Asks bytes name words image call
     × RanInForm medium form Lenient image (on_line 1 (command.Call call) ∷ []) None kernel later old new
 
 -- it was stopped
 abbrev pub StoppedCallInForm : {D : Type 0} → Medium D → Form → List ℕ → List ℕ → List (List ℕ) → KernelOn D → KernelOn D → Option (List ℕ) → Option (List ℕ) → Type 0
-StoppedCallInForm medium form bytes name numbers kernel later old new =
-    (image : Parts) × (call : Call) × Asks bytes name numbers image call
+StoppedCallInForm medium form bytes name words kernel later old new =
+    (image : Parts) × (call : Call) × Asks bytes name words image call
     × StoppedInForm medium form Lenient image (on_line 1 (command.Call call) ∷ []) kernel later old new
 
 -- what a script does behind a refused command
@@ -146,4 +146,5 @@ Leaves Read kept stopped = kept
 -- the same of a call, by its fault
 abbrev pub LeavesCall : CallFault → Type 0 → Type 0 → Type 0
 LeavesCall (BadWord at) kept stopped = kept
+LeavesCall (BadBlocks n) kept stopped = kept
 LeavesCall (Script fault) kept stopped = Leaves fault kept stopped

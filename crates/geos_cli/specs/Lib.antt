@@ -3,7 +3,9 @@ pub mod Calls
 pub mod Commits
 pub mod Forms
 pub mod InForm
+pub mod Names
 pub mod Script
 pub mod Session
 pub mod Stages
 pub mod Traced
+pub mod WithNames

@@ -110,12 +110,6 @@ call_named image name ws =
     option_and_then (λ r. option_and_then (λ words. option_and_then (λ handles. if_admitted image (record { routine = r; words = words; handles = handles }))
     (placed (entry_slots image r) (from_blocks ws))) (registers_of (before_blocks ws))) (routine_named image name)
 
--- the call of the routine of that name on those numbers, which lends no block
-abbrev pub plain_call : Parts → List ℕ → List (List ℕ) → Option Call
-plain_call image name numbers =
-    option_and_then (λ r. option_and_then (λ words. option_and_then (λ handles. if_admitted image (record { routine = r; words = words; handles = handles }))
-    (placed (entry_slots image r) [])) (registers_of numbers)) (routine_named image name)
-
 -- which pair of directories is kept
 abbrev pub how_named : List ℕ → Option How
 how_named word =

@@ -1,5 +1,5 @@
 -- One call, of whose steps notes are taken.
-use Rattle.std.specs.Prelude.{◌≡◌, ℕ, ◌+◌, List, length, Option, Some, None, option_map, option_and_then, slice_get, Ok}
+use Rattle.std.specs.Prelude.{◌≡◌, ◌≢◌, ℕ, ◌+◌, List, [], length, Option, Some, None, option_map, option_and_then, slice_get, Ok}
 use Rattle.geos_calls.specs.VmFile.{VmFile}
 use Rattle.geos_kernel.specs.View.{KernelState}
 use Rattle.geos_image.specs.Parts.{Parts, start_of}
@@ -14,7 +14,7 @@ use Rattle.geos_cli.specs.declared.traced.TracedCall.{TracedCall}
 use Rattle.geos_cli.specs.declared.traced.TraceFault.{TraceFault}
 use Rattle.geos_cli.specs.declared.traced.TraceFault.TheVariants as fault
 use Rattle.geos_cli.specs.Calls.{Asks, CallEndsBy}
-use Rattle.geos_cli.specs.Script.{routine_named}
+use Rattle.geos_cli.specs.Script.{lent_by, routine_named}
 
 -- the first pc of the routine of a name, and the end behind its last one; or those of all routines
 abbrev pub stretch_of : Parts → Option (List ℕ) → Option (ℕ × ℕ)
@@ -23,9 +23,9 @@ stretch_of image (Some name) = option_and_then (λ r. option_map (λ routine. (s
 
 -- the call that words name ran on the image that the bytes spell, and notes were taken of it, of so many steps at most, of the routine of the
 -- name or of all
-pub record IsTracedCall (honest : Type 0) (within : Within) (bytes name : List ℕ) (numbers : List (List ℕ)) (only : Option (List ℕ)) (most : ℕ) (kernel later : KernelState) (traced : TracedCall) (f : VmFile) : Type 0 where
+pub record IsTracedCall (honest : Type 0) (within : Within) (bytes name : List ℕ) (words : List (List ℕ)) (only : Option (List ℕ)) (most : ℕ) (kernel later : KernelState) (traced : TracedCall) (f : VmFile) : Type 0 where
   pub call : Call
-  pub asks : Asks bytes name numbers traced.checked call
+  pub asks : Asks bytes name words traced.checked call
   pub routine : traced.routine ≡ call.routine
   pub stretch : stretch_of traced.checked only ≡ Some (traced.trace.first, traced.trace.end)
   pub room : traced.trace.most ≡ most
@@ -39,8 +39,16 @@ pub record HasNone (bytes : List ℕ) (only : Option (List ℕ)) : Type 0 where
   pub accepted : Accepted image
   pub none : stretch_of image only ≡ None
 
--- why such a call does not run: a fault of the call; or no routine has the name whose steps are to be noted
+-- the call lends blocks
+pub record LendsSome (bytes name : List ℕ) (words : List (List ℕ)) : Type 0 where
+  pub image : Parts
+  pub call : Call
+  pub asks : Asks bytes name words image call
+  pub some : lent_by image call ≢ []
+
+-- why such a call does not run: a fault of the call; it lends blocks; or no routine has the name whose steps are to be noted
 abbrev pub WhyNotTraced : List ℕ → List ℕ → List (List ℕ) → Option (List ℕ) → TraceFault → Type 0
-WhyNotTraced bytes name numbers only (fault.Call (Script Write)) = ⊥
-WhyNotTraced bytes name numbers only (fault.Call why) = CallEndsBy bytes name numbers why
-WhyNotTraced bytes name numbers only fault.NoRoutine = HasNone bytes only
+WhyNotTraced bytes name words only (fault.Call (Script Write)) = ⊥
+WhyNotTraced bytes name words only (fault.Call why) = CallEndsBy bytes name words why
+WhyNotTraced bytes name words only fault.Lends = LendsSome bytes name words
+WhyNotTraced bytes name words only fault.NoRoutine = HasNone bytes only

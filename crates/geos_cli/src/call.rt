@@ -1,13 +1,15 @@
 //! One call, which words name.
 
-ghost use Rattle.std.specs.Prelude.{◌≡◌, ◌≢◌, ◌↔◌, None, IfOk, IfErr, MatchResult};
+ghost use Rattle.std.specs.Prelude.{◌≡◌, ◌≢◌, ◌↔◌, ◌≤◌, length, take, drop, not, None, Some, IfNone, IfSome, IfOk, IfErr, MatchResult};
+ghost use Rattle.std.specs.List.{count_by};
 ghost use Rattle.std.specs.Io.KnownBytes.{Keeps};
 ghost use Rattle.vm_file.specs.Device.{Rose};
 ghost use Rattle.vm_file.specs.State.{Steadily};
 ghost use Rattle.geos_input.specs.declared.fault.ScriptFault.TheVariants.{Write};
 ghost use Rattle.geos_cli.specs.declared.call_fault.CallFault.TheVariants.{Script};
-ghost use Rattle.geos_cli.specs.Script.{registers_of, plain_call};
-ghost use Rattle.geos_cli.specs.Calls.{texts, IsFirstWrong, RanCall, StoppedCall, CallEndsBy};
+ghost use Rattle.geos_cli.specs.Script.{before_blocks, call_named, from_blocks, next_handle, placed, registers_of};
+ghost use Rattle.geos_cli.specs.Calls.{borrowed, takes, texts, IsWhyNoCall, RanCall, StoppedCall, CallEndsBy};
+ghost use Rattle.geos_image.specs.Legal.{is_own};
 ghost use Rattle.geos_kernel.specs.Files.{vm_file_of};
 ghost use Rattle.geos_kernel.specs.View.{SeesDevice};
 ghost use Rattle.geos_machine.specs.Runs.{Throughout};
@@ -15,10 +17,12 @@ ghost use Rattle.vm_blocks.specs.Listed.{NoneLocked};
 
 use crate::asked::if_admitted;
 use crate::call_fault::CallFault;
-use crate::lines::{placed, routine_named};
+use crate::lines::{handle_of, names_block, routine_named};
 use crate::script::{Call, Command, Mode, Numbered, carry_out_all, load};
+use geos_image::SlotState;
 use geos_input::Counted;
 use geos_kernel::Kernel;
+use geos_machine::admits_words;
 use geos_text::number;
 use geos_verify::Checked;
 use std::alloc::Global;
@@ -39,13 +43,57 @@ fn registers_of_words(numbers: &[&str]) -> Option<[u16; 8]>
     Some(registers)
 }
 
-/// The call of the routine of that name on those numbers, which lends no block, if the machine may be asked for it.
-pub(crate) fn call_on(checked: &Checked, name: &str, numbers: &[&str]) -> Option<Call>
-    ensures { result ≡ plain_call checked.now name.now (texts numbers.now) }
+/// How many words stand in front of the first that names a block.
+fn numbers_in(words: &[&str]) -> usize
+    ensures numbers { before_blocks (texts words.now) ≡ texts (take result words.now) }
+    ensures blocks { from_blocks (texts words.now) ≡ texts (drop result words.now) }
+    ensures within { result ≤ length words.now }
+{
+    let mut count = 0;
+    while count < words.len() && !names_block(words[count].as_bytes()) {
+        count += 1;
+    }
+    count
+}
+
+/// The handle for a slot, and the words behind it, as `lines` reads them of a line.
+fn next_handle<'a, 'b>(state: SlotState, blocks: &'a [&'b str]) -> Option<(u16, &'a [&'b str])>
+    ensures none { IfNone result (next_handle state (texts blocks.now) ≡ None) }
+    ensures some { IfSome result (λ next. next_handle state (texts blocks.now) ≡ Some (next.0, texts next.1.now)) }
+{
+    if state.is_own() {
+        return Some((0, blocks));
+    }
+    let (word, behind) = blocks.split_first()?;
+    let handle = handle_of(word.as_bytes())?;
+    Some((handle, behind))
+}
+
+/// The handles that words write, one for each slot that is borrowed, in order, with 0 for the others; `None` where there are
+/// fewer or more.
+fn placed(states: &[SlotState; 4], blocks: &[&str]) -> Option<[u16; 4]>
+    ensures { result ≡ placed states.now (texts blocks.now) }
+{
+    let [s0, s1, s2, s3] = *states;
+    let (h0, rest) = next_handle(s0, blocks)?;
+    let (h1, rest) = next_handle(s1, rest)?;
+    let (h2, rest) = next_handle(s2, rest)?;
+    let (h3, rest) = next_handle(s3, rest)?;
+    if rest.is_empty() {
+        Some([h0, h1, h2, h3])
+    } else {
+        None
+    }
+}
+
+/// The call of the routine of that name on those numbers, which are followed by the blocks that it lends, if the machine may be asked for it.
+pub(crate) fn call_on(checked: &Checked, name: &str, words: &[&str]) -> Option<Call>
+    ensures { result ≡ call_named checked.now name.now (texts words.now) }
 {
     let routine = routine_named(checked.image(), name.as_bytes())?;
+    let (numbers, blocks) = words.split_at(numbers_in(words));
     let words = registers_of_words(numbers)?;
-    let handles = placed(&checked.image().routine(routine).entry.slots, &[])?;
+    let handles = placed(&checked.image().routine(routine).entry.slots, blocks)?;
     if_admitted(
         checked,
         Call {
@@ -56,31 +104,66 @@ pub(crate) fn call_on(checked: &Checked, name: &str, numbers: &[&str]) -> Option
     )
 }
 
-/// The first wrong word of what is no call: 0 is the name, and any other one a number, counted from 1.
-pub(crate) fn first_wrong(checked: &Checked, name: &str, numbers: &[&str]) -> usize
-    requires { plain_call checked.now name.now (texts numbers.now) ≡ None }
-    ensures { IsFirstWrong checked.now name.now (texts numbers.now) result }
+/// Whether a public routine has the name, and may be called on the numbers.
+fn takes(checked: &Checked, name: &str, numbers: &[&str]) -> bool
+    ensures { result ≡ takes checked.now name.now (texts numbers.now) }
 {
-    let mut word = 0;
-    while word < numbers.len() && call_on(checked, name, &numbers[..word]).is_some() {
-        word += 1;
+    let Some(routine) = routine_named(checked.image(), name.as_bytes()) else {
+        return false;
+    };
+    match registers_of_words(numbers) {
+        Some(words) => admits_words(checked, routine, &words),
+        None => false,
     }
-    word
 }
 
-/// Checks an image and runs one routine of it, on at most eight numbers; prints the words that it puts out. `name` is that of a public
-/// routine that borrows nothing, and each number is of digits alone, at most 65,535 and within the bound of its word. The call finds
-/// the kernel's memory as it is, and nothing commits but the routine's own instructions. What was printed before is flushed where the
-/// call may commit; behind it nothing is flushed.
+/// How many slots hold what is borrowed.
+fn borrowed_in(states: &[SlotState; 4]) -> usize
+    ensures { result ≡ count_by (λ state. not (is_own state)) states.now }
+{
+    states.iter().filter(|state| !state.is_own()).count()
+}
+
+/// How many blocks the routine of the name borrows.
+fn borrowed(checked: &Checked, name: &str) -> usize
+    ensures { result ≡ borrowed checked.now name.now }
+{
+    match routine_named(checked.image(), name.as_bytes()) {
+        Some(routine) => borrowed_in(&checked.image().routine(routine).entry.slots),
+        None => 0,
+    }
+}
+
+/// Why words are no call.
+pub(crate) fn why_no_call(checked: &Checked, name: &str, words: &[&str]) -> CallFault
+    requires { call_named checked.now name.now (texts words.now) ≡ None }
+    ensures { IsWhyNoCall checked.now name.now (texts words.now) result }
+{
+    let numbers = &words[..numbers_in(words)];
+    let mut word = 0;
+    while takes(checked, name, &numbers[..word]) {
+        if word == numbers.len() {
+            return CallFault::BadBlocks(borrowed(checked, name));
+        }
+        word += 1;
+    }
+    CallFault::BadWord(word)
+}
+
+/// Checks an image and runs one routine of it, on at most eight numbers; prints the words that it puts out, or `refused` and a number where a
+/// block that it is lent can't be locked. `name` is that of a public routine. Each number is of digits alone, at most 65,535 and within the
+/// bound of its word; behind them stands `@` with the handle of a block for each slot that the routine borrows. The call finds the
+/// kernel's memory as it is, and nothing commits but the routine's own instructions. What was printed before is flushed where the call may
+/// commit; behind it nothing is flushed.
 ///
-/// Of the faults, the first that is due is answered: `BadImage`; `Rejected`; `BadWord`. `Memory` may come before the call. Up to then
+/// Of the faults, the first that is due is answered: `BadImage`; `Rejected`; `BadWord`; `BadBlocks`. `Memory` may come before the call. Up to then
 /// nothing is asked of the writer, and the kernel is as it was. `Write` comes where the writer failed: it got a beginning of what the
 /// call prints, and the kernel stands where that ended; or the flush failed, and the call was not begun.
 pub fn run_call<W: Write, D: Device + Drop>(
     alloc: Global,
     image: &[u8],
     name: &str,
-    numbers: &[&str],
+    words: &[&str],
     kernel: &mut Kernel<D>,
     out: &mut Counted<W>,
 ) -> Result<(), CallFault>
@@ -89,12 +172,12 @@ pub fn run_call<W: Write, D: Device + Drop>(
     // What it printed; and stopped at any moment, opening the file finds what the model's run of the
     // routine has as kept in one of its states.
     ensures ran { IfOk result (λ _. RanCall (D.medium.honest kernel.old.device)
-        (Throughout D.medium kernel.old.device kernel.new.device) image.now name.now (texts numbers.now) kernel.old.core kernel.new.core
+        (Throughout D.medium kernel.old.device kernel.new.device) image.now name.now (texts words.now) kernel.old.core kernel.new.core
         (W.contents out.old.stream) (W.contents out.new.stream)) }
-    ensures due { IfErr result (CallEndsBy image.now name.now (texts numbers.now)) }
+    ensures due { IfErr result (CallEndsBy image.now name.now (texts words.now)) }
     ensures stopped { IfErr result (λ fault. fault ≡ Script Write →
         StoppedCall (D.medium.honest kernel.old.device) (Throughout D.medium kernel.old.device kernel.new.device)
-        image.now name.now (texts numbers.now) kernel.old.core kernel.new.core
+        image.now name.now (texts words.now) kernel.old.core kernel.new.core
         (W.contents out.old.stream) (W.contents out.new.stream)) }
 
     // The device is as honest as it was, no block of the file is locked again, and the count of failures
@@ -117,8 +200,8 @@ pub fn run_call<W: Write, D: Device + Drop>(
 {
     kernel.memory_is_legal();
     let checked = load(alloc, image)?;
-    let Some(call) = call_on(&checked, name, numbers) else {
-        return Err(CallFault::BadWord(first_wrong(&checked, name, numbers)));
+    let Some(call) = call_on(&checked, name, words) else {
+        return Err(why_no_call(&checked, name, words));
     };
     let command = Numbered {
         line: 1,

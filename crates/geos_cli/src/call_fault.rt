@@ -10,6 +10,9 @@ pub enum CallFault {
     /// ninth, or it is not of digits alone, or it is above 65,535 or the bound of its word in the routine's entry row.
     #[error("bad call at word {0}")]
     BadWord(usize),
+    /// The routine borrows so many blocks, and behind the numbers stand more or fewer, or a word that is no `@` with a handle.
+    #[error("bad call: {0} blocks are borrowed")]
+    BadBlocks(usize),
     /// It ended as a script does.
     #[error(transparent)]
     Script(ScriptFault),

@@ -4,6 +4,7 @@ ghost use Rattle.std.specs.Prelude.{◌≡◌, ◌≤◌, ◌<◌, ◌++◌, IfO
 ghost use Rattle.std.specs.Str.Lines.{lines};
 ghost use Rattle.geos_cli.specs.Forms.{hex_digit, hex_word, signed_word, text_word, word_in, line_in, lines_in, in_form, on_a_line};
 ghost use Rattle.geos_cli.specs.Forms.{words_said, commit_word, label_of, shown_in};
+ghost use Rattle.geos_cli.specs.Names.{first_put_out};
 ghost use Rattle.geos_cli.specs.Script.{IsAdmitted};
 ghost use Rattle.geos_cli.specs.declared.script.Command.TheVariants as command;
 
@@ -238,4 +239,15 @@ pub(crate) fn shown_in(
         Vec::new(alloc)
     };
     in_form(alloc, form.writing, &label, plain)
+}
+
+/// The word that a command put out first, by what it prints plainly.
+pub(crate) fn first_put_out(plain: &[u8]) -> Option<u16>
+    ensures { result ≡ first_put_out plain.now }
+{
+    if plain.is_empty() {
+        return None;
+    }
+    let (line, _behind) = first_line(plain);
+    number(line)
 }

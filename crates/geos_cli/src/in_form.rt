@@ -12,13 +12,14 @@ ghost use Rattle.geos_cli.specs.Commits.{may_commit, IsGiven};
 ghost use Rattle.geos_cli.specs.InForm.{mode_of, RanShown, StoppedShown, RanInForm, StoppedInForm, RanScriptInForm, StoppedScriptInForm};
 ghost use Rattle.geos_cli.specs.InForm.{RanCallInForm, StoppedCallInForm, Leaves, LeavesCall};
 ghost use Rattle.geos_cli.specs.Script.{IsAdmitted, ScriptEndsBy};
+ghost use Rattle.geos_cli.specs.WithNames.{RanNoting};
 ghost use Rattle.geos_kernel.specs.Files.{vm_file_of};
 ghost use Rattle.geos_kernel.specs.View.{SeesDevice};
 ghost use Rattle.vm_blocks.specs.Listed.{NoneLocked};
 
-use crate::call::{call_on, first_wrong};
+use crate::call::{call_on, why_no_call};
 use crate::call_fault::CallFault;
-use crate::form::{Form, shown_in};
+use crate::form::{Form, first_put_out, shown_in};
 use crate::lines::commands_of;
 use crate::output::{give_before, write};
 use crate::script::{
@@ -33,8 +34,45 @@ use std::alloc::Global;
 use std::io::Write;
 use vm_file::Device;
 
-/// Carries out a command, and prints in a form what it prints. Its plain text is at most 1,024 lines of six bytes. `Memory` where that
-/// or the text in the form has none, `Write` where the writer fails: the command is done all the same.
+/// Carries out a command, and prints in a form what it prints; gives what it came to, and the word that it put out first. Its plain text is
+/// at most 1,024 lines of six bytes. `Memory` where that or the text in the form has none, `Write` where the writer fails: the command is
+/// done all the same.
+pub(crate) fn carry_out_noting<W: Write, D: Device + Drop>(
+    alloc: Global,
+    form: Form,
+    machine: &mut Machine,
+    checked: &Checked,
+    command: &Command,
+    kernel: &mut Kernel<D>,
+    out: &mut Counted<W>,
+) -> Result<(Result<(), Refusal>, Option<u16>), ScriptFault>
+    requires admitted { IsAdmitted checked.now command.now }
+    requires unlocked { NoneLocked kernel.old.core.blocks }
+    requires given { may_commit checked.now command.now ≡ true → IsGiven out.old.asked out.old.flushed }
+    ensures ok { IfOk result (λ came. RanNoting D.medium form checked.now command.now came.0 came.1 kernel.old kernel.new
+        (W.contents out.old.stream) (W.contents out.new.stream)) }
+    ensures stopped { IfErr result (λ _. StoppedShown D.medium form checked.now command.now kernel.old kernel.new
+        (W.contents out.old.stream) (W.contents out.new.stream)) }
+    ensures honest { D.medium.honest kernel.new.device ↔ D.medium.honest kernel.old.device }
+    ensures unlocked { NoneLocked kernel.new.core.blocks }
+    ensures sees { SeesDevice D.medium kernel.old × SeesDevice D.medium kernel.new }
+    ensures steadily { Steadily D.medium (vm_file_of kernel.old) (vm_file_of kernel.new) }
+    ensures fault { IfErr result (λ fault. (fault ≡ Write) ⊎ (fault ≡ Memory)) }
+    ensures failed { IfErr result (λ fault. fault ≡ Write → Rose out.old.failures out.new.failures) }
+    ensures kept { KeptUnless Write result out.old.failures out.new.failures }
+{
+    let mut plain = Counted::new(Vec::new(alloc));
+    match carry_out(machine, checked, command, kernel, &mut plain) {
+        Ok(done) => {
+            let text = shown_in(alloc, form, checked, command, &plain.stream)?;
+            write(out, &text)?;
+            Ok((done, first_put_out(&plain.stream)))
+        }
+        Err(_) => Err(ScriptFault::Memory),
+    }
+}
+
+/// Carries out a command as `carry_out_noting` does, and gives what it came to.
 fn carry_out_in_form<W: Write, D: Device + Drop>(
     alloc: Global,
     form: Form,
@@ -59,15 +97,8 @@ fn carry_out_in_form<W: Write, D: Device + Drop>(
     ensures failed { IfErr result (λ fault. fault ≡ Write → Rose out.old.failures out.new.failures) }
     ensures kept { KeptUnless Write result out.old.failures out.new.failures }
 {
-    let mut plain = Counted::new(Vec::new(alloc));
-    match carry_out(machine, checked, command, kernel, &mut plain) {
-        Ok(done) => {
-            let text = shown_in(alloc, form, checked, command, &plain.stream)?;
-            write(out, &text)?;
-            Ok(done)
-        }
-        Err(_) => Err(ScriptFault::Memory),
-    }
+    let (done, _first) = carry_out_noting(alloc, form, machine, checked, command, kernel, out)?;
+    Ok(done)
 }
 
 /// Carries out the commands one after another, as `carry_out_all` does, and prints in a form what they print.
@@ -112,7 +143,7 @@ fn carry_out_all_in_form<W: Write, D: Device + Drop>(
 }
 
 /// What a script does behind a refused command.
-fn mode_of(strict: bool) -> Mode
+pub(crate) fn mode_of(strict: bool) -> Mode
     ensures { result ≡ mode_of strict }
 {
     if strict { Mode::Strict } else { Mode::Lenient }
@@ -171,19 +202,19 @@ pub fn run_call_in_form<W: Write, D: Device + Drop>(
     form: Form,
     image: &[u8],
     name: &str,
-    numbers: &[&str],
+    words: &[&str],
     kernel: &mut Kernel<D>,
     out: &mut Counted<W>,
 ) -> Result<(), CallFault>
     requires unlocked { NoneLocked kernel.old.core.blocks }
     // The call did what it does plainly, and the writer got what it printed, in the form.
-    ensures ran { IfOk result (λ _. RanCallInForm D.medium form image.now name.now (texts numbers.now) kernel.old kernel.new
+    ensures ran { IfOk result (λ _. RanCallInForm D.medium form image.now name.now (texts words.now) kernel.old kernel.new
         (W.contents out.old.stream) (W.contents out.new.stream)) }
-    ensures due { IfErr result (CallEndsBy image.now name.now (texts numbers.now)) }
+    ensures due { IfErr result (CallEndsBy image.now name.now (texts words.now)) }
     // Nothing ran and nothing was written, or the call did, and the writer got a beginning of its text.
     ensures left { IfErr result (λ fault. LeavesCall fault
         ((kernel.new ≡ kernel.old) × Keeps (W.contents out.old.stream) (W.contents out.new.stream))
-        (StoppedCallInForm D.medium form image.now name.now (texts numbers.now) kernel.old kernel.new (W.contents out.old.stream) (W.contents out.new.stream))) }
+        (StoppedCallInForm D.medium form image.now name.now (texts words.now) kernel.old kernel.new (W.contents out.old.stream) (W.contents out.new.stream))) }
     ensures honest { D.medium.honest kernel.new.device ↔ D.medium.honest kernel.old.device }
     ensures unlocked { NoneLocked kernel.new.core.blocks }
     ensures sees { SeesDevice D.medium kernel.old × SeesDevice D.medium kernel.new }
@@ -193,8 +224,8 @@ pub fn run_call_in_form<W: Write, D: Device + Drop>(
 {
     kernel.memory_is_legal();
     let checked = load(alloc, image)?;
-    let Some(call) = call_on(&checked, name, numbers) else {
-        return Err(CallFault::BadWord(first_wrong(&checked, name, numbers)));
+    let Some(call) = call_on(&checked, name, words) else {
+        return Err(why_no_call(&checked, name, words));
     };
     let command = Numbered {
         line: 1,

@@ -15,6 +15,9 @@
 //! | form | `Form`: how an output is written, and its text |
 //! | in_form | `run_script_in_form`, `run_call_in_form`: the same, printed in a form |
 //! | traced | `trace_call`: one call, of whose steps notes are taken |
+//! | names | names for words that calls put out, and the command of a line that writes them |
+//! | named_lines | the lines of a script that writes names, and the first bad one |
+//! | with_names | `run_script_with_names`: carries out such a script |
 #![tactic(auto)]
 
 mod asked;
@@ -26,10 +29,13 @@ mod in_form;
 mod law;
 mod lending;
 mod lines;
+mod named_lines;
+mod names;
 mod output;
 mod script;
 mod session;
 mod traced;
+mod with_names;
 
 pub use crate::bytes::{Place, get_bytes, put_bytes};
 pub use crate::call::run_call;
@@ -40,4 +46,5 @@ pub use crate::law::other_calls_keep;
 pub use crate::script::{RefusedCommand, run_script, run_script_strictly};
 pub use crate::session::run_session;
 pub use crate::traced::{TraceFault, TracedCall, trace_call};
+pub use crate::with_names::{EarlyEnd, run_script_with_names};
 pub use geos_input::{Counted, MOST_BYTES, ScriptFault};

@@ -29,7 +29,7 @@ pub(crate) fn routine_named(image: &Image, name: &[u8]) -> Option<u16>
 }
 
 /// Whether the word names a block that is lent: it begins with `@`.
-fn names_block(word: &[u8]) -> bool
+pub(crate) fn names_block(word: &[u8]) -> bool
     ensures { result ≡ names_block word.now }
 {
     match word.first() {
@@ -39,7 +39,7 @@ fn names_block(word: &[u8]) -> bool
 }
 
 /// The handle that a word writes behind `@`.
-fn handle_of(word: &[u8]) -> Option<u16>
+pub(crate) fn handle_of(word: &[u8]) -> Option<u16>
     ensures { result ≡ handle_of word.now }
 {
     if names_block(word) {
@@ -107,7 +107,7 @@ fn next_handle(state: SlotState, blocks: &[u8]) -> Option<(u16, &[u8])>
 
 /// The handles that words write, one for each slot that is borrowed, in order, with 0 for the others; `None` where there are
 /// fewer or more.
-pub(crate) fn placed(states: &[SlotState; 4], blocks: &[u8]) -> Option<[u16; 4]>
+fn placed(states: &[SlotState; 4], blocks: &[u8]) -> Option<[u16; 4]>
     ensures { result ≡ placed states.now (words blocks.now) }
 {
     let [s0, s1, s2, s3] = *states;
@@ -157,7 +157,7 @@ fn how_named(word: &[u8]) -> Option<How>
 }
 
 /// The command of a line without its comment, if it may be asked for.
-fn command_of(checked: &Checked, line: &[u8]) -> Option<Command>
+pub(crate) fn command_of(checked: &Checked, line: &[u8]) -> Option<Command>
     ensures { result ≡ command_of checked.now (words line.now) }
 {
     let (word, rest) = first_word(line)?;

@@ -1,6 +1,6 @@
 //! One call, of whose steps notes are taken.
 
-ghost use Rattle.std.specs.Prelude.{◌≡◌, ◌↔◌, [], true, option_map, IfOk, IfErr};
+ghost use Rattle.std.specs.Prelude.{◌≡◌, ◌≢◌, ◌↔◌, [], true, option_map, MatchBool, IfOk, IfErr};
 ghost use Rattle.geos_calls.specs.VmFile.{VmFile};
 ghost use Rattle.vm_file.specs.State.{Steadily};
 ghost use Rattle.vm_blocks.specs.Listed.{NoneLocked};
@@ -12,8 +12,9 @@ ghost use Rattle.geos_cli.specs.Calls.{texts};
 ghost use Rattle.geos_cli.specs.Script.{lent_by, may_ask};
 ghost use Rattle.geos_cli.specs.Traced.{stretch_of, IsTracedCall, WhyNotTraced};
 
-use crate::call::{call_on, first_wrong};
+use crate::call::{call_on, why_no_call};
 use crate::call_fault::CallFault;
+use crate::lending::lent_handles;
 use crate::lines::routine_named;
 use crate::script::{Call, load};
 use geos_input::ScriptFault;
@@ -41,6 +42,8 @@ pub struct TracedCall {
 pub enum TraceFault {
     /// It would end so without notes too.
     Call(CallFault),
+    /// The call lends blocks.
+    Lends,
     /// There is no routine of the name whose steps are to be noted.
     NoRoutine,
 }
@@ -58,6 +61,15 @@ fn stretch_of(checked: &Checked, only: Option<&str>) -> Option<(u16, u16)>
             Some((start, start + image.routine(routine).count))
         }
     }
+}
+
+/// Whether a call lends blocks.
+fn lends(checked: &Checked, call: &Call) -> bool
+    requires { may_ask checked.now call.now ≡ true }
+    ensures { MatchBool result (lent_by checked.now call.now ≢ []) (lent_by checked.now call.now ≡ []) }
+{
+    let slots = &checked.image().routine(call.routine).entry.slots;
+    !lent_handles(slots, &call.handles).is_empty()
 }
 
 /// Runs the routine of a call, which lends it no block, and notes its steps.
@@ -94,13 +106,13 @@ fn trace<D: Device + Drop>(
 /// Checks an image and runs one routine of it, as `run_call` does, but prints nothing: it gives what the run put out, and notes of its steps, at
 /// most so many, of all routines or of the one that is named `only`. All memory is taken before the routine is run.
 ///
-/// Of the faults, the first that is due is answered, and nothing has run then: those of `run_call`, but for `Write`; `NoRoutine` where no
-/// routine has the name `only`.
+/// Of the faults, the first that is due is answered, and nothing has run then: those of `run_call`, but for `Write`; `Lends` where the call
+/// lends blocks; `NoRoutine` where no routine has the name `only`.
 pub fn trace_call<D: Device + Drop>(
     alloc: Global,
     image: &[u8],
     name: &str,
-    numbers: &[&str],
+    words: &[&str],
     only: Option<&str>,
     most: usize,
     kernel: &mut Kernel<D>,
@@ -110,8 +122,8 @@ pub fn trace_call<D: Device + Drop>(
     // The model's run of the routine, and what was noted of its steps.
     ensures ran { IfOk result (λ traced. (f : VmFile) → IsFileOf (D.medium.honest kernel.old.device) kernel.old.core f
         → IsTracedCall (D.medium.honest kernel.old.device) (Throughout D.medium kernel.old.device kernel.new.device)
-        image.now name.now (texts numbers.now) (option_map (λ word. word.now) only.entry) most kernel.old.core kernel.new.core traced f) }
-    ensures due { IfErr result (WhyNotTraced image.now name.now (texts numbers.now) (option_map (λ word. word.now) only.entry)) }
+        image.now name.now (texts words.now) (option_map (λ word. word.now) only.entry) most kernel.old.core kernel.new.core traced f) }
+    ensures due { IfErr result (WhyNotTraced image.now name.now (texts words.now) (option_map (λ word. word.now) only.entry)) }
     // Nothing runs before a fault.
     ensures kept { IfErr result (λ _. kernel.new ≡ kernel.old) }
     ensures honest { D.medium.honest kernel.new.device ↔ D.medium.honest kernel.old.device }
@@ -124,10 +136,12 @@ pub fn trace_call<D: Device + Drop>(
         Ok(checked) => checked,
         Err(fault) => return Err(TraceFault::Call(CallFault::Script(fault))),
     };
-    let Some(call) = call_on(&checked, name, numbers) else {
-        let word = first_wrong(&checked, name, numbers);
-        return Err(TraceFault::Call(CallFault::BadWord(word)));
+    let Some(call) = call_on(&checked, name, words) else {
+        return Err(TraceFault::Call(why_no_call(&checked, name, words)));
     };
+    if lends(&checked, &call) {
+        return Err(TraceFault::Lends);
+    }
     let Some((first, end)) = stretch_of(&checked, only) else {
         return Err(TraceFault::NoRoutine);
     };
