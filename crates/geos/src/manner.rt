@@ -4,8 +4,8 @@ ghost use Rattle.vm_blocks.specs.Listed.{NoneLocked};
 
 use crate::request_fault::RequestFault;
 use geos_cli::{
-    CallFault, Counted, Form, RefusedCommand, ScriptFault, Writing, run_call, run_call_in_form,
-    run_script, run_script_in_form, run_script_strictly,
+    CallFault, Counted, EarlyEnd, Form, RefusedCommand, ScriptFault, Writing, run_call,
+    run_call_in_form, run_script, run_script_in_form, run_script_strictly, run_script_with_names,
 };
 use geos_kernel::Kernel;
 use geos_shell::{CallWords, Digits, OutputForm};
@@ -19,6 +19,8 @@ use vm_file::Device;
 pub(crate) struct Manner {
     /// Whether a script ends at its first refused command.
     pub(crate) strict: bool,
+    /// Whether its lines may write names for words that calls put out.
+    pub(crate) names: bool,
     /// How outputs are written.
     pub(crate) form: OutputForm,
 }
@@ -59,18 +61,40 @@ fn run_script_in<W: Write, D: Device + Drop>(
     requires { NoneLocked kernel.old.core.blocks }
 {
     let alloc = rt.alloc();
-    let Manner { strict, form } = *manner;
+    let form = &manner.form;
     if !form.is_plain() {
-        return run_script_in_form(alloc, form_of(&form), strict, image, script, kernel, out);
+        let form = form_of(form);
+        return run_script_in_form(alloc, form, manner.strict, image, script, kernel, out);
     }
-    if strict {
+    if manner.strict {
         return run_script_strictly(alloc, image, script, kernel, out);
     }
     run_script(alloc, image, script, kernel, out)?;
     Ok(None)
 }
 
-/// As `run_script_in`, on standard output. What was printed is out before a refused command is a fault.
+/// The same of a script whose lines may write names, if they may.
+fn run_lines_in<W: Write, D: Device + Drop>(
+    rt: &HostRuntime,
+    manner: &Manner,
+    image: &[u8],
+    script: &[u8],
+    kernel: &mut Kernel<D>,
+    out: &mut Counted<W>,
+) -> Result<Option<EarlyEnd>, ScriptFault>
+    requires { NoneLocked kernel.old.core.blocks }
+{
+    if manner.names {
+        let form = form_of(&manner.form);
+        return run_script_with_names(rt.alloc(), form, manner.strict, image, script, kernel, out);
+    }
+    match run_script_in(rt, manner, image, script, kernel, out)? {
+        None => Ok(None),
+        Some(refused) => Ok(Some(EarlyEnd::Refused(refused))),
+    }
+}
+
+/// As `run_lines_in`, on standard output. What was printed is out before a line at which the script ended is a fault.
 pub(crate) fn run_script_on<'a, D: Device + Drop>(
     rt: &HostRuntime,
     manner: &Manner,
@@ -81,14 +105,14 @@ pub(crate) fn run_script_on<'a, D: Device + Drop>(
     requires { NoneLocked kernel.old.core.blocks }
 {
     let mut out = output(rt)?;
-    let refused = run_script_in(rt, manner, image, script, kernel, &mut out)?;
+    let end = run_lines_in(rt, manner, image, script, kernel, &mut out)?;
     out.flush().map_err(|_| ScriptFault::Write)?;
-    match refused {
+    match end {
         None => Ok(()),
-        Some(RefusedCommand { line, refusal }) => Err(RequestFault::Refused(
-            line,
-            refusal.number(),
-        )),
+        Some(EarlyEnd::Refused(RefusedCommand { line, refusal })) => {
+            Err(RequestFault::Refused(line, refusal.number()))
+        }
+        Some(EarlyEnd::BadLine(line)) => Err(RequestFault::Session(ScriptFault::BadScript(line))),
     }
 }
 
@@ -104,19 +128,20 @@ fn run_call_in<W: Write, D: Device + Drop>(
     requires { NoneLocked kernel.old.core.blocks }
 {
     let alloc = rt.alloc();
-    let CallWords { name, numbers } = call;
+    let CallWords { name, words } = call;
     if form.is_plain() {
-        return run_call(alloc, image, name, numbers, kernel, out);
+        return run_call(alloc, image, name, words, kernel, out);
     }
-    run_call_in_form(alloc, form_of(form), image, name, numbers, kernel, out)
+    run_call_in_form(alloc, form_of(form), image, name, words, kernel, out)
 }
 
 /// The fault of a call, by what is wrong.
 pub(crate) fn call_fault<'a>(call: &CallWords<'a>, fault: CallFault) -> RequestFault<'a> {
     match fault {
         CallFault::Script(fault) => RequestFault::Session(fault),
+        CallFault::BadBlocks(count) => RequestFault::BadBlocks(call.name, count),
         CallFault::BadWord(0) => RequestFault::NoRoutine(call.name),
-        CallFault::BadWord(word) => match call.numbers.get(word - 1) {
+        CallFault::BadWord(word) => match call.words.get(word - 1) {
             Some(number) if word <= 8 => RequestFault::BadNumber(word - 1, *number),
             _ => RequestFault::TooManyNumbers,
         },

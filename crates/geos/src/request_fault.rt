@@ -33,6 +33,12 @@ pub(crate) enum RequestFault<'a> {
     /// What a call gives as this word is no number that the word may be.
     #[error("bad call: w{} can't be {}", .0, Printable(.1))]
     BadNumber(usize, &'a str),
+    /// A call of a routine that borrows so many blocks gives more or fewer, or none by its handle.
+    #[error("bad call: {} borrows blocks: {}, each as @h behind the numbers", Printable(.0), .1)]
+    BadBlocks(&'a str, usize),
+    /// A call that is traced lends blocks.
+    #[error("bad call: {} borrows blocks, and trace lends none", Printable(.0))]
+    LendsNone(&'a str),
     /// A call gives a ninth number.
     #[error("bad call: more than eight numbers")]
     TooManyNumbers,

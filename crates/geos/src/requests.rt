@@ -26,7 +26,14 @@ pub(crate) fn carry_out<'a>(rt: &HostRuntime, request: Request<'a>) -> Result<()
             region,
             strict,
             form,
-        } => run_call(rt, &Manner { strict, form }, image, call, file, region),
+        } => {
+            let manner = Manner {
+                strict,
+                names: true,
+                form,
+            };
+            run_call(rt, &manner, image, call, file, region)
+        }
         Request::Assemble {
             text,
             image,
@@ -43,8 +50,16 @@ pub(crate) fn carry_out<'a>(rt: &HostRuntime, request: Request<'a>) -> Result<()
             script,
             region,
             strict,
+            names,
             form,
-        } => run(rt, &Manner { strict, form }, image, file, script, region),
+        } => {
+            let manner = Manner {
+                strict,
+                names,
+                form,
+            };
+            run(rt, &manner, image, file, script, region)
+        }
         Request::Trace {
             image,
             words,

@@ -8,7 +8,7 @@ use crate::files::{Unlocked, open_unlocked, opened};
 use crate::images::MOST_READ;
 use crate::manner::call_fault;
 use crate::request_fault::RequestFault;
-use geos_cli::{ScriptFault, TraceFault, TracedCall, trace_call};
+use geos_cli::{CallFault, ScriptFault, TraceFault, TracedCall, trace_call};
 use geos_image::Image;
 use geos_kernel::{Kernel, kernel_in_memory};
 use geos_shell::{CallWords, Sharing, TraceWords, print, read};
@@ -68,6 +68,10 @@ fn text_of(
 /// The fault of a traced call, by what is wrong.
 fn trace_fault<'a>(words: &TraceWords<'a>, fault: TraceFault) -> RequestFault<'a> {
     match fault {
+        TraceFault::Lends => RequestFault::LendsNone(words.call.name),
+        TraceFault::Call(CallFault::BadBlocks(count)) if count > 0 => {
+            RequestFault::LendsNone(words.call.name)
+        }
         TraceFault::Call(fault) => call_fault(&words.call, fault),
         TraceFault::NoRoutine => RequestFault::NoSuchRoutine(words.only.unwrap_or("")),
     }
@@ -84,12 +88,12 @@ fn trace_on<'a, D: Device + Drop>(
 {
     let alloc = rt.alloc();
     let most = if words.count { 0 } else { words.steps as usize };
-    let CallWords { name, numbers } = &words.call;
+    let CallWords { name, words: given } = &words.call;
     let traced = match trace_call(
         alloc,
         &traceable.image,
         name,
-        numbers,
+        given,
         words.only,
         most,
         kernel,

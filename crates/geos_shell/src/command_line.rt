@@ -53,6 +53,11 @@ const NAME: ArgText = ArgText::MayBe(
 
 const NUMBERS: ArgText = ArgText::Words(
     "N",
+    "Its words w0 to w7: at most eight numbers, each from 0 to 65535 and within the bound of its word; then @H for each block that it borrows",
+);
+
+const TRACED_NUMBERS: ArgText = ArgText::Words(
+    "N",
     "Its words w0 to w7: at most eight numbers, each from 0 to 65535 and within the bound of its word",
 );
 
@@ -138,6 +143,11 @@ const STRICT_CALL: ArgText = ArgText::Flag(
     "Ends with status 1 at the first line of the script that prints `refused K`",
 );
 
+const VARS: ArgText = ArgText::Flag(
+    "vars",
+    "Lets lines keep words under names, as `call make -> h`, and write them, as `call use $h 5`",
+);
+
 const HEX: ArgText = ArgText::Flag("hex", "Prints words in four hexadecimal digits behind 0x");
 
 const SIGNED: ArgText = ArgText::Flag("signed", "Prints words as numbers from -32768 to 32767");
@@ -199,7 +209,7 @@ static COMMANDS: [CommandText; 13] = [
         args: &[
             TEXT_OR_IMAGE,
             TRACED_NAME,
-            NUMBERS,
+            TRACED_NUMBERS,
             ON_FILE,
             REGION_SIZE,
             MOST_STEPS,
@@ -253,6 +263,7 @@ static COMMANDS: [CommandText; 13] = [
             SCRIPT,
             REGION_SIZE,
             STRICT,
+            VARS,
             HEX,
             SIGNED,
             AS_TEXT,

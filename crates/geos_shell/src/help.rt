@@ -13,7 +13,7 @@ geos call IN [NAME [N..]] [--file FILE] [--region N] [--strict] [FORM]
        geos check IMAGE
        geos explain IMAGE
        geos new FILE [--area N]
-       geos run IMAGE FILE SCRIPT [--region N] [--strict] [FORM]
+       geos run IMAGE FILE SCRIPT [--region N] [--strict] [--vars] [FORM]
        geos put FILE H C [AT] [--item] [--region N]
        geos get FILE H C [--item] [--region N]
        geos dump FILE [--chunks]
@@ -42,7 +42,7 @@ impl Usage {
                 "geos trace IN NAME [N..] [--steps N] [--only ROUTINE] [--count] [--file FILE] [--region N]",
             Usage::Asm => "geos asm IN OUT [--all-rows]",
             Usage::New => "geos new FILE [--area N]",
-            Usage::Run => "geos run IMAGE FILE SCRIPT [--region N] [--strict] [FORM]",
+            Usage::Run => "geos run IMAGE FILE SCRIPT [--region N] [--strict] [--vars] [FORM]",
             Usage::Put => "geos put FILE H C [AT] [--item] [--region N]",
             Usage::Get => "geos get FILE H C [--item] [--region N]",
             Usage::Map => "geos map FILE [--width N]",
@@ -94,9 +94,11 @@ What is in IN begins as an image does, or is read as a text. Nothing runs unless
 the verifier accepts the image: `geos help asm` has the faults of a text, `geos help check` the rules, and
 `geos explain IN` says more.
 
-NAME is a public routine, which runs on at most eight numbers, its words w0 to w7; missing ones are 0. Each
-word that it puts out is printed in decimal on a line. `bad call: ..` says which word of the call is wrong.
-Without NAME a script is read from the standard input, as `geos help run` has it, --strict too.
+NAME is a public routine, which runs on at most eight numbers, its words w0 to w7; missing ones are 0. Behind
+them stands `@` with the handle of a block of FILE for each slot that it borrows, as in a script. Each word
+that it puts out is printed in decimal on a line. `bad call: ..` says what of the call is wrong.
+Without NAME a script is read from the standard input, as `geos help run` has it, --strict too, and its lines
+may write names as with --vars.
 
 --hex prints 0x000a for the word 10, --signed -2 for 65534. With --text all words of a call are one line, each
 the byte that it is, or two bytes, the low one first, from 256 on. --label prints each line behind its call, as
@@ -111,11 +113,12 @@ Example:
   geos call add.asm add 2 65533 --signed --label        prints `add 2 65533: -1`
   printf 'call add 2 3\\ncall add 4 5\\n' | geos call add.asm
   geos new counter.vm
-  geos call examples/counter.asm --file counter.vm < examples/counter.script";
+  geos call examples/counter.asm --file counter.vm < examples/counter.script
+  geos call examples/lend.asm --file lent.vm peek @1      where lent.vm has a block 1";
 
 /// What is printed of the steps of a run.
 const TRACED: &str = "\
-The routine runs as by `geos call`, and its faults are those. A line is printed for each step: the number of
+The routine runs as by `geos call`, and its faults are those, but it borrows nothing. A line is printed for each step: the number of
 the line of the text, or of an image the pc, the instruction, and behind a `;` what the step wrote:
   w0=5 k1=3            words and counters
   s0=mem 2             slot s0 holds the memory block 2; also `vm 2`, `group 2`; `s0=empty` behind an unlock
@@ -235,6 +238,11 @@ is lost: end a script with `update`, or have a routine do VUPDATE.
 A script goes on behind a refusal, and its status is 0. With --strict nothing runs behind the first of
 them, the status is 1, and the last line is `line N: refused K` on standard error, N being the line of
 SCRIPT, counted from 1. A routine that commits sees its refusals itself: they end no script.
+With --vars a call may end with `-> NAME`: the word that it puts out first is kept under this name, which is of
+letters, digits and underscores, in place of the one before; none is where it puts out none. In later calls
+$NAME stands for it in the place of a number, and @$NAME in that of a handle. A line does what it does with the
+numbers. Where that is wrong only with what a name then stands for, the script ends there with `bad script
+line N`, and the lines before are done. At most 1,024 lines keep a word.
 `geos help call` says how --hex, --signed, --text and --label print; a commit is labelled by its word.
 
 A stop at any moment, as of the machine, leaves the file as one of these commands left it or would

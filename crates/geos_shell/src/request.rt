@@ -16,11 +16,11 @@ use crate::streams::{STANDARD, is_stream};
 use clap::{ArgMatches, Error};
 use std::alloc::{AllocError, Global};
 
-/// A call of the routine with the name, on these numbers.
+/// A call of the routine with the name, on these numbers, and on the blocks behind them.
 #[derive(Drop)]
 pub struct CallWords<'a> {
     pub name: &'a str,
-    pub numbers: Vec<&'a str>,
+    pub words: Vec<&'a str>,
 }
 
 /// A call of which notes are taken, and what is printed of it.
@@ -94,13 +94,14 @@ pub enum Request<'a> {
         area: u32,
     },
     /// To run a script on a VM file, with so many bytes for blocks in memory; to its end, or, strictly, to
-    /// its first refused command.
+    /// its first refused command. Its lines may write names for words, or may not.
     Run {
         image: &'a str,
         file: &'a str,
         script: &'a str,
         region: u32,
         strict: bool,
+        names: bool,
         form: OutputForm,
     },
     /// To write the standard input into a chunk of a VM file, and to update that, with so many bytes for blocks in memory.
@@ -144,7 +145,7 @@ fn call_words<'a>(alloc: Global, words: &ArgMatches<'a>) -> Result<Option<CallWo
     match words.get_str("NAME") {
         Some(name) => Ok(Some(CallWords {
             name,
-            numbers: words_of(alloc, words, "N")?,
+            words: words_of(alloc, words, "N")?,
         })),
         None => Ok(None),
     }
@@ -182,7 +183,7 @@ fn trace_of<'a>(alloc: Global, words: &ArgMatches<'a>) -> Result<Request<'a>, Mi
     let steps = STEPS.of(words)?;
     let call = CallWords {
         name: word(words, "NAME"),
-        numbers: words_of(alloc, words, "N")?,
+        words: words_of(alloc, words, "N")?,
     };
     Ok(Request::Trace {
         image: word(words, "IN"),
@@ -240,6 +241,7 @@ fn run_of<'a>(words: &ArgMatches<'a>) -> Result<Request<'a>, Misuse>
         script,
         region,
         strict: words.get_flag("strict"),
+        names: words.get_flag("vars"),
         form: OutputForm::of(words, Usage::Run)?,
     })
 }
