@@ -209,13 +209,13 @@ impl Blocks {
         self.arena.read16(at)
     }
 
-    /// The `n` bytes from an offset of the region on, each as the block that covers it has it.
-    pub fn read(&self, at: u32, n: u32) -> &[u8]
-        requires { at + n ≤ region_len self.now }
+    /// The `len` bytes from an offset of the region on, each as the block that covers it has it.
+    pub fn read(&self, at: u32, len: u32) -> &[u8]
+        requires { at + len ≤ region_len self.now }
         ensures read { ReadsAs self.now at result.now }
-        ensures long { length result.now ≡ n }
+        ensures long { length result.now ≡ len }
     {
-        self.arena.read(at, n)
+        self.arena.read(at, len)
     }
 
     /// Writes a byte at an offset of the region: that byte of the block that covers it, and

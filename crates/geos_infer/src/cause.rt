@@ -410,12 +410,12 @@ fn cause_of_loops(
 /// cause, the first that is found. What the cause says holds of that routine; where ways of control meet with slots that
 /// differ in more than marks, it is that. `GivenUp`, `NoSteps` and `Unknown` say that no reason was found, and what is not
 /// one. `AllocError` where the allocator refuses memory.
-pub fn find_cause(alloc: Global, image: &Image, r: u16) -> Result<Cause, AllocError>
-    requires { r < length image.now.routines }
-    ensures holds { IfOk result (Holds image.now r) }
-    ensures slots { IfOk result (λ cause. tells_of_slots cause ≡ false → MeetAlike image.now r) }
+pub fn find_cause(alloc: Global, image: &Image, routine: u16) -> Result<Cause, AllocError>
+    requires { routine < length image.now.routines }
+    ensures holds { IfOk result (Holds image.now routine) }
+    ensures slots { IfOk result (λ cause. tells_of_slots cause ≡ false → MeetAlike image.now routine) }
 {
-    let body = body_of(image, r);
+    let body = body_of(image, routine);
     if let Some(apart) = find_apart(alloc, &body)? {
         return Ok(Cause::SlotsDiffer(apart));
     }
@@ -424,7 +424,7 @@ pub fn find_cause(alloc: Global, image: &Image, r: u16) -> Result<Cause, AllocEr
     }
     let (known, routines) = find_rows(alloc, image)?;
     let touching = find_touching(image);
-    if r < routines {
+    if routine < routines {
         if let Some(cause) = cause_of_steps(alloc, &body, &touching, &known)? {
             return Ok(cause);
         }

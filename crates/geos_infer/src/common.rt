@@ -137,15 +137,15 @@ fn shape(row: &Row)
 
 /// The least of the rows that both fit: what is known where control may come with either.
 /// `None` where there is no such row, since a slot is in states that differ in more than a mark.
-pub fn join(r: &Row, s: &Row) -> Option<Row>
-    ensures value { result ≡ join r.now s.now }
-    ensures some { IfSome result (IsLeastAbove r.now s.now) }
-    ensures none { IfNone result (FitNothing r.now s.now) }
+pub fn join(one: &Row, other: &Row) -> Option<Row>
+    ensures value { result ≡ join one.now other.now }
+    ensures some { IfSome result (IsLeastAbove one.now other.now) }
+    ensures none { IfNone result (FitNothing one.now other.now) }
 {
-    shape(r);
-    shape(s);
-    if agree(r, s) {
-        Some(joined(r, s))
+    shape(one);
+    shape(other);
+    if agree(one, other) {
+        Some(joined(one, other))
     } else {
         None
     }

@@ -4,9 +4,9 @@ use Rattle.geos_infer.proofs.common.join.Goals as goal
 
 pub returns-then-agree-clause-some : goal.returns-then-agree-clause-some
 returns-then-agree-clause-some c =
-    let r = c.args.r.now in
-    let s = c.args.s.now in
+    let r = c.args.one.now in
+    let s = c.args.other.now in
     rw c.joined.ensures (joined-least r s (shaped-agree r s c.shape.ensures c.shape-2.ensures (sym c.agree.ensures ∙ c.if-agree.true)))
 
 pub returns-else-agree-clause-none : goal.returns-else-agree-clause-none
-returns-else-agree-clause-none c = apart-fit c.args.r.now c.args.s.now (sym c.agree.ensures ∙ c.if-agree.false)
+returns-else-agree-clause-none c = apart-fit c.args.one.now c.args.other.now (sym c.agree.ensures ∙ c.if-agree.false)
