@@ -1,5 +1,6 @@
 //! Images are loaded, and their routines run.
 
+ghost use Rattle.std.specs.Option.{option_copied};
 ghost use Rattle.std.specs.Prelude.{◌≡◌, ◌≤◌, ℕ, Err, Some, IfSome, length, slice_get, take};
 ghost use Rattle.geos_image.specs.Parts.{Parts};
 ghost use Rattle.geos_image.specs.Reading.{image_at};
@@ -156,6 +157,16 @@ pub extern "C" fn takhvoi_unload(alloc: Global, handle: &mut Handle, number: u32
     status
 }
 
+/// The image that a number stands for.
+fn image_of(images: &Vec<Option<Checked>>, number: u32) -> Option<&Checked>
+    ensures { IfSome (option_copied result) (λ image. slice_get images.now.items number ≡ Some (Some image)) }
+{
+    match images.get(number as usize) {
+        Some(Some(checked)) => Some(checked),
+        _ => None,
+    }
+}
+
 /// Copies the first words, as many as there is room for.
 fn put_words(words: &[u16], into: &mut [u16])
     ensures { take (length words.now) into.new ≡ take (length into.old) words.now }
@@ -182,7 +193,7 @@ fn run_in(
         images,
         hosted,
     } = system;
-    let Some(Some(checked)) = images.get(number as usize) else {
+    let Some(checked) = image_of(images, number) else {
         return NOT_ADMITTED;
     };
     if !admits(checked, routine, words, handles, kernel) {
@@ -249,7 +260,7 @@ fn routine_named(image: &Image, name: &[u8]) -> Option<u16>
 fn routine_in(system: &System, number: u32, name: &[u8], routine: &mut u16) -> u32
     ensures { result ≡ 0 → HasRoutine system.now number name.now routine.new }
 {
-    let Some(Some(checked)) = system.images.get(number as usize) else {
+    let Some(checked) = image_of(&system.images, number) else {
         return NOT_ADMITTED;
     };
     match routine_named(checked.image(), name) {

@@ -126,11 +126,15 @@ pub extern "C" fn takhvoi_open(
     };
     match VmFile::open(alloc, device) {
         Ok(file) => start(alloc, handle, region, file, true),
-        Err((_device, OpenError::BadFile(at))) => {
-            *fault = at;
-            BAD_FILE
-        }
-        Err(_) => NO_MEMORY,
+        Err((_device, error)) => match error {
+            OpenError::BadFile(at) => {
+                *fault = at;
+                BAD_FILE
+            }
+            OpenError::Memory => NO_MEMORY,
+            // It fails only where there is no memory to note the sync.
+            OpenError::Disk => NO_MEMORY,
+        },
     }
 }
 
