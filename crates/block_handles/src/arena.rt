@@ -103,7 +103,7 @@ impl Arena {
     ghost use Rattle.geos_terms.specs.Heap.{IsBlockSize, most_block_bytes};
     ghost use Rattle.block_handles.specs.Change.{with_block, new_block, grown_block, with_place, with_locks, after_write};
     ghost use Rattle.block_handles.specs.Lending.{LendsBytes};
-    ghost use Rattle.block_handles.specs.Offsets.{Copies, ReadsByte, ReadsWord};
+    ghost use Rattle.block_handles.specs.Offsets.{Copies, ReadsAs, ReadsByte, ReadsWord};
 
     /// An arena of `len` bytes with no block.
     pub(crate) fn new(alloc: Global, len: u32) -> Result<Arena, AllocError>
@@ -201,6 +201,15 @@ impl Arena {
         self.region.get16(at)
     }
 
+    /// The `n` bytes from an offset of the region on.
+    pub(crate) fn read(&self, at: u32, n: u32) -> &[u8]
+        requires { at + n ≤ region_len self.now }
+        ensures read { ReadsAs self.now at result.now }
+        ensures long { length result.now ≡ n }
+    {
+        self.region.slice(at, n)
+    }
+
     pub(crate) fn write8(&mut self, at: u32, byte: u8)
         requires { at < region_len self.old }
         ensures { self.new ≡ after_write self.old at (byte ∷ []) }
@@ -213,6 +222,13 @@ impl Arena {
         ensures { self.new ≡ after_write self.old at (word % 256 ∷ word / 256 ∷ []) }
     {
         self.region.put16(at, word);
+    }
+
+    pub(crate) fn write(&mut self, at: u32, bytes: &[u8])
+        requires { at + length bytes.now ≤ region_len self.old }
+        ensures { self.new ≡ after_write self.old at bytes.now }
+    {
+        self.region.put(at, bytes);
     }
 
     pub(crate) fn copy(&mut self, from: u32, to: u32, count: u32)

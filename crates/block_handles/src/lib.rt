@@ -7,7 +7,7 @@
 //! (GEOS SDK Concepts Book, chapters Handles and Memory Management.)
 #![tactic(auto)]
 
-ghost use Rattle.std.specs.Prelude.{◌≡◌, ◌+◌, ◌/◌, ◌%◌, ◌<◌, ◌≤◌, ◌↔◌, [], ◌∷◌, ℕ, IsTrue, All, IfOk, IfSome, IfNone, OnOk, OnErr, Err};
+ghost use Rattle.std.specs.Prelude.{◌≡◌, ◌+◌, ◌/◌, ◌%◌, ◌<◌, ◌≤◌, ◌↔◌, [], ◌∷◌, ℕ, IsTrue, All, length, IfOk, IfSome, IfNone, OnOk, OnErr, Err};
 ghost use Rattle.std.specs.Borrow.{sem};
 
 mod arena;
@@ -59,7 +59,7 @@ impl Blocks {
     ghost use Rattle.geos_terms.specs.Heap.{IsBlockSize, most_block_bytes};
     ghost use Rattle.block_handles.specs.LendingBlocks.{LendsBlock};
     ghost use Rattle.block_handles.specs.Names.{slot_of, IsHandle};
-    ghost use Rattle.block_handles.specs.Offsets.{Copies, CopiesCovered, ReadsByte, ReadsWord, WritesCovered};
+    ghost use Rattle.block_handles.specs.Offsets.{Copies, CopiesCovered, ReadsAs, ReadsByte, ReadsWord, WritesCovered};
     ghost use Rattle.block_handles.specs.Store.{IsThere, bytes_of, size_of, place_of, end_of, locks_of, region_len};
     ghost use Rattle.block_handles.specs.Stretch.{HasNoRoom, all_sizes, vm_locks};
     ghost use Rattle.block_handles.specs.Used.{IsLowest, AllInUse};
@@ -209,6 +209,15 @@ impl Blocks {
         self.arena.read16(at)
     }
 
+    /// The `n` bytes from an offset of the region on, each as the block that covers it has it.
+    pub fn read(&self, at: u32, n: u32) -> &[u8]
+        requires { at + n ≤ region_len self.now }
+        ensures read { ReadsAs self.now at result.now }
+        ensures long { length result.now ≡ n }
+    {
+        self.arena.read(at, n)
+    }
+
     /// Writes a byte at an offset of the region: that byte of the block that covers it, and
     /// nothing else.
     pub fn write8(&mut self, at: u32, byte: u8)
@@ -226,6 +235,15 @@ impl Blocks {
         ensures covered { WritesCovered self.old self.new at (word % 256 ∷ word / 256 ∷ []) }
     {
         self.arena.write16(at, word);
+    }
+
+    /// Writes bytes from an offset of the region on: what falls into each block, and nothing else.
+    pub fn write(&mut self, at: u32, bytes: &[u8])
+        requires { at + length bytes.now ≤ region_len self.old }
+        ensures written { self.new ≡ after_write self.old at bytes.now }
+        ensures covered { WritesCovered self.old self.new at bytes.now }
+    {
+        self.arena.write(at, bytes);
     }
 
     /// Copies `count` bytes from one offset of the region to another, as they were before, also

@@ -1,5 +1,6 @@
 pub mod Seen
 pub mod Stops
+pub mod Settled
 pub mod Rowed
 pub mod Named
 pub mod Changed
@@ -11,6 +12,7 @@ pub mod Making
 pub mod News
 pub mod AccessReads
 pub mod AccessWrites
+pub mod AccessBulk
 pub mod AccessCopies
 pub mod Chunks
 pub mod Looks

@@ -3,7 +3,7 @@
 //! Each call does what its row says at every reference that a span stands for. No span is
 //! tested when it runs: the caller knows that its spans are good.
 
-ghost use Rattle.std.specs.Prelude.{[], ◌∷◌, ◌+◌, ◌<◌, ◌≤◌, Ok};
+ghost use Rattle.std.specs.Prelude.{[], ◌∷◌, ◌+◌, ◌<◌, ◌≤◌, length, Ok};
 
 use crate::kernel::Kernel;
 use crate::span::Span;
@@ -15,6 +15,7 @@ impl<D: Device + Drop> Kernel<D> {
     ghost use Rattle.geos_calls.specs.VmFile.{VmFile};
     ghost use Rattle.geos_calls.specs.Effects.{Reference, Nothing};
     ghost use Rattle.geos_kernel.specs.Kernel.{Calls, LeavesVm, Remain, Stores};
+    ghost use Rattle.geos_kernel.specs.Loads.{Loads};
     ghost use Rattle.geos_kernel.specs.Spans.{Stands, IsStanding, IsWritable, SpansStay};
     ghost use Rattle.geos_kernel.specs.View.{IsFileOf};
 
@@ -36,6 +37,18 @@ impl<D: Device + Drop> Kernel<D> {
             → Calls (D.medium.honest self.now.device) (table.load16 ref i) (Ok result) self.now.core self.now.core }
     {
         self.blocks.read16(span.at + u32::from(i))
+    }
+
+    /// Copies the bytes from the offset `i` of a span on into `into`, which it has there.
+    pub fn read(&self, span: Span, i: u16, into: &mut [u8])
+        requires stands { IsStanding self.now.core span }
+        requires within { i + length into.old ≤ span.len }
+        ensures { Loads (D.medium.honest self.now.device) span i into.new self.now.core }
+    {
+        let n = into.len();
+        if n > 0 {
+            into.copy_from_slice(self.blocks.read(span.at + u32::from(i), n as u32));
+        }
     }
 
     /// Writes a byte at the offset `i` of a span, which has one there. A block of the VM file that it
@@ -62,6 +75,22 @@ impl<D: Device + Drop> Kernel<D> {
         ensures remain { Remain self.old.core.blocks self.new.core.blocks 0 }
     {
         self.blocks.write16(span.at + u32::from(i), word);
+    }
+
+    /// Writes bytes from the offset `i` of a span on, which has so many there. A block of the VM file
+    /// that it lies in is marked. All spans stay.
+    pub fn store(&mut self, span: Span, i: u16, bytes: &[u8])
+        requires stands { IsWritable self.old.core span }
+        requires within { i + length bytes.now ≤ span.len }
+        ensures row { Stores (D.medium.honest self.old.device) span i bytes.now self.old.core self.new.core }
+        ensures spans { (f : VmFile) → IsFileOf (D.medium.honest self.old.device) self.old.core f → SpansStay self.old.core self.new.core f Nothing }
+        ensures vm { LeavesVm self.old self.new }
+        ensures remain { Remain self.old.core.blocks self.new.core.blocks 0 }
+    {
+        let n = bytes.len();
+        if n > 0 {
+            self.blocks.write(span.at + u32::from(i), bytes);
+        }
     }
 
     /// Copies the first `n` bytes of `from`, as they were before, to the beginning of `to`,

@@ -13,6 +13,7 @@ mod item_calls;
 mod kernel;
 mod law;
 mod local_calls;
+mod noted;
 mod refused;
 mod span;
 mod vm_calls;

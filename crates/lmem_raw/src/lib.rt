@@ -101,6 +101,17 @@ impl Region {
         bytes[1] = high;
     }
 
+    /// Writes `bytes` from `at` on; every other byte stays.
+    pub fn put(&mut self, at: u32, bytes: &[u8])
+        requires { at + length bytes.now ≤ length self.old }
+        ensures { self.new ≡ with_part self.old at bytes.now }
+    {
+        let all = self.len();
+        let n = bytes.len();
+        prove!(n <= all as usize);
+        self.slice_mut(at, n as u32).copy_from_slice(bytes);
+    }
+
     /// Writes `byte` into each of the `count` bytes from `at` on; every other byte stays.
     pub fn fill(&mut self, at: u32, count: u32, byte: u8)
         requires { at + count ≤ length self.old }

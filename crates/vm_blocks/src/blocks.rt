@@ -6,6 +6,7 @@ ghost use Rattle.block_handles.specs.Store.{Store};
 ghost use Rattle.geos_calls.specs.Memory.{Memory, is_marked};
 ghost use Rattle.geos_calls.specs.VmCalls.{vuid};
 ghost use Rattle.geos_terms.specs.Names.{group_uid};
+ghost use Rattle.vm_file.specs.Outcomes.{ReadsOnly};
 ghost use Rattle.vm_file.specs.State.{Finds};
 ghost use Rattle.vm_blocks.specs.Blocks.{uid_of, is_marked_in};
 ghost use Rattle.vm_blocks.specs.DoesRow.{DoesRow};
@@ -21,7 +22,7 @@ use crate::entries::{Held, Table, are_words, list};
 use geos_terms::Name;
 use std::alloc::{AllocError, Global};
 use std::marker::Model;
-use vm_file::{Device, VmFile};
+use vm_file::{Device, Noting, VmFile};
 
 /// The blocks of the current directory of a VM file by handles. A block is in memory where
 /// `Blocks` has one under its name; each call that moves blocks is passed them.
@@ -72,6 +73,13 @@ impl<D: Device + Drop> VmBlocks<D> {
             }
             Err(error) => Err((file, error)),
         }
+    }
+
+    /// The device of the file.
+    pub fn device(&self) -> &D
+        ensures { result.now ≡ self.now.file.device }
+    {
+        self.file.device()
     }
 
     /// The file as it is. Nothing is written: what is marked is lost.
@@ -160,5 +168,17 @@ impl<D: Device + Drop> VmBlocks<D> {
         ensures { self.new ≡ with_held self.old h held }
     {
         self.entries.put(h as usize - 1, held);
+    }
+}
+
+impl<D: Noting + Drop> VmBlocks<D> {
+    /// Takes it that what the device has noted was performed, and lasts.
+    pub fn settle(&mut self)
+        ensures same { self.new ≡ record self.old { file = record self.old.file { device = self.new.file.device } } }
+        ensures reads { ReadsOnly D.medium self.old.file.device self.new.file.device }
+        ensures failed { D.medium.failed self.new.file.device ≡ D.medium.failed self.old.file.device }
+        ensures settled { D.settles self.old.file.device self.new.file.device }
+    {
+        self.file.settle();
     }
 }

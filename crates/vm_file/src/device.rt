@@ -70,6 +70,18 @@ pub trait Device {
     ghost by_now: { (s d : Self) (c : List ℕ) → medium.may_leave d c → medium.may_have_left s d c };
 }
 
+/// A device that notes its calls, for another to perform them on bytes that last.
+pub trait Noting: Device {
+    /// What is noted before and after it was performed.
+    ghost settles: { Self → Self → Type 0 };
+
+    /// Takes it that all calls that are noted were performed, and that what they wrote lasts. Nothing is noted from then on.
+    fn settle(&mut self)
+        ensures reads { ReadsOnly Self.medium self.old self.new }
+        ensures failed { Self.medium.failed self.new ≡ Self.medium.failed self.old }
+        ensures settled { settles self.old self.new };
+}
+
 /// One failure more; at the greatest number the count stays.
 pub(crate) fn count_failure(failures: &mut u64)
     ensures { failures.new ≡ one_more failures.old }

@@ -9,7 +9,7 @@ ghost use Rattle.vm_file.specs.Reading.{file_at};
 
 use crate::commit::{How, Nothing, Source, are_there, keep, length_after, selector_of};
 use crate::create::write_new;
-use crate::device::{Device, Disk, write_durably};
+use crate::device::{Device, Disk, Noting, write_durably};
 use crate::directory::Directory;
 use crate::entries::{directory_length, place_in};
 use crate::error::{CommitError, CreateError, OpenError};
@@ -438,6 +438,13 @@ impl<D: Device + Drop> VmFile<D> {
         }
     }
 
+    /// The device.
+    pub fn device(&self) -> &D
+        ensures { result.now ≡ self.now.device }
+    {
+        &self.device
+    }
+
     /// The device. Nothing is written.
     pub fn into_device(self) -> D
         ensures { result ≡ self.device }
@@ -452,5 +459,17 @@ impl<D: Device + Drop> VmFile<D> {
             saved: _,
         } = self;
         device
+    }
+}
+
+impl<D: Noting + Drop> VmFile<D> {
+    /// Takes it that what the device has noted was performed, and lasts.
+    pub fn settle(&mut self)
+        ensures same { self.new ≡ record self.old { device = self.new.device } }
+        ensures reads { ReadsOnly D.medium self.old.device self.new.device }
+        ensures failed { D.medium.failed self.new.device ≡ D.medium.failed self.old.device }
+        ensures settled { D.settles self.old.device self.new.device }
+    {
+        self.device.settle();
     }
 }

@@ -25,7 +25,7 @@ mod spell;
 
 pub use commit::{How, Source};
 pub use create::device_length;
-pub use device::{Device, Disk};
+pub use device::{Device, Disk, Noting};
 pub use directory::{Directory, Entry, GROUP_UID, MOST_BLOCKS};
 pub use disk_file::FileDevice;
 pub use error::{CommitError, CreateError, OpenError};

@@ -1,0 +1,30 @@
+//! What the device of the VM file has noted.
+
+ghost use Rattle.std.specs.Prelude.{◌≡◌};
+
+use crate::kernel::Kernel;
+use vm_file::{Device, Noting};
+
+impl<D: Device + Drop> Kernel<D> {
+    /// The device of the VM file.
+    pub fn device(&self) -> &D
+        ensures { result.now ≡ self.now.device }
+    {
+        self.vm.device()
+    }
+}
+
+impl<D: Noting + Drop> Kernel<D> {
+    ghost use Rattle.geos_kernel.specs.Files.{Between};
+
+    /// Takes it that what the device has noted was performed, and lasts. Nothing else changes.
+    pub fn settle(&mut self)
+        ensures core { self.new.core ≡ self.old.core }
+        ensures settled { D.settles self.old.device self.new.device }
+        ensures between { Between D.medium self.old self.new }
+    {
+        // what a stop leaves
+        self.vm.is_sure();
+        self.vm.settle();
+    }
+}

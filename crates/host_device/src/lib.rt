@@ -1,0 +1,8 @@
+//! A device in memory that notes its calls, for a host to perform them on a file.
+#![tactic(auto)]
+
+mod device;
+mod step;
+
+pub use device::HostDevice;
+pub use step::Step;

@@ -1,0 +1,6 @@
+pub mod Calling
+pub mod Numbers
+pub mod Shapes
+pub mod Starting
+pub mod Steps
+pub mod Values

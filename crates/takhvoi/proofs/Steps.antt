@@ -1,0 +1,21 @@
+-- What a span tells of the reference for which it stands.
+use Rattle.std.proofs.Common.{◌≡◌, ℕ, Result, Ok, Err, refl}
+use Rattle.std.specs.Prelude.{IfOk, OnErr}
+use Rattle.geos_terms.specs.declared.refusal.Refusal.{Refusal}
+use Rattle.geos_calls.specs.Effects.{Reference}
+use Rattle.geos_kernel.specs.declared.span.Span.{Span}
+use Rattle.geos_kernel.specs.Kernel.{StandsFor}
+use Rattle.geos_kernel.specs.Spans.{Stands}
+use Rattle.geos_kernel.specs.View.{KernelState}
+use Rattle.takhvoi.specs.Answers.{IsStatus}
+
+-- a span that stands for what a row gives says that the row refuses nothing, and what holds of each reference for which it stands
+pub given-span : (s : KernelState) (span : Span) (given : Result Reference Refusal) (P : Reference → Type 0) → StandsFor s (Ok span) given
+    → ((ref : Reference) → Stands s span ref → P ref) → IsStatus given 0 × IfOk given P
+given-span s span (Ok ref) P stands holds = (refl, holds ref stands)
+given-span s span (Err why) P stands holds = absurd stands
+
+-- and none of its refusals came
+pub given-no-refusal : (s : KernelState) (span : Span) (given : Result Reference Refusal) (P : Type 0) → StandsFor s (Ok span) given → OnErr given P
+given-no-refusal s span (Ok ref) P stands = tt
+given-no-refusal s span (Err why) P stands = absurd stands

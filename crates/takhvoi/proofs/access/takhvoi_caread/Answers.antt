@@ -1,0 +1,12 @@
+-- The range ends where it is said to.
+use Rattle.std.proofs.Common.{subst}
+use Rattle.geos_calls.specs.ArrayCalls as table
+use Rattle.takhvoi.specs.Answers.{Served}
+use Rattle.takhvoi.specs.Bytes.{IsCopied}
+use Rattle.takhvoi.specs.Names.{name_of}
+use Rattle.takhvoi.proofs.access.takhvoi_caread.Goals as goal
+
+pub returns-in-Some : goal.returns-in-Some
+returns-in-Some c =
+    subst (λ n. Served (IsCopied (table.caelt (name_of c.args.block) c.args.c c.args.i n) c.args.at c.read.new.into) c.read.result c.args.handle.now c.read.new.handle)
+    c.in-Some.ensures c.read.ensures

@@ -1,0 +1,39 @@
+-- The run's kernel rests after it: what is seen of it stays, and with a host all of it.
+use Rattle.std.proofs.Common.{◌≡◌, ◌≤◌, Some, slice_get, length, take, refl, ap, sym, subst, arith, rules}
+use Rattle.std.specs.Prelude.{IfSome}
+use Rattle.geos_calls.specs.VmFile.{VmFile}
+use Rattle.geos_kernel.specs.View.{IsFileOf, KernelOn}
+use Rattle.geos_machine.specs.Runs.{RanWith, Throughout}
+use Rattle.host_device.specs.Journal.{medium}
+use Rattle.host_device.specs.declared.device.HostDevice.{HostDevice}
+use Rattle.takhvoi.proofs.images.run_in.Goals as goal
+
+pub returns : goal.returns
+returns c =
+    let system = c.args.system.now in let old = system.kernel in let image = c.in-Some.checked.now in
+    let outcome = c.run-outcome.result in let left = c.run-outcome.new.kernel.device in
+    let loaded : slice_get system.images.items c.args.number ≡ Some (Some image) = c.in-Some.ensures in
+    let ran : (f : VmFile) → IsFileOf (Unit {0}) old.core f
+        → RanWith (Unit {0}) (Throughout medium old.device left) image c.args.routine c.args.words.now c.args.handles.now old.core c.run-outcome.new.kernel.core outcome f = c.run-outcome.ensures.ran in
+    let put : take (length outcome.output.items) c.put_words.new.into ≡ take (length c.args.output.now) outcome.output.items =
+    subst (λ ws. take (length ws) c.put_words.new.into ≡ take (length c.args.output.now) ws) c.as_slice.ensures.value c.put_words.ensures in
+    let count : c.len.result ≡ length outcome.output.items = search rules in
+    let within : IfSome (slice_get image.routines c.args.routine) (λ r. outcome.steps ≤ r.budget) = c.run-outcome.ensures.budget in
+    (
+      refl,
+      (λ came. record {
+        done = refl;
+        image = image;
+        loaded = loaded;
+        outcome = outcome;
+        left = left;
+        ran = λ f is. subst (λ s. RanWith (Unit {0}) (Throughout medium old.device left) image c.args.routine c.args.words.now c.args.handles.now old.core s outcome f) (sym c.rest.ensures.core) (ran f is);
+        device = λ hosted. ap (λ (k : KernelOn HostDevice). k.device) (c.rest.ensures.hosted hosted);
+        words_out = refl;
+        put_out = put;
+        count_is = count;
+        steps_are = refl;
+        within = within;
+      }),
+      λ past. absurd (omega (arith, past)),
+    )

@@ -1,0 +1,14 @@
+-- The search for this takes too long, since the row is long.
+use Rattle.std.proofs.Common.{◌∙◌}
+use Rattle.geos_terms.specs.Names.{vm}
+use Rattle.geos_calls.specs.ChunkCalls.{make_row}
+use Rattle.geos_calls.specs.ItemCalls as table
+use Rattle.takhvoi.specs.Answers.{IsTold}
+use Rattle.takhvoi.proofs.Calling.{served}
+use Rattle.takhvoi.proofs.items.make.Goals as goal
+
+pub returns : goal.returns
+returns c =
+    let came = IsTold (table.on_group c.args.g (make_row (vm c.args.g) c.args.make)) c.make_in-status.new.told in
+    served came c.make_in-status.result c.args.handle.now c.put.new.handle _ _ c.in-Some.ensures.some.0
+    (c.deref_mut.ensures.value ∙ c.in-Some.ensures.some.1) c.put.ensures.live c.put.ensures.value c.make_in-status.ensures

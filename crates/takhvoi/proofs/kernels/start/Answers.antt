@@ -1,0 +1,13 @@
+-- What was made on the file is what the handle holds then.
+use Rattle.std.proofs.Common.{◌∙◌, ap}
+use Rattle.geos_kernel.specs.View.{KernelOn}
+use Rattle.host_device.specs.declared.device.HostDevice.{HostDevice}
+use Rattle.takhvoi.specs.declared.system.System.{System}
+use Rattle.takhvoi.proofs.Starting.{began-with}
+use Rattle.takhvoi.proofs.kernels.start.Goals as goal
+
+pub returns-in-Ok-new-clause-began : goal.returns-in-Ok-new-clause-began
+returns-in-Ok-new-clause-began c = λ done.
+    let e = c.in-Ok.ensures in
+    let same = ap (λ (s : System). s.kernel.core) (c.put-in-Ok-new.ensures.value ∙ c.in-Ok-new.ensures.ok) ∙ ap (λ (k : KernelOn HostDevice). k.core) c.of.ensures.kernel ∙ c.rest.ensures.core in
+    began-with c.args.file c.args.region c.in-Ok.kernel c.put-in-Ok-new.new.handle.value.kernel.core same e.store e.file e.lists e.tied

@@ -1,0 +1,39 @@
+-- What copying bytes out and in comes to.
+use Rattle.std.specs.Prelude.{◌≡◌, ◌<◌, ◌+◌, ℕ, List, length, slice_index, Ok, OnErr, IfOk, Result}
+use Rattle.geos_terms.specs.declared.refusal.Refusal.{Refusal}
+use Rattle.geos_calls.specs.Calls.{load8, store}
+use Rattle.geos_calls.specs.Effects.{Call, Reference}
+use Rattle.geos_kernel.specs.Kernel.{Calls}
+use Rattle.geos_kernel.specs.View.{KernelState}
+use Rattle.takhvoi.specs.declared.system.System.{System}
+use Rattle.takhvoi.specs.Answers.{IsStatus}
+
+-- the kernel answered with a reference as the call's row says, of n bytes, and the number is that of its reply
+abbrev pub IsReferred : Call Reference → ℕ → ℕ → System → System → Type 0
+IsReferred call n status old new =
+    (reply : Result Reference Refusal) × Calls (Unit {0}) call reply old.kernel.core new.kernel.core × IsStatus reply status × IfOk reply (λ ref. n ≡ ref.len)
+
+-- bytes are those that are loaded from an offset of the reference on
+abbrev pub AreLoaded : Reference → ℕ → List ℕ → KernelState → Type 0
+AreLoaded ref at bytes s = (i : ℕ) → i < length bytes → Calls (Unit {0}) (load8 ref (at + i)) (Ok (slice_index bytes i)) s s
+
+-- the kernel answered with a reference as the call's row says, and the number is that of its reply; bytes of it were copied out, and the
+-- kernel is as it was
+abbrev pub IsCopied : Call Reference → ℕ → List ℕ → ℕ → System → System → Type 0
+IsCopied call at bytes status old new =
+    (new.kernel ≡ old.kernel)
+    × ((reply : Result Reference Refusal) × Calls (Unit {0}) call reply old.kernel.core old.kernel.core × IsStatus reply status
+    × IfOk reply (λ ref. AreLoaded ref at bytes old.kernel.core))
+
+-- the same, where n is how many bytes the reference has
+abbrev pub IsMeasured : Call Reference → ℕ → ℕ → System → System → Type 0
+IsMeasured call n status old new =
+    (new.kernel ≡ old.kernel)
+    × ((reply : Result Reference Refusal) × Calls (Unit {0}) call reply old.kernel.core old.kernel.core × IsStatus reply status × IfOk reply (λ ref. n ≡ ref.len))
+
+-- the kernel answered with a reference as the call's row says, and the number is that of its reply; where there is one, the bytes were
+-- stored there
+abbrev pub IsWritten : Call Reference → ℕ → List ℕ → ℕ → System → System → Type 0
+IsWritten call at bytes status old new =
+    (reply : Result Reference Refusal) × Calls (Unit {0}) call reply old.kernel.core old.kernel.core × IsStatus reply status
+    × OnErr reply (new.kernel ≡ old.kernel) × IfOk reply (λ ref. Calls (Unit {0}) (store ref at bytes) (Ok tt) old.kernel.core new.kernel.core)

@@ -1,0 +1,68 @@
+-- What loading and running images come to.
+use Rattle.std.specs.Prelude.{◌≡◌, ◌≤◌, ℕ, true, Some, None, IfSome, List, length, take, unwrap_or, slice_get, Ok}
+use Rattle.geos_image.specs.Legal.{text_end}
+use Rattle.geos_image.specs.Parts.{Parts}
+use Rattle.geos_image.specs.Reading.{image_at}
+use Rattle.geos_image.specs.declared.routine.Routine.{Routine}
+use Rattle.geos_verify.specs.declared.rule.Reject.{Reject}
+use Rattle.geos_verify.specs.Rules.{FirstRefusal}
+use Rattle.geos_verify.specs.RuleText.{rule_number}
+use Rattle.geos_calls.specs.VmFile.{VmFile}
+use Rattle.geos_kernel.specs.View.{IsFileOf}
+use Rattle.geos_machine.specs.declared.outcome.Outcome.{Outcome}
+use Rattle.geos_machine.specs.Runs.{RanWith, Throughout}
+use Rattle.host_device.specs.Journal.{medium}
+use Rattle.host_device.specs.declared.device.HostDevice.{HostDevice}
+use Rattle.takhvoi.specs.declared.system.System.{System}
+
+-- the number stands for this image
+abbrev pub StandsFor : System → ℕ → Parts → Type 0
+StandsFor system n image = slice_get system.images.items n ≡ Some (Some image)
+
+-- the kernel is as it was, and each number that stood for an image stands for it
+pub record Keeps (old new : System) : Type 0 where
+  pub kernel : new.kernel ≡ old.kernel
+  pub images : (n : ℕ) (image : Parts) → StandsFor old n image → StandsFor new n image
+
+-- where it is done, the bytes spell an image that was checked, and the number stands for it; the kernel and the other images stay
+abbrev pub IsLoaded : List ℕ → ℕ → ℕ → System → System → Type 0
+IsLoaded bytes n status old new =
+    (status ≡ 0 → (image : Parts) × (image_at bytes ≡ Ok image) × StandsFor new n image) × Keeps old new
+
+-- where it is done, the number stands for nothing from then on; the kernel and the other images stay
+abbrev pub IsUnloaded : ℕ → ℕ → System → System → Type 0
+IsUnloaded n status old new =
+    (new.kernel ≡ old.kernel)
+    × (status ≡ 0 → slice_get new.images.items n ≡ Some None)
+    × ((m : ℕ) (image : Parts) → (m ≡ n → ⊥) → StandsFor old m image → StandsFor new m image)
+
+-- the bytes spell an image, and this is the first instruction that a rule refuses, with the lowest such rule
+abbrev pub IsRejected : List ℕ → ℕ → ℕ → Type 0
+IsRejected bytes place rule =
+    (image : Parts) × (reject : Reject) × (image_at bytes ≡ Ok image) × FirstRefusal image reject × (place ≡ reject.pc) × (rule ≡ rule_number reject.rule)
+
+-- the number stands for a checked image, of which the model's run, on these words and with these blocks lent, met no fault and came to
+-- such words, such an output in front of the buffer, so long, and so many steps; a host that is stopped while it
+-- performs what the run has left noted has what the run had as kept in one of its states
+pub record HasRun (n routine : ℕ) (words handles after room output : List ℕ) (count steps status : ℕ) (old new : System) : Type 0 where
+  pub done : status ≡ 0
+  pub image : Parts
+  pub loaded : StandsFor old n image
+  pub outcome : Outcome
+  pub left : HostDevice
+  pub ran : (f : VmFile) → IsFileOf (Unit {0}) old.kernel.core f
+      → RanWith (Unit {0}) (Throughout medium old.kernel.device left) image routine words handles old.kernel.core new.kernel.core outcome f
+  pub device : old.hosted ≡ true → new.kernel.device ≡ left
+  pub words_out : after ≡ outcome.words
+  pub put_out : take (length outcome.output.items) output ≡ take (length room) outcome.output.items
+  pub count_is : count ≡ length outcome.output.items
+  pub steps_are : steps ≡ outcome.steps
+  pub within : IfSome (slice_get image.routines routine) (λ r. steps ≤ r.budget)
+
+-- the routine with the number has this name
+abbrev pub IsNamed : List ℕ → Routine → Type 0
+IsNamed name routine = take (unwrap_or (text_end routine.name) 16) routine.name ≡ name
+
+-- the number stands for an image, whose routine with the other number has this name
+abbrev pub HasRoutine : System → ℕ → List ℕ → ℕ → Type 0
+HasRoutine system n name r = (image : Parts) × StandsFor system n image × IfSome (slice_get image.routines r) (IsNamed name)

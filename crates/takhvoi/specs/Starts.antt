@@ -1,0 +1,35 @@
+-- What a kernel begins with.
+use Rattle.std.specs.Prelude.{◌≡◌, ℕ, Bool, true, Ok, List}
+use Rattle.block_handles.specs.Layout.{IsEmpty}
+use Rattle.geos_calls.specs.VmFile.{empty_file}
+use Rattle.vm_file.specs.Reading.{file_at}
+use Rattle.vm_file.specs.State.{FileState, file_of}
+use Rattle.vm_blocks.specs.Listed.{IsListOf}
+use Rattle.vm_blocks.specs.Opened.{opened_file}
+use Rattle.geos_kernel.specs.View.{IsFileOf, KernelState}
+use Rattle.host_device.specs.Journal.{bytes_of}
+use Rattle.host_device.specs.declared.device.HostDevice.{HostDevice}
+use Rattle.takhvoi.specs.declared.system.System.{System}
+
+-- a kernel with no block, in a region of so many bytes, on this VM file: the model has what the file keeps
+pub record Began (file : FileState HostDevice) (region : ℕ) (s : KernelState) : Type 0 where
+  pub area : s.vm.file.area ≡ file.area
+  pub sure : s.vm.file.sure ≡ file.sure
+  pub current : s.vm.file.current ≡ file.current
+  pub saved : s.vm.file.saved ≡ file.saved
+  pub lists : IsListOf s.vm file.current
+  pub store : IsEmpty s.blocks region
+  pub tied : IsFileOf (Unit {0}) s (opened_file bytes_of file)
+
+-- a kernel with no block, in a region of so many bytes: the model has the VM file that these bytes spell, and a host performs what is noted
+pub record IsOpened (bytes : List ℕ) (region : ℕ) (system : System) : Type 0 where
+  pub file : FileState HostDevice
+  pub spelled : file_at bytes ≡ Ok (file_of bytes_of file)
+  pub began : Began file region system.kernel.core
+  pub hosts : system.hosted ≡ true
+
+-- a kernel with no block, in a region of so many bytes: the model has a new VM file with areas of so many
+pub record IsNew (area region : ℕ) (hosted : Bool) (system : System) : Type 0 where
+  pub tied : IsFileOf (Unit {0}) system.kernel.core (empty_file area)
+  pub store : IsEmpty system.kernel.core.blocks region
+  pub hosts : system.hosted ≡ hosted

@@ -1,0 +1,27 @@
+-- What calls on texts and images give.
+use Rattle.std.specs.Prelude.{◌≡◌, ℕ, true, List, Option, Ok}
+use Rattle.geos_image.specs.Parts.{Parts}
+use Rattle.geos_image.specs.Reading.{image_at}
+use Rattle.geos_verify.specs.declared.rule.Reject.{Reject}
+use Rattle.geos_listing.specs.Listing.{listing}
+use Rattle.geos_explain.specs.Explanation.{explanation, IsVerdict}
+use Rattle.geos_source.specs.declared.fault.BadLine as fault
+use Rattle.geos_asm.specs.Assembling.{IsAssembled, IsWhyNoImage}
+use Rattle.geos_asm.specs.declared.error.AssembleError.TheVariants.{BadLine}
+
+-- the bytes spell an image of the text, with rows at its key places
+abbrev pub IsImageOf : List ℕ → List ℕ → Type 0
+IsImageOf text bytes = (image : Parts) × (image_at bytes ≡ Ok image) × IsAssembled text image × (image.keyed ≡ true)
+
+-- the text's first fault is in this line
+abbrev pub HasFaultAt : List ℕ → ℕ → Type 0
+HasFaultAt text line = (bad : fault.BadLine) × IsWhyNoImage text (BadLine bad) × (line ≡ bad.line)
+
+-- the bytes spell an image, and this is its listing
+abbrev pub IsListedAs : List ℕ → List ℕ → Type 0
+IsListedAs bytes text = (image : Parts) × (image_at bytes ≡ Ok image) × (text ≡ listing image)
+
+-- the bytes spell an image, and this is its explanation, with its first refusal, if it has one
+abbrev pub IsExplainedAs : List ℕ → List ℕ → Type 0
+IsExplainedAs bytes text =
+    (image : Parts) × (reject : Option Reject) × (image_at bytes ≡ Ok image) × IsVerdict image reject × (text ≡ explanation image reject)

@@ -1,0 +1,225 @@
+//! Bytes of chunks, and of elements of arrays, are copied out and in.
+
+ghost use Rattle.std.specs.Prelude.{◌≡◌, ◌+◌, ◌≤◌, length, IfSome};
+ghost use Rattle.geos_calls.specs.ArrayCalls as arrays;
+ghost use Rattle.geos_calls.specs.Calls as table;
+ghost use Rattle.geos_calls.specs.ChunkCalls.{least, refer_row};
+ghost use Rattle.takhvoi.specs.Answers.{Done, On, Served};
+ghost use Rattle.takhvoi.specs.Bytes.{IsCopied, IsMeasured, IsWritten};
+ghost use Rattle.takhvoi.specs.Names.{name_of};
+
+use crate::chunks::may_change;
+use crate::handle::Handle;
+use crate::held::{put, take};
+use crate::status::{BAD_SIZE, DONE, NO_KERNEL, NOT_LOCKED, NOT_MARKED, name_of, number};
+use crate::system::System;
+use geos_calls::Refer;
+use geos_kernel::Name;
+use std::alloc::Global;
+
+/// The end of a range of bytes, if a chunk can have so many.
+fn end_of(at: u16, n: usize) -> Option<u16>
+    ensures { IfSome result (λ end. end ≡ at + n) }
+{
+    if n <= usize::from(u16::MAX - at) {
+        Some(at + n as u16)
+    } else {
+        None
+    }
+}
+
+fn read_in(system: &mut System, name: Name, refer: Refer, at: u16, into: &mut [u8]) -> u32
+    requires { at + length into.old ≤ least refer }
+    ensures { Done (IsCopied (refer_row name refer) at into.new) result system.old system.new }
+{
+    if system.kernel.locks(name) == 0 {
+        return NOT_LOCKED;
+    }
+    match system.kernel.refer(name, refer) {
+        Ok(span) => {
+            system.kernel.read(span, at, into);
+            DONE
+        }
+        Err(refusal) => number(refusal),
+    }
+}
+
+/// Copies bytes out of what the value refers to, from an offset on.
+fn read(
+    alloc: Global,
+    handle: &mut Handle,
+    block: u32,
+    refer: Refer,
+    at: u16,
+    into: &mut [u8],
+) -> u32
+    requires { at + length into.old ≤ least refer }
+    ensures { Served (IsCopied (refer_row (name_of block) refer) at into.new) result handle.old handle.new }
+{
+    let Some(mut system) = take(alloc, handle) else {
+        return NO_KERNEL;
+    };
+    let status = read_in(&mut system, name_of(block), refer, at, into);
+    put(handle, system);
+    status
+}
+
+fn write_in(system: &mut System, name: Name, refer: Refer, at: u16, from: &[u8]) -> u32
+    requires { at + length from.now ≤ least refer }
+    ensures { Done (IsWritten (refer_row name refer) at from.now) result system.old system.new }
+{
+    if system.kernel.locks(name) == 0 {
+        return NOT_LOCKED;
+    }
+    if !may_change(system, name) {
+        return NOT_MARKED;
+    }
+    match system.kernel.refer(name, refer) {
+        Ok(span) => {
+            system.kernel.store(span, at, from);
+            DONE
+        }
+        Err(refusal) => number(refusal),
+    }
+}
+
+/// Stores bytes into what the value refers to, from an offset on.
+fn write(alloc: Global, handle: &mut Handle, block: u32, refer: Refer, at: u16, from: &[u8]) -> u32
+    requires { at + length from.now ≤ least refer }
+    ensures { Served (IsWritten (refer_row (name_of block) refer) at from.now) result handle.old handle.new }
+{
+    let Some(mut system) = take(alloc, handle) else {
+        return NO_KERNEL;
+    };
+    let status = write_in(&mut system, name_of(block), refer, at, from);
+    put(handle, system);
+    status
+}
+
+/// Says that no chunk has so many bytes, where the handle holds a kernel.
+fn refuse(alloc: Global, handle: &mut Handle) -> u32
+    ensures same { On (λ old new. new ≡ old) result handle.old handle.new }
+    ensures own { 100 ≤ result }
+{
+    let Some(system) = take(alloc, handle) else {
+        return NO_KERNEL;
+    };
+    put(handle, system);
+    BAD_SIZE
+}
+
+/// Copies bytes of a chunk out, from an offset on, as many as `into` has.
+#[unsafe(no_mangle)]
+pub extern "C" fn takhvoi_read(
+    alloc: Global,
+    handle: &mut Handle,
+    block: u32,
+    c: u16,
+    at: u16,
+    into: &mut [u8],
+) -> u32
+    ensures { Served (IsCopied (table.deref (name_of block) c (at + length into.old)) at into.new) result handle.old handle.new }
+{
+    match end_of(at, into.len()) {
+        Some(n) => read(alloc, handle, block, Refer::Deref { c, n }, at, into),
+        None => refuse(alloc, handle),
+    }
+}
+
+/// Copies bytes of an element of an array out, from an offset on, as many as `into` has.
+#[unsafe(no_mangle)]
+pub extern "C" fn takhvoi_caread(
+    alloc: Global,
+    handle: &mut Handle,
+    block: u32,
+    c: u16,
+    i: u16,
+    at: u16,
+    into: &mut [u8],
+) -> u32
+    ensures { Served (IsCopied (arrays.caelt (name_of block) c i (at + length into.old)) at into.new) result handle.old handle.new }
+{
+    match end_of(at, into.len()) {
+        Some(n) => read(alloc, handle, block, Refer::Caelt { c, i, n }, at, into),
+        None => refuse(alloc, handle),
+    }
+}
+
+fn measure(system: &mut System, name: Name, refer: Refer, told: &mut u16) -> u32
+    ensures { Done (IsMeasured (refer_row name refer) told.new) result system.old system.new }
+{
+    if system.kernel.locks(name) == 0 {
+        return NOT_LOCKED;
+    }
+    match system.kernel.refer(name, refer) {
+        Ok(span) => {
+            *told = span.len;
+            DONE
+        }
+        Err(refusal) => number(refusal),
+    }
+}
+
+/// Tells how many bytes the value refers to.
+fn tell_length(alloc: Global, handle: &mut Handle, block: u32, refer: Refer, told: &mut u16) -> u32
+    ensures { Served (IsMeasured (refer_row (name_of block) refer) told.new) result handle.old handle.new }
+{
+    let Some(mut system) = take(alloc, handle) else {
+        return NO_KERNEL;
+    };
+    let status = measure(&mut system, name_of(block), refer, told);
+    put(handle, system);
+    status
+}
+
+/// Tells the length of an element of an array.
+#[unsafe(no_mangle)]
+pub extern "C" fn takhvoi_casize(
+    alloc: Global,
+    handle: &mut Handle,
+    block: u32,
+    c: u16,
+    i: u16,
+    told: &mut u16,
+) -> u32
+    ensures { Served (IsMeasured (arrays.caelt (name_of block) c i 0) told.new) result handle.old handle.new }
+{
+    tell_length(alloc, handle, block, Refer::Caelt { c, i, n: 0 }, told)
+}
+
+/// Stores bytes into a chunk, from an offset on. A block of the VM file is marked before.
+#[unsafe(no_mangle)]
+pub extern "C" fn takhvoi_write(
+    alloc: Global,
+    handle: &mut Handle,
+    block: u32,
+    c: u16,
+    at: u16,
+    from: &[u8],
+) -> u32
+    ensures { Served (IsWritten (table.deref (name_of block) c (at + length from.now)) at from.now) result handle.old handle.new }
+{
+    match end_of(at, from.len()) {
+        Some(n) => write(alloc, handle, block, Refer::Deref { c, n }, at, from),
+        None => refuse(alloc, handle),
+    }
+}
+
+/// Stores bytes into an element of an array, from an offset on. A block of the VM file is marked before.
+#[unsafe(no_mangle)]
+pub extern "C" fn takhvoi_cawrite(
+    alloc: Global,
+    handle: &mut Handle,
+    block: u32,
+    c: u16,
+    i: u16,
+    at: u16,
+    from: &[u8],
+) -> u32
+    ensures { Served (IsWritten (arrays.caelt (name_of block) c i (at + length from.now)) at from.now) result handle.old handle.new }
+{
+    match end_of(at, from.len()) {
+        Some(n) => write(alloc, handle, block, Refer::Caelt { c, i, n }, at, from),
+        None => refuse(alloc, handle),
+    }
+}

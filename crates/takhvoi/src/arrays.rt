@@ -1,0 +1,104 @@
+//! Calls on arrays in the chunks of a locked block.
+
+ghost use Rattle.geos_calls.specs.ArrayCalls as table;
+ghost use Rattle.takhvoi.specs.Answers.{IsAnswer, IsTold, Served};
+ghost use Rattle.takhvoi.specs.Names.{name_of};
+
+use crate::chunks::{ask, change, make};
+use crate::handle::Handle;
+use geos_calls::{Ask, Change, Make};
+use std::alloc::Global;
+
+/// Makes an empty array in a new chunk, of elements of so many bytes each, or of sizes of their own where that is 0, and tells the chunk's handle.
+#[unsafe(no_mangle)]
+pub extern "C" fn takhvoi_canew(
+    alloc: Global,
+    handle: &mut Handle,
+    block: u32,
+    element_size: u16,
+    told: &mut u16,
+) -> u32
+    ensures { Served (IsTold (table.canew (name_of block) element_size) told.new) result handle.old handle.new }
+{
+    make(alloc, handle, block, Make::Canew { element_size }, told)
+}
+
+/// Puts an element of zeros behind the others, of so many bytes where sizes vary.
+#[unsafe(no_mangle)]
+pub extern "C" fn takhvoi_caadd(
+    alloc: Global,
+    handle: &mut Handle,
+    block: u32,
+    c: u16,
+    n: u16,
+) -> u32
+    ensures { Served (IsAnswer (table.caadd (name_of block) c n)) result handle.old handle.new }
+{
+    change(alloc, handle, block, Change::Caadd { c, n })
+}
+
+/// Puts an element of zeros at an index, of so many bytes where sizes vary.
+#[unsafe(no_mangle)]
+pub extern "C" fn takhvoi_cains(
+    alloc: Global,
+    handle: &mut Handle,
+    block: u32,
+    c: u16,
+    i: u16,
+    n: u16,
+) -> u32
+    ensures { Served (IsAnswer (table.cains (name_of block) c i n)) result handle.old handle.new }
+{
+    change(alloc, handle, block, Change::Cains { c, i, n })
+}
+
+/// Takes an element out.
+#[unsafe(no_mangle)]
+pub extern "C" fn takhvoi_cadel(
+    alloc: Global,
+    handle: &mut Handle,
+    block: u32,
+    c: u16,
+    i: u16,
+) -> u32
+    ensures { Served (IsAnswer (table.cadel (name_of block) c i)) result handle.old handle.new }
+{
+    change(alloc, handle, block, Change::Cadel { c, i })
+}
+
+/// Takes all elements out.
+#[unsafe(no_mangle)]
+pub extern "C" fn takhvoi_cazero(alloc: Global, handle: &mut Handle, block: u32, c: u16) -> u32
+    ensures { Served (IsAnswer (table.cazero (name_of block) c)) result handle.old handle.new }
+{
+    change(alloc, handle, block, Change::Cazero { c })
+}
+
+/// Gives an element so many bytes, where sizes vary.
+#[unsafe(no_mangle)]
+pub extern "C" fn takhvoi_caresize(
+    alloc: Global,
+    handle: &mut Handle,
+    block: u32,
+    c: u16,
+    i: u16,
+    n: u16,
+) -> u32
+    ensures { Served (IsAnswer (table.caresize (name_of block) c i n)) result handle.old handle.new }
+{
+    change(alloc, handle, block, Change::Caresize { c, i, n })
+}
+
+/// Tells how many elements an array has.
+#[unsafe(no_mangle)]
+pub extern "C" fn takhvoi_cacount(
+    alloc: Global,
+    handle: &mut Handle,
+    block: u32,
+    c: u16,
+    told: &mut u16,
+) -> u32
+    ensures { Served (IsTold (table.cacount (name_of block) c) told.new) result handle.old handle.new }
+{
+    ask(alloc, handle, block, Ask::Cacount { c }, told)
+}

@@ -1,0 +1,128 @@
+//! Calls on whole blocks of memory, and on locks.
+
+ghost use Rattle.std.specs.Prelude.{◌≡◌};
+ghost use Rattle.block_handles.specs.Names.{slot_of};
+ghost use Rattle.block_handles.specs.Store.{locks_of};
+ghost use Rattle.vm_blocks.specs.Blocks.{is_marked_in};
+ghost use Rattle.vm_blocks.specs.View.{held_at};
+ghost use Rattle.geos_calls.specs.Calls as table;
+ghost use Rattle.takhvoi.specs.Answers.{Done, IsAnswer, IsFlag, IsTold, Looks, Served};
+ghost use Rattle.takhvoi.specs.Names.{name_of};
+
+use crate::handle::Handle;
+use crate::held::{put, take};
+use crate::status::{DONE, NO_KERNEL, NOT_LOCKED, end, name_of, tell};
+use crate::system::System;
+use std::alloc::Global;
+
+fn mnew(system: &mut System, told: &mut u16) -> u32
+    ensures { Done (IsTold table.mnew told.new) result system.old system.new }
+{
+    tell(system.kernel.mnew(), told)
+}
+
+/// Makes a block of 64 bytes, locks it, and tells its handle.
+#[unsafe(no_mangle)]
+pub extern "C" fn takhvoi_mnew(alloc: Global, handle: &mut Handle, told: &mut u16) -> u32
+    ensures { Served (IsTold table.mnew told.new) result handle.old handle.new }
+{
+    let Some(mut system) = take(alloc, handle) else {
+        return NO_KERNEL;
+    };
+    let status = mnew(&mut system, told);
+    put(handle, system);
+    status
+}
+
+fn mlock(system: &mut System, h: u16) -> u32
+    ensures { Done (IsAnswer (table.mlock h)) result system.old system.new }
+{
+    end(system.kernel.mlock(h))
+}
+
+/// Locks a block of memory once more.
+#[unsafe(no_mangle)]
+pub extern "C" fn takhvoi_mlock(alloc: Global, handle: &mut Handle, h: u16) -> u32
+    ensures { Served (IsAnswer (table.mlock h)) result handle.old handle.new }
+{
+    let Some(mut system) = take(alloc, handle) else {
+        return NO_KERNEL;
+    };
+    let status = mlock(&mut system, h);
+    put(handle, system);
+    status
+}
+
+fn unlock(system: &mut System, block: u32) -> u32
+    ensures { Done (IsAnswer (table.unlock (name_of block))) result system.old system.new }
+{
+    let name = name_of(block);
+    if system.kernel.locks(name) == 0 {
+        return NOT_LOCKED;
+    }
+    system.kernel.munlock(name);
+    DONE
+}
+
+/// Unlocks a block of either owner, or a group, once.
+#[unsafe(no_mangle)]
+pub extern "C" fn takhvoi_unlock(alloc: Global, handle: &mut Handle, block: u32) -> u32
+    ensures { Served (IsAnswer (table.unlock (name_of block))) result handle.old handle.new }
+{
+    let Some(mut system) = take(alloc, handle) else {
+        return NO_KERNEL;
+    };
+    let status = unlock(&mut system, block);
+    put(handle, system);
+    status
+}
+
+fn mfree(system: &mut System, h: u16) -> u32
+    ensures { Done (IsAnswer (table.mfree h)) result system.old system.new }
+{
+    end(system.kernel.mfree(h))
+}
+
+/// Frees a block of memory that is not locked.
+#[unsafe(no_mangle)]
+pub extern "C" fn takhvoi_mfree(alloc: Global, handle: &mut Handle, h: u16) -> u32
+    ensures { Served (IsAnswer (table.mfree h)) result handle.old handle.new }
+{
+    let Some(mut system) = take(alloc, handle) else {
+        return NO_KERNEL;
+    };
+    let status = mfree(&mut system, h);
+    put(handle, system);
+    status
+}
+
+/// Tells how often a block of either owner, or a group, is locked; 0 where there is none.
+#[unsafe(no_mangle)]
+pub extern "C" fn takhvoi_locks(
+    alloc: Global,
+    handle: &mut Handle,
+    block: u32,
+    told: &mut u16,
+) -> u32
+    ensures { Served (Looks (told.new ≡ locks_of handle.old.value.kernel.core.blocks (slot_of (name_of block)))) result handle.old handle.new }
+{
+    let Some(system) = take(alloc, handle) else {
+        return NO_KERNEL;
+    };
+    *told = system.kernel.locks(name_of(block));
+    put(handle, system);
+    DONE
+}
+
+/// Tells whether a block of the VM file, or a group, is marked: 1 or 0; 0 where there is none.
+#[unsafe(no_mangle)]
+pub extern "C" fn takhvoi_marked(alloc: Global, handle: &mut Handle, h: u16, told: &mut u16) -> u32
+    ensures { Served (Looks (IsFlag told.new (is_marked_in (held_at handle.old.value.kernel.core.vm h)))) result handle.old handle.new }
+{
+    let Some(system) = take(alloc, handle) else {
+        return NO_KERNEL;
+    };
+    *told = u16::from(system.kernel.marked(h));
+    put(handle, system);
+    DONE
+}

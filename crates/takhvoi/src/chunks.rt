@@ -1,0 +1,189 @@
+//! Calls on the chunks of a locked block.
+
+ghost use Rattle.std.specs.Prelude.{IsTrue};
+ghost use Rattle.geos_calls.specs.Calls as table;
+ghost use Rattle.geos_calls.specs.ChunkCalls.{ask_row, change_row, make_row};
+ghost use Rattle.geos_kernel.specs.View.{MayChange};
+ghost use Rattle.takhvoi.specs.Answers.{Done, IsAnswer, IsTold, Served};
+ghost use Rattle.takhvoi.specs.Names.{name_of};
+
+use crate::handle::Handle;
+use crate::held::{put, take};
+use crate::status::{NO_KERNEL, NOT_LOCKED, NOT_MARKED, end, name_of, tell};
+use crate::system::System;
+use geos_calls::{Ask, Change, Make};
+use geos_kernel::{Name, Owner};
+use std::alloc::Global;
+
+/// Whether the bytes of a block may be changed: where it is one of the VM file, it is marked.
+pub(crate) fn may_change(system: &System, name: Name) -> bool
+    ensures { IsTrue result → MayChange system.now.kernel.core name }
+{
+    match name.owner {
+        Owner::Mem => true,
+        Owner::Vm => system.kernel.marked(name.h),
+    }
+}
+
+fn change_in(system: &mut System, name: Name, change: Change) -> u32
+    ensures { Done (IsAnswer (change_row name change)) result system.old system.new }
+{
+    if system.kernel.locks(name) == 0 {
+        return NOT_LOCKED;
+    }
+    if !may_change(system, name) {
+        return NOT_MARKED;
+    }
+    end(system.kernel.change(name, change))
+}
+
+/// Changes the chunks of a block, as the value says.
+pub(crate) fn change(alloc: Global, handle: &mut Handle, block: u32, change: Change) -> u32
+    ensures { Served (IsAnswer (change_row (name_of block) change)) result handle.old handle.new }
+{
+    let Some(mut system) = take(alloc, handle) else {
+        return NO_KERNEL;
+    };
+    let status = change_in(&mut system, name_of(block), change);
+    put(handle, system);
+    status
+}
+
+fn make_in(system: &mut System, name: Name, make: Make, told: &mut u16) -> u32
+    ensures { Done (IsTold (make_row name make) told.new) result system.old system.new }
+{
+    if system.kernel.locks(name) == 0 {
+        return NOT_LOCKED;
+    }
+    if !may_change(system, name) {
+        return NOT_MARKED;
+    }
+    tell(system.kernel.make(name, make), told)
+}
+
+/// Makes a chunk in a block, as the value says, and tells its handle.
+pub(crate) fn make(
+    alloc: Global,
+    handle: &mut Handle,
+    block: u32,
+    make: Make,
+    told: &mut u16,
+) -> u32
+    ensures { Served (IsTold (make_row (name_of block) make) told.new) result handle.old handle.new }
+{
+    let Some(mut system) = take(alloc, handle) else {
+        return NO_KERNEL;
+    };
+    let status = make_in(&mut system, name_of(block), make, told);
+    put(handle, system);
+    status
+}
+
+fn ask_in(system: &mut System, name: Name, ask: Ask, told: &mut u16) -> u32
+    ensures { Done (IsTold (ask_row name ask) told.new) result system.old system.new }
+{
+    if system.kernel.locks(name) == 0 {
+        return NOT_LOCKED;
+    }
+    tell(system.kernel.ask(name, ask), told)
+}
+
+/// Tells a number of the chunks of a block, as the value says.
+pub(crate) fn ask(alloc: Global, handle: &mut Handle, block: u32, ask: Ask, told: &mut u16) -> u32
+    ensures { Served (IsTold (ask_row (name_of block) ask) told.new) result handle.old handle.new }
+{
+    let Some(mut system) = take(alloc, handle) else {
+        return NO_KERNEL;
+    };
+    let status = ask_in(&mut system, name_of(block), ask, told);
+    put(handle, system);
+    status
+}
+
+/// Makes a chunk of zero bytes, and tells its handle.
+#[unsafe(no_mangle)]
+pub extern "C" fn takhvoi_lalloc(
+    alloc: Global,
+    handle: &mut Handle,
+    block: u32,
+    n: u16,
+    told: &mut u16,
+) -> u32
+    ensures { Served (IsTold (table.lalloc (name_of block) n) told.new) result handle.old handle.new }
+{
+    make(alloc, handle, block, Make::Lalloc { n }, told)
+}
+
+/// Frees a chunk.
+#[unsafe(no_mangle)]
+pub extern "C" fn takhvoi_lfree(alloc: Global, handle: &mut Handle, block: u32, c: u16) -> u32
+    ensures { Served (IsAnswer (table.lfree (name_of block) c)) result handle.old handle.new }
+{
+    change(alloc, handle, block, Change::Lfree { c })
+}
+
+/// Gives a chunk so many bytes: its first ones that fit, and zeros behind them.
+#[unsafe(no_mangle)]
+pub extern "C" fn takhvoi_lrealloc(
+    alloc: Global,
+    handle: &mut Handle,
+    block: u32,
+    c: u16,
+    n: u16,
+) -> u32
+    ensures { Served (IsAnswer (table.lrealloc (name_of block) c n)) result handle.old handle.new }
+{
+    change(alloc, handle, block, Change::Lrealloc { c, n })
+}
+
+/// Inserts zero bytes into a chunk.
+#[unsafe(no_mangle)]
+pub extern "C" fn takhvoi_lins(
+    alloc: Global,
+    handle: &mut Handle,
+    block: u32,
+    c: u16,
+    at: u16,
+    n: u16,
+) -> u32
+    ensures { Served (IsAnswer (table.lins (name_of block) c at n)) result handle.old handle.new }
+{
+    change(alloc, handle, block, Change::Lins { c, at, n })
+}
+
+/// Deletes bytes of a chunk.
+#[unsafe(no_mangle)]
+pub extern "C" fn takhvoi_ldel(
+    alloc: Global,
+    handle: &mut Handle,
+    block: u32,
+    c: u16,
+    at: u16,
+    n: u16,
+) -> u32
+    ensures { Served (IsAnswer (table.ldel (name_of block) c at n)) result handle.old handle.new }
+{
+    change(alloc, handle, block, Change::Ldel { c, at, n })
+}
+
+/// Moves the chunks of a block together, so that its free bytes are in one piece.
+#[unsafe(no_mangle)]
+pub extern "C" fn takhvoi_lcontract(alloc: Global, handle: &mut Handle, block: u32) -> u32
+    ensures { Served (IsAnswer (table.lcontract (name_of block))) result handle.old handle.new }
+{
+    change(alloc, handle, block, Change::Lcontract)
+}
+
+/// Tells the length of a chunk.
+#[unsafe(no_mangle)]
+pub extern "C" fn takhvoi_lsize(
+    alloc: Global,
+    handle: &mut Handle,
+    block: u32,
+    c: u16,
+    told: &mut u16,
+) -> u32
+    ensures { Served (IsTold (table.lsize (name_of block) c) told.new) result handle.old handle.new }
+{
+    ask(alloc, handle, block, Ask::Lsize { c }, told)
+}

@@ -1,0 +1,293 @@
+//! Images are loaded, and their routines run.
+
+ghost use Rattle.std.specs.Option.{option_copied};
+ghost use Rattle.std.specs.Prelude.{◌≡◌, ◌≤◌, ℕ, Err, Some, IfSome, length, slice_get, take};
+ghost use Rattle.geos_image.specs.Parts.{Parts};
+ghost use Rattle.geos_image.specs.Reading.{image_at};
+ghost use Rattle.takhvoi.specs.Answers.{Done, Looks, On, Served};
+ghost use Rattle.geos_verify.specs.RuleText.{rule_number};
+ghost use Rattle.takhvoi.specs.Images.{HasRoutine, HasRun, IsLoaded, IsNamed, IsRejected, IsUnloaded};
+
+use crate::handle::Handle;
+use crate::held::{put, take};
+use crate::journal::{is_performed, rest};
+use crate::status::{BAD_IMAGE, DONE, NO_KERNEL, NO_MEMORY, NOT_ADMITTED, PENDING, REFUSED};
+use crate::system::System;
+use geos_image::{Image, ReadError};
+use geos_machine::admits;
+use geos_verify::{Checked, Rule, check};
+use std::alloc::Global;
+
+/// The most images that are kept at once.
+const MOST_IMAGES: usize = 65_536;
+
+/// The lowest number that stands for no image.
+#[tactic(auto, using(crate::proofs::Numbers::none_past, crate::proofs::Numbers::none_there))]
+fn lowest_free(images: &Vec<Option<Checked>>) -> usize
+    ensures free { (image : Parts) → slice_get images.now.items result ≡ Some (Some image) → ⊥ }
+    ensures within { result ≤ length images.now.items }
+{
+    for n in 0..images.len() {
+        if images[n].is_none() {
+            return n;
+        }
+    }
+    images.len()
+}
+
+/// Puts an image behind the others.
+#[tactic(auto, using(crate::proofs::Numbers::stays_behind, crate::proofs::Numbers::is_last))]
+fn append(images: &mut Vec<Option<Checked>>, checked: Checked, number: &mut u32) -> u32
+    ensures stands { result ≡ 0 → slice_get images.new.items number.new ≡ Some (Some checked) }
+    ensures stay { (n : ℕ) (image : Parts) → slice_get images.old.items n ≡ Some (Some image) → slice_get images.new.items n ≡ Some (Some image) }
+    ensures own { result ≤ 111 }
+{
+    let next = images.len();
+    if next >= MOST_IMAGES {
+        return NO_MEMORY;
+    }
+    if images.push(Some(checked)).is_err() {
+        return NO_MEMORY;
+    }
+    *number = next as u32;
+    DONE
+}
+
+/// Gives an image the lowest number that is free.
+#[tactic(auto, using(crate::proofs::Numbers::set_stays, crate::proofs::Numbers::set_is))]
+fn keep(images: &mut Vec<Option<Checked>>, checked: Checked, number: &mut u32) -> u32
+    ensures stands { result ≡ 0 → slice_get images.new.items number.new ≡ Some (Some checked) }
+    ensures stay { (n : ℕ) (image : Parts) → slice_get images.old.items n ≡ Some (Some image) → slice_get images.new.items n ≡ Some (Some image) }
+    ensures own { result ≤ 111 }
+{
+    let free = lowest_free(images);
+    if free >= images.len() {
+        return append(images, checked, number);
+    }
+    if free >= MOST_IMAGES {
+        return NO_MEMORY;
+    }
+    images[free] = Some(checked);
+    *number = free as u32;
+    DONE
+}
+
+/// The number of a rule.
+fn number_of(rule: Rule) -> u32
+    ensures { result ≡ rule_number rule }
+{
+    rule as u32
+}
+
+fn load_in(
+    alloc: Global,
+    system: &mut System,
+    bytes: &[u8],
+    number: &mut u32,
+    place: &mut u64,
+    rule: &mut u32,
+) -> u32
+    ensures loaded { IsLoaded bytes.now number.new result system.old system.new }
+    ensures bad { result ≡ 112 → image_at bytes.now ≡ Err place.new }
+    ensures refused { result ≡ 113 → IsRejected bytes.now place.new rule.new }
+{
+    let image = match geos_image::read(alloc, bytes) {
+        Ok(image) => image,
+        Err(ReadError::BadImage(at)) => {
+            *place = at as u64;
+            return BAD_IMAGE;
+        }
+        Err(ReadError::Memory) => return NO_MEMORY,
+    };
+    match check(image) {
+        Ok(checked) => keep(&mut system.images, checked, number),
+        Err((_image, reject)) => {
+            *place = u64::from(reject.pc);
+            *rule = number_of(reject.rule);
+            REFUSED
+        }
+    }
+}
+
+/// Reads and checks the image that bytes spell, and tells its number; or the offset of the first faulty byte; or the first pc
+/// that is refused, and the lowest rule that refuses there.
+#[unsafe(no_mangle)]
+pub extern "C" fn takhvoi_load(
+    alloc: Global,
+    handle: &mut Handle,
+    bytes: &[u8],
+    number: &mut u32,
+    place: &mut u64,
+    rule: &mut u32,
+) -> u32
+    ensures loaded { On (IsLoaded bytes.now number.new result) result handle.old handle.new }
+    ensures bad { result ≡ 112 → image_at bytes.now ≡ Err place.new }
+    ensures refused { result ≡ 113 → IsRejected bytes.now place.new rule.new }
+{
+    let Some(mut system) = take(alloc, handle) else {
+        return NO_KERNEL;
+    };
+    let status = load_in(alloc, &mut system, bytes, number, place, rule);
+    put(handle, system);
+    status
+}
+
+#[tactic(auto, using(crate::proofs::Numbers::set_is, crate::proofs::Numbers::others_stay))]
+fn unload_in(system: &mut System, number: u32) -> u32
+    ensures { IsUnloaded number result system.old system.new }
+{
+    let n = number as usize;
+    if n >= system.images.len() {
+        return NOT_ADMITTED;
+    }
+    system.images[n] = None;
+    DONE
+}
+
+/// Frees an image, whose number is given again.
+#[unsafe(no_mangle)]
+pub extern "C" fn takhvoi_unload(alloc: Global, handle: &mut Handle, number: u32) -> u32
+    ensures { On (IsUnloaded number result) result handle.old handle.new }
+{
+    let Some(mut system) = take(alloc, handle) else {
+        return NO_KERNEL;
+    };
+    let status = unload_in(&mut system, number);
+    put(handle, system);
+    status
+}
+
+/// The image that a number stands for.
+fn image_of(images: &Vec<Option<Checked>>, number: u32) -> Option<&Checked>
+    ensures { IfSome (option_copied result) (λ image. slice_get images.now.items number ≡ Some (Some image)) }
+{
+    match images.get(number as usize) {
+        Some(Some(checked)) => Some(checked),
+        _ => None,
+    }
+}
+
+/// Copies the first words, as many as there is room for.
+fn put_words(words: &[u16], into: &mut [u16])
+    ensures { take (length words.now) into.new ≡ take (length into.old) words.now }
+{
+    let n = words.len().min(into.len());
+    into[..n].copy_from_slice(&words[..n]);
+}
+
+fn run_in(
+    system: &mut System,
+    number: u32,
+    routine: u16,
+    words: &mut [u16; 8],
+    handles: &[u16; 4],
+    output: &mut [u16],
+    count: &mut u32,
+    steps: &mut u32,
+) -> u32
+    ensures { Done (HasRun number routine words.old handles.now words.new output.old output.new count.new steps.new) result system.old system.new }
+{
+    let System {
+        kernel,
+        machine,
+        images,
+        hosted,
+    } = system;
+    let Some(checked) = image_of(images, number) else {
+        return NOT_ADMITTED;
+    };
+    if !admits(checked, routine, words, handles, kernel) {
+        return NOT_ADMITTED;
+    }
+    if !is_performed(kernel) {
+        return PENDING;
+    }
+    let outcome = machine.run(checked, routine, words, handles, kernel);
+    rest(kernel, *hosted);
+    *words = outcome.words;
+    *steps = outcome.steps;
+    *count = outcome.output.len() as u32;
+    put_words(outcome.output.as_slice(), output);
+    DONE
+}
+
+/// Runs a public routine of an image on these words, which become those at its return. It is lent the blocks of the VM file that
+/// the handles name, one for each slot that it borrows, and 0 for the others: these blocks are locked, and no others of the file.
+/// The first words that it puts out go into `output`; `count` tells how many it put out, `steps` how many instructions it took.
+#[unsafe(no_mangle)]
+pub extern "C" fn takhvoi_run(
+    alloc: Global,
+    handle: &mut Handle,
+    number: u32,
+    routine: u16,
+    words: &mut [u16; 8],
+    handles: &[u16; 4],
+    output: &mut [u16],
+    count: &mut u32,
+    steps: &mut u32,
+) -> u32
+    ensures { Served (HasRun number routine words.old handles.now words.new output.old output.new count.new steps.new) result handle.old handle.new }
+{
+    let Some(mut system) = take(alloc, handle) else {
+        return NO_KERNEL;
+    };
+    let status = run_in(
+        &mut system,
+        number,
+        routine,
+        words,
+        handles,
+        output,
+        count,
+        steps,
+    );
+    put(handle, system);
+    status
+}
+
+/// The number of the first routine with a name.
+fn routine_named(image: &Image, name: &[u8]) -> Option<u16>
+    ensures { IfSome result (λ r. IfSome (slice_get image.now.routines r) (IsNamed name.now)) }
+{
+    for r in 0..image.count() {
+        if image.routine(r).name_text() == name {
+            return Some(r);
+        }
+    }
+    None
+}
+
+fn routine_in(system: &System, number: u32, name: &[u8], routine: &mut u16) -> u32
+    ensures { result ≡ 0 → HasRoutine system.now number name.now routine.new }
+{
+    let Some(checked) = image_of(&system.images, number) else {
+        return NOT_ADMITTED;
+    };
+    match routine_named(checked.image(), name) {
+        Some(r) => {
+            *routine = r;
+            DONE
+        }
+        None => NOT_ADMITTED,
+    }
+}
+
+/// Tells the number of the first routine of an image with a name.
+#[unsafe(no_mangle)]
+pub extern "C" fn takhvoi_routine(
+    alloc: Global,
+    handle: &mut Handle,
+    number: u32,
+    name: &[u8],
+    routine: &mut u16,
+) -> u32
+    ensures same { On (λ old new. new ≡ old) result handle.old handle.new }
+    ensures named { result ≡ 0 → HasRoutine handle.old.value number name.now routine.new }
+{
+    let Some(system) = take(alloc, handle) else {
+        return NO_KERNEL;
+    };
+    let status = routine_in(&system, number, name, routine);
+    put(handle, system);
+    status
+}

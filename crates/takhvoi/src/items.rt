@@ -1,0 +1,231 @@
+//! Calls on groups of the VM file, and on items.
+
+ghost use Rattle.geos_terms.specs.Names.{vm};
+ghost use Rattle.geos_calls.specs.ChunkCalls.{change_row, make_row};
+ghost use Rattle.geos_calls.specs.ItemCalls as table;
+ghost use Rattle.takhvoi.specs.Answers.{Done, IsAnswer, IsTold, IsToldTwo, Served};
+ghost use Rattle.takhvoi.specs.Bytes.{IsReferred};
+
+use crate::handle::Handle;
+use crate::held::{put, take};
+use crate::status::{DONE, NO_KERNEL, end, number, tell};
+use crate::system::System;
+use geos_calls::{Change, Make};
+use std::alloc::Global;
+
+fn gnew(system: &mut System, told: &mut u16) -> u32
+    ensures { Done (IsTold table.gnew told.new) result system.old system.new }
+{
+    tell(system.kernel.gnew(), told)
+}
+
+/// Makes a group, marks it, and tells its handle.
+#[unsafe(no_mangle)]
+pub extern "C" fn takhvoi_gnew(alloc: Global, handle: &mut Handle, told: &mut u16) -> u32
+    ensures { Served (IsTold table.gnew told.new) result handle.old handle.new }
+{
+    let Some(mut system) = take(alloc, handle) else {
+        return NO_KERNEL;
+    };
+    let status = gnew(&mut system, told);
+    put(handle, system);
+    status
+}
+
+fn gfree(system: &mut System, g: u16) -> u32
+    ensures { Done (IsAnswer (table.gfree g)) result system.old system.new }
+{
+    end(system.kernel.gfree(g))
+}
+
+/// Frees a group that is not locked, with its items.
+#[unsafe(no_mangle)]
+pub extern "C" fn takhvoi_gfree(alloc: Global, handle: &mut Handle, g: u16) -> u32
+    ensures { Served (IsAnswer (table.gfree g)) result handle.old handle.new }
+{
+    let Some(mut system) = take(alloc, handle) else {
+        return NO_KERNEL;
+    };
+    let status = gfree(&mut system, g);
+    put(handle, system);
+    status
+}
+
+fn make_in(system: &mut System, g: u16, make: Make, told: &mut u16) -> u32
+    ensures { Done (IsTold (table.on_group g (make_row (vm g) make)) told.new) result system.old system.new }
+{
+    tell(system.kernel.item_make(g, make), told)
+}
+
+/// Makes an item of a group, as the value says, and tells its handle.
+fn make(alloc: Global, handle: &mut Handle, g: u16, make: Make, told: &mut u16) -> u32
+    ensures { Served (IsTold (table.on_group g (make_row (vm g) make)) told.new) result handle.old handle.new }
+{
+    let Some(mut system) = take(alloc, handle) else {
+        return NO_KERNEL;
+    };
+    let status = make_in(&mut system, g, make, told);
+    put(handle, system);
+    status
+}
+
+/// Makes an item of zero bytes, and tells its handle.
+#[unsafe(no_mangle)]
+pub extern "C" fn takhvoi_inew(
+    alloc: Global,
+    handle: &mut Handle,
+    g: u16,
+    n: u16,
+    told: &mut u16,
+) -> u32
+    ensures { Served (IsTold (table.inew g n) told.new) result handle.old handle.new }
+{
+    make(alloc, handle, g, Make::Lalloc { n }, told)
+}
+
+fn change_in(system: &mut System, g: u16, change: Change) -> u32
+    ensures { Done (IsAnswer (table.on_group g (change_row (vm g) change))) result system.old system.new }
+{
+    end(system.kernel.item_change(g, change))
+}
+
+/// Changes the items of a group, as the value says.
+fn change(alloc: Global, handle: &mut Handle, g: u16, change: Change) -> u32
+    ensures { Served (IsAnswer (table.on_group g (change_row (vm g) change))) result handle.old handle.new }
+{
+    let Some(mut system) = take(alloc, handle) else {
+        return NO_KERNEL;
+    };
+    let status = change_in(&mut system, g, change);
+    put(handle, system);
+    status
+}
+
+/// Frees an item.
+#[unsafe(no_mangle)]
+pub extern "C" fn takhvoi_ifree(alloc: Global, handle: &mut Handle, g: u16, i: u16) -> u32
+    ensures { Served (IsAnswer (table.ifree g i)) result handle.old handle.new }
+{
+    change(alloc, handle, g, Change::Lfree { c: i })
+}
+
+/// Gives an item so many bytes: its first ones that fit, and zeros behind them.
+#[unsafe(no_mangle)]
+pub extern "C" fn takhvoi_irealloc(
+    alloc: Global,
+    handle: &mut Handle,
+    g: u16,
+    i: u16,
+    n: u16,
+) -> u32
+    ensures { Served (IsAnswer (table.irealloc g i n)) result handle.old handle.new }
+{
+    change(alloc, handle, g, Change::Lrealloc { c: i, n })
+}
+
+/// Inserts zero bytes into an item.
+#[unsafe(no_mangle)]
+pub extern "C" fn takhvoi_iins(
+    alloc: Global,
+    handle: &mut Handle,
+    g: u16,
+    i: u16,
+    at: u16,
+    n: u16,
+) -> u32
+    ensures { Served (IsAnswer (table.iins g i at n)) result handle.old handle.new }
+{
+    change(alloc, handle, g, Change::Lins { c: i, at, n })
+}
+
+/// Deletes bytes of an item.
+#[unsafe(no_mangle)]
+pub extern "C" fn takhvoi_idel(
+    alloc: Global,
+    handle: &mut Handle,
+    g: u16,
+    i: u16,
+    at: u16,
+    n: u16,
+) -> u32
+    ensures { Served (IsAnswer (table.idel g i at n)) result handle.old handle.new }
+{
+    change(alloc, handle, g, Change::Ldel { c: i, at, n })
+}
+
+fn ilock(system: &mut System, g: u16, i: u16, told: &mut u16) -> u32
+    ensures { Done (IsReferred (table.ilock g i 0) told.new) result system.old system.new }
+{
+    match system.kernel.ilock(g, i, 0) {
+        Ok(span) => {
+            *told = span.len;
+            DONE
+        }
+        Err(refusal) => number(refusal),
+    }
+}
+
+/// Locks a group once more, where it has this item, and tells the item's length. Its items are the chunks of a locked block then.
+#[unsafe(no_mangle)]
+pub extern "C" fn takhvoi_ilock(
+    alloc: Global,
+    handle: &mut Handle,
+    g: u16,
+    i: u16,
+    told: &mut u16,
+) -> u32
+    ensures { Served (IsReferred (table.ilock g i 0) told.new) result handle.old handle.new }
+{
+    let Some(mut system) = take(alloc, handle) else {
+        return NO_KERNEL;
+    };
+    let status = ilock(&mut system, g, i, told);
+    put(handle, system);
+    status
+}
+
+fn igetmap(system: &mut System, g: &mut u16, i: &mut u16) -> u32
+    ensures { Done (IsToldTwo table.igetmap g.new i.new) result system.old system.new }
+{
+    let (group, item) = system.kernel.igetmap();
+    *g = group;
+    *i = item;
+    DONE
+}
+
+/// Tells the map item: its group, 0 for none, and the item.
+#[unsafe(no_mangle)]
+pub extern "C" fn takhvoi_igetmap(
+    alloc: Global,
+    handle: &mut Handle,
+    g: &mut u16,
+    i: &mut u16,
+) -> u32
+    ensures { Served (IsToldTwo table.igetmap g.new i.new) result handle.old handle.new }
+{
+    let Some(mut system) = take(alloc, handle) else {
+        return NO_KERNEL;
+    };
+    let status = igetmap(&mut system, g, i);
+    put(handle, system);
+    status
+}
+
+fn isetmap(system: &mut System, g: u16, i: u16) -> u32
+    ensures { Done (IsAnswer (table.isetmap g i)) result system.old system.new }
+{
+    end(system.kernel.isetmap(g, i))
+}
+
+/// Names the map item; the group 0 and the item 0 for none.
+#[unsafe(no_mangle)]
+pub extern "C" fn takhvoi_isetmap(alloc: Global, handle: &mut Handle, g: u16, i: u16) -> u32
+    ensures { Served (IsAnswer (table.isetmap g i)) result handle.old handle.new }
+{
+    let Some(mut system) = take(alloc, handle) else {
+        return NO_KERNEL;
+    };
+    let status = isetmap(&mut system, g, i);
+    put(handle, system);
+    status
+}

@@ -1,0 +1,123 @@
+//! What the device has noted is told, for the host to perform.
+
+ghost use Rattle.std.specs.Option.{option_copied};
+ghost use Rattle.std.specs.Prelude.{◌≡◌, [], true};
+ghost use Rattle.host_device.specs.Journal.{journal_of};
+ghost use Rattle.takhvoi.specs.Answers.{Done, Looks, Served};
+ghost use Rattle.takhvoi.specs.Journal.{HasBytes, IsSettled, IsStep, step_at};
+
+use crate::handle::Handle;
+use crate::held::{put, take};
+use crate::status::{BAD_SIZE, DONE, NO_KERNEL};
+use crate::system::System;
+use geos_kernel::Kernel;
+use host_device::{HostDevice, Step};
+use std::alloc::Global;
+
+/// Whether nothing is noted that the host has not performed.
+pub(crate) fn is_performed(kernel: &Kernel<HostDevice>) -> bool
+    ensures { result ≡ true → journal_of kernel.now.device ≡ [] }
+{
+    kernel.device().journal().is_empty()
+}
+
+/// Forgets what is noted where no host performs it.
+pub(crate) fn rest(kernel: &mut Kernel<HostDevice>, hosted: bool)
+    ensures core { kernel.new.core ≡ kernel.old.core }
+    ensures hosted { hosted ≡ true → kernel.new ≡ kernel.old }
+{
+    if !hosted {
+        kernel.settle();
+    }
+}
+
+fn tell_step(step: Option<&Step>, kind: &mut u16, at: &mut u64, len: &mut u64)
+    ensures { IsStep (option_copied step.entry) kind.new at.new len.new }
+{
+    match step {
+        Some(Step::Write(from, _, bytes)) => {
+            *kind = 1;
+            *at = *from;
+            *len = bytes.len() as u64;
+        }
+        Some(Step::Sync) => *kind = 2,
+        None => *kind = 0,
+    }
+}
+
+/// Tells of the step with a number, from 0 on, that the host is to perform: `kind` is 1 for a write of `len` bytes from the offset
+/// `at` of the file on, 2 for a sync, and 0 where there is none.
+#[unsafe(no_mangle)]
+pub extern "C" fn takhvoi_step(
+    alloc: Global,
+    handle: &mut Handle,
+    n: u32,
+    kind: &mut u16,
+    at: &mut u64,
+    len: &mut u64,
+) -> u32
+    ensures { Served (Looks (IsStep (step_at handle.old.value n) kind.new at.new len.new)) result handle.old handle.new }
+{
+    let Some(system) = take(alloc, handle) else {
+        return NO_KERNEL;
+    };
+    tell_step(system.kernel.device().journal().get(n as usize), kind, at, len);
+    put(handle, system);
+    DONE
+}
+
+/// Copies bytes of a write, where it has them.
+fn copy_step(step: Option<&Step>, from: u64, into: &mut [u8]) -> u32
+    ensures copied { result ≡ 0 → HasBytes (option_copied step.entry) from into.new }
+    ensures own { (result ≡ 0 → ⊥) → result ≡ 105 }
+{
+    let Some(Step::Write(_, _, bytes)) = step else {
+        return BAD_SIZE;
+    };
+    let (len, n) = (bytes.len(), into.len());
+    if n > len || from > (len - n) as u64 {
+        return BAD_SIZE;
+    }
+    let from = from as usize;
+    into.copy_from_slice(&bytes[from..from + n]);
+    DONE
+}
+
+/// Copies bytes of the step with a number, a write, from its byte `from` on. `BAD_SIZE` where it is none, or does not have them.
+#[unsafe(no_mangle)]
+pub extern "C" fn takhvoi_step_bytes(
+    alloc: Global,
+    handle: &mut Handle,
+    n: u32,
+    from: u64,
+    into: &mut [u8],
+) -> u32
+    ensures { Served (Looks (HasBytes (step_at handle.old.value n) from into.new)) result handle.old handle.new }
+{
+    let Some(system) = take(alloc, handle) else {
+        return NO_KERNEL;
+    };
+    let status = copy_step(system.kernel.device().journal().get(n as usize), from, into);
+    put(handle, system);
+    status
+}
+
+fn settle(system: &mut System) -> u32
+    ensures { Done IsSettled result system.old system.new }
+{
+    system.kernel.settle();
+    DONE
+}
+
+/// Says that the host has performed every step, in order, and that what it wrote lasts. Nothing is noted from then on.
+#[unsafe(no_mangle)]
+pub extern "C" fn takhvoi_performed(alloc: Global, handle: &mut Handle) -> u32
+    ensures { Served IsSettled result handle.old handle.new }
+{
+    let Some(mut system) = take(alloc, handle) else {
+        return NO_KERNEL;
+    };
+    let status = settle(&mut system);
+    put(handle, system);
+    status
+}

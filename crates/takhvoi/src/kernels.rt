@@ -1,0 +1,172 @@
+//! Kernels are made and freed.
+
+ghost use Rattle.std.specs.Prelude.{◌≡◌, ◌≢◌, ◌⊎◌, ◌≤◌, Err, false, true};
+ghost use Rattle.vm_file.specs.Reading.{file_at, is_area};
+ghost use Rattle.takhvoi.specs.Answers.{IsFlag, Looks, Served};
+ghost use Rattle.takhvoi.specs.Starts.{Began, IsNew, IsOpened};
+
+use crate::handle::Handle;
+use crate::held::{put, take};
+use crate::journal::rest;
+use crate::status::{BAD_FILE, BAD_SIZE, DONE, HAS_KERNEL, NO_KERNEL, NO_MEMORY};
+use crate::system::System;
+use geos_kernel::Kernel;
+use host_device::HostDevice;
+use std::alloc::Global;
+use vm_file::{OpenError, VmFile, device_length};
+
+/// Whether an area of the VM file may have so many bytes.
+fn is_area(area: u32) -> bool
+    ensures exact { result ≡ is_area area }
+    ensures small { result ≡ true → area ≤ 16777216 }
+{
+    512 <= area && area <= 16_777_216 && area % 512 == 0
+}
+
+/// Whether the region may have so many bytes.
+fn is_region(region: u32) -> bool
+    ensures { result ≡ true → (65536 ≤ region) × (region ≤ 16777216) }
+{
+    65_536 <= region && region <= 16_777_216
+}
+
+/// Has a handle hold a kernel on an open VM file. `hosted` says that a host performs what the device notes.
+fn start(
+    alloc: Global,
+    handle: &mut Handle,
+    region: u32,
+    file: VmFile<HostDevice>,
+    hosted: bool,
+) -> u32
+    requires { (65536 ≤ region) × (region ≤ 16777216) }
+    ensures made { result ≡ 0 → (handle.old.live ≡ 0) × (handle.new.live ≡ 1) }
+    ensures kept { handle.old.live ≢ 0 → (handle.new.live ≢ 0) × (handle.new.value ≡ handle.old.value) }
+    ensures began { result ≡ 0 → Began file region handle.new.value.kernel.core }
+    ensures hosts { result ≡ 0 → handle.new.value.hosted ≡ hosted }
+    ensures own { result ≡ 0 ⊎ (result ≡ 104 ⊎ result ≡ 111) }
+{
+    if let Some(system) = take(alloc, handle) {
+        put(handle, system);
+        return HAS_KERNEL;
+    }
+    let Ok(mut kernel) = Kernel::new(alloc, region, file) else {
+        return NO_MEMORY;
+    };
+    rest(&mut kernel, hosted);
+    match Box::new(alloc, System::of(alloc, kernel, hosted)) {
+        Ok(system) => {
+            put(handle, system);
+            DONE
+        }
+        Err(_) => NO_MEMORY,
+    }
+}
+
+/// The same on a new VM file.
+fn start_new(alloc: Global, handle: &mut Handle, area: u32, region: u32, hosted: bool) -> u32
+    ensures made { result ≡ 0 → (handle.old.live ≡ 0) × (handle.new.live ≡ 1) }
+    ensures kept { handle.old.live ≢ 0 → (handle.new.live ≢ 0) × (handle.new.value ≡ handle.old.value) }
+    ensures new { result ≡ 0 → IsNew area region hosted handle.new.value }
+{
+    if !is_region(region) {
+        return BAD_SIZE;
+    }
+    if !is_area(area) {
+        return BAD_SIZE;
+    }
+    let Ok(device) = HostDevice::new(alloc, device_length(area)) else {
+        return NO_MEMORY;
+    };
+    // The device has room for the file, and fails only where there is no memory.
+    match VmFile::create(alloc, device, area) {
+        Ok(file) => start(alloc, handle, region, file, hosted),
+        Err(_) => NO_MEMORY,
+    }
+}
+
+/// Has a handle hold a kernel with no block, in a region of so many bytes, on a new VM file in memory with areas of so many.
+#[unsafe(no_mangle)]
+pub extern "C" fn takhvoi_new(alloc: Global, handle: &mut Handle, area: u32, region: u32) -> u32
+    ensures made { result ≡ 0 → (handle.old.live ≡ 0) × (handle.new.live ≡ 1) }
+    ensures kept { handle.old.live ≢ 0 → (handle.new.live ≢ 0) × (handle.new.value ≡ handle.old.value) }
+    ensures new { result ≡ 0 → IsNew area region false handle.new.value }
+{
+    start_new(alloc, handle, area, region, false)
+}
+
+/// The same where a host keeps the file: it begins with 1,024 bytes and two areas of zeros, and performs what is noted.
+#[unsafe(no_mangle)]
+pub extern "C" fn takhvoi_create(alloc: Global, handle: &mut Handle, area: u32, region: u32) -> u32
+    ensures made { result ≡ 0 → (handle.old.live ≡ 0) × (handle.new.live ≡ 1) }
+    ensures kept { handle.old.live ≢ 0 → (handle.new.live ≢ 0) × (handle.new.value ≡ handle.old.value) }
+    ensures new { result ≡ 0 → IsNew area region true handle.new.value }
+{
+    start_new(alloc, handle, area, region, true)
+}
+
+/// The same on the VM file of which a host holds the bytes. Where they are none, `fault` is the offset of the first faulty byte.
+#[unsafe(no_mangle)]
+pub extern "C" fn takhvoi_open(
+    alloc: Global,
+    handle: &mut Handle,
+    bytes: &[u8],
+    region: u32,
+    fault: &mut u64,
+) -> u32
+    ensures made { result ≡ 0 → (handle.old.live ≡ 0) × (handle.new.live ≡ 1) }
+    ensures kept { handle.old.live ≢ 0 → (handle.new.live ≢ 0) × (handle.new.value ≡ handle.old.value) }
+    ensures opened { result ≡ 0 → IsOpened bytes.now region handle.new.value }
+    ensures bad { result ≡ 110 → file_at bytes.now ≡ Err fault.new }
+{
+    if !is_region(region) {
+        return BAD_SIZE;
+    }
+    let Ok(device) = HostDevice::holding(alloc, bytes) else {
+        return NO_MEMORY;
+    };
+    match VmFile::open(alloc, device) {
+        Ok(file) => start(alloc, handle, region, file, true),
+        Err((_device, OpenError::BadFile(at))) => {
+            *fault = at;
+            BAD_FILE
+        }
+        Err(_) => NO_MEMORY,
+    }
+}
+
+/// Tells whether the VM file is sure of what it keeps: 1 or 0. Where it is not, it takes no commit, and is to be opened again.
+#[unsafe(no_mangle)]
+pub extern "C" fn takhvoi_is_sure(alloc: Global, handle: &mut Handle, sure: &mut u16) -> u32
+    ensures { Served (Looks (IsFlag sure.new handle.old.value.kernel.core.vm.file.sure)) result handle.old handle.new }
+{
+    let Some(system) = take(alloc, handle) else {
+        return NO_KERNEL;
+    };
+    *sure = u16::from(system.kernel.is_sure());
+    put(handle, system);
+    DONE
+}
+
+/// Frees what a handle holds, and closes its file. What no commit has kept is lost.
+#[unsafe(no_mangle)]
+pub extern "C" fn takhvoi_close(alloc: Global, handle: &mut Handle) -> u32
+    ensures freed { handle.new.live ≡ 0 }
+    ensures none { result ≡ 100 → handle.old.live ≡ 0 }
+    ensures done { (result ≡ 100 → ⊥) → (result ≡ 0) × (handle.old.live ≢ 0) }
+{
+    match take(alloc, handle) {
+        Some(system) => {
+            drop(system);
+            DONE
+        }
+        None => NO_KERNEL,
+    }
+}
+
+/// The number of this library's interface: it rises where a declaration of the header changes.
+#[unsafe(no_mangle)]
+pub extern "C" fn takhvoi_abi() -> u32
+    ensures { result ≡ 1 }
+{
+    1
+}

@@ -1,0 +1,22 @@
+//! The kernel, and routines that a verifier has checked, for programs in C: a static library, whose header is `library/takhvoi.h`.
+//!
+//! A caller has a `Handle`, all zeros at first, and passes its address to each call. A call answers 0 where it is done, the number
+//! of the refusal where the kernel refuses, and a number of `status` where the library does. It may be given any handle, number
+//! and length: none of its functions has a condition.
+#![tactic(auto)]
+
+mod access;
+mod arrays;
+mod blocks;
+mod chunks;
+mod handle;
+mod held;
+mod images;
+mod items;
+mod journal;
+mod kernels;
+mod loose;
+mod status;
+mod system;
+mod texts;
+mod vm;

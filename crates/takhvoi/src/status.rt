@@ -1,0 +1,83 @@
+//! The numbers that calls answer.
+
+ghost use Rattle.std.specs.Prelude.{◌≡◌, ◌≤◌, IfOk};
+ghost use Rattle.geos_terms.specs.Refusals.{refusal_number};
+ghost use Rattle.takhvoi.specs.Answers.{IsStatus};
+ghost use Rattle.takhvoi.specs.Names.{name_of};
+
+use geos_kernel::{Name, Refusal};
+
+/// It is done.
+pub(crate) const DONE: u32 = 0;
+/// The handle holds no kernel.
+pub(crate) const NO_KERNEL: u32 = 100;
+/// The block is not locked.
+pub(crate) const NOT_LOCKED: u32 = 101;
+/// The block is one of the VM file, and not marked.
+pub(crate) const NOT_MARKED: u32 = 102;
+/// A block of the VM file is locked.
+pub(crate) const FILE_LOCKED: u32 = 103;
+/// The handle holds a kernel already.
+pub(crate) const HAS_KERNEL: u32 = 104;
+/// A size, or a range of bytes, is not within its limits.
+pub(crate) const BAD_SIZE: u32 = 105;
+/// The host has not performed what is noted.
+pub(crate) const PENDING: u32 = 106;
+/// The file is no VM file.
+pub(crate) const BAD_FILE: u32 = 110;
+/// There is no memory.
+pub(crate) const NO_MEMORY: u32 = 111;
+
+/// The bytes are no image, or the text has a fault.
+pub(crate) const BAD_IMAGE: u32 = 112;
+/// The verifier refuses the image, or no rows are found for the text.
+pub(crate) const REFUSED: u32 = 113;
+/// There is no such image, no such public routine, a word is not within its bounds, or the blocks are not lent as it wants.
+pub(crate) const NOT_ADMITTED: u32 = 114;
+/// The buffer is too short.
+pub(crate) const SHORT_BUFFER: u32 = 115;
+
+/// The block with a number: a handle, and 65,536 more where it is one of the VM file.
+pub(crate) fn name_of(block: u32) -> Name
+    ensures { result ≡ name_of block }
+{
+    if block < 65_536 {
+        Name::mem(block as u16)
+    } else {
+        Name::vm((block % 65_536) as u16)
+    }
+}
+
+/// The number of a refusal, or 0, and what is answered.
+pub(crate) fn tell(reply: Result<u16, Refusal>, told: &mut u16) -> u32
+    ensures status { IsStatus reply result }
+    ensures told { IfOk reply (λ n. told.new ≡ n) }
+    ensures small { result ≤ 15 }
+{
+    match reply {
+        Ok(n) => {
+            *told = n;
+            DONE
+        }
+        Err(refusal) => number(refusal),
+    }
+}
+
+/// The number of a refusal, or 0.
+pub(crate) fn end(reply: Result<(), Refusal>) -> u32
+    ensures status { IsStatus reply result }
+    ensures small { result ≤ 15 }
+{
+    match reply {
+        Ok(()) => DONE,
+        Err(refusal) => number(refusal),
+    }
+}
+
+/// The number of a refusal.
+pub(crate) fn number(refusal: Refusal) -> u32
+    ensures number { result ≡ refusal_number refusal }
+    ensures small { result ≤ 15 }
+{
+    u32::from(refusal.number())
+}

@@ -1,0 +1,228 @@
+//! Calls on blocks of the VM file, and on the file.
+
+ghost use Rattle.geos_calls.specs.VmCalls as table;
+ghost use Rattle.takhvoi.specs.Answers.{Done, IsAnswer, IsTold, Served};
+ghost use Rattle.takhvoi.specs.Journal.{IsCommitted};
+
+use crate::handle::Handle;
+use crate::held::{put, take};
+use crate::journal::{is_performed, rest};
+use crate::status::{DONE, FILE_LOCKED, NO_KERNEL, NOT_LOCKED, PENDING, end, tell};
+use crate::system::System;
+use geos_kernel::Name;
+use std::alloc::Global;
+use vm_file::How;
+
+fn vnew(system: &mut System, uid: u16, told: &mut u16) -> u32
+    ensures { Done (IsTold (table.vnew uid) told.new) result system.old system.new }
+{
+    tell(system.kernel.vnew(uid), told)
+}
+
+/// Makes a block of the VM file with a user ID, marks it, locks it, and tells its handle.
+#[unsafe(no_mangle)]
+pub extern "C" fn takhvoi_vnew(alloc: Global, handle: &mut Handle, uid: u16, told: &mut u16) -> u32
+    ensures { Served (IsTold (table.vnew uid) told.new) result handle.old handle.new }
+{
+    let Some(mut system) = take(alloc, handle) else {
+        return NO_KERNEL;
+    };
+    let status = vnew(&mut system, uid, told);
+    put(handle, system);
+    status
+}
+
+fn vlock(system: &mut System, h: u16) -> u32
+    ensures { Done (IsAnswer (table.vlock h)) result system.old system.new }
+{
+    end(system.kernel.vlock(h))
+}
+
+/// Locks a block of the VM file once more, which brings it into memory.
+#[unsafe(no_mangle)]
+pub extern "C" fn takhvoi_vlock(alloc: Global, handle: &mut Handle, h: u16) -> u32
+    ensures { Served (IsAnswer (table.vlock h)) result handle.old handle.new }
+{
+    let Some(mut system) = take(alloc, handle) else {
+        return NO_KERNEL;
+    };
+    let status = vlock(&mut system, h);
+    put(handle, system);
+    status
+}
+
+fn vdirty(system: &mut System, h: u16) -> u32
+    ensures { Done (IsAnswer (table.vdirty h)) result system.old system.new }
+{
+    let name = Name::vm(h);
+    if system.kernel.locks(name) == 0 {
+        return NOT_LOCKED;
+    }
+    system.kernel.vdirty(name);
+    DONE
+}
+
+/// Marks a block of the VM file, or a group, that is locked: a commit will write it.
+#[unsafe(no_mangle)]
+pub extern "C" fn takhvoi_vdirty(alloc: Global, handle: &mut Handle, h: u16) -> u32
+    ensures { Served (IsAnswer (table.vdirty h)) result handle.old handle.new }
+{
+    let Some(mut system) = take(alloc, handle) else {
+        return NO_KERNEL;
+    };
+    let status = vdirty(&mut system, h);
+    put(handle, system);
+    status
+}
+
+fn vfree(system: &mut System, h: u16) -> u32
+    ensures { Done (IsAnswer (table.vfree h)) result system.old system.new }
+{
+    end(system.kernel.vfree(h))
+}
+
+/// Frees a block of the VM file that is not locked.
+#[unsafe(no_mangle)]
+pub extern "C" fn takhvoi_vfree(alloc: Global, handle: &mut Handle, h: u16) -> u32
+    ensures { Served (IsAnswer (table.vfree h)) result handle.old handle.new }
+{
+    let Some(mut system) = take(alloc, handle) else {
+        return NO_KERNEL;
+    };
+    let status = vfree(&mut system, h);
+    put(handle, system);
+    status
+}
+
+fn vfind(system: &mut System, start: u16, uid: u16, told: &mut u16) -> u32
+    ensures { Done (IsTold (table.vfind start uid) told.new) result system.old system.new }
+{
+    tell(system.kernel.vfind(start, uid), told)
+}
+
+/// Tells the lowest handle above `start` of a block with the user ID; 0 for none.
+#[unsafe(no_mangle)]
+pub extern "C" fn takhvoi_vfind(
+    alloc: Global,
+    handle: &mut Handle,
+    start: u16,
+    uid: u16,
+    told: &mut u16,
+) -> u32
+    ensures { Served (IsTold (table.vfind start uid) told.new) result handle.old handle.new }
+{
+    let Some(mut system) = take(alloc, handle) else {
+        return NO_KERNEL;
+    };
+    let status = vfind(&mut system, start, uid, told);
+    put(handle, system);
+    status
+}
+
+fn vuid(system: &mut System, h: u16, told: &mut u16) -> u32
+    ensures { Done (IsTold (table.vuid h) told.new) result system.old system.new }
+{
+    tell(system.kernel.vuid(h), told)
+}
+
+/// Tells the user ID of a block of the VM file, or of a group.
+#[unsafe(no_mangle)]
+pub extern "C" fn takhvoi_vuid(alloc: Global, handle: &mut Handle, h: u16, told: &mut u16) -> u32
+    ensures { Served (IsTold (table.vuid h) told.new) result handle.old handle.new }
+{
+    let Some(mut system) = take(alloc, handle) else {
+        return NO_KERNEL;
+    };
+    let status = vuid(&mut system, h, told);
+    put(handle, system);
+    status
+}
+
+fn vgetmap(system: &mut System, told: &mut u16) -> u32
+    ensures { Done (IsTold table.vgetmap told.new) result system.old system.new }
+{
+    *told = system.kernel.vgetmap();
+    DONE
+}
+
+/// Tells the map block; 0 for none.
+#[unsafe(no_mangle)]
+pub extern "C" fn takhvoi_vgetmap(alloc: Global, handle: &mut Handle, told: &mut u16) -> u32
+    ensures { Served (IsTold table.vgetmap told.new) result handle.old handle.new }
+{
+    let Some(mut system) = take(alloc, handle) else {
+        return NO_KERNEL;
+    };
+    let status = vgetmap(&mut system, told);
+    put(handle, system);
+    status
+}
+
+fn vsetmap(system: &mut System, h: u16) -> u32
+    ensures { Done (IsAnswer (table.vsetmap h)) result system.old system.new }
+{
+    end(system.kernel.vsetmap(h))
+}
+
+/// Names the map block; 0 for none.
+#[unsafe(no_mangle)]
+pub extern "C" fn takhvoi_vsetmap(alloc: Global, handle: &mut Handle, h: u16) -> u32
+    ensures { Served (IsAnswer (table.vsetmap h)) result handle.old handle.new }
+{
+    let Some(mut system) = take(alloc, handle) else {
+        return NO_KERNEL;
+    };
+    let status = vsetmap(&mut system, h);
+    put(handle, system);
+    status
+}
+
+fn commit_in(system: &mut System, how: How) -> u32
+    ensures { Done (IsCommitted how) result system.old system.new }
+{
+    if !system.kernel.vm_unlocked() {
+        return FILE_LOCKED;
+    }
+    if !is_performed(&system.kernel) {
+        return PENDING;
+    }
+    let status = end(system.kernel.commit(how));
+    rest(&mut system.kernel, system.hosted);
+    status
+}
+
+/// Keeps the pair of directories that `how` names, where no block of the VM file is locked.
+fn commit(alloc: Global, handle: &mut Handle, how: How) -> u32
+    ensures { Served (IsCommitted how) result handle.old handle.new }
+{
+    let Some(mut system) = take(alloc, handle) else {
+        return NO_KERNEL;
+    };
+    let status = commit_in(&mut system, how);
+    put(handle, system);
+    status
+}
+
+/// Keeps what the VM file has now, beside what was saved.
+#[unsafe(no_mangle)]
+pub extern "C" fn takhvoi_update(alloc: Global, handle: &mut Handle) -> u32
+    ensures { Served (IsCommitted How.Update) result handle.old handle.new }
+{
+    commit(alloc, handle, How::Update)
+}
+
+/// Keeps what the VM file has now, and saves it.
+#[unsafe(no_mangle)]
+pub extern "C" fn takhvoi_save(alloc: Global, handle: &mut Handle) -> u32
+    ensures { Served (IsCommitted How.Save) result handle.old handle.new }
+{
+    commit(alloc, handle, How::Save)
+}
+
+/// Goes back to what was saved, and keeps that.
+#[unsafe(no_mangle)]
+pub extern "C" fn takhvoi_revert(alloc: Global, handle: &mut Handle) -> u32
+    ensures { Served (IsCommitted How.Revert) result handle.old handle.new }
+{
+    commit(alloc, handle, How::Revert)
+}

@@ -1,0 +1,233 @@
+/* Takhvoi for C and C++: blocks that move, VM files, and routines that a verifier has checked. docs/EMBEDDING.md says how to begin.
+ *
+ * Each call answers TAKHVOI_DONE, or a number below that says why not, and never ends the process. Any handle, chunk, offset and
+ * length may be given. What C has to keep to, since nothing tests it:
+ *
+ *   - A takhvoi_kernel is TAKHVOI_NONE at first. Its fields are left alone. While it is open it is not copied, though it may be moved,
+ *     and no two calls work on it at once. Two threads may have a kernel each.
+ *   - No pointer is null, also where its length is 0, and each has room for what is said. No two pointers of a call lead to the same
+ *     bytes, nor one into the takhvoi_kernel.
+ *   - malloc, realloc and free are of one allocator. No call is made from a signal handler, nor from the forked child of a process with
+ *     threads.
+ *
+ * Bytes are copied in and out. No call gives a pointer into a block, so nothing that C has goes stale. */
+#ifndef TAKHVOI_H
+#define TAKHVOI_H
+#include <stddef.h>
+#include <stdint.h>
+
+#if defined(__GNUC__)
+#define TAKHVOI_CALL __attribute__((nonnull, warn_unused_result))
+#else
+#define TAKHVOI_CALL
+#endif
+
+#ifdef __cplusplus
+extern "C" {
+#endif
+
+/* The declarations below change only where this number does. The library tells its own by takhvoi_abi. */
+#define TAKHVOI_ABI 1
+
+/* A kernel and what runs over it, or none. */
+typedef struct takhvoi_kernel {
+    void *at;
+    uint32_t live;
+} takhvoi_kernel;
+#define TAKHVOI_NONE { 0, 0 }
+
+/* A block: the handle of a block of memory, or TAKHVOI_VM of that of a block or group of the VM file. */
+typedef uint32_t takhvoi_block;
+#define TAKHVOI_VM(handle) (65536u + (uint16_t)(handle))
+
+enum {
+    TAKHVOI_DONE = 0,
+    /* Why the kernel refuses: docs/INSTRUCTIONS.md has the same numbers. */
+    TAKHVOI_BAD_HANDLE = 1,
+    TAKHVOI_BAD_CHUNK = 2,
+    TAKHVOI_SHORT = 3,
+    TAKHVOI_NO_ROOM = 4,
+    TAKHVOI_NO_HANDLE = 5,
+    TAKHVOI_TOO_BIG = 6,
+    TAKHVOI_LOCKED = 7,
+    TAKHVOI_BAD_ARRAY = 8,
+    TAKHVOI_BAD_ELEMENT = 9,
+    TAKHVOI_FULL = 10,
+    TAKHVOI_DISK = 11,
+    TAKHVOI_UNSURE = 12,
+    TAKHVOI_MEMORY = 13,
+    TAKHVOI_RANGE = 14,
+    TAKHVOI_RESERVED = 15,
+    /* Why the library does: then the kernel is as it was. */
+    TAKHVOI_NO_KERNEL = 100,
+    TAKHVOI_NOT_LOCKED = 101,
+    TAKHVOI_NOT_MARKED = 102,
+    TAKHVOI_FILE_LOCKED = 103,
+    TAKHVOI_HAS_KERNEL = 104,
+    TAKHVOI_BAD_SIZE = 105,
+    TAKHVOI_PENDING = 106,
+    TAKHVOI_BAD_FILE = 110,
+    TAKHVOI_NO_MEMORY = 111,
+    TAKHVOI_BAD_IMAGE = 112,
+    TAKHVOI_REFUSED = 113,
+    TAKHVOI_NOT_ADMITTED = 114,
+    TAKHVOI_SHORT_BUFFER = 115,
+    /* Why a file of the system is refused, by takhvoi_file_open and takhvoi_file_create. */
+    TAKHVOI_NO_FILE = 200,
+    TAKHVOI_FILE_IS_THERE = 201,
+    TAKHVOI_FILE_IN_USE = 202,
+    TAKHVOI_NO_ACCESS = 203
+};
+
+/* What a number says, in words. */
+static inline const char *takhvoi_error_text(uint32_t status) {
+    switch (status) {
+    case TAKHVOI_DONE: return "done";
+    case TAKHVOI_BAD_HANDLE: return "no block has this handle";
+    case TAKHVOI_BAD_CHUNK: return "no chunk has this handle";
+    case TAKHVOI_SHORT: return "the chunk is too short";
+    case TAKHVOI_NO_ROOM: return "no room in the region";
+    case TAKHVOI_NO_HANDLE: return "no handle is free";
+    case TAKHVOI_TOO_BIG: return "the block would be too big";
+    case TAKHVOI_LOCKED: return "the block is locked";
+    case TAKHVOI_BAD_ARRAY: return "the chunk is no such array";
+    case TAKHVOI_BAD_ELEMENT: return "no element has this index";
+    case TAKHVOI_FULL: return "no more words can be put out";
+    case TAKHVOI_DISK: return "the device failed";
+    case TAKHVOI_UNSURE: return "it is not sure what the device holds";
+    case TAKHVOI_MEMORY: return "out of memory";
+    case TAKHVOI_RANGE: return "past the end of the chunk";
+    case TAKHVOI_RESERVED: return "a group stands in the place of a block";
+    case TAKHVOI_NO_KERNEL: return "no kernel is open";
+    case TAKHVOI_NOT_LOCKED: return "the block is not locked";
+    case TAKHVOI_NOT_MARKED: return "the block is not marked as changed";
+    case TAKHVOI_FILE_LOCKED: return "a block of the VM file is locked";
+    case TAKHVOI_HAS_KERNEL: return "a kernel is open already";
+    case TAKHVOI_BAD_SIZE: return "a size or range is past its limits";
+    case TAKHVOI_PENDING: return "the host has not performed what is noted";
+    case TAKHVOI_NO_FILE: return "no such file or folder";
+    case TAKHVOI_FILE_IS_THERE: return "the file is there already";
+    case TAKHVOI_FILE_IN_USE: return "another has the file's lock";
+    case TAKHVOI_NO_ACCESS: return "the system refuses the file";
+    case TAKHVOI_BAD_FILE: return "no VM file";
+    case TAKHVOI_NO_MEMORY: return "there is no memory";
+    case TAKHVOI_BAD_IMAGE: return "no image, or a faulty text";
+    case TAKHVOI_REFUSED: return "the verifier refuses";
+    case TAKHVOI_NOT_ADMITTED: return "no such image or routine, or it takes other words or blocks";
+    case TAKHVOI_SHORT_BUFFER: return "the buffer is too short";
+    default: return "no such number";
+    }
+}
+
+/* That of the library: where it is not TAKHVOI_ABI, this header is another's. */
+uint32_t takhvoi_abi(void);
+
+/* Kernels. The region is all memory for blocks, 65,536 to 16,777,216 bytes. An area is half of what a VM file may keep, 512 to 16,777,216
+ * bytes, a multiple of 512. `new` has its VM file in memory. For a file of the system take takhvoi_file_create and takhvoi_file_open, below,
+ * which stand on `create`, where a host holds 1,024 zeros and two areas of them, and on `open`, where it holds these bytes. */
+TAKHVOI_CALL uint32_t takhvoi_new(takhvoi_kernel *kernel, uint32_t area, uint32_t region);
+TAKHVOI_CALL uint32_t takhvoi_create(takhvoi_kernel *kernel, uint32_t area, uint32_t region);
+TAKHVOI_CALL uint32_t takhvoi_open(takhvoi_kernel *kernel, const uint8_t *bytes, size_t len, uint32_t region, uint64_t *fault);
+/* What no commit has kept is lost. */
+uint32_t takhvoi_close(takhvoi_kernel *kernel);
+/* 0 where a commit has failed in a way that leaves two states possible: then no other is taken, and the file is to be opened again. */
+TAKHVOI_CALL uint32_t takhvoi_is_sure(takhvoi_kernel *kernel, uint16_t *sure);
+
+/* Blocks of memory. One that is not locked may move, which C never sees. */
+TAKHVOI_CALL uint32_t takhvoi_mnew(takhvoi_kernel *kernel, uint16_t *handle);
+TAKHVOI_CALL uint32_t takhvoi_mlock(takhvoi_kernel *kernel, uint16_t handle);
+TAKHVOI_CALL uint32_t takhvoi_mfree(takhvoi_kernel *kernel, uint16_t handle);
+/* Blocks of either owner, and groups. */
+TAKHVOI_CALL uint32_t takhvoi_unlock(takhvoi_kernel *kernel, takhvoi_block block);
+TAKHVOI_CALL uint32_t takhvoi_locks(takhvoi_kernel *kernel, takhvoi_block block, uint16_t *count);
+TAKHVOI_CALL uint32_t takhvoi_marked(takhvoi_kernel *kernel, uint16_t handle, uint16_t *marked);
+
+/* Chunks of a block that is locked; one of the VM file is marked before they change. */
+TAKHVOI_CALL uint32_t takhvoi_lalloc(takhvoi_kernel *kernel, takhvoi_block block, uint16_t len, uint16_t *chunk);
+TAKHVOI_CALL uint32_t takhvoi_lfree(takhvoi_kernel *kernel, takhvoi_block block, uint16_t chunk);
+TAKHVOI_CALL uint32_t takhvoi_lrealloc(takhvoi_kernel *kernel, takhvoi_block block, uint16_t chunk, uint16_t len);
+TAKHVOI_CALL uint32_t takhvoi_lins(takhvoi_kernel *kernel, takhvoi_block block, uint16_t chunk, uint16_t at, uint16_t len);
+TAKHVOI_CALL uint32_t takhvoi_ldel(takhvoi_kernel *kernel, takhvoi_block block, uint16_t chunk, uint16_t at, uint16_t len);
+TAKHVOI_CALL uint32_t takhvoi_lcontract(takhvoi_kernel *kernel, takhvoi_block block);
+TAKHVOI_CALL uint32_t takhvoi_lsize(takhvoi_kernel *kernel, takhvoi_block block, uint16_t chunk, uint16_t *len);
+TAKHVOI_CALL uint32_t takhvoi_read(takhvoi_kernel *kernel, takhvoi_block block, uint16_t chunk, uint16_t at, uint8_t *into, size_t len);
+TAKHVOI_CALL uint32_t takhvoi_write(takhvoi_kernel *kernel, takhvoi_block block, uint16_t chunk, uint16_t at, const uint8_t *from, size_t len);
+
+/* Arrays in chunks: of elements of one size, or of sizes of their own where that is 0. */
+TAKHVOI_CALL uint32_t takhvoi_canew(takhvoi_kernel *kernel, takhvoi_block block, uint16_t element_size, uint16_t *chunk);
+TAKHVOI_CALL uint32_t takhvoi_cacount(takhvoi_kernel *kernel, takhvoi_block block, uint16_t chunk, uint16_t *count);
+TAKHVOI_CALL uint32_t takhvoi_caadd(takhvoi_kernel *kernel, takhvoi_block block, uint16_t chunk, uint16_t len);
+TAKHVOI_CALL uint32_t takhvoi_cains(takhvoi_kernel *kernel, takhvoi_block block, uint16_t chunk, uint16_t index, uint16_t len);
+TAKHVOI_CALL uint32_t takhvoi_cadel(takhvoi_kernel *kernel, takhvoi_block block, uint16_t chunk, uint16_t index);
+TAKHVOI_CALL uint32_t takhvoi_cazero(takhvoi_kernel *kernel, takhvoi_block block, uint16_t chunk);
+TAKHVOI_CALL uint32_t takhvoi_caresize(takhvoi_kernel *kernel, takhvoi_block block, uint16_t chunk, uint16_t index, uint16_t len);
+TAKHVOI_CALL uint32_t takhvoi_casize(takhvoi_kernel *kernel, takhvoi_block block, uint16_t chunk, uint16_t index, uint16_t *len);
+TAKHVOI_CALL uint32_t takhvoi_caread(takhvoi_kernel *kernel, takhvoi_block block, uint16_t chunk, uint16_t index, uint16_t at,
+                                     uint8_t *into, size_t len);
+TAKHVOI_CALL uint32_t takhvoi_cawrite(takhvoi_kernel *kernel, takhvoi_block block, uint16_t chunk, uint16_t index, uint16_t at,
+                                      const uint8_t *from, size_t len);
+
+/* Blocks of the VM file. The map block is the one by which a program finds the others. */
+TAKHVOI_CALL uint32_t takhvoi_vnew(takhvoi_kernel *kernel, uint16_t user_id, uint16_t *handle);
+TAKHVOI_CALL uint32_t takhvoi_vlock(takhvoi_kernel *kernel, uint16_t handle);
+TAKHVOI_CALL uint32_t takhvoi_vdirty(takhvoi_kernel *kernel, uint16_t handle);
+TAKHVOI_CALL uint32_t takhvoi_vfree(takhvoi_kernel *kernel, uint16_t handle);
+TAKHVOI_CALL uint32_t takhvoi_vfind(takhvoi_kernel *kernel, uint16_t above, uint16_t user_id, uint16_t *handle);
+TAKHVOI_CALL uint32_t takhvoi_vuid(takhvoi_kernel *kernel, uint16_t handle, uint16_t *user_id);
+TAKHVOI_CALL uint32_t takhvoi_vgetmap(takhvoi_kernel *kernel, uint16_t *handle);
+TAKHVOI_CALL uint32_t takhvoi_vsetmap(takhvoi_kernel *kernel, uint16_t handle);
+
+/* Groups of the VM file, and items. These calls bring the group into memory and mark it by themselves. */
+TAKHVOI_CALL uint32_t takhvoi_gnew(takhvoi_kernel *kernel, uint16_t *group);
+TAKHVOI_CALL uint32_t takhvoi_gfree(takhvoi_kernel *kernel, uint16_t group);
+TAKHVOI_CALL uint32_t takhvoi_inew(takhvoi_kernel *kernel, uint16_t group, uint16_t len, uint16_t *item);
+TAKHVOI_CALL uint32_t takhvoi_ifree(takhvoi_kernel *kernel, uint16_t group, uint16_t item);
+TAKHVOI_CALL uint32_t takhvoi_irealloc(takhvoi_kernel *kernel, uint16_t group, uint16_t item, uint16_t len);
+TAKHVOI_CALL uint32_t takhvoi_iins(takhvoi_kernel *kernel, uint16_t group, uint16_t item, uint16_t at, uint16_t len);
+TAKHVOI_CALL uint32_t takhvoi_idel(takhvoi_kernel *kernel, uint16_t group, uint16_t item, uint16_t at, uint16_t len);
+/* Locks the group where it has the item, and tells the item's length: then its items are read and written as chunks of TAKHVOI_VM(group),
+ * which is marked before they are written, and unlocked in the end. */
+TAKHVOI_CALL uint32_t takhvoi_ilock(takhvoi_kernel *kernel, uint16_t group, uint16_t item, uint16_t *len);
+TAKHVOI_CALL uint32_t takhvoi_igetmap(takhvoi_kernel *kernel, uint16_t *group, uint16_t *item);
+TAKHVOI_CALL uint32_t takhvoi_isetmap(takhvoi_kernel *kernel, uint16_t group, uint16_t item);
+
+/* Commits, which want that no block of the file is locked, and that the host has performed what was noted. Each happens whole or not at all. */
+TAKHVOI_CALL uint32_t takhvoi_update(takhvoi_kernel *kernel);
+TAKHVOI_CALL uint32_t takhvoi_save(takhvoi_kernel *kernel);
+TAKHVOI_CALL uint32_t takhvoi_revert(takhvoi_kernel *kernel);
+
+/* What the kernel has noted for the host, after `create`, `open`, a commit and a run: steps in order, by numbers from 0 on. `kind` is 1 for a
+ * write of `len` bytes from the offset `at` of the file on, 2 where what was written is to be made to last, and 0 behind the last step.
+ * `step_bytes` copies bytes of a write, from its byte `from` on. `performed` says that all were performed, and last. */
+TAKHVOI_CALL uint32_t takhvoi_step(takhvoi_kernel *kernel, uint32_t n, uint16_t *kind, uint64_t *at, uint64_t *len);
+TAKHVOI_CALL uint32_t takhvoi_step_bytes(takhvoi_kernel *kernel, uint32_t n, uint64_t from, uint8_t *into, size_t len);
+TAKHVOI_CALL uint32_t takhvoi_performed(takhvoi_kernel *kernel);
+
+/* Images, by numbers that are good until they are unloaded, or the kernel is closed. `place` is the offset of the first faulty byte
+ * (BAD_IMAGE), or the first instruction that rule `rule` refuses (REFUSED). */
+TAKHVOI_CALL uint32_t takhvoi_load(takhvoi_kernel *kernel, const uint8_t *bytes, size_t len, uint32_t *image, uint64_t *place, uint32_t *rule);
+/* Frees an image: its number is given again. */
+TAKHVOI_CALL uint32_t takhvoi_unload(takhvoi_kernel *kernel, uint32_t image);
+/* The number of the first routine with a name. */
+TAKHVOI_CALL uint32_t takhvoi_routine(takhvoi_kernel *kernel, uint32_t image, const uint8_t *name, size_t name_len, uint16_t *routine);
+/* Runs a public routine: `words` are w0 to w7, before and after. `lent` has the handle of a locked block of the VM file for each slot that the
+ * routine borrows, and 0 for the others; no other block of the file is locked. Of the `count` words that it puts out, as many as there is room
+ * for come into `output`. */
+TAKHVOI_CALL uint32_t takhvoi_run(takhvoi_kernel *kernel, uint32_t image, uint16_t routine, uint16_t words[8], const uint16_t lent[4],
+                                  uint16_t *output, size_t room, uint32_t *count, uint32_t *steps);
+
+/* Texts and images, as bytes. `told` is how many bytes come, also where the buffer is too short; or what is at fault: the line of a text
+ * (BAD_IMAGE: a faulty line, REFUSED: a routine for which no rows are found), or the offset in an image (BAD_IMAGE). */
+TAKHVOI_CALL uint32_t takhvoi_assemble(const uint8_t *text, size_t text_len, uint8_t *into, size_t room, uint64_t *told);
+TAKHVOI_CALL uint32_t takhvoi_list(const uint8_t *image, size_t image_len, uint8_t *into, size_t room, uint64_t *told);
+TAKHVOI_CALL uint32_t takhvoi_explain(const uint8_t *image, size_t image_len, uint8_t *into, size_t room, uint64_t *told);
+
+/* Files of the system, where the program is compiled for POSIX.1-2008, as gcc and clang do unless it asks for less. */
+#if defined(_POSIX_C_SOURCE) && _POSIX_C_SOURCE >= 200809L
+#include "takhvoi_file.h"
+#endif
+
+#ifdef __cplusplus
+}
+#endif
+#endif
