@@ -16,11 +16,12 @@ date=$(date -r "$top/library/takhvoi.h" +%Y-%m-%d)
 root=$folder/root
 python=$root/share/takhvoi/python
 rust=$root/share/takhvoi/rust
+page=$root/share/man/man3/takhvoi.3
 mkdir -p "$root/include" "$root/lib/pkgconfig" "$root/share/man/man3" "$python" "$rust/src" &&
     cp "$made/takhvoi.h" "$made/takhvoi_file.h" "$top/library/takhvoi.hpp" "$top/library/takhvoi_result.hpp" "$root/include" &&
     cp "$made/libtakhvoi.a" "$made/libtakhvoi.so" "$root/lib" &&
     sed "s|@PREFIX@|$prefix|; s|@VERSION@|$version|" "$top/library/takhvoi.pc.in" >"$root/lib/pkgconfig/takhvoi.pc" &&
-    awk -v version="$version" -v date="$date" -f "$top/install/header.awk" "$made/takhvoi.h" "$made/takhvoi_file.h" >"$root/share/man/man3/takhvoi.3" &&
+    awk -v version="$version" -v date="$date" -f "$top/install/header.awk" "$made/takhvoi.h" "$made/takhvoi_file.h" >"$page" &&
     cp "$top/bindings/python/takhvoi.py" "$top/bindings/python/_takhvoi.py" "$python" &&
     cp "$top/bindings/rust/Cargo.toml" "$top/bindings/rust/build.rs" "$rust" &&
     cp "$top"/bindings/rust/src/*.rs "$rust/src"

@@ -222,10 +222,8 @@ TAKHVOI_CALL uint32_t takhvoi_assemble(const uint8_t *text, size_t text_len, uin
 TAKHVOI_CALL uint32_t takhvoi_list(const uint8_t *image, size_t image_len, uint8_t *into, size_t room, uint64_t *told);
 TAKHVOI_CALL uint32_t takhvoi_explain(const uint8_t *image, size_t image_len, uint8_t *into, size_t room, uint64_t *told);
 
-/* Files of the system, where the program is compiled for POSIX.1-2008, as gcc and clang do unless it asks for less. */
-#if defined(_POSIX_C_SOURCE) && _POSIX_C_SOURCE >= 200809L
+/* Files of the system. */
 #include "takhvoi_file.h"
-#endif
 
 #ifdef __cplusplus
 }

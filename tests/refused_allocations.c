@@ -1,6 +1,6 @@
 /* Makes a VM file with the library, fills and keeps it, runs a routine on it, closes it and opens it again, with each allocation refused in
- * turn: the library then answers that there is no memory, leaves no file where none was made, and goes on well the next time. It is linked
- * with --wrap=malloc and --wrap=realloc. usage: refused_allocations FILE */
+ * turn: the library then answers that there is no memory, or that the device failed, which has none to note a write; it leaves no file where
+ * none was made, and goes on well the next time. It is linked with --wrap=malloc and --wrap=realloc. usage: refused_allocations FILE */
 #include "takhvoi.h"
 #include <stdio.h>
 #include <stdlib.h>
@@ -68,7 +68,8 @@ int main(int argc, char **argv) {
         asked = 0;
         refused = i;
         uint32_t status = work(argv[1]);
-        if (status != TAKHVOI_NO_MEMORY && status != TAKHVOI_MEMORY) printf("allocation %ld: %s\n", i, takhvoi_error_text(status));
+        if (status != TAKHVOI_NO_MEMORY && status != TAKHVOI_MEMORY && status != TAKHVOI_DISK)
+            printf("allocation %ld: %s\n", i, takhvoi_error_text(status));
         refused = -1;
         if (work(argv[1]) != TAKHVOI_DONE) printf("nothing is done after allocation %ld\n", i);
     }

@@ -23,9 +23,10 @@ page=$root/share/man/man3/takhvoi.3
 grep '^\.SH' "$page"
 ! command -v groff >/dev/null || groff -man -ww -z "$page" 2>&1
 # Each function, number and text of the header stands in the page.
-grep -o '\(takhvoi_[a-z0-9_]*(\|TAKHVOI_[A-Z_]*\)' takhvoi.h takhvoi_file.h | sed 's/.*://' | grep -v 'TAKHVOI_\(FILE_H\|H\|CALL\)$' | sort -u | while read -r name; do
-    grep -qF "$name" "$page" || echo "the page has nothing of $name"
-done
+cat takhvoi.h takhvoi_file.h | grep -o '\(takhvoi_[a-z0-9_]*(\|TAKHVOI_[A-Z_]*\)' | sort -u | grep -v '^TAKHVOI_\(FILE_H\|H\|CALL\)$' |
+    while read -r name; do
+        grep -qF "$name" "$page" || echo "the page has nothing of $name"
+    done
 grep "^version = \"$(pkg-config --modversion takhvoi)\"" "$root/share/takhvoi/rust/Cargo.toml"
 
 run_make uninstall

@@ -13,7 +13,7 @@ fi
 echo "names but ours: $(nm -g --defined-only "$folder/libtakhvoi.a" | grep -v ':$' | awk 'NF > 1 { print $3 }' | grep -v '^takhvoi_' | tr '\n' ' ')"
 sed -n 's/^ *TAKHVOI_\([A-Z_]*\) = \([0-9]*\),*$/\1 \2/p' "$folder/takhvoi.h" | awk '$2 == 0 || ($2 >= 100 && $2 < 200)' | sort >"$folder/header"
 sed -n 's/^pub(crate) const \([A-Z_]*\): u32 = \([0-9]*\);$/\1 \2/p' "$top/crates/takhvoi/src/status.rt" | sort | cmp - "$folder/header"
-sed -n 's/^\(TAKHVOI_CALL \)*uint32_t \(takhvoi_[a-z0-9_]*\)(.*/\2/p' "$folder/takhvoi.h" | sort >"$folder/declared"
+sed -n 's/^\(TAKHVOI_CALL \)*uint32_t \(takhvoi_[a-z0-9_]*\)(.*/\2/p' "$folder/takhvoi.h" "$folder/takhvoi_file.h" | sort >"$folder/declared"
 nm -g --defined-only "$folder/libtakhvoi.a" | sed -n 's/.* T //p' | sort | cmp - "$folder/declared"
 
 cc -std=c99 -D_POSIX_C_SOURCE=200809L -Wall -Wextra -Werror -O2 -I"$folder" -o "$folder/book" "$top/library/book.c" "$folder/libtakhvoi.a" || exit
