@@ -25,7 +25,7 @@ abbrev pub KeepsLimits : Request → Type 0
 KeepsLimits (New file area) = IsArea area
 KeepsLimits (Call image call file region strict form) = IsRegion region
 KeepsLimits (Trace image words file region) = IsRegion region
-KeepsLimits (Run image file script region strict form) = IsRegion region
+KeepsLimits (Run image file script region strict names form) = IsRegion region
 KeepsLimits (Put chunk at region) = IsRegion region
 KeepsLimits (Get chunk region) = IsRegion region
 KeepsLimits (Map file width) = IsWidth width
