@@ -56,7 +56,7 @@ no_device a = record { alloc = a; cache = record { bytes = no_vec a; failures = 
 nothing_held : Global → System
 nothing_held a = record {
   kernel = record { core = record { blocks = record { blocks = []; places = []; len = 0 }; vm = no_vm }; device = no_device a };
-  machine = record { words = []; counters = []; slots = []; pointers = []; output = record { items = [] } };
+  machine = record { words = []; counters = []; slots = []; pointers = []; outcome = record { words = []; output = record { items = [] }; steps = 0 } };
   images = record { ptr = null_ptr; len = 0; cap = 0; alloc = a; items = []; ok = (refl, omega arith); small = omega arith };
   hosted = false;
 }
