@@ -1,14 +1,6 @@
 # The library for C is made and linked with the program of library/book.c, an address book on which a checked routine of another text
 # runs. The header's numbers are those of the library's source, and the archive has no names but ours.
-export LC_ALL=C
-folder=$(mktemp -d)
-trap 'rm -rf "$folder"' EXIT
-
-if ! timeout 360 "$top/library/make.sh" "$folder" >"$folder/log" 2>&1; then
-    tail -n 3 "$folder/log" >&2
-    echo "the library was not made within 6 minutes" >&2
-    exit 77
-fi
+. "$top/tests/with_library.sh"
 
 echo "names but ours: $(nm -g --defined-only "$folder/libtakhvoi.a" | grep -v ':$' | awk 'NF > 1 { print $3 }' | grep -v '^takhvoi_' | tr '\n' ' ')"
 sed -n 's/^ *TAKHVOI_\([A-Z_]*\) = \([0-9]*\),*$/\1 \2/p' "$folder/takhvoi.h" | awk '$2 == 0 || ($2 >= 100 && $2 < 200)' | sort >"$folder/header"
@@ -19,7 +11,6 @@ nm -g --defined-only "$folder/libtakhvoi.a" | sed -n 's/.* T //p' | sort | cmp -
 cc -std=c99 -D_POSIX_C_SOURCE=200809L -Wall -Wextra -Werror -O2 -I"$folder" -o "$folder/book" "$top/library/book.c" "$folder/libtakhvoi.a" || exit
 cc -std=c99 -D_POSIX_C_SOURCE=200809L -Wall -Wextra -Werror -O2 -I"$folder" -Wl,--wrap=malloc,--wrap=realloc -o "$folder/refused" \
     "$top/tests/refused_allocations.c" "$folder/libtakhvoi.a" || exit
-cd "$folder" || exit
 
 ./refused refused.vm
 ./book b.vm add Bohr 17 && ./book b.vm add Curie 29 && ./book b.vm add Cantor 31 && ./book b.vm list
