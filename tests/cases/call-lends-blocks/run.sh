@@ -39,3 +39,4 @@ on_file @1 peek
 "$program" trace "$text" peek @1 --file file.vm 2>&1
 "$program" trace "$text" peek --file file.vm 2>&1
 "$program" trace "$text" put @1 2>&1
+echo "status $?"
