@@ -29,8 +29,10 @@ abbrev pub AreItsRefusals : Parts → Option Reject → List (Option Rule) → T
 AreItsRefusals image None refused = Accepted image × (refused ≡ [])
 AreItsRefusals image (Some reject) refused = FirstRefusal image reject × AreRefusals image refused
 
--- the bytes spell an image, and this is its explanation, with all its refusals
+-- the text is the image's explanation with all its refusals, of which this is the first; or there is none
+abbrev pub IsExplanation : Parts → List ℕ → Option Reject → Type 0
+IsExplanation image text reject = (refused : List (Option Rule)) × AreItsRefusals image reject refused × (text ≡ explanation image refused)
+
+-- the bytes spell an image, and this is its explanation
 abbrev pub IsExplainedAs : List ℕ → List ℕ → Type 0
-IsExplainedAs bytes text =
-    (image : Parts) × (reject : Option Reject) × (refused : List (Option Rule))
-    × (image_at bytes ≡ Ok image) × AreItsRefusals image reject refused × (text ≡ explanation image refused)
+IsExplainedAs bytes text = (image : Parts) × (reject : Option Reject) × (image_at bytes ≡ Ok image) × IsExplanation image text reject

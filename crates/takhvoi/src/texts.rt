@@ -1,17 +1,17 @@
 //! Texts and images, as bytes.
 
-ghost use Rattle.std.specs.Prelude.{◌≡◌, Err, length, take};
+ghost use Rattle.std.specs.Prelude.{◌≡◌, Err, IfOk, length, take};
 ghost use Rattle.geos_asm.specs.Assembling.{HasNoRows};
 ghost use Rattle.geos_image.specs.Reading.{image_at};
-ghost use Rattle.takhvoi.specs.Texts.{HasFaultAt, IsExplainedAs, IsImageOf, IsListedAs};
+ghost use Rattle.takhvoi.specs.Texts.{HasFaultAt, IsExplainedAs, IsExplanation, IsImageOf, IsListedAs};
 
 use crate::status::{BAD_IMAGE, DONE, NO_MEMORY, REFUSED, SHORT_BUFFER};
 use geos_asm::{AssembleError, assemble};
 use geos_explain::explain;
-use geos_image::ReadError;
-use geos_verify::{check, refused_places};
+use geos_image::{Image, ReadError};
+use geos_verify::{Reject, check, refused_places};
 use round_trip::list;
-use std::alloc::Global;
+use std::alloc::{AllocError, Global};
 
 /// Copies bytes into a buffer, where they fit; tells how many there are.
 fn give(bytes: &[u8], into: &mut [u8], told: &mut u64) -> u32
@@ -79,6 +79,19 @@ pub extern "C" fn takhvoi_list(alloc: Global, bytes: &[u8], into: &mut [u8], tol
     }
 }
 
+/// The explanation of an image, and its first refusal, if it has one.
+fn explained(alloc: Global, image: Image) -> Result<(Vec<u8>, Option<Reject>), AllocError>
+    ensures { IfOk result (λ told. IsExplanation image told.0.items told.1) }
+{
+    match check(image) {
+        Ok(checked) => Ok((explain(alloc, checked.image(), &[])?, None)),
+        Err((image, reject)) => Ok((
+            explain(alloc, &image, &refused_places(&image))?,
+            Some(reject),
+        )),
+    }
+}
+
 /// The listing of an image with what is known at each instruction, and where it is refused, why. `told` as for `takhvoi_list`.
 #[unsafe(no_mangle)]
 pub extern "C" fn takhvoi_explain(
@@ -98,12 +111,8 @@ pub extern "C" fn takhvoi_explain(
         }
         Err(ReadError::Memory) => return NO_MEMORY,
     };
-    let text = match check(image) {
-        Ok(checked) => explain(alloc, checked.image(), &[]),
-        Err((image, _)) => explain(alloc, &image, &refused_places(&image)),
-    };
-    match text {
-        Ok(text) => give(&text, into, told),
+    match explained(alloc, image) {
+        Ok((text, _reject)) => give(&text, into, told),
         Err(_) => NO_MEMORY,
     }
 }
