@@ -37,6 +37,7 @@ pub use crate::call_fault::CallFault;
 pub use crate::form::{Form, Writing};
 pub use crate::in_form::{run_call_in_form, run_script_in_form};
 pub use crate::law::other_calls_keep;
+pub use crate::lines::{is_bad_line, routine_named};
 pub use crate::script::{RefusedCommand, run_script, run_script_strictly};
 pub use crate::session::run_session;
 pub use crate::traced::{TraceFault, TracedCall, trace_call};

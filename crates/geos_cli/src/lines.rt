@@ -3,7 +3,7 @@
 ghost use Rattle.std.specs.Prelude.{◌≡◌, ◌<◌, length, None, IfNone, IfOk, IfErr, IfSome, Some};
 ghost use Rattle.std.specs.Str.Lines.{lines};
 ghost use Rattle.geos_cli.specs.Script.{names_block, handle_of, before_blocks, from_blocks, next_handle, placed, routine_named, registers_of};
-ghost use Rattle.geos_cli.specs.Script.{call_named, how_named, command_of, commands_of, first_bad, IsBadLine};
+ghost use Rattle.geos_cli.specs.Script.{call_named, how_named, command_of, commands_of, first_bad, is_bad, IsBadLine};
 ghost use Rattle.geos_text.specs.Words.{words};
 
 use crate::asked::if_admitted;
@@ -15,8 +15,8 @@ use geos_verify::Checked;
 use std::alloc::Global;
 use vm_file::How;
 
-/// The routine of that name.
-pub(crate) fn routine_named(image: &Image, name: &[u8]) -> Option<u16>
+/// The routine of that name; `None` where the image has none.
+pub fn routine_named(image: &Image, name: &[u8]) -> Option<u16>
     ensures named { result ≡ routine_named image.now name.now }
     ensures within { IfSome result (λ r. r < length image.now.routines) }
 {
@@ -171,6 +171,14 @@ fn command_of(checked: &Checked, line: &[u8]) -> Option<Command>
             }
         }
     }
+}
+
+/// Whether a line says something, but is no command that may be asked for.
+pub fn is_bad_line(checked: &Checked, line: &[u8]) -> bool
+    ensures { result ≡ is_bad checked.now line.now }
+{
+    let line = without_comment(line);
+    first_word(line).is_some() && command_of(checked, line).is_none()
 }
 
 /// The commands of a script with the numbers of their lines, or the number of its first bad line.

@@ -23,6 +23,8 @@ enum ArgText {
     Path(&'static str, &'static str),
     /// A routine behind a name that it may be given: that name, and which routine it is.
     Routine(&'static str, &'static str),
+    /// A script behind a name that it may be given: that name, and what it is for.
+    Script(&'static str, &'static str),
 }
 
 /// A number that a command may be given: its name and limits, what it is, and what it is where it is not given.
@@ -109,6 +111,11 @@ const IMAGE: ArgText = ArgText::Word(
 const IMAGE_OR_TEXT: ArgText = ArgText::Word(
     "IMAGE",
     "A file of an image's bytes, or of assembly text; `-` is the standard input",
+);
+
+const SCRIPT_TO_EXPLAIN: ArgText = ArgText::Script(
+    "script",
+    "A file of commands, of which each bad line is told in place of all else; `-` is the standard input",
 );
 
 const NEW_FILE: ArgText = ArgText::Word(
@@ -235,7 +242,7 @@ static COMMANDS: [CommandText; 13] = [
     CommandText {
         name: "explain",
         about: "Prints an image or a text with what is known at each instruction, and why it may not run",
-        args: &[IMAGE_OR_TEXT],
+        args: &[IMAGE_OR_TEXT, SCRIPT_TO_EXPLAIN],
         more: More::Explained,
     },
     CommandText {
@@ -340,6 +347,14 @@ fn routine_of<'a>(alloc: Global, name: &'a str, about: &'a str) -> Arg<'a> {
         .help(about)
 }
 
+/// A script behind `--name` that a command may be given.
+fn script_of<'a>(alloc: Global, name: &'a str, about: &'a str) -> Arg<'a> {
+    Arg::new(alloc, name)
+        .long(name)
+        .value_name("SCRIPT")
+        .help(about)
+}
+
 /// What stands behind the name of a command.
 fn arg_of<'a>(alloc: Global, text: &ArgText) -> Arg<'a> {
     match text {
@@ -350,6 +365,7 @@ fn arg_of<'a>(alloc: Global, text: &ArgText) -> Arg<'a> {
         ArgText::Words(name, about) => words_of(alloc, *name, *about),
         ArgText::Path(name, about) => path_of(alloc, *name, *about),
         ArgText::Routine(name, about) => routine_of(alloc, *name, *about),
+        ArgText::Script(name, about) => script_of(alloc, *name, *about),
     }
 }
 

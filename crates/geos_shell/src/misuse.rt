@@ -12,8 +12,8 @@ pub(crate) enum Misuse {
     WrongNumber(Number),
     /// What stands for this name, of a command of this usage, is no number up to 65,535.
     NoWord(&'static str, Usage),
-    /// Two words name the standard input.
-    TwoOfOneStream,
+    /// Two words name the standard input, of a command of this usage.
+    TwoOfOneStream(Usage),
     /// A text or an image is to come on the standard input, and no routine is named, so that a script is to come there too.
     NoName,
     /// A routine is named, so that no script is to run, and it is said how one ends.
@@ -47,7 +47,7 @@ impl Misuse {
         match self {
             Misuse::WrongNumber(number) => limits(alloc, number),
             Misuse::NoWord(name, _) => { format!(in alloc; "{name} is a number from 0 to 65535") }
-            Misuse::TwoOfOneStream => {
+            Misuse::TwoOfOneStream(_) => {
                 String::from_str(alloc, "only one of IMAGE and SCRIPT is the standard input")
             }
             Misuse::NoName => {
@@ -73,8 +73,8 @@ impl Misuse {
     fn usage(&self) -> &'static str {
         match self {
             Misuse::WrongNumber(number) => number.usage.text(),
-            Misuse::TwoWritings(usage) | Misuse::NoWord(_, usage) => usage.text(),
-            Misuse::TwoOfOneStream => Usage::Run.text(),
+            Misuse::TwoWritings(usage) | Misuse::NoWord(_, usage) | Misuse::TwoOfOneStream(usage) =>
+                usage.text(),
             Misuse::NoName | Misuse::NoScript | Misuse::Memory => Usage::Call.text(),
             Misuse::ImageOntoText => Usage::Asm.text(),
         }
