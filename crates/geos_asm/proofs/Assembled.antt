@@ -1,11 +1,12 @@
 -- What is found for the skeleton of a text's code is found for the text.
-use Rattle.std.proofs.Common.{◌≡◌, ◌<◌, ◌∙◌, ℕ, true, false, List, Some, length, Ok, refl, ap, subst, slice_get}
+use Rattle.std.proofs.Common.{◌≡◌, ◌<◌, ◌∙◌, ℕ, true, false, List, Some, length, Ok, refl, sym, ap, subst, slice_get}
 use Rattle.std.proofs.Math.ListN.{get_or}
 use Rattle.std.proofs.lemmas.List.{length-map}
 use Rattle.std.proofs.lemmas.Option.{slice_get_read}
 use Rattle.geos_image.specs.Parts.{Parts}
 use Rattle.geos_image.specs.Keys.{keyed_of}
 use Rattle.geos_image.specs.Legal.{is_formed}
+use Rattle.geos_source.specs.declared.parser.ParseError.{ParseError}
 use Rattle.geos_source.specs.declared.progress.TextRoutine.{TextRoutine}
 use Rattle.geos_source.specs.Texts.{Code, code_of}
 use Rattle.geos_source.specs.Skeletons.{routine_of, skeleton}
@@ -17,7 +18,7 @@ use Rattle.geos_infer.specs.Causes.{Holds, tells_of_slots}
 use Rattle.geos_infer.specs.Why.{MeetAlike}
 use Rattle.geos_infer.proofs.Keyed.{keyed-code, found-keyed, all-hold-keyed}
 use Rattle.geos_infer.specs.declared.cause.Cause.{Cause}
-use Rattle.geos_asm.specs.Assembling.{IsAssembled, RunsIfAnyDoes, HasNoRows, IsCauseOf}
+use Rattle.geos_asm.specs.Assembling.{IsAssembled, RunsIfAnyDoes, HasNoRows, IsCauseOf, HasCause, BeginsAt}
 
 -- what is assembled of a text is so in version 2 too
 pub assembled_keyed : (text : List ℕ) (image : Parts) → is_formed true image ≡ true → IsAssembled text image → IsAssembled text (keyed_of image)
@@ -59,3 +60,12 @@ caused text code blank r at line items routine cause read is same_items same wit
       holds = subst (λ (b : Parts). Holds b r cause) is holds;
       slots = λ e. subst (λ (b : Parts). MeetAlike b r) is (slots e);
     }
+
+-- the code of a text is one
+same-code : (one two : Code) → Ok {E = ParseError} one ≡ Ok two → one ≡ two
+same-code one two e = cc
+
+pub has-cause : HasCause
+has-cause text line none nowhere =
+    let same : none.code ≡ nowhere.code = same-code none.code nowhere.code (sym none.read ∙ nowhere.read) in
+    nowhere.nowhere (subst (λ (code : Code). BeginsAt code line) same none.begins)
