@@ -10,6 +10,7 @@ pub mod LegalDirectories
 pub mod LegalGiven
 pub mod NamedBlocks
 pub mod Outcomes
+pub mod Counted
 pub mod Leaves
 pub mod KeepsFile
 pub mod Keeps
