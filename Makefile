@@ -40,6 +40,6 @@ install-library:
 
 uninstall:
 	rm -f '$(bin)/geos' '$(man)/geos.1' '$(bash)/geos' '$(zsh)/_geos' '$(fish)/geos.fish'
-	rm -f '$(root)'/include/takhvoi.h '$(root)'/include/takhvoi_file.h '$(root)'/include/takhvoi.hpp '$(root)'/include/takhvoi_result.hpp
+	cd '$(root)'/include 2>/dev/null && rm -f takhvoi.h takhvoi_file.h takhvoi_tested.h takhvoi.hpp takhvoi_result.hpp || true
 	rm -f '$(root)'/lib/libtakhvoi.a '$(root)'/lib/libtakhvoi.so '$(root)'/lib/pkgconfig/takhvoi.pc '$(root)'/share/man/man3/takhvoi.3
 	rm -rf '$(root)'/share/takhvoi

@@ -107,7 +107,7 @@ in_numbers {
     in_numbers = 1
     next
 }
-/^#define TAKHVOI_(CALL|H|FILE_H)/ || /^#/ && !/^#define TAKHVOI_/ || /^extern "C"/ || /^ *$/ || /^}$/ { next }
+/^#define TAKHVOI_(CALL|USED|H|FILE_H)/ || /^#/ && !/^#define TAKHVOI_/ || /^extern "C"/ || /^ *$/ || /^}$/ { next }
 /^#define/ {
     declare($0)
     next

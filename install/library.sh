@@ -18,7 +18,7 @@ python=$root/share/takhvoi/python
 rust=$root/share/takhvoi/rust
 page=$root/share/man/man3/takhvoi.3
 mkdir -p "$root/include" "$root/lib/pkgconfig" "$root/share/man/man3" "$python" "$rust/src" &&
-    cp "$made/takhvoi.h" "$made/takhvoi_file.h" "$top/library/takhvoi.hpp" "$top/library/takhvoi_result.hpp" "$root/include" &&
+    cp "$made/takhvoi.h" "$made/takhvoi_file.h" "$made/takhvoi_tested.h" "$top/library/takhvoi.hpp" "$top/library/takhvoi_result.hpp" "$root/include" &&
     cp "$made/libtakhvoi.a" "$made/libtakhvoi.so" "$root/lib" &&
     sed "s|@PREFIX@|$prefix|; s|@VERSION@|$version|" "$top/library/takhvoi.pc.in" >"$root/lib/pkgconfig/takhvoi.pc" &&
     awk -v version="$version" -v date="$date" -f "$top/install/header.awk" "$made/takhvoi.h" "$made/takhvoi_file.h" >"$page" &&

@@ -26,6 +26,7 @@ work=$(mktemp -d) || exit
 trap 'rm -rf "$work"' EXIT
 mkdir -p "$1" &&
     cp "$top/library/takhvoi.h" "$top/library/takhvoi_file.h" "$1" &&
+    awk -f "$top/library/tested.awk" "$top/library/takhvoi.h" "$top/library/takhvoi_file.h" >"$1/takhvoi_tested.h" &&
     cc -std=c99 -O2 -fPIC -Wall -Wextra -Werror -c -o "$work/file.o" "$top/library/takhvoi_file.c" &&
     ld -r -o "$work/whole.o" "$work/file.o" --whole-archive "$built" --no-whole-archive "$below/libos_c.a" "$below/liblibc_c.a" &&
     objcopy --wildcard --keep-global-symbol='takhvoi_*' "$work/whole.o" "$work/takhvoi.o" &&

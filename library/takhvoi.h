@@ -5,8 +5,8 @@
  *
  *   - A takhvoi_kernel is TAKHVOI_NONE at first. Its fields are left alone. While it is open it is not copied, though it may be moved,
  *     and no two calls work on it at once. Two threads may have a kernel each.
- *   - No pointer is null, also where its length is 0, and each has room for what is said. No two pointers of a call lead to the same
- *     bytes, nor one into the takhvoi_kernel.
+ *   - Each pointer has room for what is said. No two pointers of a call lead to the same bytes, nor one into the takhvoi_kernel. Where one
+ *     is null, a call answers TAKHVOI_NULL_POINTER and does nothing; for no bytes it may be null.
  *   - malloc, realloc and free are of one allocator. No call is made from a signal handler, nor from the forked child of a process with
  *     threads.
  *
@@ -17,8 +17,10 @@
 #include <stdint.h>
 
 #if defined(__GNUC__)
+#define TAKHVOI_USED __attribute__((warn_unused_result))
 #define TAKHVOI_CALL __attribute__((nonnull, warn_unused_result))
 #else
+#define TAKHVOI_USED
 #define TAKHVOI_CALL
 #endif
 
@@ -76,7 +78,9 @@ enum {
     TAKHVOI_NO_FILE = 200,
     TAKHVOI_FILE_IS_THERE = 201,
     TAKHVOI_FILE_IN_USE = 202,
-    TAKHVOI_NO_ACCESS = 203
+    TAKHVOI_NO_ACCESS = 203,
+    /* Why this header does: then nothing is called. */
+    TAKHVOI_NULL_POINTER = 210
 };
 
 /* What a number says, in words. */
@@ -109,6 +113,7 @@ static inline const char *takhvoi_error_text(uint32_t status) {
     case TAKHVOI_FILE_IS_THERE: return "the file is there already";
     case TAKHVOI_FILE_IN_USE: return "another has the file's lock";
     case TAKHVOI_NO_ACCESS: return "the system refuses the file";
+    case TAKHVOI_NULL_POINTER: return "a pointer is null";
     case TAKHVOI_BAD_FILE: return "no VM file";
     case TAKHVOI_NO_MEMORY: return "there is no memory";
     case TAKHVOI_BAD_IMAGE: return "no image, or a faulty text";
@@ -224,6 +229,11 @@ TAKHVOI_CALL uint32_t takhvoi_explain(const uint8_t *image, size_t image_len, ui
 
 /* Files of the system. */
 #include "takhvoi_file.h"
+
+/* Each call tests its pointers first, unless TAKHVOI_UNTESTED is defined. */
+#ifndef TAKHVOI_UNTESTED
+#include "takhvoi_tested.h"
+#endif
 
 #ifdef __cplusplus
 }

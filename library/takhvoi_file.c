@@ -1,6 +1,7 @@
 /* Kernels on files of the system: takhvoi_file.h. */
 #define _POSIX_C_SOURCE 200809L
 #define _DEFAULT_SOURCE
+#define TAKHVOI_UNTESTED
 #include "takhvoi.h"
 #include <errno.h>
 #include <fcntl.h>

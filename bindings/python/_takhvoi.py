@@ -42,6 +42,7 @@ TEXTS = {
     201: "the file is there already",
     202: "another has the file's lock",
     203: "the system refuses the file",
+    210: "a pointer is null",
 }
 
 

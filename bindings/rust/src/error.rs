@@ -115,6 +115,7 @@ refusals! {
     FileIsThere 201 "the file is there already";
     FileInUse 202 "another has the file's lock";
     NoAccess 203 "the system refuses the file";
+    NullPointer 210 "a pointer is null";
 }
 
 impl fmt::Display for Error {

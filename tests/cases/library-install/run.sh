@@ -23,7 +23,7 @@ page=$root/share/man/man3/takhvoi.3
 grep '^\.SH' "$page"
 ! command -v groff >/dev/null || groff -man -ww -z "$page" 2>&1
 # Each function, number and text of the header stands in the page.
-cat takhvoi.h takhvoi_file.h | grep -o '\(takhvoi_[a-z0-9_]*(\|TAKHVOI_[A-Z_]*\)' | sort -u | grep -v '^TAKHVOI_\(FILE_H\|H\|CALL\)$' |
+cat takhvoi.h takhvoi_file.h | grep -o '\(takhvoi_[a-z0-9_]*(\|TAKHVOI_[A-Z_]*\)' | sort -u | grep -v '^TAKHVOI_\(FILE_H\|H\|CALL\|USED\)$' |
     while read -r name; do
         grep -qF "$name" "$page" || echo "the page has nothing of $name"
     done
