@@ -48,8 +48,8 @@ fn front_that_stands<D: Device>(device: &mut D, at: u64, bytes: &[u8]) -> Result
     Ok(n)
 }
 
-/// How many bytes come before those at the end that stand on the device, in whole pieces.
-fn front_of_change<D: Device>(device: &mut D, at: u64, bytes: &[u8]) -> Result<usize, Disk>
+/// Where the bytes at the end begin that stand on the device, in whole pieces.
+fn end_of_change<D: Device>(device: &mut D, at: u64, bytes: &[u8]) -> Result<usize, Disk>
     requires range { at + length bytes.now < 2 ^ 34 }
     requires within { at + length bytes.now ≤ length (D.medium.image device.old) }
     ensures bound { IfOk result (λ n. n ≤ length bytes.now) }
@@ -89,7 +89,7 @@ fn write_changes<D: Device>(device: &mut D, at: u64, bytes: &[u8]) -> Result<(),
     };
     let base = at + from as u64;
     let rest = &bytes[from..];
-    let n = match front_of_change(device, base, rest) {
+    let n = match end_of_change(device, base, rest) {
         Ok(n) => n,
         Err(Disk) => return Err(Disk),
     };

@@ -2,7 +2,7 @@ use Rattle.std.proofs.Common.{◌≡◌, ◌+◌, ◌-◌, ◌∙◌, length, ta
 use Rattle.lmem_raw.specs.Bytes.{part}
 use Rattle.vm_file.proofs.Moments.{reads_then}
 use Rattle.vm_file.proofs.Pieces.{end_more}
-use Rattle.vm_file.proofs.changes.front_of_change.Goals as goal
+use Rattle.vm_file.proofs.changes.end_of_change.Goals as goal
 
 pub loop-n-preserved : goal.loop-n-preserved
 loop-n-preserved g c =

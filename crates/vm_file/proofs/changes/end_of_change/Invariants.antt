@@ -1,7 +1,7 @@
 use Rattle.std.proofs.Common.{◌≡◌, ◌+◌, ◌-◌, ◌≤◌, length, drop}
 use Rattle.lmem_raw.specs.Bytes.{part}
 use Rattle.vm_file.specs.Outcomes.{ReadsOnly}
-use Rattle.vm_file.proofs.changes.front_of_change.Given as goal
+use Rattle.vm_file.proofs.changes.end_of_change.Given as goal
 
 abbrev pub invariant-loop-n : goal.invariant-loop-n
 invariant-loop-n g l =
