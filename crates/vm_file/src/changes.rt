@@ -9,6 +9,9 @@ use crate::device::{Device, Disk, write_durably};
 /// How many bytes are read at a time and compared.
 const PIECE: usize = 16_384;
 
+/// How many bytes are compared at least: fewer are sooner written than read.
+const LEAST_COMPARED: usize = 65_536;
+
 /// Whether these bytes stand on the device from an offset on. They are read into a buffer.
 fn stands<D: Device>(device: &mut D, at: u64, bytes: &[u8], buffer: &mut [u8]) -> Result<bool, Disk>
     requires room { length bytes.now ≤ length buffer.old }
@@ -96,8 +99,8 @@ fn write_changes<D: Device>(device: &mut D, at: u64, bytes: &[u8]) -> Result<(),
     write_durably(device, base, &rest[..n])
 }
 
-/// Writes bytes from an offset on, and makes them last. Where it is known what the device has there, bytes at both ends that stand there
-/// already are read and not written again.
+/// Writes bytes from an offset on, and makes them last. Where it is known what the device has there, and they are many, bytes at both ends
+/// that stand there already are read and not written again.
 pub(crate) fn write_area<D: Device>(
     device: &mut D,
     at: u64,
@@ -113,7 +116,7 @@ pub(crate) fn write_area<D: Device>(
     ensures once { FailedOnce (D.medium.failed device.old) (D.medium.failed device.new) }
     ensures steady { at + length bytes.now ≤ length (D.medium.image device.old) → NoneFails D.medium device.old device.new }
 {
-    if known && at + bytes.len() as u64 <= device.len() {
+    if known && bytes.len() >= LEAST_COMPARED && at + bytes.len() as u64 <= device.len() {
         write_changes(device, at, bytes)
     } else {
         write_durably(device, at, bytes)
