@@ -1,4 +1,5 @@
 pub mod Touches
+pub mod Pieces
 pub mod Moments
 pub mod FaultLaws
 mod SteadyDevices

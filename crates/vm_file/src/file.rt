@@ -7,6 +7,7 @@ ghost use Rattle.vm_file.specs.Outcomes.{BeginsWithSync, CausesDisk, CausesNoBlo
 ghost use Rattle.vm_file.specs.Outcomes.{IsCaused, IsHeapUnder, IsRefused, ReadsOnly, WritesOnly};
 ghost use Rattle.vm_file.specs.Reading.{file_at};
 
+use crate::changes::write_area;
 use crate::commit::{How, Nothing, Source, are_there, go_on, length_after, selector_of};
 use crate::create::write_new;
 use crate::device::{Device, Disk, Noting, write_durably};
@@ -28,6 +29,9 @@ pub struct VmFile<D: Device + Drop> {
     area: u32,
     second: bool,
     sure: bool,
+    /// How many commits have succeeded one after the other, up to 255. After two it has written both areas itself, so that what it
+    /// reads there is what lasts: where a write or a `sync` failed, that need not be so.
+    commits: u8,
     current: PlacedDirectory,
     saved: Directory,
 }
@@ -91,6 +95,7 @@ impl<D: Device + Drop> VmFile<D> {
                 area,
                 second: false,
                 sure: true,
+                commits: 0,
                 current: PlacedDirectory::new(),
                 saved: Directory::new(),
             }),
@@ -135,6 +140,7 @@ impl<D: Device + Drop> VmFile<D> {
                 area,
                 second,
                 sure: true,
+                commits: 0,
                 current: PlacedDirectory::of(current),
                 saved,
             }),
@@ -249,9 +255,10 @@ impl<D: Device + Drop> VmFile<D> {
     /// current directory has at that handle.
     ///
     /// The memory for the pair is taken first, and given back at the end. What the pair needs
-    /// from the device is read. Then the area that is not selected is written, the pair's bytes
-    /// and no more, and made to last; and so is the selector. A stop at any moment leaves a file
-    /// in which `open` finds the pair from before or the new one.
+    /// from the device is read. Then the pair's bytes are written to the area that is not selected,
+    /// without those at both ends that this file wrote there before, and made to last; and so is
+    /// the selector. A stop at any moment leaves a file in which `open` finds the pair from before
+    /// or the new one.
     ///
     /// `Unsure` where the file is unsure, `TooBig` where it is sure and the pair is longer than
     /// the area, `Memory` where an allocation is refused: nothing has happened. `Disk` where
@@ -420,19 +427,24 @@ impl<D: Device + Drop> VmFile<D> {
         ensures steadily { Steadily D.medium self.old self.new }
     {
         let base = base_of(self.area, !self.second);
-        match write_durably(&mut self.device, base, bytes) {
+        match write_area(&mut self.device, base, bytes, self.commits >= 2) {
             Ok(()) => {}
-            Err(Disk) => return Err(Disk),
+            Err(Disk) => {
+                self.commits = 0;
+                return Err(Disk);
+            }
         }
         let selector = [selector_of(!self.second)];
         match write_durably(&mut self.device, 512, &selector) {
             Ok(()) => {
                 self.second = !self.second;
+                self.commits = self.commits.saturating_add(1);
                 go_on(&mut self.current, &mut self.saved, how, cur);
                 Ok(())
             }
             Err(Disk) => {
                 self.sure = false;
+                self.commits = 0;
                 Err(Disk)
             }
         }
@@ -455,6 +467,7 @@ impl<D: Device + Drop> VmFile<D> {
             area: _,
             second: _,
             sure: _,
+            commits: _,
             current: _,
             saved: _,
         } = self;

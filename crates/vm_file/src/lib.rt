@@ -6,6 +6,7 @@
 //! what a stop leaves. (GEOS SDK Concepts Book, chapter Virtual Memory.)
 #![tactic(auto)]
 
+mod changes;
 mod commit;
 mod create;
 mod device;

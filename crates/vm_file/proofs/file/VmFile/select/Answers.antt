@@ -13,7 +13,7 @@ use Rattle.vm_file.proofs.file.VmFile.select.Given.{Over}
 use Rattle.vm_file.proofs.file.VmFile.select.Goals as goal
 
 -- the area was not written whole
-torn : (g : Over) (c : goal.In-Err g) → let d = g.D.Device in let i = c.self.inside in
+torn : (g : Over) (c : goal.After-self-1 g) → let d = g.D.Device in let i = c.self.inside in
     TornFile d.medium (let f : FileState g.row.D.Denot = record {
       device = i.device;
       area = i.area;
@@ -23,12 +23,12 @@ torn : (g : Over) (c : goal.In-Err g) → let d = g.D.Device in let i = c.self.i
       current = i.current;
       saved = i.saved;
     } in f) c.self.invariant
-    (let S : FileState g.row.D.Denot → Type 0 = λ f. f.sure ≡ true in subst S (sym c.self.view_is) c.requires.sure) c.write_durably.new.device
+    (let S : FileState g.row.D.Denot → Type 0 = λ f. f.sure ≡ true in subst S (sym c.self.view_is) c.requires.sure) c.write_area.new.device
 torn g c =
     let d = g.D.Device in
     let A : FileState g.row.D.Denot → Type 0 = λ f. length c.args.bytes.now ≤ f.area in
-    let W : ℕ → Type 0 = λ k. WritesOnly d.medium k (length c.args.bytes.now) c.self.inside.device c.write_durably.new.device in
-    torn_file d.medium _ c.self.invariant _ c.write_durably.new.device (length c.args.bytes.now) (subst A (sym c.self.view_is) c.requires.fits.1)
+    let W : ℕ → Type 0 = λ k. WritesOnly d.medium k (length c.args.bytes.now) c.self.inside.device c.write_area.new.device in
+    torn_file d.medium _ c.self.invariant _ c.write_area.new.device (length c.args.bytes.now) (subst A (sym c.self.view_is) c.requires.fits.1)
     (subst W c.base_of-base.ensures.exact c.in-Err.ensures.writes)
 
 pub invariant_of-self : goal.invariant_of-self
@@ -39,7 +39,7 @@ returns-in-Err-clause-pair g c =
     let d = g.D.Device in
     let i = c.self.inside in
     let now : FileState g.row.D.Denot = record {
-      device = c.write_durably.new.device;
+      device = c.write_area.new.device;
       area = i.area;
       second =
           i.second;
@@ -55,7 +55,7 @@ returns-in-Err-clause-either g c =
     let d = g.D.Device in
     let i = c.self.inside in
     let now : FileState g.row.D.Denot = record {
-      device = c.write_durably.new.device;
+      device = c.write_area.new.device;
       area = i.area;
       second =
           i.second;
@@ -64,7 +64,7 @@ returns-in-Err-clause-either g c =
       saved = i.saved;
     } in
     let G : FileState g.row.D.Denot → Type 0 = λ f. d.medium.honest f.device
-    → Passes d.medium.may_have_left f.device c.write_durably.new.device (FindsEither d.medium.image f now) in
+    → Passes d.medium.may_have_left f.device c.write_area.new.device (FindsEither d.medium.image f now) in
     subst G c.self.view_is (torn g c).either
 
 pub returns-in-Err-clause-stop : goal.returns-in-Err-clause-stop
@@ -72,7 +72,7 @@ returns-in-Err-clause-stop g c =
     let d = g.D.Device in
     let i = c.self.inside in
     let now : FileState g.row.D.Denot = record {
-      device = c.write_durably.new.device;
+      device = c.write_area.new.device;
       area = i.area;
       second =
           i.second;
@@ -81,11 +81,11 @@ returns-in-Err-clause-stop g c =
       saved = i.saved;
     } in
     let G : FileState g.row.D.Denot → Type 0 = λ f. d.medium.honest f.device → (x : List ℕ)
-    → d.medium.may_leave c.write_durably.new.device x → Finds d.medium.image now x in
+    → d.medium.may_leave c.write_area.new.device x → Finds d.medium.image now x in
     subst G c.self.view_is (torn g c).finds
 
 -- the area was written, and the selector was not
-unsure : (g : Over) (c : goal.After-self-in-Err-write_durably-1 g) → let d = g.D.Device in let i = c.self.inside in
+unsure : (g : Over) (c : goal.After-self-in-Err-write_durably-2-1 g) → let d = g.D.Device in let i = c.self.inside in
     let x = current_after c.args.how c.args.cur.now i.saved in
     let y = saved_after c.args.how c.args.cur.now i.saved in
     UnsureFile d.medium (let f : FileState g.row.D.Denot = record {
@@ -98,7 +98,7 @@ unsure : (g : Over) (c : goal.After-self-in-Err-write_durably-1 g) → let d = g
       saved = i.saved;
     } in f) c.self.invariant
     (let S : FileState g.row.D.Denot → Type 0 = λ f. f.sure ≡ true in subst S (sym c.self.view_is) c.requires.sure)
-    c.write_durably-2.new.device (pair_in x y c.args.bytes.now)
+    c.write_durably.new.device (pair_in x y c.args.bytes.now)
 unsure g c =
     let d = g.D.Device in
     let i = c.self.inside in
@@ -109,13 +109,13 @@ unsure g c =
     let S : FileState g.row.D.Denot → Type 0 = λ f. d.medium.honest f.device
     → Spells (current_after c.args.how c.args.cur.now f.saved) (saved_after c.args.how c.args.cur.now f.saved)
     (pair_in (current_after c.args.how c.args.cur.now f.saved) (saved_after c.args.how c.args.cur.now f.saved) c.args.bytes.now) c.args.bytes.now in
-    let W : ℕ → Type 0 = λ k. WritesOnly d.medium k n i.device c.write_durably.new.device in
-    unsure_file d.medium _ c.self.invariant _ c.write_durably.new.device n (subst A (sym c.self.view_is) c.requires.fits.1)
+    let W : ℕ → Type 0 = λ k. WritesOnly d.medium k n i.device c.write_area.new.device in
+    unsure_file d.medium _ c.self.invariant _ c.write_area.new.device n (subst A (sym c.self.view_is) c.requires.fits.1)
     (subst W c.base_of-base.ensures.exact c.in-Ok.ensures.writes) c.args.bytes.now x y (pair_in x y c.args.bytes.now)
     refl (omega (arith, c.in-Ok.ensures.within, c.base_of-base.ensures.exact))
     (subst S (sym c.self.view_is) c.requires.spelled) (λ h. c.in-Ok.ensures.written h
     ∙ ap (λ k. with_part (d.medium.image i.device) k c.args.bytes.now) c.base_of-base.ensures.exact) c.in-Ok.ensures.durable
-    c.write_durably-2.new.device c.write_durably-2.ensures.writes
+    c.write_durably.new.device c.write_durably.ensures.writes
 
 pub invariant_of-self-in-Err-write_durably : goal.invariant_of-self-in-Err-write_durably
 invariant_of-self-in-Err-write_durably g c = (unsure g c).legal
@@ -125,7 +125,7 @@ returns-in-Err-write_durably-clause-pair g c =
     let d = g.D.Device in
     let i = c.self.inside in
     let now : FileState g.row.D.Denot = record {
-      device = c.write_durably-2.new.device;
+      device = c.write_durably.new.device;
       area = i.area;
       second =
           i.second;
@@ -141,7 +141,7 @@ returns-in-Err-write_durably-clause-other g c =
     let d = g.D.Device in
     let i = c.self.inside in
     let now : FileState g.row.D.Denot = record {
-      device = c.write_durably-2.new.device;
+      device = c.write_durably.new.device;
       area = i.area;
       second =
           i.second;
@@ -159,7 +159,7 @@ returns-in-Err-write_durably-clause-either g c =
     let d = g.D.Device in
     let i = c.self.inside in
     let now : FileState g.row.D.Denot = record {
-      device = c.write_durably-2.new.device;
+      device = c.write_durably.new.device;
       area = i.area;
       second =
           i.second;
@@ -168,7 +168,7 @@ returns-in-Err-write_durably-clause-either g c =
       saved = i.saved;
     } in
     let G : FileState g.row.D.Denot → Type 0 = λ f. d.medium.honest f.device
-    → Passes d.medium.may_have_left f.device c.write_durably-2.new.device (FindsEither d.medium.image f now) in
+    → Passes d.medium.may_have_left f.device c.write_durably.new.device (FindsEither d.medium.image f now) in
     subst G c.self.view_is (unsure g c).either
 
 pub returns-in-Err-write_durably-clause-stop : goal.returns-in-Err-write_durably-clause-stop
@@ -176,7 +176,7 @@ returns-in-Err-write_durably-clause-stop g c =
     let d = g.D.Device in
     let i = c.self.inside in
     let now : FileState g.row.D.Denot = record {
-      device = c.write_durably-2.new.device;
+      device = c.write_durably.new.device;
       area = i.area;
       second =
           i.second;
@@ -185,7 +185,7 @@ returns-in-Err-write_durably-clause-stop g c =
       saved = i.saved;
     } in
     let G : FileState g.row.D.Denot → Type 0 = λ f. d.medium.honest f.device → (x : List ℕ)
-    → d.medium.may_leave c.write_durably-2.new.device x → Finds d.medium.image now x in
+    → d.medium.may_leave c.write_durably.new.device x → Finds d.medium.image now x in
     subst G c.self.view_is (unsure g c).finds
 
 -- both were written
@@ -202,7 +202,7 @@ selected : (g : Over) (c : goal.After-go_on g) → let d = g.D.Device in let i =
       saved = i.saved;
     } in f) c.self.invariant
     (let S : FileState g.row.D.Denot → Type 0 = λ f. f.sure ≡ true in subst S (sym c.self.view_is) c.requires.sure)
-    c.write_durably-2.new.device x y (pair_in x y c.args.bytes.now)
+    c.write_durably.new.device x y (pair_in x y c.args.bytes.now)
 selected g c =
     let d = g.D.Device in
     let i = c.self.inside in
@@ -213,16 +213,16 @@ selected g c =
     let S : FileState g.row.D.Denot → Type 0 = λ f. d.medium.honest f.device
     → Spells (current_after c.args.how c.args.cur.now f.saved) (saved_after c.args.how c.args.cur.now f.saved)
     (pair_in (current_after c.args.how c.args.cur.now f.saved) (saved_after c.args.how c.args.cur.now f.saved) c.args.bytes.now) c.args.bytes.now in
-    let W : ℕ → Type 0 = λ k. WritesOnly d.medium k n i.device c.write_durably.new.device in
+    let W : ℕ → Type 0 = λ k. WritesOnly d.medium k n i.device c.write_area.new.device in
     let L : FileState g.row.D.Denot → Type 0 = λ f. n ≡ length_after c.args.how c.args.cur.now f.saved in
     let r = c.in-Ok-write_durably.ensures in
     let on = c.in-Ok.ensures.writes.stays in
-    selected_file d.medium _ c.self.invariant _ c.write_durably.new.device n (subst A (sym c.self.view_is) c.requires.fits.1)
+    selected_file d.medium _ c.self.invariant _ c.write_area.new.device n (subst A (sym c.self.view_is) c.requires.fits.1)
     (subst W c.base_of-base.ensures.exact c.in-Ok.ensures.writes) c.args.bytes.now x y (pair_in x y c.args.bytes.now)
     refl (omega (arith, c.in-Ok.ensures.within, c.base_of-base.ensures.exact))
     (subst S (sym c.self.view_is) c.requires.spelled) (λ h. c.in-Ok.ensures.written h
     ∙ ap (λ k. with_part (d.medium.image i.device) k c.args.bytes.now) c.base_of-base.ensures.exact) c.in-Ok.ensures.durable
-    c.write_durably-2.new.device c.write_durably-2.ensures.writes
+    c.write_durably.new.device c.write_durably.ensures.writes
     c.selector_of.result c.selector_of.ensures.names (λ h. r.written (on h)) (λ h. r.durable (on h))
     (current_legal c.args.how c.args.cur.now i.saved c.requires.legal c.self.invariant.saved)
     (saved_legal c.args.how c.args.cur.now i.saved c.requires.legal c.self.invariant.saved) (sym (subst L (sym c.self.view_is) c.requires.fits.0))
@@ -237,7 +237,7 @@ invariant_of-self-in-Ok-write_durably g c =
     let d = g.D.Device in
     let i = c.self.inside in
     let now : Directory → Directory → FileState g.row.D.Denot =
-    λ a b. record { device = c.write_durably-2.new.device; area = i.area; second = not i.second; sure = i.sure; current = a; saved = b } in
+    λ a b. record { device = c.write_durably.new.device; area = i.area; second = not i.second; sure = i.sure; current = a; saved = b } in
     kept _ _ (λ a b. IsSound d.medium (now a b)) c.go_on.new.current c.go_on.new.saved c.go_on.ensures.current
     c.go_on.ensures.saved (selected g c).legal
 
@@ -246,7 +246,7 @@ returns-in-Ok-write_durably-clause-pair g c =
     let d = g.D.Device in
     let i = c.self.inside in
     let now : Directory → Directory → FileState g.row.D.Denot =
-    λ a b. record { device = c.write_durably-2.new.device; area = i.area; second = not i.second; sure = i.sure; current = a; saved = b } in
+    λ a b. record { device = c.write_durably.new.device; area = i.area; second = not i.second; sure = i.sure; current = a; saved = b } in
     let G : FileState g.row.D.Denot → Type 0 = λ f. d.medium.honest f.device
     → pair_of d.medium.image (now c.go_on.new.current c.go_on.new.saved) ≡ (pair_in (current_after c.args.how c.args.cur.now f.saved)
     (saved_after c.args.how c.args.cur.now f.saved) c.args.bytes.now) in
@@ -259,12 +259,12 @@ returns-in-Ok-write_durably-clause-either g c =
     let d = g.D.Device in
     let i = c.self.inside in
     let now : Directory → Directory → FileState g.row.D.Denot =
-    λ a b. record { device = c.write_durably-2.new.device; area = i.area; second = not i.second; sure = i.sure; current = a; saved = b } in
+    λ a b. record { device = c.write_durably.new.device; area = i.area; second = not i.second; sure = i.sure; current = a; saved = b } in
     let G : FileState g.row.D.Denot → Type 0 = λ f. d.medium.honest f.device
-    → Passes d.medium.may_have_left f.device c.write_durably-2.new.device
+    → Passes d.medium.may_have_left f.device c.write_durably.new.device
     (FindsEither d.medium.image f (now c.go_on.new.current c.go_on.new.saved)) in
     subst G c.self.view_is
-    (λ h. kept _ _ (λ a b. Passes d.medium.may_have_left i.device c.write_durably-2.new.device
+    (λ h. kept _ _ (λ a b. Passes d.medium.may_have_left i.device c.write_durably.new.device
     (FindsEither d.medium.image (let f : FileState g.row.D.Denot =
     record { device = i.device; area = i.area; second = i.second; sure = i.sure; current = i.current; saved = i.saved } in f) (now a b)))
     c.go_on.new.current c.go_on.new.saved c.go_on.ensures.current c.go_on.ensures.saved ((selected g c).either h))
@@ -274,9 +274,9 @@ returns-in-Ok-write_durably-clause-stop g c =
     let d = g.D.Device in
     let i = c.self.inside in
     let now : Directory → Directory → FileState g.row.D.Denot =
-    λ a b. record { device = c.write_durably-2.new.device; area = i.area; second = not i.second; sure = i.sure; current = a; saved = b } in
+    λ a b. record { device = c.write_durably.new.device; area = i.area; second = not i.second; sure = i.sure; current = a; saved = b } in
     let G : FileState g.row.D.Denot → Type 0 = λ f. d.medium.honest f.device → (z : List ℕ)
-    → d.medium.may_leave c.write_durably-2.new.device z → Finds d.medium.image (now c.go_on.new.current c.go_on.new.saved) z in
+    → d.medium.may_leave c.write_durably.new.device z → Finds d.medium.image (now c.go_on.new.current c.go_on.new.saved) z in
     subst G c.self.view_is (λ h z l. kept _ _ (λ a b. Finds d.medium.image (now a b) z) c.go_on.new.current
     c.go_on.new.saved c.go_on.ensures.current c.go_on.ensures.saved ((selected g c).finds h z l))
 
@@ -285,17 +285,17 @@ returns-in-Ok-write_durably-clause-bytes g c =
     let d = g.D.Device in
     let i = c.self.inside in
     let G : FileState g.row.D.Denot → Type 0 = λ f. d.medium.honest f.device
-    → d.medium.image c.write_durably-2.new.device ≡ image_after d.medium.image c.args.bytes.now f in
+    → d.medium.image c.write_durably.new.device ≡ image_after d.medium.image c.args.bytes.now f in
     subst G c.self.view_is (λ h. c.in-Ok-write_durably.ensures.written (c.in-Ok.ensures.writes.stays h)
-    ∙ ap (λ k. with_part (d.medium.image c.write_durably.new.device) 512 (k ∷ [])) c.selector_of.ensures.value
+    ∙ ap (λ k. with_part (d.medium.image c.write_area.new.device) 512 (k ∷ [])) c.selector_of.ensures.value
     ∙ ap (λ l. with_part l 512 (selector_of (not i.second) ∷ [])) (c.in-Ok.ensures.written h
     ∙ ap (λ k. with_part (d.medium.image i.device) k c.args.bytes.now) c.base_of-base.ensures.exact))
 
 -- the area was written, in part or whole
-area_torn : (g : Over) (c : goal.In-Err g) → let d = g.D.Device in let i = c.self.inside in
+area_torn : (g : Over) (c : goal.After-self-1 g) → let d = g.D.Device in let i = c.self.inside in
     d.medium.honest i.device → MayHaveWritten d.medium.image (let f : FileState g.row.D.Denot =
     record { device = i.device; area = i.area; second = i.second; sure = i.sure; current = i.current; saved = i.saved } in f)
-    i.sure (d.medium.image c.write_durably.new.device)
+    i.sure (d.medium.image c.write_area.new.device)
 area_torn g c = λ h.
     let d = g.D.Device in
     let i = c.self.inside in
@@ -310,8 +310,8 @@ area_torn g c = λ h.
       saved = i.saved;
     } in
     let A : FileState g.row.D.Denot → Type 0 = λ x. n ≤ x.area in
-    let W : ℕ → Type 0 = λ k. WritesOnly d.medium k n i.device c.write_durably.new.device in
-    written_area d.medium.image f i.sure (d.medium.image c.write_durably.new.device) n (subst A (sym c.self.view_is) c.requires.fits.1)
+    let W : ℕ → Type 0 = λ k. WritesOnly d.medium k n i.device c.write_area.new.device in
+    written_area d.medium.image f i.sure (d.medium.image c.write_area.new.device) n (subst A (sym c.self.view_is) c.requires.fits.1)
     ((subst W c.base_of-base.ensures.exact c.in-Err.ensures.writes).torn h)
 
 pub returns-in-Err-clause-torn : goal.returns-in-Err-clause-torn
@@ -319,7 +319,7 @@ returns-in-Err-clause-torn g c =
     let d = g.D.Device in
     let i = c.self.inside in
     let G : FileState g.row.D.Denot → Type 0 = λ f. d.medium.honest f.device → MayHaveWritten d.medium.image f i.sure
-    (d.medium.image c.write_durably.new.device) in
+    (d.medium.image c.write_area.new.device) in
     subst G c.self.view_is (area_torn g c)
 
 pub returns-in-Err-write_durably-clause-torn : goal.returns-in-Err-write_durably-clause-torn
@@ -337,12 +337,12 @@ returns-in-Err-write_durably-clause-torn g c =
       saved = i.saved;
     } in
     let A : FileState g.row.D.Denot → Type 0 = λ x. n ≤ x.area in
-    let W : ℕ → Type 0 = λ k. WritesOnly d.medium k n i.device c.write_durably.new.device in
+    let W : ℕ → Type 0 = λ k. WritesOnly d.medium k n i.device c.write_area.new.device in
     let w = subst W c.base_of-base.ensures.exact c.in-Ok.ensures.writes in
     let G : FileState g.row.D.Denot → Type 0 = λ x. d.medium.honest x.device → MayHaveWritten d.medium.image x false
-    (d.medium.image c.write_durably-2.new.device) in
-    subst G c.self.view_is (λ h. written_both d.medium.image f (d.medium.image c.write_durably.new.device) _ n
-    (subst A (sym c.self.view_is) c.requires.fits.1) (w.torn h) (c.write_durably-2.ensures.writes.torn (w.stays h)))
+    (d.medium.image c.write_durably.new.device) in
+    subst G c.self.view_is (λ h. written_both d.medium.image f (d.medium.image c.write_area.new.device) _ n
+    (subst A (sym c.self.view_is) c.requires.fits.1) (w.torn h) (c.write_durably.ensures.writes.torn (w.stays h)))
 
 -- what is said of the device is said of it as the file's fields have it
 module _ (g : Over) (before seen : FileState g.row.D.Denot) (same : before ≡ seen) where
@@ -373,12 +373,12 @@ returns-in-Err-write_durably-clause-was_honest g c = was g _ _ c.self.view_is _
 
 pub returns-in-Err-write_durably-clause-cause : goal.returns-in-Err-write_durably-clause-cause
 returns-in-Err-write_durably-clause-cause g c =
-    let R : ℕ → Type 0 = λ k. Rose k (g.D.Device.medium.failed c.write_durably-2.new.device) in
+    let R : ℕ → Type 0 = λ k. Rose k (g.D.Device.medium.failed c.write_durably.new.device) in
     counted g _ _ c.self.view_is R (subst R c.in-Ok.ensures.cause c.in-Err-write_durably.ensures.cause)
 
 pub returns-in-Err-write_durably-clause-once : goal.returns-in-Err-write_durably-clause-once
 returns-in-Err-write_durably-clause-once g c =
-    let F : ℕ → Type 0 = λ k. FailedOnce k (g.D.Device.medium.failed c.write_durably-2.new.device) in
+    let F : ℕ → Type 0 = λ k. FailedOnce k (g.D.Device.medium.failed c.write_durably.new.device) in
     counted g _ _ c.self.view_is F (subst F c.in-Ok.ensures.cause c.in-Err-write_durably.ensures.once)
 
 pub returns-in-Ok-write_durably-clause-honest : goal.returns-in-Ok-write_durably-clause-honest
@@ -392,7 +392,7 @@ returns-in-Ok-write_durably-clause-was_honest g c = was g _ _ c.self.view_is _
 pub returns-in-Ok-write_durably-clause-done : goal.returns-in-Ok-write_durably-clause-done
 returns-in-Ok-write_durably-clause-done g c =
     let i = c.self.inside in
-    let w = c.write_durably-2.new.device in
+    let w = c.write_durably.new.device in
     let S : FileState g.row.D.Denot → Type 0 = λ f. f.sure ≡ true in
     let sure : i.sure ≡ true = subst S (sym c.self.view_is) c.requires.sure in
     let made : FileState g.row.D.Denot = record {
@@ -437,7 +437,7 @@ returns-in-Err-clause-steadily g c =
       saved = i.saved;
     } in
     let now : FileState g.row.D.Denot = record {
-      device = c.write_durably.new.device;
+      device = c.write_area.new.device;
       area = i.area;
       second =
           i.second;
@@ -449,7 +449,7 @@ returns-in-Err-clause-steadily g c =
     let G : FileState g.row.D.Denot → Type 0 = λ x. Steadily d.medium x now in
     subst G c.self.view_is
     (area_steadily d.medium f c.base_of-base.result (length c.args.bytes.now) c.base_of-base.ensures.exact
-    (subst A (sym c.self.view_is) c.requires.fits.1) c.write_durably.new.device
+    (subst A (sym c.self.view_is) c.requires.fits.1) c.write_area.new.device
     c.in-Err.ensures.writes.long c.in-Err.ensures.steady)
 
 pub returns-in-Err-write_durably-clause-steadily : goal.returns-in-Err-write_durably-clause-steadily
@@ -466,7 +466,7 @@ returns-in-Err-write_durably-clause-steadily g c =
       saved = i.saved;
     } in
     let now : FileState g.row.D.Denot = record {
-      device = c.write_durably-2.new.device;
+      device = c.write_durably.new.device;
       area = i.area;
       second =
           i.second;
@@ -478,8 +478,8 @@ returns-in-Err-write_durably-clause-steadily g c =
     let G : FileState g.row.D.Denot → Type 0 = λ x. Steadily d.medium x now in
     subst G c.self.view_is
     (both_steadily d.medium f c.base_of-base.result (length c.args.bytes.now) c.base_of-base.ensures.exact
-    (subst A (sym c.self.view_is) c.requires.fits.1) c.write_durably.new.device
-    c.in-Ok.ensures.writes.long c.in-Ok.ensures.steady c.write_durably-2.new.device c.in-Err-write_durably.ensures.writes.long
+    (subst A (sym c.self.view_is) c.requires.fits.1) c.write_area.new.device
+    c.in-Ok.ensures.writes.long c.in-Ok.ensures.steady c.write_durably.new.device c.in-Err-write_durably.ensures.writes.long
     c.in-Err-write_durably.ensures.steady)
 
 pub returns-in-Ok-write_durably-clause-steadily : goal.returns-in-Ok-write_durably-clause-steadily
@@ -496,7 +496,7 @@ returns-in-Ok-write_durably-clause-steadily g c =
       saved = i.saved;
     } in
     let now : FileState g.row.D.Denot = record {
-      device = c.write_durably-2.new.device;
+      device = c.write_durably.new.device;
       area = i.area;
       second =
           not i.second;
@@ -508,6 +508,6 @@ returns-in-Ok-write_durably-clause-steadily g c =
     let G : FileState g.row.D.Denot → Type 0 = λ x. Steadily d.medium x now in
     subst G c.self.view_is
     (both_steadily d.medium f c.base_of-base.result (length c.args.bytes.now) c.base_of-base.ensures.exact
-    (subst A (sym c.self.view_is) c.requires.fits.1) c.write_durably.new.device
-    c.in-Ok.ensures.writes.long c.in-Ok.ensures.steady c.write_durably-2.new.device c.in-Ok-write_durably.ensures.writes.long
+    (subst A (sym c.self.view_is) c.requires.fits.1) c.write_area.new.device
+    c.in-Ok.ensures.writes.long c.in-Ok.ensures.steady c.write_durably.new.device c.in-Ok-write_durably.ensures.writes.long
     c.in-Ok-write_durably.ensures.steady)
