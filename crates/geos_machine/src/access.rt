@@ -24,13 +24,14 @@ pub(crate) fn ldb<D: Device + Drop>(
     m: &mut Machine,
     kernel: &Kernel<D>,
     i: &Instr,
-    a: usize,
+    operands: usize,
 ) -> Goes
-    requires instr { IsInstr Opcode.Ldb i.now a }
+    requires instr { HasOperands Opcode.Ldb i.now operands }
     requires ready { Ready (D.medium.honest kernel.now.device) i.now kernel.now.core m.old }
     ensures { Works (D.medium.honest kernel.now.device) i.now kernel.now.core m.old kernel.now.core m.new result }
 {
-    let (span, at) = (m.pointers[i.b as usize], i.imm);
+    let (a, b) = (index_a(i, operands), index_b(i, operands));
+    let (span, at) = (m.pointers[b], i.imm);
     m.words[a] = u16::from(kernel.load8(span, at));
     Goes::Along
 }
@@ -57,14 +58,15 @@ pub(crate) fn stb<D: Device + Drop>(
     m: &Machine,
     kernel: &mut Kernel<D>,
     i: &Instr,
-    a: usize,
+    operands: usize,
 ) -> Goes
-    requires instr { IsInstr Opcode.Stb i.now a }
+    requires instr { HasOperands Opcode.Stb i.now operands }
     requires ready { Ready (D.medium.honest kernel.old.device) i.now kernel.old.core m.now }
     ensures works { Works (D.medium.honest kernel.old.device) i.now kernel.old.core m.now kernel.new.core m.now result }
     ensures vm { LeavesVm kernel.old kernel.new }
 {
-    let (span, at) = (m.pointers[i.b as usize], i.imm);
+    let (a, b) = (index_a(i, operands), index_b(i, operands));
+    let (span, at) = (m.pointers[b], i.imm);
     kernel.store8(span, at, low_byte(m.words[a]));
     Goes::Along
 }
@@ -92,13 +94,18 @@ pub(crate) fn ldxb<D: Device + Drop>(
     m: &mut Machine,
     kernel: &Kernel<D>,
     i: &Instr,
-    a: usize,
+    operands: usize,
 ) -> Goes
-    requires instr { IsInstr Opcode.Ldxb i.now a }
+    requires instr { HasOperands Opcode.Ldxb i.now operands }
     requires ready { Ready (D.medium.honest kernel.now.device) i.now kernel.now.core m.old }
     ensures { Works (D.medium.honest kernel.now.device) i.now kernel.now.core m.old kernel.now.core m.new result }
 {
-    let (span, at) = (m.pointers[i.b as usize], m.words[i.c as usize]);
+    let (a, b, c) = (
+        index_a(i, operands),
+        index_b(i, operands),
+        index_c(i, operands),
+    );
+    let (span, at) = (m.pointers[b], m.words[c]);
     m.words[a] = u16::from(kernel.load8(span, at));
     Goes::Along
 }
@@ -129,14 +136,19 @@ pub(crate) fn stxb<D: Device + Drop>(
     m: &Machine,
     kernel: &mut Kernel<D>,
     i: &Instr,
-    a: usize,
+    operands: usize,
 ) -> Goes
-    requires instr { IsInstr Opcode.Stxb i.now a }
+    requires instr { HasOperands Opcode.Stxb i.now operands }
     requires ready { Ready (D.medium.honest kernel.old.device) i.now kernel.old.core m.now }
     ensures works { Works (D.medium.honest kernel.old.device) i.now kernel.old.core m.now kernel.new.core m.now result }
     ensures vm { LeavesVm kernel.old kernel.new }
 {
-    let (span, at) = (m.pointers[i.b as usize], m.words[i.c as usize]);
+    let (a, b, c) = (
+        index_a(i, operands),
+        index_b(i, operands),
+        index_c(i, operands),
+    );
+    let (span, at) = (m.pointers[b], m.words[c]);
     kernel.store8(span, at, low_byte(m.words[a]));
     Goes::Along
 }
@@ -176,13 +188,18 @@ pub(crate) fn ldcb<D: Device + Drop>(
     m: &mut Machine,
     kernel: &Kernel<D>,
     i: &Instr,
-    a: usize,
+    operands: usize,
 ) -> Goes
-    requires instr { IsInstr Opcode.Ldcb i.now a }
+    requires instr { HasOperands Opcode.Ldcb i.now operands }
     requires ready { Ready (D.medium.honest kernel.now.device) i.now kernel.now.core m.old }
     ensures { Works (D.medium.honest kernel.now.device) i.now kernel.now.core m.old kernel.now.core m.new result }
 {
-    let (span, at) = (m.pointers[i.b as usize], m.words[i.c as usize]);
+    let (a, b, c) = (
+        index_a(i, operands),
+        index_b(i, operands),
+        index_c(i, operands),
+    );
+    let (span, at) = (m.pointers[b], m.words[c]);
     if !reaches(span, at, 1) {
         return refuse(m, i, Refusal::Range);
     }
@@ -195,13 +212,18 @@ pub(crate) fn ldcw<D: Device + Drop>(
     m: &mut Machine,
     kernel: &Kernel<D>,
     i: &Instr,
-    a: usize,
+    operands: usize,
 ) -> Goes
-    requires instr { IsInstr Opcode.Ldcw i.now a }
+    requires instr { HasOperands Opcode.Ldcw i.now operands }
     requires ready { Ready (D.medium.honest kernel.now.device) i.now kernel.now.core m.old }
     ensures { Works (D.medium.honest kernel.now.device) i.now kernel.now.core m.old kernel.now.core m.new result }
 {
-    let (span, at) = (m.pointers[i.b as usize], m.words[i.c as usize]);
+    let (a, b, c) = (
+        index_a(i, operands),
+        index_b(i, operands),
+        index_c(i, operands),
+    );
+    let (span, at) = (m.pointers[b], m.words[c]);
     if !reaches(span, at, 2) {
         return refuse(m, i, Refusal::Range);
     }
@@ -214,14 +236,19 @@ pub(crate) fn stcb<D: Device + Drop>(
     m: &mut Machine,
     kernel: &mut Kernel<D>,
     i: &Instr,
-    a: usize,
+    operands: usize,
 ) -> Goes
-    requires instr { IsInstr Opcode.Stcb i.now a }
+    requires instr { HasOperands Opcode.Stcb i.now operands }
     requires ready { Ready (D.medium.honest kernel.old.device) i.now kernel.old.core m.old }
     ensures works { Works (D.medium.honest kernel.old.device) i.now kernel.old.core m.old kernel.new.core m.new result }
     ensures vm { LeavesVm kernel.old kernel.new }
 {
-    let (span, at) = (m.pointers[i.b as usize], m.words[i.c as usize]);
+    let (a, b, c) = (
+        index_a(i, operands),
+        index_b(i, operands),
+        index_c(i, operands),
+    );
+    let (span, at) = (m.pointers[b], m.words[c]);
     if !reaches(span, at, 1) {
         return refuse(m, i, Refusal::Range);
     }
@@ -234,14 +261,19 @@ pub(crate) fn stcw<D: Device + Drop>(
     m: &mut Machine,
     kernel: &mut Kernel<D>,
     i: &Instr,
-    a: usize,
+    operands: usize,
 ) -> Goes
-    requires instr { IsInstr Opcode.Stcw i.now a }
+    requires instr { HasOperands Opcode.Stcw i.now operands }
     requires ready { Ready (D.medium.honest kernel.old.device) i.now kernel.old.core m.old }
     ensures works { Works (D.medium.honest kernel.old.device) i.now kernel.old.core m.old kernel.new.core m.new result }
     ensures vm { LeavesVm kernel.old kernel.new }
 {
-    let (span, at) = (m.pointers[i.b as usize], m.words[i.c as usize]);
+    let (a, b, c) = (
+        index_a(i, operands),
+        index_b(i, operands),
+        index_c(i, operands),
+    );
+    let (span, at) = (m.pointers[b], m.words[c]);
     if !reaches(span, at, 2) {
         return refuse(m, i, Refusal::Range);
     }
@@ -254,13 +286,14 @@ pub(crate) fn movp<D: Device + Drop>(
     m: &mut Machine,
     kernel: &Kernel<D>,
     i: &Instr,
-    a: usize,
+    operands: usize,
 ) -> Goes
-    requires instr { IsInstr Opcode.Movp i.now a }
+    requires instr { HasOperands Opcode.Movp i.now operands }
     requires ready { Ready (D.medium.honest kernel.now.device) i.now kernel.now.core m.old }
     ensures { Works (D.medium.honest kernel.now.device) i.now kernel.now.core m.old kernel.now.core m.new result }
 {
-    m.pointers[a] = m.pointers[i.b as usize];
+    let (a, b) = (index_a(i, operands), index_b(i, operands));
+    m.pointers[a] = m.pointers[b];
     Goes::Along
 }
 
@@ -286,12 +319,13 @@ pub(crate) fn plen<D: Device + Drop>(
     m: &mut Machine,
     kernel: &Kernel<D>,
     i: &Instr,
-    a: usize,
+    operands: usize,
 ) -> Goes
-    requires instr { IsInstr Opcode.Plen i.now a }
+    requires instr { HasOperands Opcode.Plen i.now operands }
     requires ready { Ready (D.medium.honest kernel.now.device) i.now kernel.now.core m.old }
     ensures { Works (D.medium.honest kernel.now.device) i.now kernel.now.core m.old kernel.now.core m.new result }
 {
-    m.words[a] = m.pointers[i.b as usize].len;
+    let (a, b) = (index_a(i, operands), index_b(i, operands));
+    m.words[a] = m.pointers[b].len;
     Goes::Along
 }

@@ -6,9 +6,10 @@ ghost use Rattle.geos_semantics.specs.State.{with_word};
 ghost use Rattle.geos_semantics.specs.Model.{nowhere};
 ghost use Rattle.geos_kernel.specs.Files.{Between};
 ghost use Rattle.geos_kernel.specs.Kernel.{LeavesVm};
-ghost use Rattle.geos_machine.specs.Machine.{AnswersTo, changes_file, changes_item, IsInstr, marks_block, Ready, tells_of_file, unlocks_block, Works};
+ghost use Rattle.geos_machine.specs.Machine.{AnswersTo, changes_file, changes_item, HasOperands, IsInstr, marks_block, Ready, tells_of_file, unlocks_block, Works};
 
 use crate::chunks::change_at;
+use crate::head::{index_a, index_b};
 use crate::machine::Machine;
 use crate::step::{Goes, refuse};
 use geos_image::{Instr, Opcode};
@@ -45,14 +46,15 @@ pub(crate) fn vlock<D: Device + Drop>(
     m: &mut Machine,
     kernel: &mut Kernel<D>,
     i: &Instr,
-    a: usize,
+    operands: usize,
 ) -> Goes
-    requires instr { IsInstr Opcode.Vlock i.now a }
+    requires instr { HasOperands Opcode.Vlock i.now operands }
     requires ready { Ready (D.medium.honest kernel.old.device) i.now kernel.old.core m.old }
     ensures works { Works (D.medium.honest kernel.old.device) i.now kernel.old.core m.old kernel.new.core m.new result }
     ensures between { Between D.medium kernel.old kernel.new }
 {
-    let h = m.words[i.b as usize];
+    let (a, b) = (index_a(i, operands), index_b(i, operands));
+    let h = m.words[b];
     match kernel.vlock(h) {
         Ok(()) => {
             m.slots[a] = Name::vm(h);

@@ -11,7 +11,7 @@ load8-requires-clause-stands g c =
     let k = c.args.kernel.now.core in
     let m = c.args.m.now in
     let honest : Type 0 = g.D.Device.medium.honest c.args.kernel.now.device in
-    load-stands honest i k m Byte Tested (rw c.requires.instr.is refl) c.requires.ready
+    rw c.index_b-b.ensures (load-stands honest i k m Byte Tested (rw c.requires.instr.is refl) c.requires.ready)
 
 pub returns-then-not-reaches : goal.returns-then-not-reaches
 returns-then-not-reaches g c =
@@ -19,8 +19,9 @@ returns-then-not-reaches g c =
     let k = c.args.kernel.now.core in
     let m = c.args.m.now in
     let honest : Type 0 = g.D.Device.medium.honest c.args.kernel.now.device in
+    let reached = not-false _ (sym c.reaches.ensures ∙ c.if-not-reaches.true) in
     rw c.refuse.ensures.goes (load-past honest i k m Byte Tested (rw c.requires.instr.is refl) (get_or c.args.m.now.words i.c 0) _
-    (not-false _ (sym c.reaches.ensures ∙ c.if-not-reaches.true)) (λ image choice kernel beside pc. rw c.requires.instr.is refl)
+    (rw (c.index_b-b.ensures, c.index_c-c.ensures) at reached) (λ image choice kernel beside pc. rw c.requires.instr.is refl)
     c.refuse.ensures.registers)
 
 pub returns : goal.returns
@@ -29,6 +30,7 @@ returns g c =
     let k = c.args.kernel.now.core in
     let m = c.args.m.now in
     let honest : Type 0 = g.D.Device.medium.honest c.args.kernel.now.device in
+    let reached = not-true _ (sym c.reaches.ensures ∙ c.if-not-reaches.false) in
     load-tested honest i k m Byte Tested (rw c.requires.instr.is refl) (get_or c.args.m.now.words i.c 0) c.load8.result _
-    (not-true _ (sym c.reaches.ensures ∙ c.if-not-reaches.false)) (λ image choice kernel beside pc. rw c.requires.instr.is refl)
-    c.load8.ensures (rw (c.requires.instr.a_is, c.from.ensures) refl)
+    (rw (c.index_b-b.ensures, c.index_c-c.ensures) at reached) (λ image choice kernel beside pc. rw c.requires.instr.is refl)
+    (rw (c.index_b-b.ensures, c.index_c-c.ensures) at c.load8.ensures) (rw (c.index_a-a.ensures, c.from.ensures) refl)

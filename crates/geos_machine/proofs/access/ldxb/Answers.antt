@@ -10,7 +10,7 @@ load8-requires-clause-stands g c =
     let k = c.args.kernel.now.core in
     let m = c.args.m.now in
     let honest : Type 0 = g.D.Device.medium.honest c.args.kernel.now.device in
-    load-stands honest i k m Byte Indexed (rw c.requires.instr.is refl) c.requires.ready
+    rw c.index_b-b.ensures (load-stands honest i k m Byte Indexed (rw c.requires.instr.is refl) c.requires.ready)
 
 pub load8-requires-clause-within : goal.load8-requires-clause-within
 load8-requires-clause-within g c =
@@ -19,7 +19,7 @@ load8-requires-clause-within g c =
     let m = c.args.m.now in
     let honest : Type 0 = g.D.Device.medium.honest c.args.kernel.now.device in
     let long = load-reaches honest i k m Byte Indexed (rw c.requires.instr.is refl) c.requires.ready
-    ((get_or c.args.m.now.words i.c 0) + 1) (λ beside pc. refl) in omega (arith, long)
+    ((get_or c.args.m.now.words i.c 0) + 1) (λ beside pc. refl) in rw (c.index_b-b.ensures, c.index_c-c.ensures) (omega (arith, long))
 
 pub returns : goal.returns
 returns g c =
@@ -28,4 +28,5 @@ returns g c =
     let m = c.args.m.now in
     let honest : Type 0 = g.D.Device.medium.honest c.args.kernel.now.device in
     load-done honest i k m Byte Indexed (rw c.requires.instr.is refl) (get_or c.args.m.now.words i.c 0) c.load8.result _
-    (λ image choice kernel beside pc. rw c.requires.instr.is refl) c.load8.ensures (rw (c.requires.instr.a_is, c.from.ensures) refl)
+    (λ image choice kernel beside pc. rw c.requires.instr.is refl) (rw (c.index_b-b.ensures, c.index_c-c.ensures) at c.load8.ensures)
+    (rw (c.index_a-a.ensures, c.from.ensures) refl)

@@ -9,4 +9,4 @@ returns g c =
     let honest : Type 0 = g.D.Device.medium.honest c.args.kernel.now.device in
     measured honest i c.args.kernel.now.core c.args.m.now _ (record { at = 0; len = 0 })
     (λ beside pc safe. measured-safe i _ (rw c.requires.instr.is refl) safe) (λ image choice beside pc. rw c.requires.instr.is refl)
-    (rw c.requires.instr.a_is refl)
+    (rw (c.index_a-a.ensures, c.index_b-b.ensures) refl)

@@ -11,7 +11,7 @@ store8-requires-clause-stands g c =
     let k = c.args.kernel.now.core in
     let m = c.args.m.now in
     let honest : Type 0 = g.D.Device.medium.honest c.args.kernel.now.device in
-    store-writable honest i k k m Byte Tested (rw c.requires.instr.is refl) c.requires.ready
+    rw c.index_b-b.ensures (store-writable honest i k k m Byte Tested (rw c.requires.instr.is refl) c.requires.ready)
 
 pub returns-then-not-reaches-clause-works : goal.returns-then-not-reaches-clause-works
 returns-then-not-reaches-clause-works g c =
@@ -19,8 +19,9 @@ returns-then-not-reaches-clause-works g c =
     let k = c.args.kernel.now.core in
     let m = c.args.m.now in
     let honest : Type 0 = g.D.Device.medium.honest c.args.kernel.now.device in
+    let reached = not-false _ (sym c.reaches.ensures ∙ c.if-not-reaches.true) in
     rw c.refuse.ensures.goes (store-past honest i k k m Byte Tested (rw c.requires.instr.is refl)
-    (get_or c.args.m.now.words i.c 0) _ (not-false _ (sym c.reaches.ensures ∙ c.if-not-reaches.true))
+    (get_or c.args.m.now.words i.c 0) _ (rw (c.index_b-b.ensures, c.index_c-c.ensures) at reached)
     (λ image choice kernel beside pc. rw c.requires.instr.is refl) c.refuse.ensures.registers)
 
 pub returns-clause-works : goal.returns-clause-works
@@ -29,7 +30,8 @@ returns-clause-works g c =
     let k = c.args.kernel.now.core in
     let m = c.args.m.now in
     let honest : Type 0 = g.D.Device.medium.honest c.args.kernel.now.device in
+    let reached = not-true _ (sym c.reaches.ensures ∙ c.if-not-reaches.false) in
     store-tested honest i k c.store8.new.self.core m Byte Tested (rw c.requires.instr.is refl) (get_or c.args.m.now.words i.c 0)
-    (c.low_byte.result ∷ []) (ap (λ b. b ∷ []) (c.low_byte.ensures ∙ rw c.requires.instr.a_is refl))
-    (not-true _ (sym c.reaches.ensures ∙ c.if-not-reaches.false)) (λ image choice kernel beside pc. rw c.requires.instr.is refl)
-    c.store8.ensures.row
+    (c.low_byte.result ∷ []) (ap (λ b. b ∷ []) (c.low_byte.ensures ∙ rw c.index_a-a.ensures refl))
+    (rw (c.index_b-b.ensures, c.index_c-c.ensures) at reached) (λ image choice kernel beside pc. rw c.requires.instr.is refl)
+    (rw (c.index_b-b.ensures, c.index_c-c.ensures) at c.store8.ensures.row)

@@ -10,7 +10,7 @@ store8-requires-clause-stands g c =
     let k = c.args.kernel.now.core in
     let m = c.args.m.now in
     let honest : Type 0 = g.D.Device.medium.honest c.args.kernel.now.device in
-    store-writable honest i k k m Byte Indexed (rw c.requires.instr.is refl) c.requires.ready
+    rw c.index_b-b.ensures (store-writable honest i k k m Byte Indexed (rw c.requires.instr.is refl) c.requires.ready)
 
 pub store8-requires-clause-within : goal.store8-requires-clause-within
 store8-requires-clause-within g c =
@@ -19,7 +19,7 @@ store8-requires-clause-within g c =
     let m = c.args.m.now in
     let honest : Type 0 = g.D.Device.medium.honest c.args.kernel.now.device in
     let long = store-reaches honest i k k m Byte Indexed (rw c.requires.instr.is refl) c.requires.ready
-    ((get_or c.args.m.now.words i.c 0) + 1) (λ beside pc. refl) in omega (arith, long)
+    ((get_or c.args.m.now.words i.c 0) + 1) (λ beside pc. refl) in rw (c.index_b-b.ensures, c.index_c-c.ensures) (omega (arith, long))
 
 pub returns-clause-works : goal.returns-clause-works
 returns-clause-works g c =
@@ -28,5 +28,5 @@ returns-clause-works g c =
     let m = c.args.m.now in
     let honest : Type 0 = g.D.Device.medium.honest c.args.kernel.now.device in
     store-done honest i k c.store8.new.self.core m Byte Indexed (rw c.requires.instr.is refl) (get_or c.args.m.now.words i.c 0)
-    (c.low_byte.result ∷ []) (ap (λ b. b ∷ []) (c.low_byte.ensures ∙ rw c.requires.instr.a_is refl))
-    (λ image choice kernel beside pc. rw c.requires.instr.is refl) c.store8.ensures.row
+    (c.low_byte.result ∷ []) (ap (λ b. b ∷ []) (c.low_byte.ensures ∙ rw c.index_a-a.ensures refl))
+    (λ image choice kernel beside pc. rw c.requires.instr.is refl) (rw (c.index_b-b.ensures, c.index_c-c.ensures) at c.store8.ensures.row)

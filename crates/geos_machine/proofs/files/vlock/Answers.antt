@@ -12,8 +12,10 @@ returns-in-Ok-clause-works g c =
     on-further honest i c.args.kernel.now.core c.vlock.new.self.core c.args.m.now _
     (slot-locked-into honest i c.args.kernel.now.core c.vlock.new.self.core c.args.m.now _ (vlock (get_or c.args.m.now.words i.b 0))
     (λ done t. holding VmBlock i.a (get_or c.args.m.now.words i.b 0) t) tt
-    (record { kind = VmBlock; handle = get_or c.args.m.now.words i.b 0; borrowed = false }) c.in-Ok.ensures.calls (λ choice memory. refl)
-    (λ image choice beside pc. rw c.requires.instr.is refl) (λ beside pc. refl) (rw (c.requires.instr.a_is, c.vm.ensures) refl) refl)
+    (record { kind = VmBlock; handle = get_or c.args.m.now.words i.b 0; borrowed = false })
+    (rw c.index_b-b.ensures at c.in-Ok.ensures.calls) (λ choice memory. refl)
+    (λ image choice beside pc. rw c.requires.instr.is refl) (λ beside pc. refl)
+    (rw (c.index_a-a.ensures, c.vm.ensures, c.index_b-b.ensures) refl) refl)
 
 pub returns-in-Err-clause-works : goal.returns-in-Err-clause-works
 returns-in-Err-clause-works g c =
@@ -22,7 +24,7 @@ returns-in-Err-clause-works g c =
     rw c.refuse.ensures.goes (call-refused honest i c.args.kernel.now.core c.vlock.new.self.core c.args.m.now _
     (vlock (get_or c.args.m.now.words i.b 0)) (λ done t. holding VmBlock i.a (get_or c.args.m.now.words i.b 0) t)
     (λ choice memory. tt) (λ image choice beside pc. rw c.requires.instr.is refl)
-    c.in-Err.refusal c.in-Err.ensures.calls c.refuse.ensures.registers)
+    c.in-Err.refusal (rw c.index_b-b.ensures at c.in-Err.ensures.calls) c.refuse.ensures.registers)
 
 pub returns-in-Ok-clause-between : goal.returns-in-Ok-clause-between
 returns-in-Ok-clause-between g c = c.vlock.ensures.device.between
