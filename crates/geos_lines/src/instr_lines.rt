@@ -1,6 +1,10 @@
 //! What is wrong with the line of an instruction.
 
-ghost use Rattle.std.specs.Prelude.{◌≤◌, length};
+ghost use Rattle.std.specs.Prelude.{◌≡◌, ◌≤◌, is_none, is_some, is_ok, length};
+ghost use Rattle.geos_text.specs.Numbers as numbers;
+ghost use Rattle.geos_text.specs.Registers.{register_of};
+ghost use Rattle.geos_source.specs.Names as names;
+ghost use Rattle.geos_lines.specs.Forms.{fits, IsMisfit};
 
 use crate::forms::{noun, put_form};
 use crate::sentences::{Wrong, put_above, put_quoted, put_too_much, put_word, put_wrong};
@@ -22,8 +26,8 @@ pub(crate) enum Misfit {
 /// Where the words behind an instruction stop being operands of it.
 #[derive(Clone, Copy)]
 pub(crate) enum Stop<'a> {
-    /// At a word.
-    At(Word<'a>, Misfit),
+    /// At a word, where an operand of this kind is wanted.
+    At(Word<'a>, Operand, Misfit),
     /// At the end, where an operand of this kind is wanted.
     Missing(Operand),
     /// At a word behind the operands.
@@ -35,6 +39,7 @@ pub(crate) enum Stop<'a> {
 /// Why a word is no register.
 fn register_misfit(letter: u8, count: u8, word: &[u8], wrong: Wrong) -> Option<Misfit>
     requires { count ≤ 10 }
+    ensures { is_none result ≡ is_some (register_of letter count word.now) }
 {
     match register(letter, count, word) {
         Some(_) => None,
@@ -43,7 +48,9 @@ fn register_misfit(letter: u8, count: u8, word: &[u8], wrong: Wrong) -> Option<M
 }
 
 /// Why a word is no number up to the greatest one.
-pub(crate) fn number_misfit(greatest: u32, word: &[u8]) -> Option<Misfit> {
+pub(crate) fn number_misfit(greatest: u32, word: &[u8]) -> Option<Misfit>
+    ensures { is_none result ≡ is_ok (numbers.number_up_to greatest word.now) }
+{
     match number_up_to(greatest, word) {
         Ok(_) => None,
         Err(NumberError::Malformed) => Some(Misfit::Form(Wrong::NoNumber)),
@@ -52,7 +59,10 @@ pub(crate) fn number_misfit(greatest: u32, word: &[u8]) -> Option<Misfit> {
 }
 
 /// Why a word is no name.
-pub(crate) fn name_misfit(word: &[u8]) -> Option<Misfit> {
+#[tactic(auto, unfolding(geos_source::specs::Names::name_of))]
+pub(crate) fn name_misfit(word: &[u8]) -> Option<Misfit>
+    ensures { is_none result ≡ names.is_name word.now }
+{
     match name_of(word) {
         Some(_) => None,
         None => Some(Misfit::Form(Wrong::NoName)),
@@ -60,7 +70,9 @@ pub(crate) fn name_misfit(word: &[u8]) -> Option<Misfit> {
 }
 
 /// Why a word is no operand of this kind, names aside that nothing has.
-fn misfit_of(kind: Operand, word: &[u8]) -> Option<Misfit> {
+fn misfit_of(kind: Operand, word: &[u8]) -> Option<Misfit>
+    ensures { is_none result ≡ fits kind word.now }
+{
     match kind {
         Operand::Unused => None,
         Operand::Word => register_misfit(b'w', 8, word, Wrong::NoWord),
@@ -76,6 +88,7 @@ fn misfit_of(kind: Operand, word: &[u8]) -> Option<Misfit> {
 /// Where the words of a line from an index on stop being operands of the opcode.
 pub(crate) fn stop_of(opcode: Opcode, line: &[u8], from: usize) -> Stop
     requires { from ≤ length line.now }
+    ensures { IsMisfit result }
 {
     let mut at = from;
     let mut last = None;
@@ -86,7 +99,7 @@ pub(crate) fn stop_of(opcode: Opcode, line: &[u8], from: usize) -> Stop
                 return Stop::Missing(kind);
             };
             if let Some(misfit) = misfit_of(kind, word.bytes) {
-                return Stop::At(word, misfit);
+                return Stop::At(word, kind, misfit);
             }
             last = Some(word);
             at = word.end;
@@ -132,7 +145,7 @@ fn put_operands(
 {
     put_form(out, opcode)?;
     match stop_of(opcode, line, from) {
-        Stop::At(word, misfit) => {
+        Stop::At(word, _, misfit) => {
             put_parts(out, &[Part::Text("; ")])?;
             put_misfit(out, word, misfit)
         }
