@@ -22,7 +22,8 @@ word-first line from k n at some ends =
     let there : 0 < length behind = subst (λ x. 0 < length x) same some in
     let starts = trimmed-starts rest there in
     let place : n ≡ position_or_len is_blank behind = ends ∙ ap (position_or_len is_blank) (rest_of line (from + k) ∙ same) in
-    let split : words rest ≡ take (position_or_len is_blank behind) behind ∷ words (drop (position_or_len is_blank behind) behind) = sym (words-trimmed rest) ∙ words-first behind starts in (
+    let split : words rest ≡ take (position_or_len is_blank behind) behind ∷ words (drop (position_or_len is_blank behind) behind) =
+    sym (words-trimmed rest) ∙ words-first behind starts in (
       subst (λ j. 0 < j) (sym place) starts,
       split
           ∙ ap (λ j. take j behind ∷ words (drop j behind)) (sym place)

@@ -1,10 +1,12 @@
 //! What is wrong with the line of an instruction.
 
-ghost use Rattle.std.specs.Prelude.{◌≡◌, ◌≤◌, is_none, is_some, is_ok, length};
+ghost use Rattle.std.specs.Prelude.{◌≡◌, ◌≤◌, is_none, is_some, is_ok, length, drop, IfOk, IfErr};
+ghost use Rattle.geos_opcodes.specs.Fields.{fields, is_written};
+ghost use Rattle.geos_text.specs.Words.{words};
 ghost use Rattle.geos_text.specs.Numbers as numbers;
 ghost use Rattle.geos_text.specs.Registers.{register_of};
 ghost use Rattle.geos_source.specs.Names as names;
-ghost use Rattle.geos_lines.specs.Forms.{fits, IsMisfit};
+ghost use Rattle.geos_lines.specs.Forms.{fits, kinds_of, IsOperand, StopsHere, StopsAt};
 
 use crate::forms::{noun, put_form};
 use crate::sentences::{Wrong, put_above, put_quoted, put_too_much, put_word, put_wrong};
@@ -85,24 +87,46 @@ fn misfit_of(kind: Operand, word: &[u8]) -> Option<Misfit>
     }
 }
 
+/// Whether a text writes an operand of this kind.
+fn is_written(kind: Operand) -> bool
+    ensures { result ≡ is_written kind }
+{
+    !matches!(kind, Operand::Unused)
+}
+
+/// The first word of a line from an index on, where it is an operand of this kind; or else where words stop being operands.
+fn operand_from(kind: Operand, line: &[u8], at: usize) -> Result<Word, Stop>
+    requires { at ≤ length line.now }
+    ensures ok { IfOk result (λ word. IsOperand kind (words (drop at line.now)) (words (drop word.end line.now))) }
+    ensures within { IfOk result (λ word. word.end ≤ length line.now) }
+    ensures err { IfErr result (StopsHere kind (words (drop at line.now))) }
+{
+    let Some(word) = word_from(line, at) else {
+        return Err(Stop::Missing(kind));
+    };
+    match misfit_of(kind, word.bytes) {
+        Some(misfit) => Err(Stop::At(word, kind, misfit)),
+        None => Ok(word),
+    }
+}
+
 /// Where the words of a line from an index on stop being operands of the opcode.
 pub(crate) fn stop_of(opcode: Opcode, line: &[u8], from: usize) -> Stop
     requires { from ≤ length line.now }
-    ensures { IsMisfit result }
+    ensures { StopsAt (kinds_of opcode fields) (words (drop from line.now)) result }
 {
     let mut at = from;
     let mut last = None;
-    for field in FIELDS.iter() {
-        let kind = operand_at(opcode, *field);
-        if kind != Operand::Unused {
-            let Some(word) = word_from(line, at) else {
-                return Stop::Missing(kind);
-            };
-            if let Some(misfit) = misfit_of(kind, word.bytes) {
-                return Stop::At(word, kind, misfit);
+    for i in 0..FIELDS.len() {
+        let kind = operand_at(opcode, FIELDS[i]);
+        if is_written(kind) {
+            match operand_from(kind, line, at) {
+                Ok(word) => {
+                    last = Some(word);
+                    at = word.end;
+                }
+                Err(stop) => return stop,
             }
-            last = Some(word);
-            at = word.end;
         }
     }
     match word_from(line, at) {
