@@ -6,7 +6,8 @@ use crate::commands::{
 };
 use crate::request_fault::RequestFault;
 use geos_asm::{AssembleError, with_least_budgets};
-use geos_cli::MOST_BYTES;
+use geos_cli::{MOST_BYTES, ScriptFault};
+use geos_scripts::{BadLines, tell_bad_lines};
 use geos_shell::{print, print_lines, read, write};
 
 /// The most bytes that are read of a file: one more than a text may have, and more than any image has.
@@ -107,6 +108,24 @@ pub(crate) fn explain<'a>(rt: &HostRuntime, path: &'a str) -> Result<(), Request
     print_lines(rt, &explained.text)?;
     match explained.reject {
         Some(reject) => Err(RequestFault::Reject(reject)),
+        None => Ok(()),
+    }
+}
+
+/// Prints what is wrong with each bad line of a script, for an image or a text; then says which line is the first. Its lines may
+/// write names for words, or may not.
+pub(crate) fn explain_script<'a>(
+    rt: &HostRuntime,
+    image: &'a str,
+    script: &'a str,
+    names: bool,
+) -> Result<(), RequestFault<'a>> {
+    let image = read_image(rt, image)?;
+    let script = read(rt, script, MOST_READ)?;
+    let BadLines { told, first } = tell_bad_lines(rt.alloc(), &image, &script, names)?;
+    print_lines(rt, &told)?;
+    match first {
+        Some(line) => Err(RequestFault::Session(ScriptFault::BadScript(line))),
         None => Ok(()),
     }
 }

@@ -5,7 +5,7 @@ ghost use Rattle.geos_shell.specs.Limits.{KeepsLimits};
 use crate::calling::call as run_call;
 use crate::chunks::{get, put};
 use crate::files::{draw_file, make_file, print_file};
-use crate::images::{assemble, budget, check, explain, list};
+use crate::images::{assemble, budget, check, explain, explain_script, list};
 use crate::manner::Manner;
 use crate::request_fault::RequestFault;
 use crate::running::{run, session};
@@ -43,6 +43,11 @@ pub(crate) fn carry_out<'a>(rt: &HostRuntime, request: Request<'a>) -> Result<()
         Request::List(path) => list(rt, path),
         Request::Check(path) => check(rt, path),
         Request::Explain(path) => explain(rt, path),
+        Request::ExplainScript {
+            image,
+            script,
+            names,
+        } => explain_script(rt, image, script, names),
         Request::New { file, area } => make_file(rt, file, area),
         Request::Run {
             image,

@@ -1,3 +1,4 @@
+pub mod BadLaws
 pub mod BytesPut
 pub mod CallRuns
 pub mod Commands

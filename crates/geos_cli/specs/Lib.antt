@@ -1,3 +1,4 @@
+pub mod BadLines
 pub mod Bytes
 pub mod Calls
 pub mod Commits

@@ -15,12 +15,14 @@
 //! | form | `Form`: how an output is written, and its text |
 //! | in_form | `run_script_in_form`, `run_call_in_form`: the same, printed in a form |
 //! | traced | `trace_call`: one call, of whose steps notes are taken |
+//! | bad | `bad_lines`, `bad_lines_with_names`: all bad lines of a script |
 //! | names | names for words that calls put out, and the command of a line that writes them |
 //! | named_lines | the lines of a script that writes names, and the first bad one |
 //! | with_names | `run_script_with_names`: carries out such a script |
 #![tactic(auto)]
 
 mod asked;
+mod bad;
 mod bytes;
 mod call;
 mod call_fault;
@@ -37,12 +39,16 @@ mod session;
 mod traced;
 mod with_names;
 
+pub use crate::bad::{bad_lines, bad_lines_with_names};
 pub use crate::bytes::{Place, get_bytes, put_bytes};
 pub use crate::call::run_call;
 pub use crate::call_fault::CallFault;
 pub use crate::form::{Form, Writing};
 pub use crate::in_form::{run_call_in_form, run_script_in_form};
 pub use crate::law::other_calls_keep;
+pub use crate::lines::routine_named;
+pub use crate::named_lines::{Line, MOST_KEPT};
+pub use crate::names::{is_name, kept_name};
 pub use crate::script::{RefusedCommand, run_script, run_script_strictly};
 pub use crate::session::run_session;
 pub use crate::traced::{TraceFault, TracedCall, trace_call};

@@ -15,8 +15,8 @@ use geos_verify::Checked;
 use std::alloc::Global;
 use vm_file::How;
 
-/// The routine of that name.
-pub(crate) fn routine_named(image: &Image, name: &[u8]) -> Option<u16>
+/// The routine of that name; `None` where the image has none.
+pub fn routine_named(image: &Image, name: &[u8]) -> Option<u16>
     ensures named { result ≡ routine_named image.now name.now }
     ensures within { IfSome result (λ r. r < length image.now.routines) }
 {

@@ -10,13 +10,13 @@ use geos_verify::Checked;
 use std::alloc::{AllocError, Global};
 
 /// The most lines of a script that keep a word: names are looked up one after another.
-const MOST_KEPT: usize = 1_024;
+pub const MOST_KEPT: usize = 1_024;
 
 /// A line that says something: its number, counted from 1, and its text without the comment.
 #[derive(Clone, Copy)]
-pub(crate) struct Line<'a> {
-    pub(crate) number: usize,
-    pub(crate) text: &'a [u8],
+pub struct Line<'a> {
+    pub number: usize,
+    pub text: &'a [u8],
 }
 
 /// The lines of a script that say something.
@@ -39,7 +39,12 @@ pub(crate) fn lines_said<'a>(alloc: Global, script: &'a [u8]) -> Result<Vec<Line
 }
 
 /// Whether a line is bad behind lines that keep these names, whatever numbers they will stand for.
-fn is_bad(alloc: Global, checked: &Checked, names: &[Kept], line: &[u8]) -> Result<bool, AllocError>
+pub(crate) fn is_bad(
+    alloc: Global,
+    checked: &Checked,
+    names: &[Kept],
+    line: &[u8],
+) -> Result<bool, AllocError>
     ensures { IfOk result (λ bad. bad ≡ is_bad_in checked.now (names_of names.now) (words line.now)) }
 {
     let command = command_in(alloc, checked, names, line)?;

@@ -115,7 +115,8 @@ fn is_name_byte(byte: u8) -> bool
     byte.is_ascii_alphanumeric() || byte == b'_'
 }
 
-fn is_name(word: &[u8]) -> bool
+/// Whether a word may be a name: it has letters, digits and underscores alone.
+pub fn is_name(word: &[u8]) -> bool
     ensures { result ≡ is_name word.now }
 {
     word.iter().all(|byte| is_name_byte(*byte))
@@ -134,8 +135,9 @@ fn one_name(line: &[u8]) -> Option<&[u8]>
     }
 }
 
-/// The name under which a line keeps a word: letters, digits and underscores behind `->`.
-pub(crate) fn kept_name(line: &[u8]) -> Option<&[u8]>
+/// The name under which a line without its comment keeps a word: letters, digits and underscores behind `->`. `None` where
+/// nothing or anything else stands there.
+pub fn kept_name(line: &[u8]) -> Option<&[u8]>
     ensures none { IfNone result (kept_name (words line.now) ≡ None) }
     ensures some { IfSome result (λ name. kept_name (words line.now) ≡ Some name.now) }
 {

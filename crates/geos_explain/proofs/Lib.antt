@@ -1,5 +1,7 @@
+mod Arriving
 mod Fits
 mod Forgetting
+mod FoundWays
 mod Holding
 mod Losing
 mod Noted

@@ -1,9 +1,8 @@
 -- What the search for why a pointer is not known finds is so.
-use Rattle.std.proofs.Common.{◌≡◌, ◌+◌, ℕ, zero, suc, Bool, true, false, not, cond, List, [], ◌∷◌, length, Option, Some, None, slice_get, get_or, set, refl, sym, ap, ◌∙◌, subst, ◌⊎◌, inl, inr}
-use Rattle.std.specs.Prelude.{◌&&◌, ◌==◌, nat_lt, is_some, is_none, if◌then◌else◌}
+use Rattle.std.proofs.Common.{◌≡◌, ◌+◌, ℕ, zero, suc, Bool, true, false, not, cond, List, [], ◌∷◌, Option, Some, None, slice_get, get_or, refl, sym, ap, ◌∙◌, subst, ◌⊎◌, inl, inr}
+use Rattle.std.specs.Prelude.{◌&&◌, nat_lt, is_some, is_none, if◌then◌else◌}
 use Rattle.std.specs.Option.{option_or}
-use Rattle.std.proofs.lemmas.Bool.{and_parts, cases_eq, cases_lt, eqb-true}
-use Rattle.std.proofs.lemmas.List.{get_or-set_same, get_or-set_other, set_past}
+use Rattle.std.proofs.lemmas.Bool.{and_parts}
 use Rattle.geos_verify.specs.declared.place.Place.{Place as KnownPlace}
 use Rattle.geos_verify.specs.Places.{places}
 use Rattle.geos_image.specs.declared.row.Pointer.{Pointer}
@@ -13,243 +12,23 @@ use Rattle.geos_verify.specs.Rows.{pointer_at, is_stale, after, has_edge, leads_
 use Rattle.geos_explain.specs.declared.edges.Edge.{Edge}
 use Rattle.geos_explain.specs.declared.ways.Way.{Way}
 use Rattle.geos_explain.specs.declared.ways.Way.TheVariants.{Entry, Along}
-use Rattle.geos_explain.specs.declared.ways.Sought.{Sought}
-use Rattle.geos_explain.specs.declared.arrivals.Arrivals.{Arrivals}
 use Rattle.geos_explain.specs.declared.backs.Back.TheVariants.{Loses, Lacks, Not}
 use Rattle.geos_explain.specs.declared.trace.End.{End}
 use Rattle.geos_explain.specs.declared.trace.End.TheVariants.{Unset, Unreached, Merged, Nowhere}
 use Rattle.geos_explain.specs.declared.trace.Meeting.{Meeting}
 use Rattle.geos_explain.specs.declared.trace.Trace.{Trace}
 use Rattle.geos_explain.specs.Edges.{end_of}
-use Rattle.geos_explain.specs.Led.{no_marks, marked, is_marked, is_reached}
-use Rattle.geos_explain.specs.Places.{Place, agrees, comes_alike}
-use Rattle.geos_explain.specs.Ways.{is_as, is_sought, way_along, way_of, way_at, first_way, entry_way, entry_pointer, empty_behind, empty_slot, empty_along, empty_from, empty_on, way_to, bringing, losing, with_hint, loses}
-use Rattle.geos_explain.specs.Arrivals.{no_arrivals, arrival, arrived, behind, arrived_along, arrived_from, arrived_over, next_arrivals, arrivals_at_entry, all_arrivals}
+use Rattle.geos_explain.specs.Led.{no_marks, marked, is_marked}
+use Rattle.geos_explain.specs.Places.{Place, comes_alike}
+use Rattle.geos_explain.specs.Ways.{empty_behind, empty_slot, empty_along, empty_from, empty_on, bringing, losing, loses}
+use Rattle.geos_explain.specs.Arrivals.{arrival, all_arrivals}
 use Rattle.geos_explain.specs.Trace.{nowhere_or, without_way, meeting_at, end_at, passed, lacks_on, hint_at, back_as, back_by, back_along, back_from, back_over, next_round, rounds, begun, aside, aside_by, along_lost, traced_by, traced}
-use Rattle.geos_explain.specs.Lost.{ComesTo, LacksBehind, LacksAlong, Brings, IsHint, IsLost, LeadsBy, IsWay, IsAlike, IsMeeting, IsUnset, BringsNowhere, IsNowhere, WhatIsSaidHolds}
+use Rattle.geos_explain.specs.Lost.{LacksBehind, LacksAlong, IsLost, LeadsBy, IsWay, IsMeeting, IsUnset, BringsNowhere, IsNowhere, WhatIsSaidHolds}
 use Rattle.geos_explain.proofs.Reached.{Has, mark-was, none-marked}
-use Rattle.geos_explain.proofs.Tables.{replicate-there}
-
--- what stands in a list behind a change was there, or is the change
-set-was : {X : Type 0} (xs : List X) (i k : ℕ) (x d : X) → (get_or (set xs i x) k d ≡ get_or xs k d) ⊎ ((k ≡ i) × (get_or (set xs i x) k d ≡ x))
-set-was xs i k x d = elim (cases_lt i (length xs)) [
-  | inl within ↦ elim (cases_eq k i) [
-    | inl same ↦ inr (same, ap (λ n. get_or (set xs i x) n d) same ∙ get_or-set_same xs i x d within)
-    | inr ne ↦ inl (get_or-set_other xs i k x d ne)
-  ]
-  | inr past ↦ inl (ap (λ ys. get_or ys k d) (set_past xs i x past))
-]
-
--- what a choice gives that is nothing otherwise
-cond-some : {X : Type 0} (b : Bool) (o : Option X) (x : X) → cond b o None ≡ Some x → (b ≡ true) × (o ≡ Some x)
-cond-some true o x e = (refl, e)
-cond-some false o x e = absurd cc
-
-some-same : {X : Type 0} (x y : X) → Some x ≡ Some y → x ≡ y
-some-same x y e = cc
+use Rattle.geos_explain.proofs.Arriving.{Found, hint-known, all-found, cond-some, some-same}
+use Rattle.geos_explain.proofs.FoundWays.{bringing-way, losing-way}
 
 module _ (place : Place) (p : ℕ) where
-  -- ---- What comes to a pc
-
-  abbrev Known : ℕ → Pointer → Type 0
-  Known pc pointer = (edges : List Edge) × Brings place p edges pc pointer
-
-  record Found (arrivals : Arrivals) : Type 0 where
-    brings : (pc : ℕ) (pointer : Pointer) → arrival arrivals pc ≡ Some pointer → Known pc pointer
-
-  hint-known : (arrivals : Arrivals) → Found arrivals → (pc : ℕ) → IsHint place p pc (arrival arrivals pc)
-  hint-known arrivals found pc = by_hint (arrival arrivals pc) refl
-    where
-      by_hint : (o : Option Pointer) → arrival arrivals pc ≡ o → IsHint place p pc o
-      by_hint None e = inl refl
-      by_hint (Some pointer) e = inr (pointer, refl, found.brings pc pointer e)
-
-  arrived-found : (arrivals : Arrivals) → Found arrivals → (pc : ℕ) (pointer : Option Pointer)
-      → ((q : Pointer) → pointer ≡ Some q → Known pc q) → Found (arrived arrivals pc pointer)
-  arrived-found arrivals found pc pointer comes = by_test (nat_lt pc 4096 && not (is_stale pointer))
-    where
-      by_test : (b : Bool) → Found (cond b (record arrivals { at = set arrivals.at pc pointer; goes_on = true }) arrivals)
-      by_test true = record {
-        brings = λ k q e. elim (set-was arrivals.at pc k pointer None) [
-          | inl was ↦ found.brings k q (ap (λ o. cond (nat_lt k 4096) o None) (sym was) ∙ e)
-          | inr here ↦
-              let is = cond-some (nat_lt k 4096) (get_or (set arrivals.at pc pointer) k None) q e in
-              subst (λ n. Known n q) (sym here.0) (comes q (sym here.1 ∙ is.1))
-        ];
-      }
-      by_test false = found
-
-  behind-known : (edge : Edge) (point : KnownPlace) (hint : Option Pointer) → slice_get (places place.image) edge.from ≡ Some point
-      → comes_alike place edge.from ≡ true → IsHint place p edge.from hint
-      → (q : Pointer) → behind place.image (record { p = p; hint = hint }) edge point ≡ Some q → Known (end_of edge point.instr) q
-  behind-known edge point hint there alike known q e =
-      let row = with_hint point.row (record { p = p; hint = hint }) in
-      let has = cond-some (has_edge point.instr edge.branch) (pointer_at (after place.image edge.from row edge.branch) p) q e in
-      let comes : ComesTo place edge (end_of edge point.instr) = record { point = point; there = there; alike = alike; has = has.0; ends = refl } in
-      elim known [
-        | inl none ↦ (edge ∷ [], (comes, (hint, inl none, e)))
-        | inr some ↦ (edge ∷ some.2.0, (comes, (hint, inr (some.0, some.1, some.2.1), e)))
-      ]
-
-  along-found : (arrivals : Arrivals) → Found arrivals → (edge : Edge) (point : KnownPlace)
-      → slice_get (places place.image) edge.from ≡ Some point → Found (arrived_along place p arrivals edge point)
-  along-found arrivals found edge point there = by_test (is_stale (arrival arrivals (end_of edge point.instr)) && comes_alike place edge.from) refl
-    where
-      by_test : (b : Bool) → (is_stale (arrival arrivals (end_of edge point.instr)) && comes_alike place edge.from) ≡ b
-          → Found (cond b (arrived arrivals (end_of edge point.instr)
-          (behind place.image (record { p = p; hint = arrival arrivals edge.from }) edge point)) arrivals)
-      by_test true is =
-          let alike = (and_parts (is_stale (arrival arrivals (end_of edge point.instr))) (comes_alike place edge.from) is).1 in
-          arrived-found arrivals found (end_of edge point.instr) (behind place.image (record { p = p; hint = arrival arrivals edge.from }) edge point)
-          (λ q e. behind-known edge point (arrival arrivals edge.from) there alike (hint-known arrivals found edge.from) q e)
-      by_test false is = found
-
-  from-found : (arrivals : Arrivals) → Found arrivals → (from : ℕ) → Found (arrived_from place p arrivals from)
-  unfolding arrived_from
-  from-found arrivals found from = by_point (slice_get (places place.image) from) refl
-    where
-      by_point : (o : Option KnownPlace) → slice_get (places place.image) from ≡ o → Found (elim o [
-        | None ↦ arrivals
-        | Some point ↦ arrived_along place p (arrived_along place p arrivals (record { from = from; branch = false }) point)
-            (record { from = from; branch = true }) point
-      ])
-      by_point None e = found
-      by_point (Some point) e =
-          let first = along-found arrivals found (record { from = from; branch = false }) point e in
-          along-found (arrived_along place p arrivals (record { from = from; branch = false }) point) first
-          (record { from = from; branch = true }) point e
-
-  over-found : (arrivals : Arrivals) → Found arrivals → (n : ℕ) → Found (arrived_over place p arrivals n)
-  unfolding arrived_over
-  over-found arrivals found zero = found
-  over-found arrivals found (suc n) = from-found (arrived_over place p arrivals n) (over-found arrivals found n)
-      (start_of place.image.routines place.r + n)
-
-  next-found : (arrivals : Arrivals) → Found arrivals → Found (next_arrivals place p arrivals)
-  next-found arrivals found = by_test arrivals.goes_on
-    where
-      by_test : (b : Bool) → Found (cond b (arrived_over place p (record arrivals { goes_on = false }) place.routine.count) arrivals)
-      by_test true = over-found (record arrivals { goes_on = false }) (record { brings = found.brings }) place.routine.count
-      by_test false = found
-
-  entry-found : Found (arrivals_at_entry place p)
-  unfolding no_arrivals
-  entry-found =
-      let none : Found (record { at = no_arrivals; goes_on = true }) = record {
-        brings = λ pc q e.
-            (let is = cond-some (nat_lt pc 4096) (get_or no_arrivals pc None) q e in
-            let nothing : get_or no_arrivals pc None ≡ None = replicate-there None 4096 pc in
-            absurd cc);
-      } in
-      arrived-found (record { at = no_arrivals; goes_on = true }) none (start_of place.image.routines place.r)
-      (entry_pointer place.routine p) (λ q e. ([], (refl, e)))
-
-  all-found : (n : ℕ) → Found (all_arrivals place p n)
-  unfolding all_arrivals
-  all-found zero = entry-found
-  all-found (suc n) = next-found (all_arrivals place p n) (all-found n)
-
-  -- ---- Ways
-
-  -- what is sought
-  abbrev asked : Bool → Bool → Sought
-  asked known reached = record { p = p; known = known; reached = reached }
-
-  -- a way that was sought, from where control comes or does not
-  abbrev IsFound : Bool → Bool → Way → ℕ → Type 0
-  IsFound known reached Entry to = IsWay place p known Entry to
-  IsFound known reached (Along edge) to = LeadsBy place p known edge to × (agrees reached (is_reached place.image edge.from) ≡ true)
-
-  found-way : (known reached : Bool) (way : Way) (to : ℕ) → IsFound known reached way to → IsWay place p known way to
-  found-way known reached Entry to found = found
-  found-way known reached (Along edge) to found = found.0
-
-  sought-found : (known : Bool) (to : ℕ) (reached : Bool) (edge : Edge) (point : KnownPlace)
-      → slice_get (places place.image) edge.from ≡ Some point → is_sought place (asked known reached) to edge point ≡ true
-      → IsFound known reached (Along edge) to
-  sought-found known to reached edge point there is =
-      let ends = end_of edge point.instr == to in
-      let comes = agrees reached (is_reached place.image edge.from) in
-      let has = has_edge point.instr edge.branch in
-      let known_there = is_as known (pointer_at (after place.image edge.from point.row edge.branch) p) in
-      let first = and_parts ends (comes && has && known_there) is in
-      let last = and_parts (comes && has) known_there first.1 in
-      let second = and_parts comes has last.0 in
-      (record { point = point; there = there; has = second.1; ends = eqb-true _ _ first.0; is = last.1 }, second.0)
-
-  -- each way that there may be is such a one
-  abbrev AllFound : Bool → Bool → Option Way → ℕ → Type 0
-  AllFound known reached o to = (way : Way) → o ≡ Some way → IsFound known reached way to
-
-  -- of two ways the first, if there is one
-  or-all : (P : Way → Type 0) (a b : Option Way) → ((way : Way) → a ≡ Some way → P way) → ((way : Way) → b ≡ Some way → P way)
-      → (way : Way) → option_or a b ≡ Some way → P way
-  or-all P None b left right = right
-  or-all P (Some way) b left right = left
-
-  along-way : (known : Bool) (to : ℕ) (reached : Bool) (edge : Edge) (point : KnownPlace)
-      → slice_get (places place.image) edge.from ≡ Some point → AllFound known reached (way_along place (asked known reached) to edge point) to
-  along-way known to reached edge point there way e =
-      let is = cond-some (is_sought place (asked known reached) to edge point) (Some (Along edge)) way e in
-      subst (λ w. IsFound known reached w to) (some-same _ _ is.1) (sought-found known to reached edge point there is.0)
-
-  of-found : (known : Bool) (to : ℕ) (reached : Bool) (from : ℕ) (point : KnownPlace) → slice_get (places place.image) from ≡ Some point
-      → AllFound known reached (way_of place (asked known reached) to from point) to
-  of-found known to reached from point there =
-      let along : Edge = record { from = from; branch = false } in
-      let aside : Edge = record { from = from; branch = true } in
-      or-all (λ way. IsFound known reached way to) (way_along place (asked known reached) to along point)
-      (way_along place (asked known reached) to aside point) (along-way known to reached along point there)
-      (along-way known to reached aside point there)
-
-  at-found : (known : Bool) (to : ℕ) (reached : Bool) (from : ℕ) → AllFound known reached (way_at place (asked known reached) to from) to
-  unfolding way_at
-  at-found known to reached from = by_point (slice_get (places place.image) from) refl
-    where
-      by_point : (o : Option KnownPlace) → slice_get (places place.image) from ≡ o
-          → AllFound known reached (elim o [ None ↦ None | Some point ↦ way_of place (asked known reached) to from point ]) to
-      by_point None e way is = absurd cc
-      by_point (Some point) e way is = of-found known to reached from point e way is
-
-  first-found : (known : Bool) (to : ℕ) (reached : Bool) (n : ℕ) → AllFound known reached (first_way place (asked known reached) to n) to
-  unfolding first_way
-  first-found known to reached zero = λ way is. absurd cc
-  first-found known to reached (suc n) =
-      let from = start_of place.image.routines place.r + n in
-      or-all (λ way. IsFound known reached way to) (first_way place (asked known reached) to n)
-      (way_at place (asked known reached) to from) (first-found known to reached n) (at-found known to reached from)
-
-  entry-way : (known : Bool) (to : ℕ) (reached : Bool) → AllFound known reached (entry_way place (asked known reached) to) to
-  entry-way known to reached way is =
-      let start = start_of place.image.routines place.r in
-      let entry = cond-some (to == start && is_as known (entry_pointer place.routine p)) (Some Entry) way is in
-      let tests = and_parts (to == start) (is_as known (entry_pointer place.routine p)) entry.0 in
-      subst (λ w. IsFound known reached w to) (some-same _ _ entry.1) (eqb-true _ _ tests.0, tests.1)
-
-  to-found : (known : Bool) (to : ℕ) (reached : Bool) → AllFound known reached (way_to place (asked known reached) to) to
-  unfolding way_to
-  to-found known to reached =
-      or-all (λ way. IsFound known reached way to) (entry_way place (asked known reached) to)
-      (first_way place (asked known reached) to place.routine.count) (entry-way known to reached) (first-found known to reached place.routine.count)
-
-  bringing-way : (to : ℕ) (way : Way) → bringing place p to ≡ Some way → IsWay place p true way to × IsAlike place way
-  unfolding bringing
-  bringing-way to way is = by_way way (to-found true to (is_reached place.image place.pc) way is)
-    where
-      by_way : (w : Way) → IsFound true (is_reached place.image place.pc) w to → IsWay place p true w to × IsAlike place w
-      by_way Entry found = (found, tt)
-      by_way (Along edge) found = (found.0, found.1)
-
-  losing-way : (to : ℕ) (way : Way) → losing place p to ≡ Some way → IsWay place p false way to
-  unfolding losing
-  losing-way to =
-      let reached = is_reached place.image place.pc in
-      or-all (λ way. IsWay place p false way to) (way_to place (asked false reached) to) (way_to place (asked false (not reached)) to)
-      (λ way is. found-way false reached way to (to-found false to reached way is))
-      (λ way is. found-way false (not reached) way to (to-found false to (not reached) way is))
-
-  -- ---- The search
-
   abbrev LacksFrom : ℕ → Type 0
   LacksFrom pc = (edges : List Edge) × LacksAlong place p pc edges
 
@@ -261,7 +40,7 @@ module _ (place : Place) (p : ℕ) where
   IsEnd (Merged to) = Unit {0}
 
   record Sound (trace : Trace) : Type 0 where
-    found : Found trace.arrivals
+    found : Found place p trace.arrivals
     passed : (k : ℕ) → Has trace.passed k → LacksFrom k
     lost : (edge : Edge) → trace.lost ≡ Some edge → IsLost place p edge
     meeting : (m : Meeting) → trace.meeting ≡ Some m → IsMeeting place p m
@@ -328,7 +107,7 @@ module _ (place : Place) (p : ℕ) where
     where
       by_known : (known : Option Way) → bringing place p at ≡ known → IsEnd (without_way place p at known)
       by_known None is = tt
-      by_known (Some way) is = or-end true at way (Merged at) from (bringing-way at way is).0 (λ none. tt)
+      by_known (Some way) is = or-end true at way (Merged at) from (bringing-way place p at way is).0 (λ none. tt)
 
       entry-end : IsWay place p false Entry at → IsEnd (nowhere_or place p Entry Unset)
       entry-end is =
@@ -343,7 +122,7 @@ module _ (place : Place) (p : ℕ) where
 
       by_lost : (lost : Option Way) → losing place p at ≡ lost → end_at place p (bringing place p at) at lost ≡ Some end → IsEnd end
       by_lost None is e = subst IsEnd (some-same _ _ e) (by_known (bringing place p at) refl)
-      by_lost (Some Entry) is e = subst IsEnd (some-same _ _ e) (entry-end (losing-way at Entry is))
+      by_lost (Some Entry) is e = subst IsEnd (some-same _ _ e) (entry-end (losing-way place p at Entry is))
       by_lost (Some (Along edge)) is e = by_alike (comes_alike place edge.from) e
         where
           by_alike : (b : Bool) → cond b None (Some (Unreached edge.from)) ≡ Some end → IsEnd end
@@ -367,13 +146,13 @@ module _ (place : Place) (p : ℕ) where
       met-here : (m : Meeting) → IsAt (bringing place p at) at (losing place p at) m → IsMeeting place p m
       met-here m is =
           let here = subst LacksFrom (sym is.to) from in
-          let known = bringing-way at m.known is.known in
+          let known = bringing-way place p at m.known is.known in
           record {
             edges = here.0;
             way = here.1;
             known = subst (λ to. IsWay place p true m.known to) (sym is.to) known.0;
             taken = known.1;
-            lost = subst (λ to. IsWay place p false m.lost to) (sym is.to) (losing-way at m.lost is.lost);
+            lost = subst (λ to. IsWay place p false m.lost to) (sym is.to) (losing-way place p at m.lost is.lost);
           }
 
       by_meeting : (before new : Option Meeting) → trace.meeting ≡ before → met_at at ≡ new
@@ -418,7 +197,7 @@ module _ (place : Place) (p : ℕ) where
               to = end_of edge point.instr;
               comes = record { point = point; there = there; alike = alike; has = has; ends = refl };
               hint = arrival trace.arrivals edge.from;
-              known = hint-known trace.arrivals sound.found edge.from;
+              known = hint-known place p trace.arrivals sound.found edge.from;
               loses = is;
               edges = from.0;
               way = from.1;
@@ -485,7 +264,7 @@ module _ (place : Place) (p : ℕ) where
   same-sound : (trace next : Trace) → Sound trace → next.arrivals ≡ trace.arrivals → ((k : ℕ) → Has next.passed k → Has trace.passed k)
       → next.lost ≡ trace.lost → next.meeting ≡ trace.meeting → next.end ≡ trace.end → Sound next
   same-sound trace next sound arrivals passed lost meeting end = record {
-    found = subst Found (sym arrivals) sound.found;
+    found = subst (Found place p) (sym arrivals) sound.found;
     passed = λ k h. sound.passed k (passed k h);
     lost = λ edge e. sound.lost edge (sym lost ∙ e);
     meeting = λ m e. sound.meeting m (sym meeting ∙ e);
@@ -518,7 +297,7 @@ module _ (place : Place) (p : ℕ) where
         lost = None;
       } in
       let sound : Sound start = record {
-        found = all-found place.routine.count;
+        found = all-found place p place.routine.count;
         passed = λ k h. absurd (none-marked k h);
         lost = λ edge e. absurd cc;
         meeting = λ m e. absurd cc;

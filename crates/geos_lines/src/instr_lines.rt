@@ -1,6 +1,12 @@
 //! What is wrong with the line of an instruction.
 
-ghost use Rattle.std.specs.Prelude.{◌≤◌, length};
+ghost use Rattle.std.specs.Prelude.{◌≡◌, ◌≤◌, is_none, is_some, is_ok, length, drop, IfOk, IfErr};
+ghost use Rattle.geos_opcodes.specs.Fields.{fields, is_written};
+ghost use Rattle.geos_text.specs.Words.{words};
+ghost use Rattle.geos_text.specs.Numbers as numbers;
+ghost use Rattle.geos_text.specs.Registers.{register_of};
+ghost use Rattle.geos_source.specs.Names as names;
+ghost use Rattle.geos_lines.specs.Forms.{fits, kinds_of, IsOperand, StopsHere, StopsAt};
 
 use crate::forms::{noun, put_form};
 use crate::sentences::{Wrong, put_above, put_quoted, put_too_much, put_word, put_wrong};
@@ -22,8 +28,8 @@ pub(crate) enum Misfit {
 /// Where the words behind an instruction stop being operands of it.
 #[derive(Clone, Copy)]
 pub(crate) enum Stop<'a> {
-    /// At a word.
-    At(Word<'a>, Misfit),
+    /// At a word, where an operand of this kind is wanted.
+    At(Word<'a>, Operand, Misfit),
     /// At the end, where an operand of this kind is wanted.
     Missing(Operand),
     /// At a word behind the operands.
@@ -35,6 +41,7 @@ pub(crate) enum Stop<'a> {
 /// Why a word is no register.
 fn register_misfit(letter: u8, count: u8, word: &[u8], wrong: Wrong) -> Option<Misfit>
     requires { count ≤ 10 }
+    ensures { is_none result ≡ is_some (register_of letter count word.now) }
 {
     match register(letter, count, word) {
         Some(_) => None,
@@ -43,7 +50,9 @@ fn register_misfit(letter: u8, count: u8, word: &[u8], wrong: Wrong) -> Option<M
 }
 
 /// Why a word is no number up to the greatest one.
-pub(crate) fn number_misfit(greatest: u32, word: &[u8]) -> Option<Misfit> {
+pub(crate) fn number_misfit(greatest: u32, word: &[u8]) -> Option<Misfit>
+    ensures { is_none result ≡ is_ok (numbers.number_up_to greatest word.now) }
+{
     match number_up_to(greatest, word) {
         Ok(_) => None,
         Err(NumberError::Malformed) => Some(Misfit::Form(Wrong::NoNumber)),
@@ -52,7 +61,10 @@ pub(crate) fn number_misfit(greatest: u32, word: &[u8]) -> Option<Misfit> {
 }
 
 /// Why a word is no name.
-pub(crate) fn name_misfit(word: &[u8]) -> Option<Misfit> {
+#[tactic(auto, unfolding(geos_source::specs::Names::name_of))]
+pub(crate) fn name_misfit(word: &[u8]) -> Option<Misfit>
+    ensures { is_none result ≡ names.is_name word.now }
+{
     match name_of(word) {
         Some(_) => None,
         None => Some(Misfit::Form(Wrong::NoName)),
@@ -60,7 +72,9 @@ pub(crate) fn name_misfit(word: &[u8]) -> Option<Misfit> {
 }
 
 /// Why a word is no operand of this kind, names aside that nothing has.
-fn misfit_of(kind: Operand, word: &[u8]) -> Option<Misfit> {
+fn misfit_of(kind: Operand, word: &[u8]) -> Option<Misfit>
+    ensures { is_none result ≡ fits kind word.now }
+{
     match kind {
         Operand::Unused => None,
         Operand::Word => register_misfit(b'w', 8, word, Wrong::NoWord),
@@ -73,23 +87,46 @@ fn misfit_of(kind: Operand, word: &[u8]) -> Option<Misfit> {
     }
 }
 
+/// Whether a text writes an operand of this kind.
+fn is_written(kind: Operand) -> bool
+    ensures { result ≡ is_written kind }
+{
+    !matches!(kind, Operand::Unused)
+}
+
+/// The first word of a line from an index on, where it is an operand of this kind; or else where words stop being operands.
+fn operand_from(kind: Operand, line: &[u8], at: usize) -> Result<Word, Stop>
+    requires { at ≤ length line.now }
+    ensures ok { IfOk result (λ word. IsOperand kind (words (drop at line.now)) (words (drop word.end line.now))) }
+    ensures within { IfOk result (λ word. word.end ≤ length line.now) }
+    ensures err { IfErr result (StopsHere kind (words (drop at line.now))) }
+{
+    let Some(word) = word_from(line, at) else {
+        return Err(Stop::Missing(kind));
+    };
+    match misfit_of(kind, word.bytes) {
+        Some(misfit) => Err(Stop::At(word, kind, misfit)),
+        None => Ok(word),
+    }
+}
+
 /// Where the words of a line from an index on stop being operands of the opcode.
 pub(crate) fn stop_of(opcode: Opcode, line: &[u8], from: usize) -> Stop
     requires { from ≤ length line.now }
+    ensures { StopsAt (kinds_of opcode fields) (words (drop from line.now)) result }
 {
     let mut at = from;
     let mut last = None;
-    for field in FIELDS.iter() {
-        let kind = operand_at(opcode, *field);
-        if kind != Operand::Unused {
-            let Some(word) = word_from(line, at) else {
-                return Stop::Missing(kind);
-            };
-            if let Some(misfit) = misfit_of(kind, word.bytes) {
-                return Stop::At(word, misfit);
+    for i in 0..FIELDS.len() {
+        let kind = operand_at(opcode, FIELDS[i]);
+        if is_written(kind) {
+            match operand_from(kind, line, at) {
+                Ok(word) => {
+                    last = Some(word);
+                    at = word.end;
+                }
+                Err(stop) => return stop,
             }
-            last = Some(word);
-            at = word.end;
         }
     }
     match word_from(line, at) {
@@ -132,7 +169,7 @@ fn put_operands(
 {
     put_form(out, opcode)?;
     match stop_of(opcode, line, from) {
-        Stop::At(word, misfit) => {
+        Stop::At(word, _, misfit) => {
             put_parts(out, &[Part::Text("; ")])?;
             put_misfit(out, word, misfit)
         }

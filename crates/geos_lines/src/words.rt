@@ -1,6 +1,8 @@
 //! The words of a line, and where they stand.
 
-ghost use Rattle.std.specs.Prelude.{◌≡◌, ◌<◌, ◌≤◌, ◌-◌, length, take, drop, IfSome};
+ghost use Rattle.std.specs.Prelude.{◌≡◌, ◌<◌, ◌≤◌, ◌-◌, [], ◌∷◌, not, length, take, drop, IfSome, IfNone};
+ghost use Rattle.std.specs.List.{position_or_len};
+ghost use Rattle.geos_text.specs.Words.{is_blank, words};
 
 use geos_text::is_blank;
 
@@ -14,29 +16,39 @@ pub struct Word<'a> {
     pub end: usize,
 }
 
-/// Where the first byte stands, from an index on, that is a blank or is none; or else the line's length.
-fn first_from(line: &[u8], from: usize, blank: bool) -> usize
-    requires { from ≤ length line.now }
-    ensures from { from ≤ result }
+/// How many blanks stand in front of the first word.
+fn blanks_in_front(line: &[u8]) -> usize
+    ensures place { result ≡ position_or_len (λ b. not (is_blank b)) line.now }
     ensures within { result ≤ length line.now }
 {
-    from + line[from..]
-        .iter()
-        .position(|byte| is_blank(*byte) == blank)
-        .unwrap_or(line.len() - from)
+    line.iter()
+        .position(|byte| !is_blank(*byte))
+        .unwrap_or(line.len())
+}
+
+/// Where the first blank stands in the line, or else the line's length.
+fn end_of_word(line: &[u8]) -> usize
+    ensures place { result ≡ position_or_len is_blank line.now }
+    ensures within { result ≤ length line.now }
+{
+    line.iter()
+        .position(|byte| is_blank(*byte))
+        .unwrap_or(line.len())
 }
 
 /// The first word of a line from an index on; `None` where there is none.
 pub fn word_from(line: &[u8], from: usize) -> Option<Word>
     requires { from ≤ length line.now }
+    ensures none { IfNone result (words (drop from line.now) ≡ []) }
+    ensures some { IfSome result (λ word. words (drop from line.now) ≡ word.bytes.now ∷ words (drop word.end line.now)) }
     ensures within { IfSome result (λ word. (from ≤ word.start) × (word.start < word.end) × (word.end ≤ length line.now)) }
     ensures bytes { IfSome result (λ word. word.bytes.now ≡ take (word.end - word.start) (drop word.start line.now)) }
 {
-    let start = first_from(line, from, false);
+    let start = from + blanks_in_front(&line[from..]);
     if start == line.len() {
         return None;
     }
-    let end = first_from(line, start + 1, true);
+    let end = start + end_of_word(&line[start..]);
     Some(Word {
         bytes: &line[start..end],
         start,

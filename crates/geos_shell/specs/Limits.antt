@@ -2,7 +2,7 @@
 use Rattle.std.specs.Prelude.{◌≡◌, ℕ, ◌≤◌, ◌%◌}
 use Rattle.geos_shell.specs.declared.numbers.Number.{Number}
 use Rattle.geos_shell.specs.declared.request.Request.{Request}
-use Rattle.geos_shell.specs.declared.request.Request.TheVariants.{Session, Call, Trace, Assemble, Budget, List, Check, Explain, New, Run, Put, Get, Dump, Map}
+use Rattle.geos_shell.specs.declared.request.Request.TheVariants.{Session, Call, Trace, Assemble, Budget, List, Check, Explain, ExplainScript, New, Run, Put, Get, Dump, Map}
 
 -- a number is within the limits of its kind
 abbrev pub IsWithin : Number → ℕ → Type 0
@@ -35,4 +35,5 @@ KeepsLimits (Budget text new) = Unit {0}
 KeepsLimits (List path) = Unit {0}
 KeepsLimits (Check path) = Unit {0}
 KeepsLimits (Explain path) = Unit {0}
+KeepsLimits (ExplainScript image script names) = Unit {0}
 KeepsLimits (Dump file chunks) = Unit {0}

@@ -23,6 +23,8 @@ enum ArgText {
     Path(&'static str, &'static str),
     /// A routine behind a name that it may be given: that name, and which routine it is.
     Routine(&'static str, &'static str),
+    /// A script behind a name that it may be given: that name, and what it is for.
+    Script(&'static str, &'static str),
 }
 
 /// A number that a command may be given: its name and limits, what it is, and what it is where it is not given.
@@ -116,6 +118,11 @@ const IMAGE_OR_TEXT: ArgText = ArgText::Word(
     "A file of an image's bytes, or of assembly text; `-` is the standard input",
 );
 
+const SCRIPT_TO_EXPLAIN: ArgText = ArgText::Script(
+    "script",
+    "A file of commands, of which each bad line is told in place of all else; `-` is the standard input",
+);
+
 const NEW_FILE: ArgText = ArgText::Word(
     "FILE",
     "The VM file that is made; there is none of that name yet",
@@ -146,6 +153,11 @@ const STRICT_CALL: ArgText = ArgText::Flag(
 const VARS: ArgText = ArgText::Flag(
     "vars",
     "Lets lines keep words under names, as `call make -> h`, and write them, as `call use $h 5`",
+);
+
+const VARS_TO_EXPLAIN: ArgText = ArgText::Flag(
+    "vars",
+    "Lets lines of SCRIPT keep and write names, as `run --vars` and `call` do",
 );
 
 const HEX: ArgText = ArgText::Flag("hex", "Prints words in four hexadecimal digits behind 0x");
@@ -245,7 +257,7 @@ static COMMANDS: [CommandText; 13] = [
     CommandText {
         name: "explain",
         about: "Prints an image or a text with what is known at each instruction, and why it may not run",
-        args: &[IMAGE_OR_TEXT],
+        args: &[IMAGE_OR_TEXT, SCRIPT_TO_EXPLAIN, VARS_TO_EXPLAIN],
         more: More::Explained,
     },
     CommandText {
@@ -351,6 +363,14 @@ fn routine_of<'a>(alloc: Global, name: &'a str, about: &'a str) -> Arg<'a> {
         .help(about)
 }
 
+/// A script behind `--name` that a command may be given.
+fn script_of<'a>(alloc: Global, name: &'a str, about: &'a str) -> Arg<'a> {
+    Arg::new(alloc, name)
+        .long(name)
+        .value_name("SCRIPT")
+        .help(about)
+}
+
 /// What stands behind the name of a command.
 fn arg_of<'a>(alloc: Global, text: &ArgText) -> Arg<'a> {
     match text {
@@ -361,6 +381,7 @@ fn arg_of<'a>(alloc: Global, text: &ArgText) -> Arg<'a> {
         ArgText::Words(name, about) => words_of(alloc, *name, *about),
         ArgText::Path(name, about) => path_of(alloc, *name, *about),
         ArgText::Routine(name, about) => routine_of(alloc, *name, *about),
+        ArgText::Script(name, about) => script_of(alloc, *name, *about),
     }
 }
 

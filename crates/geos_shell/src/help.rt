@@ -11,7 +11,7 @@ geos call IN [NAME [N..]] [--file FILE] [--region N] [--strict] [FORM]
        geos budget TEXT [OUT]
        geos list IMAGE
        geos check IMAGE
-       geos explain IMAGE
+       geos explain IMAGE [--script SCRIPT [--vars]]
        geos new FILE [--area N]
        geos run IMAGE FILE SCRIPT [--region N] [--strict] [--vars] [FORM]
        geos put FILE H C [AT] [--item] [--region N]
@@ -27,6 +27,7 @@ pub(crate) enum Usage {
     Call,
     Trace,
     Asm,
+    Explain,
     New,
     Run,
     Put,
@@ -41,6 +42,7 @@ impl Usage {
             Usage::Trace =>
                 "geos trace IN NAME [N..] [--steps N] [--only ROUTINE] [--count] [--file FILE] [--region N]",
             Usage::Asm => "geos asm IN OUT [--all-rows]",
+            Usage::Explain => "geos explain IMAGE [--script SCRIPT [--vars]]",
             Usage::New => "geos new FILE [--area N]",
             Usage::Run => "geos run IMAGE FILE SCRIPT [--region N] [--strict] [--vars] [FORM]",
             Usage::Put => "geos put FILE H C [AT] [--item] [--region N]",
@@ -191,7 +193,9 @@ Where lines of it have faults, these are printed alone, each with the word that 
 Of an image each instruction is printed, with the routine and the pc in front of that.
 Where a rule refuses, a line says why, and what to do; of a stale pointer from where it is known, from
 where not, and what has moved there. `no rows: line N` has a line that says where slots differ, or which
-loop is not paid for.";
+loop is not paid for.
+With --script each bad line of SCRIPT is printed, as `run` finds it, or with --vars `run --vars` and `call`: the
+word that is wrong, and what is wanted. Nothing else is printed, and nothing runs.";
 
 /// Why an image may not run.
 const RULES: &str = "\

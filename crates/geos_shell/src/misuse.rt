@@ -12,12 +12,14 @@ pub(crate) enum Misuse {
     WrongNumber(Number),
     /// What stands for this name, of a command of this usage, is no number up to 65,535.
     NoWord(&'static str, Usage),
-    /// Two words name the standard input.
-    TwoOfOneStream,
+    /// Two words name the standard input, of a command of this usage.
+    TwoOfOneStream(Usage),
     /// A text or an image is to come on the standard input, and no routine is named, so that a script is to come there too.
     NoName,
     /// A routine is named, so that no script is to run, and it is said how one ends.
     NoScript,
+    /// Lines may write names, and no script is given.
+    NamesOfNoScript,
     /// A word of an output is to be written in two ways, of a command of this usage.
     TwoWritings(Usage),
     /// The image of a text is to take the place of the text.
@@ -47,7 +49,7 @@ impl Misuse {
         match self {
             Misuse::WrongNumber(number) => limits(alloc, number),
             Misuse::NoWord(name, _) => { format!(in alloc; "{name} is a number from 0 to 65535") }
-            Misuse::TwoOfOneStream => {
+            Misuse::TwoOfOneStream(_) => {
                 String::from_str(alloc, "only one of IMAGE and SCRIPT is the standard input")
             }
             Misuse::NoName => {
@@ -55,6 +57,12 @@ impl Misuse {
             }
             Misuse::NoScript => {
                 String::from_str(alloc, "'--strict' is for a script, so NAME can't be given")
+            }
+            Misuse::NamesOfNoScript => {
+                String::from_str(
+                    alloc,
+                    "'--vars' is for a script, so '--script' has to be given",
+                )
             }
             Misuse::TwoWritings(_) => {
                 String::from_str(
@@ -73,9 +81,10 @@ impl Misuse {
     fn usage(&self) -> &'static str {
         match self {
             Misuse::WrongNumber(number) => number.usage.text(),
-            Misuse::TwoWritings(usage) | Misuse::NoWord(_, usage) => usage.text(),
-            Misuse::TwoOfOneStream => Usage::Run.text(),
+            Misuse::TwoWritings(usage) | Misuse::NoWord(_, usage) | Misuse::TwoOfOneStream(usage) =>
+                usage.text(),
             Misuse::NoName | Misuse::NoScript | Misuse::Memory => Usage::Call.text(),
+            Misuse::NamesOfNoScript => Usage::Explain.text(),
             Misuse::ImageOntoText => Usage::Asm.text(),
         }
     }

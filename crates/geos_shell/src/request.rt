@@ -88,6 +88,12 @@ pub enum Request<'a> {
     Check(&'a str),
     /// To print the explanation of an image.
     Explain(&'a str),
+    /// To print what is wrong with the bad lines of a script, for an image. Its lines may write names for words, or may not.
+    ExplainScript {
+        image: &'a str,
+        script: &'a str,
+        names: bool,
+    },
     /// To make a VM file with areas of so many bytes, a legal area size.
     New {
         file: &'a str,
@@ -233,7 +239,7 @@ fn run_of<'a>(words: &ArgMatches<'a>) -> Result<Request<'a>, Misuse>
     let region = REGION.of(words)?;
     let (image, script) = (word(words, "IMAGE"), word(words, "SCRIPT"));
     if is_stream(image) && is_stream(script) {
-        return Err(Misuse::TwoOfOneStream);
+        return Err(Misuse::TwoOfOneStream(Usage::Run));
     }
     Ok(Request::Run {
         image,
@@ -244,6 +250,26 @@ fn run_of<'a>(words: &ArgMatches<'a>) -> Result<Request<'a>, Misuse>
         names: words.get_flag("vars"),
         form: OutputForm::of(words, Usage::Run)?,
     })
+}
+
+/// What an `explain` asks for.
+fn explain_of<'a>(words: &ArgMatches<'a>) -> Result<Request<'a>, Misuse>
+    ensures { IfOk result KeepsLimits }
+{
+    let image = word(words, "IMAGE");
+    let names = words.get_flag("vars");
+    match words.get_str("script") {
+        None if names => Err(Misuse::NamesOfNoScript),
+        None => Ok(Request::Explain(image)),
+        Some(script) if is_stream(image) && is_stream(script) => {
+            Err(Misuse::TwoOfOneStream(Usage::Explain))
+        }
+        Some(script) => Ok(Request::ExplainScript {
+            image,
+            script,
+            names,
+        }),
+    }
 }
 
 /// The chunk that a `put` or a `get` names.
@@ -297,8 +323,7 @@ fn of_image<'a>(name: &str, image: &'a str) -> Request<'a>
 {
     match name {
         "list" => Request::List(image),
-        "check" => Request::Check(image),
-        _ => Request::Explain(image),
+        _ => Request::Check(image),
     }
 }
 
@@ -330,6 +355,7 @@ fn request_of<'a>(alloc: Global, matches: &ArgMatches<'a>) -> Result<Request<'a>
         "call" => call_of(alloc, words),
         "trace" => trace_of(alloc, words),
         "asm" => asm_of(words),
+        "explain" => explain_of(words),
         "new" => new_of(words),
         "run" => run_of(words),
         "put" => put_of(words),

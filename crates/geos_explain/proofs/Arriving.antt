@@ -1,0 +1,135 @@
+-- What the search finds to come to a pc does come to it.
+use Rattle.std.proofs.Common.{◌≡◌, ◌+◌, ℕ, zero, suc, Bool, true, false, not, cond, List, [], ◌∷◌, length, Option, Some, None, slice_get, get_or, set, refl, sym, ap, ◌∙◌, subst, ◌⊎◌, inl, inr}
+use Rattle.std.specs.Prelude.{◌&&◌, nat_lt}
+use Rattle.std.proofs.lemmas.Bool.{and_parts, cases_eq, cases_lt}
+use Rattle.std.proofs.lemmas.List.{get_or-set_same, get_or-set_other, set_past}
+use Rattle.geos_verify.specs.declared.place.Place.{Place as KnownPlace}
+use Rattle.geos_verify.specs.Places.{places}
+use Rattle.geos_image.specs.declared.row.Pointer.{Pointer}
+use Rattle.geos_image.specs.Parts.{start_of}
+use Rattle.geos_verify.specs.Rows.{pointer_at, is_stale, after, has_edge}
+use Rattle.geos_explain.specs.declared.edges.Edge.{Edge}
+use Rattle.geos_explain.specs.declared.arrivals.Arrivals.{Arrivals}
+use Rattle.geos_explain.specs.Edges.{end_of}
+use Rattle.geos_explain.specs.Places.{Place, comes_alike}
+use Rattle.geos_explain.specs.Ways.{entry_pointer, with_hint}
+use Rattle.geos_explain.specs.Arrivals.{no_arrivals, arrival, arrived, behind, arrived_along, arrived_from, arrived_over, next_arrivals, arrivals_at_entry, all_arrivals}
+use Rattle.geos_explain.specs.Lost.{ComesTo, Brings, IsHint}
+use Rattle.geos_explain.proofs.Tables.{replicate-there}
+
+-- what stands in a list behind a change was there, or is the change
+set-was : {X : Type 0} (xs : List X) (i k : ℕ) (x d : X) → (get_or (set xs i x) k d ≡ get_or xs k d) ⊎ ((k ≡ i) × (get_or (set xs i x) k d ≡ x))
+set-was xs i k x d = elim (cases_lt i (length xs)) [
+  | inl within ↦ elim (cases_eq k i) [
+    | inl same ↦ inr (same, ap (λ n. get_or (set xs i x) n d) same ∙ get_or-set_same xs i x d within)
+    | inr ne ↦ inl (get_or-set_other xs i k x d ne)
+  ]
+  | inr past ↦ inl (ap (λ ys. get_or ys k d) (set_past xs i x past))
+]
+
+-- what a choice gives that is nothing otherwise
+pub cond-some : {X : Type 0} (b : Bool) (o : Option X) (x : X) → cond b o None ≡ Some x → (b ≡ true) × (o ≡ Some x)
+cond-some true o x e = (refl, e)
+cond-some false o x e = absurd cc
+
+pub some-same : {X : Type 0} (x y : X) → Some x ≡ Some y → x ≡ y
+some-same x y e = cc
+
+module _ (place : Place) (p : ℕ) where
+  abbrev pub Known : ℕ → Pointer → Type 0
+  Known pc pointer = (edges : List Edge) × Brings place p edges pc pointer
+
+  pub record Found (arrivals : Arrivals) : Type 0 where
+    pub brings : (pc : ℕ) (pointer : Pointer) → arrival arrivals pc ≡ Some pointer → Known pc pointer
+
+  pub hint-known : (arrivals : Arrivals) → Found arrivals → (pc : ℕ) → IsHint place p pc (arrival arrivals pc)
+  hint-known arrivals found pc = by_hint (arrival arrivals pc) refl
+    where
+      by_hint : (o : Option Pointer) → arrival arrivals pc ≡ o → IsHint place p pc o
+      by_hint None e = inl refl
+      by_hint (Some pointer) e = inr (pointer, refl, found.brings pc pointer e)
+
+  arrived-found : (arrivals : Arrivals) → Found arrivals → (pc : ℕ) (pointer : Option Pointer)
+      → ((q : Pointer) → pointer ≡ Some q → Known pc q) → Found (arrived arrivals pc pointer)
+  arrived-found arrivals found pc pointer comes = by_test (nat_lt pc 4096 && not (is_stale pointer))
+    where
+      by_test : (b : Bool) → Found (cond b (record arrivals { at = set arrivals.at pc pointer; goes_on = true }) arrivals)
+      by_test true = record {
+        brings = λ k q e. elim (set-was arrivals.at pc k pointer None) [
+          | inl was ↦ found.brings k q (ap (λ o. cond (nat_lt k 4096) o None) (sym was) ∙ e)
+          | inr here ↦
+              let is = cond-some (nat_lt k 4096) (get_or (set arrivals.at pc pointer) k None) q e in
+              subst (λ n. Known n q) (sym here.0) (comes q (sym here.1 ∙ is.1))
+        ];
+      }
+      by_test false = found
+
+  behind-known : (edge : Edge) (point : KnownPlace) (hint : Option Pointer) → slice_get (places place.image) edge.from ≡ Some point
+      → comes_alike place edge.from ≡ true → IsHint place p edge.from hint
+      → (q : Pointer) → behind place.image (record { p = p; hint = hint }) edge point ≡ Some q → Known (end_of edge point.instr) q
+  behind-known edge point hint there alike known q e =
+      let row = with_hint point.row (record { p = p; hint = hint }) in
+      let has = cond-some (has_edge point.instr edge.branch) (pointer_at (after place.image edge.from row edge.branch) p) q e in
+      let comes : ComesTo place edge (end_of edge point.instr) = record { point = point; there = there; alike = alike; has = has.0; ends = refl } in
+      elim known [
+        | inl none ↦ (edge ∷ [], (comes, (hint, inl none, e)))
+        | inr some ↦ (edge ∷ some.2.0, (comes, (hint, inr (some.0, some.1, some.2.1), e)))
+      ]
+
+  along-found : (arrivals : Arrivals) → Found arrivals → (edge : Edge) (point : KnownPlace)
+      → slice_get (places place.image) edge.from ≡ Some point → Found (arrived_along place p arrivals edge point)
+  along-found arrivals found edge point there = by_test (is_stale (arrival arrivals (end_of edge point.instr)) && comes_alike place edge.from) refl
+    where
+      by_test : (b : Bool) → (is_stale (arrival arrivals (end_of edge point.instr)) && comes_alike place edge.from) ≡ b
+          → Found (cond b (arrived arrivals (end_of edge point.instr)
+          (behind place.image (record { p = p; hint = arrival arrivals edge.from }) edge point)) arrivals)
+      by_test true is =
+          let alike = (and_parts (is_stale (arrival arrivals (end_of edge point.instr))) (comes_alike place edge.from) is).1 in
+          arrived-found arrivals found (end_of edge point.instr) (behind place.image (record { p = p; hint = arrival arrivals edge.from }) edge point)
+          (λ q e. behind-known edge point (arrival arrivals edge.from) there alike (hint-known arrivals found edge.from) q e)
+      by_test false is = found
+
+  from-found : (arrivals : Arrivals) → Found arrivals → (from : ℕ) → Found (arrived_from place p arrivals from)
+  unfolding arrived_from
+  from-found arrivals found from = by_point (slice_get (places place.image) from) refl
+    where
+      by_point : (o : Option KnownPlace) → slice_get (places place.image) from ≡ o → Found (elim o [
+        | None ↦ arrivals
+        | Some point ↦ arrived_along place p (arrived_along place p arrivals (record { from = from; branch = false }) point)
+            (record { from = from; branch = true }) point
+      ])
+      by_point None e = found
+      by_point (Some point) e =
+          let first = along-found arrivals found (record { from = from; branch = false }) point e in
+          along-found (arrived_along place p arrivals (record { from = from; branch = false }) point) first
+          (record { from = from; branch = true }) point e
+
+  over-found : (arrivals : Arrivals) → Found arrivals → (n : ℕ) → Found (arrived_over place p arrivals n)
+  unfolding arrived_over
+  over-found arrivals found zero = found
+  over-found arrivals found (suc n) = from-found (arrived_over place p arrivals n) (over-found arrivals found n)
+      (start_of place.image.routines place.r + n)
+
+  next-found : (arrivals : Arrivals) → Found arrivals → Found (next_arrivals place p arrivals)
+  next-found arrivals found = by_test arrivals.goes_on
+    where
+      by_test : (b : Bool) → Found (cond b (arrived_over place p (record arrivals { goes_on = false }) place.routine.count) arrivals)
+      by_test true = over-found (record arrivals { goes_on = false }) (record { brings = found.brings }) place.routine.count
+      by_test false = found
+
+  entry-found : Found (arrivals_at_entry place p)
+  unfolding no_arrivals
+  entry-found =
+      let none : Found (record { at = no_arrivals; goes_on = true }) = record {
+        brings = λ pc q e.
+            (let is = cond-some (nat_lt pc 4096) (get_or no_arrivals pc None) q e in
+            let nothing : get_or no_arrivals pc None ≡ None = replicate-there None 4096 pc in
+            absurd cc);
+      } in
+      arrived-found (record { at = no_arrivals; goes_on = true }) none (start_of place.image.routines place.r)
+      (entry_pointer place.routine p) (λ q e. ([], (refl, e)))
+
+  pub all-found : (n : ℕ) → Found (all_arrivals place p n)
+  unfolding all_arrivals
+  all-found zero = entry-found
+  all-found (suc n) = next-found (all_arrivals place p n) (all-found n)

@@ -1,0 +1,66 @@
+-- What is told of lines, one after another.
+use Rattle.std.proofs.Common.{◌≡◌, ◌∙◌, ◌+◌, ◌<◌, ◌↔◌, ℕ, Bool, true, false, List, [], ◌∷◌, ◌++◌, length, Option, Some, None, refl, sym, ap, subst, suc, drop, get_or, drop-cons, ◌≤◌, arith, append_assoc, append-nil, length-append}
+use Rattle.std.proofs.lemmas.List.{drop_all}
+use Rattle.std.specs.Str.Lines.{lines}
+use Rattle.geos_image.specs.Parts.{Parts}
+use Rattle.geos_cli.specs.declared.named_lines.Line.{Line}
+use Rattle.geos_cli.specs.BadLines.{first_of, numbers}
+use Rattle.geos_cli.specs.Names.{lines_said}
+use Rattle.geos_cli.proofs.BadLaws.{first-bad, first-bad-in}
+use Rattle.geos_lines.specs.Telling.{sentence}
+use Rattle.geos_scripts.specs.Bad.{TellsBad, TellsEach, bad_ones, named_by_run}
+use Rattle.geos_scripts.specs.declared.told.BadLines.{BadLines}
+
+sentence-long : (number : ℕ) (saying rest : List ℕ) → 0 < length (sentence number saying ++ rest)
+sentence-long number saying rest = let e = length-append (sentence number saying) rest in omega arith
+
+-- nothing is told exactly where there is no line
+silent-none : (numbers text : List ℕ) → TellsEach numbers text → (text ≡ []) ↔ (first_of numbers ≡ None)
+silent-none [] text told = (λ empty. refl, λ none. told)
+silent-none (number ∷ numbers) text told = (
+  λ empty.
+      let long = sentence-long number told.0 told.1 in
+      let same : length text ≡ length (sentence number told.0 ++ told.1) = ap length told.3 in
+      let none : length text ≡ 0 = ap length empty in
+      absurd (omega arith),
+  λ none. absurd cc,
+)
+
+-- one more line is told
+pub told-more : (bad : List Line) (i : ℕ) (any : Line) (told new saying : List ℕ) → i < length bad
+    → new ≡ told ++ sentence (get_or bad i any).number saying
+    → ((rest : List ℕ) → TellsEach (numbers (drop i bad)) rest → TellsEach (numbers bad) (told ++ rest))
+    → (rest : List ℕ) → TellsEach (numbers (drop (i + 1) bad)) rest → TellsEach (numbers bad) (new ++ rest)
+told-more bad i any told new saying within put so_far rest others =
+    let line = get_or bad i any in
+    let one = sentence line.number saying in
+    let next : suc i ≡ i + 1 = omega arith in
+    let here : numbers (drop i bad) ≡ line.number ∷ numbers (drop (i + 1) bad) = ap numbers (drop-cons bad i any within)
+    ∙ ap (λ k. numbers (line ∷ drop k bad)) next in
+    let from_here : TellsEach (numbers (drop i bad)) (one ++ rest) =
+    subst (λ ns. TellsEach ns (one ++ rest)) (sym here) (saying, rest, others, refl) in
+    subst (TellsEach (numbers bad)) (sym (ap (λ t. t ++ rest) put ∙ append_assoc told one rest)) (so_far (one ++ rest) from_here)
+
+-- all lines are told
+pub told-all : (bad : List Line) (i : ℕ) (told : List ℕ) → length bad ≤ i
+    → ((rest : List ℕ) → TellsEach (numbers (drop i bad)) rest → TellsEach (numbers bad) (told ++ rest)) → TellsEach (numbers bad) told
+told-all bad i told past so_far =
+    let none : TellsEach (numbers (drop i bad)) [] = subst (λ lines. TellsEach (numbers lines) []) (sym (drop_all i bad past)) refl in
+    subst (TellsEach (numbers bad)) (append-nil told) (so_far [] none)
+
+first-named : (names : Bool) (image : Parts) (script : List ℕ) → first_of (bad_ones names image script) ≡ named_by_run names image script
+first-named true image script = first-bad-in image [] (lines_said script)
+first-named false image script = first-bad image 1 (lines script)
+
+-- what is told of a script's bad lines
+pub tells : (names : Bool) (image : Parts) (script : List ℕ) (bad : BadLines) (lines : List Line) → numbers lines ≡ bad_ones names image script
+    → TellsEach (numbers lines) bad.told.items → bad.first ≡ first_of (numbers lines) → TellsBad names image script bad
+tells names image script bad lines are each first =
+    let told = subst (λ ns. TellsEach ns bad.told.items) are each in
+    let named = first-named names image script in
+    let silent = silent-none (bad_ones names image script) bad.told.items told in
+    record {
+      told = told;
+      first = first ∙ ap first_of are ∙ named;
+      silent = (λ empty. sym named ∙ silent.0 empty, λ none. silent.1 (named ∙ none));
+    }

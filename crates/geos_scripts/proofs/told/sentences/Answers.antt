@@ -1,0 +1,14 @@
+use Rattle.std.proofs.Common.{◌≤◌, length, arith}
+use Rattle.geos_cli.proofs.NamedRun.{any_line}
+use Rattle.geos_scripts.proofs.Laws.{told-all, told-more}
+use Rattle.geos_scripts.proofs.told.sentences.Goals as goal
+
+pub loop-line-preserved : goal.loop-line-preserved
+loop-line-preserved c =
+    told-more c.args.bad.now c.loop-line.line-index any_line c.loop-line.told.items _ _ c.loop-line-test.true c.in_ok-put_told.ensures
+    c.loop-line.invariant
+
+pub returns : goal.returns
+returns c =
+    let past : length c.args.bad.now ≤ c.loop-line.line-index = omega (arith, c.loop-line-test.false) in
+    told-all c.args.bad.now c.loop-line.line-index c.loop-line.told.items past c.loop-line.invariant

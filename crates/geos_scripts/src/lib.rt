@@ -1,0 +1,14 @@
+//! What an author is told of the bad lines of a script: each line, with the word at which it goes wrong, and why.
+//!
+//! docs/FORMATS.md has the sentences.
+#![tactic(auto)]
+
+mod calls;
+mod fault;
+mod keeping;
+mod names;
+mod numbers;
+mod sentences;
+mod told;
+
+pub use told::{BadLines, tell_bad_lines};

@@ -1,0 +1,75 @@
+//! The names that lines of a script may write.
+
+use geos_cli::{Line, MOST_KEPT, kept_name};
+use geos_text::{first_line, without_comment};
+use std::alloc::{AllocError, Global};
+
+/// What a line may write in the place of a number, behind the lines before it.
+#[derive(Drop)]
+pub(crate) struct Names<'a> {
+    /// Whether lines may write names.
+    allowed: bool,
+    /// The names that lines so far keep, if they may.
+    kept: Vec<&'a [u8]>,
+    /// The lines that are to come, and how many came.
+    rest: &'a [u8],
+    passed: usize,
+}
+
+/// Keeps the name of a line, if it has one: it does so even if it is bad, as no other line is to be bad by that.
+fn keep<'a>(kept: &mut Vec<&'a [u8]>, line: &'a [u8]) -> Result<(), AllocError> {
+    if kept.len() < MOST_KEPT {
+        if let Some(name) = kept_name(without_comment(line)) {
+            kept.push(name)?;
+        }
+    }
+    Ok(())
+}
+
+impl<'a> Names<'a> {
+    /// No line of the script has come.
+    pub(crate) fn new(alloc: Global, script: &'a [u8], allowed: bool) -> Names<'a> {
+        Names {
+            allowed,
+            kept: Vec::new(alloc),
+            rest: script,
+            passed: 0,
+        }
+    }
+
+    /// Goes on to a line: all before it come.
+    pub(crate) fn come_to(&mut self, line: &Line) -> Result<(), AllocError> {
+        let before = line.number.saturating_sub(1);
+        while self.passed < before && !self.rest.is_empty() {
+            let (next, behind) = first_line(self.rest);
+            self.rest = behind;
+            self.passed += 1;
+            if self.allowed {
+                keep(&mut self.kept, next)?;
+            }
+        }
+        Ok(())
+    }
+
+    pub(crate) fn are_allowed(&self) -> bool {
+        self.allowed
+    }
+
+    /// Whether no further line may keep a word.
+    pub(crate) fn are_full(&self) -> bool {
+        self.kept.len() >= MOST_KEPT
+    }
+
+    /// Whether a line that came keeps a word under the name that this says behind its `$`.
+    pub(crate) fn have(&self, said: &[u8]) -> bool {
+        let Some((b'$', name)) = said.split_first() else {
+            return false;
+        };
+        for kept in &self.kept {
+            if *kept == name {
+                return true;
+            }
+        }
+        false
+    }
+}

@@ -1,0 +1,131 @@
+//! What is wrong with numbers, names and blocks in a call of a script.
+
+ghost use Rattle.std.specs.Prelude.{◌≡◌, ◌<◌, ◌∷◌, false, length, IfSome, IfNone};
+ghost use Rattle.geos_image.specs.Parts.{Parts};
+ghost use Rattle.geos_cli.specs.Names.{is_arrow};
+ghost use Rattle.geos_cli.specs.Script.{names_block};
+ghost use Rattle.geos_scripts.specs.Faults.{IsNamed, IsSo, begins_as_name};
+
+use crate::fault::Fault;
+use crate::names::Names;
+use geos_image::Image;
+use geos_lines::Word;
+use geos_text::{NumberError, number_up_to};
+
+pub(crate) fn is_arrow(word: &[u8]) -> bool
+    ensures { result ≡ is_arrow word.now }
+{
+    word == b"->".as_slice()
+}
+
+/// Whether a word stands for a name.
+fn begins_as_name(word: &[u8]) -> bool
+    ensures { result ≡ begins_as_name word.now }
+{
+    match word.first() {
+        Some(byte) => *byte == b'$',
+        None => false,
+    }
+}
+
+/// What a word says behind `@`, if it names a block.
+pub(crate) fn behind_at(word: &[u8]) -> Option<&[u8]>
+    ensures none { IfNone result (names_block word.now ≡ false) }
+    ensures some { IfSome result (λ said. word.now ≡ 64 ∷ said.now) }
+{
+    match word.split_first() {
+        Some((b'@', said)) => Some(said),
+        _ => None,
+    }
+}
+
+/// What is wrong with a word that is a name or keeps one, where this stands in the place of a number.
+fn name_fault<'a>(names: &Names, word: Word<'a>, said: &[u8]) -> Option<Fault<'a>>
+    requires { IsNamed word.bytes.now }
+    ensures { (image : Parts) → IfSome result (IsSo image) }
+{
+    if !names.are_allowed() {
+        Some(Fault::NotAllowed(word))
+    } else if names.have(said) {
+        None
+    } else {
+        Some(Fault::NotKept(word))
+    }
+}
+
+/// What is wrong with digits for the word w of this index.
+fn digits_fault<'a>(image: &Image, r: u16, index: usize, word: Word<'a>) -> Option<Fault<'a>>
+    requires there { r < length image.now.routines }
+    requires eight { index < 8 }
+    ensures { IfSome result (IsSo image.now) }
+{
+    let bound = image.routine(r).entry.bounds[index];
+    match number_up_to(65_535, word.bytes) {
+        Err(NumberError::Malformed) => Some(Fault::NoNumber(word)),
+        Err(NumberError::TooLarge) => Some(Fault::TooHigh(word)),
+        Ok(number) => {
+            if number > u32::from(bound) {
+                Some(Fault::PastBound(word, bound, index))
+            } else {
+                None
+            }
+        }
+    }
+}
+
+/// What is wrong with a number for the word w of this index.
+pub(crate) fn number_fault<'a>(
+    image: &Image,
+    r: u16,
+    names: &Names,
+    index: usize,
+    word: Word<'a>,
+) -> Option<Fault<'a>>
+    requires { r < length image.now.routines }
+    ensures { IfSome result (IsSo image.now) }
+{
+    let named = is_arrow(word.bytes) || begins_as_name(word.bytes);
+    if named {
+        if let Some(fault) = name_fault(names, word, word.bytes) {
+            return Some(fault);
+        }
+    }
+    if index >= 8 {
+        Some(Fault::Ninth(word))
+    } else if named {
+        None
+    } else {
+        digits_fault(image, r, index, word)
+    }
+}
+
+/// What is wrong with the handle of a block, which a word says behind `@`.
+fn handle_fault<'a>(names: &Names, word: Word<'a>, said: &[u8]) -> Option<Fault<'a>>
+    requires { word.bytes.now ≡ 64 ∷ said.now }
+    ensures { (image : Parts) → IfSome result (IsSo image) }
+{
+    if begins_as_name(said) {
+        return name_fault(names, word, said);
+    }
+    match number_up_to(65_535, said) {
+        Ok(_) => None,
+        Err(NumberError::Malformed) => Some(Fault::NoHandle(word)),
+        Err(NumberError::TooLarge) => Some(Fault::HighHandle(word)),
+    }
+}
+
+/// What is wrong with a block that is lent.
+pub(crate) fn block_fault<'a>(names: &Names, word: Word<'a>) -> Option<Fault<'a>>
+    ensures { (image : Parts) → IfSome result (IsSo image) }
+{
+    match behind_at(word.bytes) {
+        Some(said) => handle_fault(names, word, said),
+        None => {
+            if is_arrow(word.bytes) && !names.are_allowed() {
+                Some(Fault::NotAllowed(word))
+            } else {
+                Some(Fault::NumberBehind(word))
+            }
+        }
+    }
+}

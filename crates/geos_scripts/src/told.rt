@@ -1,0 +1,109 @@
+//! All bad lines of a script are told of.
+
+ghost use Rattle.std.specs.Prelude.{◌≡◌, Ok, IfOk};
+ghost use Rattle.geos_image.specs.Parts.{Parts};
+ghost use Rattle.geos_image.specs.Reading.{image_at};
+ghost use Rattle.geos_verify.specs.Rules.{Accepted};
+ghost use Rattle.geos_cli.specs.BadLines.{first_of, numbers};
+ghost use Rattle.geos_scripts.specs.Bad.{TellsBad, TellsEach, bad_ones};
+
+use crate::keeping::fault_of;
+use crate::names::Names;
+use crate::sentences::put_fault;
+use geos_cli::{Line, MOST_BYTES, ScriptFault, bad_lines, bad_lines_with_names};
+use geos_image::Image;
+use geos_lines::put_told;
+use geos_verify::{Checked, check};
+use std::alloc::{AllocError, Global};
+
+/// What there is to say of the bad lines of a script.
+#[derive(Drop)]
+pub struct BadLines {
+    /// A line on each of them, in their order.
+    pub told: Vec<u8>,
+    /// The number of the first one, from 1.
+    pub first: Option<usize>,
+}
+
+/// A sentence on each bad line.
+fn sentences<'a>(
+    alloc: Global,
+    image: &Image,
+    bad: &[Line<'a>],
+    mut names: Names<'a>,
+) -> Result<Vec<u8>, AllocError>
+    ensures { IfOk result (λ told. TellsEach (numbers bad.now) told.items) }
+{
+    let mut told = Vec::new(alloc);
+    for line in bad {
+        names.come_to(line)?;
+        let mut saying = Vec::new(alloc);
+        put_fault(&mut saying, fault_of(image, &names, line.text))?;
+        put_told(&mut told, line.number, &saying)?;
+    }
+    Ok(told)
+}
+
+/// The bad lines of a script whose lines may write names, or may not.
+fn bad_ones<'a>(
+    alloc: Global,
+    checked: &Checked,
+    script: &'a [u8],
+    names: bool,
+) -> Result<Vec<Line<'a>>, AllocError>
+    ensures { IfOk result (λ bad. numbers bad.items ≡ bad_ones names checked.now script.now) }
+{
+    if names {
+        bad_lines_with_names(alloc, checked, script)
+    } else {
+        bad_lines(alloc, checked, script)
+    }
+}
+
+/// The number of the first of some lines.
+fn first_number(lines: &[Line]) -> Option<usize>
+    ensures { result ≡ first_of (numbers lines.now) }
+{
+    match lines.split_first() {
+        Some((line, _)) => Some(line.number),
+        None => None,
+    }
+}
+
+/// What there is to say of the bad lines of a script for a checked image. Its lines may write names, or may not.
+fn told_of(
+    alloc: Global,
+    checked: &Checked,
+    script: &[u8],
+    names: bool,
+) -> Result<BadLines, AllocError>
+    ensures { IfOk result (TellsBad names checked.now script.now) }
+{
+    let bad = bad_ones(alloc, checked, script, names)?;
+    let kept = Names::new(alloc, script, names);
+    let lines: &[Line] = &bad;
+    let told = sentences(alloc, checked.image(), lines, kept)?;
+    let first = first_number(lines);
+    Ok(BadLines { told, first })
+}
+
+/// What there is to say of the bad lines of a script, for the image that the bytes spell. Its lines may write names for words
+/// that calls put out, or may not. Nothing runs. The faults are those of a script that are found before it runs, but for its
+/// bad lines.
+pub fn tell_bad_lines(
+    alloc: Global,
+    image: &[u8],
+    script: &[u8],
+    names: bool,
+) -> Result<BadLines, ScriptFault>
+    ensures told { IfOk result (λ bad. (parts : Parts) × (image_at image.now ≡ Ok parts) × Accepted parts × TellsBad names parts script.now bad) }
+{
+    if script.len() > MOST_BYTES {
+        return Err(ScriptFault::TooLong);
+    }
+    let image = geos_image::read(alloc, image)?;
+    match check(image) {
+        Ok(checked) => Ok(told_of(alloc, &checked, script, names)?),
+        Err((_image, reject)) => Err(ScriptFault::from(reject)),
+    }
+}
