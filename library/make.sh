@@ -1,10 +1,9 @@
 #!/bin/sh
-# Makes the library: `library/make.sh FOLDER` puts libtakhvoi.a, libtakhvoi.so and the headers for C into the folder. It takes what `rt lib`
-# builds of crates/takhvoi, the host for files (takhvoi_file.c), and of the kit's C code what is called, and leaves no names but our own in one
-# object. Where the library was made from the sources as they are, it is not built again.
+# Makes the library: `library/make.sh FOLDER` puts libtakhvoi.a, libtakhvoi.so and the headers for C into the folder. It takes the static
+# library that `./build takhvoi` gives, the host for files (takhvoi_file.c), and of the kit's C code what is called, and leaves no names but
+# our own in one object. With the word by-rattle it takes what Rattle's own compiler makes, where that of LLVM is meant, and makes no
+# libtakhvoi.so.
 top=$(dirname "$(dirname "$(readlink -f "$0")")")
-out=$top/crates/takhvoi/out
-built=$out/libtakhvoi.a
 
 say() {
     echo "make.sh: $*" >&2
@@ -14,12 +13,7 @@ say() {
 for tool in rt cc ld objcopy ar; do
     command -v "$tool" >/dev/null || { say "there is no $tool"; exit 1; }
 done
-
-sums=$("$top/build" --sums takhvoi)
-if ! [ -f "$built" ] || [ "$sums" != "$(cat "$out/library.sums" 2>/dev/null)" ]; then
-    (cd "$top/crates/takhvoi" && rt lib --jobs 1) >&2 || { say "the library was not built"; exit 1; }
-    echo "$sums" >"$out/library.sums"
-fi
+built=$("$top/build" takhvoi)${2:+.$2} && [ -f "$built" ] || { say "the library was not built"; exit 1; }
 
 below=$(dirname "$(dirname "$(readlink -f "$(command -v rt)")")")/c
 work=$(mktemp -d) || exit
@@ -30,5 +24,5 @@ mkdir -p "$1" &&
     cc -std=c99 -O2 -fPIC -Wall -Wextra -Werror -c -o "$work/file.o" "$top/library/takhvoi_file.c" &&
     ld -r -o "$work/whole.o" "$work/file.o" --whole-archive "$built" --no-whole-archive "$below/libos_c.a" "$below/liblibc_c.a" &&
     objcopy --wildcard --keep-global-symbol='takhvoi_*' "$work/whole.o" "$work/takhvoi.o" &&
-    rm -f "$1/libtakhvoi.a" && ar rcs "$1/libtakhvoi.a" "$work/takhvoi.o" &&
-    cc -shared -o "$1/libtakhvoi.so" -Wl,-soname,libtakhvoi.so -Wl,--whole-archive "$1/libtakhvoi.a" -Wl,--no-whole-archive
+    rm -f "$1/libtakhvoi.a" && ar rcs "$1/libtakhvoi.a" "$work/takhvoi.o" || exit
+[ -n "$2" ] || cc -shared -o "$1/libtakhvoi.so" -Wl,-soname,libtakhvoi.so -Wl,--whole-archive "$1/libtakhvoi.a" -Wl,--no-whole-archive

@@ -204,8 +204,8 @@ TAKHVOI_CALL uint32_t takhvoi_revert(takhvoi_kernel *kernel);
 /* What the kernel has noted for the host, after `create`, `open`, a commit and a run: steps in order, by numbers from 0 on. `kind` is 1 for a
  * write of `len` bytes from the offset `at` of the file on, 2 where what was written is to be made to last, and 0 behind the last step.
  * `step_bytes` copies bytes of a write, from its byte `from` on. `performed` says that all were performed, and last. */
-TAKHVOI_CALL uint32_t takhvoi_step(takhvoi_kernel *kernel, uint32_t n, uint16_t *kind, uint64_t *at, uint64_t *len);
-TAKHVOI_CALL uint32_t takhvoi_step_bytes(takhvoi_kernel *kernel, uint32_t n, uint64_t from, uint8_t *into, size_t len);
+TAKHVOI_CALL uint32_t takhvoi_step(takhvoi_kernel *kernel, uint32_t number, uint16_t *kind, uint64_t *at, uint64_t *len);
+TAKHVOI_CALL uint32_t takhvoi_step_bytes(takhvoi_kernel *kernel, uint32_t number, uint64_t from, uint8_t *into, size_t len);
 TAKHVOI_CALL uint32_t takhvoi_performed(takhvoi_kernel *kernel);
 
 /* Images, by numbers that are good until they are unloaded, or the kernel is closed. `place` is the offset of the first faulty byte

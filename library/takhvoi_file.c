@@ -71,12 +71,12 @@ static int sync_folder(const char *path) {
 }
 
 /* Performs a write, by pieces. */
-static uint32_t perform_write(takhvoi_file *file, uint32_t n, uint64_t at, uint64_t len) {
+static uint32_t perform_write(takhvoi_file *file, uint32_t number, uint64_t at, uint64_t len) {
     uint8_t piece[16384];
     uint64_t from = 0;
     while (from < len) {
         size_t part = len - from < sizeof piece ? (size_t)(len - from) : sizeof piece;
-        uint32_t status = takhvoi_step_bytes(&file->kernel, n, from, piece, part);
+        uint32_t status = takhvoi_step_bytes(&file->kernel, number, from, piece, part);
         if (status != TAKHVOI_DONE) return status;
         if (!write_all(file->fd, piece, part, at + from)) return TAKHVOI_DISK;
         from += part;

@@ -84,8 +84,8 @@ extern "C" {
     pub fn takhvoi_update(kernel: *mut RawKernel) -> u32;
     pub fn takhvoi_save(kernel: *mut RawKernel) -> u32;
     pub fn takhvoi_revert(kernel: *mut RawKernel) -> u32;
-    pub fn takhvoi_step(kernel: *mut RawKernel, n: u32, kind: *mut u16, at: *mut u64, len: *mut u64) -> u32;
-    pub fn takhvoi_step_bytes(kernel: *mut RawKernel, n: u32, from: u64, into: *mut u8, len: usize) -> u32;
+    pub fn takhvoi_step(kernel: *mut RawKernel, number: u32, kind: *mut u16, at: *mut u64, len: *mut u64) -> u32;
+    pub fn takhvoi_step_bytes(kernel: *mut RawKernel, number: u32, from: u64, into: *mut u8, len: usize) -> u32;
     pub fn takhvoi_performed(kernel: *mut RawKernel) -> u32;
     pub fn takhvoi_load(kernel: *mut RawKernel, bytes: *const u8, len: usize, image: *mut u32, place: *mut u64, rule: *mut u32) -> u32;
     pub fn takhvoi_unload(kernel: *mut RawKernel, image: u32) -> u32;

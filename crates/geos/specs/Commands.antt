@@ -1,15 +1,13 @@
 -- What the commands on the bytes of texts and images answer.
-use Rattle.std.specs.Prelude.{◌≡◌, ◌⊎◌, ℕ, Bool, true, false, not, MatchBool, ◌==◌, List, [], Ok, Option, Some, None, codes}
+use Rattle.std.specs.Prelude.{◌≡◌, ◌⊎◌, ℕ, Bool, true, false, not, MatchBool, ◌==◌, List, [], Ok, Option, codes}
 use Rattle.std.specs.List.{starts_with}
 use Rattle.geos_image.specs.Parts.{Parts}
 use Rattle.geos_image.specs.Legal.{is_formed}
 use Rattle.geos_image.specs.Reading.{image_at}
 use Rattle.geos_verify.specs.declared.rule.Reject.{Reject}
 use Rattle.geos_verify.specs.declared.rule.Rule.{Rule}
-use Rattle.geos_verify.specs.Refused.{AreRefusals}
-use Rattle.geos_verify.specs.Rules.{Accepted, FirstRefusal}
 use Rattle.geos_listing.specs.Listing.{listing}
-use Rattle.geos_explain.specs.Explanation.{explanation, IsVerdict}
+use Rattle.geos_explain.specs.Explanation.{AreItsRefusals, explanation, IsVerdict}
 use Rattle.geos_explain.specs.Texts.{text_explanation}
 use Rattle.geos_source.specs.InstrLines.{instr_lines}
 use Rattle.geos_causes.specs.Causes.{cause_text}
@@ -29,11 +27,6 @@ TakesVersion2 text = (whole : Parts) × IsAssembled text whole × (whole.keyed �
 -- the bytes spell an image, and the text is its listing, and has its code
 abbrev pub IsListed : List ℕ → List ℕ → Type 0
 IsListed bytes text = (image : Parts) × (image_at bytes ≡ Ok image) × (text ≡ listing image) × IsTextOf image text
-
--- the refusal is the first of the image, and for each pc the lowest rule is given that refuses there; or there is none
-abbrev pub AreItsRefusals : Parts → Option Reject → List (Option Rule) → Type 0
-AreItsRefusals image None refused = Accepted image × (refused ≡ [])
-AreItsRefusals image (Some reject) refused = FirstRefusal image reject × AreRefusals image refused
 
 -- the bytes spell an image, the refusal is its first, if there is one, and the text is its explanation with all refusals
 abbrev pub IsExplained : List ℕ → List ℕ → Option Reject → Type 0

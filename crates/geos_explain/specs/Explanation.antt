@@ -1,5 +1,5 @@
 -- The listing of an image with what is known at each instruction, and what is wrong where a rule refuses.
-use Rattle.std.specs.Prelude.{ℕ, ◌+◌, List, [], ◌++◌, Option, Some, None, length, slice_get, codes}
+use Rattle.std.specs.Prelude.{◌≡◌, ℕ, ◌+◌, List, [], ◌++◌, Option, Some, None, length, slice_get, codes}
 use Rattle.std.specs.Option.{option_map_or}
 use Rattle.geos_image.specs.declared.routine.Routine.{Routine}
 use Rattle.geos_image.specs.Parts.{Parts, start_of}
@@ -9,6 +9,7 @@ use Rattle.geos_listing.specs.Listing.{routine_line}
 use Rattle.geos_verify.specs.Places.{places}
 use Rattle.geos_verify.specs.declared.rule.Reject.{Reject}
 use Rattle.geos_verify.specs.declared.rule.Rule.{Rule}
+use Rattle.geos_verify.specs.Refused.{AreRefusals}
 use Rattle.geos_verify.specs.Rules.{Accepted, FirstRefusal}
 use Rattle.geos_explain.specs.Places.{Place, Explained, place_at}
 use Rattle.geos_explain.specs.Notes.{note}
@@ -49,3 +50,8 @@ explanation image refused = texts_below (length image.routines) (λ r. numbered_
 abbrev pub IsVerdict : Parts → Option Reject → Type 0
 IsVerdict image None = Accepted image
 IsVerdict image (Some reject) = FirstRefusal image reject
+
+-- the refusal is the first of the image, and for each pc the lowest rule is given that refuses there; or there is none
+abbrev pub AreItsRefusals : Parts → Option Reject → List (Option Rule) → Type 0
+AreItsRefusals image None refused = Accepted image × (refused ≡ [])
+AreItsRefusals image (Some reject) refused = FirstRefusal image reject × AreRefusals image refused

@@ -1,13 +1,11 @@
 -- What calls on texts and images give.
-use Rattle.std.specs.Prelude.{◌≡◌, ℕ, true, List, [], Option, None, Some, Ok}
+use Rattle.std.specs.Prelude.{◌≡◌, ℕ, true, List, Option, Ok}
 use Rattle.geos_image.specs.Parts.{Parts}
 use Rattle.geos_image.specs.Reading.{image_at}
 use Rattle.geos_verify.specs.declared.rule.Reject.{Reject}
 use Rattle.geos_verify.specs.declared.rule.Rule.{Rule}
-use Rattle.geos_verify.specs.Refused.{AreRefusals}
-use Rattle.geos_verify.specs.Rules.{Accepted, FirstRefusal}
 use Rattle.geos_listing.specs.Listing.{listing}
-use Rattle.geos_explain.specs.Explanation.{explanation}
+use Rattle.geos_explain.specs.Explanation.{AreItsRefusals, explanation}
 use Rattle.geos_source.specs.declared.fault.BadLine as fault
 use Rattle.geos_asm.specs.Assembling.{IsAssembled, IsWhyNoImage}
 use Rattle.geos_asm.specs.declared.error.AssembleError.TheVariants.{BadLine}
@@ -23,11 +21,6 @@ HasFaultAt text line = (bad : fault.BadLine) × IsWhyNoImage text (BadLine bad) 
 -- the bytes spell an image, and this is its listing
 abbrev pub IsListedAs : List ℕ → List ℕ → Type 0
 IsListedAs bytes text = (image : Parts) × (image_at bytes ≡ Ok image) × (text ≡ listing image)
-
--- the refusal is the first of the image, and for each pc the lowest rule is given that refuses there; or there is none
-abbrev pub AreItsRefusals : Parts → Option Reject → List (Option Rule) → Type 0
-AreItsRefusals image None refused = Accepted image × (refused ≡ [])
-AreItsRefusals image (Some reject) refused = FirstRefusal image reject × AreRefusals image refused
 
 -- the text is the image's explanation with all its refusals, of which this is the first; or there is none
 abbrev pub IsExplanation : Parts → List ℕ → Option Reject → Type 0

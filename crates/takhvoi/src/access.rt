@@ -18,11 +18,11 @@ use geos_kernel::Name;
 use std::alloc::Global;
 
 /// The end of a range of bytes, if a chunk can have so many.
-fn end_of(at: u16, n: usize) -> Option<u16>
-    ensures { IfSome result (λ end. end ≡ at + n) }
+fn end_of(at: u16, len: usize) -> Option<u16>
+    ensures { IfSome result (λ end. end ≡ at + len) }
 {
-    if n <= usize::from(u16::MAX - at) {
-        Some(at + n as u16)
+    if len <= usize::from(u16::MAX - at) {
+        Some(at + len as u16)
     } else {
         None
     }
@@ -114,14 +114,21 @@ pub extern "C" fn takhvoi_read(
     alloc: Global,
     handle: &mut Handle,
     block: u32,
-    c: u16,
+    chunk: u16,
     at: u16,
     into: &mut [u8],
 ) -> u32
-    ensures { Served (IsCopied (table.deref (name_of block) c (at + length into.old)) at into.new) result handle.old handle.new }
+    ensures { Served (IsCopied (table.deref (name_of block) chunk (at + length into.old)) at into.new) result handle.old handle.new }
 {
     match end_of(at, into.len()) {
-        Some(n) => read(alloc, handle, block, Refer::Deref { c, n }, at, into),
+        Some(end) => read(
+            alloc,
+            handle,
+            block,
+            Refer::Deref { c: chunk, n: end },
+            at,
+            into,
+        ),
         None => refuse(alloc, handle),
     }
 }
@@ -132,15 +139,26 @@ pub extern "C" fn takhvoi_caread(
     alloc: Global,
     handle: &mut Handle,
     block: u32,
-    c: u16,
-    i: u16,
+    chunk: u16,
+    index: u16,
     at: u16,
     into: &mut [u8],
 ) -> u32
-    ensures { Served (IsCopied (arrays.caelt (name_of block) c i (at + length into.old)) at into.new) result handle.old handle.new }
+    ensures { Served (IsCopied (arrays.caelt (name_of block) chunk index (at + length into.old)) at into.new) result handle.old handle.new }
 {
     match end_of(at, into.len()) {
-        Some(n) => read(alloc, handle, block, Refer::Caelt { c, i, n }, at, into),
+        Some(end) => read(
+            alloc,
+            handle,
+            block,
+            Refer::Caelt {
+                c: chunk,
+                i: index,
+                n: end,
+            },
+            at,
+            into,
+        ),
         None => refuse(alloc, handle),
     }
 }
@@ -178,13 +196,23 @@ pub extern "C" fn takhvoi_casize(
     alloc: Global,
     handle: &mut Handle,
     block: u32,
-    c: u16,
-    i: u16,
+    chunk: u16,
+    index: u16,
     told: &mut u16,
 ) -> u32
-    ensures { Served (IsMeasured (arrays.caelt (name_of block) c i 0) told.new) result handle.old handle.new }
+    ensures { Served (IsMeasured (arrays.caelt (name_of block) chunk index 0) told.new) result handle.old handle.new }
 {
-    tell_length(alloc, handle, block, Refer::Caelt { c, i, n: 0 }, told)
+    tell_length(
+        alloc,
+        handle,
+        block,
+        Refer::Caelt {
+            c: chunk,
+            i: index,
+            n: 0,
+        },
+        told,
+    )
 }
 
 /// Stores bytes into a chunk, from an offset on. A block of the VM file is marked before.
@@ -193,14 +221,21 @@ pub extern "C" fn takhvoi_write(
     alloc: Global,
     handle: &mut Handle,
     block: u32,
-    c: u16,
+    chunk: u16,
     at: u16,
     from: &[u8],
 ) -> u32
-    ensures { Served (IsWritten (table.deref (name_of block) c (at + length from.now)) at from.now) result handle.old handle.new }
+    ensures { Served (IsWritten (table.deref (name_of block) chunk (at + length from.now)) at from.now) result handle.old handle.new }
 {
     match end_of(at, from.len()) {
-        Some(n) => write(alloc, handle, block, Refer::Deref { c, n }, at, from),
+        Some(end) => write(
+            alloc,
+            handle,
+            block,
+            Refer::Deref { c: chunk, n: end },
+            at,
+            from,
+        ),
         None => refuse(alloc, handle),
     }
 }
@@ -211,15 +246,26 @@ pub extern "C" fn takhvoi_cawrite(
     alloc: Global,
     handle: &mut Handle,
     block: u32,
-    c: u16,
-    i: u16,
+    chunk: u16,
+    index: u16,
     at: u16,
     from: &[u8],
 ) -> u32
-    ensures { Served (IsWritten (arrays.caelt (name_of block) c i (at + length from.now)) at from.now) result handle.old handle.new }
+    ensures { Served (IsWritten (arrays.caelt (name_of block) chunk index (at + length from.now)) at from.now) result handle.old handle.new }
 {
     match end_of(at, from.len()) {
-        Some(n) => write(alloc, handle, block, Refer::Caelt { c, i, n }, at, from),
+        Some(end) => write(
+            alloc,
+            handle,
+            block,
+            Refer::Caelt {
+                c: chunk,
+                i: index,
+                n: end,
+            },
+            at,
+            from,
+        ),
         None => refuse(alloc, handle),
     }
 }

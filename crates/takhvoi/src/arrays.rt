@@ -29,12 +29,12 @@ pub extern "C" fn takhvoi_caadd(
     alloc: Global,
     handle: &mut Handle,
     block: u32,
-    c: u16,
-    n: u16,
+    chunk: u16,
+    len: u16,
 ) -> u32
-    ensures { Served (IsAnswer (table.caadd (name_of block) c n)) result handle.old handle.new }
+    ensures { Served (IsAnswer (table.caadd (name_of block) chunk len)) result handle.old handle.new }
 {
-    change(alloc, handle, block, Change::Caadd { c, n })
+    change(alloc, handle, block, Change::Caadd { c: chunk, n: len })
 }
 
 /// Puts an element of zeros at an index, of so many bytes where sizes vary.
@@ -43,13 +43,22 @@ pub extern "C" fn takhvoi_cains(
     alloc: Global,
     handle: &mut Handle,
     block: u32,
-    c: u16,
-    i: u16,
-    n: u16,
+    chunk: u16,
+    index: u16,
+    len: u16,
 ) -> u32
-    ensures { Served (IsAnswer (table.cains (name_of block) c i n)) result handle.old handle.new }
+    ensures { Served (IsAnswer (table.cains (name_of block) chunk index len)) result handle.old handle.new }
 {
-    change(alloc, handle, block, Change::Cains { c, i, n })
+    change(
+        alloc,
+        handle,
+        block,
+        Change::Cains {
+            c: chunk,
+            i: index,
+            n: len,
+        },
+    )
 }
 
 /// Takes an element out.
@@ -58,20 +67,20 @@ pub extern "C" fn takhvoi_cadel(
     alloc: Global,
     handle: &mut Handle,
     block: u32,
-    c: u16,
-    i: u16,
+    chunk: u16,
+    index: u16,
 ) -> u32
-    ensures { Served (IsAnswer (table.cadel (name_of block) c i)) result handle.old handle.new }
+    ensures { Served (IsAnswer (table.cadel (name_of block) chunk index)) result handle.old handle.new }
 {
-    change(alloc, handle, block, Change::Cadel { c, i })
+    change(alloc, handle, block, Change::Cadel { c: chunk, i: index })
 }
 
 /// Takes all elements out.
 #[unsafe(no_mangle)]
-pub extern "C" fn takhvoi_cazero(alloc: Global, handle: &mut Handle, block: u32, c: u16) -> u32
-    ensures { Served (IsAnswer (table.cazero (name_of block) c)) result handle.old handle.new }
+pub extern "C" fn takhvoi_cazero(alloc: Global, handle: &mut Handle, block: u32, chunk: u16) -> u32
+    ensures { Served (IsAnswer (table.cazero (name_of block) chunk)) result handle.old handle.new }
 {
-    change(alloc, handle, block, Change::Cazero { c })
+    change(alloc, handle, block, Change::Cazero { c: chunk })
 }
 
 /// Gives an element so many bytes, where sizes vary.
@@ -80,13 +89,22 @@ pub extern "C" fn takhvoi_caresize(
     alloc: Global,
     handle: &mut Handle,
     block: u32,
-    c: u16,
-    i: u16,
-    n: u16,
+    chunk: u16,
+    index: u16,
+    len: u16,
 ) -> u32
-    ensures { Served (IsAnswer (table.caresize (name_of block) c i n)) result handle.old handle.new }
+    ensures { Served (IsAnswer (table.caresize (name_of block) chunk index len)) result handle.old handle.new }
 {
-    change(alloc, handle, block, Change::Caresize { c, i, n })
+    change(
+        alloc,
+        handle,
+        block,
+        Change::Caresize {
+            c: chunk,
+            i: index,
+            n: len,
+        },
+    )
 }
 
 /// Tells how many elements an array has.
@@ -95,10 +113,10 @@ pub extern "C" fn takhvoi_cacount(
     alloc: Global,
     handle: &mut Handle,
     block: u32,
-    c: u16,
+    chunk: u16,
     told: &mut u16,
 ) -> u32
-    ensures { Served (IsTold (table.cacount (name_of block) c) told.new) result handle.old handle.new }
+    ensures { Served (IsTold (table.cacount (name_of block) chunk) told.new) result handle.old handle.new }
 {
-    ask(alloc, handle, block, Ask::Cacount { c }, told)
+    ask(alloc, handle, block, Ask::Cacount { c: chunk }, told)
 }

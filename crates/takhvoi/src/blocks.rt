@@ -34,21 +34,21 @@ pub extern "C" fn takhvoi_mnew(alloc: Global, handle: &mut Handle, told: &mut u1
     status
 }
 
-fn mlock(system: &mut System, h: u16) -> u32
-    ensures { Done (IsAnswer (table.mlock h)) result system.old system.new }
+fn mlock(system: &mut System, block: u16) -> u32
+    ensures { Done (IsAnswer (table.mlock block)) result system.old system.new }
 {
-    end(system.kernel.mlock(h))
+    end(system.kernel.mlock(block))
 }
 
 /// Locks a block of memory once more.
 #[unsafe(no_mangle)]
-pub extern "C" fn takhvoi_mlock(alloc: Global, handle: &mut Handle, h: u16) -> u32
-    ensures { Served (IsAnswer (table.mlock h)) result handle.old handle.new }
+pub extern "C" fn takhvoi_mlock(alloc: Global, handle: &mut Handle, block: u16) -> u32
+    ensures { Served (IsAnswer (table.mlock block)) result handle.old handle.new }
 {
     let Some(mut system) = take(alloc, handle) else {
         return NO_KERNEL;
     };
-    let status = mlock(&mut system, h);
+    let status = mlock(&mut system, block);
     put(handle, system);
     status
 }
@@ -77,21 +77,21 @@ pub extern "C" fn takhvoi_unlock(alloc: Global, handle: &mut Handle, block: u32)
     status
 }
 
-fn mfree(system: &mut System, h: u16) -> u32
-    ensures { Done (IsAnswer (table.mfree h)) result system.old system.new }
+fn mfree(system: &mut System, block: u16) -> u32
+    ensures { Done (IsAnswer (table.mfree block)) result system.old system.new }
 {
-    end(system.kernel.mfree(h))
+    end(system.kernel.mfree(block))
 }
 
 /// Frees a block of memory that is not locked.
 #[unsafe(no_mangle)]
-pub extern "C" fn takhvoi_mfree(alloc: Global, handle: &mut Handle, h: u16) -> u32
-    ensures { Served (IsAnswer (table.mfree h)) result handle.old handle.new }
+pub extern "C" fn takhvoi_mfree(alloc: Global, handle: &mut Handle, block: u16) -> u32
+    ensures { Served (IsAnswer (table.mfree block)) result handle.old handle.new }
 {
     let Some(mut system) = take(alloc, handle) else {
         return NO_KERNEL;
     };
-    let status = mfree(&mut system, h);
+    let status = mfree(&mut system, block);
     put(handle, system);
     status
 }
@@ -116,13 +116,18 @@ pub extern "C" fn takhvoi_locks(
 
 /// Tells whether a block of the VM file, or a group, is marked: 1 or 0; 0 where there is none.
 #[unsafe(no_mangle)]
-pub extern "C" fn takhvoi_marked(alloc: Global, handle: &mut Handle, h: u16, told: &mut u16) -> u32
-    ensures { Served (Looks (IsFlag told.new (is_marked_in (held_at handle.old.value.kernel.core.vm h)))) result handle.old handle.new }
+pub extern "C" fn takhvoi_marked(
+    alloc: Global,
+    handle: &mut Handle,
+    block: u16,
+    told: &mut u16,
+) -> u32
+    ensures { Served (Looks (IsFlag told.new (is_marked_in (held_at handle.old.value.kernel.core.vm block)))) result handle.old handle.new }
 {
     let Some(system) = take(alloc, handle) else {
         return NO_KERNEL;
     };
-    *told = u16::from(system.kernel.marked(h));
+    *told = u16::from(system.kernel.marked(block));
     put(handle, system);
     DONE
 }

@@ -106,20 +106,20 @@ pub extern "C" fn takhvoi_lalloc(
     alloc: Global,
     handle: &mut Handle,
     block: u32,
-    n: u16,
+    len: u16,
     told: &mut u16,
 ) -> u32
-    ensures { Served (IsTold (table.lalloc (name_of block) n) told.new) result handle.old handle.new }
+    ensures { Served (IsTold (table.lalloc (name_of block) len) told.new) result handle.old handle.new }
 {
-    make(alloc, handle, block, Make::Lalloc { n }, told)
+    make(alloc, handle, block, Make::Lalloc { n: len }, told)
 }
 
 /// Frees a chunk.
 #[unsafe(no_mangle)]
-pub extern "C" fn takhvoi_lfree(alloc: Global, handle: &mut Handle, block: u32, c: u16) -> u32
-    ensures { Served (IsAnswer (table.lfree (name_of block) c)) result handle.old handle.new }
+pub extern "C" fn takhvoi_lfree(alloc: Global, handle: &mut Handle, block: u32, chunk: u16) -> u32
+    ensures { Served (IsAnswer (table.lfree (name_of block) chunk)) result handle.old handle.new }
 {
-    change(alloc, handle, block, Change::Lfree { c })
+    change(alloc, handle, block, Change::Lfree { c: chunk })
 }
 
 /// Gives a chunk so many bytes: its first ones that fit, and zeros behind them.
@@ -128,12 +128,12 @@ pub extern "C" fn takhvoi_lrealloc(
     alloc: Global,
     handle: &mut Handle,
     block: u32,
-    c: u16,
-    n: u16,
+    chunk: u16,
+    len: u16,
 ) -> u32
-    ensures { Served (IsAnswer (table.lrealloc (name_of block) c n)) result handle.old handle.new }
+    ensures { Served (IsAnswer (table.lrealloc (name_of block) chunk len)) result handle.old handle.new }
 {
-    change(alloc, handle, block, Change::Lrealloc { c, n })
+    change(alloc, handle, block, Change::Lrealloc { c: chunk, n: len })
 }
 
 /// Inserts zero bytes into a chunk.
@@ -142,13 +142,22 @@ pub extern "C" fn takhvoi_lins(
     alloc: Global,
     handle: &mut Handle,
     block: u32,
-    c: u16,
+    chunk: u16,
     at: u16,
-    n: u16,
+    len: u16,
 ) -> u32
-    ensures { Served (IsAnswer (table.lins (name_of block) c at n)) result handle.old handle.new }
+    ensures { Served (IsAnswer (table.lins (name_of block) chunk at len)) result handle.old handle.new }
 {
-    change(alloc, handle, block, Change::Lins { c, at, n })
+    change(
+        alloc,
+        handle,
+        block,
+        Change::Lins {
+            c: chunk,
+            at,
+            n: len,
+        },
+    )
 }
 
 /// Deletes bytes of a chunk.
@@ -157,13 +166,22 @@ pub extern "C" fn takhvoi_ldel(
     alloc: Global,
     handle: &mut Handle,
     block: u32,
-    c: u16,
+    chunk: u16,
     at: u16,
-    n: u16,
+    len: u16,
 ) -> u32
-    ensures { Served (IsAnswer (table.ldel (name_of block) c at n)) result handle.old handle.new }
+    ensures { Served (IsAnswer (table.ldel (name_of block) chunk at len)) result handle.old handle.new }
 {
-    change(alloc, handle, block, Change::Ldel { c, at, n })
+    change(
+        alloc,
+        handle,
+        block,
+        Change::Ldel {
+            c: chunk,
+            at,
+            n: len,
+        },
+    )
 }
 
 /// Moves the chunks of a block together, so that its free bytes are in one piece.
@@ -180,10 +198,10 @@ pub extern "C" fn takhvoi_lsize(
     alloc: Global,
     handle: &mut Handle,
     block: u32,
-    c: u16,
+    chunk: u16,
     told: &mut u16,
 ) -> u32
-    ensures { Served (IsTold (table.lsize (name_of block) c) told.new) result handle.old handle.new }
+    ensures { Served (IsTold (table.lsize (name_of block) chunk) told.new) result handle.old handle.new }
 {
-    ask(alloc, handle, block, Ask::Lsize { c }, told)
+    ask(alloc, handle, block, Ask::Lsize { c: chunk }, told)
 }

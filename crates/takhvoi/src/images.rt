@@ -202,7 +202,7 @@ fn run_in(
     if !is_performed(kernel) {
         return PENDING;
     }
-    let outcome = machine.run(checked, routine, words, handles, kernel);
+    let outcome = machine.run_in_place(checked, routine, words, handles, kernel);
     rest(kernel, *hosted);
     *words = outcome.words;
     *steps = outcome.steps;

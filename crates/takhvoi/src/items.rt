@@ -32,39 +32,39 @@ pub extern "C" fn takhvoi_gnew(alloc: Global, handle: &mut Handle, told: &mut u1
     status
 }
 
-fn gfree(system: &mut System, g: u16) -> u32
-    ensures { Done (IsAnswer (table.gfree g)) result system.old system.new }
+fn gfree(system: &mut System, group: u16) -> u32
+    ensures { Done (IsAnswer (table.gfree group)) result system.old system.new }
 {
-    end(system.kernel.gfree(g))
+    end(system.kernel.gfree(group))
 }
 
 /// Frees a group that is not locked, with its items.
 #[unsafe(no_mangle)]
-pub extern "C" fn takhvoi_gfree(alloc: Global, handle: &mut Handle, g: u16) -> u32
-    ensures { Served (IsAnswer (table.gfree g)) result handle.old handle.new }
+pub extern "C" fn takhvoi_gfree(alloc: Global, handle: &mut Handle, group: u16) -> u32
+    ensures { Served (IsAnswer (table.gfree group)) result handle.old handle.new }
 {
     let Some(mut system) = take(alloc, handle) else {
         return NO_KERNEL;
     };
-    let status = gfree(&mut system, g);
+    let status = gfree(&mut system, group);
     put(handle, system);
     status
 }
 
-fn make_in(system: &mut System, g: u16, make: Make, told: &mut u16) -> u32
-    ensures { Done (IsTold (table.on_group g (make_row (vm g) make)) told.new) result system.old system.new }
+fn make_in(system: &mut System, group: u16, make: Make, told: &mut u16) -> u32
+    ensures { Done (IsTold (table.on_group group (make_row (vm group) make)) told.new) result system.old system.new }
 {
-    tell(system.kernel.item_make(g, make), told)
+    tell(system.kernel.item_make(group, make), told)
 }
 
 /// Makes an item of a group, as the value says, and tells its handle.
-fn make(alloc: Global, handle: &mut Handle, g: u16, make: Make, told: &mut u16) -> u32
-    ensures { Served (IsTold (table.on_group g (make_row (vm g) make)) told.new) result handle.old handle.new }
+fn make(alloc: Global, handle: &mut Handle, group: u16, make: Make, told: &mut u16) -> u32
+    ensures { Served (IsTold (table.on_group group (make_row (vm group) make)) told.new) result handle.old handle.new }
 {
     let Some(mut system) = take(alloc, handle) else {
         return NO_KERNEL;
     };
-    let status = make_in(&mut system, g, make, told);
+    let status = make_in(&mut system, group, make, told);
     put(handle, system);
     status
 }
@@ -74,39 +74,39 @@ fn make(alloc: Global, handle: &mut Handle, g: u16, make: Make, told: &mut u16) 
 pub extern "C" fn takhvoi_inew(
     alloc: Global,
     handle: &mut Handle,
-    g: u16,
-    n: u16,
+    group: u16,
+    len: u16,
     told: &mut u16,
 ) -> u32
-    ensures { Served (IsTold (table.inew g n) told.new) result handle.old handle.new }
+    ensures { Served (IsTold (table.inew group len) told.new) result handle.old handle.new }
 {
-    make(alloc, handle, g, Make::Lalloc { n }, told)
+    make(alloc, handle, group, Make::Lalloc { n: len }, told)
 }
 
-fn change_in(system: &mut System, g: u16, change: Change) -> u32
-    ensures { Done (IsAnswer (table.on_group g (change_row (vm g) change))) result system.old system.new }
+fn change_in(system: &mut System, group: u16, change: Change) -> u32
+    ensures { Done (IsAnswer (table.on_group group (change_row (vm group) change))) result system.old system.new }
 {
-    end(system.kernel.item_change(g, change))
+    end(system.kernel.item_change(group, change))
 }
 
 /// Changes the items of a group, as the value says.
-fn change(alloc: Global, handle: &mut Handle, g: u16, change: Change) -> u32
-    ensures { Served (IsAnswer (table.on_group g (change_row (vm g) change))) result handle.old handle.new }
+fn change(alloc: Global, handle: &mut Handle, group: u16, change: Change) -> u32
+    ensures { Served (IsAnswer (table.on_group group (change_row (vm group) change))) result handle.old handle.new }
 {
     let Some(mut system) = take(alloc, handle) else {
         return NO_KERNEL;
     };
-    let status = change_in(&mut system, g, change);
+    let status = change_in(&mut system, group, change);
     put(handle, system);
     status
 }
 
 /// Frees an item.
 #[unsafe(no_mangle)]
-pub extern "C" fn takhvoi_ifree(alloc: Global, handle: &mut Handle, g: u16, i: u16) -> u32
-    ensures { Served (IsAnswer (table.ifree g i)) result handle.old handle.new }
+pub extern "C" fn takhvoi_ifree(alloc: Global, handle: &mut Handle, group: u16, item: u16) -> u32
+    ensures { Served (IsAnswer (table.ifree group item)) result handle.old handle.new }
 {
-    change(alloc, handle, g, Change::Lfree { c: i })
+    change(alloc, handle, group, Change::Lfree { c: item })
 }
 
 /// Gives an item so many bytes: its first ones that fit, and zeros behind them.
@@ -114,13 +114,13 @@ pub extern "C" fn takhvoi_ifree(alloc: Global, handle: &mut Handle, g: u16, i: u
 pub extern "C" fn takhvoi_irealloc(
     alloc: Global,
     handle: &mut Handle,
-    g: u16,
-    i: u16,
-    n: u16,
+    group: u16,
+    item: u16,
+    len: u16,
 ) -> u32
-    ensures { Served (IsAnswer (table.irealloc g i n)) result handle.old handle.new }
+    ensures { Served (IsAnswer (table.irealloc group item len)) result handle.old handle.new }
 {
-    change(alloc, handle, g, Change::Lrealloc { c: i, n })
+    change(alloc, handle, group, Change::Lrealloc { c: item, n: len })
 }
 
 /// Inserts zero bytes into an item.
@@ -128,14 +128,23 @@ pub extern "C" fn takhvoi_irealloc(
 pub extern "C" fn takhvoi_iins(
     alloc: Global,
     handle: &mut Handle,
-    g: u16,
-    i: u16,
+    group: u16,
+    item: u16,
     at: u16,
-    n: u16,
+    len: u16,
 ) -> u32
-    ensures { Served (IsAnswer (table.iins g i at n)) result handle.old handle.new }
+    ensures { Served (IsAnswer (table.iins group item at len)) result handle.old handle.new }
 {
-    change(alloc, handle, g, Change::Lins { c: i, at, n })
+    change(
+        alloc,
+        handle,
+        group,
+        Change::Lins {
+            c: item,
+            at,
+            n: len,
+        },
+    )
 }
 
 /// Deletes bytes of an item.
@@ -143,20 +152,29 @@ pub extern "C" fn takhvoi_iins(
 pub extern "C" fn takhvoi_idel(
     alloc: Global,
     handle: &mut Handle,
-    g: u16,
-    i: u16,
+    group: u16,
+    item: u16,
     at: u16,
-    n: u16,
+    len: u16,
 ) -> u32
-    ensures { Served (IsAnswer (table.idel g i at n)) result handle.old handle.new }
+    ensures { Served (IsAnswer (table.idel group item at len)) result handle.old handle.new }
 {
-    change(alloc, handle, g, Change::Ldel { c: i, at, n })
+    change(
+        alloc,
+        handle,
+        group,
+        Change::Ldel {
+            c: item,
+            at,
+            n: len,
+        },
+    )
 }
 
-fn ilock(system: &mut System, g: u16, i: u16, told: &mut u16) -> u32
-    ensures { Done (IsReferred (table.ilock g i 0) told.new) result system.old system.new }
+fn ilock(system: &mut System, group: u16, item: u16, told: &mut u16) -> u32
+    ensures { Done (IsReferred (table.ilock group item 0) told.new) result system.old system.new }
 {
-    match system.kernel.ilock(g, i, 0) {
+    match system.kernel.ilock(group, item, 0) {
         Ok(span) => {
             *told = span.len;
             DONE
@@ -170,26 +188,26 @@ fn ilock(system: &mut System, g: u16, i: u16, told: &mut u16) -> u32
 pub extern "C" fn takhvoi_ilock(
     alloc: Global,
     handle: &mut Handle,
-    g: u16,
-    i: u16,
+    group: u16,
+    item: u16,
     told: &mut u16,
 ) -> u32
-    ensures { Served (IsReferred (table.ilock g i 0) told.new) result handle.old handle.new }
+    ensures { Served (IsReferred (table.ilock group item 0) told.new) result handle.old handle.new }
 {
     let Some(mut system) = take(alloc, handle) else {
         return NO_KERNEL;
     };
-    let status = ilock(&mut system, g, i, told);
+    let status = ilock(&mut system, group, item, told);
     put(handle, system);
     status
 }
 
-fn igetmap(system: &mut System, g: &mut u16, i: &mut u16) -> u32
-    ensures { Done (IsToldTwo table.igetmap g.new i.new) result system.old system.new }
+fn igetmap(system: &mut System, group: &mut u16, item: &mut u16) -> u32
+    ensures { Done (IsToldTwo table.igetmap group.new item.new) result system.old system.new }
 {
-    let (group, item) = system.kernel.igetmap();
-    *g = group;
-    *i = item;
+    let map = system.kernel.igetmap();
+    *group = map.0;
+    *item = map.1;
     DONE
 }
 
@@ -198,34 +216,34 @@ fn igetmap(system: &mut System, g: &mut u16, i: &mut u16) -> u32
 pub extern "C" fn takhvoi_igetmap(
     alloc: Global,
     handle: &mut Handle,
-    g: &mut u16,
-    i: &mut u16,
+    group: &mut u16,
+    item: &mut u16,
 ) -> u32
-    ensures { Served (IsToldTwo table.igetmap g.new i.new) result handle.old handle.new }
+    ensures { Served (IsToldTwo table.igetmap group.new item.new) result handle.old handle.new }
 {
     let Some(mut system) = take(alloc, handle) else {
         return NO_KERNEL;
     };
-    let status = igetmap(&mut system, g, i);
+    let status = igetmap(&mut system, group, item);
     put(handle, system);
     status
 }
 
-fn isetmap(system: &mut System, g: u16, i: u16) -> u32
-    ensures { Done (IsAnswer (table.isetmap g i)) result system.old system.new }
+fn isetmap(system: &mut System, group: u16, item: u16) -> u32
+    ensures { Done (IsAnswer (table.isetmap group item)) result system.old system.new }
 {
-    end(system.kernel.isetmap(g, i))
+    end(system.kernel.isetmap(group, item))
 }
 
 /// Names the map item; the group 0 and the item 0 for none.
 #[unsafe(no_mangle)]
-pub extern "C" fn takhvoi_isetmap(alloc: Global, handle: &mut Handle, g: u16, i: u16) -> u32
-    ensures { Served (IsAnswer (table.isetmap g i)) result handle.old handle.new }
+pub extern "C" fn takhvoi_isetmap(alloc: Global, handle: &mut Handle, group: u16, item: u16) -> u32
+    ensures { Served (IsAnswer (table.isetmap group item)) result handle.old handle.new }
 {
     let Some(mut system) = take(alloc, handle) else {
         return NO_KERNEL;
     };
-    let status = isetmap(&mut system, g, i);
+    let status = isetmap(&mut system, group, item);
     put(handle, system);
     status
 }

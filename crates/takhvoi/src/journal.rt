@@ -51,18 +51,18 @@ fn tell_step(step: Option<&Step>, kind: &mut u16, at: &mut u64, len: &mut u64)
 pub extern "C" fn takhvoi_step(
     alloc: Global,
     handle: &mut Handle,
-    n: u32,
+    number: u32,
     kind: &mut u16,
     at: &mut u64,
     len: &mut u64,
 ) -> u32
-    ensures { Served (Looks (IsStep (step_at handle.old.value n) kind.new at.new len.new)) result handle.old handle.new }
+    ensures { Served (Looks (IsStep (step_at handle.old.value number) kind.new at.new len.new)) result handle.old handle.new }
 {
     let Some(system) = take(alloc, handle) else {
         return NO_KERNEL;
     };
     tell_step(
-        system.kernel.device().journal().get(n as usize),
+        system.kernel.device().journal().get(number as usize),
         kind,
         at,
         len,
@@ -93,16 +93,20 @@ fn copy_step(step: Option<&Step>, from: u64, into: &mut [u8]) -> u32
 pub extern "C" fn takhvoi_step_bytes(
     alloc: Global,
     handle: &mut Handle,
-    n: u32,
+    number: u32,
     from: u64,
     into: &mut [u8],
 ) -> u32
-    ensures { Served (Looks (HasBytes (step_at handle.old.value n) from into.new)) result handle.old handle.new }
+    ensures { Served (Looks (HasBytes (step_at handle.old.value number) from into.new)) result handle.old handle.new }
 {
     let Some(system) = take(alloc, handle) else {
         return NO_KERNEL;
     };
-    let status = copy_step(system.kernel.device().journal().get(n as usize), from, into);
+    let status = copy_step(
+        system.kernel.device().journal().get(number as usize),
+        from,
+        into,
+    );
     put(handle, system);
     status
 }

@@ -32,29 +32,29 @@ pub extern "C" fn takhvoi_vnew(alloc: Global, handle: &mut Handle, uid: u16, tol
     status
 }
 
-fn vlock(system: &mut System, h: u16) -> u32
-    ensures { Done (IsAnswer (table.vlock h)) result system.old system.new }
+fn vlock(system: &mut System, block: u16) -> u32
+    ensures { Done (IsAnswer (table.vlock block)) result system.old system.new }
 {
-    end(system.kernel.vlock(h))
+    end(system.kernel.vlock(block))
 }
 
 /// Locks a block of the VM file once more, which brings it into memory.
 #[unsafe(no_mangle)]
-pub extern "C" fn takhvoi_vlock(alloc: Global, handle: &mut Handle, h: u16) -> u32
-    ensures { Served (IsAnswer (table.vlock h)) result handle.old handle.new }
+pub extern "C" fn takhvoi_vlock(alloc: Global, handle: &mut Handle, block: u16) -> u32
+    ensures { Served (IsAnswer (table.vlock block)) result handle.old handle.new }
 {
     let Some(mut system) = take(alloc, handle) else {
         return NO_KERNEL;
     };
-    let status = vlock(&mut system, h);
+    let status = vlock(&mut system, block);
     put(handle, system);
     status
 }
 
-fn vdirty(system: &mut System, h: u16) -> u32
-    ensures { Done (IsAnswer (table.vdirty h)) result system.old system.new }
+fn vdirty(system: &mut System, block: u16) -> u32
+    ensures { Done (IsAnswer (table.vdirty block)) result system.old system.new }
 {
-    let name = Name::vm(h);
+    let name = Name::vm(block);
     if system.kernel.locks(name) == 0 {
         return NOT_LOCKED;
     }
@@ -64,32 +64,32 @@ fn vdirty(system: &mut System, h: u16) -> u32
 
 /// Marks a block of the VM file, or a group, that is locked: a commit will write it.
 #[unsafe(no_mangle)]
-pub extern "C" fn takhvoi_vdirty(alloc: Global, handle: &mut Handle, h: u16) -> u32
-    ensures { Served (IsAnswer (table.vdirty h)) result handle.old handle.new }
+pub extern "C" fn takhvoi_vdirty(alloc: Global, handle: &mut Handle, block: u16) -> u32
+    ensures { Served (IsAnswer (table.vdirty block)) result handle.old handle.new }
 {
     let Some(mut system) = take(alloc, handle) else {
         return NO_KERNEL;
     };
-    let status = vdirty(&mut system, h);
+    let status = vdirty(&mut system, block);
     put(handle, system);
     status
 }
 
-fn vfree(system: &mut System, h: u16) -> u32
-    ensures { Done (IsAnswer (table.vfree h)) result system.old system.new }
+fn vfree(system: &mut System, block: u16) -> u32
+    ensures { Done (IsAnswer (table.vfree block)) result system.old system.new }
 {
-    end(system.kernel.vfree(h))
+    end(system.kernel.vfree(block))
 }
 
 /// Frees a block of the VM file that is not locked.
 #[unsafe(no_mangle)]
-pub extern "C" fn takhvoi_vfree(alloc: Global, handle: &mut Handle, h: u16) -> u32
-    ensures { Served (IsAnswer (table.vfree h)) result handle.old handle.new }
+pub extern "C" fn takhvoi_vfree(alloc: Global, handle: &mut Handle, block: u16) -> u32
+    ensures { Served (IsAnswer (table.vfree block)) result handle.old handle.new }
 {
     let Some(mut system) = take(alloc, handle) else {
         return NO_KERNEL;
     };
-    let status = vfree(&mut system, h);
+    let status = vfree(&mut system, block);
     put(handle, system);
     status
 }
@@ -119,21 +119,26 @@ pub extern "C" fn takhvoi_vfind(
     status
 }
 
-fn vuid(system: &mut System, h: u16, told: &mut u16) -> u32
-    ensures { Done (IsTold (table.vuid h) told.new) result system.old system.new }
+fn vuid(system: &mut System, block: u16, told: &mut u16) -> u32
+    ensures { Done (IsTold (table.vuid block) told.new) result system.old system.new }
 {
-    tell(system.kernel.vuid(h), told)
+    tell(system.kernel.vuid(block), told)
 }
 
 /// Tells the user ID of a block of the VM file, or of a group.
 #[unsafe(no_mangle)]
-pub extern "C" fn takhvoi_vuid(alloc: Global, handle: &mut Handle, h: u16, told: &mut u16) -> u32
-    ensures { Served (IsTold (table.vuid h) told.new) result handle.old handle.new }
+pub extern "C" fn takhvoi_vuid(
+    alloc: Global,
+    handle: &mut Handle,
+    block: u16,
+    told: &mut u16,
+) -> u32
+    ensures { Served (IsTold (table.vuid block) told.new) result handle.old handle.new }
 {
     let Some(mut system) = take(alloc, handle) else {
         return NO_KERNEL;
     };
-    let status = vuid(&mut system, h, told);
+    let status = vuid(&mut system, block, told);
     put(handle, system);
     status
 }
@@ -158,21 +163,21 @@ pub extern "C" fn takhvoi_vgetmap(alloc: Global, handle: &mut Handle, told: &mut
     status
 }
 
-fn vsetmap(system: &mut System, h: u16) -> u32
-    ensures { Done (IsAnswer (table.vsetmap h)) result system.old system.new }
+fn vsetmap(system: &mut System, block: u16) -> u32
+    ensures { Done (IsAnswer (table.vsetmap block)) result system.old system.new }
 {
-    end(system.kernel.vsetmap(h))
+    end(system.kernel.vsetmap(block))
 }
 
 /// Names the map block; 0 for none.
 #[unsafe(no_mangle)]
-pub extern "C" fn takhvoi_vsetmap(alloc: Global, handle: &mut Handle, h: u16) -> u32
-    ensures { Served (IsAnswer (table.vsetmap h)) result handle.old handle.new }
+pub extern "C" fn takhvoi_vsetmap(alloc: Global, handle: &mut Handle, block: u16) -> u32
+    ensures { Served (IsAnswer (table.vsetmap block)) result handle.old handle.new }
 {
     let Some(mut system) = take(alloc, handle) else {
         return NO_KERNEL;
     };
-    let status = vsetmap(&mut system, h);
+    let status = vsetmap(&mut system, block);
     put(handle, system);
     status
 }

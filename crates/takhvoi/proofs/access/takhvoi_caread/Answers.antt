@@ -8,6 +8,6 @@ use Rattle.takhvoi.proofs.access.takhvoi_caread.Goals as goal
 
 pub returns-in-Some : goal.returns-in-Some
 returns-in-Some c =
-    subst (λ n. Served (IsCopied (table.caelt (name_of c.args.block) c.args.c c.args.i n) c.args.at c.read.new.into)
+    subst (λ n. Served (IsCopied (table.caelt (name_of c.args.block) c.args.chunk c.args.index n) c.args.at c.read.new.into)
     c.read.result c.args.handle.now c.read.new.handle)
     c.in-Some.ensures c.read.ensures

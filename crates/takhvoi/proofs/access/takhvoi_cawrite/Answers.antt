@@ -8,6 +8,6 @@ use Rattle.takhvoi.proofs.access.takhvoi_cawrite.Goals as goal
 
 pub returns-in-Some : goal.returns-in-Some
 returns-in-Some c =
-    subst (λ n. Served (IsWritten (table.caelt (name_of c.args.block) c.args.c c.args.i n) c.args.at c.args.from.now)
+    subst (λ n. Served (IsWritten (table.caelt (name_of c.args.block) c.args.chunk c.args.index n) c.args.at c.args.from.now)
     c.write.result c.args.handle.now c.write.new.handle)
     c.in-Some.ensures c.write.ensures

@@ -8,6 +8,6 @@ use Rattle.takhvoi.proofs.access.takhvoi_read.Goals as goal
 
 pub returns-in-Some : goal.returns-in-Some
 returns-in-Some c =
-    subst (λ n. Served (IsCopied (table.deref (name_of c.args.block) c.args.c n) c.args.at c.read.new.into) c.read.result
+    subst (λ n. Served (IsCopied (table.deref (name_of c.args.block) c.args.chunk n) c.args.at c.read.new.into) c.read.result
     c.args.handle.now c.read.new.handle)
     c.in-Some.ensures c.read.ensures

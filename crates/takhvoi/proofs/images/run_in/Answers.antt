@@ -13,16 +13,16 @@ returns c =
     let system = c.args.system.now in
     let old = system.kernel in
     let image = c.in-Some.checked.now in
-    let outcome = c.run-outcome.result in
-    let left = c.run-outcome.new.kernel.device in
+    let outcome = c.run_in_place-outcome.result.now in
+    let left = c.run_in_place-outcome.new.kernel.device in
     let loaded : slice_get system.images.items c.args.number ≡ Some (Some image) = c.in-Some.ensures in
     let ran : (f : VmFile) → IsFileOf (Unit {0}) old.core f
     → RanWith (Unit {0}) (Throughout medium old.device left) image c.args.routine c.args.words.now c.args.handles.now
-    old.core c.run-outcome.new.kernel.core outcome f = c.run-outcome.ensures.ran in
+    old.core c.run_in_place-outcome.new.kernel.core outcome f = c.run_in_place-outcome.ensures.ran in
     let put : take (length outcome.output.items) c.put_words.new.into ≡ take (length c.args.output.now) outcome.output.items =
     subst (λ ws. take (length ws) c.put_words.new.into ≡ take (length c.args.output.now) ws) c.as_slice.ensures.value c.put_words.ensures in
     let count : c.len.result ≡ length outcome.output.items = search rules in
-    let within : IfSome (slice_get image.routines c.args.routine) (λ r. outcome.steps ≤ r.budget) = c.run-outcome.ensures.budget in (
+    let within : IfSome (slice_get image.routines c.args.routine) (λ r. outcome.steps ≤ r.budget) = c.run_in_place-outcome.ensures.budget in (
       refl,
       (λ came. record {
         done = refl;

@@ -9,6 +9,6 @@ use Rattle.takhvoi.proofs.items.make.Goals as goal
 
 pub returns : goal.returns
 returns c =
-    let came = IsTold (table.on_group c.args.g (make_row (vm c.args.g) c.args.make)) c.make_in-status.new.told in
+    let came = IsTold (table.on_group c.args.group (make_row (vm c.args.group) c.args.make)) c.make_in-status.new.told in
     served came c.make_in-status.result c.args.handle.now c.put.new.handle _ _ c.in-Some.ensures.some.0
     (c.deref_mut.ensures.value ∙ c.in-Some.ensures.some.1) c.put.ensures.live c.put.ensures.value c.make_in-status.ensures
