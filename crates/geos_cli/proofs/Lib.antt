@@ -7,6 +7,7 @@ pub mod InFormRun
 pub mod MayCommit
 pub mod NamedRun
 pub mod Parts
+pub mod PlainLines
 pub mod Prints
 pub mod CommandsRun
 pub mod Commits
@@ -14,6 +15,7 @@ pub mod Registers
 pub mod RunsKeep
 pub mod Searches
 pub mod Sessions
+pub mod SpacedWords
 pub mod StepsKeep
 pub mod LentLocks
 pub mod LentRuns

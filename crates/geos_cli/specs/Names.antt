@@ -55,6 +55,16 @@ abbrev pub behind_arrow : List (List ℕ) → Option (List (List ℕ))
 behind_arrow [] = None
 behind_arrow (w ∷ ws) = if is_arrow w then Some ws else behind_arrow ws
 
+-- a word begins with `$`
+abbrev pub begins_name : List ℕ → Bool
+begins_name [] = false
+begins_name (b ∷ name) = b == 36
+
+-- a word writes a name, also behind an `@`; or it is `->`
+abbrev pub writes_name : List ℕ → Bool
+writes_name [] = false
+writes_name (b ∷ rest) = b == 36 || (b == 64 && begins_name rest) || is_arrow (b ∷ rest)
+
 -- a letter, a digit or an underscore
 abbrev pub is_name_byte : ℕ → Bool
 is_name_byte b = is_ascii_alphanumeric b || b == 95
