@@ -1,6 +1,6 @@
 -- Lines and scripts that write no name.
-use Rattle.std.proofs.Common.{◌≡◌, ℕ, ◌+◌, Bool, true, false, not, ◌||◌, ◌&&◌, List, [], ◌∷◌, ◌++◌, Option, Some, None, refl, sym, ap, ◌∙◌, subst}
-use Rattle.std.specs.Prelude.{◌==◌, All, is_none, option_map, option_and_then, if◌then◌else◌}
+use Rattle.std.proofs.Common.{◌≡◌, ℕ, ◌+◌, Bool, true, false, ◌||◌, ◌&&◌, List, [], ◌∷◌, ◌++◌, Option, Some, None, refl, sym, ap, ◌∙◌, subst}
+use Rattle.std.specs.Prelude.{◌==◌, is_none, option_map, option_and_then, if◌then◌else◌}
 use Rattle.std.specs.List.{AllByRecursion, cons_option, position_from}
 use Rattle.std.specs.Str.Lines.{lines}
 use Rattle.std.proofs.lemmas.Bool.{eqb-true}
@@ -15,8 +15,8 @@ use Rattle.geos_cli.specs.declared.script.Command.TheVariants as command
 use Rattle.geos_cli.specs.declared.script.Mode.{Mode}
 use Rattle.geos_cli.proofs.SpacedWords.{spaced, spaced-again}
 use Rattle.geos_cli.specs.InForm.{RunsInForm}
-use Rattle.geos_cli.specs.Names.{Names, Said, begins_name, behind_arrow, command_in, first_bad_in, first_put_out, if_kept, in_place, is_arrow, is_bad_in, lines_said, may_keep, names_behind, number_in_place, said_from, word_in_place, writes_name}
-use Rattle.geos_cli.specs.Plain.{IsPlain, PlainLinesSay, PlainScriptsAreBad, PlainScriptsRun, WritesNone}
+use Rattle.geos_cli.specs.Names.{Names, Said, begins_name, behind_arrow, command_in, first_bad_in, first_put_out, if_kept, in_place, is_arrow, is_bad_in, names_behind, number_in_place, said_from, word_in_place, writes_name}
+use Rattle.geos_cli.specs.Plain.{PlainLinesSay, PlainScriptsAreBad, PlainScriptsRun, WritesNone}
 use Rattle.geos_cli.specs.Script.{command_of, commands_from, is_bad, on_line, said}
 use Rattle.geos_cli.specs.WithNames.{RunsLines}
 
