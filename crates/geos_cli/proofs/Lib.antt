@@ -1,4 +1,5 @@
 pub mod BytesPut
+pub mod BytesWays
 pub mod CallRuns
 pub mod Commands
 pub mod Examples
