@@ -18,5 +18,6 @@ pub mod Searches
 pub mod Sessions
 pub mod SpacedWords
 pub mod StepsKeep
+pub mod TracedRuns
 pub mod LentLocks
 pub mod LentRuns
