@@ -219,7 +219,8 @@ module _ {D : Type 0} (medium : Medium D) where
   opened-chunk old locked h c n span alike first at_once kept f tied (Err why, calls, none) long may = absurd none
   opened-chunk old locked h c n span alike first at_once kept f tied (Ok ref, calls, stands) long may =
       let done = calls.answers f tied in
-      let answer = done-answer (effect_of (deref (vm h) c n) done.choice (memory_of locked.core f)) ref (memory_of locked.core done.file) done.comes in
+      let answer =
+      done-answer (effect_of (deref (vm h) c n) done.choice (memory_of locked.core f)) ref (memory_of locked.core done.file) done.comes in
       record {
         ref = ref;
         leads = then-comes medium old locked locked alike (Comes (IsAllowed (medium.honest old.device)) (vlock h) (Ok tt)) (deref (vm h) c n)
@@ -295,7 +296,8 @@ module _ {D : Type 0} (medium : Medium D) where
   pub resized-chunk : (old locked marked resized new : KernelOn D) (h c n : ℕ) (r : Result (Unit {0}) Refusal)
       → (medium.honest locked.device ↔ medium.honest old.device) → (medium.honest marked.device ↔ medium.honest locked.device)
       → (medium.honest resized.device ↔ medium.honest marked.device)
-      → LeadsOn medium old locked (λ allows. Comes allows (vlock h) (Ok tt)) → LeadsOn medium locked marked (λ allows. Comes allows (vdirty h) (Ok tt))
+      → LeadsOn medium old locked (λ allows. Comes allows (vlock h) (Ok tt))
+      → LeadsOn medium locked marked (λ allows. Comes allows (vdirty h) (Ok tt))
       → LeadsOn medium marked resized (λ allows. Comes allows (lrealloc (vm h) c n) r)
       → LeadsOn medium resized new (λ allows. Comes allows (vunlock h) (Ok tt))
       → OnOk r (LeadsOn medium old new (λ allows. Resizes allows (Chunk h c) n))
@@ -320,7 +322,8 @@ module _ {D : Type 0} (medium : Medium D) where
   -- bytes were put in the place of all
   pub put-all : (old resized new : KernelOn D) (place : Place) (end : ℕ) (bytes : List ℕ) (r : Result (Unit {0}) Refusal) → end ≡ 0 + length bytes
       → (medium.honest resized.device ↔ medium.honest old.device) → LeadsOn medium old resized (λ allows. Resizes allows place end)
-      → OnOk r (LeadsOn medium resized new (λ allows. Writes allows place 0 bytes)) → OnOk r (LeadsOn medium old new (λ allows. Puts allows place None bytes))
+      → OnOk r (LeadsOn medium resized new (λ allows. Writes allows place 0 bytes))
+      → OnOk r (LeadsOn medium old new (λ allows. Puts allows place None bytes))
   put-all old resized new place end bytes (Err why) e alike R W = tt
   put-all old resized new place end bytes (Ok done) e alike R W =
       let same : end ≡ length bytes = omega (arith, e) in

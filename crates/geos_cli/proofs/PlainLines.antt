@@ -149,7 +149,8 @@ module _ {D : Type 0} (medium : Medium D) (form : Form) (mode : Mode) (image : P
       rest = said_from (n + 1) all
 
       -- the line is carried out, and those behind it
-      step : More left later (n + 1) all → RunsLines medium form mode image (record { number = n; words = said line } ∷ rest) names kernel left later text
+      step : More left later (n + 1) all
+          → RunsLines medium form mode image (record { number = n; words = said line } ∷ rest) names kernel left later text
           → RunsInForm medium form mode image (commands_from image n (line ∷ all)) kernel later text
       step more (c, between, plain, behind, result, named, ran, goes, others_ran, written) =
           let says : command_of image (said line) ≡ Some c = sym (plain-command image names (without_comment line) own) ∙ named in
@@ -166,7 +167,8 @@ module _ {D : Type 0} (medium : Medium D) (form : Form) (mode : Mode) (image : P
             written,
           )
 
-      go : (e : Bool) → is_empty (said line) ≡ e → More left later (n + 1) all → RunsInForm medium form mode image (commands_from image n (line ∷ all)) kernel later text
+      go : (e : Bool) → is_empty (said line) ≡ e → More left later (n + 1) all
+          → RunsInForm medium form mode image (commands_from image n (line ∷ all)) kernel later text
       go true e more =
           let skipped : said_from n (line ∷ all) ≡ rest = rw e refl in
           let none : commands_from image n (line ∷ all) ≡ commands_from image (n + 1) all =

@@ -19,7 +19,8 @@ use Rattle.geos_cli.proofs.Prints.{Wider, ran-wider}
 
 -- a run of which notes are taken, where more is allowed
 traces-wider : (P Q : Allows) → ((before now : ℕ) (choice : Choice) → P before now choice → Q before now choice)
-    → (image : Parts) (call : ScriptCall) (outcome : Outcome) (notes : Notes) → Wider (TracesOn P image call outcome notes) (TracesOn Q image call outcome notes)
+    → (image : Parts) (call : ScriptCall) (outcome : Outcome) (notes : Notes)
+    → Wider (TracesOn P image call outcome notes) (TracesOn Q image call outcome notes)
 unfolding ran-wider
 traces-wider P Q wider image call outcome notes before after keeps (ran, tells, k) = (
   ran-wider (P before.failed after.failed) (Q before.failed after.failed) (wider before.failed after.failed) image

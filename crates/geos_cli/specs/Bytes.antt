@@ -39,7 +39,8 @@ Reads allows ref i (byte ∷ bytes) = Then (Comes allows (load8 ref i) (Ok byte)
 
 -- a place is opened, and so many bytes are all that it has; it is closed
 abbrev pub Measures : Allows → Place → ℕ → Stage → Stage → List Kept → Type 0
-Measures allows place n before after keeps = (ref : Reference) × (ref.len ≡ n) × Then (Opens allows place 0 ref) (Closes allows place) before after keeps
+Measures allows place n before after keeps =
+    (ref : Reference) × (ref.len ≡ n) × Then (Opens allows place 0 ref) (Closes allows place) before after keeps
 
 -- a place is opened, these are all of its bytes, and it is closed
 abbrev pub Gets : Allows → Place → List ℕ → Stage → Stage → List Kept → Type 0

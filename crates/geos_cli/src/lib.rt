@@ -4,7 +4,7 @@
 //! | Module | Has |
 //! |---|---|
 //! | session | `run_session`: reads a session to its end, and runs it |
-//! | law | `other_calls_keep`: calls that may not commit leave what the device holds as it was; `plain_scripts_do_the_same`: scripts that write no name |
+//! | law | `other_calls_keep`: calls that may not commit leave what the device holds as it was; `plain_scripts_do_the_same` |
 //! | asked | which calls the machine may be asked for |
 //! | lines | what the lines of a script say |
 //! | lending | runs a routine on blocks that it borrows, which are locked for it |

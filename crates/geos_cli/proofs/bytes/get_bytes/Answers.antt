@@ -13,4 +13,5 @@ returns-in_ok-bytes-in-Ok-clause-got g c =
     let old = c.args.kernel.now in
     let opened = c.open.new.kernel in
     got-there medium old opened c.close.new.kernel c.args.place c.in-Ok.span c.in_ok-bytes-in-Ok.field-0.items c.in-Ok.ensures.opened
-    (g.met.D.Device.at_once opened.device) c.memory_is_legal.ensures.kept c.in_ok-bytes-in-Ok.ensures.loads c.in_ok-bytes-in-Ok.ensures.long c.close.ensures.leads
+    (g.met.D.Device.at_once opened.device) c.memory_is_legal.ensures.kept c.in_ok-bytes-in-Ok.ensures.loads c.in_ok-bytes-in-Ok.ensures.long
+    c.close.ensures.leads

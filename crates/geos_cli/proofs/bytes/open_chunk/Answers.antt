@@ -45,8 +45,8 @@ returns-in-Err g c =
     let locked = c.lock.new.kernel in
     record {
       opened = tt;
-      unwritten = unwritten_on medium old.device locked.device c.unlock.new.kernel.device (only_read medium old.device locked.device c.lock.ensures.reads)
-          (left_alone medium locked c.unlock.new.kernel c.unlock.ensures.vm);
+      unwritten = unwritten_on medium old.device locked.device c.unlock.new.kernel.device
+          (only_read medium old.device locked.device c.lock.ensures.reads) (left_alone medium locked c.unlock.new.kernel c.unlock.ensures.vm);
     }
 
 pub returns-in_err-lock-clause-unwritten : goal.returns-in_err-lock-clause-unwritten

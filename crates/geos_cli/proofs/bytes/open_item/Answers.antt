@@ -10,6 +10,7 @@ returns g c =
     let known = c.memory_is_legal.ensures.file in
     record {
       opened = item-opened medium old new c.args.i c.args.g c.args.n c.ilock.result (g.met.D.Device.at_once old.device)
-          c.memory_is_legal.ensures.kept known.0 known.1 c.ilock.ensures.device.between c.ilock.ensures.gives c.ilock.ensures.stands c.ilock.ensures.writable;
+          c.memory_is_legal.ensures.kept known.0 known.1 c.ilock.ensures.device.between c.ilock.ensures.gives
+          c.ilock.ensures.stands c.ilock.ensures.writable;
       unwritten = only_read medium old.device new.device c.ilock.ensures.device.reads;
     }

@@ -23,8 +23,8 @@ returns g c =
       leads = called medium old new (g.met.D.Device.at_once old.device) c.memory_is_legal.ensures.kept (lrealloc (vm c.args.h) c.args.c c.args.n)
           result between.stops calls;
       locked = resize-locked medium old new c.args.h known.0 known.1 (c.memory_is_legal.ensures.locks known.0 known.1 (vm c.args.h))
-          (λ f tied. c.memory_is_legal-2.ensures.locks f (file-on (medium.honest old.device) (medium.honest new.device) between.honest.0 new.core f tied)
-          (vm c.args.h)) c.args.c c.args.n result calls c.requires.locked;
+          (λ f tied. c.memory_is_legal-2.ensures.locks f (file-on (medium.honest old.device) (medium.honest new.device) between.honest.0 new.core f
+          tied) (vm c.args.h)) c.args.c c.args.n result calls c.requires.locked;
       honest = between.honest;
       unwritten = left_alone medium old new c.lrealloc-done.ensures.vm;
     }
