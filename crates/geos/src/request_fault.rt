@@ -36,9 +36,6 @@ pub(crate) enum RequestFault<'a> {
     /// A call of a routine that borrows so many blocks gives more or fewer, or none by its handle.
     #[error("bad call: {} borrows blocks: {}, each as @h behind the numbers", Printable(.0), .1)]
     BadBlocks(&'a str, usize),
-    /// A call that is traced lends blocks.
-    #[error("bad call: {} borrows blocks, and trace lends none", Printable(.0))]
-    LendsNone(&'a str),
     /// A call gives a ninth number.
     #[error("bad call: more than eight numbers")]
     TooManyNumbers,

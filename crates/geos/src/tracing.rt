@@ -8,12 +8,12 @@ use crate::files::{Unlocked, open_unlocked, opened};
 use crate::images::MOST_READ;
 use crate::manner::call_fault;
 use crate::request_fault::RequestFault;
-use geos_cli::{CallFault, ScriptFault, TraceFault, TracedCall, trace_call};
+use geos_cli::{ScriptFault, TraceFault, TracedCall, trace_call};
 use geos_image::Image;
 use geos_kernel::{Kernel, kernel_in_memory};
 use geos_shell::{CallWords, Sharing, TraceWords, print, read};
 use geos_source::lines_of_instrs;
-use geos_trace::{put_counts, put_end, put_steps};
+use geos_trace::{put_counts, put_end, put_refused, put_steps};
 use std::alloc::{AllocError, Global};
 use vm_file::Device;
 
@@ -65,13 +65,16 @@ fn text_of(
     Ok(out)
 }
 
+/// What is printed of a call of which a block could not be locked.
+fn refused_text(alloc: Global, refusal: u16) -> Result<Vec<u8>, AllocError> {
+    let mut out = Vec::new(alloc);
+    put_refused(&mut out, refusal)?;
+    Ok(out)
+}
+
 /// The fault of a traced call, by what is wrong.
 fn trace_fault<'a>(words: &TraceWords<'a>, fault: TraceFault) -> RequestFault<'a> {
     match fault {
-        TraceFault::Lends => RequestFault::LendsNone(words.call.name),
-        TraceFault::Call(CallFault::BadBlocks(count)) if count > 0 => {
-            RequestFault::LendsNone(words.call.name)
-        }
         TraceFault::Call(fault) => call_fault(&words.call, fault),
         TraceFault::NoRoutine => RequestFault::NoSuchRoutine(words.only.unwrap_or("")),
     }
@@ -102,7 +105,11 @@ fn trace_on<'a, D: Device + Drop>(
         Err(fault) => return Err(trace_fault(words, fault)),
     };
     let lines = traceable.lines.as_ref().map(|lines| lines.as_slice());
-    match text_of(alloc, words, lines, &traced) {
+    let text = match traced {
+        Ok(traced) => text_of(alloc, words, lines, &traced),
+        Err(refusal) => refused_text(alloc, refusal.number()),
+    };
+    match text {
         Ok(text) => Ok(print(rt, &text)?),
         Err(_) => Err(RequestFault::Session(ScriptFault::Memory)),
     }

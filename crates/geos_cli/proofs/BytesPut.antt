@@ -1,20 +1,16 @@
 -- Devices to which nothing is written.
-use Rattle.std.proofs.Common.{◌≡◌, ◌∙◌, true, refl, subst, sym, inr}
-use Rattle.std.specs.Prelude.{Result, Ok, Err}
+use Rattle.std.proofs.Common.{◌≡◌, ◌∙◌, ℕ, List, Option, refl, subst, sym, inr}
+use Rattle.std.specs.Prelude.{Result, Ok, Err, OnOk}
 use Rattle.geos_terms.specs.declared.refusal.Refusal.{Refusal}
 use Rattle.vm_file.specs.declared.commit.How.TheVariants.{Update}
 use Rattle.geos_kernel.specs.Files.{Commits}
 use Rattle.vm_file.specs.Device.{Medium}
 use Rattle.vm_file.specs.Outcomes.{ReadsOnly}
-use Rattle.vm_blocks.specs.View.{VmState, held_at}
-use Rattle.vm_blocks.specs.Blocks.{is_marked_in}
-use Rattle.geos_calls.specs.Effects.{Nothing}
-use Rattle.geos_calls.specs.VmFile.{VmFile}
-use Rattle.geos_kernel.specs.declared.span.Span.{Span}
 use Rattle.geos_kernel.specs.Kernel.{LeavesVm}
-use Rattle.geos_kernel.specs.Spans.{IsWritable, SpansStay}
-use Rattle.geos_kernel.specs.View.{KernelOn, Seen}
-use Rattle.geos_cli.specs.Bytes.{EndsWithUpdate, IsUnwritten}
+use Rattle.geos_kernel.specs.View.{KernelOn}
+use Rattle.geos_cli.specs.declared.bytes.Place.{Place}
+use Rattle.geos_cli.specs.Bytes.{EndsWithUpdate, IsUnwritten, Puts}
+use Rattle.geos_cli.specs.Script.{LeadsOn}
 
 -- nothing was written where nothing was asked
 pub not_asked : {D : Type 0} (medium : Medium D) (old new : D) → new ≡ old → IsUnwritten medium old new
@@ -39,18 +35,15 @@ unwritten_on medium old mid new first second =
 pub left_alone : {D : Type 0} (medium : Medium D) (old new : KernelOn D) → LeavesVm old new → IsUnwritten medium old.device new.device
 left_alone medium old new leaves = not_asked medium old.device new.device leaves.device
 
-pub leaves-on : {D : Type 0} (old mid new : KernelOn D) → LeavesVm old mid → LeavesVm mid new → LeavesVm old new
-leaves-on old mid new first second = record { device = second.device ∙ first.device; vm = second.vm ∙ first.vm }
+-- what holds of all holds where all is done
+pub on-ok : {A E P : Type 0} (r : Result A E) → P → OnOk r P
+on-ok (Ok done) p = p
+on-ok (Err why) p = tt
 
--- a span into a marked block stays good where spans stay and the file is left alone
-pub writable-on : {D : Type 0} (old new : KernelOn D) (f : VmFile) (span : Span) → SpansStay old.core new.core f Nothing
-    → LeavesVm old new → IsWritable old.core span → IsWritable new.core span
-writable-on old new f span stay leaves (ref, stands, may) =
-    (ref, stay span ref stands tt, λ vm. subst (λ (v : VmState Seen). is_marked_in (held_at v ref.name.h) ≡ true) (sym leaves.vm) (may vm))
-
--- an update behind steps that wrote nothing
-pub updated : {D : Type 0} (medium : Medium D) (old between new : KernelOn D) (result : Result (Unit {0}) Refusal)
-    → IsUnwritten medium old.device between.device
-    → Commits medium Update between new result → EndsWithUpdate medium old new result
-updated medium old between new (Ok done) unwritten commits = (between, unwritten, commits)
-updated medium old between new (Err refusal) unwritten commits = inr (between, unwritten, commits)
+-- an update behind bytes that were put
+pub updated : {D : Type 0} (medium : Medium D) (place : Place) (at : Option ℕ) (bytes : List ℕ) (old between new : KernelOn D)
+    (result : Result (Unit {0}) Refusal)
+    → LeadsOn medium old between (λ allows. Puts allows place at bytes) → IsUnwritten medium old.device between.device
+    → Commits medium Update between new result → EndsWithUpdate medium place at bytes old new result
+updated medium place at bytes old between new (Ok done) puts unwritten commits = (between, puts, unwritten, commits)
+updated medium place at bytes old between new (Err refusal) puts unwritten commits = inr (between, puts, unwritten, commits)

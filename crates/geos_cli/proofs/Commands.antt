@@ -1,5 +1,5 @@
 -- The commands of a script, read line by line.
-use Rattle.std.proofs.Common.{◌≡◌, ℕ, ◌+◌, Bool, true, false, List, [], ◌∷◌, Option, Some, None, refl, subst, sym}
+use Rattle.std.proofs.Common.{◌≡◌, ℕ, ◌+◌, Bool, true, false, List, [], ◌∷◌, Option, Some, None, refl}
 use Rattle.std.specs.Prelude.{All, IfSome, option_and_then, option_map, bytes_eq, codes, if◌then◌else◌, ◌&&◌, not}
 use Rattle.std.specs.List.{position_from, cons_option, AllByRecursion}
 use Rattle.std.proofs.lemmas.List.Elements.{All-from_recursion}
@@ -10,7 +10,7 @@ use Rattle.geos_cli.specs.declared.script.Command.TheVariants as command
 use Rattle.geos_text.specs.Words.{is_empty}
 use Rattle.geos_cli.specs.declared.script.Numbered.{Numbered}
 use Rattle.geos_machine.specs.Runs.{entry_slots}
-use Rattle.geos_cli.specs.Script.{IsAdmitted, before_blocks, from_blocks, placed, routine_named, registers_of, call_named, how_named, command_of, commands_from, commands_of, is_bad, on_line, said, may_ask, if_admitted}
+use Rattle.geos_cli.specs.Script.{IsAdmitted, before_blocks, from_blocks, placed, routine_named, registers_of, call_named, how_named, command_of, commands_from, commands_of, is_bad, on_line, said, may_ask}
 
 -- a line that says nothing
 pub commands-blank : (image : Parts) (n : ℕ) (line : List ℕ) (lines : List (List ℕ)) → said line ≡ []

@@ -117,7 +117,7 @@ unlocks-one allows handles k lt before after keeps w = rw (take_more handles k 0
     (unlocked-more allows Stays (take k handles) (get_or handles k 0) before after keeps w)
 
 -- other words about the device
-allowed-alike : (other good : Type 0) → other ↔ good → (before now : ℕ) (choice : Choice) → IsAllowed other before now choice
+pub allowed-alike : (other good : Type 0) → other ↔ good → (before now : ℕ) (choice : Choice) → IsAllowed other before now choice
     → IsAllowed good before now choice
 allowed-alike other good alike before now choice allowed = record {
   given = λ g. allowed.given (alike.1 g);

@@ -1,5 +1,6 @@
 pub mod BadLaws
 pub mod BytesPut
+pub mod BytesWays
 pub mod CallRuns
 pub mod Commands
 pub mod Examples
@@ -8,6 +9,7 @@ pub mod InFormRun
 pub mod MayCommit
 pub mod NamedRun
 pub mod Parts
+pub mod PlainLines
 pub mod Prints
 pub mod CommandsRun
 pub mod Commits
@@ -15,6 +17,8 @@ pub mod Registers
 pub mod RunsKeep
 pub mod Searches
 pub mod Sessions
+pub mod SpacedWords
 pub mod StepsKeep
+pub mod TracedRuns
 pub mod LentLocks
 pub mod LentRuns

@@ -1,6 +1,6 @@
 -- Lines with names, carried out one after another.
 use Rattle.std.proofs.Common.{◌≡◌, ◌<◌, ◌≤◌, ◌+◌, ℕ, suc, List, [], ◌∷◌, ◌++◌, length, map, take, drop, get_or, refl, sym, ap, ◌∙◌, subst, inl, inr, append_assoc, append-nil, take-append-drop, drop-cons}
-use Rattle.std.specs.Prelude.{◌⊎◌, Bool, true, false, if◌then◌else◌, Option, Some, None, option_and_then, Result, Ok, Err, IfSome, IfErr}
+use Rattle.std.specs.Prelude.{Bool, true, false, if◌then◌else◌, Option, Some, None, option_and_then, Result, Err, IfSome}
 use Rattle.std.specs.Io.KnownBytes.{Appends, Keeps}
 use Rattle.std.proofs.KnownBytes.{Appends-kept, Appends-nil, Appends-trans}
 use Rattle.std.proofs.lemmas.List.{map-append, take_more, take_all}
@@ -22,7 +22,7 @@ use Rattle.geos_cli.specs.declared.script.RefusedCommand.{RefusedCommand}
 use Rattle.geos_cli.specs.declared.with_names.EarlyEnd.{EarlyEnd}
 use Rattle.geos_cli.specs.declared.with_names.EarlyEnd.TheVariants.{Refused, BadLine}
 use Rattle.geos_cli.specs.Forms.{shown_in}
-use Rattle.geos_cli.specs.InForm.{EndsAt, Leaves, RanShown, RunsPlainly, StoppedShown}
+use Rattle.geos_cli.specs.InForm.{Leaves, RanShown, RunsPlainly, StoppedShown}
 use Rattle.geos_cli.specs.Names.{Names, Said, command_in, first_put_out, if_kept, in_place, lines_said, may_keep, names_behind, names_of, said_by}
 use Rattle.geos_cli.specs.Script.{GoesOn, IsAdmitted, RanCommand, command_of}
 use Rattle.geos_cli.specs.WithNames.{ComesTo, IsBadNamed, LoadsNamed, RanLines, RanNamedScript, RanNoting, RunsLines, StoppedLines, StoppedNamedScript}

@@ -79,12 +79,12 @@ Wider V W = (before after : Stage) (keeps : List Kept) → V before after keeps 
 pub same-way : (W : Way) → Wider W W
 same-way W before after keeps w = w
 
-then-wider : (U V W X : Way) → Wider U W → Wider V X → Wider (Then U V) (Then W X)
+pub then-wider : (U V W X : Way) → Wider U W → Wider V X → Wider (Then U V) (Then W X)
 then-wider U V W X first second before after keeps (between, own, rest, u, v, e) =
     (between, own, rest, first before between own u, second between after rest v, e)
 
 module _ (P Q : Allows) (wider : (before now : ℕ) (choice : Choice) → P before now choice → Q before now choice) where
-  comes-wider : {A : Type 0} (row : Call A) (result : Result A Refusal) → Wider (Comes P row result) (Comes Q row result)
+  pub comes-wider : {A : Type 0} (row : Call A) (result : Result A Refusal) → Wider (Comes P row result) (Comes Q row result)
   comes-wider row result before after keeps (choice, chosen, comes, e) = (choice, wider before.failed after.failed choice chosen, comes, e)
 
   locked-wider : (V W : Way) → Wider V W → (handles : List ℕ) → Wider (LockedBehind P V handles) (LockedBehind Q W handles)

@@ -5,6 +5,7 @@ pub mod Commits
 pub mod Forms
 pub mod InForm
 pub mod Names
+pub mod Plain
 pub mod Script
 pub mod Session
 pub mod Stages

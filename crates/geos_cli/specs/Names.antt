@@ -1,5 +1,5 @@
 -- Names for words that calls put out, and what lines of a script say that write them.
-use Rattle.std.specs.Prelude.{ℕ, ◌+◌, Bool, true, false, ◌&&◌, ◌||◌, ◌==◌, if◌then◌else◌, nat_le, bytes_eq, codes, decimal}
+use Rattle.std.specs.Prelude.{ℕ, ◌+◌, Bool, false, ◌&&◌, ◌||◌, ◌==◌, if◌then◌else◌, nat_le, bytes_eq, codes, decimal}
 use Rattle.std.specs.Prelude.{List, [], ◌∷◌, ◌++◌, length, map, Option, Some, None, option_map, option_and_then, is_none, is_some}
 use Rattle.std.specs.List.{list_all}
 use Rattle.std.specs.Char.{is_ascii_alphanumeric}
@@ -54,6 +54,16 @@ in_place names (w ∷ ws) = if is_arrow w then Some [] else option_and_then (λ 
 abbrev pub behind_arrow : List (List ℕ) → Option (List (List ℕ))
 behind_arrow [] = None
 behind_arrow (w ∷ ws) = if is_arrow w then Some ws else behind_arrow ws
+
+-- a word begins with `$`
+abbrev pub begins_name : List ℕ → Bool
+begins_name [] = false
+begins_name (b ∷ name) = b == 36
+
+-- a word writes a name, also behind an `@`; or it is `->`
+abbrev pub writes_name : List ℕ → Bool
+writes_name [] = false
+writes_name (b ∷ rest) = b == 36 || (b == 64 && begins_name rest) || is_arrow (b ∷ rest)
 
 -- a letter, a digit or an underscore
 abbrev pub is_name_byte : ℕ → Bool

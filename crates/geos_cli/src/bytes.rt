@@ -1,12 +1,17 @@
 //! The bytes of a chunk of a VM file's block, or of an item, are read or written by calls of the kernel.
 
-ghost use Rattle.std.specs.Prelude.{◌≡◌, ◌≤◌, ◌<◌, ◌+◌, length, IfOk, Ok};
-ghost use Rattle.geos_cli.specs.Bytes.{handle_of, IsUnwritten, EndsWithUpdate};
-ghost use Rattle.geos_kernel.specs.Kernel.{LeavesVm};
-ghost use Rattle.geos_kernel.specs.Spans.{IsStanding, IsWritable};
+ghost use Rattle.std.specs.Prelude.{◌≡◌, ◌↔◌, ◌<◌, ◌≤◌, ◌+◌, max, length, IfOk, OnOk, Ok, Some, None};
+ghost use Rattle.geos_cli.specs.Bytes.{handle_of, Closes, Gets, Measures, Opened, Puts, Resizes, Writes, IsUnwritten, EndsWithUpdate};
+ghost use Rattle.geos_cli.specs.Script.{Comes, LeadsOn};
+ghost use Rattle.geos_calls.specs.Calls as table;
+ghost use Rattle.geos_calls.specs.Effects.{Reference};
+ghost use Rattle.geos_calls.specs.VmCalls.{vdirty};
+ghost use Rattle.geos_kernel.specs.Loads.{Loads};
+ghost use Rattle.geos_kernel.specs.Spans.{IsStanding, IsWritable, Stands};
 ghost use Rattle.geos_kernel.specs.View.{IsLocked, IsMarked};
 ghost use Rattle.geos_terms.specs.Names.{vm};
 
+use crate::lending::{lock, unlock};
 use geos_kernel::{Kernel, Span};
 use geos_terms::{Name, Refusal};
 use std::alloc::{AllocError, Global};
@@ -33,54 +38,68 @@ impl Place {
     }
 }
 
-/// Locks a block of the file. Of the kernel's clauses its row alone says that it is locked then, so that is looked at.
-#[tactic(auto, using(crate::proofs::BytesPut::only_read))]
-fn lock<D: Device + Drop>(kernel: &mut Kernel<D>, h: u16) -> Result<Name, Refusal>
-    ensures locked { IfOk result (λ name. (name ≡ vm h) × IsLocked kernel.new.core name) }
+/// Opens a chunk of a block, as `open` does.
+fn open_chunk<D: Device + Drop>(
+    kernel: &mut Kernel<D>,
+    h: u16,
+    c: u16,
+    n: u16,
+) -> Result<Span, Refusal>
+    ensures opened { IfOk result (Opened D.medium (Place.Chunk h c) n kernel.old kernel.new) }
     ensures unwritten { IsUnwritten D.medium kernel.old.device kernel.new.device }
 {
-    kernel.vlock(h)?;
-    let name = Name::vm(h);
-    if kernel.locks(name) == 0 {
-        return Err(Refusal::BadHandle);
+    lock(kernel, h)?;
+    // what a stop leaves before it
+    kernel.memory_is_legal();
+    match kernel.deref(Name::vm(h), c, n) {
+        Ok(span) => Ok(span),
+        Err(refusal) => {
+            unlock(kernel, h);
+            Err(refusal)
+        }
     }
-    Ok(name)
 }
 
-/// Locks the block or the group, and tells where the bytes lie, which are so many at least.
-#[tactic(auto, using(crate::proofs::BytesPut::only_read))]
+/// Opens an item of a group, as `open` does.
+fn open_item<D: Device + Drop>(
+    kernel: &mut Kernel<D>,
+    g: u16,
+    i: u16,
+    n: u16,
+) -> Result<Span, Refusal>
+    ensures opened { IfOk result (Opened D.medium (Place.Item g i) n kernel.old kernel.new) }
+    ensures unwritten { IsUnwritten D.medium kernel.old.device kernel.new.device }
+{
+    // as in `open_chunk`
+    kernel.memory_is_legal();
+    kernel.ilock(g, i, n)
+}
+
+/// Locks the block or the group, and tells where the bytes lie, which are so many at least. Where that is refused, it is not locked.
 fn open<D: Device + Drop>(kernel: &mut Kernel<D>, place: Place, n: u16) -> Result<Span, Refusal>
-    ensures stands { IfOk result (λ span. IsStanding kernel.new.core span × (n ≤ span.len)) }
-    ensures writable { IfOk result (λ span. IsMarked kernel.new.core (handle_of place) → IsWritable kernel.new.core span) }
+    ensures opened { IfOk result (Opened D.medium place n kernel.old kernel.new) }
     ensures unwritten { IsUnwritten D.medium kernel.old.device kernel.new.device }
 {
     match place {
-        Place::Chunk(h, c) => {
-            let name = lock(kernel, h)?;
-            let span = kernel.deref(name, c, n);
-            if span.is_err() {
-                close(kernel, place);
-            }
-            span
-        }
-        Place::Item(g, i) => kernel.ilock(g, i, n),
+        Place::Chunk(h, c) => open_chunk(kernel, h, c, n),
+        Place::Item(g, i) => open_item(kernel, g, i, n),
     }
 }
 
 /// Unlocks the block or the group.
-#[tactic(auto, using(crate::proofs::BytesPut::left_alone, crate::proofs::BytesPut::not_asked))]
 fn close<D: Device + Drop>(kernel: &mut Kernel<D>, place: Place)
+    requires { IsLocked kernel.old.core (vm (handle_of place)) }
+    ensures leads { LeadsOn D.medium kernel.old kernel.new (λ allows. Closes allows place) }
+    ensures honest { D.medium.honest kernel.new.device ↔ D.medium.honest kernel.old.device }
     ensures unwritten { IsUnwritten D.medium kernel.old.device kernel.new.device }
 {
-    let name = Name::vm(place.handle());
-    if kernel.locks(name) != 0 {
-        kernel.vunlock(name);
-    }
+    unlock(kernel, place.handle());
 }
 
 /// How many bytes there are.
-#[tactic(auto, using(crate::proofs::BytesPut::unwritten_on))]
-fn size<D: Device + Drop>(kernel: &mut Kernel<D>, place: Place) -> Result<u16, Refusal>
+fn measure<D: Device + Drop>(kernel: &mut Kernel<D>, place: Place) -> Result<u16, Refusal>
+    ensures measured { IfOk result (λ n. LeadsOn D.medium kernel.old kernel.new (λ allows. Measures allows place n)) }
+    ensures honest { IfOk result (λ _. D.medium.honest kernel.new.device ↔ D.medium.honest kernel.old.device) }
     ensures unwritten { IsUnwritten D.medium kernel.old.device kernel.new.device }
 {
     let span = open(kernel, place, 0)?;
@@ -88,34 +107,85 @@ fn size<D: Device + Drop>(kernel: &mut Kernel<D>, place: Place) -> Result<u16, R
     Ok(span.len)
 }
 
+/// Marks a locked block.
+fn mark<D: Device + Drop>(kernel: &mut Kernel<D>, h: u16)
+    requires { IsLocked kernel.old.core (vm h) }
+    ensures leads { LeadsOn D.medium kernel.old kernel.new (λ allows. Comes allows (vdirty h) (Ok tt)) }
+    ensures locked { IsLocked kernel.new.core (vm h) }
+    ensures marked { IsMarked kernel.new.core h }
+    ensures honest { D.medium.honest kernel.new.device ↔ D.medium.honest kernel.old.device }
+    ensures unwritten { IsUnwritten D.medium kernel.old.device kernel.new.device }
+{
+    // as in `open_chunk`
+    kernel.memory_is_legal();
+    kernel.vdirty(Name::vm(h));
+    kernel.memory_is_legal();
+}
+
+/// Gives a chunk of a locked block, which is marked, so many bytes.
+fn resize_locked<D: Device + Drop>(
+    kernel: &mut Kernel<D>,
+    h: u16,
+    c: u16,
+    n: u16,
+) -> Result<(), Refusal>
+    requires locked { IsLocked kernel.old.core (vm h) }
+    requires marked { IsMarked kernel.old.core h }
+    ensures leads { LeadsOn D.medium kernel.old kernel.new (λ allows. Comes allows (table.lrealloc (vm h) c n) result) }
+    ensures locked { IsLocked kernel.new.core (vm h) }
+    ensures honest { D.medium.honest kernel.new.device ↔ D.medium.honest kernel.old.device }
+    ensures unwritten { IsUnwritten D.medium kernel.old.device kernel.new.device }
+{
+    // as in `open_chunk`
+    kernel.memory_is_legal();
+    let done = kernel.lrealloc(Name::vm(h), c, n);
+    kernel.memory_is_legal();
+    done
+}
+
 /// Gives a chunk of a block so many bytes, and marks the block.
-#[tactic(auto, using(crate::proofs::BytesPut::unwritten_on, crate::proofs::BytesPut::left_alone, crate::proofs::BytesPut::not_asked))]
 fn resize_chunk<D: Device + Drop>(
     kernel: &mut Kernel<D>,
     h: u16,
     c: u16,
     n: u16,
 ) -> Result<(), Refusal>
+    ensures leads { OnOk result (LeadsOn D.medium kernel.old kernel.new (λ allows. Resizes allows (Place.Chunk h c) n)) }
+    ensures honest { OnOk result (D.medium.honest kernel.new.device ↔ D.medium.honest kernel.old.device) }
     ensures unwritten { IsUnwritten D.medium kernel.old.device kernel.new.device }
 {
-    let name = lock(kernel, h)?;
-    kernel.vdirty(name);
-    if kernel.locks(name) == 0 {
-        return Err(Refusal::BadHandle);
-    }
-    let done = kernel.lrealloc(name, c, n);
-    close(kernel, Place::Chunk(h, c));
+    lock(kernel, h)?;
+    mark(kernel, h);
+    let done = resize_locked(kernel, h, c, n);
+    unlock(kernel, h);
     done
 }
 
+/// Gives an item of a group so many bytes, and marks the group.
+fn resize_item<D: Device + Drop>(
+    kernel: &mut Kernel<D>,
+    g: u16,
+    i: u16,
+    n: u16,
+) -> Result<(), Refusal>
+    ensures leads { OnOk result (LeadsOn D.medium kernel.old kernel.new (λ allows. Resizes allows (Place.Item g i) n)) }
+    ensures honest { OnOk result (D.medium.honest kernel.new.device ↔ D.medium.honest kernel.old.device) }
+    ensures unwritten { IsUnwritten D.medium kernel.old.device kernel.new.device }
+{
+    // as in `open_chunk`
+    kernel.memory_is_legal();
+    kernel.irealloc(g, i, n)
+}
+
 /// Gives the chunk or the item so many bytes, and marks its block or group.
-#[tactic(auto, using(crate::proofs::BytesPut::unwritten_on, crate::proofs::BytesPut::only_read))]
 fn resize<D: Device + Drop>(kernel: &mut Kernel<D>, place: Place, n: u16) -> Result<(), Refusal>
+    ensures leads { OnOk result (LeadsOn D.medium kernel.old kernel.new (λ allows. Resizes allows place n)) }
+    ensures honest { OnOk result (D.medium.honest kernel.new.device ↔ D.medium.honest kernel.old.device) }
     ensures unwritten { IsUnwritten D.medium kernel.old.device kernel.new.device }
 {
     match place {
         Place::Chunk(h, c) => resize_chunk(kernel, h, c, n),
-        Place::Item(g, i) => kernel.irealloc(g, i, n),
+        Place::Item(g, i) => resize_item(kernel, g, i, n),
     }
 }
 
@@ -123,13 +193,37 @@ fn resize<D: Device + Drop>(kernel: &mut Kernel<D>, place: Place, n: u16) -> Res
 fn store<D: Device + Drop>(kernel: &mut Kernel<D>, span: Span, at: u16, bytes: &[u8])
     requires writable { IsWritable kernel.old.core span }
     requires within { at + length bytes.now ≤ span.len }
-    ensures { LeavesVm kernel.old kernel.new }
+    ensures leads { (ref : Reference) → Stands kernel.old.core span ref
+        → LeadsOn D.medium kernel.old kernel.new (λ allows. Comes allows (table.store ref at bytes.now) (Ok tt)) }
+    ensures stands { (ref : Reference) → Stands kernel.old.core span ref → Stands kernel.new.core span ref }
+    ensures honest { D.medium.honest kernel.new.device ↔ D.medium.honest kernel.old.device }
+    ensures unwritten { IsUnwritten D.medium kernel.old.device kernel.new.device }
 {
-    for (i, byte) in bytes.iter().enumerate() {
-        // what holds of memory between two of them
-        kernel.memory_is_legal();
-        kernel.store8(span, at + i as u16, *byte);
+    // as in `open_chunk`
+    kernel.memory_is_legal();
+    kernel.store(span, at, bytes);
+}
+
+/// Writes bytes over those of a place from an offset on, which they are within up to `end`.
+fn write<D: Device + Drop>(
+    kernel: &mut Kernel<D>,
+    place: Place,
+    at: u16,
+    end: u16,
+    bytes: &[u8],
+) -> Result<(), Refusal>
+    requires { end ≡ at + length bytes.now }
+    ensures written { OnOk result (LeadsOn D.medium kernel.old kernel.new (λ allows. Writes allows place at bytes.now)) }
+    ensures unwritten { IsUnwritten D.medium kernel.old.device kernel.new.device }
+{
+    let span = open(kernel, place, end)?;
+    if !kernel.marked(place.handle()) {
+        close(kernel, place);
+        return Err(Refusal::BadHandle);
     }
+    store(kernel, span, at, bytes);
+    close(kernel, place);
+    Ok(())
 }
 
 /// Where bytes from an offset on end; `TooBig` where no chunk is so long.
@@ -142,30 +236,56 @@ fn end_of(at: u16, n: usize) -> Result<u16, Refusal>
     Ok(at + n as u16)
 }
 
+fn greater(a: u16, b: u16) -> u16
+    ensures { result ≡ max a b }
+{
+    if a < b { b } else { a }
+}
+
+/// Puts bytes in the place of all that are there, and updates nothing.
+fn put_all<D: Device + Drop>(
+    kernel: &mut Kernel<D>,
+    place: Place,
+    bytes: &[u8],
+) -> Result<(), Refusal>
+    ensures put { OnOk result (LeadsOn D.medium kernel.old kernel.new (λ allows. Puts allows place None bytes.now)) }
+    ensures unwritten { IsUnwritten D.medium kernel.old.device kernel.new.device }
+{
+    let end = end_of(0, bytes.len())?;
+    resize(kernel, place, end)?;
+    write(kernel, place, 0, end, bytes)
+}
+
+/// Puts bytes over those from an offset on, and updates nothing.
+fn put_over<D: Device + Drop>(
+    kernel: &mut Kernel<D>,
+    place: Place,
+    at: u16,
+    bytes: &[u8],
+) -> Result<(), Refusal>
+    ensures put { OnOk result (LeadsOn D.medium kernel.old kernel.new (λ allows. Puts allows place (Some at) bytes.now)) }
+    ensures unwritten { IsUnwritten D.medium kernel.old.device kernel.new.device }
+{
+    let least = measure(kernel, place)?;
+    let end = end_of(at, bytes.len())?;
+    resize(kernel, place, greater(end, least))?;
+    write(kernel, place, at, end, bytes)
+}
+
 /// Puts the bytes there, as `put_bytes` does, and updates nothing.
-#[tactic(auto, using(crate::proofs::BytesPut::unwritten_on, crate::proofs::BytesPut::left_alone))]
 fn put<D: Device + Drop>(
     kernel: &mut Kernel<D>,
     place: Place,
     at: Option<u16>,
     bytes: &[u8],
 ) -> Result<(), Refusal>
+    ensures put { OnOk result (LeadsOn D.medium kernel.old kernel.new (λ allows. Puts allows place at bytes.now)) }
     ensures unwritten { IsUnwritten D.medium kernel.old.device kernel.new.device }
 {
-    let (first, least) = match at {
-        Some(at) => (at, size(kernel, place)?),
-        None => (0, 0),
-    };
-    let end = end_of(first, bytes.len())?;
-    resize(kernel, place, end.max(least))?;
-    let span = open(kernel, place, end)?;
-    if !kernel.marked(place.handle()) {
-        close(kernel, place);
-        return Err(Refusal::BadHandle);
+    match at {
+        None => put_all(kernel, place, bytes),
+        Some(at) => put_over(kernel, place, at, bytes),
     }
-    store(kernel, span, first, bytes);
-    close(kernel, place);
-    Ok(())
 }
 
 /// Puts bytes in the place of those of a chunk or an item, or, from an offset on, over some of them, behind which it grows; then updates
@@ -177,7 +297,8 @@ pub fn put_bytes<D: Device + Drop>(
     at: Option<u16>,
     bytes: &[u8],
 ) -> Result<(), Refusal>
-    ensures { EndsWithUpdate D.medium kernel.old kernel.new result }
+    // What is updated are the blocks as they were, with these bytes there: as the model's calls leave them.
+    ensures { EndsWithUpdate D.medium place at bytes.now kernel.old kernel.new result }
 {
     put(kernel, place, at, bytes)?;
     if !kernel.vm_unlocked() {
@@ -186,36 +307,38 @@ pub fn put_bytes<D: Device + Drop>(
     kernel.vupdate()
 }
 
-/// The bytes of a span, behind others.
+/// The bytes of a span.
 fn load<D: Device + Drop>(
+    alloc: Global,
     kernel: &Kernel<D>,
     span: Span,
-    into: &mut Vec<u8>,
-) -> Result<(), AllocError>
+) -> Result<Vec<u8>, AllocError>
     requires { IsStanding kernel.now.core span }
+    ensures loads { IfOk result (λ bytes. Loads (D.medium.honest kernel.now.device) span 0 bytes.items kernel.now.core) }
+    ensures long { IfOk result (λ bytes. length bytes.items ≡ span.len) }
 {
-    for i in 0..span.len {
-        into.push(kernel.load8(span, i))?;
-    }
-    Ok(())
+    let mut bytes = vec![in alloc; 0; usize::from(span.len)]?;
+    kernel.read(span, 0, &mut bytes);
+    Ok(bytes)
 }
 
 /// The bytes of a chunk or an item. The refusals are those of the kernel's calls. Nothing is written to the device.
-#[tactic(auto, using(crate::proofs::BytesPut::unwritten_on))]
 pub fn get_bytes<D: Device + Drop>(
     alloc: Global,
     kernel: &mut Kernel<D>,
     place: Place,
 ) -> Result<Result<Vec<u8>, Refusal>, AllocError>
-    ensures { IsUnwritten D.medium kernel.old.device kernel.new.device }
+    // They are those that the model has there while it is locked, all of them; and it is unlocked again.
+    ensures got { IfOk result (λ got. IfOk got (λ bytes. LeadsOn D.medium kernel.old kernel.new (λ allows. Gets allows place bytes.items))) }
+    ensures unwritten { IsUnwritten D.medium kernel.old.device kernel.new.device }
 {
-    let mut bytes = Vec::new(alloc);
     match open(kernel, place, 0) {
         Ok(span) => {
-            let loaded = load(kernel, span, &mut bytes);
+            // as in `open_chunk`
+            kernel.memory_is_legal();
+            let bytes = load(alloc, kernel, span);
             close(kernel, place);
-            loaded?;
-            Ok(Ok(bytes))
+            Ok(Ok(bytes?))
         }
         Err(refusal) => Ok(Err(refusal)),
     }

@@ -6,10 +6,12 @@ ghost use Rattle.geos_terms.specs.Names.{vm};
 ghost use Rattle.geos_calls.specs.VmFile.{VmFile};
 ghost use Rattle.geos_calls.specs.VmCalls.{vlock, vunlock};
 ghost use Rattle.block_handles.specs.Store.{locks_of};
+ghost use Rattle.vm_file.specs.Outcomes.{ReadsOnly};
 ghost use Rattle.vm_file.specs.State.{Steadily};
 ghost use Rattle.vm_blocks.specs.Listed.{NoneLocked};
 ghost use Rattle.vm_blocks.specs.View.{vm_slot};
 ghost use Rattle.geos_kernel.specs.Files.{vm_file_of};
+ghost use Rattle.geos_kernel.specs.Kernel.{LeavesVm};
 ghost use Rattle.geos_kernel.specs.View.{IsFileOf, IsLocked, SeesDevice};
 ghost use Rattle.geos_machine.specs.Lent.{has_block};
 ghost use Rattle.geos_machine.specs.Runs.{RanWith, Throughout};
@@ -26,12 +28,13 @@ use geos_verify::Checked;
 use vm_file::Device;
 
 /// Locks a block of the file once more.
-fn lock<D: Device + Drop>(kernel: &mut Kernel<D>, h: u16) -> Result<(), Refusal>
+pub(crate) fn lock<D: Device + Drop>(kernel: &mut Kernel<D>, h: u16) -> Result<(), Refusal>
     ensures leads { LeadsOn D.medium kernel.old kernel.new (λ allows. Comes allows (vlock h) result) }
     ensures counts { OnOk result ((g : ℕ) → locks_of kernel.new.core.blocks (vm_slot g) ≡ locks_of kernel.old.core.blocks (vm_slot g) + once h g) }
     ensures same { OnErr result ((g : ℕ) → locks_of kernel.new.core.blocks (vm_slot g) ≡ locks_of kernel.old.core.blocks (vm_slot g)) }
     ensures there { OnOk result (has_block kernel.new.core h ≡ true) }
     ensures stay { (g : ℕ) → has_block kernel.old.core g ≡ true → has_block kernel.new.core g ≡ true }
+    ensures reads { ReadsOnly D.medium kernel.old.device kernel.new.device }
     ensures honest { D.medium.honest kernel.new.device ↔ D.medium.honest kernel.old.device }
     ensures sees { SeesDevice D.medium kernel.old × SeesDevice D.medium kernel.new }
     ensures steadily { Steadily D.medium (vm_file_of kernel.old) (vm_file_of kernel.new) }
@@ -43,10 +46,11 @@ fn lock<D: Device + Drop>(kernel: &mut Kernel<D>, h: u16) -> Result<(), Refusal>
 }
 
 /// Unlocks a block of the file once.
-fn unlock<D: Device + Drop>(kernel: &mut Kernel<D>, h: u16)
+pub(crate) fn unlock<D: Device + Drop>(kernel: &mut Kernel<D>, h: u16)
     requires { IsLocked kernel.old.core (vm h) }
     ensures leads { LeadsOn D.medium kernel.old kernel.new (λ allows. Comes allows (vunlock h) (Ok tt)) }
     ensures counts { (g : ℕ) → locks_of kernel.new.core.blocks (vm_slot g) + once h g ≡ locks_of kernel.old.core.blocks (vm_slot g) }
+    ensures vm { LeavesVm kernel.old kernel.new }
     ensures honest { D.medium.honest kernel.new.device ↔ D.medium.honest kernel.old.device }
     ensures sees { SeesDevice D.medium kernel.old × SeesDevice D.medium kernel.new }
     ensures steadily { Steadily D.medium (vm_file_of kernel.old) (vm_file_of kernel.new) }
@@ -57,7 +61,7 @@ fn unlock<D: Device + Drop>(kernel: &mut Kernel<D>, h: u16)
 }
 
 /// Locks blocks one after another. Where one is refused, it answers how many are locked, and the refusal.
-fn lock_all<D: Device + Drop>(
+pub(crate) fn lock_all<D: Device + Drop>(
     kernel: &mut Kernel<D>,
     handles: &[u16],
 ) -> Result<(), (usize, Refusal)>
@@ -82,7 +86,7 @@ fn lock_all<D: Device + Drop>(
 }
 
 /// Unlocks blocks one after another.
-fn unlock_all<D: Device + Drop>(kernel: &mut Kernel<D>, handles: &[u16])
+pub(crate) fn unlock_all<D: Device + Drop>(kernel: &mut Kernel<D>, handles: &[u16])
     requires { (g : ℕ) → times g handles.now ≤ locks_of kernel.old.core.blocks (vm_slot g) }
     ensures leads { LeadsOn D.medium kernel.old kernel.new (λ allows. Unlocks allows handles.now) }
     ensures counts { (g : ℕ) → locks_of kernel.new.core.blocks (vm_slot g) + times g handles.now ≡ locks_of kernel.old.core.blocks (vm_slot g) }

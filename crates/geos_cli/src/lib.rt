@@ -4,7 +4,7 @@
 //! | Module | Has |
 //! |---|---|
 //! | session | `run_session`: reads a session to its end, and runs it |
-//! | law | `other_calls_keep`: calls that may not commit leave what the device holds as it was |
+//! | law | `other_calls_keep`: calls that may not commit leave what the device holds as it was; `plain_scripts_do_the_same` |
 //! | asked | which calls the machine may be asked for |
 //! | lines | what the lines of a script say |
 //! | lending | runs a routine on blocks that it borrows, which are locked for it |
@@ -45,7 +45,7 @@ pub use crate::call::run_call;
 pub use crate::call_fault::CallFault;
 pub use crate::form::{Form, Writing};
 pub use crate::in_form::{run_call_in_form, run_script_in_form};
-pub use crate::law::other_calls_keep;
+pub use crate::law::{other_calls_keep, plain_scripts_do_the_same};
 pub use crate::lines::routine_named;
 pub use crate::named_lines::{Line, MOST_KEPT};
 pub use crate::names::{is_name, kept_name};

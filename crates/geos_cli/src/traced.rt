@@ -1,25 +1,29 @@
 //! One call, of whose steps notes are taken.
 
-ghost use Rattle.std.specs.Prelude.{◌≡◌, ◌≢◌, ◌↔◌, [], true, option_map, MatchBool, IfOk, IfErr};
+ghost use Rattle.std.specs.Prelude.{◌≡◌, ◌↔◌, ℕ, true, option_map, All, IfOk, IfErr};
+ghost use Rattle.block_handles.specs.Store.{locks_of};
 ghost use Rattle.geos_calls.specs.VmFile.{VmFile};
 ghost use Rattle.vm_file.specs.State.{Steadily};
 ghost use Rattle.vm_blocks.specs.Listed.{NoneLocked};
+ghost use Rattle.vm_blocks.specs.View.{vm_slot};
 ghost use Rattle.geos_kernel.specs.Files.{vm_file_of};
 ghost use Rattle.geos_kernel.specs.View.{IsFileOf, SeesDevice};
+ghost use Rattle.geos_machine.specs.Lent.{has_block};
 ghost use Rattle.geos_machine.specs.Runs.{Throughout};
 ghost use Rattle.geos_machine.specs.Traces.{IsEmpty, Traced};
 ghost use Rattle.geos_cli.specs.Calls.{texts};
-ghost use Rattle.geos_cli.specs.Script.{lent_by, may_ask};
-ghost use Rattle.geos_cli.specs.Traced.{stretch_of, IsTracedCall, WhyNotTraced};
+ghost use Rattle.geos_cli.specs.Script.{lent_by, may_ask, times, LeadsOn, NotLent};
+ghost use Rattle.geos_cli.specs.Traced.{stretch_of, IsMadeAs, IsTraced, TracesLent, WhyNotTraced};
 
 use crate::call::{call_on, why_no_call};
 use crate::call_fault::CallFault;
-use crate::lending::lent_handles;
+use crate::lending::{lent_handles, lock_all, unlock_all};
 use crate::lines::routine_named;
 use crate::script::{Call, load};
 use geos_input::ScriptFault;
 use geos_kernel::Kernel;
 use geos_machine::{Machine, Outcome, Trace};
+use geos_terms::Refusal;
 use geos_verify::Checked;
 use std::alloc::Global;
 use vm_file::Device;
@@ -42,8 +46,6 @@ pub struct TracedCall {
 pub enum TraceFault {
     /// It would end so without notes too.
     Call(CallFault),
-    /// The call lends blocks.
-    Lends,
     /// There is no routine of the name whose steps are to be noted.
     NoRoutine,
 }
@@ -63,35 +65,27 @@ fn stretch_of(checked: &Checked, only: Option<&str>) -> Option<(u16, u16)>
     }
 }
 
-/// Whether a call lends blocks.
-fn lends(checked: &Checked, call: &Call) -> bool
-    requires { may_ask checked.now call.now ≡ true }
-    ensures { MatchBool result (lent_by checked.now call.now ≢ []) (lent_by checked.now call.now ≡ []) }
-{
-    let slots = &checked.image().routine(call.routine).entry.slots;
-    !lent_handles(slots, &call.handles).is_empty()
-}
-
-/// Runs the routine of a call, which lends it no block, and notes its steps.
+/// Runs the routine of a call on blocks that are locked for it, and notes its steps.
 fn trace<D: Device + Drop>(
     checked: &Checked,
     call: &Call,
     kernel: &mut Kernel<D>,
-    trace: &mut Trace,
+    notes: &mut Trace,
 ) -> Outcome
     requires admitted { may_ask checked.now call.now ≡ true }
-    requires lends_none { lent_by checked.now call.now ≡ [] }
-    requires unlocked { NoneLocked kernel.old.core.blocks }
-    requires empty { IsEmpty trace.old }
+    requires there { All (λ h. has_block kernel.old.core h ≡ true) (lent_by checked.now call.now) }
+    requires counts { (g : ℕ) → locks_of kernel.old.core.blocks (vm_slot g) ≡ times g (lent_by checked.now call.now) }
+    requires empty { IsEmpty notes.old }
     ensures ran { (f : VmFile) → IsFileOf (D.medium.honest kernel.old.device) kernel.old.core f
         → Traced (D.medium.honest kernel.old.device) (Throughout D.medium kernel.old.device kernel.new.device)
-        checked.now call.now.routine call.now.words call.now.handles kernel.old.core kernel.new.core result trace.old trace.new f }
+        checked.now call.now.routine call.now.words call.now.handles kernel.old.core kernel.new.core result notes.old notes.new f }
+    ensures made { IsMadeAs notes.old notes.new }
+    ensures counts { (g : ℕ) → locks_of kernel.new.core.blocks (vm_slot g) ≡ locks_of kernel.old.core.blocks (vm_slot g) }
     ensures honest { D.medium.honest kernel.new.device ↔ D.medium.honest kernel.old.device }
-    ensures unlocked { NoneLocked kernel.new.core.blocks }
     ensures sees { SeesDevice D.medium kernel.old × SeesDevice D.medium kernel.new }
     ensures steadily { Steadily D.medium (vm_file_of kernel.old) (vm_file_of kernel.new) }
 {
-    // for how often blocks are locked
+    // for a file that the model may know
     kernel.memory_is_legal();
     Machine::new().trace(
         checked,
@@ -99,15 +93,55 @@ fn trace<D: Device + Drop>(
         &call.words,
         &call.handles,
         kernel,
-        trace,
+        notes,
     )
 }
 
+/// Does as `run_lent`, and notes the steps of the routine.
+fn trace_lent<D: Device + Drop>(
+    checked: &Checked,
+    call: &Call,
+    kernel: &mut Kernel<D>,
+    notes: &mut Trace,
+) -> Result<Outcome, Refusal>
+    requires admitted { may_ask checked.now call.now ≡ true }
+    requires unlocked { NoneLocked kernel.old.core.blocks }
+    requires empty { IsEmpty notes.old }
+    ensures ran { IfOk result (λ outcome. LeadsOn D.medium kernel.old kernel.new
+        (λ allows. TracesLent allows checked.now call.now outcome notes.new)) }
+    ensures refused { IfErr result (λ why. LeadsOn D.medium kernel.old kernel.new
+        (λ allows. NotLent allows (lent_by checked.now call.now) why)) }
+    ensures made { IfOk result (λ _. IsMadeAs notes.old notes.new) }
+    ensures honest { D.medium.honest kernel.new.device ↔ D.medium.honest kernel.old.device }
+    ensures unlocked { NoneLocked kernel.new.core.blocks }
+    ensures sees { SeesDevice D.medium kernel.old × SeesDevice D.medium kernel.new }
+    ensures steadily { Steadily D.medium (vm_file_of kernel.old) (vm_file_of kernel.new) }
+{
+    // for how often blocks are locked
+    kernel.memory_is_legal();
+    let lent = lent_handles(
+        &checked.image().routine(call.routine).entry.slots,
+        &call.handles,
+    );
+    match lock_all(kernel, lent.as_slice()) {
+        Ok(()) => {
+            let outcome = trace(checked, call, kernel, notes);
+            unlock_all(kernel, lent.as_slice());
+            Ok(outcome)
+        }
+        Err((locked, refusal)) => {
+            unlock_all(kernel, &lent.as_slice()[..locked]);
+            Err(refusal)
+        }
+    }
+}
+
 /// Checks an image and runs one routine of it, as `run_call` does, but prints nothing: it gives what the run put out, and notes of its steps, at
-/// most so many, of all routines or of the one that is named `only`. All memory is taken before the routine is run.
+/// most so many, of all routines or of the one that is named `only`; or the refusal of a block that it is lent and that can't be locked. All
+/// memory is taken before.
 ///
-/// Of the faults, the first that is due is answered, and nothing has run then: those of `run_call`, but for `Write`; `Lends` where the call
-/// lends blocks; `NoRoutine` where no routine has the name `only`.
+/// Of the faults, the first that is due is answered, and nothing has run then: those of `run_call`, but for `Write`; `NoRoutine` where no
+/// routine has the name `only`.
 pub fn trace_call<D: Device + Drop>(
     alloc: Global,
     image: &[u8],
@@ -116,13 +150,12 @@ pub fn trace_call<D: Device + Drop>(
     only: Option<&str>,
     most: usize,
     kernel: &mut Kernel<D>,
-) -> Result<TracedCall, TraceFault>
+) -> Result<Result<TracedCall, Refusal>, TraceFault>
     // No block of the file is locked by others: `Kernel::vm_unlocked` tells it.
     requires unlocked { NoneLocked kernel.old.core.blocks }
-    // The model's run of the routine, and what was noted of its steps.
-    ensures ran { IfOk result (λ traced. (f : VmFile) → IsFileOf (D.medium.honest kernel.old.device) kernel.old.core f
-        → IsTracedCall (D.medium.honest kernel.old.device) (Throughout D.medium kernel.old.device kernel.new.device)
-        image.now name.now (texts words.now) (option_map (λ word. word.now) only.entry) most kernel.old.core kernel.new.core traced f) }
+    // The model's locks, its run of the routine, what was noted of its steps, and the unlocks; or a lock that was refused.
+    ensures ran { IfOk result (IsTraced D.medium kernel.old kernel.new image.now name.now (texts words.now)
+        (option_map (λ word. word.now) only.entry) most) }
     ensures due { IfErr result (WhyNotTraced image.now name.now (texts words.now) (option_map (λ word. word.now) only.entry)) }
     // Nothing runs before a fault.
     ensures kept { IfErr result (λ _. kernel.new ≡ kernel.old) }
@@ -139,20 +172,19 @@ pub fn trace_call<D: Device + Drop>(
     let Some(call) = call_on(&checked, name, words) else {
         return Err(TraceFault::Call(why_no_call(&checked, name, words)));
     };
-    if lends(&checked, &call) {
-        return Err(TraceFault::Lends);
-    }
     let Some((first, end)) = stretch_of(&checked, only) else {
         return Err(TraceFault::NoRoutine);
     };
     let Ok(mut notes) = Trace::new(alloc, first, end, most) else {
         return Err(TraceFault::Call(CallFault::Script(ScriptFault::Memory)));
     };
-    let outcome = trace(&checked, &call, kernel, &mut notes);
-    Ok(TracedCall {
-        checked,
-        routine: call.routine,
-        outcome,
-        trace: notes,
-    })
+    match trace_lent(&checked, &call, kernel, &mut notes) {
+        Ok(outcome) => Ok(Ok(TracedCall {
+            checked,
+            routine: call.routine,
+            outcome,
+            trace: notes,
+        })),
+        Err(refusal) => Ok(Err(refusal)),
+    }
 }

@@ -58,11 +58,6 @@ const NUMBERS: ArgText = ArgText::Words(
     "Its words w0 to w7: at most eight numbers, each from 0 to 65535 and within the bound of its word; then @H for each block that it borrows",
 );
 
-const TRACED_NUMBERS: ArgText = ArgText::Words(
-    "N",
-    "Its words w0 to w7: at most eight numbers, each from 0 to 65535 and within the bound of its word",
-);
-
 const ON_FILE: ArgText = ArgText::Path(
     "file",
     "The VM file that it works on, as `new` makes it; with none, one in memory",
@@ -221,7 +216,7 @@ static COMMANDS: [CommandText; 13] = [
         args: &[
             TEXT_OR_IMAGE,
             TRACED_NAME,
-            TRACED_NUMBERS,
+            NUMBERS,
             ON_FILE,
             REGION_SIZE,
             MOST_STEPS,

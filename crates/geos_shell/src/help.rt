@@ -120,8 +120,9 @@ Example:
 
 /// What is printed of the steps of a run.
 const TRACED: &str = "\
-The routine runs as by `geos call`, and its faults are those, but it borrows nothing. A line is printed for each step: the number of
-the line of the text, or of an image the pc, the instruction, and behind a `;` what the step wrote:
+The routine runs as by `geos call`, also on blocks of FILE that it borrows; its faults are those, and where a block can't be
+lent, `refused N` is all that is printed. A line is printed for each step: the number of the line of the text, or of an image
+the pc, the instruction, and behind a `;` what the step wrote:
   w0=5 k1=3            words and counters
   s0=mem 2             slot s0 holds the memory block 2; also `vm 2`, `group 2`; `s0=empty` behind an unlock
   p1=chunk 16 of s0    where a pointer leads: also `element 2 of chunk 16`, `item 16`, and `p2` for that of p2
@@ -136,7 +137,8 @@ printed, or as many as --steps says; with --only those in ROUTINE alone. The run
 same. With --count a line is printed for each instruction: how often it ran, its line or pc, and what it is.
 
 Example:
-  geos trace add.asm add 2 3        where add.asm is the text of `geos help`";
+  geos trace add.asm add 2 3        where add.asm is the text of `geos help`
+  geos trace examples/lend.asm --file lent.vm peek @1";
 
 /// Why a text is not assembled.
 const FAULTS: &str = "\

@@ -5,5 +5,5 @@ mod lines;
 mod steps;
 mod writes;
 
-pub use lines::{put_counts, put_end};
+pub use lines::{put_counts, put_end, put_refused};
 pub use steps::put_steps;

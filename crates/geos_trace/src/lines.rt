@@ -1,6 +1,6 @@
 //! The lines of instructions with how often each ran, and the line at the end.
 
-ghost use Rattle.std.specs.Prelude.{◌<◌, length};
+ghost use Rattle.std.specs.Prelude.{[], ◌∷◌, ◌≡◌, ◌<◌, ◌++◌, codes, decimal, length, OnOk};
 
 use geos_image::Image;
 use geos_listing::put_code;
@@ -55,5 +55,13 @@ pub fn put_end(out: &mut Vec<u8>, outcome: &Outcome, budget: u32) -> Result<(), 
         ", left ",
         u64::from(budget.saturating_sub(outcome.steps)),
     )?;
+    out.extend_from_slice(b"\n")
+}
+
+/// Appends what a call printed of which a block could not be locked, so that no routine ran: the number of the refusal, as a script has it.
+pub fn put_refused(out: &mut Vec<u8>, refusal: u16) -> Result<(), AllocError>
+    ensures { OnOk result (out.new.items ≡ out.old.items ++ codes "refused " ++ decimal refusal ++ 10 ∷ []) }
+{
+    put_numbered(out, "refused ", u64::from(refusal))?;
     out.extend_from_slice(b"\n")
 }

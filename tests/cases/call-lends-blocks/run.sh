@@ -1,4 +1,5 @@
-# A call on the command line lends the blocks of FILE whose handles stand behind its numbers, as a line of a script does.
+# A call on the command line lends the blocks of FILE whose handles stand behind its numbers, as a line of a script does;
+# so does one that is traced.
 export LC_ALL=C
 folder=$(mktemp -d)
 trap 'rm -rf "$folder"' EXIT
@@ -22,6 +23,12 @@ on_file two @3 @1 --label
 "$program" call "$text" peek @1
 "$program" dump file.vm
 
+echo "traced:"
+"$program" trace "$text" peek @1 --file file.vm
+"$program" trace "$text" peek @3 --file file.vm
+echo "status $?"
+"$program" trace "$text" peek @1 --file file.vm --steps 0
+
 echo "faults:"
 on_file peek
 on_file peek 1 2
@@ -36,7 +43,6 @@ on_file peek x @1
 on_file peek 1 2 3 4 5 6 7 8 9 @1
 on_file none @1
 on_file @1 peek
-"$program" trace "$text" peek @1 --file file.vm 2>&1
 "$program" trace "$text" peek --file file.vm 2>&1
 "$program" trace "$text" put @1 2>&1
 echo "status $?"

@@ -2,5 +2,6 @@ use Rattle.geos_cli.proofs.BytesPut.{updated}
 use Rattle.geos_cli.proofs.bytes.put_bytes.Goals as goal
 
 pub returns : goal.returns
-returns g c = updated g.D.Device.medium c.args.kernel.now c.put.new.kernel c.vupdate.new.self c.vupdate.result
-    c.put.ensures.unwritten c.vupdate.ensures.commits
+returns g c =
+    updated g.D.Device.medium c.args.place c.args.at c.args.bytes.now c.args.kernel.now c.put.new.kernel c.vupdate.new.self c.vupdate.result
+    c.in_ok-put.ensures.put c.put.ensures.unwritten c.vupdate.ensures.commits

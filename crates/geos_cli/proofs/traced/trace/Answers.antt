@@ -1,11 +1,11 @@
-use Rattle.std.proofs.Common.{◌≡◌, ◌∙◌, [], ap, subst, sym, true}
-use Rattle.std.specs.List.{AllByRecursion}
+use Rattle.std.proofs.Common.{◌≡◌, true}
 use Rattle.std.proofs.lemmas.Bool.{and_parts}
+use Rattle.std.proofs.lemmas.List.Elements.{recursion_from_All}
 use Rattle.geos_terms.specs.Names.{vm}
 use Rattle.geos_verify.specs.Lists.{all2}
 use Rattle.geos_machine.specs.Lent.{has_block}
 use Rattle.geos_machine.specs.Runs.{admits, entry_slots}
-use Rattle.geos_cli.specs.Script.{is_placed, lent_by, times}
+use Rattle.geos_cli.specs.Script.{is_placed, lent_handles}
 use Rattle.geos_cli.proofs.LentLocks.{lends-locked}
 use Rattle.geos_cli.proofs.traced.trace.Goals as goal
 
@@ -15,12 +15,8 @@ trace-requires-clause-lent g c =
     let call = c.args.call.now in
     let slots = entry_slots image call.routine in
     let core = c.args.kernel.now.core in
-    let none = c.requires.lends_none in
-    let known = c.memory_is_legal.ensures.file in
-    let unlocked = (c.memory_is_legal.ensures.unlocked known.0 known.1).0 c.requires.unlocked in
     lends-locked core slots call.handles (and_parts (admits image call.routine call.words) (all2 is_placed slots call.handles) c.requires.admitted).1
-    (subst (AllByRecursion (λ h. has_block core h ≡ true)) (sym none) tt)
-    (λ n. sym (c.memory_is_legal.ensures.locks known.0 known.1 (vm n)) ∙ unlocked n ∙ sym (ap (times n) none))
+    (recursion_from_All (λ h. has_block core h ≡ true) (lent_handles slots call.handles) c.requires.there) c.requires.counts
 
 pub trace-requires-clause-admitted : goal.trace-requires-clause-admitted
 trace-requires-clause-admitted g c =
@@ -28,5 +24,15 @@ trace-requires-clause-admitted g c =
     let call = c.args.call.now in
     (and_parts (admits image call.routine call.words) (all2 is_placed (entry_slots image call.routine) call.handles) c.requires.admitted).0
 
-pub returns-clause-unlocked : goal.returns-clause-unlocked
-returns-clause-unlocked g c = λ h handle. c.trace.ensures.locks (vm h) ∙ c.requires.unlocked h handle
+pub returns : goal.returns
+returns g c =
+    let known = c.memory_is_legal.ensures.file in
+    let traced = c.trace.ensures.ran known.0 known.1 in
+    record {
+      ran = c.trace.ensures.ran;
+      made = record { first = traced.first; end = traced.end; most = traced.most };
+      counts = λ n. c.trace.ensures.locks (vm n);
+      honest = c.trace.ensures.honest;
+      sees = c.trace.ensures.sees;
+      steadily = c.trace.ensures.steadily;
+    }

@@ -1,4 +1,4 @@
-use Rattle.std.proofs.Common.{◌≡◌, ◌∙◌, ◌+◌, refl, sym, subst, take, get_or, map, arith}
+use Rattle.std.proofs.Common.{◌∙◌, ◌+◌, refl, sym, subst, take, get_or, map, arith}
 use Rattle.vm_file.proofs.StateLaws.{steadily_then}
 use Rattle.geos_kernel.specs.Files.{vm_file_of}
 use Rattle.geos_text.specs.Words.{words}

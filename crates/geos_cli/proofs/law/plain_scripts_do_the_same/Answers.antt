@@ -1,0 +1,5 @@
+use Rattle.geos_cli.proofs.PlainLines.{plain-command, plain-first_bad, plain-runs}
+use Rattle.geos_cli.proofs.law.plain_scripts_do_the_same.Goals as goal
+
+pub returns : goal.returns
+returns g c = record { say = plain-command; bad = plain-first_bad; run = plain-runs g.D.Device.medium }
