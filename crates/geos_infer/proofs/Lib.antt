@@ -27,6 +27,7 @@ pub mod Longest
 pub mod Costs
 pub mod Strong
 pub mod Priced
+pub mod Answering
 pub mod Rising
 pub mod Unpayable
 pub mod Demand
