@@ -22,6 +22,7 @@ pub mod Meeting
 pub mod Noting
 pub mod Changes
 pub mod Onward
+pub mod Past
 pub mod Refused
 pub mod Longest
 pub mod Costs
