@@ -94,15 +94,16 @@ so-behind way known begin now next k so kept = elim (unless-at way known k) [
 -- Behind an edge
 
 -- counters behind an edge, which are as is known there
-pub record CountsTo (image : Parts) (i : Instr) (opcode : Opcode) (branch : Bool) (known : List Counter) (begin now : List ℕ) : Type 0 where
+pub record CountsTo (word : ℕ) (image : Parts) (i : Instr) (opcode : Opcode) (branch : Bool) (known : List Counter)
+    (begin now : List ℕ) : Type 0 where
   pub after : List ℕ
-  pub counts : Counts image i opcode branch now after
+  pub counts : Counts word image i opcode branch now after
   pub so : AreSo known begin after
 
-loop-false : (image : Parts) (i : Instr) (known next : List Counter) (begin now : List ℕ) (n : ℕ) (b : Bool)
+loop-false : (word : ℕ) (image : Parts) (i : Instr) (known next : List Counter) (begin now : List ℕ) (n : ℕ) (b : Bool)
     → (n == 0) ≡ b → AreSo known begin now → i.a < 4 → get_or now i.a 0 ≡ n
-    → option_map (set known i.a) (if b then Some (Is 0) else None) ≡ Some next → CountsTo image i Loop false next begin now
-loop-false image i known next begin now n true test so few is e =
+    → option_map (set known i.a) (if b then Some (Is 0) else None) ≡ Some next → CountsTo word image i Loop false next begin now
+loop-false word image i known next begin now n true test so few is e =
     let none : get_or now i.a 0 ≡ 0 = is ∙ eqb-true n 0 test in
     let same : set now i.a 0 ≡ now = ap (set now i.a) (sym none) ∙ set-get_or now i.a 0 in
     record {
@@ -111,13 +112,13 @@ loop-false image i known next begin now n true test so few is e =
       so = subst (λ c. AreSo c begin now) (same_Some (set known i.a (Is 0)) next e)
           (subst (AreSo (set known i.a (Is 0)) begin) same (so-set known begin now i.a 0 (Is 0) so few refl));
     }
-loop-false image i known next begin now n false test so few is e = absurd (none-some next e)
+loop-false word image i known next begin now n false test so few is e = absurd (none-some next e)
 
-loop-true : (image : Parts) (i : Instr) (known next : List Counter) (begin now : List ℕ) (n : ℕ) (b : Bool) → (n == 0) ≡ b
+loop-true : (word : ℕ) (image : Parts) (i : Instr) (known next : List Counter) (begin now : List ℕ) (n : ℕ) (b : Bool) → (n == 0) ≡ b
     → AreSo known begin now → i.a < 4 → get_or now i.a 0 ≡ n
-    → option_map (set known i.a) (if b then None else Some (Is (n - 1))) ≡ Some next → CountsTo image i Loop true next begin now
-loop-true image i known next begin now n true test so few is e = absurd (none-some next e)
-loop-true image i known next begin now n false test so few is e =
+    → option_map (set known i.a) (if b then None else Some (Is (n - 1))) ≡ Some next → CountsTo word image i Loop true next begin now
+loop-true word image i known next begin now n true test so few is e = absurd (none-some next e)
+loop-true word image i known next begin now n false test so few is e =
     let some = eqb-false n 0 test in
     record {
       after = set now i.a (get_or now i.a 0 - 1);
@@ -126,42 +127,44 @@ loop-true image i known next begin now n false test so few is e =
           (so-set known begin now i.a (get_or now i.a 0 - 1) (Is (n - 1)) so few (ap (λ (m : ℕ). m - 1) is));
     }
 
-loop-counts : (image : Parts) (i : Instr) (branch : Bool) (known next : List Counter) (begin now : List ℕ) (counter : Counter)
+loop-counts : (word : ℕ) (image : Parts) (i : Instr) (branch : Bool) (known next : List Counter) (begin now : List ℕ) (counter : Counter)
     → counter_at known i.a ≡ counter → AreSo known begin now → i.a < 4
-    → option_map (set known i.a) (loop_after counter branch) ≡ Some next → CountsTo image i Loop branch next begin now
-loop-counts image i false known next begin now (Is n) at so few e =
-    loop-false image i known next begin now n (n == 0) refl so few (subst (λ c. IsSo c (get_or begin i.a 0) (get_or now i.a 0)) at (so.each i.a)) e
-loop-counts image i true known next begin now (Is n) at so few e =
-    loop-true image i known next begin now n (n == 0) refl so few (subst (λ c. IsSo c (get_or begin i.a 0) (get_or now i.a 0)) at (so.each i.a)) e
-loop-counts image i branch known next begin now Kept at so few e = absurd (none-some next e)
-loop-counts image i branch known next begin now Unknown at so few e = absurd (none-some next e)
+    → option_map (set known i.a) (loop_after counter branch) ≡ Some next → CountsTo word image i Loop branch next begin now
+loop-counts word image i false known next begin now (Is n) at so few e =
+    loop-false word image i known next begin now n (n == 0) refl so few (subst (λ c. IsSo c (get_or begin i.a 0) (get_or now i.a 0)) at
+    (so.each i.a)) e
+loop-counts word image i true known next begin now (Is n) at so few e =
+    loop-true word image i known next begin now n (n == 0) refl so few (subst (λ c. IsSo c (get_or begin i.a 0) (get_or now i.a 0)) at
+    (so.each i.a)) e
+loop-counts word image i branch known next begin now Kept at so few e = absurd (none-some next e)
+loop-counts word image i branch known next begin now Unknown at so few e = absurd (none-some next e)
 
 -- what is known of counters behind an edge is so
-pub counts-to : (image : Parts) (i : Instr) (opcode : Opcode) (branch : Bool) (called known next : List Counter) (begin now : List ℕ)
+pub counts-to : (word : ℕ) (image : Parts) (i : Instr) (opcode : Opcode) (branch : Bool) (called known next : List Counter) (begin now : List ℕ)
     → FieldsFit opcode i → AreSo known begin now
-    → counters_after i opcode branch called known ≡ Some next → CountsTo image i opcode branch next begin now
-counts-to image i Setk branch called known next begin now fields so e =
+    → counters_after word i opcode branch called known ≡ Some next → CountsTo word image i opcode branch next begin now
+counts-to word image i Setk branch called known next begin now fields so e =
     record {
       after = set now i.a i.imm;
       counts = refl;
       so = subst (λ c. AreSo c begin (set now i.a i.imm))
           (same_Some (set known i.a (Is i.imm)) next e) (so-set known begin now i.a i.imm (Is i.imm) so fields.0 refl);
     }
-counts-to image i Setkw branch called known next begin now fields so e =
+counts-to word image i Setkw branch called known next begin now fields so e =
     record {
-      after = set now i.a 0;
+      after = set now i.a word;
       counts = refl;
-      so = subst (λ c. AreSo c begin (set now i.a 0))
-          (same_Some (set known i.a (Is 0)) next e) (so-set known begin now i.a 0 (Is 0) so fields.0 refl);
+      so = subst (λ c. AreSo c begin (set now i.a word))
+          (same_Some (set known i.a (Is word)) next e) (so-set known begin now i.a word (Is word) so fields.0 refl);
     }
-counts-to image i Loop branch called known next begin now fields so e = loop-counts image i branch known next begin now
+counts-to word image i Loop branch called known next begin now fields so e = loop-counts word image i branch known next begin now
     (counter_at known i.a) refl so fields.0 e
-counts-to image i Call branch called known next begin now fields so e =
+counts-to word image i Call branch called known next begin now fields so e =
     record {
       after = now;
       counts = record { len = refl; each = λ k touched. refl };
       so = subst (λ c. AreSo c begin now) (same_Some (zip2 unless_changed called known) next e)
           (record { four = so.four; each = λ k. so-behind called known begin now now k so (λ kept. refl) });
     }
-counts-to image i _ branch called known next begin now fields so e =
+counts-to word image i _ branch called known next begin now fields so e =
     record { after = now; counts = refl; so = subst (λ c. AreSo c begin now) (same_Some known next e) so }

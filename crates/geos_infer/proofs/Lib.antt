@@ -22,11 +22,13 @@ pub mod Meeting
 pub mod Noting
 pub mod Changes
 pub mod Onward
+pub mod Past
 pub mod Refused
 pub mod Longest
 pub mod Costs
 pub mod Strong
 pub mod Priced
+pub mod Answering
 pub mod Rising
 pub mod Unpayable
 pub mod Demand

@@ -5,6 +5,7 @@ use Rattle.std.proofs.lemmas.Bool.{cases_eq, cases_lt, false≢true}
 use Rattle.std.proofs.lemmas.List.{get_or-set_same, get_or-set_other}
 use Rattle.std.proofs.lemmas.Option.{same_Some}
 use Rattle.geos_image.specs.declared.point.Point.{Point}
+use Rattle.geos_image.specs.declared.row.Row.{Row}
 use Rattle.geos_image.specs.Parts.{Parts, start_of}
 use Rattle.geos_infer.specs.Ahead.{OnlyAhead, TakesAlong, NonePasses, GoesOn, IsLongestOver, IsLongestFrom}
 use Rattle.geos_infer.specs.Causes.{LoopsTo, ComesRound, IsKept, NoOtherHolds}
@@ -25,21 +26,22 @@ begins-in image r pc [] steps takes = takes.0
 begins-in image r pc (branch ∷ branches) steps takes = takes.2
 
 -- a way with counters is one without
-along : (image : Parts) (r : ℕ) (from : Place) (places : List Place) (to : Place) (steps : ℕ) (branches : List Bool) (rest : ℕ)
-    → Takes image r from places to steps → TakesAlong image r to.pc branches rest
+along : (rows : List (Option Row)) (image : Parts) (r : ℕ) (from : Place) (places : List Place) (to : Place) (steps : ℕ) (branches : List Bool)
+    (rest : ℕ)
+    → Takes rows image r from places to steps → TakesAlong image r to.pc branches rest
     → (more : List Bool) × TakesAlong image r from.pc more (steps + rest)
-along image r from [] to steps branches rest way further =
+along rows image r from [] to steps branches rest way further =
     let none : steps ≡ 0 = way.1 in
     let same : rest ≡ steps + rest = omega arith in (
       branches,
       subst (λ (n : ℕ). TakesAlong image r from.pc branches n) same
           (subst (λ (p : Place). TakesAlong image r p.pc branches rest) way.0 further),
     )
-along image r from (place ∷ places) to steps branches rest way further =
+along rows image r from (place ∷ places) to steps branches rest way further =
     let goes = way.2 in
     let here : TakesAlong image r place.pc (goes.branch ∷ branches) (taken_at image place.pc + rest) =
     (to.pc, rest, goes.within, goes.leads, further, refl) in
-    let so_far = along image r from places place way.0 (goes.branch ∷ branches) (taken_at image place.pc + rest) way.1 here in
+    let so_far = along rows image r from places place way.0 (goes.branch ∷ branches) (taken_at image place.pc + rest) way.1 here in
     let sum : steps ≡ way.0 + taken_at image place.pc = way.3 in
     let same : way.0 + (taken_at image place.pc + rest) ≡ steps + rest = omega arith in
     (so_far.0, subst (λ (n : ℕ). TakesAlong image r from.pc so_far.0 n) same so_far.1)
@@ -104,15 +106,16 @@ none-other image r (InTurn both) none other holds =
     let again = round-ahead image r none.steps.ahead both.at both.back.from holds.sets.here holds.sets.again in
     omega arith
 none-other image r StepsPass none other holds =
-    let way = along image r (record { pc = holds.from; counters = zeros }) holds.places holds.end holds.before []
-    (taken_at image holds.end.pc) holds.way (holds.ends, refl) in
-    let few = none.steps.few holds.from way.0 (holds.before + taken_at image holds.end.pc) way.1 in
-    let past = holds.past in
+    let past_way = holds.2 in
+    let way = along holds.0 image r (record { pc = past_way.from; counters = zeros }) past_way.places past_way.end past_way.before []
+    (taken_at image past_way.end.pc) past_way.way (past_way.ends, refl) in
+    let few = none.steps.few past_way.from way.0 (past_way.before + taken_at image past_way.end.pc) way.1 in
+    let past = past_way.past in
     omega arith
-none-other image r (WordUnbounded by_word) none other holds = none-round image r none.steps.ahead holds.for_loop.back
-    by_word.counter holds.for_loop.loops holds.for_loop.round
-none-other image r (NumberHigh by_number) none other holds = none-round image r none.steps.ahead holds.for_loop.back
-    by_number.counter holds.for_loop.loops holds.for_loop.round
+none-other image r (WordUnbounded by_word) none other holds = none-round image r none.steps.ahead holds.0.for_loop.back
+    by_word.counter holds.0.for_loop.loops holds.0.for_loop.round
+none-other image r (NumberHigh by_number) none other holds = none-round image r none.steps.ahead holds.0.for_loop.back
+    by_number.counter holds.0.for_loop.loops holds.0.for_loop.round
 none-other image r (GivenUp back) none other holds =
     let less = leads-ahead image r none.steps.ahead back.from back.to true holds.from holds.to holds.leads in
     let order = holds.order in

@@ -1,4 +1,4 @@
--- No image is accepted where more steps are taken on some way than a potential can say.
+-- What ways take is paid for in an image that is accepted.
 use Rattle.std.proofs.Common.{◌≡◌, ◌≤◌, ◌<◌, ℕ, zero, suc, ◌+◌, ◌*◌, Bool, true, false, List, [], ◌∷◌, length, map, take, drop, Option, Some, None, slice_get, get_or, set, refl, sym, ap, ◌∙◌, subst, arith, inl, inr, ◌⊎◌}
 use Rattle.std.specs.Prelude.{◌&&◌, ◌||◌, ◌==◌, if◌then◌else◌}
 use Rattle.std.specs.List.{list_any}
@@ -21,18 +21,17 @@ use Rattle.geos_verify.specs.Rules.{returns, HasPoint}
 use Rattle.geos_verify.specs.Touched.{calls, counts, points_of, touches_here, touches_within, touches, touched_by}
 use Rattle.geos_verify.specs.declared.place.Place.{Place as Known}
 use Rattle.geos_verify.specs.Places.{places}
-use Rattle.geos_verify.proofs.Places.{item_at, place_true, point-of as find-point}
+use Rattle.geos_verify.proofs.Places.{place_true, point-of as find-point}
 use Rattle.geos_semantics.specs.Lists.{dot}
 use Rattle.geos_semantics.specs.Theorem.{value}
 use Rattle.geos_verify.proofs.Leads.{leads-along, leads-branching, may_return, point_at}
 use Rattle.geos_semantics.proofs.Paid.{pays-value, pays_setting-value, pays_taking-value, pays_calling-value, spent-at}
 use Rattle.geos_infer.specs.Code.{IsPcOf, SameCode, instr_of, instrs_of}
-use Rattle.geos_infer.specs.Numbers.{zeros}
 use Rattle.geos_infer.specs.Solutions.{call_steps}
-use Rattle.geos_infer.specs.Taken.{Place, Counts, Takes, NoneIsAcceptedPast, taken_at}
+use Rattle.geos_infer.specs.Taken.{Place, Counts, Takes, taken_at, word_at}
 use Rattle.geos_infer.specs.Theorem.{HasAccepted}
 use Rattle.geos_infer.specs.Why.{LeadsTo}
-use Rattle.geos_infer.proofs.Asks.{zero-at, called}
+use Rattle.geos_infer.proofs.Asks.{called}
 use Rattle.geos_infer.proofs.Ends.{code-at, place-code-at}
 use Rattle.geos_infer.proofs.Wanted.{along-steps, ends-at, map-get, pays-steps}
 
@@ -50,7 +49,7 @@ dot-kept (c ∷ cs) (b ∷ before) (a ∷ after) len each =
     let first : c * a ≡ c * b = elim (each 0) [ inl none ↦ rw none (omega arith) | inr same ↦ rw same refl ] in
     omega (arith, rest, first)
 
-dot-zeros : (cs ks : List ℕ) → ((k : ℕ) → get_or ks k 0 ≡ 0) → dot cs ks ≡ 0
+pub dot-zeros : (cs ks : List ℕ) → ((k : ℕ) → get_or ks k 0 ≡ 0) → dot cs ks ≡ 0
 dot-zeros [] ks none = refl
 dot-zeros (c ∷ cs) [] none = refl
 dot-zeros (c ∷ cs) (k ∷ ks) none = let first : c * k ≡ 0 = rw (none 0) (omega arith) in omega (arith, first, dot-zeros cs ks (λ n. none (suc n)))
@@ -102,19 +101,20 @@ touches-same image other same k r =
 -- Edges
 
 -- what the edge to the next instruction takes is paid for
-along-value : (image other : Parts) (i : Instr) (opcode : Opcode) (row : Row) (p q : Potential) (before after : List ℕ)
-    → ((k r : ℕ) → touches other k r ≡ touches image k r) → length q.coefficients ≡ 4
-    → pays_along other i opcode row p q ≡ true → Counts image i opcode false before after → value q after + 1 + called other i opcode ≤ value p before
-along-value image other i Setk row p q before after touched four h is =
+along-value : (word : ℕ) (image other : Parts) (i : Instr) (opcode : Opcode) (row : Row) (p q : Potential) (before after : List ℕ)
+    → word ≤ bound row i.b → ((k r : ℕ) → touches other k r ≡ touches image k r) → length q.coefficients ≡ 4
+    → pays_along other i opcode row p q ≡ true → Counts word image i opcode false before after
+    → value q after + 1 + called other i opcode ≤ value p before
+along-value word image other i Setk row p q before after most touched four h is =
     rw is (let paid = pays_setting-value p q before i.a i.imm i.imm h (omega arith) in omega arith)
-along-value image other i Setkw row p q before after touched four h is =
-    rw is (let paid = pays_setting-value p q before i.a (bound row i.b) 0 h (omega arith) in omega arith)
-along-value image other i Loop row p q before after touched four h is =
+along-value word image other i Setkw row p q before after most touched four h is =
+    rw is (let paid = pays_setting-value p q before i.a (bound row i.b) word h most in omega arith)
+along-value word image other i Loop row p q before after most touched four h is =
     let paid = pays_setting-value p q before i.a 0 0 h (omega arith) in
     let unset : set before i.a 0 ≡ before = ap (set before i.a) (sym is.0) ∙ set-get_or before i.a 0 in
     let paid_here : value q before + 1 ≤ value p before = subst (λ (ks : List ℕ). value q ks + 1 ≤ value p before) unset paid in
     rw is.1 (omega arith)
-along-value image other i Call row p q before after touched four h is =
+along-value word image other i Call row p q before after most touched four h is =
     let paid = pays_calling-value p q before (budget_of other i.imm) (touched_by other i.imm) h in
     let kept : dot q.coefficients after ≡ dot q.coefficients before = dot-kept q.coefficients before after is.len each in
     omega (arith, kept, paid)
@@ -128,18 +128,18 @@ along-value image other i Call row p q before after touched four h is =
 
     each : (k : ℕ) → (get_or q.coefficients k 0 ≡ 0) ⊎ (get_or after k 0 ≡ get_or before k 0)
     each k = by_touch k (touches other k i.imm) refl
-along-value image other i _ row p q before after touched four h is =
+along-value word image other i _ row p q before after most touched four h is =
     rw is (let paid = pays-value p q before h in omega arith)
 
 -- what the edge to the target takes is
-branching-value : (image other : Parts) (i : Instr) (opcode : Opcode) (p q : Potential) (before after : List ℕ)
-    → branches opcode ≡ true → pays_branching i opcode p q ≡ true → Counts image i opcode true before after
+branching-value : (word : ℕ) (image other : Parts) (i : Instr) (opcode : Opcode) (p q : Potential) (before after : List ℕ)
+    → branches opcode ≡ true → pays_branching i opcode p q ≡ true → Counts word image i opcode true before after
     → value q after + 1 + called other i opcode ≤ value p before
-branching-value image other i Setk p q before after b h is = absurd cc
-branching-value image other i Setkw p q before after b h is = absurd cc
-branching-value image other i Loop p q before after b h is = rw is.1 (let paid = pays_taking-value p q before i.a h is.0 in omega arith)
-branching-value image other i Call p q before after b h is = absurd cc
-branching-value image other i _ p q before after b h is = rw is (let paid = pays-value p q before h in omega arith)
+branching-value word image other i Setk p q before after b h is = absurd cc
+branching-value word image other i Setkw p q before after b h is = absurd cc
+branching-value word image other i Loop p q before after b h is = rw is.1 (let paid = pays_taking-value p q before i.a h is.0 in omega arith)
+branching-value word image other i Call p q before after b h is = absurd cc
+branching-value word image other i _ p q before after b h is = rw is (let paid = pays-value p q before h in omega arith)
 
 -- an instruction returns, goes on to the next one, or jumps
 ends : (opcode : Opcode) → (returns opcode ≡ true) ⊎ ((falls_through opcode ≡ true) ⊎ (opcode ≡ Jmp))
@@ -182,59 +182,8 @@ module _ (image : Parts) (has : HasAccepted image) (r : ℕ) (routine : Routine)
       (has.fits.points pc found.0 (slice_get_within has.other.points pc found.0 found.1)) in
       subst PotentialFits (sym found.2.potential) fitting.potential
 
-  -- what an edge takes is paid for
-  edge-value : (pc to : ℕ) (before after : List ℕ) (point : Known) (branch : Bool) → HasPoint has.other r routine pc point
-      → (leads : LeadsTo image pc branch to) → Counts image leads.point.instr leads.point.instr.opcode branch before after
-      → (next : Known) × HasPoint has.other r routine to next × (value next.potential after + taken_at image pc ≤ value point.potential before)
-  edge-value pc to before after point false at leads counts =
-      let same = same-instr pc leads.point point leads.there at.read in
-      let falls : falls_through point.instr.opcode ≡ true = ap (λ (x : Instr). falls_through x.opcode) same ∙ leads.has in
-      let L = leads-along has.other.keyed has.other has.checked.0 has.checked.1 r pc routine point at point.instr.opcode refl falls in
-      let here = subst (λ (x : Instr). Counts image x x.opcode false before after) (sym same) counts in
-      let paid = along-value image has.other point.instr point.instr.opcode point.row point.potential L.point.potential
-      before after (touches-same image has.other has.same) (four-at (pc + 1) L.point L.has.read).four L.pays here in
-      let taken = takes-here pc leads.point leads.there in
-      let calls_it = calls-same point.instr leads.point.instr same in
-      (L.point, subst (λ (n : ℕ). HasPoint has.other r routine n L.point) leads.leads L.has, omega (arith, paid, taken, calls_it))
-  edge-value pc to before after point true at leads counts =
-      let same = same-instr pc leads.point point leads.there at.read in
-      let goes : branches point.instr.opcode ≡ true = ap (λ (x : Instr). branches x.opcode) same ∙ leads.has in
-      let L = leads-branching has.other.keyed has.other has.checked.0 has.checked.1 r pc routine point at point.instr.opcode refl goes in
-      let here = subst (λ (x : Instr). Counts image x x.opcode true before after) (sym same) counts in
-      let paid = branching-value image has.other point.instr point.instr.opcode point.potential L.point.potential before after goes L.pays here in
-      let taken = takes-here pc leads.point leads.there in
-      let calls_it = calls-same point.instr leads.point.instr same in (
-        L.point,
-        subst (λ (n : ℕ). HasPoint has.other r routine n L.point) (ap (λ (x : Instr). x.target) same ∙ leads.leads) L.has,
-        omega (arith, paid, taken, calls_it),
-      )
-
-  -- what a way takes is
-  way-value : (from to : Place) (places : List Place) (steps : ℕ) (point : Known) → HasPoint has.other r routine from.pc point
-      → Takes image r from places to steps
-      → (next : Known) × HasPoint has.other r routine to.pc next × (value next.potential to.counters + steps ≤ value point.potential from.counters)
-  way-value from to [] steps point at way = (
-    point,
-    subst (λ (p : Place). HasPoint has.other r routine p.pc point) (sym way.0) at,
-    subst (λ (p : Place). value point.potential p.counters + steps ≤ value point.potential from.counters)
-        (sym way.0) (let none = way.1 in omega arith),
-  )
-  way-value from to (place ∷ places) steps point at way =
-      let so_far = way-value from place places way.0 point at way.1 in
-      let goes = way.2 in
-      let last = edge-value place.pc to.pc place.counters to.counters so_far.0 goes.branch so_far.1 goes.leads goes.counts in
-      let all = way.3 in
-      let before = so_far.2 in
-      let here = last.2 in
-      (last.0, last.1, omega arith)
-
-  -- a way begins in the routine where it ends there
-  begins-in : (from to : Place) (places : List Place) (steps : ℕ) → Takes image r from places to steps → IsPcOf image r to.pc → IsPcOf image r from.pc
-  begins-in from to [] steps way within = subst (λ (p : Place). IsPcOf image r p.pc) way.0 within
-  begins-in from to (place ∷ places) steps way within = begins-in from place places way.0 way.1 way.2.within
-
   -- what an instruction takes is paid for, also that of a return
-  instr-paid : (pc : ℕ) (point : Known) → HasPoint has.other r routine pc point → taken_at image pc ≤ point.potential.constant
+  pub instr-paid : (pc : ℕ) (point : Known) → HasPoint has.other r routine pc point → taken_at image pc ≤ point.potential.constant
   instr-paid pc point at =
       let old = map-get instr_of image.points pc point.instr (ap (λ (code : List Instr). slice_get code pc) (sym has.same.instrs)
       ∙ place-code-at has.other pc point at.read) in
@@ -262,18 +211,61 @@ module _ (image : Parts) (has : HasAccepted image) (r : ℕ) (routine : Routine)
           let none : call_steps has.other point.instr ≡ 0 = ap (called has.other point.instr) jumps in
           omega (arith, taken, calls_it, none, paid)
 
--- where more steps are taken on some way than a potential can say, no image is accepted
-pub none-accepted-past : NoneIsAcceptedPast
-none-accepted-past image r lt past has =
-    let there = item_at has.other.routines r (subst (λ (routines : List Routine). r < length routines) (sym has.same.routines) lt) in
-    let begins = begins-in image has r there.0 there.1 (record { pc = past.from; counters = zeros }) past.end
-    past.places past.before past.way past.ends in
-    let first = point-of image has r there.0 there.1 past.from begins in
-    let last = way-value image has r there.0 there.1 (record { pc = past.from; counters = zeros }) past.end past.places
-    past.before first.0 first.1 past.way in
-    let paid = instr-paid image has r there.0 there.1 past.end.pc last.0 last.1 in
-    let none : dot first.0.potential.coefficients zeros ≡ 0 = dot-zeros first.0.potential.coefficients zeros zero-at in
-    let long = (four-at image has r there.0 there.1 past.from first.0 first.1.read).constant in
-    let before = last.2 in
-    let more = past.past in
-    absurd (omega arith)
+  -- a way begins in the routine where it ends there
+  pub begins-in : (rows : List (Option Row)) (from to : Place) (places : List Place) (steps : ℕ) → Takes rows image r from places to steps
+      → IsPcOf image r to.pc → IsPcOf image r from.pc
+  begins-in rows from to [] steps way within = subst (λ (p : Place). IsPcOf image r p.pc) way.0 within
+  begins-in rows from to (place ∷ places) steps way within = begins-in rows from place places way.0 way.1 way.2.within
+
+  module _ (rows : List (Option Row)) (most : (pc : ℕ) (point : Known) → IsPcOf image r pc → slice_get (places has.other) pc ≡ Some point
+      → (word : ℕ) → word_at rows pc word ≤ bound point.row word) where
+    -- what an edge takes is paid for
+    edge-value : (pc to : ℕ) (before after : List ℕ) (point : Known) (branch : Bool) → IsPcOf image r pc
+        → HasPoint has.other r routine pc point → (leads : LeadsTo image pc branch to)
+        → Counts (word_at rows pc leads.point.instr.b) image leads.point.instr leads.point.instr.opcode branch before after
+        → (next : Known) × HasPoint has.other r routine to next × (value next.potential after + taken_at image pc ≤ value point.potential before)
+    edge-value pc to before after point false within at leads counts =
+        let same = same-instr pc leads.point point leads.there at.read in
+        let falls : falls_through point.instr.opcode ≡ true = ap (λ (x : Instr). falls_through x.opcode) same ∙ leads.has in
+        let L = leads-along has.other.keyed has.other has.checked.0 has.checked.1 r pc routine point at point.instr.opcode refl falls in
+        let here = subst (λ (x : Instr). Counts (word_at rows pc x.b) image x x.opcode false before after) (sym same) counts in
+        let paid = along-value
+        (word_at rows pc point.instr.b) image has.other point.instr point.instr.opcode point.row point.potential L.point.potential
+        before after (most pc point within at.read point.instr.b) (touches-same image has.other has.same) (four-at
+        (pc + 1) L.point L.has.read).four L.pays here in
+        let taken = takes-here pc leads.point leads.there in
+        let calls_it = calls-same point.instr leads.point.instr same in
+        (L.point, subst (λ (n : ℕ). HasPoint has.other r routine n L.point) leads.leads L.has, omega (arith, paid, taken, calls_it))
+    edge-value pc to before after point true within at leads counts =
+        let same = same-instr pc leads.point point leads.there at.read in
+        let goes : branches point.instr.opcode ≡ true = ap (λ (x : Instr). branches x.opcode) same ∙ leads.has in
+        let L = leads-branching has.other.keyed has.other has.checked.0 has.checked.1 r pc routine point at point.instr.opcode refl goes in
+        let here = subst (λ (x : Instr). Counts (word_at rows pc x.b) image x x.opcode true before after) (sym same) counts in
+        let paid = branching-value
+        (word_at rows pc point.instr.b) image has.other point.instr point.instr.opcode point.potential L.point.potential
+        before after goes L.pays here in
+        let taken = takes-here pc leads.point leads.there in
+        let calls_it = calls-same point.instr leads.point.instr same in (
+          L.point,
+          subst (λ (n : ℕ). HasPoint has.other r routine n L.point) (ap (λ (x : Instr). x.target) same ∙ leads.leads) L.has,
+          omega (arith, paid, taken, calls_it),
+        )
+
+    -- what a way takes is
+    pub way-value : (from to : Place) (places : List Place) (steps : ℕ) (point : Known) → HasPoint has.other r routine from.pc point
+        → Takes rows image r from places to steps
+        → (next : Known) × HasPoint has.other r routine to.pc next × (value next.potential to.counters + steps ≤ value point.potential from.counters)
+    way-value from to [] steps point at way = (
+      point,
+      subst (λ (p : Place). HasPoint has.other r routine p.pc point) (sym way.0) at,
+      subst (λ (p : Place). value point.potential p.counters + steps ≤ value point.potential from.counters)
+          (sym way.0) (let none = way.1 in omega arith),
+    )
+    way-value from to (place ∷ places) steps point at way =
+        let so_far = way-value from place places way.0 point at way.1 in
+        let goes = way.2 in
+        let last = edge-value place.pc to.pc place.counters to.counters so_far.0 goes.branch goes.within so_far.1 goes.leads goes.counts in
+        let all = way.3 in
+        let before = so_far.2 in
+        let here = last.2 in
+        (last.0, last.1, omega arith)

@@ -24,13 +24,14 @@ use Rattle.geos_verify.proofs.Leads.{leads-along, leads-branching, may_begin}
 use Rattle.geos_verify.proofs.Places.{item_at}
 use Rattle.geos_semantics.proofs.Paid.{spent-at}
 use Rattle.geos_infer.specs.Causes.{is_loop, calls_touching, LeadsUnpaid, IsUnpaidWay, GoesRound, MayNotPay, LeadsIdle, IsIdleWay, IsNeverPaid, NoneIsAcceptedFor}
-use Rattle.geos_infer.specs.declared.cause.Cause.TheVariants.{NoLoop, TouchedWithin, TouchedBefore, StepsPass}
+use Rattle.geos_infer.specs.declared.cause.Cause.TheVariants.{NoLoop, TouchedWithin, TouchedBefore, StepsPass, WordUnbounded, NumberHigh}
 use Rattle.geos_infer.specs.Code.{IsPcOf}
 use Rattle.geos_infer.specs.Numbers.{zeros}
 use Rattle.geos_infer.specs.Theorem.{HasAccepted}
 use Rattle.geos_infer.specs.Trails.{IsTrail, keeps_counter}
 use Rattle.geos_infer.specs.Why.{LeadsTo}
-use Rattle.geos_infer.proofs.Refused.{same-instr, point-of, four-at, touches-same, none-accepted-past}
+use Rattle.geos_infer.proofs.Past.{words-none, none-accepted-past}
+use Rattle.geos_infer.proofs.Refused.{same-instr, point-of, four-at, touches-same}
 use Rattle.geos_infer.proofs.Strong.{bound-at}
 use Rattle.geos_infer.proofs.Wanted.{along-steps}
 
@@ -266,5 +267,7 @@ pub none-accepted-for : NoneIsAcceptedFor
 none-accepted-for image r (NoLoop back) lt final holds has = none-accepted-round image r lt (round-never image r back.from back.to holds) has
 none-accepted-for image r (TouchedWithin within) lt final holds has = none-accepted-round image r lt holds.1 has
 none-accepted-for image r (TouchedBefore within) lt final holds has = none-accepted-round image r lt holds.1 has
-none-accepted-for image r StepsPass lt final holds has = none-accepted-past image r lt holds has
+none-accepted-for image r StepsPass lt final holds has = none-accepted-past image r lt (words-none image r holds) has
+none-accepted-for image r (WordUnbounded by_word) lt final holds has = none-accepted-past image r lt holds.1 has
+none-accepted-for image r (NumberHigh by_number) lt final holds has = none-accepted-past image r lt holds.1 has
 none-accepted-for image r _ lt final holds has = absurd (false≢true final)

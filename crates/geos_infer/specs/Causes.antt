@@ -236,8 +236,8 @@ Holds image r (TouchedWithin within) = TouchesWithin image r within × IsNeverPa
 Holds image r (TouchedBefore within) = TouchesBefore image r within × IsNeverPaid image r
 Holds image r (InTurn both) = WaitInTurn image r both
 Holds image r StepsPass = taken.StepsPass image r
-Holds image r (WordUnbounded by_word) = SetsByWord image r by_word
-Holds image r (NumberHigh by_number) = SetsByNumber image r by_number
+Holds image r (WordUnbounded by_word) = SetsByWord image r by_word × taken.WordsPass image r
+Holds image r (NumberHigh by_number) = SetsByNumber image r by_number × taken.WordsPass image r
 Holds image r (GivenUp back) = LeadsBack image r back
 Holds image r StepsMayPass = MayPass image r
 Holds image r (NoSteps back) = LeadsBack image r back × (IsNeverPaid image r → ⊥)
@@ -258,6 +258,8 @@ is_final (NoLoop back) = true
 is_final (TouchedWithin within) = true
 is_final (TouchedBefore within) = true
 is_final StepsPass = true
+is_final (WordUnbounded by_word) = true
+is_final (NumberHigh by_number) = true
 is_final _ = false
 
 -- where such a cause holds of some routine, no image is accepted that has this code

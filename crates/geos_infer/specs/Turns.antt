@@ -4,6 +4,7 @@ use Rattle.geos_opcodes.specs.declared.opcode.Opcode.{Opcode}
 use Rattle.geos_opcodes.specs.declared.opcode.Opcode.TheVariants.{Setk, Setkw, Loop, Call}
 use Rattle.geos_image.specs.declared.instr.Instr.{Instr}
 use Rattle.geos_image.specs.declared.point.Point.{Point}
+use Rattle.geos_image.specs.declared.row.Row.{Row}
 use Rattle.geos_image.specs.Parts.{Parts}
 use Rattle.geos_verify.specs.Lists.{zip2}
 use Rattle.geos_infer.specs.declared.counters.Counter.{Counter}
@@ -49,15 +50,15 @@ loop_after (Is n) true = if n == 0 then None else Some (Is (n - 1))
 loop_after (Is n) false = if n == 0 then Some (Is 0) else None
 loop_after _ branch = None
 
--- what is known of counters behind an edge of an instruction, if it is taken, where a call changes such ones
-abbrev pub counters_after : Instr → Opcode → Bool → List Counter → List Counter → Option (List Counter)
-counters_after i Setk branch called known = Some (slice_set known i.a (Is i.imm))
-counters_after i Setkw branch called known = Some (slice_set known i.a (Is 0))
-counters_after i Loop branch called known = option_map (slice_set known i.a) (loop_after (counter_at known i.a) branch)
-counters_after i Call branch called known = Some (zip2 unless_changed called known)
-counters_after i _ branch called known = Some known
+-- what is known of counters behind an edge of an instruction, if it is taken, where a word is so much, and a call changes such ones
+abbrev pub counters_after : ℕ → Instr → Opcode → Bool → List Counter → List Counter → Option (List Counter)
+counters_after word i Setk branch called known = Some (slice_set known i.a (Is i.imm))
+counters_after word i Setkw branch called known = Some (slice_set known i.a (Is word))
+counters_after word i Loop branch called known = option_map (slice_set known i.a) (loop_after (counter_at known i.a) branch)
+counters_after word i Call branch called known = Some (zip2 unless_changed called known)
+counters_after word i _ branch called known = Some known
 
--- Ways
+-- Ways, on which words are as much as rows say
 
 -- where ways begin: at some pc from one up to another, with counters of which so much is known
 pub record Begin : Type 0 where
@@ -74,44 +75,45 @@ abbrev pub begin_from : ℕ → ℕ → Begin
 begin_from low high = record { low = low; high = high; known = all_are (Is 0) }
 
 -- a way that begins with these counters comes to a pc, takes at least so many steps, and counters are as known there
-pub record ComesTo (image : Parts) (r : ℕ) (begin : Begin) (counters : List ℕ) (pc : ℕ) (reach : Reach) : Type 0 where
+pub record ComesTo (rows : List (Option Row)) (image : Parts) (r : ℕ) (begin : Begin) (counters : List ℕ) (pc : ℕ) (reach : Reach) : Type 0 where
   pub from : ℕ
   pub above : begin.low ≤ from
   pub below : from ≤ begin.high
   pub places : List Place
   pub now : List ℕ
   pub steps : ℕ
-  pub way : Takes image r (record { pc = from; counters = counters }) places (record { pc = pc; counters = now }) steps
+  pub way : Takes rows image r (record { pc = from; counters = counters }) places (record { pc = pc; counters = now }) steps
   pub least : reach.steps ≤ steps
   pub so : AreSo reach.counters counters now
 
 -- the same whatever the counters are at first
-abbrev pub AlwaysComesTo : Parts → ℕ → Begin → ℕ → Reach → Type 0
-AlwaysComesTo image r begin pc reach = (counters : List ℕ) → AreSo begin.known counters counters → ComesTo image r begin counters pc reach
+abbrev pub AlwaysComesTo : List (Option Row) → Parts → ℕ → Begin → ℕ → Reach → Type 0
+AlwaysComesTo rows image r begin pc reach = (counters : List ℕ) → AreSo begin.known counters counters → ComesTo rows image r begin counters pc reach
 
 -- ways that come to a pc go on to another
-abbrev pub GoOn : Parts → ℕ → ℕ → Reach → ℕ → Reach → Type 0
-GoOn image r pc reach to next = (begin : Begin) → AlwaysComesTo image r begin pc reach → AlwaysComesTo image r begin to next
+abbrev pub GoOn : List (Option Row) → Parts → ℕ → ℕ → Reach → ℕ → Reach → Type 0
+GoOn rows image r pc reach to next = (begin : Begin) → AlwaysComesTo rows image r begin pc reach → AlwaysComesTo rows image r begin to next
 
 -- from a pc up to another, what a table says of ways to places is so
-abbrev pub AreReached : Parts → ℕ → Begin → ℕ → ℕ → List (Option Reach) → Type 0
-AreReached image r begin low high reached = (pc : ℕ) (reach : Reach) → low ≤ pc → pc ≤ high → slice_index_or reached pc None ≡ Some reach
-    → AlwaysComesTo image r begin pc reach
+abbrev pub AreReached : List (Option Row) → Parts → ℕ → Begin → ℕ → ℕ → List (Option Reach) → Type 0
+AreReached rows image r begin low high reached = (pc : ℕ) (reach : Reach) → low ≤ pc → pc ≤ high → slice_index_or reached pc None ≡ Some reach
+    → AlwaysComesTo rows image r begin pc reach
 
 -- what a table says of ways to these places is so next, if it was
-abbrev pub StayReached : Parts → ℕ → ℕ → ℕ → List (Option Reach) → List (Option Reach) → Type 0
-StayReached image r low high reached next = (begin : Begin) → AreReached image r begin low high reached → AreReached image r begin low high next
+abbrev pub StayReached : List (Option Row) → Parts → ℕ → ℕ → ℕ → List (Option Reach) → List (Option Reach) → Type 0
+StayReached rows image r low high reached next = (begin : Begin) → AreReached rows image r begin low high reached
+    → AreReached rows image r begin low high next
 
 -- the instruction at a pc of routine r is a LOOP, and a turn leads from its target to it again, with its counter as before
-pub record IsTurn (image : Parts) (r pc : ℕ) (turn : Reach) : Type 0 where
+pub record IsTurn (rows : List (Option Row)) (image : Parts) (r pc : ℕ) (turn : Reach) : Type 0 where
   pub within : IsPcOf image r pc
   pub point : Point
   pub there : slice_get image.points pc ≡ Some point
   pub loops : point.instr.opcode ≡ Loop
   pub few : point.instr.a < 4
-  pub way : AlwaysComesTo image r (begin_at point.instr.target) pc turn
+  pub way : AlwaysComesTo rows image r (begin_at point.instr.target) pc turn
   pub kept : counter_at turn.counters point.instr.a ≡ Kept
 
 -- what a table says of turns is so
-abbrev pub AreTurns : Parts → ℕ → List (Option Reach) → Type 0
-AreTurns image r turns = (pc : ℕ) (turn : Reach) → slice_index_or turns pc None ≡ Some turn → IsTurn image r pc turn
+abbrev pub AreTurns : List (Option Row) → Parts → ℕ → List (Option Reach) → Type 0
+AreTurns rows image r turns = (pc : ℕ) (turn : Reach) → slice_index_or turns pc None ≡ Some turn → IsTurn rows image r pc turn

@@ -1,10 +1,11 @@
 //! Why no rows or no numbers of steps are found for a routine.
 
-ghost use Rattle.std.specs.Prelude.{◌≡◌, ◌<◌, ◌≤◌, false, length, IfSome, IfNone, IfOk};
+ghost use Rattle.std.specs.Prelude.{◌≡◌, ◌<◌, ◌≤◌, true, false, length, IfSome, IfNone, IfOk};
 ghost use Rattle.geos_infer.specs.Ahead.{OnlyAhead};
 ghost use Rattle.geos_infer.specs.Causes.{LeadsBack, KnowsTouched, IsNeverPaid, SetsWithin, Holds, NoOtherHolds, NoneIsAcceptedFor, tells_of_slots};
 ghost use Rattle.geos_infer.specs.Code.{TargetAhead};
 ghost use Rattle.geos_infer.specs.Reached.{FitWhereReached};
+ghost use Rattle.geos_infer.specs.Taken.{StepsPass};
 ghost use Rattle.geos_infer.specs.Why.{MeetAlike};
 
 use crate::ahead::may_pass;
@@ -103,7 +104,8 @@ pub enum Cause {
     InTurn(LoopPair),
     /// On some way more steps are taken than a potential can say.
     StepsPass,
-    /// The numbers of steps pass what a potential can say, and a counter is set for a loop to a word of which too little is known.
+    /// On some way more steps are taken than a potential can say, if words are as much as they may be; and a counter is set for a loop to a
+    /// word of which too little is known.
     WordUnbounded(ByWord),
     /// The same, and a counter is set to a number for a loop.
     NumberHigh(ByNumber),
@@ -240,8 +242,52 @@ fn find_set(
     None
 }
 
+/// The first way that leads back, as the cause where the search took too long.
+fn cause_of_looks(body: &Body) -> Option<Cause>
+    ensures { IfSome result (Holds body.now.image.now body.now.r) }
+{
+    match find_back(body) {
+        Some(back) => Some(Cause::GivenUp(back)),
+        None => None,
+    }
+}
+
+/// Loops that wait on each other, as the cause.
+fn cause_in_turn(
+    body: &Body,
+    touching: &Touching,
+    search: &Search,
+    trails: &mut Trails,
+) -> Option<Cause>
+    requires { KnowsTouched body.now.image.now touching.now }
+    ensures { IfSome result (Holds body.now.image.now body.now.r) }
+{
+    match find_in_turn(body, touching, &search.graph, &search.splitting, trails) {
+        Some(pair) => Some(Cause::InTurn(pair)),
+        None => None,
+    }
+}
+
+/// Where in a component the counter of a LOOP is set for it, as the cause.
+fn cause_of_set(
+    body: &Body,
+    touching: &Touching,
+    search: &Search,
+    piece: &Piece,
+    trails: &mut Trails,
+) -> Option<Cause>
+    requires { KnowsTouched body.now.image.now touching.now }
+    ensures { IfSome result (Holds body.now.image.now body.now.r) }
+{
+    match find_set(body, touching, search, piece, trails) {
+        Some(within) => Some(Cause::SetWithin(within)),
+        None => None,
+    }
+}
+
 /// Why no numbers of steps are found, from what was in the way.
 fn cause_of_lack(
+    alloc: Global,
     body: &Body,
     touching: &Touching,
     known: &Known,
@@ -249,43 +295,22 @@ fn cause_of_lack(
     lack: Lack,
     trails: &mut Trails,
     strongest: &mut Strongest,
-) -> Option<Cause>
+) -> Result<Option<Cause>, AllocError>
     requires touched { KnowsTouched body.now.image.now touching.now }
     requires rows { FitWhereReached body.now.image.now body.now.r known.now }
-    ensures { IfSome result (Holds body.now.image.now body.now.r) }
+    ensures { IfOk result (λ cause. IfSome cause (Holds body.now.image.now body.now.r)) }
 {
     match lack {
-        Lack::Stuck(piece) => cause_of_stuck(body, touching, search, &piece, trails),
-        Lack::SetWithin(piece) => match find_set(body, touching, search, &piece, trails) {
-            Some(within) => Some(Cause::SetWithin(within)),
-            None => None,
-        },
+        Lack::Stuck(piece) => Ok(cause_of_stuck(body, touching, search, &piece, trails)),
+        Lack::SetWithin(piece) => Ok(cause_of_set(body, touching, search, &piece, trails)),
         Lack::Passes => {
-            if let Some(pair) = find_in_turn(
-                body,
-                touching,
-                &search.graph,
-                &search.splitting,
-                trails,
-            ) {
-                return Some(Cause::InTurn(pair));
+            if let Some(cause) = cause_in_turn(body, touching, search, trails) {
+                return Ok(Some(cause));
             }
-            find_dear(body, touching, known, search, trails, strongest)
+            find_dear(alloc, body, touching, known, search, trails, strongest)
         }
-        Lack::InTurn => match find_in_turn(
-            body,
-            touching,
-            &search.graph,
-            &search.splitting,
-            trails,
-        ) {
-            Some(pair) => Some(Cause::InTurn(pair)),
-            None => None,
-        },
-        Lack::Looks => match find_back(body) {
-            Some(back) => Some(Cause::GivenUp(back)),
-            None => None,
-        },
+        Lack::InTurn => Ok(cause_in_turn(body, touching, search, trails)),
+        Lack::Looks => Ok(cause_of_looks(body)),
     }
 }
 
@@ -319,10 +344,16 @@ impl Tables {
     }
 
     /// What was in the way of the search, in an author's terms.
-    fn cause(&mut self, body: &Body, touching: &Touching, known: &Known) -> Option<Cause>
+    fn cause(
+        &mut self,
+        alloc: Global,
+        body: &Body,
+        touching: &Touching,
+        known: &Known,
+    ) -> Result<Option<Cause>, AllocError>
         requires touched { KnowsTouched body.now.image.now touching.now }
         requires rows { FitWhereReached body.now.image.now body.now.r known.now }
-        ensures { IfSome result (Holds body.now.image.now body.now.r) }
+        ensures { IfOk result (λ cause. IfSome cause (Holds body.now.image.now body.now.r)) }
     {
         let Tables {
             search,
@@ -331,8 +362,10 @@ impl Tables {
             strongest,
         } = self;
         match search.find(body, known, &touching.certain, potentials) {
-            Ok(()) => None,
-            Err(lack) => { cause_of_lack(body, touching, known, search, lack, trails, strongest) }
+            Ok(()) => Ok(None),
+            Err(lack) => cause_of_lack(
+                alloc, body, touching, known, search, lack, trails, strongest,
+            ),
         }
     }
 }
@@ -349,10 +382,19 @@ fn cause_of_search(
     ensures { IfOk result (λ cause. IfSome cause (Holds body.now.image.now body.now.r)) }
 {
     let mut tables = Tables::new(alloc)?;
-    let cause = tables.cause(body, touching, known);
+    let cause = tables.cause(alloc, body, touching, known);
     // By a call, so that the check does not go over each table where this function ends.
     drop(tables);
-    Ok(cause)
+    cause
+}
+
+/// Whether on some way more steps are taken than a potential can say, if each word is 0.
+fn least_steps_pass(alloc: Global, body: &Body, touching: &Touching) -> Result<bool, AllocError>
+    ensures { IfOk result (λ passes. passes ≡ true → StepsPass body.now.image.now body.now.r) }
+{
+    let nothing = Table::new(alloc, None)?;
+    let passes = steps_pass(alloc, body, &touching.certain, &nothing, false)?;
+    Ok(passes)
 }
 
 /// Why no numbers of steps are found where rows are. That the steps pass the limit comes first: then none are enough, whatever else
@@ -367,7 +409,7 @@ fn cause_of_steps(
     requires rows { FitWhereReached body.now.image.now body.now.r known.now }
     ensures { IfOk result (λ cause. IfSome cause (Holds body.now.image.now body.now.r)) }
 {
-    if steps_pass(alloc, body, &touching.certain)? {
+    if least_steps_pass(alloc, body, touching)? {
         return Ok(Some(Cause::StepsPass));
     }
     cause_of_search(alloc, body, touching, known)

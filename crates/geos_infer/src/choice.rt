@@ -1,6 +1,7 @@
 //! Which LOOPs are to pay for ways round among the places of a component.
 
-ghost use Rattle.std.specs.Prelude.{◌<◌};
+ghost use Rattle.std.specs.Prelude.{◌≡◌, ◌<◌, ◌==◌, true, min, Some, MatchOption};
+ghost use Rattle.geos_infer.specs.Arcs.{unit_at};
 
 use crate::classes::Classes;
 use crate::graph::Graph;
@@ -49,6 +50,7 @@ impl Tier {
     /// Whether the LOOP of a counter at a place of a component may pay, where it is noted from where its counters are set.
     fn may_pay(self, classes: &Classes, pc: u16, counter: u8) -> bool
         requires { pc < 4096 }
+        ensures { result ≡ true → (unit_at classes.now.touched pc counter == 0) ≡ true }
     {
         if classes.is_touched(pc, counter) {
             return false;
@@ -92,7 +94,9 @@ impl Chosen {
 }
 
 /// The less of two prices, where there may be no first one.
-fn least(a: Option<u32>, b: u32) -> Option<u32> {
+fn least(a: Option<u32>, b: u32) -> Option<u32>
+    ensures { MatchOption a (result ≡ Some b) (λ other. result ≡ Some (min other b)) }
+{
     match a {
         Some(a) => Some(a.min(b)),
         None => Some(b),

@@ -1,6 +1,6 @@
 //! Where the unit of a counter may not be wanted, and what it costs.
 
-ghost use Rattle.std.specs.Prelude.{◌≡◌, ◌<◌, ◌==◌, not};
+ghost use Rattle.std.specs.Prelude.{◌≡◌, ◌<◌, ◌==◌, ◌&&◌, not};
 ghost use Rattle.geos_infer.specs.Arcs.{unit_at};
 ghost use Rattle.geos_infer.specs.Ranks.{noted_idle};
 
@@ -166,7 +166,8 @@ impl Classes {
     /// Whether a counter is 0 at a place.
     pub(crate) fn is_spent(&self, pc: u16, counter: u8) -> bool
         requires { pc < 4096 }
+        ensures { result ≡ not (noted_idle self.now pc counter) && (unit_at self.now.prices pc counter == 0) }
     {
-        !self.is_touched(pc, counter) && !self.is_unset(pc, counter) && self.price(pc, counter) == 0
+        !self.is_idle(pc, counter) && self.price(pc, counter) == 0
     }
 }

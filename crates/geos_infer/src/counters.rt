@@ -111,19 +111,20 @@ fn loop_after(counter: Counter, branch: bool) -> Option<Counter>
     }
 }
 
-/// What is known of the counters behind an edge of an instruction, if it is taken, where a call changes such ones.
+/// What is known of the counters behind an edge of an instruction, if it is taken, where a word is so much, and a call changes such ones.
 pub(crate) fn counters_after(
     i: &Instr,
     branch: bool,
+    word: u16,
     called: &[Counter; 4],
     counters: &[Counter; 4],
 ) -> Option<[Counter; 4]>
     requires { FieldsFit i.now.opcode i.now }
-    ensures { result ≡ counters_after i.now i.now.opcode branch called.now counters.now }
+    ensures { result ≡ counters_after word i.now i.now.opcode branch called.now counters.now }
 {
     match i.opcode {
         Opcode::Setk => Some(with_counter(counters, i.a, Counter::Is(i.imm))),
-        Opcode::Setkw => Some(with_counter(counters, i.a, Counter::Is(0))),
+        Opcode::Setkw => Some(with_counter(counters, i.a, Counter::Is(word))),
         Opcode::Loop => match loop_after(counter_at(counters, i.a), branch) {
             Some(counter) => Some(with_counter(counters, i.a, counter)),
             None => None,

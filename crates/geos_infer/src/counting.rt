@@ -5,7 +5,7 @@ ghost use Rattle.geos_image.specs.Fields.{FieldsFit};
 ghost use Rattle.geos_verify.specs.Rows.{bound};
 ghost use Rattle.geos_infer.specs.Arcs.{counting_of, IsArcIf};
 ghost use Rattle.geos_infer.specs.Flow.{row_of, known_at};
-ghost use Rattle.geos_infer.specs.Taken.{taken_at};
+ghost use Rattle.geos_infer.specs.Taken.{taken_at, word_at};
 
 use crate::arcs::{Arc, Counting};
 use crate::body::Body;
@@ -23,6 +23,20 @@ pub(crate) fn bound_of(row: &Row, word: u8) -> u16
     match row.bounds.get(usize::from(word)) {
         Some(bound) => *bound,
         None => u16::MAX,
+    }
+}
+
+/// How much a word is taken for at a pc: as much as it may be by the row that is known there; 0, the least, where none is.
+pub(crate) fn word_at(rows: &Known, pc: u16, word: u8) -> u16
+    requires { pc < 4096 }
+    ensures { result ≡ word_at rows.now pc word }
+{
+    match rows.at(pc) {
+        Some(row) => match row.bounds.get(usize::from(word)) {
+            Some(bound) => *bound,
+            None => 0,
+        },
+        None => 0,
     }
 }
 

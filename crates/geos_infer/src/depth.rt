@@ -1,6 +1,6 @@
 //! A search in depth over the places of a piece: the order in which it leaves them.
 
-ghost use Rattle.std.specs.Prelude.{◌<◌, ◌≤◌};
+ghost use Rattle.std.specs.Prelude.{◌≡◌, ◌<◌, ◌≤◌};
 
 use crate::graph::Graph;
 use crate::jumps::{Jumps, lead_within};
@@ -46,7 +46,9 @@ impl Depth {
     }
 
     /// How many places it has left.
-    pub(crate) fn count(&self) -> u16 {
+    pub(crate) fn count(&self) -> u16
+        ensures { result ≡ self.now.count }
+    {
         self.count
     }
 

@@ -1,6 +1,6 @@
 //! The edges of a routine with what they cost, from each place and into it.
 
-ghost use Rattle.std.specs.Prelude.{◌≡◌, ◌<◌};
+ghost use Rattle.std.specs.Prelude.{◌≡◌, ◌<◌, [], if◌then◌else◌, None, slice_index_or};
 ghost use Rattle.geos_infer.specs.Arcs.{AreArcs, arc_at};
 
 use crate::arcs::Arc;
@@ -55,12 +55,15 @@ impl Graph {
     /// The first edge into a place.
     pub(crate) fn first_into(&self, to: u16) -> Option<Lead>
         requires { to < 4096 }
+        ensures { result ≡ slice_index_or self.now.leads.first to None }
     {
         self.leads.first(to)
     }
 
     /// The next edge into where an edge leads.
-    pub(crate) fn next_into(&self, lead: Lead) -> Option<Lead> {
+    pub(crate) fn next_into(&self, lead: Lead) -> Option<Lead>
+        ensures { result ≡ slice_index_or (slice_index_or self.now.leads.behind lead.from []) (if lead.branch then 1 else 0) None }
+    {
         self.leads.next(lead)
     }
 }

@@ -1,6 +1,6 @@
 //! The edges that lead into each place of a routine.
 
-ghost use Rattle.std.specs.Prelude.{◌<◌};
+ghost use Rattle.std.specs.Prelude.{◌≡◌, ◌<◌, ◌≤◌, ℕ, [], if◌then◌else◌, None, MatchOption, slice_index_or};
 
 use crate::arcs::Arc;
 use crate::table::{Table, two_tables};
@@ -32,6 +32,7 @@ impl Leads {
     /// There are no edges into the places from a pc on.
     pub(crate) fn clear_from(&mut self, pc: u16)
         requires { pc < 4096 }
+        ensures { (to : ℕ) → pc ≤ to → to < 4096 → slice_index_or self.new.first to None ≡ None }
     {
         self.first.fill_from(pc, None);
     }
@@ -39,6 +40,8 @@ impl Leads {
     /// An edge comes first among those into where it leads, if there is one; the edge that came first there before.
     fn put(&mut self, from: u16, branch: bool, arc: &Option<Arc>) -> Option<Lead>
         requires { from < 4096 }
+        ensures result { MatchOption arc.now (result ≡ None) (λ edge. result ≡ slice_index_or self.old.first edge.to None) }
+        ensures behind { self.new.behind ≡ self.old.behind }
     {
         let Some(arc) = arc else {
             return None;
@@ -63,13 +66,16 @@ impl Leads {
     /// The first edge into a place.
     pub(crate) fn first(&self, to: u16) -> Option<Lead>
         requires { to < 4096 }
+        ensures { result ≡ slice_index_or self.now.first to None }
     {
         self.first.at(to)
     }
 
     /// The next edge into where an edge leads.
-    pub(crate) fn next(&self, lead: Lead) -> Option<Lead> {
-        let [along, branching] = self.behind.at(lead.from);
-        if lead.branch { branching } else { along }
+    pub(crate) fn next(&self, lead: Lead) -> Option<Lead>
+        ensures { result ≡ slice_index_or (slice_index_or self.now.behind lead.from []) (if lead.branch then 1 else 0) None }
+    {
+        let [along, branching] = self.behind.get(lead.from);
+        if lead.branch { *branching } else { *along }
     }
 }

@@ -1,6 +1,6 @@
 //! Nests: places among which control goes round, each with the LOOPs that pay for that.
 
-ghost use Rattle.std.specs.Prelude.{◌<◌, IfSome};
+ghost use Rattle.std.specs.Prelude.{◌≡◌, ◌<◌, ◌+◌, None, IfSome, slice_index_or, slice_set};
 
 use crate::body::Body;
 use crate::choice::{Choice, Chosen, Tier, choose};
@@ -83,7 +83,9 @@ impl Nests {
     }
 
     /// How many there are.
-    pub(crate) fn count(&self) -> u16 {
+    pub(crate) fn count(&self) -> u16
+        ensures { result ≡ self.now.count }
+    {
         self.count
     }
 
@@ -96,6 +98,9 @@ impl Nests {
 
     pub(crate) fn set(&mut self, id: u16, nest: Nest)
         requires { id < 4096 }
+        ensures list { self.new.list ≡ slice_set self.old.list id nest }
+        ensures count { self.new.count ≡ self.old.count }
+        ensures inner { self.new.inner ≡ self.old.inner }
     {
         self.list.set(id, nest);
     }
@@ -103,12 +108,17 @@ impl Nests {
     /// The innermost nest of the edge from a place to the next.
     pub(crate) fn inner(&self, pc: u16) -> Option<u16>
         requires { pc < 4096 }
+        ensures { result ≡ slice_index_or self.now.inner pc None }
     {
         self.inner.at(pc)
     }
 
     /// A component is to be a nest.
-    fn wait(&mut self, piece: Piece, around: Option<u16>) {
+    fn wait(&mut self, piece: Piece, around: Option<u16>)
+        ensures waits { self.old.waits < 4096 → self.new.waits ≡ self.old.waits + 1 }
+        ensures waiting { self.old.waits < 4096
+            → self.new.waiting ≡ slice_set self.old.waiting self.old.waits (record { piece = piece; around = around }) }
+    {
         if self.waits < MOST_INSTRS {
             self.waiting.set(self.waits, Waiting { piece, around });
             self.waits += 1;

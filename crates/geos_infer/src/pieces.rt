@@ -1,6 +1,6 @@
 //! The places of a routine in the order in which they are gone over, and pieces of that order.
 
-ghost use Rattle.std.specs.Prelude.{◌<◌, ◌≤◌};
+ghost use Rattle.std.specs.Prelude.{◌≡◌, ◌<◌, ◌≤◌, ◌↔◌, IsTrue, slice_index, slice_set};
 
 use crate::body::Body;
 use crate::place::Place;
@@ -54,6 +54,7 @@ impl Order {
     pub(crate) fn put(&mut self, x: u16, pc: u16)
         requires here { x < 4096 }
         requires place { pc < 4096 }
+        ensures { self.new.at ≡ slice_set self.old.at pc x }
     {
         self.places.set(x, Place { pc });
         self.at.set(pc, x);
@@ -71,6 +72,7 @@ impl Order {
     /// Whether a piece has a place.
     pub(crate) fn has(&self, piece: &Piece, pc: u16) -> bool
         requires { pc < 4096 }
+        ensures { IsTrue result ↔ (piece.now.begin ≤ slice_index self.now.at pc) × (slice_index self.now.at pc < piece.now.end) }
     {
         let x = self.at.at(pc);
         piece.begin <= x && x < piece.end

@@ -1,8 +1,9 @@
 //! Counters that are set for loops at a price past what a potential can say.
 
-ghost use Rattle.std.specs.Prelude.{◌≡◌, ◌<◌, ◌≤◌, true, IfSome};
+ghost use Rattle.std.specs.Prelude.{◌≡◌, ◌<◌, ◌≤◌, true, IfSome, IfOk};
 ghost use Rattle.geos_infer.specs.Causes.{KnowsTouched, LoopsTo, IsKept, PaysForLoop, IsAtMost, Holds};
-ghost use Rattle.geos_infer.specs.Reached.{FitWhereReached};
+ghost use Rattle.geos_infer.specs.Reached.{FitWhereReached, AreAtMostAny};
+ghost use Rattle.geos_infer.specs.Taken.{WordsPass};
 
 use crate::body::Body;
 use crate::cause::{BackWay, ByNumber, ByWord, Cause};
@@ -16,8 +17,10 @@ use crate::spent::Touching;
 use crate::strongest::Strongest;
 use crate::table::Known;
 use crate::trails::Trails;
+use crate::turns::steps_pass;
 use crate::within::{comes_round, is_kept, loop_at};
 use geos_image::Opcode;
+use std::alloc::{AllocError, Global};
 
 /// The LOOP at a pc, if it takes from the counter, and the counter is kept up to it from behind a place from where control goes on.
 fn kept_at(
@@ -128,14 +131,14 @@ fn find_dearest(body: &Body, search: &Search) -> Option<u16>
 }
 
 /// How much a word is at a place at most by the rows that are known, if no rows that hold are found to say less.
-fn most_at(body: &Body, known: &Known, strongest: &mut Strongest, word: u8, at: u16) -> Option<u16>
+fn most_at(body: &Body, known: &Known, strongest: &Strongest, word: u8, at: u16) -> Option<u16>
     requires above { body.now.start ≤ at }
     requires below { at < body.now.end }
     requires word { word < 8 }
     requires rows { FitWhereReached body.now.image.now body.now.r known.now }
+    requires least { AreAtMostAny body.now.image.now body.now.r strongest.now.rows }
     ensures { IfSome result (IsAtMost body.now.image.now body.now.r at word) }
 {
-    strongest.find(body);
     let row = strongest.at(at)?;
     let most = bound_of(&row_of(&known.at(at)), word);
     if bound_of(&row, word) == most {
@@ -149,14 +152,16 @@ fn most_at(body: &Body, known: &Known, strongest: &mut Strongest, word: u8, at: 
 fn setting_at(
     body: &Body,
     known: &Known,
-    strongest: &mut Strongest,
+    strongest: &Strongest,
     counter: u8,
     at: u16,
 ) -> Option<Cause>
     requires above { body.now.start ≤ at }
     requires below { at < body.now.end }
     requires rows { FitWhereReached body.now.image.now body.now.r known.now }
+    requires least { AreAtMostAny body.now.image.now body.now.r strongest.now.rows }
     requires pays { PaysForLoop body.now.image.now body.now.r counter at }
+    requires passes { WordsPass body.now.image.now body.now.r }
     ensures { IfSome result (Holds body.now.image.now body.now.r) }
 {
     let i = body.image.instr(at);
@@ -179,29 +184,52 @@ fn setting_at(
     }
 }
 
-/// How a counter is set for a loop at the greatest price.
+/// Whether on some way more steps are taken than a potential can say, if words are as much as they may be by the strongest rows, which are
+/// known then.
+fn words_pass(
+    alloc: Global,
+    body: &Body,
+    touching: &Touching,
+    strongest: &mut Strongest,
+) -> Result<bool, AllocError>
+    ensures least { AreAtMostAny body.now.image.now body.now.r strongest.new.rows }
+    ensures passes { IfOk result (λ passes. passes ≡ true → WordsPass body.now.image.now body.now.r) }
+{
+    strongest.find(body);
+    let passes = steps_pass(alloc, body, &touching.certain, &strongest.rows, true)?;
+    Ok(passes)
+}
+
+/// How a counter is set for a loop at the greatest price, where more steps are taken than a potential can say if words are as much as they
+/// may be.
 pub(crate) fn find_dear(
+    alloc: Global,
     body: &Body,
     touching: &Touching,
     known: &Known,
     search: &Search,
     trails: &mut Trails,
     strongest: &mut Strongest,
-) -> Option<Cause>
+) -> Result<Option<Cause>, AllocError>
     requires touched { KnowsTouched body.now.image.now touching.now }
     requires rows { FitWhereReached body.now.image.now body.now.r known.now }
-    ensures { IfSome result (Holds body.now.image.now body.now.r) }
+    ensures { IfOk result (λ cause. IfSome cause (Holds body.now.image.now body.now.r)) }
 {
-    let at = find_dearest(body, search)?;
+    let Some(at) = find_dearest(body, search) else {
+        return Ok(None);
+    };
     let counter = body.image.instr(at).a;
     let Search {
         graph,
         splitting,
         ..
     } = search;
-    if body.start <= at && pays_for_loop(body, touching, graph, splitting, counter, at, trails) {
-        setting_at(body, known, strongest, counter, at)
+    if at < body.start || !pays_for_loop(body, touching, graph, splitting, counter, at, trails) {
+        return Ok(None);
+    }
+    if words_pass(alloc, body, touching, strongest)? {
+        Ok(setting_at(body, known, strongest, counter, at))
     } else {
-        None
+        Ok(None)
     }
 }

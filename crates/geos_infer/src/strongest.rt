@@ -19,7 +19,7 @@ const LOOKS: u32 = 1 << 21;
 /// Rows that no rows that hold are stronger than.
 #[derive(Drop)]
 pub(crate) struct Strongest {
-    rows: Known,
+    pub(crate) rows: Known,
     waiting: Waiting,
 }
 

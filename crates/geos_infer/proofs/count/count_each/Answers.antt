@@ -4,7 +4,7 @@ use Rattle.geos_infer.specs.Count.{CountsOn, AreCounted}
 use Rattle.geos_infer.specs.Numbers.{numbers_of}
 use Rattle.geos_infer.specs.Constants.{AreLeastFrom}
 use Rattle.geos_infer.proofs.Counts.{counts-in, are_counted-more}
-use Rattle.geos_infer.proofs.Priced.{least-more, stays-in, least-in}
+use Rattle.geos_infer.proofs.Answering.{least-more, stays-in, least-in}
 use Rattle.geos_infer.proofs.count.count_each.Goals as goal
 
 pub loop-r-init : goal.loop-r-init

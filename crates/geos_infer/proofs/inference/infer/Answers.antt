@@ -7,7 +7,7 @@ use Rattle.geos_infer.specs.Numbers.{numbers_of}
 use Rattle.geos_infer.specs.Reached.{AllHoldWhereReached}
 use Rattle.geos_infer.specs.Theorem.{FindsWhatThereIs, with_points}
 use Rattle.geos_infer.proofs.Finding.{found-formed, found-code, found-acceptable, none-accepted, stuck-in, made-formed, made-is, made-code}
-use Rattle.geos_infer.proofs.Priced.{least-given, paid-given, for-given}
+use Rattle.geos_infer.proofs.Answering.{least-given, paid-given, for-given}
 use Rattle.geos_infer.proofs.Reaching.{fit-holds}
 use Rattle.geos_infer.proofs.inference.infer.Goals as goal
 

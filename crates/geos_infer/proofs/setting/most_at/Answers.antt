@@ -16,7 +16,7 @@ returns-then-bound_of-most c =
       holds = c.requires.rows;
       is = c.bound_of-most.ensures c.requires.word ∙ ap (λ (row : Row). bound row word) (c.row_of.ensures.value ∙ ap row_of (c.at-2.ensures None));
       least = λ others holds.
-          let there = (c.find.ensures others holds c.args.at c.in_ok-row.row (in-body body c.args.at c.requires.above c.requires.below)
+          let there = (c.requires.least others holds c.args.at c.in_ok-row.row (in-body body c.args.at c.requires.above c.requires.below)
           (sym c.at.ensures ∙ c.in_ok-row.was)).1 in
           let less = least-bound others c.args.at c.in_ok-row.row word there in
           let same = c.bound_of.ensures c.requires.word in

@@ -12,7 +12,7 @@ returns-in-Some-go_along c = λ low above below begin all.
     let comes = c.in-Some-go_along.ensures to c.in-Some-edge_in.ensures.leads begin
     (all c.args.pc c.in-Some.reach above below (sym (c.in-Some.ensures None))) in
     elim c.note.ensures [
-      | inl same ↦ subst (AreReached image r begin low c.args.high) (sym same) all
-      | inr is ↦ subst (AreReached image r begin low c.args.high) (sym is)
-          (reached-set image r begin low c.args.high c.args.reached.now to next all comes)
+      | inl same ↦ subst (AreReached c.args.loops.now.rows.now image r begin low c.args.high) (sym same) all
+      | inr is ↦ subst (AreReached c.args.loops.now.rows.now image r begin low c.args.high) (sym is)
+          (reached-set c.args.loops.now.rows.now image r begin low c.args.high c.args.reached.now to next all comes)
     ]

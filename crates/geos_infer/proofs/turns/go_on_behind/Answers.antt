@@ -21,7 +21,7 @@ returns c = λ to leads.
     let left = c.from-left.result in
     let less : c.capped-2.result + 1 ≤ c.in_ok-turn.turn.steps + 1 = omega (arith, c.capped-2.ensures.less) in
     let more = mul-le-mul_left left less in
-    goes-behind body.image.now body.r c.args.pc c.in_ok-turn.turn turn to left c.instr.result.now c.args.reach.now
+    goes-behind c.args.rows.now body.image.now body.r c.args.pc c.in_ok-turn.turn turn to left c.instr.result.now c.args.reach.now
     (record { steps = c.capped.result + left * (c.capped-2.result + 1) + 1; counters = c.unless_all_changed.result }) leads c.instr.ensures.there
     (c.from-left.ensures ∙ c.number_in.ensures ∙ ap number_in c.counter_at.ensures)
     (c.unless_all_changed.ensures ∙ ap (zip2 unless_changed c.in_ok-turn.turn.counters) c.with_counter-spent.ensures)

@@ -1,4 +1,4 @@
-use Rattle.geos_infer.proofs.Refused.{none-accepted-past}
+use Rattle.geos_infer.proofs.Past.{none-accepted-past}
 use Rattle.geos_infer.proofs.turns.none_is_accepted_past.Goals as goal
 
 pub returns : goal.returns

@@ -8,6 +8,6 @@ pub some_pass-requires : goal.some_pass-requires
 some_pass-requires c =
     let body = c.args.body.now in
     let last = body.end - 1 in
-    c.go_all.ensures (begin_from body.start last) (begins-from body.image.now body.r body.start last c.fill_from.new.self
+    c.sweep.ensures (begin_from body.start last) (begins-from c.args.rows.now body.image.now body.r body.start last c.fill_from.new.self
     (record { steps = 0; counters = all_are (Is 0) }) refl refl (λ k low high. c.fill_from.ensures.same k None low
     (omega (arith, high, body.some, body.room, body.short))))

@@ -12,5 +12,5 @@ returns-then-from-capped c = λ is.
     let reach = c.in-Some.reach in
     let past : most_steps < reach.steps + taken_at body.image.now pc =
     omega (arith, c.from.ensures, c.capped.ensures.less, c.taken_at.ensures.value) in
-    passes body.image.now body.r body.start (body.end - 1) pc reach (in-body body pc c.loop-pc.auto.pc c.loop-pc-test.true)
+    passes c.args.rows.now body.image.now body.r body.start (body.end - 1) pc reach (in-body body pc c.loop-pc.auto.pc c.loop-pc-test.true)
     (c.requires pc reach c.loop-pc.auto.pc (omega (arith, c.loop-pc-test.true)) (sym (c.in-Some.ensures None))) past
