@@ -12,7 +12,7 @@ use Rattle.geos_calls.specs.Effects.{Choice, outcome, effect_of, come_to}
 use Rattle.geos_calls.specs.VmCalls.{Keeper, commit, committed, in_doubt, left_by_commit, pair_to_keep}
 use Rattle.geos_calls.specs.VmFile.{Pair}
 use Rattle.geos_calls.specs.Leaving.{NoneLocked}
-use Rattle.geos_calls.proofs.Leaves.{commit-counts}
+use Rattle.geos_calls.proofs.Counted.{commit-counts}
 use Rattle.geos_calls.proofs.LegalGiven.{locks_of-given}
 
 -- no block of the file is locked behind a refused commit, where none was before it

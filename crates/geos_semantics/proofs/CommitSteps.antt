@@ -16,7 +16,7 @@ use Rattle.geos_calls.specs.Effects.{Choice, Nothing}
 use Rattle.geos_calls.specs.VmCalls.{Keeper, keep_current, keep_saved, keep_reverted, pair_to_keep, committed, in_doubt, left_by_commit, commit}
 use Rattle.geos_calls.specs.Leaving.{NoneLocked}
 use Rattle.geos_calls.proofs.KeepsFile.{pair-legal, left-legal, commit-kept}
-use Rattle.geos_calls.proofs.Leaves.{commit-counts}
+use Rattle.geos_calls.proofs.Counted.{commit-counts}
 use Rattle.geos_image.specs.declared.row.Row.{Row}
 use Rattle.geos_opcodes.specs.declared.opcode.Opcode.TheVariants as op
 use Rattle.geos_opcodes.specs.declared.uses.Kind.{Kind}
