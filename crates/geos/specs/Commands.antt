@@ -13,7 +13,7 @@ use Rattle.geos_source.specs.InstrLines.{instr_lines}
 use Rattle.geos_causes.specs.Causes.{cause_text}
 use Rattle.geos_infer.specs.declared.cause.Cause.{Cause}
 use Rattle.geos_source.specs.Coded.{IsTextOf}
-use Rattle.geos_asm.specs.Assembling.{IsAssembled, IsCauseOf, IsWhyNoImage}
+use Rattle.geos_asm.specs.Assembling.{IsAssembled, BeginsNowhere, IsCauseOf, IsWhyNoImage}
 use Rattle.geos_asm.specs.declared.error.AssembleError.{AssembleError}
 
 -- the bytes spell an image that is one of the text, with all rows or with those at its key places
@@ -40,9 +40,10 @@ IsExplainedText text told reject =
     (image : Parts) × IsAssembled text image
     × ((refused : List (Option Rule)) × AreItsRefusals image reject refused × (told ≡ text_explanation text (instr_lines text) image refused))
 
--- what is told is nothing, or a cause that holds of a routine of the text that begins at the line
+-- what is told is nothing, where no routine of the text begins at the line, or a cause that holds of one that does
 abbrev pub IsCauseTold : List ℕ → ℕ → List ℕ → Type 0
-IsCauseTold text line told = (told ≡ []) ⊎ ((cause : Cause) × IsCauseOf text line cause × (told ≡ cause_text (instr_lines text) cause))
+IsCauseTold text line told = (BeginsNowhere text line × (told ≡ [])) ⊎ ((cause : Cause) × IsCauseOf text line cause
+    × (told ≡ cause_text (instr_lines text) cause))
 
 -- the bytes begin as an image does
 abbrev pub begins_as_image : List ℕ → Bool

@@ -1,8 +1,9 @@
 -- What is found for the skeleton of a text's code is found for the text.
-use Rattle.std.proofs.Common.{◌≡◌, ◌<◌, ◌∙◌, ℕ, true, false, List, Some, length, Ok, refl, ap, subst, slice_get}
+use Rattle.std.proofs.Common.{◌≡◌, ◌<◌, ◌≤◌, ◌+◌, ◌∙◌, inl, inr, arith, ℕ, true, false, List, Some, length, Ok, refl, sym, ap, subst, slice_get}
 use Rattle.std.proofs.Math.ListN.{get_or}
+use Rattle.std.proofs.lemmas.Bool.{cases_lt}
 use Rattle.std.proofs.lemmas.List.{length-map}
-use Rattle.std.proofs.lemmas.Option.{slice_get_read}
+use Rattle.std.proofs.lemmas.Option.{same_Some, slice_get_read, slice_get_within}
 use Rattle.geos_image.specs.Parts.{Parts}
 use Rattle.geos_image.specs.Keys.{keyed_of}
 use Rattle.geos_image.specs.Legal.{is_formed}
@@ -17,7 +18,7 @@ use Rattle.geos_infer.specs.Causes.{Holds, tells_of_slots}
 use Rattle.geos_infer.specs.Why.{MeetAlike}
 use Rattle.geos_infer.proofs.Keyed.{keyed-code, found-keyed, all-hold-keyed}
 use Rattle.geos_infer.specs.declared.cause.Cause.{Cause}
-use Rattle.geos_asm.specs.Assembling.{IsAssembled, RunsIfAnyDoes, HasNoRows, IsCauseOf}
+use Rattle.geos_asm.specs.Assembling.{IsAssembled, RunsIfAnyDoes, HasNoRows, IsCauseOf, HasCause, BeginsAt, BeginsNowhere}
 
 -- what is assembled of a text is so in version 2 too
 pub assembled_keyed : (text : List ℕ) (image : Parts) → is_formed true image ≡ true → IsAssembled text image → IsAssembled text (keyed_of image)
@@ -80,3 +81,43 @@ caused text code blank r at line items routine cause read is same_items same wit
       holds = subst (λ (b : Parts). Holds b r cause) is holds;
       slots = λ e. subst (λ (b : Parts). MeetAlike b r) is (slots e);
     }
+
+-- the code of a text is one
+same-code : (text : List ℕ) (one two : Code) → code_of text ≡ Ok one → code_of text ≡ Ok two → one ≡ two
+same-code text one two first second = cc
+
+pub has-cause : HasCause
+has-cause text line none nowhere =
+    let same : none.code ≡ nowhere.code = same-code text none.code nowhere.code none.read nowhere.read in
+    nowhere.nowhere (subst (λ (code : Code). BeginsAt code line) same none.begins)
+
+-- the routine that is read begins where that of the code does
+pub read-one : (items routines : List TextRoutine) (r at : ℕ) (one other : TextRoutine) → items ≡ routines → at ≡ r → at < length items
+    → one ≡ get_or items at one → slice_get routines r ≡ Some other → one.line ≡ other.line
+read-one items routines r at one other same_items same within here there =
+    let found = slice_get_read items (length items) at one refl within here in
+    let there_too = subst (λ (l : List TextRoutine). slice_get l r ≡ Some one) same_items
+    (subst (λ (k : ℕ). slice_get items k ≡ Some one) same found) in
+    ap (λ (x : TextRoutine). x.line) (same_Some one other (sym there_too ∙ there))
+
+-- none of so many routines of the code begins at the line, and one more does not
+pub none-more : (items : List TextRoutine) (r line : ℕ) → ((k : ℕ) (routine : TextRoutine) → k < r → slice_get items k ≡ Some routine
+    → routine.line ≡ line → ⊥) → ((routine : TextRoutine) → slice_get items r ≡ Some routine → routine.line ≡ line → ⊥)
+    → (k : ℕ) (routine : TextRoutine) → k < r + 1 → slice_get items k ≡ Some routine → routine.line ≡ line → ⊥
+none-more items r line before here k routine lt there is = elim (cases_lt k r) [
+  | inl earlier ↦ before k routine earlier there is
+  | inr late ↦ (let same : k ≡ r = omega arith in here routine (subst (λ (n : ℕ). slice_get items n ≡ Some routine) same there) is)
+]
+
+-- where that is so of all of them, no routine of the text does
+pub begins-nowhere : (text : List ℕ) (code : Code) (blank : Parts) (count line : ℕ) → code_of text ≡ Ok code → blank ≡ skeleton code
+    → length blank.routines ≤ count → ((k : ℕ) (routine : TextRoutine) → k < count → slice_get code.routines k ≡ Some routine
+    → routine.line ≡ line → ⊥) → BeginsNowhere text line
+begins-nowhere text code blank count line read is all none = record {
+  code = code;
+  read = read;
+  nowhere = λ B.
+      let long = ap (λ (b : Parts). length b.routines) is ∙ length-map code.routines routine_of in
+      let within = slice_get_within code.routines B.r B.routine B.there in
+      none B.r B.routine (omega (arith, long, within, all)) B.there B.line_is;
+}

@@ -59,6 +59,12 @@ IsWhyNoImage text (BadLine fault) = code_of text ≡ Err fault
 IsWhyNoImage text (NoRows line) = HasNoRows text line
 IsWhyNoImage text Memory = Unit {0}
 
+-- the text has no fault, and none of its routines begins at the line
+pub record BeginsNowhere (text : List ℕ) (line : ℕ) : Type 0 where
+  pub code : Code
+  pub read : code_of text ≡ Ok code
+  pub nowhere : BeginsAt code line → ⊥
+
 -- the cause holds of a routine of the text's code that begins at the line, and is that slots differ wherever
 -- ways of control meet so
 pub record IsCauseOf (text : List ℕ) (line : ℕ) (cause : Cause) : Type 0 where
@@ -67,3 +73,7 @@ pub record IsCauseOf (text : List ℕ) (line : ℕ) (cause : Cause) : Type 0 whe
   pub begins : BeginsAt code line
   pub holds : Holds (skeleton code) begins.r cause
   pub slots : tells_of_slots cause ≡ false → MeetAlike (skeleton code) begins.r
+
+-- there is a cause wherever a text has no rows
+abbrev pub HasCause : Type 0
+HasCause = (text : List ℕ) (line : ℕ) → HasNoRows text line → BeginsNowhere text line → ⊥

@@ -1,7 +1,7 @@
 //! Why no rows are found for a text.
 
-ghost use Rattle.std.specs.Prelude.{IfOk, IfSome};
-ghost use Rattle.geos_asm.specs.Assembling.{IsCauseOf};
+ghost use Rattle.std.specs.Prelude.{◌≡◌, None, IfOk, IfSome};
+ghost use Rattle.geos_asm.specs.Assembling.{IsCauseOf, BeginsNowhere, HasCause};
 
 use crate::error::AssembleError;
 use geos_infer::{Cause, find_cause};
@@ -9,10 +9,11 @@ use geos_source::{parse, skeleton};
 use std::alloc::Global;
 
 /// Why no rows, or no numbers of steps, are found for the routine that begins at a line of the text, which
-/// `AssembleError::NoRows` names; `None` where no routine begins there. What the cause says holds of that routine.
-/// The errors are those of `assemble`, but for `NoRows`.
+/// `AssembleError::NoRows` names; `None` only where no routine begins there, which is at no such line (`each_has_a_cause`). What the cause
+/// says holds of that routine. The errors are those of `assemble`, but for `NoRows`.
 pub fn why_no_rows(alloc: Global, text: &[u8], line: usize) -> Result<Option<Cause>, AssembleError>
-    ensures { IfOk result (λ cause. IfSome cause (IsCauseOf text.now line)) }
+    ensures holds { IfOk result (λ cause. IfSome cause (IsCauseOf text.now line)) }
+    ensures none { IfOk result (λ cause. cause ≡ None → BeginsNowhere text.now line) }
 {
     let parsed = parse(alloc, text)?;
     let blank = skeleton(alloc, &parsed)?;
@@ -25,3 +26,8 @@ pub fn why_no_rows(alloc: Global, text: &[u8], line: usize) -> Result<Option<Cau
     }
     Ok(None)
 }
+
+/// A law: where `assemble` answers `NoRows(line)`, a routine begins at that line, so that there is a cause.
+pub fn each_has_a_cause()
+    ensures { HasCause }
+{}
