@@ -8,6 +8,7 @@ ghost use Rattle.geos_infer.specs.Taken.{WordsPass};
 use crate::body::Body;
 use crate::cause::{BackWay, ByNumber, ByWord, Cause};
 use crate::counting::bound_of;
+use crate::edges::is_loop;
 use crate::flow::row_of;
 use crate::graph::Graph;
 use crate::jumps::Jump;
@@ -184,6 +185,21 @@ fn setting_at(
     }
 }
 
+/// The most instructions that are looked at in a round for far ways.
+const MOST_LOOKS: usize = 1 << 21;
+
+/// Whether far ways are looked for: for each LOOP all instructions of its routine are looked at.
+fn may_go_far(body: &Body) -> bool {
+    let length = usize::from(body.end.saturating_sub(body.start));
+    let mut looks: usize = 0;
+    for pc in body.start..body.end {
+        if is_loop(body.image.instr(pc).opcode) {
+            looks = looks.saturating_add(length);
+        }
+    }
+    looks <= MOST_LOOKS
+}
+
 /// Whether on some way more steps are taken than a potential can say, if words are as much as they may be by the strongest rows, which are
 /// known then.
 fn words_pass(
@@ -196,7 +212,13 @@ fn words_pass(
     ensures passes { IfOk result (λ passes. passes ≡ true → WordsPass body.now.image.now body.now.r) }
 {
     strongest.find(body);
-    let passes = steps_pass(alloc, body, &touching.certain, &strongest.rows, true)?;
+    let passes = steps_pass(
+        alloc,
+        body,
+        &touching.certain,
+        &strongest.rows,
+        may_go_far(body),
+    )?;
     Ok(passes)
 }
 
