@@ -9,7 +9,7 @@ use Rattle.geos_verify.specs.Rows.{after}
 use Rattle.geos_infer.specs.Code.{IsPcOf}
 use Rattle.geos_infer.specs.declared.apart.Coming.{Coming}
 use Rattle.geos_infer.specs.declared.edges.Edge.{Edge}
-use Rattle.geos_infer.specs.Why.{LeadsTo, ComesFromStart, ComesBy, IsComing}
+use Rattle.geos_infer.specs.Why.{LeadsTo, ComesFromStart, ComesBy, Comes, IsComing}
 use Rattle.geos_infer.specs.Meeting.{coming_at, AllCome}
 
 -- what comes along an edge comes to where it leads
@@ -21,14 +21,14 @@ comes-by image r edge row by = record {
   way = (by.before, by.comes.way, by.leads, by.stays, by.row_is);
 }
 
-comes-from : (image : Parts) (r to : ℕ) (from : Option Edge) (row : Row) → IsComing image r to (record { from = from; row = row })
+comes-from : (image : Parts) (r to : ℕ) (from : Option Edge) (row : Row) → Comes image r to from row
     → ComesFromStart image r to row
 comes-from image r to None row begins = record { routine = begins.routine; there = begins.there; edges = []; way = (begins.start, begins.row_is) }
 comes-from image r to (Some edge) row by = subst (λ (n : ℕ). ComesFromStart image r n row) by.0 (comes-by image r edge row by.1)
 
 -- what comes to a place comes from where the routine begins
 pub comes-to : (image : Parts) (r to : ℕ) (coming : Coming) → IsComing image r to coming → ComesFromStart image r to coming.row
-comes-to image r to coming comes = comes-from image r to coming.from coming.row comes
+comes-to image r to coming comes = comes-from image r to coming.from coming.row comes.comes
 
 -- a row comes along the edge of the instruction at a pc
 pub comes-along : (image : Parts) (r pc : ℕ) (branch : Bool) (edge : Edge) (before row : Row) → edge.pc ≡ pc

@@ -18,6 +18,7 @@ pub mod Fitting
 pub mod Copies
 pub mod Alike
 pub mod Came
+pub mod Named
 pub mod Meeting
 pub mod Noting
 pub mod Changes

@@ -19,6 +19,7 @@ use Rattle.geos_infer.proofs.Alike.{alike-refl, alike-both, alike-sym, after-ali
 use Rattle.geos_infer.proofs.Bodies.{in-body}
 use Rattle.geos_infer.proofs.Came.{all_come-set}
 use Rattle.geos_infer.proofs.Longest.{leads-one}
+use Rattle.geos_infer.proofs.Named.{named-none}
 
 -- Where all has gone on
 
@@ -74,10 +75,14 @@ found-none image other r s found is same_image same_r none =
 pub spread-first : (image : Parts) (r start : ℕ) (routine : Routine) (known : List (Option Coming)) (waits : List Bool)
     → start ≡ start_of image.routines r → slice_get image.routines r ≡ Some routine
     → ((pc : ℕ) → coming_at known pc ≡ None) → ((pc : ℕ) → waits_at waits pc ≡ false) → start < length known → start < length waits
-    → IsSpread image r (set known start (Some (record { from = None; row = routine.entry }))) (set waits start true)
+    → IsSpread image r (set known start (Some (record { from = None; row = routine.entry; emptied = None ∷ None ∷ None ∷ None ∷ [] })))
+    (set waits start true)
 spread-first image r start routine known waits begins there none rested in_known in_waits = record {
   come = all_come-set image r known start first (λ pc coming e. absurd (none-some coming (sym (none pc) ∙ e)))
-      (record { routine = routine; there = there; start = begins; row_is = refl });
+      (record {
+        comes = record { routine = routine; there = there; start = begins; row_is = refl };
+        emptied = named-none image r start routine.entry;
+      });
   begun = λ other there_too. record {
     first = first;
     read = ap (coming_at (set known start (Some first))) (sym begins) ∙ get_or-set_same known start (Some first) None in_known;
@@ -90,7 +95,7 @@ spread-first image r start routine known waits begins there none rested in_known
 }
   where
     first : Coming
-    first = record { from = None; row = routine.entry }
+    first = record { from = None; row = routine.entry; emptied = None ∷ None ∷ None ∷ None ∷ [] }
 
 -- What goes on
 

@@ -2,11 +2,12 @@
 
 ghost use Rattle.std.specs.Prelude.{◌≡◌, ◌<◌, true, false, slice_set, IfSome, IfNone, IfOk, IfErr};
 ghost use Rattle.geos_infer.specs.Meeting.{AllCome, BringsAlong, GoesFurther, HasGone, IsSpread, NoneWaits, count_unknown};
-ghost use Rattle.geos_infer.specs.Why.{ComesBy, AreApart, MeetAlike};
+ghost use Rattle.geos_infer.specs.Why.{ComesBy, AllEmptied, AreApart, MeetAlike};
 
 use crate::body::Body;
 use crate::common::agree;
 use crate::edges::{Edge, edge_in};
+use crate::emptied::{Emptied, emptied_along};
 use crate::table::{Table, two_tables};
 use geos_image::Row;
 use geos_verify::after;
@@ -19,6 +20,8 @@ pub struct Coming {
     pub from: Option<Edge>,
     /// What is known then, of slots above all.
     pub row: Row,
+    /// By which CALL on a way there each slot was left empty, if by one.
+    pub emptied: [Option<Emptied>; 4],
 }
 
 /// A place to which control comes on two ways, with slots that differ in more than marks.
@@ -38,6 +41,7 @@ type Comings = Table<Option<Coming>>;
 struct Brought {
     edge: Edge,
     row: Row,
+    emptied: [Option<Emptied>; 4],
 }
 
 /// What control brings along an edge, where it is known to come to the edge's beginning.
@@ -45,15 +49,18 @@ fn bring(body: &Body, known: &Comings, pc: u16, branch: bool) -> Option<Brought>
     requires here { pc < body.now.end }
     requires come { AllCome body.now.image.now body.now.r known.now }
     ensures by { IfSome result (λ brought. ComesBy body.now.image.now body.now.r brought.edge brought.row) }
+    ensures emptied { IfSome result (λ brought. AllEmptied body.now.image.now body.now.r brought.edge.to brought.row brought.emptied) }
     ensures inside { IfSome result (λ brought. brought.edge.to < body.now.end) }
     ensures some { IfSome result (λ brought. BringsAlong body.now.image.now known.now pc branch brought.edge.to brought.row) }
     ensures none { IfNone result (HasGone body.now.image.now body.now.r known.now pc branch) }
 {
     let before = known.at(pc)?;
     let edge = edge_in(body, pc, branch)?;
+    let row = after(body.image, pc, &before.row, branch);
     Some(Brought {
         edge,
-        row: after(body.image, pc, &before.row, branch),
+        row,
+        emptied: emptied_along(body, &before, edge, &row),
     })
 }
 
@@ -77,9 +84,11 @@ fn go(
         return Ok(false);
     };
     let to = brought.edge.to;
+    let emptied = brought.emptied;
     let coming = Coming {
         from: Some(brought.edge),
         row: brought.row,
+        emptied,
     };
     // For what their law says.
     known.lengths();
@@ -160,6 +169,7 @@ pub(crate) fn find_apart(alloc: Global, body: &Body) -> Result<Option<Apart>, Al
         Some(Coming {
             from: None,
             row: body.image.routine(body.r).entry,
+            emptied: [None; 4],
         }),
     );
     waits.set(body.start, true);

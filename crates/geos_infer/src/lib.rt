@@ -21,6 +21,7 @@ mod cycles;
 mod depth;
 mod descent;
 mod edges;
+mod emptied;
 mod error;
 mod fitted;
 mod flow;
@@ -66,6 +67,7 @@ pub use cause::{
 };
 pub use common::{clean, join};
 pub use edges::Edge;
+pub use emptied::Emptied;
 pub use error::InferError;
 pub use inference::{infer, kept_rows_hold, rows_that_hold_pass};
 pub use turns::none_is_accepted_past;

@@ -1,4 +1,5 @@
-use Rattle.std.proofs.Common.{None, sym}
+use Rattle.std.proofs.Common.{ℕ, None, sym, subst}
+use Rattle.geos_infer.specs.Why.{IsComing}
 use Rattle.geos_infer.proofs.Came.{comes-to, comes-along}
 use Rattle.geos_infer.proofs.apart.bring.Goals as goal
 
@@ -8,5 +9,12 @@ returns-clause-by c =
     let inside = c.in_ok-edge.ensures.inside in
     let before = c.in_ok-before.before in
     let comes = comes-to body.image.now body.r c.args.pc before (c.requires.come c.args.pc before (sym (c.in_ok-before.ensures None))) in
-    comes-along body.image.now body.r c.args.pc c.args.branch c.in_ok-edge.edge before.row c.after.result inside.from
-    inside.way comes c.in_ok-edge.ensures.leads c.in_ok-edge.ensures.stays c.after.ensures
+    comes-along body.image.now body.r c.args.pc c.args.branch c.in_ok-edge.edge before.row c.after-row.result inside.from
+    inside.way comes c.in_ok-edge.ensures.leads c.in_ok-edge.ensures.stays c.after-row.ensures
+
+pub emptied_along-requires-clause-came : goal.emptied_along-requires-clause-came
+emptied_along-requires-clause-came c =
+    let body = c.args.body.now in
+    let before = c.in_ok-before.before in
+    subst (λ (n : ℕ). IsComing body.image.now body.r n before) (sym c.in_ok-edge.ensures.inside.from)
+    (c.requires.come c.args.pc before (sym (c.in_ok-before.ensures None)))
