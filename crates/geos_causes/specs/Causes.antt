@@ -1,10 +1,11 @@
 -- Why no rows or no numbers of steps are found, in an author's words.
-use Rattle.std.specs.Prelude.{ℕ, ◌==◌, Bool, false, ◌&&◌, ◌||◌, if◌then◌else◌, List, [], ◌∷◌, ◌++◌, Option, Some, None, slice_index_or, codes, decimal}
+use Rattle.std.specs.Prelude.{ℕ, ◌==◌, Bool, false, ◌&&◌, if◌then◌else◌, List, [], ◌∷◌, ◌++◌, Option, Some, None, slice_index_or, codes, decimal}
 use Rattle.std.specs.List.{concat}
 use Rattle.geos_image.specs.declared.row.SlotState.{SlotState}
 use Rattle.geos_image.specs.declared.row.SlotState.TheVariants.{Empty}
 use Rattle.geos_listing.specs.Rows.{texts_below, state_word}
-use Rattle.geos_verify.specs.Rows.{slot_fits, is_empty}
+use Rattle.geos_verify.specs.Rows.{is_empty}
+use Rattle.geos_infer.specs.Joins.{slots_agree}
 use Rattle.geos_infer.specs.declared.edges.Edge.{Edge}
 use Rattle.geos_infer.specs.declared.apart.Apart.{Apart}
 use Rattle.geos_infer.specs.declared.apart.Coming.{Coming}
@@ -16,6 +17,7 @@ use Rattle.geos_infer.specs.declared.cause.ByNumber.{ByNumber}
 use Rattle.geos_infer.specs.declared.cause.Cause.{Cause}
 use Rattle.geos_infer.specs.declared.cause.Cause.TheVariants.{SlotsDiffer, NoLoop, SetWithin, TouchedWithin, TouchedBefore, InTurn, StepsPass, WordUnbounded, NumberHigh, GivenUp, StepsMayPass, NoSteps, Unknown}
 use Rattle.geos_explain.specs.Numbers.{pc_text}
+use Rattle.geos_causes.specs.Emptied.{emptied_items}
 
 -- what a slot holds
 abbrev pub state_text : SlotState → List ℕ
@@ -23,7 +25,7 @@ state_text state = if is_empty state then codes " empty" else codes "=" ++ state
 
 -- a slot, where two states of it differ in more than the mark
 abbrev pub differing_item : ℕ → SlotState → SlotState → List ℕ
-differing_item i state other = if slot_fits state other || slot_fits other state then [] else codes " s" ++ decimal i ++ state_text state
+differing_item i state other = if slots_agree state other then [] else codes " s" ++ decimal i ++ state_text state
 
 -- the slots of a row that differ in more than marks from those of another
 abbrev pub differing_items : ℕ → List SlotState → List SlotState → List ℕ
@@ -59,8 +61,16 @@ unfoldable pub other_text : List ℕ → Coming → Coming → List ℕ
 other_text lines coming other = codes ";" ++ coming_text lines coming other
 
 -- slots differ where ways meet
-unfoldable pub apart_text : List ℕ → Apart → List ℕ
-apart_text lines apart = meeting_text lines apart.to ++ coming_text lines apart.first apart.second ++ other_text lines apart.second apart.first
+unfoldable pub ways_text : List ℕ → Apart → List ℕ
+ways_text lines apart = meeting_text lines apart.to ++ coming_text lines apart.first apart.second ++ other_text lines apart.second apart.first
+
+-- the CALLs by which slots are empty on a way that agreed with those of another
+abbrev pub calls_text : List ℕ → Coming → Coming → List ℕ
+calls_text lines coming other = emptied_items 4 lines coming.emptied other.row.slots
+
+-- slots differ where ways meet, and the CALLs by which they do
+abbrev pub apart_text : List ℕ → Apart → List ℕ
+apart_text lines apart = ways_text lines apart ++ calls_text lines apart.first apart.second ++ calls_text lines apart.second apart.first
 
 -- a way leads back
 unfoldable pub back_text : List ℕ → BackWay → List ℕ

@@ -3,14 +3,16 @@
 ghost use Rattle.std.specs.Prelude.{◌≡◌, ◌++◌, OnOk, IfOk};
 ghost use Rattle.geos_causes.specs.Causes.{differing_item, differing_items, is_from, edge_text, coming_from};
 ghost use Rattle.geos_causes.specs.Causes.{coming_text, touched_text, touched_before_text, set_in_text, in_turn_text};
-ghost use Rattle.geos_causes.specs.Causes.{by_word_text, set_to_text, apart_text, back_text, within_text, cause_words, cause_text};
+ghost use Rattle.geos_causes.specs.Causes.{by_word_text, set_to_text, ways_text, calls_text, apart_text};
+ghost use Rattle.geos_causes.specs.Causes.{back_text, within_text, cause_words, cause_text};
 
+use crate::emptied::{put_emptied_items, slots_agree};
 use geos_explain::pc_part;
 use geos_image::SlotState;
 use geos_infer::{Apart, BackWay, ByNumber, ByWord, Cause, Coming, Edge, LoopPair, Within};
 use geos_listing::state_word;
 use geos_text::{Part, put_parts};
-use geos_verify::{is_empty, slot_fits};
+use geos_verify::is_empty;
 use std::alloc::{AllocError, Global};
 
 /// A slot, where two states of it differ in more than the mark, and what it holds in the first.
@@ -23,7 +25,7 @@ fn put_differing(
     ensures { OnOk result (out.new.items ≡ out.old.items ++ differing_item i state other) }
 {
     let slot = Part::Numbered(" s", i as u64);
-    if slot_fits(state, other) || slot_fits(other, state) {
+    if slots_agree(state, other) {
         Ok(())
     } else if is_empty(state) {
         put_parts(out, &[slot, Part::Text(" empty")])
@@ -110,9 +112,9 @@ fn put_coming(
 }
 
 /// Slots differ where ways meet.
-#[tactic(auto, unfolding(crate::specs::Causes::meeting_text, crate::specs::Causes::other_text, crate::specs::Causes::apart_text))]
-fn put_apart(out: &mut Vec<u8>, lines: &[usize], apart: &Apart) -> Result<(), AllocError>
-    ensures { OnOk result (out.new.items ≡ out.old.items ++ apart_text lines.now apart.now) }
+#[tactic(auto, unfolding(crate::specs::Causes::meeting_text, crate::specs::Causes::other_text, crate::specs::Causes::ways_text))]
+fn put_ways(out: &mut Vec<u8>, lines: &[usize], apart: &Apart) -> Result<(), AllocError>
+    ensures { OnOk result (out.new.items ≡ out.old.items ++ ways_text lines.now apart.now) }
 {
     put_parts(
         out,
@@ -121,6 +123,27 @@ fn put_apart(out: &mut Vec<u8>, lines: &[usize], apart: &Apart) -> Result<(), Al
     put_coming(out, lines, &apart.first, &apart.second)?;
     out.extend_from_slice(b";")?;
     put_coming(out, lines, &apart.second, &apart.first)
+}
+
+/// The CALLs by which slots are empty on a way that agreed with those of another.
+fn put_calls(
+    out: &mut Vec<u8>,
+    lines: &[usize],
+    coming: &Coming,
+    other: &Coming,
+) -> Result<(), AllocError>
+    ensures { OnOk result (out.new.items ≡ out.old.items ++ calls_text lines.now coming.now other.now) }
+{
+    put_emptied_items(out, lines, &coming.emptied, &other.row.slots)
+}
+
+/// Slots differ where ways meet, and the CALLs by which they do.
+fn put_apart(out: &mut Vec<u8>, lines: &[usize], apart: &Apart) -> Result<(), AllocError>
+    ensures { OnOk result (out.new.items ≡ out.old.items ++ apart_text lines.now apart.now) }
+{
+    put_ways(out, lines, apart)?;
+    put_calls(out, lines, &apart.first, &apart.second)?;
+    put_calls(out, lines, &apart.second, &apart.first)
 }
 
 /// A text, and a way that leads back.

@@ -4,5 +4,6 @@
 #![tactic(auto)]
 
 mod causes;
+mod emptied;
 
 pub use causes::explain_cause;
