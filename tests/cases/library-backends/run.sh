@@ -17,4 +17,5 @@ use() (
 use . >printed
 use by-rattle | diff printed -
 for file in b.vm random.vm; do cmp "$file" "by-rattle/$file"; done
-cat printed
+# How many calls are done and how many refused is compared, and not known from elsewhere.
+grep -v " done, " printed
