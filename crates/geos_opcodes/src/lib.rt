@@ -6,10 +6,12 @@
 
 mod facts;
 mod fields;
+mod names;
 mod opcode;
 mod uses;
 
-pub use facts::{CounterUse, Facts, Flow, OPCODES, Yields};
+pub use facts::{CounterUse, Facts, Flow, Yields};
 pub use fields::{FIELDS, Field, operand_at};
+pub use names::OPCODES;
 pub use opcode::{Opcode, Operand, Operands};
 pub use uses::{Kind, Offset, PointerUse, SlotUse, Uses, Width};
