@@ -8,10 +8,11 @@ use geos_opcodes::{Field, Opcode};
 /// An instruction. `Opcode::operands` says what each field holds; unused fields are 0.
 #[derive(Clone, Copy)]
 pub struct Instr {
-    pub opcode: Opcode,
+    // The opcode comes behind these three: one number of the four has the opcode at its top, so that the machine takes it by a shift.
     pub a: u8,
     pub b: u8,
     pub c: u8,
+    pub opcode: Opcode,
     pub d: u8,
     pub imm: u16,
     pub target: u16,
