@@ -2,15 +2,15 @@
 
 ghost use Rattle.std.specs.Prelude.{◌≡◌, ◌||◌, slice_index_or, true};
 ghost use Rattle.geos_image.specs.Fields.{FieldsFit};
-ghost use Rattle.geos_semantics.specs.Model.{changing, changing_items, making, asking};
+ghost use Rattle.geos_semantics.specs.Model.{changing, changing_items, asking};
 ghost use Rattle.geos_kernel.specs.Kernel.{LeavesVm};
-ghost use Rattle.geos_machine.specs.Machine.{asks_of_chunks, changes_chunks, changes_item, Does, HasOperands, IsInstr, makes_chunks, Ready, Works};
+ghost use Rattle.geos_machine.specs.Machine.{asks_of_chunks, changes_chunks, changes_item, Does, HasOperands, IsInstr, Ready, Works};
 
 use crate::head::{index_a, index_b, index_c};
 use crate::machine::Machine;
 use crate::step::{Goes, refuse};
 use geos_image::{Instr, Opcode};
-use geos_kernel::{Ask, Change, Kernel, Make, Span};
+use geos_kernel::{Ask, Change, Kernel, Span};
 use vm_file::Device;
 
 /// The change that an instruction makes of chunks, or of items.
@@ -66,25 +66,6 @@ pub(crate) fn change_at(m: &Machine, i: &Instr) -> Change
     }
 }
 
-/// The chunk that an instruction makes.
-// In place, as a change is.
-#[inline(always)]
-fn make_at(m: &Machine, i: &Instr) -> Make
-    requires fields { FieldsFit i.now.opcode i.now }
-    requires makes { makes_chunks i.now.opcode ≡ true }
-    ensures { Does i.now m.now (making result) }
-{
-    match i.opcode {
-        Opcode::Lalloc => Make::Lalloc {
-            n: m.words[i.c as usize],
-        },
-        Opcode::Canew => Make::Canew {
-            element_size: i.imm,
-        },
-        _ => unreachable!(),
-    }
-}
-
 /// The number that an instruction asks for.
 fn ask_at(m: &Machine, i: &Instr) -> Ask
     requires fields { FieldsFit i.now.opcode i.now }
@@ -124,25 +105,22 @@ pub(crate) fn change<D: Device + Drop>(
     }
 }
 
-/// Makes a chunk.
+/// Makes an array in a new chunk.
 #[inline(never)]
-pub(crate) fn make_chunk<D: Device + Drop>(
+pub(crate) fn canew<D: Device + Drop>(
     m: &mut Machine,
     kernel: &mut Kernel<D>,
     i: &Instr,
     a: usize,
 ) -> Goes
-    requires fields { FieldsFit i.now.opcode i.now }
-    requires a { a ≡ i.now.a }
-    requires makes { makes_chunks i.now.opcode ≡ true }
+    requires instr { IsInstr Opcode.Canew i.now a }
     requires ready { Ready (D.medium.honest kernel.old.device) i.now kernel.old.core m.old }
     ensures works { Works (D.medium.honest kernel.old.device) i.now kernel.old.core m.old kernel.new.core m.new result }
     ensures vm { LeavesVm kernel.old kernel.new }
 {
-    let make = make_at(m, i);
-    match kernel.make_chunk(m.slots[a], make) {
-        Ok(c) => {
-            m.words[i.b as usize] = c;
+    match kernel.canew(m.slots[a], i.imm) {
+        Ok(chunk) => {
+            m.words[i.b as usize] = chunk;
             Goes::Along
         }
         Err(refusal) => refuse(m, i, refusal),
@@ -169,6 +147,53 @@ pub(crate) fn ask<D: Device + Drop>(
             m.words[i.b as usize] = n;
             Goes::Along
         }
+        Err(refusal) => refuse(m, i, refusal),
+    }
+}
+
+/// Makes a chunk of bytes.
+#[inline]
+pub(crate) fn lalloc<D: Device + Drop>(
+    m: &mut Machine,
+    kernel: &mut Kernel<D>,
+    i: &Instr,
+    operands: usize,
+) -> Goes
+    requires instr { HasOperands Opcode.Lalloc i.now operands }
+    requires ready { Ready (D.medium.honest kernel.old.device) i.now kernel.old.core m.old }
+    ensures works { Works (D.medium.honest kernel.old.device) i.now kernel.old.core m.old kernel.new.core m.new result }
+    ensures vm { LeavesVm kernel.old kernel.new }
+{
+    let (a, b, c) = (
+        index_a(i, operands),
+        index_b(i, operands),
+        index_c(i, operands),
+    );
+    match kernel.lalloc(m.slots[a], m.words[c]) {
+        Ok(chunk) => {
+            m.words[b] = chunk;
+            Goes::Further
+        }
+        Err(refusal) => refuse(m, i, refusal),
+    }
+}
+
+/// Frees a chunk.
+#[inline]
+pub(crate) fn lfree<D: Device + Drop>(
+    m: &mut Machine,
+    kernel: &mut Kernel<D>,
+    i: &Instr,
+    operands: usize,
+) -> Goes
+    requires instr { HasOperands Opcode.Lfree i.now operands }
+    requires ready { Ready (D.medium.honest kernel.old.device) i.now kernel.old.core m.old }
+    ensures works { Works (D.medium.honest kernel.old.device) i.now kernel.old.core m.old kernel.new.core m.new result }
+    ensures vm { LeavesVm kernel.old kernel.new }
+{
+    let (a, b) = (index_a(i, operands), index_b(i, operands));
+    match kernel.lfree(m.slots[a], m.words[b]) {
+        Ok(()) => Goes::Further,
         Err(refusal) => refuse(m, i, refusal),
     }
 }
