@@ -2,10 +2,12 @@
 use Rattle.std.proofs.Common.{◌≡◌, ◌<◌, ◌≤◌, ℕ, zero, suc, Bool, true, false, cond, List, [], ◌∷◌, length, Option, Some, None, get_or, refl, sym, ap, ◌∙◌, subst, arith, ◌⊎◌, inl, inr}
 use Rattle.std.proofs.lemmas.Bool.{cases_lt}
 use Rattle.std.proofs.lemmas.List.{ext_get_or}
+use Rattle.geos_image.specs.Parts.{Parts}
 use Rattle.geos_flow.specs.declared.edge.Edge.{Edge}
+use Rattle.geos_flow.specs.declared.search.Heading.{Heading}
 use Rattle.geos_flow.specs.Marks.{marked, is_marked}
 use Rattle.geos_flow.specs.Waiting.{Has, count}
-use Rattle.geos_flow.specs.Flow.{Step, Lead, IsLed, MarksWhatIsLed, stepped, passed, passed_within, all_led}
+use Rattle.geos_flow.specs.Flow.{Step, step_by, Lead, IsLed, MarksWhatIsLed, stepped, passed, passed_within, all_led, followed}
 use Rattle.geos_flow.proofs.Marked.{Grows, grows-same, grows-on, mark-grows, mark-was, mark-there, is-marked, has-marked, has-within, count-bound, count-grows}
 
 -- lists of as many marks are the same where the same are marked
@@ -223,3 +225,9 @@ module _ (steps : Edge → Option Step) (begun : List Bool) where
         same-marks marks (all_led steps begun) (len ∙ sym (within-full 4096))
         (λ k h. has-marked (all_led steps begun) k ((all k).1 ((these k).0 (is-marked marks k (low marks len k h) h))))
         (λ k h. has-marked marks k ((these k).1 ((all k).0 (is-marked (all_led steps begun) k (low (all_led steps begun) (within-full 4096) k h) h))))
+
+-- there are as many marks as before
+pub followed-full : (image : Parts) (heading : Heading) (counts : Edge → ℕ → Bool) (marks : List Bool) → length marks ≡ 4096
+    → length (followed image heading counts marks) ≡ 4096
+unfolding all_led
+followed-full image heading counts marks full = within-full (step_by image heading counts) marks full 4096

@@ -1,7 +1,7 @@
 -- Steps along the edges of a pc, ahead or back.
 use Rattle.std.proofs.Common.{◌≡◌, ◌<◌, ◌≤◌, ◌+◌, ◌*◌, ℕ, Bool, true, false, cond, List, [], length, Option, Some, None, slice_get, refl, sym, ap, ◌∙◌, subst, arith, ◌⊎◌, inl, inr}
 use Rattle.std.specs.Prelude.{◌&&◌, nat_lt}
-use Rattle.std.proofs.lemmas.Bool.{cases_lt, cases_eq, ltb-true}
+use Rattle.std.proofs.lemmas.Bool.{cases_lt, cases_eq, lt-ltb, ltb-true}
 use Rattle.std.proofs.lemmas.Option.{slice_get_within}
 use Rattle.geos_image.specs.declared.point.Point.{Point}
 use Rattle.geos_image.specs.Parts.{Parts}
@@ -39,6 +39,46 @@ end-inside image edge end = by_point (slice_get image.points edge.from) refl
       slice_get_within image.points edge.from point e,
       by_test (end_of edge point.instr) (nat_lt (end_of edge point.instr) (length image.points)) refl (has_edge point.instr edge.branch) is,
     )
+
+-- an edge that an instruction has leads to its end, if that is inside
+pub end-there : (image : Parts) (edge : Edge) (point : Point) (to : ℕ) → slice_get image.points edge.from ≡ Some point
+    → has_edge point.instr edge.branch ≡ true → end_of edge point.instr ≡ to → to < length image.points → end_in image edge ≡ Some to
+end-there image edge point to there has is low =
+    ap (λ o. elim o [ None ↦ None | Some found ↦ end_below (length image.points) edge found.instr ]) there
+    ∙ ap (λ b. cond (b && nat_lt (end_of edge point.instr) (length image.points)) (Some (end_of edge point.instr)) None) has
+    ∙ ap (λ b. cond b (Some (end_of edge point.instr)) None) (lt-ltb (end_of edge point.instr) (length image.points) (omega (arith, is, low)))
+    ∙ ap Some is
+
+-- an edge that leads to a pc
+pub record HasEnd (image : Parts) (edge : Edge) (to : ℕ) : Type 0 where
+  pub point : Point
+  pub there : slice_get image.points edge.from ≡ Some point
+  pub has : has_edge point.instr edge.branch ≡ true
+  pub is : end_of edge point.instr ≡ to
+  pub low : to < length image.points
+
+pub end-is : (image : Parts) (edge : Edge) (to : ℕ) → end_in image edge ≡ Some to → HasEnd image edge to
+end-is image edge to ends = by_point (slice_get image.points edge.from) refl ends
+  where
+    by_test : (point : Point) → slice_get image.points edge.from ≡ Some point → (b : Bool) → has_edge point.instr edge.branch ≡ b
+        → cond (b && nat_lt (end_of edge point.instr) (length image.points)) (Some (end_of edge point.instr)) None ≡ Some to → HasEnd image edge to
+    by_test point there true has is = record {
+      point = point;
+      there = there;
+      has = has;
+      is = by_low (nat_lt (end_of edge point.instr) (length image.points)) is;
+      low = (end-inside image edge to ends).1;
+    }
+      where
+        by_low : (b : Bool) → cond b (Some (end_of edge point.instr)) None ≡ Some to → end_of edge point.instr ≡ to
+        by_low true same = cc
+        by_low false same = absurd cc
+    by_test point there false has is = absurd cc
+
+    by_point : (o : Option Point) → slice_get image.points edge.from ≡ o
+        → elim o [ None ↦ None | Some point ↦ end_below (length image.points) edge point.instr ] ≡ Some to → HasEnd image edge to
+    by_point None e is = absurd cc
+    by_point (Some point) e is = by_test point e (has_edge point.instr edge.branch) refl is
 
 -- where a step leads is a pc
 pub step-low : (image : Parts) (heading : Heading) (edge : Edge) (end : ℕ) → length image.points ≤ 4096 → end_in image edge ≡ Some end
