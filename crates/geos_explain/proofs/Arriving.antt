@@ -8,9 +8,9 @@ use Rattle.geos_verify.specs.Places.{places}
 use Rattle.geos_image.specs.declared.row.Pointer.{Pointer}
 use Rattle.geos_image.specs.Parts.{start_of}
 use Rattle.geos_verify.specs.Rows.{pointer_at, is_stale, after, has_edge}
-use Rattle.geos_explain.specs.declared.edges.Edge.{Edge}
+use Rattle.geos_flow.specs.declared.edge.Edge.{Edge}
 use Rattle.geos_explain.specs.declared.arrivals.Arrivals.{Arrivals}
-use Rattle.geos_explain.specs.Edges.{end_of}
+use Rattle.geos_flow.specs.Edges.{end_of}
 use Rattle.geos_explain.specs.Places.{Place, comes_alike}
 use Rattle.geos_explain.specs.Ways.{entry_pointer, with_hint}
 use Rattle.geos_explain.specs.Arrivals.{no_arrivals, arrival, arrived, behind, arrived_along, arrived_from, arrived_over, next_arrivals, arrivals_at_entry, all_arrivals}

@@ -1,25 +1,30 @@
 -- A call that is said to forget an item does.
-use Rattle.std.proofs.Common.{◌≡◌, ◌+◌, ◌<◌, ◌≤◌, ℕ, zero, suc, Bool, true, false, not, cond, List, [], ◌∷◌, Option, Some, None, slice_get, get_or, refl, sym, subst, inl, inr, arith}
+use Rattle.std.proofs.Common.{◌≡◌, ◌+◌, ◌<◌, ◌≤◌, ℕ, zero, suc, Bool, true, false, not, cond, List, [], ◌∷◌, length, Option, Some, None, slice_get, get_or, refl, ap, ◌∙◌, subst, arith}
 use Rattle.std.specs.Prelude.{◌&&◌, nat_lt}
 use Rattle.std.proofs.lemmas.Bool.{and_parts}
 use Rattle.geos_verify.specs.declared.place.Place.{Place as KnownPlace}
 use Rattle.geos_verify.specs.Places.{places}
 use Rattle.geos_image.specs.Parts.{start_of}
 use Rattle.geos_verify.specs.Rows.{after, has_edge}
-use Rattle.geos_explain.specs.declared.edges.Edge.{Edge}
+use Rattle.geos_flow.specs.declared.edge.Edge.{Edge}
 use Rattle.geos_explain.specs.declared.forgotten.Item.{Item}
-use Rattle.geos_explain.specs.Edges.{end_of}
-use Rattle.geos_explain.specs.Forgotten.{knows, comes_to_marked, comes_on, lacking_marked, lacking_marked_at, lacking_round, lacking_within, lacking_from, forgets_item, forgets_at, last_forgetting, IsLackedOver, LackedAlong, IsForgottenBy, WhatIsSaidOfCallsHolds}
-use Rattle.geos_explain.specs.Led.{no_marks, marked, is_marked}
+use Rattle.geos_flow.specs.Edges.{end_of}
+use Rattle.geos_explain.specs.Forgotten.{knows, comes_to_marked, stays_lacked, lacking_from, forgets_item, forgets_at, last_forgetting, IsLackedOver, LackedAlong, IsForgottenBy, WhatIsSaidOfCallsHolds}
+use Rattle.geos_flow.specs.Marks.{no_marks, marked, is_marked}
 use Rattle.geos_explain.specs.Moved.{moves, moves_at, last_moving, if_round, IsMovedRound, WhatIsSaidOfRoundsHolds}
-use Rattle.geos_explain.specs.Lost.{ComesTo}
-use Rattle.geos_explain.specs.Places.{Place, comes_alike}
+use Rattle.geos_explain.specs.Places.{Place, IsPlace, comes_alike, is_inside}
 use Rattle.geos_explain.specs.Since.{IsInside}
 use Rattle.geos_explain.specs.Ways.{forgets}
-use Rattle.geos_explain.proofs.Holding.{or_parts, not-true, inside-at}
-use Rattle.geos_explain.proofs.Reached.{Has, mark-was, none-marked}
+use Rattle.geos_explain.proofs.Holding.{not-true, inside-at}
+use Rattle.geos_flow.specs.declared.search.Heading.TheVariants.{Back}
+use Rattle.geos_flow.specs.Flow.{Step, step_by, Lead}
+use Rattle.geos_flow.specs.Waiting.{Has}
+use Rattle.geos_flow.proofs.Leading.{all_led-led, followed-full}
+use Rattle.geos_flow.proofs.Marked.{has-marked, has-within, is-marked}
+use Rattle.geos_flow.proofs.Taking.{IsStep, step-is, inside}
+use Rattle.geos_explain.proofs.Comes.{known-end, one-full, one-was}
 
-module _ (place : Place) (item : Item) (to : ℕ) where
+module _ (place : Place) (item : Item) (to : ℕ) (is_place : IsPlace place) where
   abbrev start : ℕ
   start = start_of place.image.routines place.r
 
@@ -45,65 +50,54 @@ module _ (place : Place) (item : Item) (to : ℕ) where
       let first = and_parts (is_marked marks end) alike last.0 in
       record { has = last.1; alike = first.1; on = lacked end (and_parts (nat_lt end 4096) (get_or marks end false) first.0).1 }
 
-  comes-on : (marks : List Bool) → AllLacked marks → (from : ℕ) (point : KnownPlace) → comes_on place marks from point ≡ true
-      → (branch : Bool) × Leads from branch point
-  comes-on marks lacked from point is =
-      elim (or_parts (comes_to_marked place marks (record { from = from; branch = false }) point)
-      (comes_to_marked place marks (record { from = from; branch = true }) point) is) [
-        | inl along ↦ (false, edge-leads marks lacked from false point along)
-        | inr aside ↦ (true, edge-leads marks lacked from true point aside)
-      ]
+  abbrev steps : Edge → Option Step
+  steps edge = step_by place.image Back (λ edge end. stays_lacked place item edge) edge
 
-  marked-lacked : (marks : List Bool) → AllLacked marks → (from : ℕ) → IsInside place from → (point : KnownPlace)
-      → slice_get (places place.image) from ≡ Some point → AllLacked (lacking_marked place item marks from point)
-  marked-lacked marks lacked from inside point there =
-      by_test (not (is_marked marks from) && not (knows point.row item) && comes_on place marks from point) refl
+  -- an edge back, on which the item is not known
+  lacked-over : (edge : Edge) (before pc : ℕ) → steps edge ≡ Some (record { from = before; to = pc })
+      → (edge.from ≡ pc) × IsLackedOver place item edge before
+  unfolding stays_lacked
+  lacked-over edge before pc is = (
+    ap (λ s. s.to) found.is,
+    subst (IsLackedOver place item edge) (ap (λ s. s.from) found.is)
+        (by_point (slice_get (places place.image) edge.from) refl found.is_counted),
+  )
     where
-      by_test : (b : Bool) → (not (is_marked marks from) && not (knows point.row item) && comes_on place marks from point) ≡ b
-          → AllLacked (cond b (marked marks from) marks)
-      by_test true is k has = elim (mark-was marks from k has) [
-        | inl same ↦
-            let tests = and_parts (not (is_marked marks from) && not (knows point.row item)) (comes_on place marks from point) is in
-            let before = (and_parts (not (is_marked marks from)) (not (knows point.row item)) tests.0).1 in
-            let leads = comes-on marks lacked from point tests.1 in
-            let edge : Edge = record { from = from; branch = leads.0 } in
-            let comes : ComesTo place edge (end_of edge point.instr) =
-            record { point = point; there = there; alike = leads.1.alike; has = leads.1.has; ends = refl } in
-            let over : IsLackedOver place item edge (end_of edge point.instr) =
-            record { inside = inside; comes = comes; before = not-true (knows point.row item) before } in
-            (edge ∷ leads.1.on.0, (sym same, (end_of edge point.instr, over, leads.1.on.1)))
-        | inr was ↦ lacked k was
-      ]
-      by_test false is k has = lacked k has
+      found : IsStep place.image Back (λ edge end. stays_lacked place item edge) edge (record { from = before; to = pc })
+      found = step-is place.image Back (λ edge end. stays_lacked place item edge) edge (record { from = before; to = pc }) is
 
-  marked_at-lacked : (marks : List Bool) → AllLacked marks → (from : ℕ) → IsInside place from → AllLacked (lacking_marked_at place item marks from)
-  unfolding lacking_marked_at
-  marked_at-lacked marks lacked from inside = by_point (slice_get (places place.image) from) refl
-    where
-      by_point : (o : Option KnownPlace) → slice_get (places place.image) from ≡ o
-          → AllLacked (elim o [ None ↦ marks | Some point ↦ lacking_marked place item marks from point ])
-      by_point None e = lacked
-      by_point (Some point) e = marked-lacked marks lacked from inside point e
+      by_point : (o : Option KnownPlace) → slice_get (places place.image) edge.from ≡ o
+          → elim o [ None ↦ false | Some point ↦ is_inside place edge.from && not (knows point.row item) && comes_alike place edge.from ] ≡ true
+          → IsLackedOver place item edge found.end
+      by_point None e is = absurd cc
+      by_point (Some point) e is =
+          let last = and_parts (is_inside place edge.from && not (knows point.row item)) (comes_alike place edge.from) is in
+          let first = and_parts (is_inside place edge.from) (not (knows point.row item)) last.0 in
+          let end = known-end place.image edge point found.end e found.ends in
+          record {
+            inside = first.0;
+            comes = record { point = point; there = e; alike = last.1; has = end.0; ends = end.1 };
+            before = not-true (knows point.row item) first.1;
+          }
 
-  round-lacked : (marks : List Bool) → AllLacked marks → (n : ℕ) → n ≤ place.routine.count → AllLacked (lacking_round place item marks n)
-  unfolding lacking_round
-  round-lacked marks lacked zero short = lacked
-  round-lacked marks lacked (suc n) short =
-      round-lacked (lacking_marked_at place item marks (start + n)) (marked_at-lacked marks lacked (start + n) (inside-at place 0 n (omega arith))) n
-      (omega arith)
+  lacked-of : (start : ℕ) → start ≡ to → (edges : List Edge) (pc : ℕ) → Lead steps start edges pc → LackedAlong place item to pc edges
+  lacked-of start same [] pc lead = lead ∙ same
+  lacked-of start same (edge ∷ edges) pc lead =
+      let over = lacked-over edge lead.0 pc lead.2 in
+      (over.0, (lead.0, over.1, lacked-of start same edges lead.0 lead.1))
 
-  within-lacked : (n : ℕ) → AllLacked (lacking_within place item to n)
-  unfolding lacking_within
-  within-lacked zero = λ k has. elim (mark-was no_marks to k has) [
-    | inl same ↦ ([], same)
-    | inr was ↦ absurd (none-marked k was)
-  ]
-  within-lacked (suc n) = round-lacked (lacking_within place item to n) (within-lacked n) place.routine.count (omega arith)
+  pub from-lacked : AllLacked (lacking_from place item to)
+  from-lacked k has =
+      let all = all_led-led steps (marked no_marks to) (one-full to) (inside place.image Back (λ edge end. stays_lacked place item edge) is_place.short) in
+      let full : length (lacking_from place item to) ≡ 4096 = followed-full place.image Back (λ edge end. stays_lacked place item edge)
+      (marked no_marks to) (one-full to) in
+      let led = (all k).0 (is-marked (lacking_from place item to) k (let low = has-within (lacking_from place item to) k has in omega arith) has) in
+      (led.edges, lacked-of led.start (one-was to led.start led.begins) led.edges k led.lead)
 
-  forgets-forgotten : (is_place : to ≡ place.pc) (from : ℕ) → IsInside place from → forgets_at place item (lacking_from place item to) from ≡ true
+  forgets-forgotten : (is_to : to ≡ place.pc) (from : ℕ) → IsInside place from → forgets_at place item (lacking_from place item to) from ≡ true
       → IsForgottenBy place item from
   unfolding forgets_at
-  forgets-forgotten is_place from inside = by_point (slice_get (places place.image) from) refl
+  forgets-forgotten is_to from inside_here = by_point (slice_get (places place.image) from) refl
     where
       by_point : (o : Option KnownPlace) → slice_get (places place.image) from ≡ o
           → elim o [ None ↦ false | Some point ↦ forgets_item place item (lacking_from place item to) from point ] ≡ true
@@ -116,16 +110,16 @@ module _ (place : Place) (item : Item) (to : ℕ) where
           (not (knows (after place.image from point.row false) item)) is in
           let second = and_parts (forgets point.instr.opcode && knows point.row item) (comes_to_marked place table edge point) last.0 in
           let first = and_parts (forgets point.instr.opcode) (knows point.row item) second.0 in
-          let leads = edge-leads table (within-lacked 8) from false point second.1 in
+          let leads = edge-leads table from-lacked from false point second.1 in
           record {
-            inside = inside;
+            inside = inside_here;
             next = end_of edge point.instr;
             comes = record { point = point; there = e; alike = leads.alike; has = leads.has; ends = refl };
             calls = first.0;
             known = first.1;
             lost = not-true (knows (after place.image from point.row false) item) last.1;
             edges = leads.on.0;
-            way = subst (λ pc. LackedAlong place item pc (end_of edge point.instr) leads.on.0) is_place leads.on.1;
+            way = subst (λ pc. LackedAlong place item pc (end_of edge point.instr) leads.on.0) is_to leads.on.1;
           }
 
 -- a call that is named, if one is, forgets the item
@@ -147,7 +141,7 @@ said-of-calls place item from is_place = below place.routine.count (omega arith)
     one-more n short true here rest same =
         let is_from : start_of place.image.routines place.r + n ≡ from = cc in
         subst (IsForgottenBy place item) is_from
-        (forgets-forgotten place item place.pc refl (start_of place.image.routines place.r + n) (inside-at place 0 n short) here)
+        (forgets-forgotten place item place.pc is_place refl (start_of place.image.routines place.r + n) (inside-at place 0 n short) here)
     one-more n short false here rest same = rest same
 
     below : (n : ℕ) → n ≤ place.routine.count → Said place item from (last_forgetting place item (lacking_from place item place.pc) n)
@@ -157,10 +151,9 @@ said-of-calls place item from is_place = below place.routine.count (omega arith)
         refl (below n (omega arith))
 
 -- from a pc that is marked, a way leads on
-pub marked-lacks : (place : Place) (item : Item) (to pc : ℕ) → is_marked (lacking_from place item to) pc ≡ true
+pub marked-lacks : (place : Place) (item : Item) (to pc : ℕ) → IsPlace place → is_marked (lacking_from place item to) pc ≡ true
     → (edges : List Edge) × LackedAlong place item to pc edges
-marked-lacks place item to pc is =
-    within-lacked place item to 8 pc (and_parts (nat_lt pc 4096) (get_or (lacking_from place item to) pc false) is).1
+marked-lacks place item to pc is_place is = from-lacked place item to is_place pc (has-marked (lacking_from place item to) pc is)
 
 -- an instruction that is named, if one is, moves the word
 abbrev Moves : Place → Item → ℕ → ℕ → Option ℕ → Type 0
@@ -200,8 +193,8 @@ said-of-rounds place item w from is_place said = by_last (last_moving place w (l
         by_point None e is = absurd cc
         by_point (Some point) e is =
             let tests = and_parts (is_marked (lacking_from place item place.pc) found) (moves point.instr point.instr.opcode w) is in
-            let there = marked-lacks place item place.pc found tests.0 in
-            let back = marked-lacks place item found place.pc round in
+            let there = marked-lacks place item place.pc found is_place tests.0 in
+            let back = marked-lacks place item found place.pc is_place round in
             record { point = point; there = e; does = tests.1; edges = there.0; there_to = there.1; back_edges = back.0; back = back.1 }
 
     by_last : (last : Option ℕ) → last_moving place w (lacking_from place item place.pc) place.routine.count ≡ last

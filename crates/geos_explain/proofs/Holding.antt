@@ -2,20 +2,24 @@
 use Rattle.std.proofs.Common.{◌≡◌, ◌+◌, ◌-◌, ◌<◌, ◌≤◌, ℕ, zero, suc, Bool, true, false, not, cond, List, [], ◌∷◌, length, Option, Some, None, slice_get, get_or, refl, sym, ap, ◌∙◌, subst, ◌⊎◌, inl, inr, arith}
 use Rattle.std.specs.Prelude.{◌&&◌, ◌||◌, nat_le, nat_lt}
 use Rattle.std.proofs.lemmas.Bool.{and_parts, cases_lt, le-leb, leb-true, lt-ltb, ltb-true}
-use Rattle.std.proofs.lemmas.List.{length-replicate}
 use Rattle.geos_verify.specs.declared.place.Place.{Place as KnownPlace}
 use Rattle.geos_verify.specs.Places.{places}
 use Rattle.geos_image.specs.Parts.{start_of}
 use Rattle.geos_verify.specs.Rows.{after, has_edge}
-use Rattle.geos_explain.specs.declared.edges.Edge.{Edge}
+use Rattle.geos_flow.specs.declared.edge.Edge.{Edge}
 use Rattle.geos_explain.specs.declared.since.Since.{Since}
 use Rattle.geos_explain.specs.declared.since.Since.TheVariants.{Unknown, Entry, EntryOrOther, Once, Often}
-use Rattle.geos_explain.specs.Edges.{end_of}
-use Rattle.geos_explain.specs.Led.{no_marks, marked, is_marked}
-use Rattle.geos_explain.specs.Lost.{ComesTo}
-use Rattle.geos_explain.specs.Places.{Place, IsPlace, comes_alike}
-use Rattle.geos_explain.specs.Since.{holds, keeps_along, leads_to_marked, leads_on, marked_back, marked_back_at, back_round, back_within, held_from, fills_at, one_more, also, since_entry, since_below, held_since, IsInside, IsHeldOver, HeldAlong, IsSince, IsSinceEntry, IsSaidOf, IsAllOf, WhatIsSaidOfSlotsHolds}
-use Rattle.geos_explain.proofs.Reached.{Has, Grows, grows-same, grows-on, mark-grows, mark-was, mark-there, is-marked, none-marked, count, count-bound, count-grows, count-some}
+use Rattle.geos_flow.specs.Edges.{end_of}
+use Rattle.geos_flow.specs.Marks.{no_marks, marked, is_marked}
+use Rattle.geos_explain.specs.Places.{Place, IsPlace, comes_alike, is_inside}
+use Rattle.geos_explain.specs.Since.{holds, keeps_along, leads_to_marked, leads_on, stays_held, held_from, fills_at, one_more, also, since_entry, since_below, held_since, IsInside, IsHeldOver, HeldAlong, IsSince, IsSinceEntry, IsSaidOf, IsAllOf, WhatIsSaidOfSlotsHolds}
+use Rattle.geos_flow.specs.declared.search.Heading.TheVariants.{Back}
+use Rattle.geos_flow.specs.Flow.{Step, step_by, Lead, MarksWhatIsLed}
+use Rattle.geos_flow.specs.Waiting.{Has}
+use Rattle.geos_flow.proofs.Leading.{all_led-led, followed-full}
+use Rattle.geos_flow.proofs.Marked.{mark-there, is-marked, has-marked, has-within}
+use Rattle.geos_flow.proofs.Taking.{IsStep, step-is, is-step, inside}
+use Rattle.geos_explain.proofs.Comes.{known-end, end-known, one-none, one-full, one-was}
 
 pub or_parts : (x y : Bool) → (x || y) ≡ true → (x ≡ true) ⊎ (y ≡ true)
 or_parts true y is = inl refl
@@ -85,53 +89,61 @@ module _ (place : Place) (a : ℕ) where
         | inr aside ↦ edge-leads marks held from true point aside
       ]
 
-  back-held : (marks : List Bool) → AllHeld marks → (from : ℕ) → IsInside place from → (point : KnownPlace)
-      → slice_get (places place.image) from ≡ Some point → AllHeld (marked_back place a marks from point)
-  back-held marks held from inside point there = by_test (not (is_marked marks from) && holds point.row a && leads_on place a marks from point) refl
+  abbrev steps : Edge → Option Step
+  steps edge = step_by place.image Back (λ edge end. stays_held place a edge) edge
+
+  -- an edge back, on which the slot is held
+  held-over : (edge : Edge) (before pc : ℕ) → steps edge ≡ Some (record { from = before; to = pc })
+      → (edge.from ≡ pc) × IsHeldOver place a edge before
+  unfolding stays_held
+  held-over edge before pc is = (
+    ap (λ s. s.to) found.is,
+    subst (IsHeldOver place a edge) (ap (λ s. s.from) found.is)
+        (by_point (slice_get (places place.image) edge.from) refl found.is_counted),
+  )
     where
-      by_test : (b : Bool) → (not (is_marked marks from) && holds point.row a && leads_on place a marks from point) ≡ b
-          → AllHeld (cond b (marked marks from) marks)
-      by_test true is k has = elim (mark-was marks from k has) [
-        | inl same ↦
-            let tests = and_parts (not (is_marked marks from) && holds point.row a) (leads_on place a marks from point) is in
-            let before = (and_parts (not (is_marked marks from)) (holds point.row a) tests.0).1 in
-            let leads = on-leads marks held from point tests.1 in
-            let edge : Edge = record { from = from; branch = leads.branch } in
-            let comes : ComesTo place edge (end_of edge point.instr) =
-            record { point = point; there = there; alike = leads.alike; has = leads.has; ends = refl } in
-            let over : IsHeldOver place a edge (end_of edge point.instr) =
-            record { inside = inside; comes = comes; before = before; behind = leads.held } in
-            (edge ∷ leads.on.0, (sym same, (end_of edge point.instr, over, leads.on.1)))
-        | inr was ↦ held k was
-      ]
-      by_test false is k has = held k has
+      found : IsStep place.image Back (λ edge end. stays_held place a edge) edge (record { from = before; to = pc })
+      found = step-is place.image Back (λ edge end. stays_held place a edge) edge (record { from = before; to = pc }) is
 
-  back_at-held : (marks : List Bool) → AllHeld marks → (from : ℕ) → IsInside place from → AllHeld (marked_back_at place a marks from)
-  unfolding marked_back_at
-  back_at-held marks held from inside = by_point (slice_get (places place.image) from) refl
-    where
-      by_point : (o : Option KnownPlace) → slice_get (places place.image) from ≡ o
-          → AllHeld (elim o [ None ↦ marks | Some point ↦ marked_back place a marks from point ])
-      by_point None e = held
-      by_point (Some point) e = back-held marks held from inside point e
+      by_point : (o : Option KnownPlace) → slice_get (places place.image) edge.from ≡ o
+          → elim o [ None ↦ false | Some point ↦ is_inside place edge.from && holds point.row a && keeps_along place a edge point ] ≡ true
+          → IsHeldOver place a edge found.end
+      by_point None e is = absurd cc
+      by_point (Some point) e is =
+          let last = and_parts (is_inside place edge.from && holds point.row a) (keeps_along place a edge point) is in
+          let first = and_parts (is_inside place edge.from) (holds point.row a) last.0 in
+          let behind = holds (after place.image edge.from point.row edge.branch) a in
+          let kept = and_parts (comes_alike place edge.from && has_edge point.instr edge.branch) behind last.1 in
+          let alike = and_parts (comes_alike place edge.from) (has_edge point.instr edge.branch) kept.0 in
+          let end = known-end place.image edge point found.end e found.ends in
+          record {
+            inside = first.0;
+            comes = record { point = point; there = e; alike = alike.0; has = end.0; ends = end.1 };
+            before = first.1;
+            behind = kept.1;
+          }
 
-  round-held : (marks : List Bool) → AllHeld marks → (n : ℕ) → n ≤ place.routine.count → AllHeld (back_round place a marks n)
-  unfolding back_round
-  round-held marks held zero short = held
-  round-held marks held (suc n) short =
-      round-held (marked_back_at place a marks (start + n)) (back_at-held marks held (start + n) (inside-at n (omega arith))) n (omega arith)
+  held-of : (start : ℕ) → start ≡ place.pc → (edges : List Edge) (pc : ℕ) → Lead steps start edges pc → HeldAlong place a pc edges
+  held-of start same [] pc lead = lead ∙ same
+  held-of start same (edge ∷ edges) pc lead =
+      let over = held-over edge lead.0 pc lead.2 in
+      (over.0, (lead.0, over.1, held-of start same edges lead.0 lead.1))
 
-  within-held : (n : ℕ) → AllHeld (back_within place a n)
-  unfolding back_within
-  within-held zero = λ k has. elim (mark-was no_marks place.pc k has) [
-    | inl same ↦ ([], same)
-    | inr was ↦ absurd (none-marked k was)
-  ]
-  within-held (suc n) = round-held (back_within place a n) (within-held n) place.routine.count (omega arith)
-
-  from-held : AllHeld (held_from place a)
+  from-full : length (held_from place a) ≡ 4096
   unfolding held_from
-  from-held = within-held (length place.image.points)
+  from-full = followed-full place.image Back (λ edge end. stays_held place a edge) (marked no_marks place.pc) (one-full place.pc)
+
+  -- what is marked are the pcs that steps back lead to
+  from-led : IsPlace place → MarksWhatIsLed steps (marked no_marks place.pc) (held_from place a)
+  unfolding held_from
+  from-led is = all_led-led steps (marked no_marks place.pc) (one-full place.pc)
+      (inside place.image Back (λ edge end. stays_held place a edge) is.short)
+
+  from-held : IsPlace place → AllHeld (held_from place a)
+  from-held is k has =
+      let full = from-full in
+      let led = (from-led is k).0 (is-marked (held_from place a) k (let low = has-within (held_from place a) k has in omega arith) has) in
+      (led.edges, held-of led.start (one-was place.pc led.start led.begins) led.edges k led.lead)
 
   -- ---- Since where
 
@@ -222,28 +234,6 @@ module _ (place : Place) (a : ℕ) where
 
   -- ---- All that is so is said
 
-  back-grows : (marks : List Bool) (from : ℕ) (point : KnownPlace) → Grows marks (marked_back place a marks from point)
-  back-grows marks from point = by_test (not (is_marked marks from) && holds point.row a && leads_on place a marks from point)
-    where
-      by_test : (b : Bool) → Grows marks (cond b (marked marks from) marks)
-      by_test true = mark-grows marks from
-      by_test false = grows-same marks
-
-  at-grows : (marks : List Bool) (from : ℕ) → Grows marks (marked_back_at place a marks from)
-  unfolding marked_back_at
-  at-grows marks from = by_point (slice_get (places place.image) from)
-    where
-      by_point : (o : Option KnownPlace) → Grows marks (elim o [ None ↦ marks | Some point ↦ marked_back place a marks from point ])
-      by_point None = grows-same marks
-      by_point (Some point) = back-grows marks from point
-
-  round-grows : (marks : List Bool) (n : ℕ) → Grows marks (back_round place a marks n)
-  unfolding back_round
-  round-grows marks zero = grows-same marks
-  round-grows marks (suc n) =
-      let next = marked_back_at place a marks (start + n) in
-      grows-on marks next (back_round place a next n) (at-grows marks (start + n)) (round-grows next n)
-
   -- an edge on which the slot is held behind it, to a pc that is marked, is one on which its instruction leads on
   on-there : (marks : List Bool) (from : ℕ) (branch : Bool) (to : ℕ) (point : KnownPlace)
       → end_of (record { from = from; branch = branch }) point.instr ≡ to → to < 4096 → Has marks to
@@ -265,49 +255,17 @@ module _ (place : Place) (a : ℕ) where
       by_branch true is = or-one (leads_to_marked place a marks (record { from = from; branch = false }) point)
           (leads_to_marked place a marks (record { from = from; branch = true }) point) (inr is)
 
-  back-there : (marks : List Bool) (from : ℕ) (point : KnownPlace) → length marks ≡ 4096 → from < 4096
-      → holds point.row a ≡ true → leads_on place a marks from point ≡ true → Has (marked_back place a marks from point) from
-  back-there marks from point full low held leads = by_mark (is_marked marks from) refl
-    where
-      by_mark : (b : Bool) → is_marked marks from ≡ b
-          → Has (cond (not b && holds point.row a && leads_on place a marks from point) (marked marks from) marks) from
-      by_mark true is = (and_parts (nat_lt from 4096) (get_or marks from false) is).1
-      by_mark false is =
-          let test = and-both (not false && holds point.row a) (leads_on place a marks from point)
-          (and-both (not false) (holds point.row a) refl held) leads in
-          subst (λ (b : Bool). Has (cond b (marked marks from) marks) from) (sym test) (mark-there marks from full low)
-
-  at-there : (marks : List Bool) (edge : Edge) (to : ℕ) → length marks ≡ 4096 → edge.from < 4096 → IsHeldOver place a edge to
-      → to < 4096 → Has marks to → Has (marked_back_at place a marks edge.from) edge.from
-  unfolding marked_back_at
-  at-there marks edge to full low over below has =
-      rw (over.comes.there, marked_back_at) (back-there marks edge.from over.comes.point full low over.before
-      (on-there marks edge.from edge.branch to over.comes.point over.comes.ends below has over.comes.alike over.comes.has over.behind))
-
-  round-there : (marks : List Bool) (n k : ℕ) → k < n → length marks ≡ 4096 → (edge : Edge) (to : ℕ) → edge.from ≡ start + k
-      → edge.from < 4096 → IsHeldOver place a edge to → to < 4096 → Has marks to → Has (back_round place a marks n) edge.from
-  unfolding back_round
-  round-there marks zero k less full edge to is low over below has = absurd (omega arith)
-  round-there marks (suc n) k less full edge to is low over below has =
-      let next = marked_back_at place a marks (start + n) in
-      let step = at-grows marks (start + n) in
-      elim (cases_lt k n) [
-        | inl before ↦ round-there next n k before (step.len ∙ full) edge to is low over below (step.keeps to has)
-        | inr past ↦
-            let here : edge.from ≡ start + n = omega arith in
-            let grows = round-grows next n in
-            grows.keeps edge.from (subst (λ m. Has (marked_back_at place a marks m) edge.from) here (at-there marks edge to full low over below has))
-      ]
-
-  within-grows : (n : ℕ) → Grows (marked no_marks place.pc) (back_within place a n)
-  unfolding back_within
-  within-grows zero = grows-same (marked no_marks place.pc)
-  within-grows (suc n) = grows-on (marked no_marks place.pc) (back_within place a n)
-      (back_round place a (back_within place a n) place.routine.count) (within-grows n) (round-grows (back_within place a n) place.routine.count)
-
-  within-full : (n : ℕ) → length (back_within place a n) ≡ 4096
-  unfolding no_marks
-  within-full n = let grows = within-grows n in let first = mark-grows no_marks place.pc in grows.len ∙ first.len ∙ length-replicate 4096 false
+  -- an edge on which the slot is held counts
+  held-stays : (edge : Edge) (to : ℕ) → IsHeldOver place a edge to → stays_held place a edge ≡ true
+  unfolding stays_held
+  held-stays edge to over =
+      let point = over.comes.point in
+      let behind = holds (after place.image edge.from point.row edge.branch) a in
+      ap (λ o. elim o [ None ↦ false | Some point ↦ is_inside place edge.from && holds point.row a && keeps_along place a edge point ]) over.comes.there
+      ∙ and-both (is_inside place edge.from && holds point.row a) (keeps_along place a edge point)
+      (and-both (is_inside place edge.from) (holds point.row a) over.inside over.before)
+      (and-both (comes_alike place edge.from && has_edge point.instr edge.branch) behind
+      (and-both (comes_alike place edge.from) (has_edge point.instr edge.branch) over.comes.alike over.comes.has) over.behind)
 
   module _ (is : IsPlace place) where
     inside-low : (from : ℕ) → IsInside place from → (start ≤ from) × (from < start + place.routine.count)
@@ -320,56 +278,33 @@ module _ (place : Place) (a : ℕ) where
     along-low [] pc way = let there = is.there in omega arith
     along-low (edge ∷ edges) pc way = let low = inside-low edge.from way.1.1.inside in let room = is.room in let from = way.0 in omega arith
 
-    few-marked : (n : ℕ) → count (back_within place a n) ≤ length place.image.points
-    few-marked n = count-bound (back_within place a n) (length place.image.points)
-        (λ k has. (let from = within-held n k has in along-low from.0 k from.1))
+    first-there : is_marked (marked no_marks place.pc) place.pc ≡ true
+    first-there =
+        let there = is.there in
+        let short = is.short in
+        let full = one-none in
+        is-marked (marked no_marks place.pc) place.pc (omega arith) (mark-there no_marks place.pc full (omega arith))
 
-    abbrev IsStable : List Bool → Type 0
-    IsStable marks = back_round place a marks place.routine.count ≡ marks
+    step-over : (edge : Edge) (to : ℕ) → to < length place.image.points → IsHeldOver place a edge to
+        → steps edge ≡ Some (record { from = to; to = edge.from })
+    step-over edge to low over =
+        is-step place.image Back (λ edge end. stays_held place a edge) edge to
+        (end-known place.image edge over.comes.point to over.comes.there over.comes.has over.comes.ends low) (held-stays edge to over)
 
-    first-there : Has (marked no_marks place.pc) place.pc
-    unfolding no_marks
-    first-there = let there = is.there in let short = is.short in mark-there no_marks place.pc (length-replicate 4096 false) (omega arith)
-
-    stable-or : (n : ℕ) → IsStable (back_within place a n) ⊎ (n < count (back_within place a n))
-    unfolding back_within
-    stable-or zero = let one = count-some (marked no_marks place.pc) place.pc first-there in inr (omega arith)
-    stable-or (suc n) =
-        let marks = back_within place a n in
-        let next = back_round place a marks place.routine.count in
-        let grows = round-grows marks place.routine.count in
-        elim (stable-or n) [
-          | inl stable ↦ inl (ap (λ (m : List Bool). back_round place a m place.routine.count) stable)
-          | inr many ↦ elim (count-grows marks next grows.len grows.keeps) [
-            | inl stable ↦ inl (ap (λ (m : List Bool). back_round place a m place.routine.count) stable)
-            | inr more ↦ inr (omega arith)
-          ]
-        ]
-
-    stable : IsStable (held_from place a)
-    unfolding held_from
-    stable = elim (stable-or (length place.image.points)) [
-      | inl stays ↦ stays
-      | inr many ↦ (let few = few-marked (length place.image.points) in absurd (omega arith))
-    ]
+    along-led : (edges : List Edge) (pc : ℕ) → HeldAlong place a pc edges → Lead steps place.pc edges pc
+    along-led [] pc way = way
+    along-led (edge ∷ edges) pc way =
+        let to = way.1.0 in
+        let step = step-over edge to (along-low edges to way.1.2) way.1.1 in
+        (to, along-led edges to way.1.2, step ∙ ap (λ k. Some (record { from = to; to = k })) way.0)
 
     along-marked : (edges : List Edge) (pc : ℕ) → HeldAlong place a pc edges → Has (held_from place a) pc
-    unfolding held_from
-    along-marked [] pc way = let grows = within-grows (length place.image.points) in
-        grows.keeps pc (subst (λ k. Has (marked no_marks place.pc) k) (sym way) first-there)
-    along-marked (edge ∷ edges) pc way =
-        let marks = held_from place a in
-        let to = way.1.0 in
-        let over = way.1.1 in
-        let short = is.short in
-        let room = is.room in
-        let low = inside-low edge.from over.inside in
-        let below = along-low edges to way.1.2 in
-        let k : ℕ = edge.from - start in
-        let here : edge.from ≡ start + k = omega arith in
-        let next = round-there marks place.routine.count k (omega arith) (within-full (length place.image.points))
-        edge to here (omega arith) over (omega arith) (along-marked edges to way.1.2) in
-        subst (λ m. Has (held_from place a) m) way.0 (subst (λ (m : List Bool). Has m edge.from) stable next)
+    along-marked edges pc way = has-marked (held_from place a) pc ((from-led is pc).1 (record {
+      start = place.pc;
+      begins = first-there;
+      edges = edges;
+      lead = along-led edges pc way;
+    }))
 
     entry-all : IsSinceEntry place a → since_entry place a (held_from place a) ≡ Entry
     entry-all since =
@@ -464,6 +399,6 @@ module _ (place : Place) (a : ℕ) where
 pub said-of-slots : WhatIsSaidOfSlotsHolds
 unfolding held_since
 said-of-slots place a is = (
-  (below-said place a (held_from place a) (from-held place a) place.routine.count (omega arith)).is,
+  (below-said place a (held_from place a) (from-held place a is) place.routine.count (omega arith)).is,
   all-of place a is (since_below place a (held_from place a) place.routine.count) (below-all place a is place.routine.count),
 )

@@ -1,4 +1,5 @@
 mod Arriving
+mod Comes
 mod Fits
 mod Forgetting
 mod FoundWays

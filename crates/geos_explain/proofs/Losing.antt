@@ -9,7 +9,7 @@ use Rattle.geos_image.specs.declared.row.Pointer.{Pointer}
 use Rattle.geos_image.specs.declared.row.SlotState.{SlotState}
 use Rattle.geos_image.specs.Parts.{start_of}
 use Rattle.geos_verify.specs.Rows.{pointer_at, is_stale, after, has_edge, leads_nowhere}
-use Rattle.geos_explain.specs.declared.edges.Edge.{Edge}
+use Rattle.geos_flow.specs.declared.edge.Edge.{Edge}
 use Rattle.geos_explain.specs.declared.ways.Way.{Way}
 use Rattle.geos_explain.specs.declared.ways.Way.TheVariants.{Entry, Along}
 use Rattle.geos_explain.specs.declared.backs.Back.TheVariants.{Loses, Lacks, Not}
@@ -17,14 +17,15 @@ use Rattle.geos_explain.specs.declared.trace.End.{End}
 use Rattle.geos_explain.specs.declared.trace.End.TheVariants.{Unset, Unreached, Merged, Nowhere}
 use Rattle.geos_explain.specs.declared.trace.Meeting.{Meeting}
 use Rattle.geos_explain.specs.declared.trace.Trace.{Trace}
-use Rattle.geos_explain.specs.Edges.{end_of}
-use Rattle.geos_explain.specs.Led.{no_marks, marked, is_marked}
+use Rattle.geos_flow.specs.Edges.{end_of}
+use Rattle.geos_flow.specs.Marks.{no_marks, marked, is_marked}
 use Rattle.geos_explain.specs.Places.{Place, comes_alike}
 use Rattle.geos_explain.specs.Ways.{empty_behind, empty_slot, empty_along, empty_from, empty_on, bringing, losing, loses}
 use Rattle.geos_explain.specs.Arrivals.{arrival, all_arrivals}
 use Rattle.geos_explain.specs.Trace.{nowhere_or, without_way, meeting_at, end_at, passed, lacks_on, hint_at, back_as, back_by, back_along, back_from, back_over, next_round, rounds, begun, aside, aside_by, along_lost, traced_by, traced}
 use Rattle.geos_explain.specs.Lost.{LacksBehind, LacksAlong, IsLost, LeadsBy, IsWay, IsMeeting, IsUnset, BringsNowhere, IsNowhere, WhatIsSaidHolds}
-use Rattle.geos_explain.proofs.Reached.{Has, mark-was, none-marked}
+use Rattle.geos_flow.specs.Waiting.{Has}
+use Rattle.geos_flow.proofs.Marked.{mark-was, none-marked}
 use Rattle.geos_explain.proofs.Arriving.{Found, hint-known, all-found, cond-some, some-same}
 use Rattle.geos_explain.proofs.FoundWays.{bringing-way, losing-way}
 

@@ -9,11 +9,11 @@ use Rattle.geos_verify.specs.Places.{places}
 use Rattle.geos_image.specs.declared.row.Pointer.{Pointer}
 use Rattle.geos_image.specs.Parts.{start_of}
 use Rattle.geos_verify.specs.Rows.{is_stale}
-use Rattle.geos_explain.specs.declared.edges.Edge.{Edge}
+use Rattle.geos_flow.specs.declared.edge.Edge.{Edge}
 use Rattle.geos_explain.specs.declared.ways.Way.{Way}
 use Rattle.geos_explain.specs.declared.ways.Way.TheVariants.{Along}
 use Rattle.geos_explain.specs.declared.ways.Sought.{Sought}
-use Rattle.geos_explain.specs.Edges.{end_of}
+use Rattle.geos_flow.specs.Edges.{end_of}
 use Rattle.geos_explain.specs.declared.arrivals.Arrivals.{Arrivals}
 use Rattle.geos_explain.specs.declared.arrivals.BothBehind.{BothBehind}
 use Rattle.geos_explain.specs.Arrivals.{arrival, arrived, no_behind, IsBehind, AreBehind}

@@ -5,11 +5,11 @@ use Rattle.geos_verify.specs.Places.{places}
 use Rattle.geos_image.specs.declared.row.Pointer.{Pointer}
 use Rattle.geos_image.specs.Parts.{Parts, start_of}
 use Rattle.geos_verify.specs.Rows.{pointer_at, is_stale, after, has_edge}
-use Rattle.geos_explain.specs.declared.edges.Edge.{Edge}
+use Rattle.geos_flow.specs.declared.edge.Edge.{Edge}
 use Rattle.geos_explain.specs.declared.ways.Followed.{Followed}
 use Rattle.geos_explain.specs.declared.arrivals.Arrivals.{Arrivals}
 use Rattle.geos_explain.specs.declared.arrivals.BothBehind.{BothBehind}
-use Rattle.geos_explain.specs.Edges.{end_of}
+use Rattle.geos_flow.specs.Edges.{end_of}
 use Rattle.geos_explain.specs.Places.{Place, IsPcOf, comes_alike}
 use Rattle.geos_explain.specs.Ways.{with_hint, entry_pointer}
 

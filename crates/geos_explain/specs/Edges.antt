@@ -1,15 +1,12 @@
 -- The edges along which control goes from an instruction.
-use Rattle.std.specs.Prelude.{ℕ, zero, suc, ◌+◌, Bool, false, ◌&&◌, ◌||◌, if◌then◌else◌, length, slice_get}
+use Rattle.std.specs.Prelude.{ℕ, zero, suc, Bool, false, ◌&&◌, ◌||◌, length, slice_get}
 use Rattle.std.specs.Option.{option_map_or}
 use Rattle.geos_image.specs.declared.instr.Instr.{Instr}
 use Rattle.geos_image.specs.Parts.{Parts, start_of}
 use Rattle.geos_verify.specs.Rows.{has_edge}
 use Rattle.geos_verify.specs.Rules.{has_place}
-use Rattle.geos_explain.specs.declared.edges.Edge.{Edge}
-
--- the pc that an edge of an instruction leads to
-abbrev pub end_of : Edge → Instr → ℕ
-end_of edge i = if edge.branch then i.target else edge.from + 1
+use Rattle.geos_flow.specs.declared.edge.Edge.{Edge}
+use Rattle.geos_flow.specs.Edges.{end_of}
 
 -- a pc is that of an instruction of routine r
 abbrev pub lies_in : Parts → ℕ → ℕ → Bool

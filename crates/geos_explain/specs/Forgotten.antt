@@ -1,17 +1,19 @@
 -- Which call forgets what is to be known at a place: behind it only what its routine's `out` line says is known.
-use Rattle.std.specs.Prelude.{◌≡◌, ℕ, zero, suc, ◌+◌, Bool, true, false, ◌&&◌, ◌||◌, not, nat_lt, nat_le, if◌then◌else◌, List, [], ◌∷◌, Option, Some, None, slice_get, slice_index_or}
+use Rattle.std.specs.Prelude.{◌≡◌, ℕ, zero, suc, ◌+◌, Bool, true, false, ◌&&◌, not, nat_lt, nat_le, if◌then◌else◌, List, [], ◌∷◌, Option, Some, None, slice_get, slice_index_or}
 use Rattle.geos_verify.specs.declared.place.Place.{Place as KnownPlace}
 use Rattle.geos_verify.specs.Places.{places}
 use Rattle.geos_image.specs.declared.row.Row.{Row}
 use Rattle.geos_image.specs.Parts.{start_of}
 use Rattle.geos_verify.specs.Rows.{after, bound, has_edge, is_empty, pointer_at, pointer_fits, slot_fits, slot_state}
-use Rattle.geos_explain.specs.declared.edges.Edge.{Edge}
+use Rattle.geos_flow.specs.declared.edge.Edge.{Edge}
 use Rattle.geos_explain.specs.declared.forgotten.Item.{Item}
 use Rattle.geos_explain.specs.declared.forgotten.Item.TheVariants.{Bound, Slot, Held, Leads, Apart}
-use Rattle.geos_explain.specs.Edges.{end_of}
-use Rattle.geos_explain.specs.Led.{no_marks, marked, is_marked}
+use Rattle.geos_flow.specs.declared.search.Heading.TheVariants.{Back}
+use Rattle.geos_flow.specs.Edges.{end_of}
+use Rattle.geos_flow.specs.Flow.{followed}
+use Rattle.geos_flow.specs.Marks.{no_marks, marked, is_marked}
 use Rattle.geos_explain.specs.Lost.{ComesTo}
-use Rattle.geos_explain.specs.Places.{Place, IsPlace, comes_alike}
+use Rattle.geos_explain.specs.Places.{Place, IsPlace, comes_alike, is_inside}
 use Rattle.geos_explain.specs.Since.{IsInside}
 use Rattle.geos_explain.specs.Ways.{forgets}
 
@@ -28,37 +30,16 @@ abbrev pub comes_to_marked : Place → List Bool → Edge → KnownPlace → Boo
 comes_to_marked place marks edge point =
     is_marked marks (end_of edge point.instr) && comes_alike place edge.from && has_edge point.instr edge.branch
 
--- it does along one of the edges of the instruction at a pc
-abbrev pub comes_on : Place → List Bool → ℕ → KnownPlace → Bool
-comes_on place marks from point =
-    comes_to_marked place marks (record { from = from; branch = false }) point
-    || comes_to_marked place marks (record { from = from; branch = true }) point
+-- an edge is one of the place's routine, and control comes along it as it comes to the place, and the item is not known before it
+unfoldable pub stays_lacked : Place → Item → Edge → Bool
+stays_lacked place item edge = elim (slice_get (places place.image) edge.from) [
+  | None ↦ false
+  | Some point ↦ is_inside place edge.from && not (knows point.row item) && comes_alike place edge.from
+]
 
--- a pc is marked as well, if it is not yet, and the item is not known before its instruction, which leads on so
-abbrev pub lacking_marked : Place → Item → List Bool → ℕ → KnownPlace → List Bool
-lacking_marked place item marks from point =
-    if not (is_marked marks from) && not (knows point.row item) && comes_on place marks from point then marked marks from else marks
-
--- the same, if there is an instruction
-unfoldable pub lacking_marked_at : Place → Item → List Bool → ℕ → List Bool
-lacking_marked_at place item marks from =
-    elim (slice_get (places place.image) from) [ None ↦ marks | Some point ↦ lacking_marked place item marks from point ]
-
--- the same of the first n instructions of the routine, the last of them first
-unfoldable pub lacking_round : Place → Item → List Bool → ℕ → List Bool
-lacking_round place item marks zero = marks
-lacking_round place item marks (suc n) =
-    lacking_round place item (lacking_marked_at place item marks (start_of place.image.routines place.r + n)) n
-
--- the mark of a pc, and what n rounds back over the routine mark as well
-unfoldable pub lacking_within : Place → Item → ℕ → ℕ → List Bool
-lacking_within place item to zero = marked no_marks to
-lacking_within place item to (suc n) = lacking_round place item (lacking_within place item to n) place.routine.count
-
--- from where a way leads to a pc on which the item is not known all along: eight rounds find each that leads back at most
--- seven times
+-- from where a way leads to a pc on which the item is not known all along
 abbrev pub lacking_from : Place → Item → ℕ → List Bool
-lacking_from place item to = lacking_within place item to 8
+lacking_from place item to = followed place.image Back (λ edge end. stays_lacked place item edge) (marked no_marks to)
 
 -- an instruction is a call behind which the item is not known, and before which it is, and control comes from it to a pc that is
 -- marked

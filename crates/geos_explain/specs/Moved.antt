@@ -8,11 +8,11 @@ use Rattle.geos_image.specs.Parts.{start_of}
 use Rattle.geos_opcodes.specs.declared.opcode.Opcode.{Opcode}
 use Rattle.geos_opcodes.specs.declared.opcode.Opcode.TheVariants.{Add, Sub, Muli}
 use Rattle.geos_opcodes.specs.Facts.{word_of}
-use Rattle.geos_explain.specs.declared.edges.Edge.{Edge}
+use Rattle.geos_flow.specs.declared.edge.Edge.{Edge}
 use Rattle.geos_explain.specs.declared.forgotten.Item.{Item}
 use Rattle.geos_explain.specs.declared.forgotten.Item.TheVariants.{Bound}
 use Rattle.geos_explain.specs.Forgotten.{lacking_from, LackedAlong}
-use Rattle.geos_explain.specs.Led.{is_marked}
+use Rattle.geos_flow.specs.Marks.{is_marked}
 use Rattle.geos_explain.specs.Numbers.{pc_text}
 use Rattle.geos_explain.specs.Places.{Place, IsPlace}
 

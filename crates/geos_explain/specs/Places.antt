@@ -10,6 +10,7 @@ use Rattle.geos_image.specs.Parts.{Parts, start_of}
 use Rattle.geos_listing.specs.Instrs.{KeepsLimits}
 use Rattle.geos_verify.specs.declared.place.Place.{Place as KnownPlace}
 use Rattle.geos_verify.specs.declared.rule.Rule.{Rule}
+use Rattle.geos_verify.specs.Rules.{has_place}
 use Rattle.geos_explain.specs.Led.{is_reached}
 use Rattle.geos_explain.specs.declared.place.Place as code
 use Rattle.geos_explain.specs.declared.explained.Explained as told
@@ -71,6 +72,10 @@ abbrev pub comes_alike : Place → ℕ → Bool
 comes_alike place pc = agrees (is_reached place.image place.pc) (is_reached place.image pc)
 
 -- a pc is that of one of the instructions of the place's routine
+abbrev pub is_inside : Place → ℕ → Bool
+is_inside place pc = has_place (start_of place.image.routines place.r) place.routine.count pc
+
+-- the same, by its bounds
 pub record IsPcOf (place : Place) (pc : ℕ) : Type 0 where
   pub begins : start_of place.image.routines place.r ≤ pc
   pub ends : pc < start_of place.image.routines place.r + place.routine.count

@@ -1,19 +1,20 @@
 -- Since where a slot is held at a place: from which instructions of its routine, or from the caller, a way leads there on which it
 -- is held all along.
-use Rattle.std.specs.Prelude.{◌≡◌, ℕ, zero, suc, ◌+◌, Bool, true, false, ◌&&◌, ◌||◌, not, nat_lt, if◌then◌else◌, List, [], ◌∷◌, Some, None, length, slice_get}
+use Rattle.std.specs.Prelude.{◌≡◌, ℕ, zero, suc, ◌+◌, Bool, true, false, ◌&&◌, ◌||◌, not, nat_lt, if◌then◌else◌, List, [], ◌∷◌, Some, None, slice_get}
 use Rattle.geos_verify.specs.declared.place.Place.{Place as KnownPlace}
 use Rattle.geos_verify.specs.Places.{places}
 use Rattle.geos_image.specs.declared.row.Row.{Row}
 use Rattle.geos_image.specs.Parts.{start_of}
 use Rattle.geos_verify.specs.Rows.{after, has_edge, is_empty, slot_state}
-use Rattle.geos_verify.specs.Rules.{has_place}
-use Rattle.geos_explain.specs.declared.edges.Edge.{Edge}
+use Rattle.geos_flow.specs.declared.edge.Edge.{Edge}
 use Rattle.geos_explain.specs.declared.since.Since.{Since}
 use Rattle.geos_explain.specs.declared.since.Since.TheVariants.{Unknown, Entry, EntryOrOther, Once, Often}
-use Rattle.geos_explain.specs.Edges.{end_of}
-use Rattle.geos_explain.specs.Led.{no_marks, marked, is_marked}
+use Rattle.geos_flow.specs.declared.search.Heading.TheVariants.{Back}
+use Rattle.geos_flow.specs.Edges.{end_of}
+use Rattle.geos_flow.specs.Flow.{followed}
+use Rattle.geos_flow.specs.Marks.{no_marks, marked, is_marked}
 use Rattle.geos_explain.specs.Lost.{ComesTo}
-use Rattle.geos_explain.specs.Places.{Place, IsPlace, comes_alike}
+use Rattle.geos_explain.specs.Places.{Place, IsPlace, comes_alike, is_inside}
 
 -- the slot is held in a row
 abbrev pub holds : Row → ℕ → Bool
@@ -34,30 +35,16 @@ leads_on place a marks from point =
     leads_to_marked place a marks (record { from = from; branch = false }) point
     || leads_to_marked place a marks (record { from = from; branch = true }) point
 
--- an instruction's pc is marked as well, if it is not yet, the slot is held before it, and it leads on so
-abbrev pub marked_back : Place → ℕ → List Bool → ℕ → KnownPlace → List Bool
-marked_back place a marks from point =
-    if not (is_marked marks from) && holds point.row a && leads_on place a marks from point then marked marks from else marks
+-- an edge is one of the place's routine, and on it the slot is held before it and behind it
+unfoldable pub stays_held : Place → ℕ → Edge → Bool
+stays_held place a edge = elim (slice_get (places place.image) edge.from) [
+  | None ↦ false
+  | Some point ↦ is_inside place edge.from && holds point.row a && keeps_along place a edge point
+]
 
--- the same, if there is an instruction
-unfoldable pub marked_back_at : Place → ℕ → List Bool → ℕ → List Bool
-marked_back_at place a marks from =
-    elim (slice_get (places place.image) from) [ None ↦ marks | Some point ↦ marked_back place a marks from point ]
-
--- the same of the first n instructions of the routine, the last of them first
-unfoldable pub back_round : Place → ℕ → List Bool → ℕ → List Bool
-back_round place a marks zero = marks
-back_round place a marks (suc n) = back_round place a (marked_back_at place a marks (start_of place.image.routines place.r + n)) n
-
--- the place's mark, and what n rounds back over the routine mark as well
-unfoldable pub back_within : Place → ℕ → ℕ → List Bool
-back_within place a zero = marked no_marks place.pc
-back_within place a (suc n) = back_round place a (back_within place a n) place.routine.count
-
--- from where a way leads to the place on which the slot is held: each round marks one more at least, while there is one, so as
--- many rounds as there are instructions mark all
+-- from where a way leads to the place on which the slot is held
 unfoldable pub held_from : Place → ℕ → List Bool
-held_from place a = back_within place a (length place.image.points)
+held_from place a = followed place.image Back (λ edge end. stays_held place a edge) (marked no_marks place.pc)
 
 -- the slot is empty before an instruction, which leads on so
 unfoldable pub fills_at : Place → ℕ → List Bool → ℕ → Bool
@@ -102,7 +89,7 @@ held_since place a = since_below place a (held_from place a) place.routine.count
 
 -- an instruction is one of the place's routine
 abbrev pub IsInside : Place → ℕ → Type 0
-IsInside place from = has_place (start_of place.image.routines place.r) place.routine.count from ≡ true
+IsInside place from = is_inside place from ≡ true
 
 -- control comes along an edge of the routine to a pc, as it comes to the place, and the slot is held before it and behind it
 pub record IsHeldOver (place : Place) (a : ℕ) (edge : Edge) (to : ℕ) : Type 0 where

@@ -18,7 +18,7 @@ use Rattle.geos_verify.specs.Rows.{pointer_at, is_stale}
 use Rattle.geos_explain.specs.Numbers.{pc_text}
 use Rattle.geos_explain.specs.Places.{Place}
 use Rattle.geos_explain.specs.Uses.{slot_behind}
-use Rattle.geos_explain.specs.declared.edges.Edge.{Edge}
+use Rattle.geos_flow.specs.declared.edge.Edge.{Edge}
 use Rattle.geos_explain.specs.declared.ways.Followed.{Followed}
 use Rattle.geos_explain.specs.declared.ways.Way.{Way}
 use Rattle.geos_explain.specs.declared.ways.Way.TheVariants.{Entry, Along}

@@ -5,7 +5,7 @@ use Rattle.geos_verify.specs.declared.place.Place.{Place as KnownPlace}
 use Rattle.geos_verify.specs.Places.{places}
 use Rattle.geos_image.specs.Parts.{start_of}
 use Rattle.geos_verify.specs.Rows.{pointer_at, is_stale, after, has_edge}
-use Rattle.geos_explain.specs.declared.edges.Edge.{Edge}
+use Rattle.geos_flow.specs.declared.edge.Edge.{Edge}
 use Rattle.geos_explain.specs.declared.ways.Followed.{Followed}
 use Rattle.geos_explain.specs.declared.ways.Way.{Way}
 use Rattle.geos_explain.specs.declared.ways.Way.TheVariants.{Entry, Along}
@@ -17,8 +17,8 @@ use Rattle.geos_explain.specs.declared.trace.End.{End}
 use Rattle.geos_explain.specs.declared.trace.End.TheVariants.{Unset, Unreached, Merged, Nowhere}
 use Rattle.geos_explain.specs.declared.trace.Meeting.{Meeting}
 use Rattle.geos_explain.specs.declared.trace.Trace.{Trace}
-use Rattle.geos_explain.specs.Led.{no_marks, marked, is_marked}
-use Rattle.geos_explain.specs.Edges.{end_of}
+use Rattle.geos_flow.specs.Marks.{no_marks, marked, is_marked}
+use Rattle.geos_flow.specs.Edges.{end_of}
 use Rattle.geos_explain.specs.Places.{Place, IsPcOf, comes_alike}
 use Rattle.geos_explain.specs.Ways.{empty_on, bringing, losing, loses}
 use Rattle.geos_explain.specs.Arrivals.{arrival, all_arrivals}

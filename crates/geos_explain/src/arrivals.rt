@@ -6,11 +6,11 @@ ghost use Rattle.geos_explain.specs.Arrivals.{no_arrivals, arrival, arrived, beh
 ghost use Rattle.geos_explain.specs.Arrivals.{arrived_along, arrived_from, next_arrivals, arrivals_at_entry, all_arrivals};
 ghost use Rattle.geos_verify.specs.Places.{places};
 
-use crate::edges::{Edge, end_of};
 use crate::filled::Filled;
 use crate::place::Place;
 use crate::routines::comes_alike;
 use crate::ways::{Followed, entry_pointer, is_stale, with_hint};
+use geos_flow::{Edge, end_of};
 use geos_image::Pointer;
 use geos_verify::{Place as KnownPlace, has_edge, pointer_at};
 

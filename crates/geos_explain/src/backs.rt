@@ -6,10 +6,10 @@ ghost use Rattle.geos_explain.specs.Trace.{lacks_on, back_of, no_backs, IsBack, 
 ghost use Rattle.geos_verify.specs.Places.{places};
 
 use crate::arrivals::{Arrivals, arrival};
-use crate::edges::Edge;
 use crate::place::Place;
 use crate::routines::comes_alike;
 use crate::ways::{Followed, is_stale, loses};
+use geos_flow::Edge;
 use geos_verify::{Place as KnownPlace, has_edge, pointer_at};
 
 /// What a step back along an edge comes to.

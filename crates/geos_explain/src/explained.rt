@@ -4,7 +4,7 @@ ghost use Rattle.std.specs.Prelude.{◌≡◌};
 ghost use Rattle.geos_explain.specs.Led.{reached};
 
 use crate::filled::Filled;
-use crate::led::Marks;
+use geos_flow::Marks;
 use geos_verify::Rule;
 
 /// An image, and what is to be said of it.

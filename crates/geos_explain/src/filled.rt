@@ -7,6 +7,7 @@ ghost use Rattle.geos_image.specs.Parts.{start_of};
 ghost use Rattle.geos_verify.specs.Places.{places, at_place, RowAt};
 ghost use Rattle.geos_verify.specs.Rows.{after, has_edge};
 
+use geos_flow::Graph;
 use geos_image::{Image, Instr, Point, Potential, Routine, Row};
 use geos_verify::{Place as KnownPlace, after, places_of};
 use std::alloc::{AllocError, Global};
@@ -16,7 +17,7 @@ use std::marker::Model;
 /// the image.
 #[derive(Drop)]
 pub(crate) struct Filled<'a> {
-    image: &'a Image,
+    graph: Graph<'a>,
     known: Vec<KnownPlace>,
 }
 
@@ -27,9 +28,9 @@ impl<'a> Model for Filled<'a> {
 
     ghost Value = { Parts };
 
-    ghost view = { λ f. f.image.now };
+    ghost view = { λ f. f.graph.image.now };
 
-    ghost invariant = { λ f. f.known.items ≡ places f.image.now };
+    ghost invariant = { λ f. f.known.items ≡ places f.graph.image.now };
 }
 
 impl<'a> Filled<'a> {
@@ -38,14 +39,22 @@ impl<'a> Filled<'a> {
         ensures { IfOk result (λ filled. filled ≡ image.now) }
     {
         let known = places_of(alloc, image)?;
-        Ok(Filled { image, known })
+        let graph = Graph::of(image);
+        Ok(Filled { graph, known })
     }
 
     /// The image as it is.
     pub fn image(&self) -> &Image
         ensures { result.now ≡ self.now }
     {
-        self.image
+        self.graph.image
+    }
+
+    /// The edges of the image.
+    pub fn graph(&self) -> &Graph<'a>
+        ensures { result.now.image.now ≡ self.now }
+    {
+        &self.graph
     }
 
     /// How many routines there are, 1 to 32.
@@ -53,7 +62,7 @@ impl<'a> Filled<'a> {
         ensures count { result ≡ length self.now.routines }
         ensures legal { is_image self.now ≡ true }
     {
-        self.image.count()
+        self.graph.image.count()
     }
 
     /// A routine, by its index.
@@ -61,7 +70,7 @@ impl<'a> Filled<'a> {
         requires { index < length self.now.routines }
         ensures { slice_get self.now.routines index ≡ Some result.now }
     {
-        self.image.routine(index)
+        self.graph.image.routine(index)
     }
 
     /// The pc of a routine's first instruction.
@@ -71,7 +80,7 @@ impl<'a> Filled<'a> {
         ensures room { IfSome (slice_get self.now.routines index) (λ routine. result + routine.count ≤ length self.now.points) }
         ensures short { length self.now.points ≤ 4096 }
     {
-        self.image.start(index)
+        self.graph.image.start(index)
     }
 
     /// How many instructions there are, 1 to 4,096.
@@ -79,7 +88,7 @@ impl<'a> Filled<'a> {
         ensures len { result ≡ length self.now.points }
         ensures legal { is_image self.now ≡ true }
     {
-        self.image.len()
+        self.graph.image.len()
     }
 
     /// The instruction at a pc.
@@ -89,7 +98,7 @@ impl<'a> Filled<'a> {
         ensures fields { FieldsFit result.now.opcode result.now }
         ensures callee { CalleeFits (length self.now.routines) result.now }
     {
-        self.image.instr(pc)
+        self.graph.image.instr(pc)
     }
 
     /// What is known at a pc.
@@ -108,14 +117,14 @@ impl<'a> Filled<'a> {
         requires { pc < length self.now.points }
         ensures { IfSome (slice_get self.now.points pc) (λ point. result.now ≡ point.potential) }
     {
-        self.image.potential(pc)
+        self.graph.image.potential(pc)
     }
 
     /// The instruction at a pc, with its potential, if there is one.
     pub fn point(&self, pc: u16) -> Option<&Point>
         ensures { MatchOption result (slice_get self.now.points pc ≡ None) (λ point. slice_get self.now.points pc ≡ Some point.now) }
     {
-        self.image.points().get(usize::from(pc))
+        self.graph.image.points().get(usize::from(pc))
     }
 
     /// The place at a pc, if there is one.
@@ -131,6 +140,6 @@ impl<'a> Filled<'a> {
         requires edge { at_place self.now pc (λ place. has_edge place.instr branch) ≡ true }
         ensures { result ≡ after self.now pc row.now branch }
     {
-        after(self.image, pc, row, branch)
+        after(self.graph.image, pc, row, branch)
     }
 }

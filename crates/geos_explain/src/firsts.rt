@@ -6,10 +6,10 @@ ghost use Rattle.geos_explain.specs.Places.{IsPlace, place_of};
 ghost use Rattle.geos_explain.specs.Ways.{no_ways, sought_of, elsewhere, way_along, way_at, FirstWays, AreFirsts, way_to, bringing, losing};
 ghost use Rattle.geos_verify.specs.Places.{places};
 
-use crate::edges::{Edge, end_of};
 use crate::led::is_reached;
 use crate::place::Place;
 use crate::ways::{Sought, Way, entry_pointer, is_as, is_as_sought};
+use geos_flow::{Edge, end_of};
 use geos_verify::Place as KnownPlace;
 
 /// For each pc of a routine the first way to it along an edge that is sought, if there is one.

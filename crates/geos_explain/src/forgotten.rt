@@ -1,15 +1,14 @@
 //! Which call forgets what is to be known at a place: behind it only what its routine's `out` line says is known.
 
-ghost use Rattle.std.specs.Prelude.{◌≡◌, Some};
+ghost use Rattle.std.specs.Prelude.{◌≡◌, ◌<◌, length, Some};
 ghost use Rattle.geos_explain.specs.Places.{IsPlace, place_of};
-ghost use Rattle.geos_explain.specs.Forgotten.{knows, comes_to_marked, comes_on, lacking_marked_at, lacking_round, lacking_within, lacking_from};
+ghost use Rattle.geos_explain.specs.Forgotten.{knows, comes_to_marked, lacking_from};
 ghost use Rattle.geos_explain.specs.Forgotten.{forgets_at, last_forgetting, forgetting_call, WhatIsSaidOfCallsHolds};
 
-use crate::edges::{Edge, end_of};
-use crate::led::{Marks, is_marked, mark, no_marks};
 use crate::place::Place;
-use crate::routines::comes_alike;
+use crate::routines::{comes_alike, is_inside};
 use crate::ways::forgets;
+use geos_flow::{Counting, Edge, Heading, Marks, end_of, follow, is_marked, mark, no_marks};
 use geos_image::{Pointer, Row, SlotState};
 use geos_verify::{
     Place as KnownPlace, has_edge, is_empty, pointer_at, pointer_fits, slot_fits, slot_state,
@@ -52,61 +51,42 @@ fn comes_to_marked(place: &Place, marks: &Marks, edge: Edge, point: &KnownPlace)
         && has_edge(&point.instr, edge.branch)
 }
 
-/// Whether it does along one of the edges of the instruction at a pc.
-fn comes_on(place: &Place, marks: &Marks, from: u16, point: &KnownPlace) -> bool
-    ensures { result ≡ comes_on (place_of place.now) marks.now from point.now }
-{
-    let along = Edge {
-        from,
-        branch: false,
-    };
-    let aside = Edge { from, branch: true };
-    comes_to_marked(place, marks, along, point) || comes_to_marked(place, marks, aside, point)
+/// The edges of the place's routine before which an item is not known, where control comes as it comes to the place.
+#[derive(Clone, Copy)]
+struct Lacking<'a> {
+    place: &'a Place<'a>,
+    item: Item,
+    ghost within: { place.now.r < length place.now.image.now.routines },
 }
 
-/// The pc is marked as well, if it is not yet, and the item is not known before its instruction, which leads on so.
-#[tactic(auto, unfolding(crate::specs::Forgotten::lacking_marked_at))]
-fn mark_lacking(marks: &mut Marks, place: &Place, item: Item, from: u16)
-    ensures { marks.new ≡ lacking_marked_at (place_of place.now) item marks.old from }
-{
-    match place.image.place(from) {
-        Some(point) => {
-            if !is_marked(marks, usize::from(from))
-                && !knows(&point.row, item)
-                && comes_on(place, marks, from, point)
-            {
-                mark(marks, usize::from(from));
+impl<'a> Counting for Lacking<'a> {
+    ghost use Rattle.geos_explain.specs.Places.{place_of};
+    ghost use Rattle.geos_explain.specs.Forgotten.{stays_lacked};
+
+    ghost counted = { λ s edge end. stays_lacked (place_of s.place.now) s.item edge };
+
+    #[tactic(auto, unfolding(crate::specs::Forgotten::stays_lacked))]
+    fn counts(&self, edge: Edge, _end: u16) -> bool {
+        match self.place.image.place(edge.from) {
+            Some(point) => {
+                is_inside(self.place, edge.from)
+                    && !knows(&point.row, self.item)
+                    && comes_alike(self.place, edge.from)
             }
+            None => false,
         }
-        None => {}
     }
 }
 
-/// The same of all of the routine's instructions, the last of them first.
-fn mark_round_lacking(marks: &mut Marks, place: &Place, item: Item)
-    requires { IsPlace (place_of place.now) }
-    ensures { marks.new ≡ lacking_round (place_of place.now) item marks.old place.now.routine.now.count }
-{
-    let start = place.image.start(place.r);
-    let mut rest = place.routine.count;
-    while rest > 0 {
-        rest -= 1;
-        mark_lacking(marks, place, item, start + rest);
-    }
-}
-
-/// The pcs from which a way leads to another on which the item is not known all along. Eight rounds find each that leads
-/// back at most seven times; more are not looked for.
-#[tactic(auto, unfolding(crate::specs::Forgotten::lacking_within))]
+/// The pcs from which a way leads to another on which the item is not known all along.
 pub(crate) fn lacking_from(place: &Place, item: Item, to: u16) -> Marks
     requires { IsPlace (place_of place.now) }
     ensures { result ≡ lacking_from (place_of place.now) item to }
 {
     let mut marks = no_marks();
     mark(&mut marks, usize::from(to));
-    for round in 0..8_u16 {
-        mark_round_lacking(&mut marks, place, item);
-    }
+    let lacking = Lacking { place, item };
+    follow(place.image.graph(), Heading::Back, &lacking, &mut marks);
     marks
 }
 

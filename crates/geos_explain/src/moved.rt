@@ -6,9 +6,9 @@ ghost use Rattle.geos_explain.specs.Moved.{moves, moves_at, last_moving, if_roun
 ghost use Rattle.geos_explain.specs.Moved.{moving, moved_words, moved_text, WhatIsSaidOfRoundsHolds};
 
 use crate::forgotten::{Item, lacking_from};
-use crate::led::{Marks, is_marked};
 use crate::numbers::pc_part;
 use crate::place::Place;
+use geos_flow::{Marks, is_marked};
 use geos_image::{Instr, Opcode};
 use geos_text::{Part, put_parts};
 use std::alloc::AllocError;

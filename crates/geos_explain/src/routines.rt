@@ -1,13 +1,14 @@
 //! A routine of an image that is explained, and its places.
 
 ghost use Rattle.std.specs.Prelude.{◌≡◌, ◌<◌, length, slice_get, IfSome};
-ghost use Rattle.geos_explain.specs.Places.{HasRoutine, IsPlace, agrees, comes_alike, explained_of, place_at, place_of};
+ghost use Rattle.geos_explain.specs.Places.{HasRoutine, IsPlace, agrees, comes_alike, explained_of, is_inside, place_at, place_of};
 ghost use Rattle.geos_verify.specs.Places.{places};
 
 use crate::explained::Explained;
 use crate::led::is_reached;
 use crate::place::Place;
 use geos_image::Routine;
+use geos_verify::has_place;
 
 /// Routine r of an image that is explained.
 #[derive(Clone, Copy)]
@@ -54,5 +55,17 @@ pub(crate) fn comes_alike(place: &Place, pc: u16) -> bool
     agrees(
         is_reached(place.image, place.marks, place.pc),
         is_reached(place.image, place.marks, pc),
+    )
+}
+
+/// Whether the pc is that of an instruction of the place's routine.
+pub(crate) fn is_inside(place: &Place, pc: u16) -> bool
+    requires { place.now.r < length place.now.image.now.routines }
+    ensures { result ≡ is_inside (place_of place.now) pc }
+{
+    has_place(
+        u32::from(place.image.start(place.r)),
+        place.routine,
+        u32::from(pc),
     )
 }

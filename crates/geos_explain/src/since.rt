@@ -1,15 +1,14 @@
 //! Since where a slot is held at a place.
 
-ghost use Rattle.std.specs.Prelude.{◌≡◌, Some, slice_get};
+ghost use Rattle.std.specs.Prelude.{◌≡◌, ◌<◌, length, Some, slice_get};
 ghost use Rattle.geos_explain.specs.Places.{IsPlace, place_of};
-ghost use Rattle.geos_explain.specs.Since.{holds, keeps_along, leads_to_marked, leads_on, marked_back_at, back_round};
+ghost use Rattle.geos_explain.specs.Since.{holds, keeps_along, leads_to_marked, leads_on};
 ghost use Rattle.geos_explain.specs.Since.{held_from, fills_at, also, since_entry, held_since, WhatIsSaidOfSlotsHolds};
 ghost use Rattle.geos_verify.specs.Places.{places};
 
-use crate::edges::{Edge, end_of};
-use crate::led::{Marks, is_marked, mark, no_marks};
 use crate::place::Place;
-use crate::routines::comes_alike;
+use crate::routines::{comes_alike, is_inside};
+use geos_flow::{Counting, Edge, Heading, Marks, end_of, follow, is_marked, mark, no_marks};
 use geos_image::Row;
 use geos_verify::{Place as KnownPlace, has_edge, is_empty, slot_state};
 
@@ -66,54 +65,43 @@ fn leads_on(place: &Place, a: u8, marks: &Marks, from: u16, point: &KnownPlace) 
     leads_to_marked(place, a, marks, along, point) || leads_to_marked(place, a, marks, aside, point)
 }
 
-/// The pc is marked as well, if it is not yet, and the slot is held before its instruction, which leads on so.
-#[tactic(auto, unfolding(crate::specs::Since::marked_back_at))]
-fn mark_back(marks: &mut Marks, place: &Place, a: u8, from: u16)
-    ensures { marks.new ≡ marked_back_at (place_of place.now) a marks.old from }
-{
-    match place.image.place(from) {
-        Some(point) => {
-            if !is_marked(marks, usize::from(from))
-                && holds(&point.row, a)
-                && leads_on(place, a, marks, from, point)
-            {
-                mark(marks, usize::from(from));
+/// The edges of the place's routine along which a slot stays held, as control comes to the place.
+#[derive(Clone, Copy)]
+struct Holding<'a> {
+    place: &'a Place<'a>,
+    a: u8,
+    ghost within: { place.now.r < length place.now.image.now.routines },
+}
+
+impl<'a> Counting for Holding<'a> {
+    ghost use Rattle.geos_explain.specs.Places.{place_of};
+    ghost use Rattle.geos_explain.specs.Since.{stays_held};
+
+    ghost counted = { λ s edge end. stays_held (place_of s.place.now) s.a edge };
+
+    #[tactic(auto, unfolding(crate::specs::Since::stays_held))]
+    fn counts(&self, edge: Edge, _end: u16) -> bool {
+        match self.place.image.place(edge.from) {
+            Some(point) => {
+                is_inside(self.place, edge.from)
+                    && holds(&point.row, self.a)
+                    && keeps_along(self.place, self.a, edge, point)
             }
+            None => false,
         }
-        None => {}
     }
 }
 
-/// The same of all of the routine's instructions, the last of them first.
-fn mark_round_back(marks: &mut Marks, place: &Place, a: u8)
-    requires { IsPlace (place_of place.now) }
-    ensures { marks.new ≡ back_round (place_of place.now) a marks.old place.now.routine.now.count }
-{
-    let start = place.image.start(place.r);
-    let mut rest = place.routine.count;
-    while rest > 0 {
-        rest -= 1;
-        mark_back(marks, place, a, start + rest);
-    }
-}
-
-/// The pcs from which a way leads to the place on which the slot is held all along: as many rounds as there are instructions mark
-/// them all, and where one marks none, the others would mark none either.
-#[tactic(auto, unfolding(crate::specs::Since::back_within, crate::specs::Since::held_from))]
+/// The pcs from which a way leads to the place on which the slot is held all along.
+#[tactic(auto, unfolding(crate::specs::Since::held_from))]
 fn held_from(place: &Place, a: u8) -> Marks
     requires { IsPlace (place_of place.now) }
     ensures { result ≡ held_from (place_of place.now) a }
 {
     let mut marks = no_marks();
     mark(&mut marks, usize::from(place.pc));
-    let mut settled = false;
-    for round in 0..place.image.len() {
-        if !settled {
-            let before = marks;
-            mark_round_back(&mut marks, place, a);
-            settled = before == marks;
-        }
-    }
+    let holding = Holding { place, a };
+    follow(place.image.graph(), Heading::Back, &holding, &mut marks);
     marks
 }
 

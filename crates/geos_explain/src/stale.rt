@@ -6,13 +6,13 @@ ghost use Rattle.geos_explain.specs.Stale.{if_stale, stale_used, pointer_item, r
 ghost use Rattle.geos_explain.specs.Stale.{name_at, call_loss, moved_words, use_loss, how_lost, lost_by, label_wish, refused_at, unset_words};
 ghost use Rattle.geos_explain.specs.Stale.{unreached_words, merged_words, into_empty_wish, into_empty_words, loss_words, trace_item, stale_words};
 
-use crate::edges::Edge;
 use crate::filled::Filled;
 use crate::numbers::pc_part;
 use crate::place::Place;
 use crate::trace::{End, Meeting, Trace, hint_at, traced};
 use crate::uses::slot_behind;
 use crate::ways::{Followed, Way, forgets, is_stale, sets, with_hint};
+use geos_flow::Edge;
 use geos_image::{Instr, Routine, Row};
 use geos_opcodes::{PointerUse, SlotUse};
 use geos_text::{Part, put_numbered, put_parts};

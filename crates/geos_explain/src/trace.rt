@@ -10,12 +10,11 @@ ghost use Rattle.geos_verify.specs.Places.{places};
 
 use crate::arrivals::{Arrivals, all_arrivals, arrival};
 use crate::backs::{AllBacks, Back, all_backs, back_at, back_of};
-use crate::edges::{Edge, end_of};
 use crate::firsts::{Firsts, bringing, firsts_of, losing};
-use crate::led::{Marks, is_marked, mark, no_marks};
 use crate::place::Place;
 use crate::routines::comes_alike;
 use crate::ways::{Followed, Way, empty_on};
+use geos_flow::{Edge, Marks, end_of, is_marked, mark, no_marks};
 use geos_verify::Place as KnownPlace;
 
 /// Ways meet, of which one brings a pointer and another does not.

@@ -6,11 +6,11 @@ ghost use Rattle.geos_explain.specs.Places.{place_of};
 ghost use Rattle.geos_explain.specs.Ways.{is_as, entry_pointer, empty_slot, empty_along, empty_on, is_as_sought, with_hint, sets, forgets, loses};
 ghost use Rattle.geos_verify.specs.Places.{places};
 
-use crate::edges::Edge;
 use crate::filled::Filled;
 use crate::led::is_reached;
 use crate::place::Place;
 use crate::routines::agrees;
+use geos_flow::Edge;
 use geos_image::{Instr, Opcode, Pointer, Routine, Row};
 use geos_opcodes::PointerUse;
 use geos_verify::{Place as KnownPlace, has_edge, leads_nowhere, pointer_at};

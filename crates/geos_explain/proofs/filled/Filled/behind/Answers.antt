@@ -25,7 +25,7 @@ edge-of image pc branch lt has =
 pub after-requires-clause-there : goal.after-requires-clause-there
 after-requires-clause-there c =
     let image = c.args.self.now in
-    let same : length c.self.inside.image.now.points ≡ length image.points = ap (λ (p : Parts). length p.points) c.self.view_is in
+    let same : length c.self.inside.graph.image.now.points ≡ length image.points = ap (λ (p : Parts). length p.points) c.self.view_is in
     omega (arith, same, c.requires.there, places-length image)
 
 pub after-requires-clause-edge : goal.after-requires-clause-edge

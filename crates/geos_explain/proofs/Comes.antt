@@ -1,0 +1,44 @@
+-- Edges of an image, by what is known at its places; and steps back along them.
+use Rattle.std.proofs.Common.{◌≡◌, ◌<◌, true, false, length, Some, slice_get, ℕ, sym, ap, ◌∙◌, inl, inr}
+use Rattle.std.proofs.lemmas.List.{length-replicate}
+use Rattle.geos_image.specs.declared.instr.Instr.{Instr}
+use Rattle.geos_image.specs.Parts.{Parts}
+use Rattle.geos_verify.specs.declared.place.Place.{Place as KnownPlace}
+use Rattle.geos_verify.specs.Places.{places}
+use Rattle.geos_verify.specs.Rows.{has_edge}
+use Rattle.geos_verify.proofs.Places.{point-of}
+use Rattle.geos_flow.specs.declared.edge.Edge.{Edge}
+use Rattle.geos_flow.specs.Edges.{end_of, end_in}
+use Rattle.geos_flow.specs.Marks.{no_marks, marked, is_marked}
+use Rattle.geos_flow.proofs.Marked.{mark-grows, mark-was, none-marked, has-marked}
+use Rattle.geos_flow.proofs.Taking.{end-is, end-there}
+
+-- where an edge leads, and that the instruction has it
+pub known-end : (image : Parts) (edge : Edge) (known : KnownPlace) (end : ℕ) → slice_get (places image) edge.from ≡ Some known
+    → end_in image edge ≡ Some end → (has_edge known.instr edge.branch ≡ true) × (end_of edge known.instr ≡ end)
+known-end image edge known end there ends =
+    let found = end-is image edge end ends in
+    let point = point-of image edge.from known there in
+    let both : Some point.0 ≡ Some found.point = sym point.1 ∙ found.there in
+    let same : point.0 ≡ found.point = cc in
+    let instr : known.instr ≡ found.point.instr = point.2.instr ∙ ap (λ p. p.instr) same in
+    (ap (λ (i : Instr). has_edge i edge.branch) instr ∙ found.has, ap (λ (i : Instr). end_of edge i) instr ∙ found.is)
+
+pub end-known : (image : Parts) (edge : Edge) (known : KnownPlace) (end : ℕ) → slice_get (places image) edge.from ≡ Some known
+    → has_edge known.instr edge.branch ≡ true → end_of edge known.instr ≡ end → end < length image.points → end_in image edge ≡ Some end
+end-known image edge known end there has is low =
+    let point = point-of image edge.from known there in
+    let instr : point.0.instr ≡ known.instr = sym point.2.instr in
+    end-there image edge point.0 end point.1 (ap (λ (i : Instr). has_edge i edge.branch) instr ∙ has)
+    (ap (λ (i : Instr). end_of edge i) instr ∙ is) low
+
+-- no mark, and the mark of one pc
+pub one-none : length no_marks ≡ 4096
+unfolding no_marks
+one-none = length-replicate 4096 false
+
+pub one-full : (pc : ℕ) → length (marked no_marks pc) ≡ 4096
+one-full pc = let grows = mark-grows no_marks pc in grows.len ∙ one-none
+
+pub one-was : (pc k : ℕ) → is_marked (marked no_marks pc) k ≡ true → k ≡ pc
+one-was pc k is = elim (mark-was no_marks pc k (has-marked (marked no_marks pc) k is)) [ inl same ↦ same | inr was ↦ absurd (none-marked k was) ]

@@ -1,0 +1,5 @@
+pub mod Marked
+mod Into
+mod Kept
+pub mod Leading
+pub mod Taking

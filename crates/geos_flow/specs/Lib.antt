@@ -1,0 +1,5 @@
+pub mod Edges
+pub mod Marks
+pub mod Flow
+pub mod Graphs
+pub mod Waiting

@@ -1,0 +1,78 @@
+//! The edges into each pc of an image.
+
+ghost use Rattle.std.specs.Prelude.{◌≡◌, ◌<◌, ◌≤◌, ◌+◌, ◌*◌, length, None, slice_index_or};
+ghost use Rattle.geos_flow.specs.Edges.{number_of};
+ghost use Rattle.geos_flow.specs.Graphs.{AreInto, behind_of};
+
+use crate::edge::{Edge, end_in, number_of};
+use geos_image::Image;
+
+/// An image, and for each of its pcs the edges that lead there, as a list: the first one, and behind each the next.
+#[derive(Clone, Copy)]
+pub struct Graph<'a> {
+    /// The image.
+    pub image: &'a Image,
+    first: [Option<Edge>; 4096],
+    /// Behind each edge, by its number, another to the same pc.
+    behind: [Option<Edge>; 8192],
+    ghost short: { length image.now.points ≤ 4096 },
+    ghost into: { AreInto image.now (2 * length image.now.points) first behind },
+}
+
+/// The edge comes first among those to where it leads, if it leads anywhere.
+fn note(
+    first: &mut [Option<Edge>; 4096],
+    behind: &mut [Option<Edge>; 8192],
+    image: &Image,
+    edge: Edge,
+)
+    requires from { edge.from < 4096 }
+    requires short { length image.now.points ≤ 4096 }
+    requires before { AreInto image.now (number_of edge) first.old behind.old }
+    ensures { AreInto image.now (number_of edge + 1) first.new behind.new }
+{
+    if let Some(end) = end_in(image, edge) {
+        let at = usize::from(end);
+        behind[number_of(edge)] = first[at];
+        first[at] = Some(edge);
+    }
+}
+
+impl<'a> Graph<'a> {
+    /// The edges of the image.
+    pub fn of(image: &'a Image) -> Graph<'a>
+        ensures { result.image.now ≡ image.now }
+    {
+        let mut first = [None; 4096];
+        let mut behind = [None; 8192];
+        for from in 0..image.len() {
+            let along = Edge {
+                from,
+                branch: false,
+            };
+            note(&mut first, &mut behind, image, along);
+            note(&mut first, &mut behind, image, Edge { from, branch: true });
+        }
+        Graph {
+            image,
+            first,
+            behind,
+        }
+    }
+
+    /// The first edge to a pc.
+    pub(crate) fn first(&self, to: u16) -> Option<Edge>
+        requires { to < 4096 }
+        ensures { result ≡ slice_index_or self.now.first to None }
+    {
+        self.first[usize::from(to)]
+    }
+
+    /// The next edge to where an edge leads.
+    pub(crate) fn next(&self, edge: Edge) -> Option<Edge>
+        requires { edge.from < 4096 }
+        ensures { result ≡ behind_of self.now.behind edge }
+    {
+        self.behind[number_of(edge)]
+    }
+}
