@@ -4,6 +4,7 @@ ghost use Rattle.std.specs.Prelude.{◌≡◌, ◌<◌, ◌≤◌, true, false, 
 ghost use Rattle.geos_infer.specs.Ahead.{OnlyAhead};
 ghost use Rattle.geos_infer.specs.Causes.{LeadsBack, KnowsTouched, IsNeverPaid, SetsWithin, Holds, NoOtherHolds, NoneIsAcceptedFor, tells_of_slots};
 ghost use Rattle.geos_infer.specs.Code.{TargetAhead};
+ghost use Rattle.geos_infer.specs.Lacks.{IsInTheWay};
 ghost use Rattle.geos_infer.specs.Reached.{FitWhereReached};
 ghost use Rattle.geos_infer.specs.Taken.{StepsPass};
 ghost use Rattle.geos_infer.specs.Why.{MeetAlike};
@@ -12,7 +13,6 @@ use crate::ahead::may_pass;
 use crate::apart::{Apart, find_apart};
 use crate::body::{Body, body_of};
 use crate::edges::edge_in;
-use crate::idle::is_never_paid;
 use crate::in_turn::find_in_turn;
 use crate::pieces::Piece;
 use crate::ranks::some_always_may_pay;
@@ -196,29 +196,6 @@ fn first_cause(
     None
 }
 
-/// Why no LOOP may pay in a component.
-fn cause_of_stuck(
-    body: &Body,
-    touching: &Touching,
-    search: &Search,
-    piece: &Piece,
-    trails: &mut Trails,
-) -> Option<Cause>
-    requires { KnowsTouched body.now.image.now touching.now }
-    ensures { IfSome result (Holds body.now.image.now body.now.r) }
-{
-    let Search {
-        graph,
-        splitting,
-        ..
-    } = search;
-    if is_never_paid(body, touching, graph, splitting, piece, trails) {
-        first_cause(body, touching, search, piece, trails)
-    } else {
-        None
-    }
-}
-
 /// Where in a component the counter of a LOOP is set for it, the first one that is found.
 fn find_set(
     body: &Body,
@@ -296,12 +273,14 @@ fn cause_of_lack(
     trails: &mut Trails,
     strongest: &mut Strongest,
 ) -> Result<Option<Cause>, AllocError>
+    requires lack { IsInTheWay body.now.image.now body.now.r lack }
     requires touched { KnowsTouched body.now.image.now touching.now }
     requires rows { FitWhereReached body.now.image.now body.now.r known.now }
     ensures { IfOk result (λ cause. IfSome cause (Holds body.now.image.now body.now.r)) }
 {
     match lack {
-        Lack::Stuck(piece) => Ok(cause_of_stuck(body, touching, search, &piece, trails)),
+        Lack::Stuck(piece) => Ok(first_cause(body, touching, search, &piece, trails)),
+        Lack::Unclear => Ok(None),
         Lack::SetWithin(piece) => Ok(cause_of_set(body, touching, search, &piece, trails)),
         Lack::Passes => {
             if let Some(cause) = cause_in_turn(body, touching, search, trails) {

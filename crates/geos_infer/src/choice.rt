@@ -1,7 +1,10 @@
 //! Which LOOPs are to pay for ways round among the places of a component.
 
-ghost use Rattle.std.specs.Prelude.{◌≡◌, ◌<◌, ◌==◌, true, min, Some, MatchOption};
+ghost use Rattle.std.specs.Prelude.{◌≡◌, ◌<◌, ◌==◌, ℕ, true, not, min, None, Some, IfNone, MatchOption, slice_index_or};
 ghost use Rattle.geos_infer.specs.Arcs.{unit_at};
+ghost use Rattle.geos_infer.specs.Pieces.{TakesWithin, ArePriced, NoneMayPay};
+ghost use Rattle.geos_infer.specs.Ranks.{noted_idle};
+ghost use Rattle.geos_infer.specs.declared.choice.Tier.TheVariants.{Tight};
 
 use crate::classes::Classes;
 use crate::graph::Graph;
@@ -40,6 +43,7 @@ pub(crate) struct Chosen {
 /// The counter of the LOOP at a place, whose way to its target stays in a piece, is not left out and pays in no nest.
 fn counter_at(graph: &Graph, jumps: &Jumps, order: &Order, piece: &Piece, pc: u16) -> Option<u8>
     requires { pc < 4096 }
+    ensures { (k : ℕ) → TakesWithin graph.now.arcs jumps.now order.now piece.now pc k → result ≡ Some k }
 {
     let counter = graph.arc(pc, true)?.takes()?;
     lead_within(graph, jumps, order, piece, pc, true)?;
@@ -50,7 +54,8 @@ impl Tier {
     /// Whether the LOOP of a counter at a place of a component may pay, where it is noted from where its counters are set.
     fn may_pay(self, classes: &Classes, pc: u16, counter: u8) -> bool
         requires { pc < 4096 }
-        ensures { result ≡ true → (unit_at classes.now.touched pc counter == 0) ≡ true }
+        ensures touched { result ≡ true → (unit_at classes.now.touched pc counter == 0) ≡ true }
+        ensures tight { self ≡ Tight → result ≡ not (noted_idle classes.now pc counter) }
     {
         if classes.is_touched(pc, counter) {
             return false;
@@ -111,7 +116,9 @@ fn prices(
     classes: &Classes,
     piece: &Piece,
     tier: Tier,
-) -> [Option<u32>; 4] {
+) -> [Option<u32>; 4]
+    ensures { tier ≡ Tight → ArePriced graph.now.arcs jumps.now order.now classes.now piece.now piece.now.end result }
+{
     let mut prices = [None; 4];
     for x in piece.begin..piece.end {
         let pc = order.place(x);
@@ -142,7 +149,9 @@ fn sum_set(graph: &Graph, order: &Order, piece: &Piece, counter: u8) -> u32 {
 }
 
 /// The counter of the least price, of which there is one.
-fn cheapest(prices: &[Option<u32>; 4], tier: Tier) -> Option<Choice> {
+fn cheapest(prices: &[Option<u32>; 4], tier: Tier) -> Option<Choice>
+    ensures { IfNone result ((k : ℕ) → k < 4 → slice_index_or prices.now k None ≡ None) }
+{
     let mut found: Option<Choice> = None;
     for counter in 0..4u8 {
         if let Some(price) = prices[usize::from(counter)] {
@@ -166,7 +175,9 @@ fn set_prices(
     order: &Order,
     piece: &Piece,
     prices: &[Option<u32>; 4],
-) -> [Option<u32>; 4] {
+) -> [Option<u32>; 4]
+    ensures { (k : ℕ) → k < 4 → slice_index_or result k None ≡ None → slice_index_or prices.now k None ≡ None }
+{
     let mut sums = [None; 4];
     for counter in 0..4u8 {
         let at = usize::from(counter);
@@ -184,7 +195,9 @@ pub(crate) fn choose(
     order: &Order,
     classes: &Classes,
     piece: &Piece,
-) -> Option<Choice> {
+) -> Option<Choice>
+    ensures { IfNone result (NoneMayPay graph.now.arcs jumps.now order.now classes.now piece.now) }
+{
     let clean = prices(graph, jumps, order, classes, piece, Tier::Clean);
     if let Some(choice) = cheapest(&clean, Tier::Clean) {
         return Some(choice);

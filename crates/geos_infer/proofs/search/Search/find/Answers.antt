@@ -27,3 +27,6 @@ returns-clause-wanted c =
     let numbers = numbers_of c.put_potentials.new.potentials in
     for-loops body.image.now body.r c.args.known.now c.args.touched.now arcs c.note.ensures c.free_loops.new.units.pay
     numbers.coefficients (c.free_loops.ensures.wanted before) (λ pc within. (c.in_ok-put_potentials.ensures.put pc within).1)
+
+pub returns-in-Err-clause-lack : goal.returns-in-Err-clause-lack
+returns-in-Err-clause-lack c = λ notes. ?
