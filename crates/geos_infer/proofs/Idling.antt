@@ -8,6 +8,7 @@ use Rattle.geos_opcodes.specs.declared.opcode.Opcode.TheVariants.{Setk, Setkw, L
 use Rattle.geos_image.specs.declared.instr.Instr.{Instr}
 use Rattle.geos_image.specs.declared.point.Point.{Point}
 use Rattle.geos_image.specs.declared.row.Row.{Row}
+use Rattle.geos_image.specs.Keys.{branches}
 use Rattle.geos_image.specs.Parts.{Parts, start_of}
 use Rattle.geos_verify.specs.Rows.{has_edge}
 use Rattle.geos_verify.specs.Touched.{touches, noted}
@@ -25,6 +26,10 @@ use Rattle.geos_infer.specs.Spreads.{ComesBehind, ComeBehind, ComeFrom, ForgetsI
 use Rattle.geos_infer.specs.Stuck.{NotesIdle, LeadsNotedIdle, IsNotedIdleWay, GoesRoundIdle}
 use Rattle.geos_infer.specs.Trails.{IsTrail, LeadsKeeping, keeps_counter}
 use Rattle.geos_infer.specs.Why.{LeadsTo}
+use Rattle.geos_infer.specs.Halts.{IsInTheWay}
+use Rattle.geos_infer.specs.declared.pieces.Piece.{Piece}
+use Rattle.geos_infer.specs.declared.search.Halt.{Halt}
+use Rattle.geos_infer.specs.declared.search.Halt.TheVariants.{Stuck, Unclear, Unpaid}
 use Rattle.geos_infer.proofs.Demand.{is-arc}
 
 -- What edges do to counters
@@ -37,35 +42,35 @@ by_bool false = inl refl
 kept-or-called : (image : Parts) (row : Row) (table : List (List Bool)) (i : Instr) (opcode : Opcode) (branch : Bool) (k : ℕ) → i.opcode ≡ opcode
     → has_edge i branch ≡ true → keeps (counting_of row table i opcode branch) k ≡ true
     → (keeps_counter image k i opcode branch ≡ true) ⊎ ((branch ≡ false) × (calls_touching image k i ≡ true))
-kept-or-called image row table i Setk true k is has e = absurd (rw is has)
+kept-or-called image row table i Setk true k is has e = absurd (false≢true (subst (λ (o : Opcode). branches o ≡ true) is has))
 kept-or-called image row table i Setk false k is has e = inl e
-kept-or-called image row table i Setkw true k is has e = absurd (rw is has)
+kept-or-called image row table i Setkw true k is has e = absurd (false≢true (subst (λ (o : Opcode). branches o ≡ true) is has))
 kept-or-called image row table i Setkw false k is has e = inl e
 kept-or-called image row table i Loop true k is has e = inl refl
 kept-or-called image row table i Loop false k is has e = inl e
-kept-or-called image row table i Call true k is has e = absurd (rw is has)
+kept-or-called image row table i Call true k is has e = absurd (false≢true (subst (λ (o : Opcode). branches o ≡ true) is has))
 kept-or-called image row table i Call false k is has e = elim (by_bool (touches image k i.imm)) [
-  | inl keeps ↦ inl keeps
+  | inl kept ↦ inl kept
   | inr touching ↦ inr (refl, rw (is, touching) refl)
 ]
 kept-or-called image row table i _ branch k is has e = inl refl
 
+none-touched : (k : ℕ) → slice_index_or (false ∷ false ∷ false ∷ false ∷ []) k false ≡ true → ⊥
+none-touched zero e = false≢true e
+none-touched (suc zero) e = false≢true e
+none-touched (suc (suc zero)) e = false≢true e
+none-touched (suc (suc (suc zero))) e = false≢true e
+none-touched (suc (suc (suc (suc k)))) e = false≢true e
+
+noted-by : (table : List (List Bool)) (r k : ℕ) → slice_index_or (touched_by table r) k false ≡ true → noted table k r ≡ true
+noted-by [] r k e = absurd (none-touched k e)
+noted-by (touched ∷ table) zero k e = e
+noted-by (touched ∷ table) (suc r) k e = noted-by table r k e
+
 -- what forgets a counter is a call that touches it
 forgets-called : (image : Parts) (row : Row) (table : List (List Bool)) (i : Instr) (opcode : Opcode) (k : ℕ) → NotesTouched image table
     → i.opcode ≡ opcode → forgets (counting_of row table i opcode false) k ≡ true → calls_touching image k i ≡ true
-forgets-called image row table i Call k notes is e = rw (is, notes k i.imm (by_table (slice_get table i.imm) refl e)) refl
-  where
-    by_table : (found : Option (List Bool)) → slice_get table i.imm ≡ found → slice_index_or (touched_by table i.imm) k false ≡ true
-        → noted table k i.imm ≡ true
-    by_table (Some touched) there e = rw there (rw there e)
-    by_table None there e = absurd (none k (rw there e))
-      where
-        none : (k : ℕ) → slice_index_or (false ∷ false ∷ false ∷ false ∷ []) k false ≡ true → ⊥
-        none zero e = false≢true e
-        none (suc zero) e = false≢true e
-        none (suc (suc zero)) e = false≢true e
-        none (suc (suc (suc zero))) e = false≢true e
-        none (suc (suc (suc (suc k)))) e = false≢true e
+forgets-called image row table i Call k notes is e = rw (is, notes k i.imm (noted-by table i.imm k e)) refl
 forgets-called image row table i _ k notes is e = absurd (false≢true e)
 
 -- Ways
@@ -216,3 +221,9 @@ module _ (image : Parts) (r : ℕ) (known : List (Option Row)) (table : List (Li
           branches = G.branches;
           way = way-idle G.branches G.next G.from lead.stays G.way;
         }
+
+-- what is in the way is so, if it is where the search is stuck
+pub stuck-only : (image : Parts) (r : ℕ) (halt : Halt) → ((piece : Piece) → halt ≡ Stuck piece → IsNeverPaid image r) → IsInTheWay image r halt
+stuck-only image r (Stuck piece) never = never piece refl
+stuck-only image r Unclear never = record {}
+stuck-only image r (Unpaid lack) never = record {}

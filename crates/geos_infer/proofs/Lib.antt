@@ -35,3 +35,4 @@ pub mod Unpayable
 pub mod Demand
 pub mod Spreading
 pub mod Idling
+pub mod Choosing

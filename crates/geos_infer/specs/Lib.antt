@@ -22,5 +22,5 @@ pub mod Ranks
 pub mod Demands
 pub mod Spreads
 pub mod Stuck
-pub mod Lacks
+pub mod Halts
 pub mod Pieces

@@ -1,7 +1,10 @@
 //! Nests: places among which control goes round, each with the LOOPs that pay for that.
 
-ghost use Rattle.std.specs.Prelude.{◌≡◌, ◌<◌, ◌+◌, None, IfSome, slice_index_or, slice_set};
+ghost use Rattle.std.specs.Prelude.{◌≡◌, ◌<◌, ◌+◌, None, Err, IfSome, slice_index_or, slice_set};
+ghost use Rattle.geos_infer.specs.Pieces.{NoneMayPay};
 ghost use Rattle.geos_infer.specs.Stuck.{StayNoted};
+ghost use Rattle.geos_infer.specs.declared.nests.NoNests.TheVariants.{NoChoice};
+ghost use Rattle.geos_infer.specs.declared.pieces.Piece.{Piece};
 
 use crate::body::Body;
 use crate::choice::{Choice, Chosen, Tier, choose};
@@ -171,7 +174,7 @@ impl Nests {
 #[derive(Clone, Copy)]
 pub(crate) enum NoNests {
     /// No LOOP may pay in a component.
-    NoneMayPay(Piece),
+    NoChoice(Piece),
     /// There are more of them than places.
     TooMany,
 }
@@ -256,12 +259,14 @@ impl Splitting {
         classes: &mut Classes,
         waiting: &Waiting,
     ) -> Result<(), NoNests>
-        ensures { StayNoted classes.old classes.new }
+        ensures noted { StayNoted classes.old classes.new }
+        ensures none { (piece : Piece) → result ≡ Err (NoChoice piece)
+            → NoneMayPay graph.now.arcs self.new.jumps self.new.order classes.new piece }
     {
         let piece = &waiting.piece;
         classes.note_set_within(body.start, graph, &self.order, piece);
         let Some(choice) = choose(graph, &self.jumps, &self.order, classes, piece) else {
-            return Err(NoNests::NoneMayPay(*piece));
+            return Err(NoNests::NoChoice(*piece));
         };
         let Some(nest) = self.nests.list(waiting, &choice) else {
             return Err(NoNests::TooMany);
@@ -294,7 +299,9 @@ impl Splitting {
         graph: &Graph,
         classes: &mut Classes,
     ) -> Result<(), NoNests>
-        ensures { StayNoted classes.old classes.new }
+        ensures noted { StayNoted classes.old classes.new }
+        ensures none { (piece : Piece) → result ≡ Err (NoChoice piece)
+            → NoneMayPay graph.now.arcs self.new.jumps self.new.order classes.new piece }
     {
         self.free_loops(body, graph, classes);
         self.nests.count = 0;
@@ -307,7 +314,9 @@ impl Splitting {
             let Some(waiting) = self.nests.take() else {
                 return Ok(());
             };
-            self.make(body, graph, classes, &waiting)?;
+            if let Err(stop) = self.make(body, graph, classes, &waiting) {
+                return Err(stop);
+            }
         }
         Ok(())
     }

@@ -25,10 +25,6 @@ pub(crate) const LOOKS: u32 = 1 << 27;
 /// Why no units are found.
 #[derive(Clone, Copy)]
 pub(crate) enum Lack {
-    /// Control goes round in a component, and no LOOP on the way may pay.
-    Stuck(Piece),
-    /// No LOOP is chosen to pay in a component, and no such way round is found in it; or there are too many nests.
-    Unclear,
     /// The counter of a nest is set in it on a way round to more than its LOOPs take from it.
     SetWithin(Piece),
     /// A number is past what a potential can say.
