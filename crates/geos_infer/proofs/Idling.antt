@@ -1,8 +1,8 @@
 -- What is noted of counters in a routine is so: where one may not pay by what is noted, it may not.
-use Rattle.std.proofs.Common.{◌≡◌, ◌≤◌, ◌<◌, ◌⊎◌, ◌+◌, ℕ, zero, suc, Bool, true, false, not, List, [], ◌∷◌, ◌++◌, Option, None, Some, slice_get, refl, sym, ap, ◌∙◌, subst, arith, inl, inr}
+use Rattle.std.proofs.Common.{◌≡◌, ◌<◌, ◌⊎◌, ◌+◌, ℕ, zero, suc, Bool, true, false, not, List, [], ◌∷◌, ◌++◌, Option, Some, refl, sym, ap, ◌∙◌, subst, arith, inl, inr}
 use Rattle.std.specs.Prelude.{◌&&◌, ◌||◌, ◌==◌, slice_index_or}
-use Rattle.std.proofs.lemmas.Bool.{false≢true, or_parts}
-use Rattle.std.proofs.lemmas.Option.{same_Some, none-some}
+use Rattle.std.proofs.lemmas.Bool.{false≢true}
+use Rattle.std.proofs.lemmas.Option.{same_Some}
 use Rattle.geos_opcodes.specs.declared.opcode.Opcode.{Opcode}
 use Rattle.geos_opcodes.specs.declared.opcode.Opcode.TheVariants.{Setk, Setkw, Loop, Call}
 use Rattle.geos_image.specs.declared.instr.Instr.{Instr}
@@ -14,15 +14,13 @@ use Rattle.geos_verify.specs.Rows.{has_edge}
 use Rattle.geos_verify.specs.Touched.{touches, noted}
 use Rattle.geos_infer.specs.declared.arcs.Arc.{Arc}
 use Rattle.geos_infer.specs.declared.arcs.Counting.{Counting}
-use Rattle.geos_infer.specs.declared.arcs.Counting.TheVariants.{Takes}
 use Rattle.geos_infer.specs.declared.classes.Classes.{Classes}
-use Rattle.geos_infer.specs.Arcs.{arc_at, unit_at, counting_of, touched_by, IsArc, AreArcs}
-use Rattle.geos_infer.specs.Causes.{is_loop, calls_touching, NotesTouched, IsLeft, IsUnset, MayNotPay, LeadsIdle, IsIdleWay, IsNeverPaid}
+use Rattle.geos_infer.specs.Arcs.{arc_at, unit_at, counting_of, touched_by, AreArcs}
+use Rattle.geos_infer.specs.Causes.{is_loop, calls_touching, NotesTouched, MayNotPay, LeadsIdle, IsIdleWay, IsNeverPaid}
 use Rattle.geos_infer.specs.Code.{IsPcOf}
 use Rattle.geos_infer.specs.Demands.{keeps, forgets, taken_from, IsKeptOver}
 use Rattle.geos_infer.specs.Flow.{row_of, known_at}
-use Rattle.geos_infer.specs.Ranks.{noted_idle}
-use Rattle.geos_infer.specs.Spreads.{ComesBehind, ComeBehind, ComeFrom, ForgetsIt}
+use Rattle.geos_infer.specs.Spreads.{ComeBehind, ComeFrom, ForgetsIt}
 use Rattle.geos_infer.specs.Stuck.{NotesIdle, LeadsNotedIdle, IsNotedIdleWay, GoesRoundIdle}
 use Rattle.geos_infer.specs.Trails.{IsTrail, LeadsKeeping, keeps_counter}
 use Rattle.geos_infer.specs.Why.{LeadsTo}
@@ -124,11 +122,11 @@ module _ (image : Parts) (r : ℕ) (known : List (Option Row)) (table : List (Li
       let kept_here : keeps (counting_of row table i i.opcode branch) k ≡ true = ap (λ (c : Counting). keeps c k) (sym A.counting) ∙ kept in
       elim (kept-or-called image row table i i.opcode branch k refl A.leads.has kept_here) [
         | inl keeping ↦ idle-on k pc arc.to branch idle (record {
-            leads = A.leads;
-            stays = A.stays;
-            kept = λ point there. (let same : A.leads.point ≡ point = same_Some A.leads.point point (sym A.leads.there ∙ there) in
-                subst (λ (p : Point). keeps_counter image k p.instr p.instr.opcode branch ≡ true) same keeping);
-          })
+          leads = A.leads;
+          stays = A.stays;
+          kept = λ point there. (let same : A.leads.point ≡ point = same_Some A.leads.point point (sym A.leads.there ∙ there) in
+              subst (λ (p : Point). keeps_counter image k p.instr p.instr.opcode branch ≡ true) same keeping);
+        })
         | inr calling ↦ by-call branch calling.0 A.leads calling.1 A.stays
       ]
     where

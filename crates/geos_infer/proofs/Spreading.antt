@@ -1,12 +1,11 @@
 -- Numbers of counters come along edges that keep these.
-use Rattle.std.proofs.Common.{◌≡◌, ◌≤◌, ◌<◌, ◌⊎◌, ℕ, Bool, true, false, List, [], ◌∷◌, ◌++◌, length, Option, Some, refl, sym, ap, ◌∙◌, subst, arith, inl, inr}
+use Rattle.std.proofs.Common.{◌≡◌, ◌≤◌, ◌<◌, ◌⊎◌, ℕ, Bool, false, List, [], ◌∷◌, ◌++◌, length, Option, Some, refl, sym, ap, ◌∙◌, subst, arith, inl, inr}
 use Rattle.std.specs.Prelude.{slice_index, slice_index_or}
 use Rattle.std.proofs.lemmas.Bool.{cases_eq, cases_lt}
 use Rattle.std.proofs.lemmas.List.{get_or_past}
 use Rattle.geos_infer.specs.declared.arcs.Arc.{Arc}
-use Rattle.geos_infer.specs.declared.arcs.Counting.{Counting}
 use Rattle.geos_infer.specs.Arcs.{arc_at, unit_at}
-use Rattle.geos_infer.specs.Demands.{keeps, kept_over, AreRaised, IsKeptOver}
+use Rattle.geos_infer.specs.Demands.{kept_over, AreRaised, IsKeptOver}
 use Rattle.geos_infer.specs.Numbers.{zeros}
 use Rattle.geos_infer.specs.Spreads.{HasCome, HaveCome, StayCome, ComesBehind, Does, ComeBehind, ComeFrom}
 use Rattle.geos_infer.proofs.Asks.{zero-at}
@@ -99,15 +98,17 @@ behind-come arcs low place does old next before come pc k above some =
 pub from-come : (arcs : List (List (Option Arc))) (low : ℕ) (old mid next : List (List ℕ)) (numbers : List ℕ)
     → ((pc k : ℕ) → low ≤ pc → unit_at old pc k ≡ 0) → AreRaised old mid low numbers → HaveCome arcs low mid next → ComeFrom arcs low next
 from-come arcs low old mid next numbers none R come pc k above some =
-    let H = come pc k above some in
-    (H.branches, elim (cases_eq H.from low) [
-      | inl same ↦ subst (λ (n : ℕ). IsKeptOver arcs k n H.branches pc) same H.way
-      | inr ne ↦
-          let other = R.others H.from k ne in
-          let zero = none H.from k H.above in
-          let is = H.is in
-          absurd (omega (arith, some, other, zero, is))
-    ])
+    let H = come pc k above some in (
+      H.branches,
+      elim (cases_eq H.from low) [
+        | inl same ↦ subst (λ (n : ℕ). IsKeptOver arcs k n H.branches pc) same H.way
+        | inr ne ↦
+            let other = R.others H.from k ne in
+            let zero = none H.from k H.above in
+            let is = H.is in
+            absurd (omega (arith, some, other, zero, is))
+      ],
+    )
 
 -- a table that is filled with 0 from a pc on
 pub filled-none : (low : ℕ) (spread : List (List ℕ)) → length spread ≡ 4096

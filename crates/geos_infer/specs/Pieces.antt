@@ -5,7 +5,6 @@ use Rattle.geos_infer.specs.Demands.{taken_from}
 use Rattle.geos_infer.specs.Ranks.{noted_idle}
 use Rattle.geos_infer.specs.Stuck.{StandsAt, IsIn}
 use Rattle.geos_infer.specs.declared.arcs.Arc.{Arc}
-use Rattle.geos_infer.specs.declared.arcs.Counting.{Counting}
 use Rattle.geos_infer.specs.declared.classes.Classes.{Classes}
 use Rattle.geos_infer.specs.declared.jumps.Jump.{Jump}
 use Rattle.geos_infer.specs.declared.jumps.Jump.TheVariants.{Plain}

@@ -1,5 +1,5 @@
 -- Where a search for nests stops: pieces in which no LOOP may pay.
-use Rattle.std.specs.Prelude.{◌≡◌, ◌≤◌, ◌<◌, ℕ, Bool, true, List, [], ◌∷◌, Option, Some, slice_index, slice_index_or}
+use Rattle.std.specs.Prelude.{◌≡◌, ◌≤◌, ◌<◌, ℕ, Bool, true, List, [], ◌∷◌, Option, Some, slice_index_or}
 use Rattle.geos_image.specs.Parts.{Parts}
 use Rattle.geos_infer.specs.Arcs.{arc_at}
 use Rattle.geos_infer.specs.Causes.{MayNotPay}
@@ -7,7 +7,6 @@ use Rattle.geos_infer.specs.Code.{IsPcOf}
 use Rattle.geos_infer.specs.Demands.{taken_from}
 use Rattle.geos_infer.specs.Ranks.{noted_idle}
 use Rattle.geos_infer.specs.declared.arcs.Arc.{Arc}
-use Rattle.geos_infer.specs.declared.arcs.Counting.{Counting}
 use Rattle.geos_infer.specs.declared.classes.Classes.{Classes}
 use Rattle.geos_infer.specs.declared.pieces.Order.{Order}
 use Rattle.geos_infer.specs.declared.pieces.Piece.{Piece}

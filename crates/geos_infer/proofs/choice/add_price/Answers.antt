@@ -1,5 +1,4 @@
-use Rattle.std.proofs.Common.{◌≡◌, ◌≢◌, ◌<◌, ℕ, true, false, not, None, length, sym, ap, ◌∙◌, subst, arith}
-use Rattle.std.specs.Prelude.{slice_index_or}
+use Rattle.std.proofs.Common.{◌≡◌, ◌<◌, ℕ, false, not, length, sym, ap, ◌∙◌, subst, arith}
 use Rattle.std.proofs.lemmas.Bool.{false≢true}
 use Rattle.std.proofs.lemmas.Option.{same_Some}
 use Rattle.geos_infer.specs.Ranks.{noted_idle}
@@ -19,9 +18,9 @@ returns-then-counter-ge4 c = λ tight before.
     priced-more c.args.graph.now.arcs c.args.jumps.now c.args.order.now c.args.classes.now c.args.piece.now c.args.x c.place-pc.result
     prices prices c.place-pc.ensures.stands (λ k some. some)
     (λ k few takes busy.
-      (let same = same_Some c.in-Some.counter k (sym c.in-Some.is ∙ c.counter_at.ensures k takes) in
-      let many = c.if-counter-ge4.true in
-      absurd (omega (arith, few, same, many))))
+    (let same = same_Some c.in-Some.counter k (sym c.in-Some.is ∙ c.counter_at.ensures k takes) in
+    let many = c.if-counter-ge4.true in
+    absurd (omega (arith, few, same, many))))
     before
 
 pub returns-then-not-may_pay : goal.returns-then-not-may_pay
@@ -31,9 +30,9 @@ returns-then-not-may_pay c = λ tight before.
     priced-more c.args.graph.now.arcs c.args.jumps.now c.args.order.now c.args.classes.now c.args.piece.now c.args.x pc
     prices prices c.place-pc.ensures.stands (λ k some. some)
     (λ k few takes busy.
-      (let same = same_Some c.in-Some.counter k (sym c.in-Some.is ∙ c.counter_at.ensures k takes) in
-      let here = subst (λ (n : ℕ). noted_idle c.args.classes.now pc n ≡ false) (sym same) busy in
-      absurd (false≢true (sym c.if-not-may_pay.true ∙ c.may_pay.ensures.tight tight ∙ ap not here))))
+    (let same = same_Some c.in-Some.counter k (sym c.in-Some.is ∙ c.counter_at.ensures k takes) in
+    let here = subst (λ (n : ℕ). noted_idle c.args.classes.now pc n ≡ false) (sym same) busy in
+    absurd (false≢true (sym c.if-not-may_pay.true ∙ c.may_pay.ensures.tight tight ∙ ap not here))))
     before
 
 pub returns : goal.returns
@@ -47,6 +46,6 @@ returns c = λ tight before.
     priced-more c.args.graph.now.arcs c.args.jumps.now c.args.order.now c.args.classes.now c.args.piece.now c.args.x c.place-pc.result
     prices _ c.place-pc.ensures.stands (set-stays prices c.from-at.result c.least.result room some)
     (λ k few takes busy.
-      set-new prices c.from-at.result c.least.result room some k
-      (sym (at ∙ same_Some c.in-Some.counter k (sym c.in-Some.is ∙ c.counter_at.ensures k takes))))
+    set-new prices c.from-at.result c.least.result room some k
+    (sym (at ∙ same_Some c.in-Some.counter k (sym c.in-Some.is ∙ c.counter_at.ensures k takes))))
     before

@@ -8,5 +8,5 @@ pub returns : goal.returns
 returns c = if-none c.cheapest-3.result
     (NoneMayPay c.args.graph.now.arcs c.args.jumps.now c.args.order.now c.args.classes.now c.args.piece.now)
     (λ pc k within few takes. not-false (noted_idle c.args.classes.now pc k) (λ busy.
-      c.prices-tight.ensures refl within.0 pc k within.1 within.2 within.3 few takes busy
-      (c.set_prices-sums.ensures k (c.in_default-cheapest.ensures k few))))
+    c.prices-tight.ensures refl within.0 pc k within.1 within.2 within.3 few takes busy
+    (c.set_prices-sums.ensures k (c.in_default-cheapest.ensures k few))))

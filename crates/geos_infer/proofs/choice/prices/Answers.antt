@@ -1,4 +1,4 @@
-use Rattle.std.proofs.Common.{◌≡◌, ◌≤◌, ◌<◌, arith}
+use Rattle.std.proofs.Common.{arith}
 use Rattle.geos_infer.proofs.choice.prices.Goals as goal
 
 pub loop-x-init : goal.loop-x-init

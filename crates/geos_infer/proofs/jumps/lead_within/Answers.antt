@@ -1,7 +1,6 @@
-use Rattle.std.proofs.Common.{◌≡◌, ◌≤◌, ◌<◌, true, false, sym, ◌∙◌, rules}
+use Rattle.std.proofs.Common.{sym, ◌∙◌, rules}
 use Rattle.std.proofs.lemmas.Bool.{false≢true}
 use Rattle.geos_infer.specs.Pieces.{HasPlace}
-use Rattle.geos_infer.specs.declared.jumps.Jump.{Jump}
 use Rattle.geos_infer.specs.declared.jumps.Jump.TheVariants.{Plain}
 use Rattle.geos_infer.proofs.jumps.lead_within.Goals.{then-branch+in-Plain, else-branch}
 use Rattle.geos_infer.proofs.jumps.lead_within.Goals as goal

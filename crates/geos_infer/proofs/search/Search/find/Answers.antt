@@ -1,14 +1,6 @@
-use Rattle.std.proofs.Common.{◌≡◌, ◌≤◌, ◌<◌, ℕ, Bool, List, Option, sym, refl, subst}
-use Rattle.geos_image.specs.Parts.{start_of}
-use Rattle.geos_infer.specs.Arcs.{unit_at}
+use Rattle.std.proofs.Common.{sym, subst}
 use Rattle.geos_infer.specs.Code.{IsPcOf}
-use Rattle.geos_infer.specs.Demands.{IsKeptOver}
-use Rattle.geos_infer.specs.Halts.{IsInTheWay}
 use Rattle.geos_infer.specs.Spreads.{ComeBehind, ComeFrom, ForgetsIt}
-use Rattle.geos_infer.specs.Stuck.{NotesIdle}
-use Rattle.geos_infer.specs.declared.pieces.Piece.{Piece}
-use Rattle.geos_infer.specs.declared.search.Halt.{Halt}
-use Rattle.geos_infer.specs.declared.search.Halt.TheVariants.{Stuck, Unclear, Unpaid}
 use Rattle.geos_infer.proofs.Idling.{notes-idle, round-never-paid, stuck-only}
 use Rattle.geos_infer.proofs.search.Search.find.Goals as goal
 
