@@ -100,7 +100,7 @@ some-kept : (b : Bool) (n : ℕ) → 0 < (if b then n else 0) → (b ≡ true) �
 some-kept true n some = (refl, refl)
 some-kept false n some = absurd (omega arith)
 
-kept-some : (counting : Counting) (numbers : List ℕ) (k : ℕ) → 0 < slice_index (kept_over counting numbers) k
+pub kept-some : (counting : Counting) (numbers : List ℕ) (k : ℕ) → 0 < slice_index (kept_over counting numbers) k
     → (keeps counting k ≡ true) × (slice_index (kept_over counting numbers) k ≡ slice_index numbers k)
 kept-some counting numbers zero some = some-kept (keeps counting 0) (slice_index numbers 0) some
 kept-some counting numbers (suc zero) some = some-kept (keeps counting 1) (slice_index numbers 1) some
@@ -206,7 +206,7 @@ takes-loop row table i _ k e = absurd cc
 module _ (image : Parts) (r : ℕ) (known : List (Option Row)) (table : List (List Bool)) (arcs : List (List (Option Arc)))
     (noted : AreArcs image r known table arcs) where
   -- a noted edge is one of the routine
-  is-arc : (pc : ℕ) (branch : Bool) (arc : Arc) → IsPcOf image r pc → arc_at arcs pc branch ≡ Some arc → IsArc image r known table pc branch arc
+  pub is-arc : (pc : ℕ) (branch : Bool) (arc : Arc) → IsPcOf image r pc → arc_at arcs pc branch ≡ Some arc → IsArc image r known table pc branch arc
   is-arc pc branch arc within read = subst (IsArcIf image r known table pc branch) read (noted pc branch within)
 
   -- a way of such edges asks for the coefficient

@@ -7,7 +7,7 @@ use Rattle.geos_image.specs.declared.routine.Routine.{Routine}
 use Rattle.geos_image.specs.Parts.{Parts, start_of}
 use Rattle.geos_verify.specs.declared.place.Place.{Place as Known}
 use Rattle.geos_verify.specs.Places.{places}
-use Rattle.geos_verify.specs.Rows.{bound, fits}
+use Rattle.geos_verify.specs.Rows.{bound}
 use Rattle.geos_verify.proofs.Places.{item_at}
 use Rattle.geos_verify.proofs.RowsFit.{fits-refl, fits-trans}
 use Rattle.geos_semantics.specs.Lists.{dot}

@@ -20,3 +20,7 @@ pub mod Least
 pub mod Causes
 pub mod Ranks
 pub mod Demands
+pub mod Spreads
+pub mod Stuck
+pub mod Halts
+pub mod Pieces

@@ -26,7 +26,8 @@ pub(crate) struct Arc {
 }
 
 impl Arc {
-    ghost use Rattle.std.specs.Prelude.{◌≡◌, ◌≤◌, ◌+◌};
+    ghost use Rattle.std.specs.Prelude.{◌≡◌, ◌≤◌, ◌<◌, ◌+◌, IfSome};
+    ghost use Rattle.geos_infer.specs.declared.arcs.Counting.TheVariants.{Sets};
     ghost use Rattle.geos_infer.specs.Demands.{keeps, forgets, taken_from};
 
     /// Its step, and the budget of the routine that is called.
@@ -69,7 +70,9 @@ impl Arc {
     }
 
     /// The counter that it sets to a number above 0, and that number at most.
-    pub(crate) fn sets(&self) -> Option<(u8, u16)> {
+    pub(crate) fn sets(&self) -> Option<(u8, u16)>
+        ensures { IfSome result (λ both. (self.now.counting ≡ Sets both.0 both.1) × (0 < both.1)) }
+    {
         match self.counting {
             Counting::Sets(counter, most) if 0 < most => Some((counter, most)),
             _ => None,

@@ -4,6 +4,7 @@ ghost use Rattle.std.specs.Prelude.{◌≡◌, ◌<◌, ◌≤◌, true, false, 
 ghost use Rattle.geos_infer.specs.Ahead.{OnlyAhead};
 ghost use Rattle.geos_infer.specs.Causes.{LeadsBack, KnowsTouched, IsNeverPaid, SetsWithin, Holds, NoOtherHolds, NoneIsAcceptedFor, tells_of_slots};
 ghost use Rattle.geos_infer.specs.Code.{TargetAhead};
+ghost use Rattle.geos_infer.specs.Halts.{IsInTheWay};
 ghost use Rattle.geos_infer.specs.Reached.{FitWhereReached};
 ghost use Rattle.geos_infer.specs.Taken.{StepsPass};
 ghost use Rattle.geos_infer.specs.Why.{MeetAlike};
@@ -12,12 +13,11 @@ use crate::ahead::may_pass;
 use crate::apart::{Apart, find_apart};
 use crate::body::{Body, body_of};
 use crate::edges::edge_in;
-use crate::idle::is_never_paid;
 use crate::in_turn::find_in_turn;
 use crate::pieces::Piece;
 use crate::ranks::some_always_may_pay;
 use crate::rows::find_rows;
-use crate::search::Search;
+use crate::search::{Halt, Search};
 use crate::setting::find_dear;
 use crate::spent::{Touching, find_touching};
 use crate::strongest::Strongest;
@@ -196,29 +196,6 @@ fn first_cause(
     None
 }
 
-/// Why no LOOP may pay in a component.
-fn cause_of_stuck(
-    body: &Body,
-    touching: &Touching,
-    search: &Search,
-    piece: &Piece,
-    trails: &mut Trails,
-) -> Option<Cause>
-    requires { KnowsTouched body.now.image.now touching.now }
-    ensures { IfSome result (Holds body.now.image.now body.now.r) }
-{
-    let Search {
-        graph,
-        splitting,
-        ..
-    } = search;
-    if is_never_paid(body, touching, graph, splitting, piece, trails) {
-        first_cause(body, touching, search, piece, trails)
-    } else {
-        None
-    }
-}
-
 /// Where in a component the counter of a LOOP is set for it, the first one that is found.
 fn find_set(
     body: &Body,
@@ -285,7 +262,7 @@ fn cause_of_set(
     }
 }
 
-/// Why no numbers of steps are found, from what was in the way.
+/// Why nests are not paid for.
 fn cause_of_lack(
     alloc: Global,
     body: &Body,
@@ -301,7 +278,6 @@ fn cause_of_lack(
     ensures { IfOk result (λ cause. IfSome cause (Holds body.now.image.now body.now.r)) }
 {
     match lack {
-        Lack::Stuck(piece) => Ok(cause_of_stuck(body, touching, search, &piece, trails)),
         Lack::SetWithin(piece) => Ok(cause_of_set(body, touching, search, &piece, trails)),
         Lack::Passes => {
             if let Some(cause) = cause_in_turn(body, touching, search, trails) {
@@ -311,6 +287,31 @@ fn cause_of_lack(
         }
         Lack::InTurn => Ok(cause_in_turn(body, touching, search, trails)),
         Lack::Looks => Ok(cause_of_looks(body)),
+    }
+}
+
+/// Why no numbers of steps are found, from what was in the way.
+fn cause_of_halt(
+    alloc: Global,
+    body: &Body,
+    touching: &Touching,
+    known: &Known,
+    search: &Search,
+    halt: Halt,
+    trails: &mut Trails,
+    strongest: &mut Strongest,
+) -> Result<Option<Cause>, AllocError>
+    requires touched { KnowsTouched body.now.image.now touching.now }
+    requires rows { FitWhereReached body.now.image.now body.now.r known.now }
+    requires way { IsInTheWay body.now.image.now body.now.r halt }
+    ensures { IfOk result (λ cause. IfSome cause (Holds body.now.image.now body.now.r)) }
+{
+    match halt {
+        Halt::Stuck(piece) => Ok(first_cause(body, touching, search, &piece, trails)),
+        Halt::Unclear => Ok(None),
+        Halt::Unpaid(lack) => cause_of_lack(
+            alloc, body, touching, known, search, lack, trails, strongest,
+        ),
     }
 }
 
@@ -363,8 +364,8 @@ impl Tables {
         } = self;
         match search.find(body, known, &touching.certain, potentials) {
             Ok(()) => Ok(None),
-            Err(lack) => cause_of_lack(
-                alloc, body, touching, known, search, lack, trails, strongest,
+            Err(halt) => cause_of_halt(
+                alloc, body, touching, known, search, halt, trails, strongest,
             ),
         }
     }

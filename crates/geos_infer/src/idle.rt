@@ -1,10 +1,10 @@
 //! Ways round on which no LOOP may pay: at each the counter is as it was where the routine begins, or as a call left it.
 
-ghost use Rattle.std.specs.Prelude.{◌≡◌, ◌<◌, ◌≤◌, ℕ, true, ◌&&◌, Some, slice_get, IfSome};
-ghost use Rattle.geos_infer.specs.Causes.{is_loop, KnowsTouched, NotesTouched, NotesAllTouched};
-ghost use Rattle.geos_infer.specs.Causes.{calls_touching, IsUnset, MayNotPay, LeadsIdle, IsNeverPaid};
+ghost use Rattle.std.specs.Prelude.{◌≡◌, ◌<◌, ◌≤◌, ℕ, true, Some, IfSome};
+ghost use Rattle.geos_infer.specs.Causes.{KnowsTouched, NotesTouched, NotesAllTouched, calls_touching, LeadsIdle};
 ghost use Rattle.geos_infer.specs.Code.{IsPcOf};
 ghost use Rattle.geos_infer.specs.Ranks.{noted_idle, GoesOn, IsNotedBehind, AreNotedFrom, AreIdleNoted};
+ghost use Rattle.geos_infer.specs.Stuck.{LeadsNotedIdle, GoesRoundIdle};
 ghost use Rattle.geos_infer.specs.Trails.{keeps_counter};
 ghost use Rattle.geos_infer.specs.Why.{LeadsTo};
 ghost use Rattle.geos_image.specs.Parts.{Parts};
@@ -18,8 +18,6 @@ use crate::leads::Lead;
 use crate::nests::Splitting;
 use crate::pieces::Piece;
 use crate::spent::{Touching, touches};
-use crate::trails::Trails;
-use crate::within::find_left;
 use geos_image::{Instr, MOST_INSTRS, Opcode};
 use geos_verify::Touched;
 
@@ -175,86 +173,20 @@ pub(crate) fn lead_idle(body: &Body, classes: &Classes, pc: u16, branch: bool) -
 
 // What is found
 
-/// Whether control comes to the LOOP at a pc with its counter as it was where the routine begins.
-fn is_unset(
-    body: &Body,
-    touching: &Touching,
-    graph: &Graph,
-    counter: u8,
-    pc: u16,
-    trails: &mut Trails,
-) -> bool
-    requires here { pc < 4096 }
-    requires touched { KnowsTouched body.now.image.now touching.now }
-    ensures { result ≡ true → IsUnset body.now.image.now body.now.r counter pc }
+/// Whether an edge leads to a place, and is no LOOP's way to its target on which the counter may pay, by what is noted.
+fn leads_idle(graph: &Graph, classes: &Classes, edge: Lead, to: u16) -> bool
+    ensures { result ≡ true → LeadsNotedIdle graph.now.arcs classes.now edge.from edge.branch to }
 {
-    trails.clear(body);
-    trails.note(body.start, None);
-    trails.go(graph, Some(counter));
-    trails.lead(body, touching, Some(counter), body.start, pc)
-}
-
-/// Whether the LOOP at a pc is found not to pay.
-fn may_not_pay(
-    body: &Body,
-    touching: &Touching,
-    graph: &Graph,
-    counter: u8,
-    pc: u16,
-    trails: &mut Trails,
-) -> bool
-    requires here { pc < body.now.end }
-    requires touched { KnowsTouched body.now.image.now touching.now }
-    ensures { result ≡ true → MayNotPay body.now.image.now body.now.r counter pc }
-{
-    find_left(body, touching, graph, counter, pc, trails).is_some()
-        || is_unset(body, touching, graph, counter, pc, trails)
-}
-
-/// Whether an edge is found to be no LOOP's way to its target on which the counter may pay.
-fn is_idle(
-    body: &Body,
-    touching: &Touching,
-    graph: &Graph,
-    pc: u16,
-    branch: bool,
-    trails: &mut Trails,
-) -> bool
-    requires here { pc < body.now.end }
-    requires touched { KnowsTouched body.now.image.now touching.now }
-    ensures { result ≡ true → IfSome (slice_get body.now.image.now.points pc) (λ point.
-        (branch && is_loop point.instr.opcode) ≡ true → MayNotPay body.now.image.now body.now.r point.instr.a pc) }
-{
-    if !branch {
-        return true;
-    }
-    let i = body.image.instr(pc);
-    if !is_loop(i.opcode) {
-        return true;
-    }
-    may_not_pay(body, touching, graph, i.a, pc, trails)
-}
-
-/// Whether an edge leads to a place, and is no LOOP's way to its target on which the counter may pay.
-fn leads_idle(
-    body: &Body,
-    touching: &Touching,
-    graph: &Graph,
-    edge: Lead,
-    to: u16,
-    trails: &mut Trails,
-) -> bool
-    requires here { edge.from < body.now.end }
-    requires touched { KnowsTouched body.now.image.now touching.now }
-    ensures { result ≡ true → LeadsIdle body.now.image.now body.now.r edge.from edge.branch to }
-{
-    let Some(end) = lead(body, edge.from, edge.branch) else {
+    let Some(arc) = graph.arc(edge.from, edge.branch) else {
         return false;
     };
-    if end != to {
+    if arc.to != to {
         return false;
     }
-    is_idle(body, touching, graph, edge.from, edge.branch, trails)
+    match arc.takes() {
+        Some(counter) => classes.is_idle(edge.from, counter),
+        None => true,
+    }
 }
 
 /// An edge among the places of a piece to one of them, that is no LOOP's which is left out or pays in a nest.
@@ -296,19 +228,17 @@ fn place_on_round(graph: &Graph, splitting: &Splitting, piece: &Piece) -> Option
     Some(at)
 }
 
-/// Whether control is found to go round from a place of a component, and no LOOP on the way may pay.
+/// Whether control is found to go round from a place of a component, and no LOOP on the way may pay, by what is noted.
 fn goes_round_from(
     body: &Body,
-    touching: &Touching,
     graph: &Graph,
+    classes: &Classes,
     splitting: &Splitting,
     piece: &Piece,
     place: u16,
-    trails: &mut Trails,
 ) -> bool
-    requires here { place < 4096 }
-    requires touched { KnowsTouched body.now.image.now touching.now }
-    ensures { result ≡ true → IsNeverPaid body.now.image.now body.now.r }
+    requires { place < 4096 }
+    ensures { result ≡ true → GoesRoundIdle body.now.image.now body.now.r graph.now.arcs classes.now }
 {
     let mut at = place;
     for _ in body.start..body.end {
@@ -318,7 +248,7 @@ fn goes_round_from(
         if lead.from < body.start || body.end <= lead.from {
             return false;
         }
-        if !leads_idle(body, touching, graph, lead, at, trails) {
+        if !leads_idle(graph, classes, lead, at) {
             return false;
         }
         if lead.from == place {
@@ -329,20 +259,18 @@ fn goes_round_from(
     false
 }
 
-/// Whether control is found to go round in a component, and no LOOP on the way may pay.
-pub(crate) fn is_never_paid(
+/// Whether control is found to go round in a component, and no LOOP on the way may pay, by what is noted.
+pub(crate) fn goes_round_idle(
     body: &Body,
-    touching: &Touching,
     graph: &Graph,
+    classes: &Classes,
     splitting: &Splitting,
     piece: &Piece,
-    trails: &mut Trails,
 ) -> bool
-    requires { KnowsTouched body.now.image.now touching.now }
-    ensures { result ≡ true → IsNeverPaid body.now.image.now body.now.r }
+    ensures { result ≡ true → GoesRoundIdle body.now.image.now body.now.r graph.now.arcs classes.now }
 {
     match place_on_round(graph, splitting, piece) {
-        Some(place) => goes_round_from(body, touching, graph, splitting, piece, place, trails),
+        Some(place) => goes_round_from(body, graph, classes, splitting, piece, place),
         None => false,
     }
 }

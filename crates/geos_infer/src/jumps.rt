@@ -1,6 +1,7 @@
 //! LOOPs' ways to their targets: which are left out, and which pay.
 
-ghost use Rattle.std.specs.Prelude.{◌<◌, IfSome};
+ghost use Rattle.std.specs.Prelude.{◌≡◌, ◌<◌, ℕ, Some, IfSome};
+ghost use Rattle.geos_infer.specs.Pieces.{LeadsWithin};
 
 use crate::graph::Graph;
 use crate::pieces::{Order, Piece};
@@ -40,7 +41,9 @@ pub(crate) fn lead_within(
     branch: bool,
 ) -> Option<u16>
     requires { pc < 4096 }
-    ensures { IfSome result (λ to. to < 4096) }
+    ensures inside { IfSome result (λ to. to < 4096) }
+    ensures some { IfSome result (LeadsWithin graph.now.arcs jumps.now order.now piece.now pc branch) }
+    ensures all { (to : ℕ) → LeadsWithin graph.now.arcs jumps.now order.now piece.now pc branch to → result ≡ Some to }
 {
     if branch {
         match jumps.at(pc) {

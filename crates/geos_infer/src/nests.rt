@@ -1,6 +1,10 @@
 //! Nests: places among which control goes round, each with the LOOPs that pay for that.
 
-ghost use Rattle.std.specs.Prelude.{◌≡◌, ◌<◌, ◌+◌, None, IfSome, slice_index_or, slice_set};
+ghost use Rattle.std.specs.Prelude.{◌≡◌, ◌<◌, ◌+◌, None, Err, IfSome, slice_index_or, slice_set};
+ghost use Rattle.geos_infer.specs.Pieces.{NoneMayPay};
+ghost use Rattle.geos_infer.specs.Stuck.{StayNoted};
+ghost use Rattle.geos_infer.specs.declared.nests.NoNests.TheVariants.{NoChoice};
+ghost use Rattle.geos_infer.specs.declared.pieces.Piece.{Piece};
 
 use crate::body::Body;
 use crate::choice::{Choice, Chosen, Tier, choose};
@@ -166,6 +170,15 @@ impl Nests {
     }
 }
 
+/// Why the nests of a routine are not found.
+#[derive(Clone, Copy)]
+pub(crate) enum NoNests {
+    /// No LOOP may pay in a component.
+    NoChoice(Piece),
+    /// There are more of them than places.
+    TooMany,
+}
+
 /// What a search for nests goes by.
 #[derive(Drop)]
 pub(crate) struct Splitting {
@@ -245,14 +258,18 @@ impl Splitting {
         graph: &Graph,
         classes: &mut Classes,
         waiting: &Waiting,
-    ) -> Result<(), Piece> {
+    ) -> Result<(), NoNests>
+        ensures noted { StayNoted classes.old classes.new }
+        ensures none { (piece : Piece) → result ≡ Err (NoChoice piece)
+            → NoneMayPay graph.now.arcs self.new.jumps self.new.order classes.new piece }
+    {
         let piece = &waiting.piece;
         classes.note_set_within(body.start, graph, &self.order, piece);
         let Some(choice) = choose(graph, &self.jumps, &self.order, classes, piece) else {
-            return Err(*piece);
+            return Err(NoNests::NoChoice(*piece));
         };
         let Some(nest) = self.nests.list(waiting, &choice) else {
-            return Err(*piece);
+            return Err(NoNests::TooMany);
         };
         let all = DEEP <= self.nests.at(nest).depth;
         let chosen = Chosen { choice, nest, all };
@@ -275,13 +292,17 @@ impl Splitting {
         }
     }
 
-    /// Finds the nests of a routine; a component in which no LOOP may pay, if there is one.
+    /// Finds the nests of a routine. What is known of counters stays, but for what is set in a piece.
     pub(crate) fn find(
         &mut self,
         body: &Body,
         graph: &Graph,
         classes: &mut Classes,
-    ) -> Result<(), Piece> {
+    ) -> Result<(), NoNests>
+        ensures noted { StayNoted classes.old classes.new }
+        ensures none { (piece : Piece) → result ≡ Err (NoChoice piece)
+            → NoneMayPay graph.now.arcs self.new.jumps self.new.order classes.new piece }
+    {
         self.free_loops(body, graph, classes);
         self.nests.count = 0;
         self.nests.waits = 0;
@@ -293,7 +314,9 @@ impl Splitting {
             let Some(waiting) = self.nests.take() else {
                 return Ok(());
             };
-            self.make(body, graph, classes, &waiting)?;
+            if let Err(stop) = self.make(body, graph, classes, &waiting) {
+                return Err(stop);
+            }
         }
         Ok(())
     }

@@ -1,6 +1,6 @@
 //! The places of a routine in the order in which they are gone over, and pieces of that order.
 
-ghost use Rattle.std.specs.Prelude.{◌≡◌, ◌<◌, ◌≤◌, ◌↔◌, IsTrue, slice_index, slice_set};
+ghost use Rattle.std.specs.Prelude.{◌≤◌};
 
 use crate::body::Body;
 use crate::place::Place;
@@ -33,6 +33,9 @@ pub(crate) struct Order {
 }
 
 impl Order {
+    ghost use Rattle.std.specs.Prelude.{◌≡◌, ◌<◌, ◌≤◌, ◌↔◌, IsTrue, slice_index, slice_set};
+    ghost use Rattle.geos_infer.specs.Stuck.{StandsAt};
+
     /// There are no places.
     pub(crate) fn new(alloc: Global) -> Result<Order, AllocError> {
         let (places, at) = two_tables(alloc, Place { pc: 0 }, 0)?;
@@ -63,7 +66,8 @@ impl Order {
     /// The place that stands here.
     pub(crate) fn place(&self, x: u16) -> u16
         requires { x < 4096 }
-        ensures { result < 4096 }
+        ensures stands { StandsAt self.now x result }
+        ensures inside { result < 4096 }
     {
         let Place { pc } = self.places.at(x);
         pc

@@ -1,20 +1,40 @@
 //! The search for potentials of a routine with loops.
 
-ghost use Rattle.std.specs.Prelude.{◌+◌, IfOk};
+ghost use Rattle.std.specs.Prelude.{◌≡◌, ◌+◌, List, Bool, Option, IfOk, IfErr};
 ghost use Rattle.geos_image.specs.Parts.{start_of};
+ghost use Rattle.geos_image.specs.declared.row.Row.{Row};
+ghost use Rattle.geos_infer.specs.Arcs.{AreArcs};
+ghost use Rattle.geos_infer.specs.Causes.{NotesTouched};
 ghost use Rattle.geos_infer.specs.Constants.{AreLeastIn, AreForLoops, coefficients_at};
 ghost use Rattle.geos_infer.specs.Count.{StaysFrom};
+ghost use Rattle.geos_infer.specs.Halts.{IsInTheWay};
 ghost use Rattle.geos_infer.specs.Numbers.{numbers_of};
+ghost use Rattle.geos_infer.specs.Stuck.{GoesRoundIdle};
+ghost use Rattle.geos_infer.specs.declared.pieces.Piece.{Piece};
+ghost use Rattle.geos_infer.specs.declared.search.Halt.TheVariants.{Stuck};
 
 use crate::body::Body;
 use crate::classes::Classes;
 use crate::constants::{all_ask_no_more, find_constants, free_loops, put_potentials};
 use crate::graph::Graph;
-use crate::nests::Splitting;
+use crate::idle::goes_round_idle;
+use crate::nests::{NoNests, Splitting};
+use crate::pieces::Piece;
 use crate::table::{Known, Potentials};
 use crate::units::{Lack, Units};
 use geos_verify::Touched;
 use std::alloc::{AllocError, Global};
+
+/// What is in the way of the search.
+#[derive(Clone, Copy)]
+pub(crate) enum Halt {
+    /// Control goes round in a component, and no LOOP on the way may pay.
+    Stuck(Piece),
+    /// No LOOP may pay in a component, and no such way round was found in it; or there are too many nests. Neither should be.
+    Unclear,
+    /// Nests are not paid for.
+    Unpaid(Lack),
+}
 
 /// What the search takes.
 #[derive(Drop)]
@@ -39,25 +59,32 @@ impl Search {
         })
     }
 
-    /// Finds potentials of a routine, or what is in the way. The constants are the least that pay with the coefficients, and each of these is
-    /// wanted for a LOOP.
-    pub(crate) fn find(
-        &mut self,
-        body: &Body,
-        known: &Known,
-        touched: &Touched,
-        potentials: &mut Potentials,
-    ) -> Result<(), Lack>
-        ensures least { IfOk result (λ _. AreLeastIn body.now.image.now body.now.r known.now (numbers_of potentials.new)) }
-        ensures wanted { IfOk result (λ _. AreForLoops body.now.image.now body.now.r (coefficients_at (numbers_of potentials.new).coefficients)) }
+    /// What is in the way where no nests are found: where no LOOP may pay in a component, a way round in it is looked for.
+    fn halt_of(&self, body: &Body, stop: NoNests) -> Halt
+        ensures { (piece : Piece) → result ≡ Stuck piece → GoesRoundIdle body.now.image.now body.now.r self.now.graph.arcs self.now.classes }
+    {
+        match stop {
+            NoNests::NoChoice(piece) => {
+                if goes_round_idle(body, &self.graph, &self.classes, &self.splitting, &piece) {
+                    Halt::Stuck(piece)
+                } else {
+                    Halt::Unclear
+                }
+            }
+            NoNests::TooMany => Halt::Unclear,
+        }
+    }
+
+    /// Finds potentials with which the nests that were found are paid for.
+    fn pay(&mut self, body: &Body, potentials: &mut Potentials) -> Result<(), Lack>
+        ensures least { IfOk result (λ _. (known : List (Option Row)) (table : List (List Bool))
+            → AreArcs body.now.image.now body.now.r known table self.old.graph.arcs
+            → AreLeastIn body.now.image.now body.now.r known (numbers_of potentials.new)) }
+        ensures wanted { IfOk result (λ _. (known : List (Option Row)) (table : List (List Bool))
+            → AreArcs body.now.image.now body.now.r known table self.old.graph.arcs
+            → AreForLoops body.now.image.now body.now.r (coefficients_at (numbers_of potentials.new).coefficients)) }
         ensures stays { StaysFrom (start_of body.now.image.now.routines (body.now.r + 1)) (numbers_of potentials.old) (numbers_of potentials.new) }
     {
-        self.graph.note(body, known, touched);
-        self.classes.note(body, &self.graph);
-        match self.splitting.find(body, &self.graph, &mut self.classes) {
-            Ok(()) => {}
-            Err(piece) => return Err(Lack::Stuck(piece)),
-        }
         self.units
             .pay_all(body.start, &self.graph, &mut self.splitting)?;
         find_constants(body, &self.graph, &self.splitting, &mut self.units)?;
@@ -67,5 +94,30 @@ impl Search {
         }
         put_potentials(body, &self.units, potentials)?;
         Ok(())
+    }
+
+    /// Finds potentials of a routine, or what is in the way. The constants are the least that pay with the coefficients, and each of these is
+    /// wanted for a LOOP.
+    pub(crate) fn find(
+        &mut self,
+        body: &Body,
+        known: &Known,
+        touched: &Touched,
+        potentials: &mut Potentials,
+    ) -> Result<(), Halt>
+        ensures least { IfOk result (λ _. AreLeastIn body.now.image.now body.now.r known.now (numbers_of potentials.new)) }
+        ensures wanted { IfOk result (λ _. AreForLoops body.now.image.now body.now.r (coefficients_at (numbers_of potentials.new).coefficients)) }
+        ensures way { NotesTouched body.now.image.now touched.now → IfErr result (IsInTheWay body.now.image.now body.now.r) }
+        ensures stays { StaysFrom (start_of body.now.image.now.routines (body.now.r + 1)) (numbers_of potentials.old) (numbers_of potentials.new) }
+    {
+        self.graph.note(body, known, touched);
+        self.classes.note(body, &self.graph);
+        if let Err(stop) = self.splitting.find(body, &self.graph, &mut self.classes) {
+            return Err(self.halt_of(body, stop));
+        }
+        match self.pay(body, potentials) {
+            Ok(()) => Ok(()),
+            Err(lack) => Err(Halt::Unpaid(lack)),
+        }
     }
 }

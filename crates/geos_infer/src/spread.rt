@@ -4,6 +4,7 @@ ghost use Rattle.std.specs.Prelude.{◌≡◌, ◌<◌, max, length, slice_index
 ghost use Rattle.geos_verify.specs.Lists.{zip2};
 ghost use Rattle.geos_infer.specs.Demands.{kept_over, AreRaised, StayWanted};
 ghost use Rattle.geos_infer.specs.Numbers.{zeros};
+ghost use Rattle.geos_infer.specs.Spreads.{HaveCome, StayCome};
 
 use crate::arcs::Arc;
 use crate::graph::Graph;
@@ -79,6 +80,7 @@ pub(crate) fn raise(spread: &mut Spread, waits: &mut Pile, pc: u16, numbers: &[u
 /// The numbers at a place go along an edge from there.
 fn go_along(graph: &Graph, spread: &mut Spread, waits: &mut Pile, pc: u16, branch: bool)
     requires { pc < 4096 }
+    ensures { StayCome graph.now.arcs pc spread.old spread.new }
 {
     if let Some(arc) = graph.arc(pc, branch) {
         let numbers = kept(&arc, spread.get(pc));
@@ -86,14 +88,18 @@ fn go_along(graph: &Graph, spread: &mut Spread, waits: &mut Pile, pc: u16, branc
     }
 }
 
-/// The numbers at the places that wait go along all edges.
-pub(crate) fn go_on(graph: &Graph, spread: &mut Spread, waits: &mut Pile) {
+/// The numbers at the places that wait go along all edges: those from a pc on, which are of the routine that is looked at.
+pub(crate) fn go_on(graph: &Graph, low: u16, spread: &mut Spread, waits: &mut Pile)
+    ensures { HaveCome graph.now.arcs low spread.old spread.new }
+{
     for _ in 0..LOOKS {
         let Some(pc) = waits.take() else {
             return;
         };
-        go_along(graph, spread, waits, pc, false);
-        go_along(graph, spread, waits, pc, true);
+        if low <= pc {
+            go_along(graph, spread, waits, pc, false);
+            go_along(graph, spread, waits, pc, true);
+        }
     }
 }
 

@@ -25,8 +25,6 @@ pub(crate) const LOOKS: u32 = 1 << 27;
 /// Why no units are found.
 #[derive(Clone, Copy)]
 pub(crate) enum Lack {
-    /// No LOOP may pay in a component.
-    Stuck(Piece),
     /// The counter of a nest is set in it on a way round to more than its LOOPs take from it.
     SetWithin(Piece),
     /// A number is past what a potential can say.

@@ -1,7 +1,7 @@
 //! Counters that are set, or that a call touches, where their own loops go round.
 
 ghost use Rattle.std.specs.Prelude.{◌≡◌, ◌<◌, ◌≤◌, true, List, Bool, None, IfSome};
-ghost use Rattle.geos_infer.specs.Causes.{KnowsTouched, LoopsTo, IsKept, IsLeft};
+ghost use Rattle.geos_infer.specs.Causes.{KnowsTouched, LoopsTo, IsKept};
 ghost use Rattle.geos_infer.specs.Causes.{SetsWithin, TouchesWithin, TouchesBefore, PassesAt, sets_counter, calls_touching};
 ghost use Rattle.geos_infer.specs.Code.{IsPcOf};
 ghost use Rattle.geos_infer.specs.Trails.{IsTrail};
@@ -200,28 +200,6 @@ pub(crate) fn find_set_within(
     let at = kept_from(body, touching, trails, counter, from)?;
     if sets_at(body, counter, at) && comes_round(body, touching, graph, trails, back.to, at) {
         Some(Within { back, counter, at })
-    } else {
-        None
-    }
-}
-
-/// A call that touches a counter, which is not set from there to a place.
-pub(crate) fn find_left(
-    body: &Body,
-    touching: &Touching,
-    graph: &Graph,
-    counter: u8,
-    pc: u16,
-    trails: &mut Trails,
-) -> Option<u16>
-    requires here { pc < body.now.end }
-    requires touched { KnowsTouched body.now.image.now touching.now }
-    ensures { IfSome result (λ at. IsLeft body.now.image.now body.now.r counter pc) }
-{
-    note_touched(body, graph, None, counter, trails);
-    let at = kept_from(body, touching, trails, counter, pc)?;
-    if calls_touching(body, touching, counter, at) {
-        Some(at)
     } else {
         None
     }

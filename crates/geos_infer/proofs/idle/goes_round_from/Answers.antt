@@ -1,10 +1,10 @@
 use Rattle.std.proofs.Common.{◌≡◌, ℕ, [], ◌∷◌, refl, subst, arith}
-use Rattle.geos_infer.specs.Causes.{LeadsIdle}
+use Rattle.geos_infer.specs.Stuck.{LeadsNotedIdle}
 use Rattle.geos_infer.specs.Code.{IsPcOf}
 use Rattle.geos_infer.proofs.idle.goes_round_from.Goals as goal
 
 pub loop-init : goal.loop-init
-loop-init c = (c.requires.here, ([], refl))
+loop-init c = (c.requires, ([], refl))
 
 pub returns-then-lead-place : goal.returns-then-lead-place
 returns-then-lead-place c = λ is.
@@ -21,7 +21,7 @@ returns-then-lead-place c = λ is.
       begins = subst (IsPcOf image body.r) same within;
       branch = edge.branch;
       next = c.loop.at;
-      first = subst (λ (n : ℕ). LeadsIdle image body.r n edge.branch c.loop.at) same (c.leads_idle.ensures c.if-not-leads_idle.false);
+      first = subst (λ (n : ℕ). LeadsNotedIdle c.args.graph.now.arcs c.args.classes.now n edge.branch c.loop.at) same (c.leads_idle.ensures c.if-not-leads_idle.false);
       branches = further.0;
       way = further.1;
     }

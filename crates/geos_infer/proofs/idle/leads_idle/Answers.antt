@@ -1,22 +1,22 @@
-use Rattle.std.proofs.Common.{◌≡◌, true, subst, arith, rules}
-use Rattle.std.specs.Prelude.{◌&&◌, slice_get}
-use Rattle.geos_verify.proofs.Places.{if_some}
-use Rattle.geos_infer.specs.Causes.{is_loop, MayNotPay}
-use Rattle.geos_infer.specs.Code.{IsPcOf}
-use Rattle.geos_infer.specs.Why.{LeadsTo}
+use Rattle.std.proofs.Common.{◌≡◌, true, sym, ◌∙◌, subst, arith, rules}
+use Rattle.std.proofs.lemmas.Option.{none-some, same_Some}
+use Rattle.geos_infer.specs.Ranks.{noted_idle}
 use Rattle.geos_infer.proofs.idle.leads_idle.Goals as goal
 
-pub returns : goal.returns
-returns c = λ is.
-    let body = c.args.body.now in
-    let image = body.image.now in
-    let from = c.args.edge.from in
-    let branch = c.args.edge.branch in
-    let same : c.in-Some.end ≡ c.args.to = first_of (omega arith, search rules) in
-    let leads = subst (LeadsTo image from branch) same c.in-Some.ensures.leads in
-    record {
-      leads = leads;
-      stays = subst (IsPcOf image body.r) same c.in-Some.ensures.stays;
-      idle = if_some (λ point. (branch && is_loop point.instr.opcode) ≡ true → MayNotPay image body.r point.instr.a from)
-          (slice_get image.points from) leads.point leads.there (c.is_idle.ensures is);
-    }
+pub returns-in-Some-takes : goal.returns-in-Some-takes
+returns-in-Some-takes c = λ is. record {
+  arc = c.in-Some.arc;
+  read = sym c.arc.ensures ∙ c.in-Some.is;
+  leads = (let same : c.in-Some.arc.to ≡ c.args.to = first_of (omega arith, search rules) in same);
+  idle = λ k takes.
+      subst (λ n. noted_idle c.args.classes.now c.args.edge.from n ≡ true)
+      (same_Some c.in-Some-takes.counter k (sym (sym c.takes.ensures ∙ c.in-Some-takes.is) ∙ takes)) (sym c.is_idle.ensures ∙ is);
+}
+
+pub returns-in-None : goal.returns-in-None
+returns-in-None c = λ is. record {
+  arc = c.in-Some.arc;
+  read = sym c.arc.ensures ∙ c.in-Some.is;
+  leads = (let same : c.in-Some.arc.to ≡ c.args.to = first_of (omega arith, search rules) in same);
+  idle = λ k takes. absurd (none-some k (sym (sym c.takes.ensures ∙ c.in-None.is) ∙ takes));
+}

@@ -1,29 +1,26 @@
 use Rattle.std.proofs.Common.{sym, subst}
-use Rattle.geos_infer.specs.Least.{AreLeast, NoneOutside}
-use Rattle.geos_infer.specs.Numbers.{numbers_of}
-use Rattle.geos_infer.specs.declared.lengths.Lengths.{Lengths}
-use Rattle.geos_infer.specs.Demands.{AreWanted}
-use Rattle.geos_infer.proofs.Demand.{for-loops}
-use Rattle.geos_infer.proofs.Priced.{found-least}
+use Rattle.geos_infer.specs.Code.{IsPcOf}
+use Rattle.geos_infer.specs.Spreads.{ComeBehind, ComeFrom, ForgetsIt}
+use Rattle.geos_infer.proofs.Idling.{notes-idle, round-never-paid, stuck-only}
 use Rattle.geos_infer.proofs.search.Search.find.Goals as goal
 
-pub returns-clause-least : goal.returns-clause-least
-returns-clause-least c =
+pub returns-in-Err-clause-way : goal.returns-in-Err-clause-way
+returns-in-Err-clause-way c = λ notes.
     let body = c.args.body.now in
     let image = body.image.now in
-    let units = c.free_loops.new.units in
-    let old = c.pay_all.new.self.lengths.ways in
-    let least = subst (λ (x : Lengths). AreLeast image body.r x.links old x.ways) (sym c.free_loops.ensures.lengths) c.find_constants.ensures.least in
-    let outside = subst (λ (x : Lengths). NoneOutside image body.r x.links) (sym c.free_loops.ensures.lengths) c.find_constants.ensures.outside in
-    found-least image body.r c.args.known.now c.args.touched.now c.note.new.self.arcs c.note.ensures units.pay
-    units.lengths.links (c.all_ask_no_more.ensures c.if-not-all_ask_no_more.false) outside old units.lengths.ways least
-    (numbers_of c.put_potentials.new.potentials) c.in_ok-put_potentials.ensures.put
-
-pub returns-clause-wanted : goal.returns-clause-wanted
-returns-clause-wanted c =
-    let body = c.args.body.now in
     let arcs = c.note.new.self.arcs in
-    let before = subst (AreWanted arcs) (sym c.find_constants.ensures.pay) c.pay_all.ensures in
-    let numbers = numbers_of c.put_potentials.new.potentials in
-    for-loops body.image.now body.r c.args.known.now c.args.touched.now arcs c.note.ensures c.free_loops.new.units.pay
-    numbers.coefficients (c.free_loops.ensures.wanted before) (λ pc within. (c.in_ok-put_potentials.ensures.put pc within).1)
+    let stay = c.find.ensures.noted in
+    let touched = subst (ComeBehind arcs body.start (IsPcOf image body.r) ForgetsIt) (sym stay.touched) c.note-2.ensures.touched in
+    let unset = subst (ComeFrom arcs body.start) (sym stay.unset) c.note-2.ensures.unset in
+    let begins = body.begins in
+    let idle = notes-idle image body.r c.args.known.now c.args.touched.now arcs c.note.ensures notes c.find.new.classes
+    (subst (λ n. ComeBehind arcs n (IsPcOf image body.r) ForgetsIt c.find.new.classes.touched) begins touched)
+    (subst (λ n. ComeFrom arcs n c.find.new.classes.unset) begins unset) in
+    stuck-only image body.r c.halt_of.result (λ piece is. round-never-paid image body.r c.args.known.now c.args.touched.now arcs
+    c.note.ensures notes c.find.new.classes idle (c.halt_of.ensures piece is))
+
+pub returns-in-Ok-clause-least : goal.returns-in-Ok-clause-least
+returns-in-Ok-clause-least c = c.in-Ok.ensures.least c.args.known.now c.args.touched.now c.note.ensures
+
+pub returns-in-Ok-clause-wanted : goal.returns-in-Ok-clause-wanted
+returns-in-Ok-clause-wanted c = c.in-Ok.ensures.wanted c.args.known.now c.args.touched.now c.note.ensures
