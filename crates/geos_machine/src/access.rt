@@ -175,12 +175,13 @@ pub(crate) fn stxw<D: Device + Drop>(
     Goes::Along
 }
 
-/// Whether a span has so many bytes at an offset.
-fn reaches(span: Span, at: u16, n: u32) -> bool
+/// Whether a span of this length has so many bytes at an offset.
+// The length alone is passed: of a whole span the compiler makes one number, and takes it apart again.
+fn reaches(len: u16, at: u16, n: u32) -> bool
     requires { n ≤ 2 }
-    ensures { result ≡ not (nat_lt span.len (at + n)) }
+    ensures { result ≡ not (nat_lt len (at + n)) }
 {
-    u32::from(at) + n <= u32::from(span.len)
+    u32::from(at) + n <= u32::from(len)
 }
 
 /// Reads a byte at an index that is tested.
@@ -199,11 +200,11 @@ pub(crate) fn ldcb<D: Device + Drop>(
         index_b(i, operands),
         index_c(i, operands),
     );
-    let (span, at) = (m.pointers[b], m.words[c]);
-    if !reaches(span, at, 1) {
+    let at = m.words[c];
+    if !reaches(m.pointers[b].len, at, 1) {
         return refuse(m, i, Refusal::Range);
     }
-    m.words[a] = u16::from(kernel.load8(span, at));
+    m.words[a] = u16::from(kernel.load8(m.pointers[b], at));
     Goes::Along
 }
 
@@ -223,11 +224,11 @@ pub(crate) fn ldcw<D: Device + Drop>(
         index_b(i, operands),
         index_c(i, operands),
     );
-    let (span, at) = (m.pointers[b], m.words[c]);
-    if !reaches(span, at, 2) {
+    let at = m.words[c];
+    if !reaches(m.pointers[b].len, at, 2) {
         return refuse(m, i, Refusal::Range);
     }
-    m.words[a] = kernel.load16(span, at);
+    m.words[a] = kernel.load16(m.pointers[b], at);
     Goes::Along
 }
 
@@ -248,11 +249,11 @@ pub(crate) fn stcb<D: Device + Drop>(
         index_b(i, operands),
         index_c(i, operands),
     );
-    let (span, at) = (m.pointers[b], m.words[c]);
-    if !reaches(span, at, 1) {
+    let at = m.words[c];
+    if !reaches(m.pointers[b].len, at, 1) {
         return refuse(m, i, Refusal::Range);
     }
-    kernel.store8(span, at, low_byte(m.words[a]));
+    kernel.store8(m.pointers[b], at, low_byte(m.words[a]));
     Goes::Along
 }
 
@@ -273,11 +274,11 @@ pub(crate) fn stcw<D: Device + Drop>(
         index_b(i, operands),
         index_c(i, operands),
     );
-    let (span, at) = (m.pointers[b], m.words[c]);
-    if !reaches(span, at, 2) {
+    let at = m.words[c];
+    if !reaches(m.pointers[b].len, at, 2) {
         return refuse(m, i, Refusal::Range);
     }
-    kernel.store16(span, at, m.words[a]);
+    kernel.store16(m.pointers[b], at, m.words[a]);
     Goes::Along
 }
 
