@@ -1,5 +1,5 @@
 -- What is noted of counters in a routine is so: where one may not pay by what is noted, it may not.
-use Rattle.std.proofs.Common.{◌≡◌, ◌<◌, ◌⊎◌, ◌+◌, ℕ, zero, suc, Bool, true, false, not, List, [], ◌∷◌, ◌++◌, Option, Some, refl, sym, ap, ◌∙◌, subst, arith, inl, inr}
+use Rattle.std.proofs.Common.{◌≡◌, ◌<◌, ◌⊎◌, ◌+◌, ℕ, zero, suc, Bool, true, false, not, List, [], ◌∷◌, ◌++◌, length, Option, Some, refl, sym, ap, ◌∙◌, subst, arith, inl, inr}
 use Rattle.std.specs.Prelude.{◌&&◌, ◌||◌, ◌==◌, slice_index_or}
 use Rattle.std.proofs.lemmas.Bool.{false≢true}
 use Rattle.std.proofs.lemmas.Option.{same_Some}
@@ -27,8 +27,9 @@ use Rattle.geos_infer.specs.Why.{LeadsTo}
 use Rattle.geos_infer.specs.Halts.{IsInTheWay}
 use Rattle.geos_infer.specs.declared.pieces.Piece.{Piece}
 use Rattle.geos_infer.specs.declared.search.Halt.{Halt}
-use Rattle.geos_infer.specs.declared.search.Halt.TheVariants.{Stuck, Unclear, Unpaid}
+use Rattle.geos_infer.specs.declared.search.Halt.TheVariants.{Stuck, Unclear, Unpaid, Passes}
 use Rattle.geos_infer.proofs.Demand.{is-arc}
+use Rattle.geos_infer.proofs.Unpayable.{none-accepted-round}
 
 -- What edges do to counters
 
@@ -221,7 +222,9 @@ module _ (image : Parts) (r : ℕ) (known : List (Option Row)) (table : List (Li
         }
 
 -- what is in the way is so, if it is where the search is stuck
-pub stuck-only : (image : Parts) (r : ℕ) (halt : Halt) → ((piece : Piece) → halt ≡ Stuck piece → IsNeverPaid image r) → IsInTheWay image r halt
-stuck-only image r (Stuck piece) never = never piece refl
-stuck-only image r Unclear never = record {}
-stuck-only image r (Unpaid lack) never = record {}
+pub stuck-only : (image : Parts) (r : ℕ) (known : List (Option Row)) (coefficients : List (List ℕ)) (halt : Halt) → r < length image.routines
+    → ((piece : Piece) → halt ≡ Stuck piece → IsNeverPaid image r) → (halt ≡ Passes → ⊥) → IsInTheWay image r known coefficients halt
+stuck-only image r known coefficients (Stuck piece) lt never others = (never piece refl, none-accepted-round image r lt (never piece refl))
+stuck-only image r known coefficients Passes lt never others = absurd (others refl)
+stuck-only image r known coefficients Unclear lt never others = tt
+stuck-only image r known coefficients (Unpaid lack) lt never others = tt

@@ -22,8 +22,9 @@ use Rattle.geos_infer.proofs.Ends.{code-at}
 use Rattle.geos_infer.specs.Why.{LeadsTo}
 use Rattle.geos_infer.specs.Count.{return_steps}
 use Rattle.geos_infer.proofs.Longest.{leads-one}
-use Rattle.geos_infer.specs.Constants.{asked_over, PaysSteps, ConstantsPay, row_known, coefficients_at, AreLeastIn, GoesBack, IsLoopAt, potential_in, IsAsked, IsPaidOver, ArePaidIn}
-use Rattle.geos_infer.specs.Least.{steps_at, link_at, PaysLink, PayAll, PayEnds, AreLeast, IsLookedAt, AskNoMore, NoneOutside, ArePut}
+use Rattle.geos_infer.specs.Constants.{AreLeastWith, asked_over, PaysSteps, ConstantsPay, row_known, coefficients_at, AreLeastIn, GoesBack, IsLoopAt, potential_in, IsAsked, IsPaidOver, ArePaidIn}
+use Rattle.geos_infer.specs.Least.{SomePasses, steps_at, link_at, PaysLink, PayAll, PayEnds, AreLeast, IsLookedAt, AskNoMore, NoneOutside, ArePut}
+use Rattle.geos_infer.specs.Halts.{NonePayWith}
 use Rattle.geos_infer.specs.Numbers.{Numbers, numbers_of, steps_of, coefficients_of}
 use Rattle.geos_infer.proofs.Copies.{numbers-set}
 use Rattle.geos_infer.specs.Solutions.{call_steps}
@@ -139,13 +140,24 @@ module _ (image : Parts) (r : ℕ) (known : List (Option Row)) (table : List (Li
     ways-least : (pc : ℕ) → IsPcOf image r pc → steps_at next pc ≤ steps pc
     ways-least pc within = (let most = least also all-paid ends-paid pc in let here = inside pc within in omega (arith, most, here))
 
--- so numbers that are these are the least that pay
-pub found-least : (image : Parts) (r : ℕ) (known : List (Option Row)) (table : List (List Bool)) (arcs : List (List (Option Arc)))
+-- so the ways that are found are
+pub found-ways : (image : Parts) (r : ℕ) (known : List (Option Row)) (table : List (List Bool)) (arcs : List (List (Option Arc)))
     → AreArcs image r known table arcs → (pay : List (List ℕ)) (links : List (List (Option Link))) → AskNoMore image r arcs pay links
     → ((pc : ℕ) (branch : Bool) → (IsPcOf image r pc → ⊥) → link_at links pc branch ≡ None) → (old next : List Way)
-    → AreLeast image r links old next → (numbers : Numbers) → ArePut image r pay next numbers
-    → AreLeastIn image r known numbers
-found-least image r known table arcs noted pay links no_more outside old next least numbers put steps P pc within =
+    → AreLeast image r links old next → AreLeastWith image r known pay (steps_at next)
+found-ways image r known table arcs noted pay links no_more outside old next least steps P pc within =
+    ways-least image r known table pay steps P arcs noted links no_more outside old next least pc within
+
+-- where one of them passes what a potential can say, so do all steps that pay
+pub none-pay : (image : Parts) (r : ℕ) (known : List (Option Row)) (pay : List (List ℕ)) (ways : List Way)
+    → AreLeastWith image r known pay (steps_at ways) → SomePasses image r (steps_at ways) → NonePayWith image r known pay
+none-pay image r known pay ways least passes steps P =
+    (passes.0, passes.1, (let less = least steps P passes.0 passes.1 in let past = passes.2 in omega (arith, less, past)))
+
+-- and numbers that are these are the least that pay
+pub found-least : (image : Parts) (r : ℕ) (known : List (Option Row)) (pay : List (List ℕ)) (next : List Way)
+    → AreLeastWith image r known pay (steps_at next) → (numbers : Numbers) → ArePut image r pay next numbers → AreLeastIn image r known numbers
+found-least image r known pay next least numbers put steps P pc within =
     let same : (k : ℕ) → IsPcOf image r k → coefficients_at numbers.coefficients k ≡ coefficients_at pay k = λ k k_in. (put k k_in).1 in
     let Q : ConstantsPay image r (row_known known) (coefficients_at pay) steps = record {
       edges = λ k to branch k_in leads to_in.
@@ -157,7 +169,7 @@ found-least image r known table arcs noted pay links no_more outside old next le
           (P.edges k to branch k_in leads to_in));
       returns = P.returns;
     } in
-    let less = ways-least image r known table pay steps Q arcs noted links no_more outside old next least pc within in
+    let less = least steps Q pc within in
     let is = (put pc within).0 in
     omega (arith, less, is)
 

@@ -136,6 +136,11 @@ abbrev pub AreLeastIn : Parts → ℕ → List (Option Row) → Numbers → Type
 AreLeastIn image r known numbers = (steps : ℕ → ℕ) → ConstantsPay image r (row_known known) (coefficients_at numbers.coefficients) steps
     → (pc : ℕ) → IsPcOf image r pc → slice_index numbers.steps pc ≤ steps pc
 
+-- so many steps are at most any that pay with the rows that are known and with these coefficients
+abbrev pub AreLeastWith : Parts → ℕ → List (Option Row) → List (List ℕ) → (ℕ → ℕ) → Type 0
+AreLeastWith image r known coefficients least = (steps : ℕ → ℕ)
+    → ConstantsPay image r (row_known known) (coefficients_at coefficients) steps → (pc : ℕ) → IsPcOf image r pc → least pc ≤ steps pc
+
 -- the potential at a pc that is counted
 abbrev pub potential_in : Numbers → ℕ → Potential
 potential_in numbers pc = record { constant = slice_index numbers.steps pc; coefficients = slice_index_or numbers.coefficients pc [] }

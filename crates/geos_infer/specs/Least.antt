@@ -1,5 +1,5 @@
 -- The longest ways that are known, and numbers of steps that pay for each edge.
-use Rattle.std.specs.Prelude.{◌≡◌, ◌≤◌, ◌+◌, ◌⊎◌, ℕ, Bool, true, false, if◌then◌else◌, List, [], Option, Some, None, slice_get, slice_index, slice_index_or}
+use Rattle.std.specs.Prelude.{◌≡◌, ◌≤◌, ◌<◌, ◌+◌, ◌⊎◌, ℕ, Bool, true, false, if◌then◌else◌, List, [], Option, Some, None, slice_get, slice_index, slice_index_or}
 use Rattle.geos_image.specs.Parts.{Parts}
 use Rattle.geos_image.specs.declared.point.Point.{Point}
 use Rattle.geos_infer.specs.Arcs.{arc_at, price_of, paid_by, IsLink}
@@ -54,6 +54,10 @@ AreEnds image r ways next = (want : ℕ → ℕ) → PayEnds image r ways want �
 -- that is looked at
 abbrev pub AreLeast : Parts → ℕ → List (List (Option Link)) → List Way → List Way → Type 0
 AreLeast image r links ways next = (want : ℕ → ℕ) → PayAll links want → PayEnds image r ways want → AtMost next want
+
+-- at some place of routine r so many steps are past what a potential can say
+abbrev pub SomePasses : Parts → ℕ → (ℕ → ℕ) → Type 0
+SomePasses image r steps = (pc : ℕ) × IsPcOf image r pc × (4294967295 < steps pc)
 
 -- What is looked at
 

@@ -262,6 +262,26 @@ fn cause_of_set(
     }
 }
 
+/// Why a number is past what a potential can say.
+fn cause_of_passing(
+    alloc: Global,
+    body: &Body,
+    touching: &Touching,
+    known: &Known,
+    search: &Search,
+    trails: &mut Trails,
+    strongest: &mut Strongest,
+) -> Result<Option<Cause>, AllocError>
+    requires touched { KnowsTouched body.now.image.now touching.now }
+    requires rows { FitWhereReached body.now.image.now body.now.r known.now }
+    ensures { IfOk result (λ cause. IfSome cause (Holds body.now.image.now body.now.r)) }
+{
+    if let Some(cause) = cause_in_turn(body, touching, search, trails) {
+        return Ok(Some(cause));
+    }
+    find_dear(alloc, body, touching, known, search, trails, strongest)
+}
+
 /// Why nests are not paid for.
 fn cause_of_lack(
     alloc: Global,
@@ -280,13 +300,12 @@ fn cause_of_lack(
     match lack {
         Lack::SetWithin(piece) => Ok(cause_of_set(body, touching, search, &piece, trails)),
         Lack::Passes => {
-            if let Some(cause) = cause_in_turn(body, touching, search, trails) {
-                return Ok(Some(cause));
-            }
-            find_dear(alloc, body, touching, known, search, trails, strongest)
+            cause_of_passing(alloc, body, touching, known, search, trails, strongest)
         }
-        Lack::InTurn => Ok(cause_in_turn(body, touching, search, trails)),
-        Lack::Looks => Ok(cause_of_looks(body)),
+        Lack::InTurn | Lack::NoShare | Lack::AsksMore => {
+            Ok(cause_in_turn(body, touching, search, trails))
+        }
+        Lack::Looks | Lack::Endless => Ok(cause_of_looks(body)),
     }
 }
 
@@ -303,7 +322,7 @@ fn cause_of_halt(
 ) -> Result<Option<Cause>, AllocError>
     requires touched { KnowsTouched body.now.image.now touching.now }
     requires rows { FitWhereReached body.now.image.now body.now.r known.now }
-    requires way { IsInTheWay body.now.image.now body.now.r halt }
+    requires way { IsInTheWay body.now.image.now body.now.r known.now search.now.units.pay halt }
     ensures { IfOk result (λ cause. IfSome cause (Holds body.now.image.now body.now.r)) }
 {
     match halt {
@@ -312,6 +331,9 @@ fn cause_of_halt(
         Halt::Unpaid(lack) => cause_of_lack(
             alloc, body, touching, known, search, lack, trails, strongest,
         ),
+        Halt::Passes => {
+            cause_of_passing(alloc, body, touching, known, search, trails, strongest)
+        }
     }
 }
 

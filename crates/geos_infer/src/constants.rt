@@ -1,10 +1,10 @@
 //! Constants: the longest ways from each place, where units of counters pay for so much.
 
-ghost use Rattle.std.specs.Prelude.{◌≡◌, ◌<◌, ◌≤◌, ◌+◌, Some, true, IfOk};
+ghost use Rattle.std.specs.Prelude.{◌≡◌, ◌<◌, ◌≤◌, ◌+◌, Some, true, false};
 ghost use Rattle.geos_image.specs.Parts.{start_of};
 ghost use Rattle.geos_infer.specs.Count.{StaysFrom};
 ghost use Rattle.geos_infer.specs.Demands.{StayWanted};
-ghost use Rattle.geos_infer.specs.Least.{link_at, AreEnds, AreLeast, StayAtMost, IsLookedAt, AreLookedAt, AsksNoMore, AskNoMore, NoneOutside, ArePut};
+ghost use Rattle.geos_infer.specs.Least.{link_at, AreEnds, AreLeast, StayAtMost, IsLookedAt, AreLookedAt, AsksNoMore, AskNoMore, NoneOutside, ArePut, SomePasses, steps_at};
 ghost use Rattle.geos_infer.specs.Numbers.{numbers_of};
 ghost use Rattle.geos_infer.specs.declared.lengths.Link.{Link};
 
@@ -71,7 +71,7 @@ fn lengthen(order: &Order, all: &Piece, units: &mut Units) -> Result<(), Lack>
             return Ok(());
         }
     }
-    Err(Lack::Looks)
+    Err(Lack::Endless)
 }
 
 /// Finds the longest way from each place.
@@ -172,26 +172,24 @@ pub(crate) fn all_ask_no_more(body: &Body, graph: &Graph, units: &Units) -> bool
     true
 }
 
-/// The potentials of a routine are what was found.
-pub(crate) fn put_potentials(
-    body: &Body,
-    units: &Units,
-    potentials: &mut Potentials,
-) -> Result<(), Lack>
-    ensures put { IfOk result (λ _. ArePut body.now.image.now body.now.r units.now.pay units.now.lengths.ways (numbers_of potentials.new)) }
+/// The potentials of a routine are what was found; `false` where a constant is past what a potential can say.
+pub(crate) fn put_potentials(body: &Body, units: &Units, potentials: &mut Potentials) -> bool
+    ensures put { result ≡ true → ArePut body.now.image.now body.now.r units.now.pay units.now.lengths.ways (numbers_of potentials.new) }
+    ensures passes { result ≡ false → SomePasses body.now.image.now body.now.r (steps_at units.now.lengths.ways) }
     ensures stays { StaysFrom (start_of body.now.image.now.routines (body.now.r + 1)) (numbers_of potentials.old) (numbers_of potentials.new) }
 {
     // For what its law says.
     potentials.lengths();
     for pc in body.start..body.end {
-        let Ok(constant) = u32::try_from(units.lengths.steps(pc)) else {
-            return Err(Lack::Passes);
-        };
+        let length = units.lengths.steps(pc);
+        if u64::from(u32::MAX) < length {
+            return false;
+        }
         let potential = Potential {
-            constant,
+            constant: length as u32,
             coefficients: units.pay.at(pc),
         };
         potentials.set(pc, potential);
     }
-    Ok(())
+    true
 }

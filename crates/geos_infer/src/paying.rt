@@ -205,7 +205,7 @@ impl Paying {
             return Err(if round.is_set {
                 Lack::SetWithin(self.nest.piece)
             } else {
-                Lack::InTurn
+                Lack::NoShare
             });
         };
         match u32::try_from(unit) {
@@ -242,6 +242,6 @@ impl Paying {
                 self.weigh(graph, splitting, units);
             }
         }
-        Err(Lack::Looks)
+        Err(Lack::Endless)
     }
 }

@@ -5,13 +5,15 @@ ghost use Rattle.geos_image.specs.Parts.{start_of};
 ghost use Rattle.geos_image.specs.declared.row.Row.{Row};
 ghost use Rattle.geos_infer.specs.Arcs.{AreArcs};
 ghost use Rattle.geos_infer.specs.Causes.{NotesTouched};
-ghost use Rattle.geos_infer.specs.Constants.{AreLeastIn, AreForLoops, coefficients_at};
+ghost use Rattle.geos_infer.specs.Constants.{AreLeastIn, AreLeastWith, AreForLoops, coefficients_at};
 ghost use Rattle.geos_infer.specs.Count.{StaysFrom};
+ghost use Rattle.geos_infer.specs.Demands.{AreWanted};
 ghost use Rattle.geos_infer.specs.Halts.{IsInTheWay};
+ghost use Rattle.geos_infer.specs.Least.{steps_at};
 ghost use Rattle.geos_infer.specs.Numbers.{numbers_of};
 ghost use Rattle.geos_infer.specs.Stuck.{GoesRoundIdle};
 ghost use Rattle.geos_infer.specs.declared.pieces.Piece.{Piece};
-ghost use Rattle.geos_infer.specs.declared.search.Halt.TheVariants.{Stuck};
+ghost use Rattle.geos_infer.specs.declared.search.Halt.TheVariants.{Stuck, Passes};
 
 use crate::body::Body;
 use crate::classes::Classes;
@@ -34,6 +36,8 @@ pub(crate) enum Halt {
     Unclear,
     /// Nests are not paid for.
     Unpaid(Lack),
+    /// With the coefficients that are found a constant is past what a potential can say.
+    Passes,
 }
 
 /// What the search takes.
@@ -61,7 +65,9 @@ impl Search {
 
     /// What is in the way where no nests are found: where no LOOP may pay in a component, a way round in it is looked for.
     fn halt_of(&self, body: &Body, stop: NoNests) -> Halt
-        ensures { (piece : Piece) → result ≡ Stuck piece → GoesRoundIdle body.now.image.now body.now.r self.now.graph.arcs self.now.classes }
+        ensures stuck { (piece : Piece) → result ≡ Stuck piece
+            → GoesRoundIdle body.now.image.now body.now.r self.now.graph.arcs self.now.classes }
+        ensures no_other { result ≡ Passes → ⊥ }
     {
         match stop {
             NoNests::NoChoice(piece) => {
@@ -75,24 +81,20 @@ impl Search {
         }
     }
 
-    /// Finds potentials with which the nests that were found are paid for.
-    fn pay(&mut self, body: &Body, potentials: &mut Potentials) -> Result<(), Lack>
+    /// Finds coefficients with which the nests that were found are paid for, and the least constants with them.
+    fn pay(&mut self, body: &Body) -> Result<(), Lack>
         ensures least { IfOk result (λ _. (known : List (Option Row)) (table : List (List Bool))
             → AreArcs body.now.image.now body.now.r known table self.old.graph.arcs
-            → AreLeastIn body.now.image.now body.now.r known (numbers_of potentials.new)) }
-        ensures wanted { IfOk result (λ _. (known : List (Option Row)) (table : List (List Bool))
-            → AreArcs body.now.image.now body.now.r known table self.old.graph.arcs
-            → AreForLoops body.now.image.now body.now.r (coefficients_at (numbers_of potentials.new).coefficients)) }
-        ensures stays { StaysFrom (start_of body.now.image.now.routines (body.now.r + 1)) (numbers_of potentials.old) (numbers_of potentials.new) }
+            → AreLeastWith body.now.image.now body.now.r known self.new.units.pay (steps_at self.new.units.lengths.ways)) }
+        ensures wanted { IfOk result (λ _. AreWanted self.old.graph.arcs self.new.units.pay) }
     {
         self.units
             .pay_all(body.start, &self.graph, &mut self.splitting)?;
         find_constants(body, &self.graph, &self.splitting, &mut self.units)?;
         free_loops(body, &self.graph, &self.splitting, &mut self.units)?;
         if !all_ask_no_more(body, &self.graph, &self.units) {
-            return Err(Lack::InTurn);
+            return Err(Lack::AsksMore);
         }
-        put_potentials(body, &self.units, potentials)?;
         Ok(())
     }
 
@@ -107,7 +109,8 @@ impl Search {
     ) -> Result<(), Halt>
         ensures least { IfOk result (λ _. AreLeastIn body.now.image.now body.now.r known.now (numbers_of potentials.new)) }
         ensures wanted { IfOk result (λ _. AreForLoops body.now.image.now body.now.r (coefficients_at (numbers_of potentials.new).coefficients)) }
-        ensures way { NotesTouched body.now.image.now touched.now → IfErr result (IsInTheWay body.now.image.now body.now.r) }
+        ensures way { NotesTouched body.now.image.now touched.now
+            → IfErr result (IsInTheWay body.now.image.now body.now.r known.now self.new.units.pay) }
         ensures stays { StaysFrom (start_of body.now.image.now.routines (body.now.r + 1)) (numbers_of potentials.old) (numbers_of potentials.new) }
     {
         self.graph.note(body, known, touched);
@@ -115,9 +118,14 @@ impl Search {
         if let Err(stop) = self.splitting.find(body, &self.graph, &mut self.classes) {
             return Err(self.halt_of(body, stop));
         }
-        match self.pay(body, potentials) {
-            Ok(()) => Ok(()),
-            Err(lack) => Err(Halt::Unpaid(lack)),
+        match self.pay(body) {
+            Ok(()) => {}
+            Err(lack) => return Err(Halt::Unpaid(lack)),
+        }
+        if put_potentials(body, &self.units, potentials) {
+            Ok(())
+        } else {
+            Err(Halt::Passes)
         }
     }
 }

@@ -27,12 +27,18 @@ pub(crate) const LOOKS: u32 = 1 << 27;
 pub(crate) enum Lack {
     /// The counter of a nest is set in it on a way round to more than its LOOPs take from it.
     SetWithin(Piece),
-    /// A number is past what a potential can say.
+    /// What a unit pays for, or what it costs to set its counter, is past what a potential can say.
     Passes,
     /// Nests were paid for again and again.
     InTurn,
+    /// A way round in a nest lacks something, and takes no unit of a LOOP that could be raised.
+    NoShare,
+    /// With what LOOPs pay whose counter is 0, some edge asks more than was paid for.
+    AsksMore,
     /// Too many edges were looked at.
     Looks,
+    /// A loop came to its limit, which none should.
+    Endless,
 }
 
 /// The units of counters, and the longest ways where these pay.
@@ -239,7 +245,7 @@ impl Units {
             fits = fits && self.note_dearer(graph, splitting, paying, round, pc);
             go_back_from(graph, &mut self.pay, &mut self.waits, pc);
         }
-        Err(Lack::Looks)
+        Err(Lack::Endless)
     }
 
     /// The unit of a nest is at its LOOPs, and where it is asked for.

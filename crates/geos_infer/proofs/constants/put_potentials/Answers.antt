@@ -15,13 +15,13 @@ pub loop-pc-preserved : goal.loop-pc-preserved
 loop-pc-preserved c =
     let body = c.args.body.now in
     let p = c.loop-pc.pc in
-    let next : Potential = record { constant = c.in-Ok.constant; coefficients = c.at.result } in
+    let next : Potential = record { constant = c.steps-length.result; coefficients = c.at.result } in
     let few = c.loop-pc.invariant.0 in (
       ap length c.set.ensures ∙ length-set c.loop-pc.potentials p next ∙ few,
       rw (c.set.ensures, numbers-set c.loop-pc.potentials p next)
           (stays-set body.end p next.constant next.coefficients (numbers_of c.args.potentials.now)
           (numbers_of c.loop-pc.potentials) c.loop-pc-test.true c.loop-pc.invariant.1),
       rw c.set.ensures (put-more body.image.now body.r c.args.units.now.pay c.args.units.now.lengths.ways c.loop-pc.potentials p
-          (p + 1) next refl (omega (arith, few, c.loop-pc-test.true, body.room, body.short)) (c.in-Ok.ensures.1 ∙ c.steps.ensures)
+          (p + 1) next refl (omega (arith, few, c.loop-pc-test.true, body.room, body.short)) c.steps-length.ensures
           (c.at.ensures []) c.loop-pc.invariant.2),
     )

@@ -2,6 +2,9 @@ use Rattle.std.proofs.Common.{sym, subst}
 use Rattle.geos_infer.specs.Code.{IsPcOf}
 use Rattle.geos_infer.specs.Spreads.{ComeBehind, ComeFrom, ForgetsIt}
 use Rattle.geos_infer.proofs.Idling.{notes-idle, round-never-paid, stuck-only}
+use Rattle.geos_infer.specs.Numbers.{numbers_of}
+use Rattle.geos_infer.proofs.Demand.{for-loops}
+use Rattle.geos_infer.proofs.Priced.{found-least, none-pay}
 use Rattle.geos_infer.proofs.search.Search.find.Goals as goal
 
 pub returns-in-Err-clause-way : goal.returns-in-Err-clause-way
@@ -16,11 +19,27 @@ returns-in-Err-clause-way c = λ notes.
     let idle = notes-idle image body.r c.args.known.now c.args.touched.now arcs c.note.ensures notes c.find.new.classes
     (subst (λ n. ComeBehind arcs n (IsPcOf image body.r) ForgetsIt c.find.new.classes.touched) begins touched)
     (subst (λ n. ComeFrom arcs n c.find.new.classes.unset) begins unset) in
-    stuck-only image body.r c.halt_of.result (λ piece is. round-never-paid image body.r c.args.known.now c.args.touched.now arcs
-    c.note.ensures notes c.find.new.classes idle (c.halt_of.ensures piece is))
+    stuck-only image body.r c.args.known.now c.args.self.now.units.pay c.halt_of.result body.there (λ piece is. round-never-paid image body.r c.args.known.now c.args.touched.now arcs
+    c.note.ensures notes c.find.new.classes idle (c.halt_of.ensures.stuck piece is)) c.halt_of.ensures.no_other
 
-pub returns-in-Ok-clause-least : goal.returns-in-Ok-clause-least
-returns-in-Ok-clause-least c = c.in-Ok.ensures.least c.args.known.now c.args.touched.now c.note.ensures
+pub returns-then-put_potentials-clause-least : goal.returns-then-put_potentials-clause-least
+returns-then-put_potentials-clause-least c =
+    let body = c.args.body.now in
+    let units = c.pay.new.self.units in
+    found-least body.image.now body.r c.args.known.now units.pay units.lengths.ways
+    (c.in-Ok.ensures.least c.args.known.now c.args.touched.now c.note.ensures)
+    (numbers_of c.put_potentials.new.potentials) (c.put_potentials.ensures.put c.if-put_potentials.true)
 
-pub returns-in-Ok-clause-wanted : goal.returns-in-Ok-clause-wanted
-returns-in-Ok-clause-wanted c = c.in-Ok.ensures.wanted c.args.known.now c.args.touched.now c.note.ensures
+pub returns-then-put_potentials-clause-wanted : goal.returns-then-put_potentials-clause-wanted
+returns-then-put_potentials-clause-wanted c =
+    let body = c.args.body.now in
+    for-loops body.image.now body.r c.args.known.now c.args.touched.now c.note.new.self.arcs c.note.ensures c.pay.new.self.units.pay
+    (numbers_of c.put_potentials.new.potentials).coefficients c.in-Ok.ensures.wanted
+    (λ pc within. (c.put_potentials.ensures.put c.if-put_potentials.true pc within).1)
+
+pub returns-else-put_potentials-clause-way : goal.returns-else-put_potentials-clause-way
+returns-else-put_potentials-clause-way c = λ notes.
+    let body = c.args.body.now in
+    let units = c.pay.new.self.units in
+    none-pay body.image.now body.r c.args.known.now units.pay units.lengths.ways
+    (c.in-Ok.ensures.least c.args.known.now c.args.touched.now c.note.ensures) (c.put_potentials.ensures.passes c.if-put_potentials.false)

@@ -1,10 +1,8 @@
 use Rattle.std.proofs.Common.{sym, subst}
-use Rattle.geos_infer.specs.Least.{AreLeast, NoneOutside}
-use Rattle.geos_infer.specs.Numbers.{numbers_of}
-use Rattle.geos_infer.specs.declared.lengths.Lengths.{Lengths}
 use Rattle.geos_infer.specs.Demands.{AreWanted}
-use Rattle.geos_infer.proofs.Demand.{for-loops}
-use Rattle.geos_infer.proofs.Priced.{found-least}
+use Rattle.geos_infer.specs.Least.{AreLeast, NoneOutside}
+use Rattle.geos_infer.specs.declared.lengths.Lengths.{Lengths}
+use Rattle.geos_infer.proofs.Priced.{found-ways}
 use Rattle.geos_infer.proofs.search.Search.pay.Goals as goal
 
 pub returns-clause-least : goal.returns-clause-least
@@ -15,15 +13,10 @@ returns-clause-least c = λ known table are.
     let old = c.pay_all.new.self.lengths.ways in
     let least = subst (λ (x : Lengths). AreLeast image body.r x.links old x.ways) (sym c.free_loops.ensures.lengths) c.find_constants.ensures.least in
     let outside = subst (λ (x : Lengths). NoneOutside image body.r x.links) (sym c.free_loops.ensures.lengths) c.find_constants.ensures.outside in
-    found-least image body.r known table c.args.self.now.graph.arcs are units.pay
-    units.lengths.links (c.all_ask_no_more.ensures c.if-not-all_ask_no_more.false) outside old units.lengths.ways least
-    (numbers_of c.put_potentials.new.potentials) c.in_ok-put_potentials.ensures.put
+    found-ways image body.r known table c.args.self.now.graph.arcs are units.pay units.lengths.links
+    (c.all_ask_no_more.ensures c.if-not-all_ask_no_more.false) outside old units.lengths.ways least
 
 pub returns-clause-wanted : goal.returns-clause-wanted
-returns-clause-wanted c = λ known table are.
-    let body = c.args.body.now in
-    let arcs = c.args.self.now.graph.arcs in
-    let before = subst (AreWanted arcs) (sym c.find_constants.ensures.pay) c.pay_all.ensures in
-    let numbers = numbers_of c.put_potentials.new.potentials in
-    for-loops body.image.now body.r known table arcs are c.free_loops.new.units.pay
-    numbers.coefficients (c.free_loops.ensures.wanted before) (λ pc within. (c.in_ok-put_potentials.ensures.put pc within).1)
+returns-clause-wanted c =
+    let before = subst (AreWanted c.args.self.now.graph.arcs) (sym c.find_constants.ensures.pay) c.pay_all.ensures in
+    c.free_loops.ensures.wanted before
