@@ -33,3 +33,6 @@ pub mod Answering
 pub mod Rising
 pub mod Unpayable
 pub mod Demand
+pub mod Joinable
+pub mod Held
+pub mod Weakening

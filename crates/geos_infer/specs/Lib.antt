@@ -20,3 +20,5 @@ pub mod Least
 pub mod Causes
 pub mod Ranks
 pub mod Demands
+pub mod Alike
+pub mod Weakest
