@@ -27,7 +27,7 @@ use Rattle.geos_infer.proofs.Joining.{marks_agree, borrowed_alike}
 -- States
 
 -- of VM blocks that agree both are borrowed, or neither
-alike-borrowed : (a b m n : Bool) → slots_agree (Vm a m) (Vm b n) ≡ true → m ≡ n
+pub alike-borrowed : (a b m n : Bool) → slots_agree (Vm a m) (Vm b n) ≡ true → m ≡ n
 alike-borrowed a b true true h = refl
 alike-borrowed a b false false h = refl
 alike-borrowed true true true false h = absurd cc

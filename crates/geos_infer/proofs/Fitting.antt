@@ -9,7 +9,8 @@ use Rattle.geos_image.specs.Parts.{Parts, start_of}
 use Rattle.geos_image.specs.Keys.{falls_through, branches}
 use Rattle.geos_verify.specs.Rows.{at_point, HasEdge, after, has_edge}
 use Rattle.geos_verify.proofs.Places.{item_at, if_some}
-use Rattle.geos_infer.specs.Joins.{clean}
+use Rattle.geos_infer.specs.Joins.{agree, clean}
+use Rattle.geos_infer.specs.Weakest.{weakest, EdgeIsWeak}
 use Rattle.geos_infer.specs.Code.{Edge, IsPcOf, TargetAhead, instrs_of, edge_end, edge_row}
 use Rattle.geos_infer.specs.Flow.{known_at, KnownAt, fits_known, edge_number, FitAhead}
 use Rattle.geos_infer.specs.Reached.{EdgeFits, BackFit, AllFit, Copies}
@@ -85,6 +86,19 @@ module _ (image : Parts) (r : ℕ) (known : List (Option Row)) (pc : ℕ) (branc
               let edge : Edge (instrs_of image) pc branch to i = record { read = read-there; has = has; leads = refl } in
               fit_is ∙ known-to known to next (subst (KnownAt known to) (sym behind) (fits_all to i row edge inside here)),
         )
+
+    -- there is one, and such a row is known where it leads
+    pub weak-fits : (row next : Row) (fit : Bool) → known_at known pc ≡ Some row → has_edge i branch ≡ true
+        → IsPcOf image r (edge_end pc i branch) → next ≡ after image pc (clean row) branch
+        → ((first : Row) → known_at known (edge_end pc i branch) ≡ Some (weakest first) → agree next first ≡ true → fit ≡ true)
+        → EdgeIsWeak image r known pc branch → fit ≡ true
+    weak-fits row next fit here has inside next_is fits_first weak =
+        let found = point-there in
+        let behind : next ≡ edge_row image i branch (clean row) = next_is ∙ after-edge image pc branch found.0 (clean row) found.1
+        ∙ ap (λ x. edge_row image x branch (clean row)) (sym found.2) in
+        let edge : Edge (instrs_of image) pc branch (edge_end pc i branch) i = record { read = read-there; has = has; leads = refl } in
+        let at = weak (edge_end pc i branch) i row edge inside here in
+        fits_first at.first at.read (subst (λ (x : Row). agree x at.first ≡ true) (sym behind) at.alike)
 
 -- All edges
 

@@ -23,6 +23,7 @@ use Rattle.geos_infer.specs.Why.{LeadsTo}
 use Rattle.geos_infer.proofs.Bodies.{lies}
 use Rattle.geos_verify.proofs.RowsFit.{fits-refl, fits-trans}
 use Rattle.geos_infer.proofs.Cleaning.{clean-least}
+use Rattle.geos_infer.proofs.Joining.{apart-fit}
 use Rattle.geos_infer.proofs.Ends.{edge-mono, after-edge, code-at}
 
 -- The order of edges
@@ -70,7 +71,7 @@ join-above : (o : Option Row) (row joined : Row) → IsJoin o row joined → (ol
 join-above None row joined is old e = absurd (none-some old e)
 join-above (Some x) row joined is old e = subst (λ (y : Row). fits y joined ≡ true) (some-is x old e) is.left
 
-join-upper : (o : Option Row) (row joined : Row) → IsJoin o row joined → fits row joined ≡ true
+pub join-upper : (o : Option Row) (row joined : Row) → IsJoin o row joined → fits row joined ≡ true
 join-upper None row joined is = subst (λ (y : Row). fits row y ≡ true) (sym is) (fits-refl row)
 join-upper (Some x) row joined is = is.right
 
@@ -81,7 +82,7 @@ join-least (Some x) row joined u is below h = is.least u (below x refl) h
 
 pub no-join : (o : Option Row) (row u : Row) → HaveNoJoin o row → ((old : Row) → o ≡ Some old → fits old u ≡ true) → fits row u ≡ true → ⊥
 no-join None row u none below h = none
-no-join (Some x) row u none below h = none u (below x refl) h
+no-join (Some x) row u none below h = apart-fit x row none u (below x refl) h
 
 -- One edge
 

@@ -36,3 +36,6 @@ pub mod Demand
 pub mod Spreading
 pub mod Idling
 pub mod Choosing
+pub mod Joinable
+pub mod Held
+pub mod Weakening

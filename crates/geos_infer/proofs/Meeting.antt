@@ -14,7 +14,7 @@ use Rattle.geos_infer.specs.declared.apart.Apart.{Apart}
 use Rattle.geos_infer.specs.declared.apart.Coming.{Coming}
 use Rattle.geos_infer.specs.declared.body.Body.{Body}
 use Rattle.geos_infer.specs.Why.{IsWay, MeetAlike}
-use Rattle.geos_infer.specs.Meeting.{coming_at, waits_at, count_unknown, AllCome, IsMet, BringsAlong, HasGone, IsSpread, NoneWaits, GoesFurther}
+use Rattle.geos_infer.specs.Meeting.{coming_at, waits_at, count_unknown, AllCome, IsMet, BringsAlong, HasGone, IsSpread, NoneWaits, GoesFurther, HaveAllGone}
 use Rattle.geos_infer.proofs.Alike.{alike-refl, alike-both, alike-sym, after-alike}
 use Rattle.geos_infer.proofs.Bodies.{in-body}
 use Rattle.geos_infer.proofs.Came.{all_come-set}
@@ -62,6 +62,14 @@ nothing-apart body known waits S settled =
     let image = body.image.now in
     let begins = subst (IsPcOf image body.r) body.begins (in-body body body.start (omega arith) body.some) in
     meet-alike image body.r known waits S begins (λ pc within. settled pc within (let below = within.below in omega (arith, body.ends)))
+
+-- all has gone on there
+pub all-gone : (body : Body) (known : List (Option Coming)) (waits : List Bool) → IsSpread body.image.now body.r known waits
+    → NoneWaits body.image.now body.r waits body.end → HaveAllGone body.image.now body.r known
+all-gone body known waits S settled = record {
+  begun = S.begun;
+  gone = λ pc branch within. S.gone pc branch within (settled pc within (let below = within.below in omega (arith, below, body.ends)));
+}
 
 -- where none is found
 pub found-none : (image other : Parts) (r s : ℕ) (found : Option Apart) → found ≡ None → image ≡ other → r ≡ s

@@ -6,7 +6,7 @@ use Rattle.geos_image.specs.declared.row.SlotState.TheVariants.{Empty}
 use Rattle.geos_image.specs.declared.routine.Routine.{Routine}
 use Rattle.geos_image.specs.Parts.{Parts, start_of}
 use Rattle.geos_verify.specs.Rows.{fits}
-use Rattle.geos_infer.specs.Joins.{clean, IsLeastAbove, FitNothing}
+use Rattle.geos_infer.specs.Joins.{agree, clean, IsLeastAbove}
 use Rattle.geos_infer.specs.Code.{Edge, IsPcOf, ForwardIn, instrs_of, edge_row}
 use Rattle.geos_infer.specs.declared.flow.Arrival.{Arrival}
 use Rattle.geos_infer.specs.declared.flow.Arrival.TheVariants.{Same, Weaker, Apart}
@@ -87,10 +87,10 @@ abbrev pub IsJoin : Option Row → Row → Row → Type 0
 IsJoin None row joined = joined ≡ row
 IsJoin (Some old) row joined = IsLeastAbove old row joined
 
--- there is no row that both what is known and the row fit
+-- the slots of what is known and of the row differ in more than marks: there is no row that both fit
 abbrev pub HaveNoJoin : Option Row → Row → Type 0
 HaveNoJoin None row = ⊥
-HaveNoJoin (Some old) row = FitNothing old row
+HaveNoJoin (Some old) row = agree old row ≡ false
 
 -- what is known next is what is known once the row has come to the place and is joined with what is known there
 pub record Joins (known : List (Option Row)) (to : ℕ) (row : Row) (next : List (Option Row)) : Type 0 where

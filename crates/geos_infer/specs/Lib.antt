@@ -24,3 +24,5 @@ pub mod Spreads
 pub mod Stuck
 pub mod Halts
 pub mod Pieces
+pub mod Alike
+pub mod Weakest

@@ -61,3 +61,8 @@ pub record GoesFurther (known next : List (Option Coming)) (waits waiting : List
   pub rests : (pc : ℕ) → waits_at waiting pc ≡ false → (waits_at waits pc ≡ false) × (coming_at next pc ≡ coming_at known pc)
   pub same : further ≡ false → (next ≡ known) × (waiting ≡ waits)
   pub fewer : further ≡ true → count_unknown next < count_unknown known
+
+-- control is known to come to where routine r begins, and what is known there has gone along all edges
+pub record HaveAllGone (image : Parts) (r : ℕ) (known : List (Option Coming)) : Type 0 where
+  pub begun : (routine : Routine) → slice_get image.routines r ≡ Some routine → IsMet known (start_of image.routines r) routine.entry
+  pub gone : (pc : ℕ) (branch : Bool) → IsPcOf image r pc → HasGone image r known pc branch

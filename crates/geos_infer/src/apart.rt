@@ -1,7 +1,7 @@
 //! Where ways of control meet with slots that differ.
 
 ghost use Rattle.std.specs.Prelude.{◌≡◌, ◌<◌, true, false, slice_set, IfSome, IfNone, IfOk, IfErr};
-ghost use Rattle.geos_infer.specs.Meeting.{AllCome, BringsAlong, GoesFurther, HasGone, IsSpread, NoneWaits, count_unknown};
+ghost use Rattle.geos_infer.specs.Meeting.{AllCome, BringsAlong, GoesFurther, HasGone, HaveAllGone, IsSpread, NoneWaits, count_unknown};
 ghost use Rattle.geos_infer.specs.Why.{ComesBy, AllEmptied, AreApart, MeetAlike};
 
 use crate::body::Body;
@@ -34,7 +34,7 @@ pub struct Apart {
 }
 
 /// How control was first found to come to each place.
-type Comings = Table<Option<Coming>>;
+pub(crate) type Comings = Table<Option<Coming>>;
 
 /// An edge, and the row that control brings along it.
 #[derive(Clone, Copy)]
@@ -144,6 +144,7 @@ fn first_apart(body: &Body, known: &mut Comings, waits: &mut Table<bool>) -> Opt
     requires { IsSpread body.now.image.now body.now.r known.old waits.old }
     ensures some { IfSome result (AreApart body.now.image.now body.now.r) }
     ensures none { IfNone result (MeetAlike body.now.image.now body.now.r) }
+    ensures gone { IfNone result (HaveAllGone body.now.image.now body.now.r known.new) }
 {
     loop {
         match go_all(body, known, waits) {
@@ -154,11 +155,12 @@ fn first_apart(body: &Body, known: &mut Comings, waits: &mut Table<bool>) -> Opt
     }
 }
 
-/// The first place that is found to which control comes on two ways, with slots that differ in more than marks. `None` where
-/// there is none.
-pub(crate) fn find_apart(alloc: Global, body: &Body) -> Result<Option<Apart>, AllocError>
-    ensures some { IfOk result (λ found. IfSome found (AreApart body.now.image.now body.now.r)) }
-    ensures none { IfOk result (λ found. IfNone found (MeetAlike body.now.image.now body.now.r)) }
+/// How control comes to the places of a routine. `Err` where it comes to one on two ways with slots that differ in more than marks, which
+/// is the first such place that is found.
+pub(crate) fn find_comings(alloc: Global, body: &Body) -> Result<Result<Comings, Apart>, AllocError>
+    ensures err { IfOk result (λ found. IfErr found (AreApart body.now.image.now body.now.r)) }
+    ensures ok { IfOk result (λ found. IfOk found (HaveAllGone body.now.image.now body.now.r)) }
+    ensures none { IfOk result (λ found. IfOk found (λ _. MeetAlike body.now.image.now body.now.r)) }
 {
     let (mut known, mut waits) = two_tables(alloc, None, false)?;
     // For what their law says.
@@ -173,5 +175,20 @@ pub(crate) fn find_apart(alloc: Global, body: &Body) -> Result<Option<Apart>, Al
         }),
     );
     waits.set(body.start, true);
-    Ok(first_apart(body, &mut known, &mut waits))
+    match first_apart(body, &mut known, &mut waits) {
+        Some(apart) => Ok(Err(apart)),
+        None => Ok(Ok(known)),
+    }
+}
+
+/// The first place that is found to which control comes on two ways, with slots that differ in more than marks. `None` where
+/// there is none.
+pub(crate) fn find_apart(alloc: Global, body: &Body) -> Result<Option<Apart>, AllocError>
+    ensures some { IfOk result (λ found. IfSome found (AreApart body.now.image.now body.now.r)) }
+    ensures none { IfOk result (λ found. IfNone found (MeetAlike body.now.image.now body.now.r)) }
+{
+    match find_comings(alloc, body)? {
+        Ok(_) => Ok(None),
+        Err(apart) => Ok(Some(apart)),
+    }
 }

@@ -129,7 +129,7 @@ fn lengths(
 {}
 
 /// A law: each row has the shape that the format wants.
-fn shape(row: &Row)
+pub(crate) fn shape(row: &Row)
     ensures { is_shaped row.now ≡ true }
 {
     lengths(&row.bounds, &row.slots, &row.pointers, &row.pairs);

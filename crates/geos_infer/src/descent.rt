@@ -1,5 +1,9 @@
 //! Rows that were widened come down again.
 
+ghost use Rattle.std.specs.Prelude.{◌≡◌, true};
+ghost use Rattle.geos_infer.specs.Alike.{AllComeAlike, StaysAlike};
+ghost use Rattle.geos_infer.specs.Why.{MeetAlike};
+
 use crate::body::Body;
 use crate::edges::edge_in;
 use crate::flow::{flow, spread};
@@ -11,7 +15,10 @@ const DESCENTS: u16 = 2;
 
 /// Makes what is known at first in a routine its entry row, and what edges to targets that lead back say of
 /// the rows that are known; `false` where two of them have no join.
-fn seed(body: &Body, known: &Known, from: &mut Known) -> bool {
+fn seed(body: &Body, known: &Known, from: &mut Known) -> bool
+    ensures { MeetAlike body.now.image.now body.now.r → AllComeAlike body.now.image.now body.now.r known.now
+        → (result ≡ true) × AllComeAlike body.now.image.now body.now.r from.new }
+{
     seed_entry(body, from);
     for pc in body.start..body.end {
         let Some(row) = known.at(pc) else {
@@ -29,7 +36,9 @@ fn seed(body: &Body, known: &Known, from: &mut Known) -> bool {
 
 /// Rows flow again, from what the edges that lead back say of the rows that are known: they fit what is
 /// known, and still hold. `false` where two have no join.
-pub(crate) fn descend(body: &Body, from: &mut Known, known: &mut Known) -> bool {
+pub(crate) fn descend(body: &Body, from: &mut Known, known: &mut Known) -> bool
+    ensures { StaysAlike body.now.image.now body.now.r known.old known.new result }
+{
     for _ in 0..DESCENTS {
         if !seed(body, known, from) {
             return false;

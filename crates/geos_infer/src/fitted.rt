@@ -1,21 +1,46 @@
 //! Whether what was found in a routine holds.
 
-ghost use Rattle.std.specs.Prelude.{◌≡◌, ◌<◌, ◌↔◌, true};
+ghost use Rattle.std.specs.Prelude.{◌≡◌, ◌<◌, ◌↔◌, true, nat_le};
+ghost use Rattle.geos_verify.specs.Lists.{all2};
 ghost use Rattle.geos_infer.specs.Code.{ForwardIn};
 ghost use Rattle.geos_infer.specs.Flow.{fits_known};
 ghost use Rattle.geos_infer.specs.Reached.{EdgeFits, BackFit, AllFit};
+ghost use Rattle.geos_infer.specs.Weakest.{any_words, FitsWeakest, EdgeIsWeak, AllWeak};
 
 use crate::body::Body;
-use crate::common::clean;
+use crate::common::{clean, shape};
 use crate::edges::{edge_end, leads_back};
 use crate::table::Known;
 use geos_image::Row;
 use geos_verify::{after, fits, has_edge};
 
+/// A law: a word is at most the greatest one.
+fn word(bound: u16)
+    ensures { nat_le bound 65535 ≡ true }
+{}
+
+/// A law: bounds are those of words.
+fn words(bounds: &[u16; 8])
+    ensures { all2 nat_le bounds.now any_words ≡ true }
+{
+    let [b0, b1, b2, b3, b4, b5, b6, b7] = *bounds;
+    word(b0);
+    word(b1);
+    word(b2);
+    word(b3);
+    word(b4);
+    word(b5);
+    word(b6);
+    word(b7);
+}
+
 /// Whether something is known at a place that the row fits.
 fn fits_known(known: &Option<Row>, row: &Row) -> bool
-    ensures { result ≡ fits_known known.now row.now }
+    ensures value { result ≡ fits_known known.now row.now }
+    ensures weak { FitsWeakest known.now row.now result }
 {
+    shape(row);
+    words(&row.bounds);
     match known {
         None => false,
         Some(known) => fits(row, known),
@@ -26,7 +51,8 @@ fn fits_known(known: &Option<Row>, row: &Row) -> bool
 /// there is such an edge and it stays in the routine.
 fn edge_fits(body: &Body, pc: u16, branch: bool, known: &Known) -> bool
     requires { pc < body.now.end }
-    ensures { (result ≡ true) ↔ EdgeFits body.now.image.now body.now.r known.now pc branch }
+    ensures fits { (result ≡ true) ↔ EdgeFits body.now.image.now body.now.r known.now pc branch }
+    ensures weak { EdgeIsWeak body.now.image.now body.now.r known.now pc branch → result ≡ true }
 {
     let Some(row) = known.at(pc) else {
         return true;
@@ -57,7 +83,8 @@ pub(crate) fn back_edges_fit(body: &Body, known: &Known) -> bool
 /// Whether the entry row of a routine fits what is known where it begins, and what is known behind each
 /// edge fits what is known where that leads.
 pub(crate) fn all_fit(body: &Body, known: &Known) -> bool
-    ensures { result ≡ true → AllFit body.now.image.now body.now.r known.now }
+    ensures fit { result ≡ true → AllFit body.now.image.now body.now.r known.now }
+    ensures weak { AllWeak body.now.image.now body.now.r known.now → result ≡ true }
 {
     let entry = body.image.routine(body.r).entry;
     if !fits_known(&known.at(body.start), &entry) {

@@ -4,6 +4,7 @@ ghost use Rattle.std.specs.Prelude.{◌≡◌, ◌<◌, ◌≤◌, ◌+◌, ◌*
 ghost use Rattle.geos_image.specs.Legal.{is_row};
 ghost use Rattle.geos_image.specs.Parts.{start_of};
 ghost use Rattle.geos_verify.specs.Rows.{after};
+ghost use Rattle.geos_infer.specs.Alike.{StaysAlike};
 ghost use Rattle.geos_infer.specs.Edges.{IsInside};
 ghost use Rattle.geos_infer.specs.Flow.{row_of, has_joined, IsJoin, HaveNoJoin, Arrives, Spreads, Seeded, FlowsBelow, FitAhead, StaysBefore};
 ghost use Rattle.geos_infer.specs.Joins.{clean};
@@ -102,6 +103,7 @@ fn spread_ahead(body: &Body, pc: u16, branch: bool, known: &mut Known) -> bool
     requires above { body.now.start ≤ pc }
     requires below { pc < body.now.end }
     ensures spreads { Spreads body.now.image.now body.now.r pc branch known.old known.new result }
+    ensures alike { StaysAlike body.now.image.now body.now.r known.old known.new result }
     ensures stays { StaysBefore pc known.old known.new }
 {
     let Some(row) = known.at(pc) else {
@@ -122,6 +124,7 @@ pub(crate) fn flow(body: &Body, known: &mut Known) -> bool
     ensures below { Seeded body.now.image.now body.now.r known.old → FlowsBelow body.now.image.now body.now.r known.new result }
     ensures fit { Seeded body.now.image.now body.now.r known.old → result ≡ true
         → FitAhead body.now.image.now body.now.r known.new (2 * start_of body.now.image.now.routines (body.now.r + 1)) }
+    ensures alike { StaysAlike body.now.image.now body.now.r known.old known.new result }
     ensures stays { StaysBefore body.now.start known.old known.new }
 {
     for pc in body.start..body.end {

@@ -1,13 +1,15 @@
 //! Rows and potentials for the code of an image.
 
-ghost use Rattle.std.specs.Prelude.{◌≡◌, ℕ, false, IfOk, IfErr};
+ghost use Rattle.std.specs.Prelude.{◌≡◌, ◌<◌, ℕ, false, length, IfOk, IfErr};
 ghost use Rattle.geos_infer.specs.declared.error.InferError.TheVariants.{NoRows};
 ghost use Rattle.geos_infer.specs.Code.{SameCode};
 ghost use Rattle.geos_infer.specs.Constants.{HasLeastConstants, HasCoefficientsForLoops, PaysForLoops};
 ghost use Rattle.geos_infer.specs.Numbers.{numbers_of};
 ghost use Rattle.geos_infer.specs.Points.{PointsOf, RoutinesOf};
 ghost use Rattle.geos_infer.specs.Reached.{AllHoldWhereReached, KeptRowsHold, RowsThatHoldPass};
+ghost use Rattle.geos_infer.specs.Solutions.{NoStepsHoldIn};
 ghost use Rattle.geos_infer.specs.Theorem.{FindsWhatThereIs, NoneIsAccepted, NothingHoldsIn, NamesRoutine};
+ghost use Rattle.geos_infer.specs.Why.{MeetAlike};
 
 use crate::count::count;
 use crate::error::InferError;
@@ -63,17 +65,20 @@ fn routines_of(alloc: Global, image: &Image) -> Result<Vec<Routine>, AllocError>
 /// It may be such that the verifier refuses it: then `geos_verify::check` says where. `NoRows` names a
 /// routine for which no rows or no potentials were found; that it is the first such one is not
 /// proved. If it has no LOOP, no edge that leads back, and an edge of its own into each instruction
-/// but the first, no rows and numbers of steps hold in it, whatever the others are.
+/// but the first, no rows and numbers of steps hold in it, whatever the others are. For want of rows it comes only at the first routine
+/// where ways of control meet with slots that differ in more than marks; where they do in one, no image is answered.
 pub fn infer(alloc: Global, skeleton: &Image) -> Result<Whole, InferError>
     ensures code { IfOk result (λ whole. SameCode skeleton.now whole) }
     ensures all { IfOk result (λ whole. whole.keyed ≡ false) }
     ensures rows { IfOk result AllHoldWhereReached }
+    ensures alike { IfOk result (λ whole. (r : ℕ) → r < length skeleton.now.routines → MeetAlike skeleton.now r) }
     ensures paid { IfOk result PaysForLoops }
     ensures least { IfOk result HasLeastConstants }
     ensures wanted { IfOk result HasCoefficientsForLoops }
     ensures found { IfOk result (λ whole. FindsWhatThereIs skeleton.now whole) }
     ensures none { IfErr result (λ error. (r : ℕ) → error ≡ NoRows r → NoneIsAccepted skeleton.now) }
     ensures stuck { IfErr result (λ error. (r : ℕ) → error ≡ NoRows r → NothingHoldsIn skeleton.now r) }
+    ensures steps { IfErr result (λ error. (r : ℕ) → error ≡ NoRows r → MeetAlike skeleton.now r → NoStepsHoldIn skeleton.now r) }
     ensures within { IfErr result (NamesRoutine skeleton.now) }
 {
     // For what `len` says of the skeleton: it is one that the format allows.

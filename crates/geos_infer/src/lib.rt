@@ -57,6 +57,7 @@ mod unpaid;
 mod unreached;
 mod waiting;
 mod weakened;
+mod weakest;
 mod widening;
 mod within;
 

@@ -1,7 +1,9 @@
 //! Rows flow on along the edges of a routine, until nothing new comes to any place.
 
-ghost use Rattle.std.specs.Prelude.{◌<◌};
+ghost use Rattle.std.specs.Prelude.{◌<◌, true};
+ghost use Rattle.geos_infer.specs.Alike.{AllComeAlike, GoesAlike, StaysAlike};
 ghost use Rattle.geos_infer.specs.Edges.{IsInside};
+ghost use Rattle.geos_infer.specs.Flow.{has_joined};
 
 use crate::body::Body;
 use crate::edges::{Edge, edge_in};
@@ -18,6 +20,7 @@ pub(crate) const PASSES: u32 = 4096 * 256;
 /// A place was weakened: so much is kept of the join.
 fn widen(body: &Body, kept: Kept, old: &Option<Row>, to: u16, known: &mut Known)
     requires { to < 4096 }
+    ensures { AllComeAlike body.now.image.now body.now.r known.old → AllComeAlike body.now.image.now body.now.r known.new }
 {
     if let (Some(old), Some(joined)) = (old, known.at(to)) {
         known.set(to, Some(widened(body, kept, old, &joined)));
@@ -33,6 +36,8 @@ pub(crate) fn pass(
     known: &mut Known,
 ) -> Arrival
     requires { IsInside body.now.image.now body.now.end edge.pc edge.branch edge }
+    ensures { GoesAlike body.now.image.now body.now.r edge row.now
+        → StaysAlike body.now.image.now body.now.r known.old known.new (has_joined result) }
 {
     let old = known.at(edge.to);
     let arrival = spread(body, edge, row, known);
@@ -46,10 +51,12 @@ pub(crate) fn pass(
     arrival
 }
 
-/// What is known at a pc goes along one edge of the instruction there, if it stays in the routine; `false` where it has no join with
-/// what is known there.
-fn pass_from(body: &Body, pc: u16, branch: bool, waiting: &mut Waiting, known: &mut Known) -> bool {
-    if body.end <= pc {
+/// What is known at a pc of the routine goes along one edge of the instruction there, if it stays in the routine; `false` where it has
+/// no join with what is known there.
+fn pass_from(body: &Body, pc: u16, branch: bool, waiting: &mut Waiting, known: &mut Known) -> bool
+    ensures { StaysAlike body.now.image.now body.now.r known.old known.new result }
+{
+    if pc < body.start || body.end <= pc {
         return true;
     }
     let Some(row) = known.at(pc) else {
@@ -63,7 +70,9 @@ fn pass_from(body: &Body, pc: u16, branch: bool, waiting: &mut Waiting, known: &
 
 /// Rows of a routine flow on from the places that wait, along all its edges until nothing new comes to any place; `false` where two
 /// have no join.
-pub(crate) fn flow_on(body: &Body, waiting: &mut Waiting, known: &mut Known) -> bool {
+pub(crate) fn flow_on(body: &Body, waiting: &mut Waiting, known: &mut Known) -> bool
+    ensures { StaysAlike body.now.image.now body.now.r known.old known.new true }
+{
     for _ in 0..PASSES {
         let Some(pc) = waiting.take() else {
             return true;

@@ -4,6 +4,7 @@ ghost use Rattle.std.specs.Prelude.{◌≡◌, ◌<◌, ◌≤◌, ℕ, true, le
 ghost use Rattle.geos_infer.specs.Flow.{FlowsAnew, HaveFlowed, StaysBefore};
 ghost use Rattle.geos_infer.specs.Reached.{AllFit, FitWhereReached, Keeps};
 ghost use Rattle.geos_infer.specs.Solutions.{NoRowsHoldIn};
+ghost use Rattle.geos_infer.specs.Why.{MeetAlike};
 
 use crate::body::{Body, body_of};
 use crate::descent::descend;
@@ -15,6 +16,7 @@ use crate::seeds::{copy_rows, seed_entry};
 use crate::table::{Known, two_tables};
 use crate::waiting::Waiting;
 use crate::weakened::weaken;
+use crate::weakest::find_weakest;
 use geos_image::Image;
 use std::alloc::{AllocError, Global};
 
@@ -135,30 +137,53 @@ fn find_rows_in(body: &Body, tables: &mut Tables, known: &mut Known) -> bool
     true
 }
 
-/// Finds what is known at each instruction, up to the first routine where two rows have no join;
+/// Finds what is known at each instruction of a routine: the weakest rows that hold, where others are not found; `false` where ways of
+/// control meet with slots that differ in more than marks.
+fn find_some_rows(
+    alloc: Global,
+    body: &Body,
+    tables: &mut Tables,
+    known: &mut Known,
+) -> Result<bool, AllocError>
+    ensures flows { IfOk result (FlowsAnew body.now.image.now body.now.r known.new) }
+    ensures alike { IfOk result (λ found. MeetAlike body.now.image.now body.now.r → found ≡ true) }
+    ensures fit { IfOk result (λ found. found ≡ true → FitWhereReached body.now.image.now body.now.r known.new) }
+    ensures stays { StaysBefore body.now.start known.old known.new }
+{
+    if find_rows_in(body, tables, known) {
+        return Ok(true);
+    }
+    find_weakest(alloc, body, known)
+}
+
+/// Finds what is known at each instruction, up to the first routine where ways of control meet with slots that differ in more than marks;
 /// how many routines there are before it.
 fn find_all_rows(alloc: Global, image: &Image, known: &mut Known) -> Result<u16, AllocError>
     ensures few { IfOk result (λ count. count ≤ length image.now.routines) }
     ensures found { IfOk result (λ count. count ≡ length image.now.routines → HaveFlowed image.now known.new count) }
     ensures none { IfOk result (λ count. count < length image.now.routines → NoRowsHoldIn image.now count) }
+    ensures alike { IfOk result (λ count. count < length image.now.routines → MeetAlike image.now count → ⊥) }
     ensures fit { IfOk result (λ count. (r : ℕ) → r < count → FitWhereReached image.now r known.new) }
 {
     let mut tables = Tables::new(alloc)?;
     for r in 0..image.count() {
-        if !find_rows_in(&body_of(image, r), &mut tables, known) {
+        let found = find_some_rows(alloc, &body_of(image, r), &mut tables, known)?;
+        if !found {
             return Ok(r);
         }
     }
     Ok(image.count())
 }
 
-/// Finds what is known at each instruction, up to the first routine where two rows have no join;
+/// Finds what is known at each instruction, up to the first routine where ways of control meet with slots that differ in more than marks;
 /// and how many routines there are before it.
 pub(crate) fn find_rows(alloc: Global, image: &Image) -> Result<(Known, u16), AllocError>
     ensures few { IfOk result (λ both. both.1 ≤ length image.now.routines) }
     ensures found { IfOk result (λ both. both.1 ≡ length image.now.routines → HaveFlowed image.now both.0 both.1) }
     ensures none { IfOk result (λ both. both.1 < length image.now.routines → NoRowsHoldIn image.now both.1) }
+    ensures alike { IfOk result (λ both. both.1 < length image.now.routines → MeetAlike image.now both.1 → ⊥) }
     ensures fit { IfOk result (λ both. (r : ℕ) → r < both.1 → FitWhereReached image.now r both.0) }
+    ensures met { IfOk result (λ both. (r : ℕ) → r < both.1 → MeetAlike image.now r) }
 {
     let mut known = Known::new(alloc, None)?;
     let routines = find_all_rows(alloc, image, &mut known)?;

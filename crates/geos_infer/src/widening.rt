@@ -1,6 +1,6 @@
 //! What is weakened again and again is given up.
 
-ghost use Rattle.std.specs.Prelude.{◌<◌};
+ghost use Rattle.std.specs.Prelude.{◌≡◌, ◌<◌};
 
 use crate::body::Body;
 use geos_image::{Opcode, Row};
@@ -88,7 +88,9 @@ fn wide_bound(body: &Body, kept: Kept, joined: u16) -> u16 {
 
 /// What is known at a place that was weakened: so much of the joined row, without what changes in it, beside slots and pairs, which
 /// change seldom.
-pub(crate) fn widened(body: &Body, kept: Kept, old: &Row, joined: &Row) -> Row {
+pub(crate) fn widened(body: &Body, kept: Kept, old: &Row, joined: &Row) -> Row
+    ensures { result.slots ≡ joined.now.slots }
+{
     let mut next = *joined;
     if kept.is_join() {
         return next;

@@ -13,7 +13,7 @@ loop-pc-preserved c =
     let body = c.args.body.now in
     let pc = c.loop-pc.pc in
     back-fits-more body.image.now body.r c.args.known.now pc (pc + 1) refl c.loop-pc.invariant (elim c.else-leads_back.branch [
-      | else-leads_back-via-then-leads_back+else-not-edge_fits w ↦ inr (w.edge_fits.ensures.0 w.if-not-edge_fits.false)
+      | else-leads_back-via-then-leads_back+else-not-edge_fits w ↦ inr (w.edge_fits.ensures.fits.0 w.if-not-edge_fits.false)
       | else-leads_back-via-else-leads_back w ↦ inl (c.leads_back.ensures.ahead w.if-leads_back.false)
     ])
 

@@ -5,7 +5,7 @@ use Rattle.geos_verify.specs.Rows.{after}
 use Rattle.geos_infer.specs.Code.{IsPcOf}
 use Rattle.geos_infer.specs.Flow.{known_at, fits_known}
 use Rattle.geos_infer.proofs.Bodies.{in-body}
-use Rattle.geos_infer.proofs.Fitting.{has-there, outside-fits, inside-fits}
+use Rattle.geos_infer.proofs.Fitting.{has-there, outside-fits, inside-fits, weak-fits}
 use Rattle.geos_infer.proofs.fitted.edge_fits.Goals.{else-has_edge-via-then-has_edge+then-body-to+else-to-body, else-has_edge-via-then-has_edge+else-body-to, else-has_edge-via-else-has_edge}
 use Rattle.geos_infer.proofs.fitted.edge_fits.Goals as goal
 
@@ -15,8 +15,8 @@ after-next-requires-clause-edge c =
     has-there body.image.now body.r c.args.known.now c.args.pc c.args.branch c.instr-i.result.now (omega (arith, body.room))
     c.instr-i.ensures.there (sym c.has_edge.ensures ∙ c.if-has_edge.true)
 
-pub returns-then-to-body : goal.returns-then-to-body
-returns-then-to-body c =
+pub returns-then-to-body-clause-fits : goal.returns-then-to-body-clause-fits
+returns-then-to-body-clause-fits c =
     let body = c.args.body.now in
     let image = body.image.now in
     let known = c.args.known.now in
@@ -28,11 +28,11 @@ returns-then-to-body c =
     (in-body body c.edge_end-to.result c.if-body-to.true c.if-to-body.true) in
     inside-fits image body.r known pc branch c.instr-i.result.now (omega (arith, body.room)) c.instr-i.ensures.there
     row next c.fits_known.result (sym (c.at.ensures None) ∙ c.in-Some.is) (sym c.has_edge.ensures ∙ c.if-has_edge.true) inside
-    (c.after-next.ensures ∙ ap (λ (x : Row). after image pc x branch) c.clean.ensures.value) (c.fits_known.ensures
+    (c.after-next.ensures ∙ ap (λ (x : Row). after image pc x branch) c.clean.ensures.value) (c.fits_known.ensures.value
     ∙ ap (λ o. fits_known o next) (c.at-then-to-body.ensures None ∙ ap (known_at known) c.edge_end-to.ensures))
 
-pub returns-else-has_edge : goal.returns-else-has_edge
-returns-else-has_edge c =
+pub returns-else-has_edge-clause-fits : goal.returns-else-has_edge-clause-fits
+returns-else-has_edge-clause-fits c =
     let body = c.args.body.now in
     let image = body.image.now in (
       λ e. outside-fits image body.r c.args.known.now c.args.pc c.args.branch c.instr-i.result.now (omega (arith, body.room))
@@ -45,3 +45,21 @@ returns-else-has_edge c =
           ]),
       λ fit. refl,
     )
+
+-- where the weakest rows are known
+pub returns-then-to-body-clause-weak : goal.returns-then-to-body-clause-weak
+returns-then-to-body-clause-weak c = λ weak.
+    let body = c.args.body.now in
+    let image = body.image.now in
+    let known = c.args.known.now in
+    let pc = c.args.pc in
+    let branch = c.args.branch in
+    let row = c.in-Some.row in
+    let next = c.after-next.result in
+    let inside = subst (λ (n : ℕ). IsPcOf image body.r n) c.edge_end-to.ensures
+    (in-body body c.edge_end-to.result c.if-body-to.true c.if-to-body.true) in
+    weak-fits image body.r known pc branch c.instr-i.result.now (omega (arith, body.room)) c.instr-i.ensures.there
+    row next c.fits_known.result (sym (c.at.ensures None) ∙ c.in-Some.is) (sym c.has_edge.ensures ∙ c.if-has_edge.true) inside
+    (c.after-next.ensures ∙ ap (λ (x : Row). after image pc x branch) c.clean.ensures.value)
+    (λ first read alike. c.fits_known.ensures.weak first (c.at-then-to-body.ensures None ∙ ap (known_at known) c.edge_end-to.ensures ∙ read) alike)
+    weak

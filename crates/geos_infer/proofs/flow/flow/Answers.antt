@@ -20,6 +20,7 @@ loop-pc-init c =
         subst (λ (n : ℕ). FitAhead image body.r c.args.known.now (2 * n)) (sym body.begins) (seeds-fit image body.r c.args.known.now seeded),
         λ want holds. seeds-below image body.r routine.0 want c.args.known.now routine.1 holds seeded,
       );
+      alike = λ meet all. all;
       stays = λ k lt. refl;
     }
 
@@ -64,11 +65,27 @@ loop-pc-preserved c =
                 c.spread_ahead.result c.spread_ahead-in-loop-pc.result c.spread_ahead.ensures.spreads
                 c.spread_ahead-in-loop-pc.ensures.spreads so_far.0 want holds (so_far.1 want holds)).2,
           );
+      alike = λ meet all. (
+          let along = c.spread_ahead.ensures.alike meet (c.loop-pc.invariant.alike meet all) in
+          (c.spread_ahead-in-loop-pc.ensures.alike meet along.1).1
+          );
       stays = λ k lt. (
           let before : k < pc = omega (arith, lt, c.loop-pc.auto.pc) in
           c.spread_ahead-in-loop-pc.ensures.stays k before ∙ c.spread_ahead.ensures.stays k before ∙ c.loop-pc.invariant.stays k lt
           );
     }
+
+-- where ways meet with slots that differ in marks at most, rows have joins
+pub returns-then-not-spread_ahead-clause-alike : goal.returns-then-not-spread_ahead-clause-alike
+returns-then-not-spread_ahead-clause-alike c = λ meet all.
+    let along = c.spread_ahead.ensures.alike meet (c.loop-pc.invariant.alike meet all) in
+    absurd (false≢true (sym c.if-not-spread_ahead.true ∙ along.0))
+
+pub returns-then-not-spread_ahead-2-clause-alike : goal.returns-then-not-spread_ahead-2-clause-alike
+returns-then-not-spread_ahead-2-clause-alike c = λ meet all.
+    let along = c.spread_ahead.ensures.alike meet (c.loop-pc.invariant.alike meet all) in
+    let aside = c.spread_ahead-in-loop-pc.ensures.alike meet along.1 in
+    absurd (false≢true (sym c.if-not-spread_ahead-2.true ∙ aside.0))
 
 -- what is known before the routine stays, also where rows have no join
 pub returns-then-not-spread_ahead-clause-stays : goal.returns-then-not-spread_ahead-clause-stays

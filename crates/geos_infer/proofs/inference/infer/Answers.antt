@@ -1,11 +1,12 @@
-use Rattle.std.proofs.Common.{ℕ, sym, subst, arith}
+use Rattle.std.proofs.Common.{◌<◌, ℕ, length, sym, subst, arith, inl, inr}
 use Rattle.geos_image.specs.Parts.{Parts}
 use Rattle.geos_infer.specs.Flow.{HaveFlowed}
 use Rattle.geos_infer.specs.Constants.{HasLeastConstants, HasCoefficientsForLoops, PaysForLoops, AreLeastFrom}
 use Rattle.geos_infer.specs.Count.{AreCounted}
 use Rattle.geos_infer.specs.Numbers.{numbers_of}
 use Rattle.geos_infer.specs.Reached.{AllHoldWhereReached}
-use Rattle.geos_infer.specs.Theorem.{FindsWhatThereIs, with_points}
+use Rattle.geos_infer.specs.Theorem.{FindsWhatThereIs, NamesRoutine, with_points}
+use Rattle.geos_infer.specs.Why.{MeetAlike}
 use Rattle.geos_infer.proofs.Finding.{found-formed, found-code, found-acceptable, none-accepted, stuck-in, made-formed, made-is, made-code}
 use Rattle.geos_infer.proofs.Answering.{least-given, paid-given, for-given}
 use Rattle.geos_infer.proofs.Reaching.{fit-holds}
@@ -92,3 +93,16 @@ returns-clause-wanted c =
     let codes = found-code image known numbers points c.in_ok-points.ensures in
     let least = subst (λ (n : ℕ). AreLeastFrom image 0 n known numbers) c.in-Ok.ensures.all c.in-Ok.ensures.least in
     subst HasCoefficientsForLoops (sym is) (for-given image c.len-legal.ensures.legal known numbers points c.in_ok-points.ensures codes least)
+
+pub returns-clause-alike : goal.returns-clause-alike
+returns-clause-alike c = λ r lt. c.in_ok-known.ensures.met r (let all = c.in-Ok.ensures.all in omega arith)
+
+pub returns-in-Err-clause-steps : goal.returns-in-Err-clause-steps
+returns-in-Err-clause-steps c = λ r e meet.
+    let image = c.args.skeleton.now in
+    let routines = c.in_ok-known.routines in
+    let lt : r < length image.routines = subst (NamesRoutine image) e c.in-Err.ensures.within in
+    elim (c.in-Err.ensures.none r e) [
+      | inl same ↦ absurd (c.in_ok-known.ensures.alike (omega (arith, same, lt)) (subst (MeetAlike image) same meet))
+      | inr none ↦ none
+    ]

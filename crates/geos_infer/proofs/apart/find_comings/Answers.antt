@@ -1,6 +1,6 @@
 use Rattle.std.proofs.Common.{◌<◌, length, arith}
 use Rattle.geos_infer.proofs.Meeting.{spread-first}
-use Rattle.geos_infer.proofs.apart.find_apart.Goals as goal
+use Rattle.geos_infer.proofs.apart.find_comings.Goals as goal
 
 pub first_apart-requires : goal.first_apart-requires
 first_apart-requires c =
