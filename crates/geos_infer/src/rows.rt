@@ -84,7 +84,7 @@ fn settle(body: &Body, tables: &mut Tables, known: &mut Known) -> bool
     true
 }
 
-/// Finds what is known in a routine wherever control reaches; `false` where two rows have no join.
+/// Finds what is known in a routine wherever control reaches; `false` where two rows have no join, or do not come to hold.
 fn search(body: &Body, tables: &mut Tables, known: &mut Known) -> bool
     ensures flows { FlowsAnew body.now.image.now body.now.r known.new result }
     ensures fit { result ≡ true → AllFit body.now.image.now body.now.r known.new }
@@ -114,7 +114,7 @@ fn complete(body: &Body, others: &Known, known: &mut Known)
     }
 }
 
-/// Finds what is known at each instruction of a routine; `false` where two rows have no join.
+/// Finds what is known at each instruction of a routine; `false` where two rows have no join, or those that flow do not come to hold.
 fn find_rows_in(body: &Body, tables: &mut Tables, known: &mut Known) -> bool
     ensures flows { FlowsAnew body.now.image.now body.now.r known.new result }
     ensures fit { result ≡ true → FitWhereReached body.now.image.now body.now.r known.new }
