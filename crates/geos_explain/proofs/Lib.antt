@@ -9,5 +9,6 @@ mod Noted
 mod Outside
 mod Places
 mod Reached
+mod Spending
 mod Tables
 mod Told

@@ -10,6 +10,7 @@ pub mod Past
 pub mod Ways
 pub mod Arrivals
 pub mod Trace
+pub mod Spent
 pub mod Lost
 pub mod Since
 pub mod Held

@@ -1,9 +1,11 @@
 //! How far a pointer that is not known was followed back: which places were passed, where ways met, and where it was lost.
 
-ghost use Rattle.std.specs.Prelude.{◌≡◌, ◌<◌, Some, slice_get};
+ghost use Rattle.std.specs.Prelude.{◌≡◌, ◌<◌, ◌≤◌, ◌+◌, ℕ, false, length, Some, slice_get};
+ghost use Rattle.geos_flow.specs.declared.edge.Edge.{Edge};
 ghost use Rattle.geos_explain.specs.Places.{IsPlace, IsPcOf, place_of};
 ghost use Rattle.geos_explain.specs.Ways.{AreFirsts};
 ghost use Rattle.geos_explain.specs.Lost.{WhatIsSaidHolds};
+ghost use Rattle.geos_explain.specs.Spent.{IsNothing, IsSpent, IsSpentBut, AreSpent, KeepsSpent};
 ghost use Rattle.geos_explain.specs.Trace.{meeting_at, nowhere_or, end_at, passed, hint_at, arrivals_of, AreBacks};
 ghost use Rattle.geos_explain.specs.Trace.{back_as, back_along, back_from, next_round, rounds, along_lost, traced};
 ghost use Rattle.geos_verify.specs.Places.{places};
@@ -14,7 +16,7 @@ use crate::firsts::{Firsts, bringing, firsts_of, losing};
 use crate::place::Place;
 use crate::routines::comes_alike;
 use crate::ways::{Followed, Way, empty_on};
-use geos_flow::{Edge, Marks, end_of, is_marked, mark, no_marks};
+use geos_flow::{Edge, Marks, Span, end_of, is_marked, mark, no_marks, no_span};
 use geos_verify::Place as KnownPlace;
 
 /// Ways meet, of which one brings a pointer and another does not.
@@ -113,7 +115,7 @@ struct Tracing<'a> {
 
 /// One more place is passed. Where the first ways meet, nothing counts of what else was passed.
 #[tactic(auto, unfolding(crate::specs::Trace::passed))]
-fn pass(trace: &mut Trace, tracing: &Tracing, at: u16)
+fn pass_at(trace: &mut Trace, tracing: &Tracing, at: u16)
     requires place { IsPlace (place_of tracing.now.place.now) }
     requires there { at < 4096 }
     ensures passes { trace.new ≡ passed (place_of tracing.now.place.now) tracing.now.p trace.old at }
@@ -135,6 +137,18 @@ fn pass(trace: &mut Trace, tracing: &Tracing, at: u16)
     trace.meeting = met;
 }
 
+/// The same, and where edges to the place begin waits.
+fn pass(trace: &mut Trace, tracing: &Tracing, waits: &mut Span, at: u16)
+    requires place { IsPlace (place_of tracing.now.place.now) }
+    requires there { at < length tracing.now.place.now.image.now.points }
+    ensures passes { trace.new ≡ passed (place_of tracing.now.place.now) tracing.now.p trace.old at }
+    ensures arrivals { trace.new.arrivals ≡ trace.old.arrivals }
+    ensures keeps { KeepsSpent (place_of tracing.now.place.now) tracing.now.p trace.old waits.old trace.new waits.new }
+{
+    tracing.place.image.graph().widen(waits, at);
+    pass_at(trace, tracing, at);
+}
+
 /// The pointer, and what is known of it on some way to the pc.
 pub(crate) fn hint_at(trace: &Trace, p: u8, from: u16) -> Followed
     ensures { result ≡ hint_at trace.now p from }
@@ -146,11 +160,13 @@ pub(crate) fn hint_at(trace: &Trace, p: u8, from: u16) -> Followed
 }
 
 /// A step back along an edge, by what it comes to: the pointer was lost there, or the instruction is passed, if it was not yet.
-fn step_as(trace: &mut Trace, tracing: &Tracing, edge: Edge, back: Back)
+fn step_as(trace: &mut Trace, tracing: &Tracing, waits: &mut Span, edge: Edge, back: Back)
     requires place { IsPlace (place_of tracing.now.place.now) }
-    requires there { edge.from < 4096 }
+    requires there { edge.from < length tracing.now.place.now.image.now.points }
     ensures steps { trace.new ≡ back_as (place_of tracing.now.place.now) tracing.now.p trace.old edge back }
     ensures arrivals { trace.new.arrivals ≡ trace.old.arrivals }
+    ensures keeps { KeepsSpent (place_of tracing.now.place.now) tracing.now.p trace.old waits.old trace.new waits.new }
+    ensures here { trace.new.found ≡ false → IsNothing trace.new edge back }
 {
     match back {
         Back::Not => {}
@@ -160,7 +176,7 @@ fn step_as(trace: &mut Trace, tracing: &Tracing, edge: Edge, back: Back)
         }
         Back::Lacks => {
             if !is_marked(&trace.passed, usize::from(edge.from)) {
-                pass(trace, tracing, edge.from);
+                pass(trace, tracing, waits, edge.from);
             }
         }
     }
@@ -168,27 +184,39 @@ fn step_as(trace: &mut Trace, tracing: &Tracing, edge: Edge, back: Back)
 
 /// A step back along any edge of the instruction, if it leads to a place that was passed, unless what is looked for was found already.
 #[tactic(auto, unfolding(crate::specs::Trace::back_along))]
-fn step_along(trace: &mut Trace, tracing: &Tracing, edge: Edge, point: &KnownPlace)
+fn step_along(
+    trace: &mut Trace,
+    tracing: &Tracing,
+    waits: &mut Span,
+    edge: Edge,
+    point: &KnownPlace,
+)
     requires place { IsPlace (place_of tracing.now.place.now) }
     requires there { slice_get (places tracing.now.place.now.image.now) edge.from ≡ Some point.now }
     requires inside { IsPcOf (place_of tracing.now.place.now) edge.from }
     requires arrivals { trace.old.arrivals ≡ arrivals_of (place_of tracing.now.place.now) tracing.now.p }
     ensures steps { trace.new ≡ back_along (place_of tracing.now.place.now) tracing.now.p trace.old edge point.now }
     ensures arrivals { trace.new.arrivals ≡ trace.old.arrivals }
+    ensures keeps { KeepsSpent (place_of tracing.now.place.now) tracing.now.p trace.old waits.old trace.new waits.new }
+    ensures here { trace.new.found ≡ false → IsSpent (place_of tracing.now.place.now) tracing.now.p trace.new edge }
 {
     if !trace.found && is_marked(&trace.passed, end_of(edge, &point.instr)) {
-        step_as(trace, tracing, edge, back_at(&tracing.backs, edge));
+        let back = back_at(&tracing.backs, edge);
+        step_as(trace, tracing, waits, edge, back);
     }
 }
 
 /// The same of both edges of the instruction at a pc, if there is one.
 #[tactic(auto, unfolding(crate::specs::Trace::back_from))]
-fn step_from(trace: &mut Trace, tracing: &Tracing, from: u16)
+fn step_from(trace: &mut Trace, tracing: &Tracing, waits: &mut Span, from: u16)
     requires place { IsPlace (place_of tracing.now.place.now) }
     requires inside { IsPcOf (place_of tracing.now.place.now) from }
     requires arrivals { trace.old.arrivals ≡ arrivals_of (place_of tracing.now.place.now) tracing.now.p }
     ensures steps { trace.new ≡ back_from (place_of tracing.now.place.now) tracing.now.p trace.old from }
     ensures arrivals { trace.new.arrivals ≡ trace.old.arrivals }
+    ensures keeps { KeepsSpent (place_of tracing.now.place.now) tracing.now.p trace.old waits.old trace.new waits.new }
+    ensures here { (edge : Edge) → edge.from ≡ from → trace.new.found ≡ false
+        → IsSpentBut (place_of tracing.now.place.now) tracing.now.p trace.new waits.new edge }
 {
     match tracing.place.image.place(from) {
         Some(point) => {
@@ -196,19 +224,45 @@ fn step_from(trace: &mut Trace, tracing: &Tracing, from: u16)
                 from,
                 branch: false,
             };
-            step_along(trace, tracing, along, point);
-            step_along(trace, tracing, Edge { from, branch: true }, point);
+            let aside = Edge { from, branch: true };
+            step_along(trace, tracing, waits, along, point);
+            step_along(trace, tracing, waits, aside, point);
         }
         None => {}
     }
 }
 
-/// The same of all of the routine's instructions, the last of them first, unless the last such round passed no place.
-fn next_round(trace: &mut Trace, tracing: &Tracing)
+/// The lesser of two numbers.
+fn least(a: u16, b: u16) -> u16
+    ensures first { result ≤ a }
+    ensures second { result ≤ b }
+{
+    if a < b { a } else { b }
+}
+
+/// How many of a routine's instructions there are up to the last that waits.
+fn rest_of(waits: &Span, start: u16, count: u16) -> u16
+    ensures within { result ≤ count }
+    ensures behind { (pc : ℕ) → start + result ≤ pc → pc < start + count → waits.now.high ≤ pc }
+{
+    if waits.high <= start {
+        0
+    } else if waits.high - start < count {
+        waits.high - start
+    } else {
+        count
+    }
+}
+
+/// The same of all of the routine's instructions, the last of them first, unless the last such round passed no place. Those that do
+/// not wait are left out: at them steps back come to nothing more.
+fn next_round(trace: &mut Trace, tracing: &Tracing, waits: &mut Span)
     requires place { IsPlace (place_of tracing.now.place.now) }
     requires arrivals { trace.old.arrivals ≡ arrivals_of (place_of tracing.now.place.now) tracing.now.p }
+    requires spent { AreSpent (place_of tracing.now.place.now) tracing.now.p trace.old waits.old }
     ensures steps { trace.new ≡ next_round (place_of tracing.now.place.now) tracing.now.p trace.old }
     ensures arrivals { trace.new.arrivals ≡ trace.old.arrivals }
+    ensures spent { AreSpent (place_of tracing.now.place.now) tracing.now.p trace.new waits.new }
 {
     if !trace.goes_on {
         return;
@@ -216,33 +270,39 @@ fn next_round(trace: &mut Trace, tracing: &Tracing)
     trace.goes_on = false;
     let place = tracing.place;
     let start = place.image.start(place.r);
-    let mut rest = place.routine.count;
-    while rest > 0 {
+    let mut low = waits.low;
+    let mut rest = rest_of(waits, start, place.routine.count);
+    *waits = no_span();
+    while rest > 0 && low < start + rest {
         rest -= 1;
-        step_from(trace, tracing, start + rest);
+        step_from(trace, tracing, waits, start + rest);
+        low = least(low, waits.low);
     }
 }
 
-/// As many rounds back as the routine has instructions. A round looks at no more than a mark and what is noted of each edge.
+/// As many rounds back as the routine has instructions.
 #[tactic(auto, unfolding(crate::specs::Trace::rounds))]
-fn step_rounds(trace: &mut Trace, tracing: &Tracing)
+fn step_rounds(trace: &mut Trace, tracing: &Tracing, waits: &mut Span)
     requires place { IsPlace (place_of tracing.now.place.now) }
     requires arrivals { trace.old.arrivals ≡ arrivals_of (place_of tracing.now.place.now) tracing.now.p }
+    requires spent { AreSpent (place_of tracing.now.place.now) tracing.now.p trace.old waits.old }
     ensures steps { trace.new ≡ rounds (place_of tracing.now.place.now) tracing.now.p trace.old tracing.now.place.now.routine.now.count }
     ensures arrivals { trace.new.arrivals ≡ trace.old.arrivals }
 {
     for n in 0..tracing.place.routine.count {
-        next_round(trace, tracing);
+        next_round(trace, tracing, waits);
     }
 }
 
 /// A step back along a way that does not bring the pointer, unless it is known why not; nothing else was passed before.
 #[tactic(auto, unfolding(crate::specs::Trace::aside))]
-fn step_along_lost(trace: &mut Trace, tracing: &Tracing, lost: Way)
+fn step_along_lost(trace: &mut Trace, tracing: &Tracing, waits: &mut Span, lost: Way)
     requires { IsPlace (place_of tracing.now.place.now) }
     ensures steps { trace.new ≡ along_lost (place_of tracing.now.place.now) tracing.now.p trace.old lost }
     ensures arrivals { trace.new.arrivals ≡ trace.old.arrivals }
+    ensures spent { AreSpent (place_of tracing.now.place.now) tracing.now.p trace.new waits.new }
 {
+    *waits = no_span();
     trace.passed = no_marks();
     trace.goes_on = false;
     trace.found = trace.end.is_some();
@@ -254,7 +314,7 @@ fn step_along_lost(trace: &mut Trace, tracing: &Tracing, lost: Way)
             Some(point) => {
                 let followed = hint_at(trace, tracing.p, edge.from);
                 let back = back_of(tracing.place, followed, edge, point);
-                step_as(trace, tracing, edge, back);
+                step_as(trace, tracing, waits, edge, back);
             }
             None => {}
         },
@@ -283,12 +343,13 @@ pub(crate) fn traced(place: &Place, p: u8) -> Trace
         firsts: firsts_of(place, p),
         backs: all_backs(place, p, &trace.arrivals),
     };
-    pass(&mut trace, &tracing, place.pc);
-    step_rounds(&mut trace, &tracing);
+    let mut waits = no_span();
+    pass(&mut trace, &tracing, &mut waits, place.pc);
+    step_rounds(&mut trace, &tracing, &mut waits);
     match trace.meeting {
         Some(meeting) => {
-            step_along_lost(&mut trace, &tracing, meeting.lost);
-            step_rounds(&mut trace, &tracing);
+            step_along_lost(&mut trace, &tracing, &mut waits, meeting.lost);
+            step_rounds(&mut trace, &tracing, &mut waits);
         }
         None => {}
     }

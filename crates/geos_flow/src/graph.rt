@@ -5,6 +5,7 @@ ghost use Rattle.geos_flow.specs.Edges.{number_of};
 ghost use Rattle.geos_flow.specs.Graphs.{AreInto, behind_of};
 
 use crate::edge::{Edge, end_in, number_of};
+use crate::span::{Span, widened};
 use geos_image::Image;
 
 /// An image, and for each of its pcs the edges that lead there, as a list: the first one, and behind each the next.
@@ -39,6 +40,11 @@ fn note(
 }
 
 impl<'a> Graph<'a> {
+    ghost use Rattle.std.specs.Prelude.{Some};
+    ghost use Rattle.geos_flow.specs.declared.edge.Edge.{Edge};
+    ghost use Rattle.geos_flow.specs.Edges.{end_in};
+    ghost use Rattle.geos_flow.specs.Spans.{IsWithin, Widens};
+
     /// The edges of the image.
     pub fn of(image: &'a Image) -> Graph<'a>
         ensures { result.image.now ≡ image.now }
@@ -74,5 +80,18 @@ impl<'a> Graph<'a> {
         ensures { result ≡ behind_of self.now.behind edge }
     {
         self.behind[number_of(edge)]
+    }
+
+    /// Widens a span to the pcs from which edges lead to one.
+    pub fn widen(&self, span: &mut Span, to: u16)
+        requires { to < 4096 }
+        ensures begins { (edge : Edge) → end_in self.now.image.now edge ≡ Some to → IsWithin span.new edge.from }
+        ensures widens { Widens span.old span.new }
+    {
+        let mut at = self.first(to);
+        while let Some(edge) = at {
+            *span = widened(*span, edge.from);
+            at = self.next(edge);
+        }
     }
 }
