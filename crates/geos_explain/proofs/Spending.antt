@@ -8,10 +8,10 @@ use Rattle.geos_verify.specs.Places.{places}
 use Rattle.geos_verify.specs.Rows.{pointer_at, is_stale, after, has_edge}
 use Rattle.geos_image.specs.Parts.{start_of}
 use Rattle.geos_flow.specs.declared.edge.Edge.{Edge}
-use Rattle.geos_flow.specs.declared.span.Span.{Span}
+use Rattle.geos_flow.specs.declared.range.PcRange.{PcRange}
 use Rattle.geos_flow.specs.Edges.{end_of, end_in}
 use Rattle.geos_flow.specs.Marks.{no_marks, marked, is_marked}
-use Rattle.geos_flow.specs.Spans.{IsWithin, Widens}
+use Rattle.geos_flow.specs.Ranges.{IsWithin, Widens}
 use Rattle.geos_flow.proofs.Marked.{mark-grows, mark-was, mark-there, none-marked, has-marked, is-marked, marked-low}
 use Rattle.geos_explain.specs.declared.backs.Back.{Back}
 use Rattle.geos_explain.specs.declared.backs.Back.TheVariants.{Loses, Lacks, Not}
@@ -63,21 +63,21 @@ module _ (place : Place) (p : ℕ) where
       subst (λ m. is_marked m at ≡ true) (sym (ap (λ t. t.passed) is ∙ passed-marks old at))
       (is-marked (marked old.passed at) at low (mark-there old.passed at full low))
 
-  pub keeps-same : (trace : Trace) (span wider : Span) → Widens span wider → KeepsSpent place p trace span trace wider
-  keeps-same trace span wider widens = record {
+  pub keeps-same : (trace : Trace) (range wider : PcRange) → Widens range wider → KeepsSpent place p trace range trace wider
+  keeps-same trace range wider widens = record {
     keeps = λ edge inside found spent. elim spent [ inl is ↦ inl is | inr within ↦ inr (widens edge.from within) ];
     found = λ found. found;
   }
 
-  pub keeps-on : (a b c : Trace) (s t u : Span) → KeepsSpent place p a s b t → KeepsSpent place p b t c u → KeepsSpent place p a s c u
+  pub keeps-on : (a b c : Trace) (s t u : PcRange) → KeepsSpent place p a s b t → KeepsSpent place p b t c u → KeepsSpent place p a s c u
   keeps-on a b c s t u first second = record {
     keeps = λ edge inside found spent. second.keeps edge inside found (first.keeps edge inside (second.found found) spent);
     found = λ found. first.found (second.found found);
   }
 
   -- where it was found, nothing is asked
-  pub keeps-found : (old new : Trace) (span wider : Span) → new.found ≡ true → KeepsSpent place p old span new wider
-  keeps-found old new span wider is = record {
+  pub keeps-found : (old new : Trace) (range wider : PcRange) → new.found ≡ true → KeepsSpent place p old range new wider
+  keeps-found old new range wider is = record {
     keeps = λ edge inside found spent. absurd cc;
     found = λ found. absurd cc;
   }
@@ -105,11 +105,11 @@ module _ (place : Place) (p : ℕ) where
         ap (λ a. back_of place (record { p = p; hint = arrival a edge.from }) edge point) same in
         elim nothing [ inl not ↦ inl (back ∙ not) | inr lacks ↦ inr (back ∙ lacks.0, grows edge.from lacks.1) ]
 
-  pub pass-keeps : (old new : Trace) (at : ℕ) (span wider : Span) → new ≡ passed place p old at → new.arrivals ≡ old.arrivals
+  pub pass-keeps : (old new : Trace) (at : ℕ) (range wider : PcRange) → new ≡ passed place p old at → new.arrivals ≡ old.arrivals
       → at < length place.image.points → length place.image.points ≤ 4096
-      → ((edge : Edge) → end_in place.image edge ≡ Some at → IsWithin wider edge.from) → Widens span wider
-      → KeepsSpent place p old span new wider
-  pass-keeps old new at span wider is same low short begins widens = record {
+      → ((edge : Edge) → end_in place.image edge ≡ Some at → IsWithin wider edge.from) → Widens range wider
+      → KeepsSpent place p old range new wider
+  pass-keeps old new at range wider is same low short begins widens = record {
     keeps = λ edge inside found spent. elim spent [
       | inr within ↦ inr (widens edge.from within)
       | inl was ↦ at_edge edge was
@@ -225,7 +225,7 @@ module _ (place : Place) (p : ℕ) where
   over-next trace after first m n next is step = rw (sym next, step, is) refl
 
   -- a round ends where none waits in front
-  module _ (trace : Trace) (waits : Span) (low rest : ℕ) (within : rest ≤ place.routine.count)
+  module _ (trace : Trace) (waits : PcRange) (low rest : ℕ) (within : rest ≤ place.routine.count)
       (lower : (pc : ℕ) → IsWithin waits pc → low ≤ pc)
       (below : (edge : Edge) → IsPcOf place edge.from → edge.from < low → trace.found ≡ false → IsSpentBut place p trace waits edge)
       (ends : (pc : ℕ) → start ≤ pc → pc < start + rest → pc < low) where
@@ -250,7 +250,7 @@ module _ (place : Place) (p : ℕ) where
     }
 
   -- a round begins behind the last that waits
-  module _ (trace : Trace) (waits : Span) (spent : AreSpent place p trace waits) (rest : ℕ) (within : rest ≤ place.routine.count)
+  module _ (trace : Trace) (waits : PcRange) (spent : AreSpent place p trace waits) (rest : ℕ) (within : rest ≤ place.routine.count)
       (behind : (pc : ℕ) → start + rest ≤ pc → pc < start + place.routine.count → waits.high ≤ pc) where
     spent-behind : (edge : Edge) → IsPcOf place edge.from → start + rest ≤ edge.from → trace.found ≡ false → IsSpent place p trace edge
     spent-behind edge inside from found = elim (spent.at edge inside found) [
@@ -262,36 +262,36 @@ module _ (place : Place) (p : ℕ) where
     round-begun = sym (over-spent trace rest place.routine.count within (λ edge from less found.
         spent-behind edge (record { begins = omega (arith, from); ends = less }) from found))
 
-    pub above-begun : (span : Span) (edge : Edge) → IsPcOf place edge.from → start + rest ≤ edge.from → trace.found ≡ false
-        → IsSpentBut place p trace span edge
-    above-begun span edge inside from found = inl (spent-behind edge inside from found)
+    pub above-begun : (range : PcRange) (edge : Edge) → IsPcOf place edge.from → start + rest ≤ edge.from → trace.found ≡ false
+        → IsSpentBut place p trace range edge
+    above-begun range edge inside from found = inl (spent-behind edge inside from found)
 
-    pub below-begun : (span : Span) (edge : Edge) → IsPcOf place edge.from → edge.from < waits.low → trace.found ≡ false
-        → IsSpentBut place p trace span edge
-    below-begun span edge inside less found = elim (spent.at edge inside found) [
+    pub below-begun : (range : PcRange) (edge : Edge) → IsPcOf place edge.from → edge.from < waits.low → trace.found ≡ false
+        → IsSpentBut place p trace range edge
+    below-begun range edge inside less found = elim (spent.at edge inside found) [
       | inl is ↦ inl is
       | inr waiting ↦ (let past = waiting.0 in absurd (omega (arith, past, less)))
     ]
 
   -- where no place was passed, nothing is to come
-  pub none-spent : (trace : Trace) (span : Span) → trace.passed ≡ no_marks → AreSpent place p trace span
-  none-spent trace span is = record {
+  pub none-spent : (trace : Trace) (range : PcRange) → trace.passed ≡ no_marks → AreSpent place p trace range
+  none-spent trace range is = record {
     at = λ edge inside found. inl (λ point there mark. absurd (none-marked (end_of edge point.instr)
         (has-marked no_marks (end_of edge point.instr) (subst (λ m. is_marked m (end_of edge point.instr) ≡ true) is mark))));
   }
 
-  pub keeps-spent : (old new : Trace) (span wider : Span) → AreSpent place p old span → KeepsSpent place p old span new wider
+  pub keeps-spent : (old new : Trace) (range wider : PcRange) → AreSpent place p old range → KeepsSpent place p old range new wider
       → AreSpent place p new wider
-  keeps-spent old new span wider spent keeps = record {
+  keeps-spent old new range wider spent keeps = record {
     at = λ edge inside found. keeps.keeps edge inside found (spent.at edge inside (keeps.found found));
   }
 
   -- both edges of an instruction, one after the other
-  pub both-here : (from : ℕ) → IsPcOf place from → (one new : Trace) (span wider : Span)
-      → (one.found ≡ false → IsSpent place p one (edge_at from false)) → KeepsSpent place p one span new wider
+  pub both-here : (from : ℕ) → IsPcOf place from → (one new : Trace) (range wider : PcRange)
+      → (one.found ≡ false → IsSpent place p one (edge_at from false)) → KeepsSpent place p one range new wider
       → (new.found ≡ false → IsSpent place p new (edge_at from true))
       → (edge : Edge) → edge.from ≡ from → new.found ≡ false → IsSpentBut place p new wider edge
-  both-here from inside one new span wider along keeps aside edge is found =
+  both-here from inside one new range wider along keeps aside edge is found =
       subst (λ n. IsSpentBut place p new wider (edge_at n edge.branch)) (sym is) (by_branch edge.branch)
     where
       by_branch : (b : Bool) → IsSpentBut place p new wider (edge_at from b)

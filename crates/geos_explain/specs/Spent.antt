@@ -3,10 +3,10 @@ use Rattle.std.specs.Prelude.{◌≡◌, ◌⊎◌, ℕ, true, false, Some, slic
 use Rattle.geos_verify.specs.declared.place.Place.{Place as KnownPlace}
 use Rattle.geos_verify.specs.Places.{places}
 use Rattle.geos_flow.specs.declared.edge.Edge.{Edge}
-use Rattle.geos_flow.specs.declared.span.Span.{Span}
+use Rattle.geos_flow.specs.declared.range.PcRange.{PcRange}
 use Rattle.geos_flow.specs.Edges.{end_of}
 use Rattle.geos_flow.specs.Marks.{is_marked}
-use Rattle.geos_flow.specs.Spans.{IsWithin}
+use Rattle.geos_flow.specs.Ranges.{IsWithin}
 use Rattle.geos_explain.specs.declared.backs.Back.{Back}
 use Rattle.geos_explain.specs.declared.backs.Back.TheVariants.{Not, Lacks}
 use Rattle.geos_explain.specs.declared.trace.Trace.{Trace}
@@ -22,15 +22,15 @@ abbrev pub IsSpent : Place → ℕ → Trace → Edge → Type 0
 IsSpent place p trace edge = (point : KnownPlace) → slice_get (places place.image) edge.from ≡ Some point
     → is_marked trace.passed (end_of edge point.instr) ≡ true → IsNothing trace edge (back_of place (hint_at trace p edge.from) edge point)
 
--- the same, or its instruction is within a span
-abbrev pub IsSpentBut : Place → ℕ → Trace → Span → Edge → Type 0
-IsSpentBut place p trace span edge = IsSpent place p trace edge ⊎ IsWithin span edge.from
+-- the same, or its instruction is within a range
+abbrev pub IsSpentBut : Place → ℕ → Trace → PcRange → Edge → Type 0
+IsSpentBut place p trace range edge = IsSpent place p trace edge ⊎ IsWithin range edge.from
 
 -- the same of all edges of the routine, unless what is looked for was found
-pub record AreSpent (place : Place) (p : ℕ) (trace : Trace) (span : Span) : Type 0 where
-  pub at : (edge : Edge) → IsPcOf place edge.from → trace.found ≡ false → IsSpentBut place p trace span edge
+pub record AreSpent (place : Place) (p : ℕ) (trace : Trace) (range : PcRange) : Type 0 where
+  pub at : (edge : Edge) → IsPcOf place edge.from → trace.found ≡ false → IsSpentBut place p trace range edge
 
 -- where that was so of an edge, it is so later
-pub record KeepsSpent (place : Place) (p : ℕ) (old : Trace) (span : Span) (new : Trace) (wider : Span) : Type 0 where
-  pub keeps : (edge : Edge) → IsPcOf place edge.from → new.found ≡ false → IsSpentBut place p old span edge → IsSpentBut place p new wider edge
+pub record KeepsSpent (place : Place) (p : ℕ) (old : Trace) (range : PcRange) (new : Trace) (wider : PcRange) : Type 0 where
+  pub keeps : (edge : Edge) → IsPcOf place edge.from → new.found ≡ false → IsSpentBut place p old range edge → IsSpentBut place p new wider edge
   pub found : new.found ≡ false → old.found ≡ false

@@ -16,7 +16,7 @@ use crate::firsts::{Firsts, bringing, firsts_of, losing};
 use crate::place::Place;
 use crate::routines::comes_alike;
 use crate::ways::{Followed, Way, empty_on};
-use geos_flow::{Edge, Marks, Span, end_of, is_marked, mark, no_marks, no_span};
+use geos_flow::{Edge, Marks, PcRange, end_of, is_marked, mark, no_marks, no_range};
 use geos_verify::Place as KnownPlace;
 
 /// Ways meet, of which one brings a pointer and another does not.
@@ -138,7 +138,7 @@ fn pass_at(trace: &mut Trace, tracing: &Tracing, at: u16)
 }
 
 /// The same, and where edges to the place begin waits.
-fn pass(trace: &mut Trace, tracing: &Tracing, waits: &mut Span, at: u16)
+fn pass(trace: &mut Trace, tracing: &Tracing, waits: &mut PcRange, at: u16)
     requires place { IsPlace (place_of tracing.now.place.now) }
     requires there { at < length tracing.now.place.now.image.now.points }
     ensures passes { trace.new ≡ passed (place_of tracing.now.place.now) tracing.now.p trace.old at }
@@ -160,7 +160,7 @@ pub(crate) fn hint_at(trace: &Trace, p: u8, from: u16) -> Followed
 }
 
 /// A step back along an edge, by what it comes to: the pointer was lost there, or the instruction is passed, if it was not yet.
-fn step_as(trace: &mut Trace, tracing: &Tracing, waits: &mut Span, edge: Edge, back: Back)
+fn step_as(trace: &mut Trace, tracing: &Tracing, waits: &mut PcRange, edge: Edge, back: Back)
     requires place { IsPlace (place_of tracing.now.place.now) }
     requires there { edge.from < length tracing.now.place.now.image.now.points }
     ensures steps { trace.new ≡ back_as (place_of tracing.now.place.now) tracing.now.p trace.old edge back }
@@ -187,7 +187,7 @@ fn step_as(trace: &mut Trace, tracing: &Tracing, waits: &mut Span, edge: Edge, b
 fn step_along(
     trace: &mut Trace,
     tracing: &Tracing,
-    waits: &mut Span,
+    waits: &mut PcRange,
     edge: Edge,
     point: &KnownPlace,
 )
@@ -208,7 +208,7 @@ fn step_along(
 
 /// The same of both edges of the instruction at a pc, if there is one.
 #[tactic(auto, unfolding(crate::specs::Trace::back_from))]
-fn step_from(trace: &mut Trace, tracing: &Tracing, waits: &mut Span, from: u16)
+fn step_from(trace: &mut Trace, tracing: &Tracing, waits: &mut PcRange, from: u16)
     requires place { IsPlace (place_of tracing.now.place.now) }
     requires inside { IsPcOf (place_of tracing.now.place.now) from }
     requires arrivals { trace.old.arrivals ≡ arrivals_of (place_of tracing.now.place.now) tracing.now.p }
@@ -241,7 +241,7 @@ fn least(a: u16, b: u16) -> u16
 }
 
 /// How many of a routine's instructions there are up to the last that waits.
-fn rest_of(waits: &Span, start: u16, count: u16) -> u16
+fn rest_of(waits: &PcRange, start: u16, count: u16) -> u16
     ensures within { result ≤ count }
     ensures behind { (pc : ℕ) → start + result ≤ pc → pc < start + count → waits.now.high ≤ pc }
 {
@@ -256,7 +256,7 @@ fn rest_of(waits: &Span, start: u16, count: u16) -> u16
 
 /// The same of all of the routine's instructions, the last of them first, unless the last such round passed no place. Those that do
 /// not wait are left out: at them steps back come to nothing more.
-fn next_round(trace: &mut Trace, tracing: &Tracing, waits: &mut Span)
+fn next_round(trace: &mut Trace, tracing: &Tracing, waits: &mut PcRange)
     requires place { IsPlace (place_of tracing.now.place.now) }
     requires arrivals { trace.old.arrivals ≡ arrivals_of (place_of tracing.now.place.now) tracing.now.p }
     requires spent { AreSpent (place_of tracing.now.place.now) tracing.now.p trace.old waits.old }
@@ -272,7 +272,7 @@ fn next_round(trace: &mut Trace, tracing: &Tracing, waits: &mut Span)
     let start = place.image.start(place.r);
     let mut low = waits.low;
     let mut rest = rest_of(waits, start, place.routine.count);
-    *waits = no_span();
+    *waits = no_range();
     while rest > 0 && low < start + rest {
         rest -= 1;
         step_from(trace, tracing, waits, start + rest);
@@ -282,7 +282,7 @@ fn next_round(trace: &mut Trace, tracing: &Tracing, waits: &mut Span)
 
 /// As many rounds back as the routine has instructions.
 #[tactic(auto, unfolding(crate::specs::Trace::rounds))]
-fn step_rounds(trace: &mut Trace, tracing: &Tracing, waits: &mut Span)
+fn step_rounds(trace: &mut Trace, tracing: &Tracing, waits: &mut PcRange)
     requires place { IsPlace (place_of tracing.now.place.now) }
     requires arrivals { trace.old.arrivals ≡ arrivals_of (place_of tracing.now.place.now) tracing.now.p }
     requires spent { AreSpent (place_of tracing.now.place.now) tracing.now.p trace.old waits.old }
@@ -296,13 +296,13 @@ fn step_rounds(trace: &mut Trace, tracing: &Tracing, waits: &mut Span)
 
 /// A step back along a way that does not bring the pointer, unless it is known why not; nothing else was passed before.
 #[tactic(auto, unfolding(crate::specs::Trace::aside))]
-fn step_along_lost(trace: &mut Trace, tracing: &Tracing, waits: &mut Span, lost: Way)
+fn step_along_lost(trace: &mut Trace, tracing: &Tracing, waits: &mut PcRange, lost: Way)
     requires { IsPlace (place_of tracing.now.place.now) }
     ensures steps { trace.new ≡ along_lost (place_of tracing.now.place.now) tracing.now.p trace.old lost }
     ensures arrivals { trace.new.arrivals ≡ trace.old.arrivals }
     ensures spent { AreSpent (place_of tracing.now.place.now) tracing.now.p trace.new waits.new }
 {
-    *waits = no_span();
+    *waits = no_range();
     trace.passed = no_marks();
     trace.goes_on = false;
     trace.found = trace.end.is_some();
@@ -343,7 +343,7 @@ pub(crate) fn traced(place: &Place, p: u8) -> Trace
         firsts: firsts_of(place, p),
         backs: all_backs(place, p, &trace.arrivals),
     };
-    let mut waits = no_span();
+    let mut waits = no_range();
     pass(&mut trace, &tracing, &mut waits, place.pc);
     step_rounds(&mut trace, &tracing, &mut waits);
     match trace.meeting {

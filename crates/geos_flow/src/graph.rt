@@ -5,7 +5,7 @@ ghost use Rattle.geos_flow.specs.Edges.{number_of};
 ghost use Rattle.geos_flow.specs.Graphs.{AreInto, behind_of};
 
 use crate::edge::{Edge, end_in, number_of};
-use crate::span::{Span, widened};
+use crate::range::{PcRange, widened};
 use geos_image::Image;
 
 /// An image, and for each of its pcs the edges that lead there, as a list: the first one, and behind each the next.
@@ -43,7 +43,7 @@ impl<'a> Graph<'a> {
     ghost use Rattle.std.specs.Prelude.{Some};
     ghost use Rattle.geos_flow.specs.declared.edge.Edge.{Edge};
     ghost use Rattle.geos_flow.specs.Edges.{end_in};
-    ghost use Rattle.geos_flow.specs.Spans.{IsWithin, Widens};
+    ghost use Rattle.geos_flow.specs.Ranges.{IsWithin, Widens};
 
     /// The edges of the image.
     pub fn of(image: &'a Image) -> Graph<'a>
@@ -82,15 +82,15 @@ impl<'a> Graph<'a> {
         self.behind[number_of(edge)]
     }
 
-    /// Widens a span to the pcs from which edges lead to one.
-    pub fn widen(&self, span: &mut Span, to: u16)
+    /// Widens a range to the pcs from which edges lead to one.
+    pub fn widen(&self, range: &mut PcRange, to: u16)
         requires { to < 4096 }
-        ensures begins { (edge : Edge) → end_in self.now.image.now edge ≡ Some to → IsWithin span.new edge.from }
-        ensures widens { Widens span.old span.new }
+        ensures begins { (edge : Edge) → end_in self.now.image.now edge ≡ Some to → IsWithin range.new edge.from }
+        ensures widens { Widens range.old range.new }
     {
         let mut at = self.first(to);
         while let Some(edge) = at {
-            *span = widened(*span, edge.from);
+            *range = widened(*range, edge.from);
             at = self.next(edge);
         }
     }

@@ -22,9 +22,9 @@ loop-rest-init c =
       within = within;
       arrivals = c.requires.arrivals;
       same = round-begun place p trace waits spent rest within behind;
-      lower = λ pc in_none. absurd (c.no_span.ensures pc in_none);
-      above = above-begun place p trace waits spent rest within behind c.no_span.result;
-      below = below-begun place p trace waits spent rest within behind c.no_span.result;
+      lower = λ pc in_none. absurd (c.no_range.ensures pc in_none);
+      above = above-begun place p trace waits spent rest within behind c.no_range.result;
+      below = below-begun place p trace waits spent rest within behind c.no_range.result;
     }
 
 pub loop-rest-preserved : goal.loop-rest-preserved

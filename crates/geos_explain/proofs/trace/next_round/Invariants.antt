@@ -1,7 +1,7 @@
 use Rattle.std.specs.Prelude.{ℕ, ◌≡◌, ◌≤◌, ◌<◌, ◌+◌, false}
 use Rattle.geos_image.specs.Parts.{start_of}
 use Rattle.geos_flow.specs.declared.edge.Edge.{Edge}
-use Rattle.geos_flow.specs.Spans.{IsWithin}
+use Rattle.geos_flow.specs.Ranges.{IsWithin}
 use Rattle.geos_explain.specs.Places.{place_of, IsPcOf}
 use Rattle.geos_explain.specs.Spent.{IsSpentBut}
 use Rattle.geos_explain.specs.Trace.{arrivals_of, back_over}

@@ -18,11 +18,11 @@ returns-in-Some-clause-spent c =
     let p = c.args.tracing.now.p in
     let old = c.args.trace.now in
     let anew : Trace = record old { passed = c.no_marks-trace.result; goes_on = false; found = c.is_some-trace.result } in
-    keeps-spent place p anew c.step_as.new.trace c.no_span.result c.step_as.new.waits (none-spent place p anew c.no_span.result c.no_marks-trace.ensures)
+    keeps-spent place p anew c.step_as.new.trace c.no_range.result c.step_as.new.waits (none-spent place p anew c.no_range.result c.no_marks-trace.ensures)
     c.step_as.ensures.keeps
 
 pub returns-in-None-clause-spent : goal.returns-in-None-clause-spent
-returns-in-None-clause-spent c = none-spent (place_of c.args.tracing.now.place.now) c.args.tracing.now.p _ c.no_span.result c.no_marks-trace.ensures
+returns-in-None-clause-spent c = none-spent (place_of c.args.tracing.now.place.now) c.args.tracing.now.p _ c.no_range.result c.no_marks-trace.ensures
 
 pub returns-in-Entry-clause-spent : goal.returns-in-Entry-clause-spent
-returns-in-Entry-clause-spent c = none-spent (place_of c.args.tracing.now.place.now) c.args.tracing.now.p _ c.no_span.result c.no_marks-trace.ensures
+returns-in-Entry-clause-spent c = none-spent (place_of c.args.tracing.now.place.now) c.args.tracing.now.p _ c.no_range.result c.no_marks-trace.ensures

@@ -16,5 +16,5 @@ step_rounds-requires-clause-spent c =
       end = None;
       lost = None;
     } in
-    keeps-spent place c.args.p first c.pass.new.trace c.no_span-waits.result c.pass.new.waits
-    (none-spent place c.args.p first c.no_span-waits.result c.no_marks.ensures) c.pass.ensures.keeps
+    keeps-spent place c.args.p first c.pass.new.trace c.no_range-waits.result c.pass.new.waits
+    (none-spent place c.args.p first c.no_range-waits.result c.no_marks.ensures) c.pass.ensures.keeps

@@ -2,7 +2,7 @@ use Rattle.std.proofs.Common.{◌≡◌, ◌<◌, ◌≤◌, ◌+◌, Some, leng
 use Rattle.std.proofs.lemmas.Bool.{cases_eq, cases_lt}
 use Rattle.geos_flow.specs.Edges.{number_of}
 use Rattle.geos_flow.specs.Graphs.{above, IsLast}
-use Rattle.geos_flow.specs.Spans.{IsWithin}
+use Rattle.geos_flow.specs.Ranges.{IsWithin}
 use Rattle.geos_flow.proofs.Into.{number-low, same-edge}
 use Rattle.geos_flow.proofs.Taking.{end-inside}
 use Rattle.geos_flow.proofs.graph.Graph.widen.Goals as goal
