@@ -32,5 +32,6 @@ pub record AreSpent (place : Place) (p : ℕ) (trace : Trace) (range : PcRange) 
 
 -- where that was so of an edge, it is so later
 pub record KeepsSpent (place : Place) (p : ℕ) (old : Trace) (range : PcRange) (new : Trace) (wider : PcRange) : Type 0 where
-  pub keeps : (edge : Edge) → IsPcOf place edge.from → new.found ≡ false → IsSpentBut place p old range edge → IsSpentBut place p new wider edge
+  pub keeps : (edge : Edge) → IsPcOf place edge.from → new.found ≡ false → IsSpentBut place p old range edge
+      → IsSpentBut place p new wider edge
   pub found : new.found ≡ false → old.found ≡ false
