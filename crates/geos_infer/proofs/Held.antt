@@ -1,12 +1,11 @@
 -- Where rows hold wherever control reaches in a routine, ways meet in it with slots that differ in marks at most.
-use Rattle.std.proofs.Common.{◌≡◌, ℕ, ◌+◌, ◌<◌, Bool, true, false, List, [], ◌∷◌, length, Option, Some, slice_get, refl, sym, ap, ◌∙◌, subst, arith}
-use Rattle.std.proofs.lemmas.Bool.{false≢true}
+use Rattle.std.proofs.Common.{◌≡◌, ℕ, Bool, true, List, [], ◌∷◌, Option, Some, slice_get, refl, sym, ap, ◌∙◌, subst}
 use Rattle.std.proofs.lemmas.Option.{same_Some}
 use Rattle.geos_image.specs.declared.row.Row.{Row}
 use Rattle.geos_image.specs.declared.routine.Routine.{Routine}
-use Rattle.geos_image.specs.Parts.{Parts, start_of}
+use Rattle.geos_image.specs.Parts.{Parts}
 use Rattle.geos_verify.specs.Rows.{fits, after}
-use Rattle.geos_infer.specs.Code.{Edge, IsPcOf, instrs_of, edge_row}
+use Rattle.geos_infer.specs.Code.{Edge, instrs_of}
 use Rattle.geos_infer.specs.Flow.{known_at}
 use Rattle.geos_infer.specs.Joins.{agree, clean}
 use Rattle.geos_infer.specs.Reached.{IsReached, FitWhereReached}

@@ -1,5 +1,5 @@
 -- Where ways meet with slots that differ in marks at most, what comes to a place has a join with what is known there.
-use Rattle.std.proofs.Common.{◌≡◌, ℕ, ◌+◌, ◌<◌, Bool, true, false, List, [], ◌∷◌, length, Option, Some, None, set, slice_get, refl, sym, ap, ◌∙◌, subst, arith, inl, inr}
+use Rattle.std.proofs.Common.{◌≡◌, ℕ, ◌+◌, Bool, true, List, [], ◌∷◌, length, Option, Some, None, set, slice_get, refl, sym, ap, ◌∙◌, subst, arith, inl, inr}
 use Rattle.std.proofs.lemmas.Bool.{cases_eq, cases_lt, false≢true}
 use Rattle.std.proofs.lemmas.List.{get_or-set_same, get_or-set_other, set_past}
 use Rattle.std.proofs.lemmas.Option.{none-some}
@@ -15,10 +15,10 @@ use Rattle.geos_infer.specs.declared.flow.Arrival.TheVariants.{Same, Weaker, Apa
 use Rattle.geos_infer.specs.declared.edges.Edge.{Edge}
 use Rattle.geos_infer.specs.Alike.{ComesAlike, AllComeAlike, StaysAlike, GoesAlike}
 use Rattle.geos_infer.specs.Code.{IsPcOf}
-use Rattle.geos_infer.specs.Flow.{known_at, IsJoin, HaveNoJoin, Joins, Arrives, has_joined, Seeded}
+use Rattle.geos_infer.specs.Flow.{known_at, HaveNoJoin, Joins, Arrives, has_joined, Seeded}
 use Rattle.geos_infer.specs.Joins.{slots_agree, agree, clean}
 use Rattle.geos_infer.specs.Reached.{Copies}
-use Rattle.geos_infer.specs.Why.{LeadsTo, ComesFromStart, MeetAlike}
+use Rattle.geos_infer.specs.Why.{LeadsTo, MeetAlike}
 use Rattle.geos_infer.proofs.Alike.{alike-refl, alike-both, alike-sym, after-alike}
 use Rattle.geos_infer.proofs.Flows.{some-is, join-upper}
 use Rattle.geos_infer.proofs.Joining.{agreeing}

@@ -1,4 +1,4 @@
-use Rattle.std.proofs.Common.{true, refl, sym, ◌∙◌, arith}
+use Rattle.std.proofs.Common.{true, refl, sym, ◌∙◌}
 use Rattle.std.proofs.lemmas.Bool.{false≢true}
 use Rattle.geos_infer.proofs.Fitting.{copies-in}
 use Rattle.geos_infer.proofs.Joinable.{copies-alike}

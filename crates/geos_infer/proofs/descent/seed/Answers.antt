@@ -1,4 +1,4 @@
-use Rattle.std.proofs.Common.{Bool, List, Option, None, true, sym, ◌∙◌, ◌≡◌, subst, arith}
+use Rattle.std.proofs.Common.{List, Option, None, true, sym, ◌∙◌, subst}
 use Rattle.std.proofs.lemmas.Bool.{false≢true}
 use Rattle.geos_image.specs.declared.row.Row.{Row}
 use Rattle.geos_infer.specs.Alike.{AllComeAlike}

@@ -1,4 +1,4 @@
-use Rattle.std.proofs.Common.{List, Option, Some, None, sym, ◌∙◌, subst}
+use Rattle.std.proofs.Common.{List, Option, None, sym, ◌∙◌, subst}
 use Rattle.geos_image.specs.declared.row.Row.{Row}
 use Rattle.geos_infer.specs.Alike.{AllComeAlike}
 use Rattle.geos_infer.proofs.Joinable.{alike-set, comes-slots}
