@@ -7,6 +7,7 @@
 //! | law | `other_calls_keep`: calls that may not commit leave what the device holds as it was; `plain_scripts_do_the_same` |
 //! | asked | which calls the machine may be asked for |
 //! | lines | what the lines of a script say |
+//! | words | words that are read one after another, of a line or of a command line |
 //! | lending | runs a routine on blocks that it borrows, which are locked for it |
 //! | output | prints what commands put out, and flushes the writer |
 //! | script | `run_script`, `run_script_strictly`: carry out the commands of a script, and print what calls put out |
@@ -38,6 +39,7 @@ mod script;
 mod session;
 mod traced;
 mod with_names;
+mod words;
 
 pub use crate::bad::{bad_lines, bad_lines_with_names};
 pub use crate::bytes::{Place, get_bytes, put_bytes};
