@@ -33,7 +33,7 @@ module _ (P Q : Allows) (wider : (before now : ℕ) (choice : Choice) → P befo
       (then-wider (Comes P (vlock h) (Ok tt)) (Comes P (deref (vm h) c n) (Err why)) (Comes Q (vlock h) (Ok tt)) (Comes Q (deref (vm h) c n) (Err why))
       (comes-wider P Q wider (vlock h) (Ok tt)) (comes-wider P Q wider (deref (vm h) c n) (Err why)))
       (comes-wider P Q wider (vunlock h) (Ok tt)) before after keeps w)
-  not-opened-wider (Item g i) n why = comes-wider P Q wider (ilock g i n) (Err why)
+  not-opened-wider (Item g i) n why before after keeps w = comes-wider P Q wider (ilock g i n) (Err why) before after keeps w
 
   not-resized-wider : (place : Place) (n : ℕ) (why : Refusal) → Wider (NotResized P place n why) (NotResized Q place n why)
   not-resized-wider (Chunk h c) n why before after keeps (inl w) = inl (comes-wider P Q wider (vlock h) (Err why) before after keeps w)
@@ -46,7 +46,7 @@ module _ (P Q : Allows) (wider : (before now : ℕ) (choice : Choice) → P befo
       (then-wider _ (Comes P (lrealloc (vm h) c n) (Err why)) _ (Comes Q (lrealloc (vm h) c n) (Err why))
       (then-wider (Comes P (vlock h) (Ok tt)) (Comes P (vdirty h) (Ok tt)) (Comes Q (vlock h) (Ok tt)) (Comes Q (vdirty h) (Ok tt)) lock mark) resize)
       unlock before after keeps w)
-  not-resized-wider (Item g i) n why = comes-wider P Q wider (irealloc g i n) (Err why)
+  not-resized-wider (Item g i) n why before after keeps w = comes-wider P Q wider (irealloc g i n) (Err why) before after keeps w
 
   not-stored-wider : (place : Place) (at least : ℕ) (bytes : List ℕ) (why : Refusal)
       → Wider (NotStored P place at least bytes why) (NotStored Q place at least bytes why)

@@ -90,11 +90,11 @@ pub never-fails : {D : Type 0} (medium : Medium D) (old new : KernelOn D) → Is
 never-fails medium old new steady room steadily sees none = sees.1 ∙ (steadily steady room).1 ∙ sym sees.0 ∙ none
 
 -- a script that no command ended ran to its end
-pub to-the-end : {honest : Type 0} {within : Within} {image script : List ℕ} {kernel later : KernelState} {a b : Option (List ℕ)}
-    {refused : Option RefusedCommand} → refused ≡ None → RanScript Lenient honest within image script refused kernel later a b
+pub to-the-end : (honest : Type 0) (within : Within) (image script : List ℕ) (kernel later : KernelState) (a b : Option (List ℕ))
+    (refused : Option RefusedCommand) → refused ≡ None → RanScript Lenient honest within image script refused kernel later a b
     → RanScript Lenient honest within image script None kernel later a b
-to-the-end {honest} {within} {image} {script} {kernel} {later} {a} {b} none ran =
-    subst (λ refused. RanScript Lenient honest within image script refused kernel later a b) none ran
+to-the-end honest within image script kernel later a b refused none ran =
+    subst (λ r. RanScript Lenient honest within image script r kernel later a b) none ran
 
 -- bytes have an image and a script, which runs on a kernel without a block
 module _ (honest : Type 0) (bytes items image script : List ℕ) (kernel later : KernelState) (good : honest)

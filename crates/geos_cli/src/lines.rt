@@ -54,7 +54,7 @@ fn handle_of(word: &[u8]) -> Option<u16>
 /// The registers w0 to w7 that numbers say, up to the first word that names a block: at most eight of them. Missing ones
 /// are 0.
 pub(crate) fn registers_of(numbers: Words) -> Option<[u16; 8]>
-    ensures { result ≡ registers_of (before_blocks (words_of numbers)) }
+    ensures { result ≡ registers_of (before_blocks (words_of numbers.entry)) }
 {
     let mut registers = [0; 8];
     let mut rest = numbers;
@@ -82,7 +82,7 @@ pub(crate) fn registers_of(numbers: Words) -> Option<[u16; 8]>
 
 /// The words from the first one on that names a block.
 fn from_blocks<'a>(numbers: Words<'a>) -> Words<'a>
-    ensures { words_of result ≡ from_blocks (words_of numbers) }
+    ensures { words_of result ≡ from_blocks (words_of numbers.entry) }
 {
     let mut rest = numbers;
     while let Some((word, behind)) = first_of(rest) {
@@ -96,8 +96,8 @@ fn from_blocks<'a>(numbers: Words<'a>) -> Words<'a>
 
 /// The handle for a slot, and the words behind it: the first of them says it where the slot is borrowed; else it is 0.
 fn next_handle<'a>(state: SlotState, blocks: Words<'a>) -> Option<(u16, Words<'a>)>
-    ensures none { IfNone result (next_handle state (words_of blocks) ≡ None) }
-    ensures some { IfSome result (λ next. next_handle state (words_of blocks) ≡ Some (next.0, words_of next.1)) }
+    ensures none { IfNone result (next_handle state (words_of blocks.entry) ≡ None) }
+    ensures some { IfSome result (λ next. next_handle state (words_of blocks.entry) ≡ Some (next.0, words_of next.1)) }
 {
     if state.is_own() {
         return Some((0, blocks));
@@ -110,7 +110,7 @@ fn next_handle<'a>(state: SlotState, blocks: Words<'a>) -> Option<(u16, Words<'a
 /// The handles that words write, one for each slot that is borrowed, in order, with 0 for the others; `None` where there are
 /// fewer or more.
 fn placed(states: &[SlotState; 4], blocks: Words) -> Option<[u16; 4]>
-    ensures { result ≡ placed states.now (words_of blocks) }
+    ensures { result ≡ placed states.now (words_of blocks.entry) }
 {
     let [s0, s1, s2, s3] = *states;
     let (h0, rest) = next_handle(s0, blocks)?;
@@ -125,7 +125,7 @@ fn placed(states: &[SlotState; 4], blocks: Words) -> Option<[u16; 4]>
 
 /// The call of the routine of that name on those numbers and the blocks behind them, if the machine may be asked for it.
 pub(crate) fn call_named(checked: &Checked, name: &[u8], numbers: Words) -> Option<Call>
-    ensures { result ≡ call_named checked.now name.now (words_of numbers) }
+    ensures { result ≡ call_named checked.now name.now (words_of numbers.entry) }
 {
     let routine = routine_named(checked.image(), name)?;
     let words = registers_of(numbers)?;

@@ -16,8 +16,8 @@ pub(crate) enum Words<'a> {
 
 /// The first word, and those behind it; `None` where there is none.
 pub(crate) fn first_of<'a>(words: Words<'a>) -> Option<(&'a [u8], Words<'a>)>
-    ensures none { IfNone result (words_of words ≡ []) }
-    ensures some { IfSome result (λ r. words_of words ≡ r.0.now ∷ words_of r.1) }
+    ensures none { IfNone result (words_of words.entry ≡ []) }
+    ensures some { IfSome result (λ r. words_of words.entry ≡ r.0.now ∷ words_of r.1) }
 {
     match words {
         Words::Line(line) => {

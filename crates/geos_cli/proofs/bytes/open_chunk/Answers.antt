@@ -7,9 +7,13 @@ use Rattle.geos_calls.specs.Calls.{deref}
 use Rattle.geos_kernel.specs.Kernel.{LeadsToSpan}
 use Rattle.geos_kernel.specs.Spans.{IsWritable}
 use Rattle.geos_kernel.specs.View.{IsLocked, MayChange}
+use Rattle.geos_cli.specs.declared.bytes.Place.TheVariants.{Chunk}
+use Rattle.geos_cli.specs.Bytes.{NotOpened}
+use Rattle.geos_cli.specs.Script.{LeadsOn}
 use Rattle.geos_cli.proofs.BytesPut.{left_alone, only_read, unwritten_on}
 use Rattle.geos_cli.proofs.BytesRefused.{chunk-refused, lock-refused}
 use Rattle.geos_cli.proofs.BytesWays.{locked-now, opened-chunk}
+use Rattle.geos_cli.proofs.Sessions.{passed-on}
 use Rattle.geos_cli.proofs.bytes.open_chunk.Goals as goal
 
 pub deref-requires : goal.deref-requires
@@ -60,4 +64,7 @@ returns-in_err-lock-clause-unwritten g c = only_read g.D.Device.medium c.args.ke
 
 pub returns-in_err-lock-clause-refused : goal.returns-in_err-lock-clause-refused
 returns-in_err-lock-clause-refused g c =
-    lock-refused g.D.Device.medium c.args.kernel.now c.lock.new.kernel c.args.h c.args.c c.args.n c.in_err-lock.error c.in_err-lock.ensures.leads
+    let old = c.args.kernel.now in
+    let new = c.lock.new.kernel in
+    passed-on (λ why. LeadsOn g.D.Device.medium old new (λ allows. NotOpened allows (Chunk c.args.h c.args.c) c.args.n why)) _ _
+    c.from_residual.ensures.1 (lock-refused g.D.Device.medium old new c.args.h c.args.c c.args.n _ c.in_err-lock.ensures.leads)

@@ -1,6 +1,10 @@
+use Rattle.std.specs.Prelude.{Some}
+use Rattle.geos_cli.specs.Bytes.{NotPut}
+use Rattle.geos_cli.specs.Script.{LeadsOn}
 use Rattle.geos_cli.proofs.BytesPut.{unwritten_on}
 use Rattle.geos_cli.proofs.BytesRefused.{put-not, put-unmeasured}
 use Rattle.geos_cli.proofs.BytesWays.{put-over}
+use Rattle.geos_cli.proofs.Sessions.{passed-on}
 use Rattle.geos_cli.proofs.bytes.put_over.Goals as goal
 
 pub returns : goal.returns
@@ -19,5 +23,8 @@ returns g c =
 
 pub returns-in_err-least-clause-refused : goal.returns-in_err-least-clause-refused
 returns-in_err-least-clause-refused g c =
-    put-unmeasured g.D.Device.medium c.args.kernel.now c.measure.new.kernel c.args.place c.args.at c.args.bytes.now c.in_err-least.error
-    c.in_err-least.ensures.refused
+    let medium = g.D.Device.medium in
+    let old = c.args.kernel.now in
+    let new = c.measure.new.kernel in
+    passed-on (λ why. LeadsOn medium old new (λ allows. NotPut allows c.args.place (Some c.args.at) c.args.bytes.now why)) _ _
+    c.from_residual.ensures.1 (put-unmeasured medium old new c.args.place c.args.at c.args.bytes.now _ c.in_err-least.ensures.refused)

@@ -1,6 +1,9 @@
+use Rattle.geos_cli.specs.Bytes.{NotStored}
+use Rattle.geos_cli.specs.Script.{LeadsOn}
 use Rattle.geos_cli.proofs.BytesPut.{unwritten_on}
 use Rattle.geos_cli.proofs.BytesRefused.{stored-long, stored-not, stored-unsized}
 use Rattle.geos_cli.proofs.BytesWays.{stored}
+use Rattle.geos_cli.proofs.Sessions.{passed-on}
 use Rattle.geos_cli.proofs.bytes.resize_and_write.Goals as goal
 
 pub returns : goal.returns
@@ -19,11 +22,19 @@ returns g c =
 
 pub returns-in_err-end-clause-refused : goal.returns-in_err-end-clause-refused
 returns-in_err-end-clause-refused g c =
+    let medium = g.D.Device.medium in
     let old = c.args.kernel.now in
-    stored-long g.D.Device.medium old c.args.place c.args.at c.args.least c.args.bytes.now c.in_err-end.error
-    (g.met.D.Device.at_once old.device) c.memory_is_legal.ensures.kept c.in_err-end.ensures.refused
+    passed-on (λ why. LeadsOn medium old old (λ allows. NotStored allows c.args.place c.args.at c.args.least c.args.bytes.now why)) _ _
+    c.from_residual.ensures.1
+    (stored-long medium old c.args.place c.args.at c.args.least c.args.bytes.now _ (g.met.D.Device.at_once old.device)
+    c.memory_is_legal.ensures.kept c.in_err-end.ensures.refused)
 
 pub returns-in_err-resize-clause-refused : goal.returns-in_err-resize-clause-refused
 returns-in_err-resize-clause-refused g c =
-    stored-unsized g.D.Device.medium c.args.kernel.now c.resize.new.kernel c.args.place c.args.at c.args.least c.in_ok-end.end c.greater.result
-    c.args.bytes.now c.in_err-resize.error c.in_ok-end.ensures.end c.greater.ensures c.in_err-resize.ensures.refused
+    let medium = g.D.Device.medium in
+    let old = c.args.kernel.now in
+    let new = c.resize.new.kernel in
+    passed-on (λ why. LeadsOn medium old new (λ allows. NotStored allows c.args.place c.args.at c.args.least c.args.bytes.now why)) _ _
+    c.from_residual-in_err-resize.ensures.1
+    (stored-unsized medium old new c.args.place c.args.at c.args.least c.in_ok-end.end c.greater.result c.args.bytes.now _
+    c.in_ok-end.ensures.end c.greater.ensures c.in_err-resize.ensures.refused)

@@ -1,8 +1,12 @@
 use Rattle.block_handles.specs.Store.{locks_of}
 use Rattle.vm_blocks.specs.View.{vm_slot}
+use Rattle.geos_cli.specs.declared.bytes.Place.TheVariants.{Chunk}
+use Rattle.geos_cli.specs.Bytes.{NotResized}
+use Rattle.geos_cli.specs.Script.{LeadsOn}
 use Rattle.geos_cli.proofs.BytesPut.{left_alone, on-ok, only_read, unwritten_on}
 use Rattle.geos_cli.proofs.BytesRefused.{unsized-chunk, unsized-unlocked}
 use Rattle.geos_cli.proofs.BytesWays.{locked-now, resized-chunk}
+use Rattle.geos_cli.proofs.Sessions.{passed-on}
 use Rattle.geos_cli.proofs.bytes.resize_chunk.Goals as goal
 
 pub mark-requires : goal.mark-requires
@@ -41,4 +45,7 @@ returns-in_err-lock-clause-unwritten g c = only_read g.D.Device.medium c.args.ke
 
 pub returns-in_err-lock-clause-refused : goal.returns-in_err-lock-clause-refused
 returns-in_err-lock-clause-refused g c =
-    unsized-unlocked g.D.Device.medium c.args.kernel.now c.lock.new.kernel c.args.h c.args.c c.args.n c.in_err-lock.error c.in_err-lock.ensures.leads
+    let old = c.args.kernel.now in
+    let new = c.lock.new.kernel in
+    passed-on (λ why. LeadsOn g.D.Device.medium old new (λ allows. NotResized allows (Chunk c.args.h c.args.c) c.args.n why)) _ _
+    c.from_residual.ensures.1 (unsized-unlocked g.D.Device.medium old new c.args.h c.args.c c.args.n _ c.in_err-lock.ensures.leads)

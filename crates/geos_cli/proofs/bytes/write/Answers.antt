@@ -1,4 +1,5 @@
 use Rattle.std.proofs.Common.{arith, subst}
+use Rattle.std.specs.Prelude.{IfErr}
 use Rattle.geos_terms.specs.declared.name.Name.{Name}
 use Rattle.geos_kernel.specs.View.{IsLocked}
 use Rattle.geos_cli.specs.Bytes.{NotOpened}
@@ -6,6 +7,7 @@ use Rattle.geos_cli.specs.Script.{LeadsOn}
 use Rattle.geos_cli.proofs.BytesMarks.{opened-mark}
 use Rattle.geos_cli.proofs.BytesPut.{unwritten_on}
 use Rattle.geos_cli.proofs.BytesWays.{written-there}
+use Rattle.geos_cli.proofs.Sessions.{passed-on}
 use Rattle.geos_cli.proofs.bytes.write.Goals as goal
 
 pub store-requires-clause-writable : goal.store-requires-clause-writable
@@ -40,5 +42,9 @@ returns g c =
 
 pub returns-in_err-span-clause-refused : goal.returns-in_err-span-clause-refused
 returns-in_err-span-clause-refused g c =
-    subst (λ n. LeadsOn g.D.Device.medium c.args.kernel.now c.open.new.kernel (λ allows. NotOpened allows c.args.place n c.in_err-span.error))
-    c.requires.end c.in_err-span.ensures.refused
+    let medium = g.D.Device.medium in
+    let old = c.args.kernel.now in
+    let new = c.open.new.kernel in
+    subst (λ n. IfErr c.from_residual.result (λ why. LeadsOn medium old new (λ allows. NotOpened allows c.args.place n why))) c.requires.end
+    (passed-on (λ why. LeadsOn medium old new (λ allows. NotOpened allows c.args.place c.args.end why)) _ _ c.from_residual.ensures.1
+    c.in_err-span.ensures.refused)

@@ -44,7 +44,7 @@ returns-in-Err g c =
     let call = c.args.call.now in
     let old = c.args.kernel.now in
     let locked = c.lock_all.new.kernel in
-    let new = c.unlock_all-in-Err.new.kernel in
+    let new = c.unlock_all.new.kernel in
     let slots = entry-of image call.routine c.routine.result.now
     (subst (λ (i : Parts). slice_get i.routines call.routine ≡ Some c.routine.result.now) c.image.ensures.image c.routine.ensures) in
     let lent = c.as_slice.ensures.value ∙ c.lent_handles-lent.ensures ∙ ap (λ s. lent_handles s call.handles) slots in
@@ -57,22 +57,22 @@ returns-in-Err g c =
           c.in-Err.ensures.within c.in-Err.refusal c.in-Err.ensures.refused
           (subst (λ hs. Leads (medium.honest locked.device) (Throughout medium locked.device new.device) locked.core
           new.core (Unlocks (IsAllowed (medium.honest locked.device)) (take c.in-Err.locked hs)))
-          (c.as_slice-in-Err.ensures.value ∙ sym c.as_slice.ensures.value) c.unlock_all-in-Err.ensures.leads));
+          (c.as_slice-in-Err.ensures.value ∙ sym c.as_slice.ensures.value) c.unlock_all.ensures.leads));
       there = tt;
       counts = tt;
       honest = (
-        (λ h. c.lock_all.ensures.honest.0 (c.unlock_all-in-Err.ensures.honest.0 h)),
-        (λ h. c.unlock_all-in-Err.ensures.honest.1 (c.lock_all.ensures.honest.1 h)),
+        (λ h. c.lock_all.ensures.honest.0 (c.unlock_all.ensures.honest.0 h)),
+        (λ h. c.unlock_all.ensures.honest.1 (c.lock_all.ensures.honest.1 h)),
       );
       unlocked = λ h handle.
           omega (
             arith,
-            c.unlock_all-in-Err.ensures.counts h,
+            c.unlock_all.ensures.counts h,
             c.in-Err.ensures.fewer h,
             c.requires.unlocked h handle,
             ap (λ hs. times h (take c.in-Err.locked hs)) (c.as_slice-in-Err.ensures.value ∙ sym c.as_slice.ensures.value),
           );
-      sees = (c.lock_all.ensures.sees.0, c.unlock_all-in-Err.ensures.sees.1);
+      sees = (c.lock_all.ensures.sees.0, c.unlock_all.ensures.sees.1);
       steadily = steadily_then medium (vm_file_of old) (vm_file_of locked) (vm_file_of new) c.lock_all.ensures.steadily
-          c.unlock_all-in-Err.ensures.steadily;
+          c.unlock_all.ensures.steadily;
     }

@@ -18,7 +18,7 @@ returns-in-Ok-clause-ran g c =
     c.in_ok-kernel.ensures.memory c.in_ok-kernel.ensures.failures
     (never-fails medium c.in_ok-kernel.kernel c.run_script.new.kernel c.in_ok-kernel.ensures.steady
     c.in_ok-kernel.ensures.room c.run_script.ensures.steadily c.run_script.ensures.sees c.in_ok-kernel.ensures.failures)
-    _ _ _ (to-the-end (c.in-Ok.ensures.lenient refl) c.in-Ok.ensures.ran) c.flush.ensures.bytes)
+    _ _ _ (to-the-end _ _ _ _ _ _ _ _ _ (c.in-Ok.ensures.lenient refl) c.in-Ok.ensures.ran) c.flush.ensures.bytes)
 
 pub returns-in-Ok-clause-stopped : goal.returns-in-Ok-clause-stopped
 returns-in-Ok-clause-stopped g c =
@@ -28,7 +28,7 @@ returns-in-Ok-clause-stopped g c =
     c.in_ok-kernel.ensures.memory c.in_ok-kernel.ensures.failures
     (never-fails medium c.in_ok-kernel.kernel c.run_script.new.kernel c.in_ok-kernel.ensures.steady
     c.in_ok-kernel.ensures.room c.run_script.ensures.steadily c.run_script.ensures.sees c.in_ok-kernel.ensures.failures)
-    _ _ _ (to-the-end (c.in-Ok.ensures.lenient refl) c.in-Ok.ensures.ran) c.flush.ensures.bytes)
+    _ _ _ (to-the-end _ _ _ _ _ _ _ _ _ (c.in-Ok.ensures.lenient refl) c.in-Ok.ensures.ran) c.flush.ensures.bytes)
 
 pub returns-clause-stopped : goal.returns-clause-stopped
 returns-clause-stopped g c is =
@@ -46,7 +46,7 @@ returns-in-Ok-clause-due g c =
     c.in_ok-image.ensures.script c.deref.ensures.value c.in_ok-kernel.ensures.tied c.in_ok-kernel.ensures.memory
     c.in_ok-kernel.ensures.failures (never-fails medium c.in_ok-kernel.kernel c.run_script.new.kernel
     c.in_ok-kernel.ensures.steady c.in_ok-kernel.ensures.room c.run_script.ensures.steadily c.run_script.ensures.sees
-    c.in_ok-kernel.ensures.failures) _ _ (to-the-end (c.in-Ok.ensures.lenient refl) c.in-Ok.ensures.ran))
+    c.in_ok-kernel.ensures.failures) _ _ (to-the-end _ _ _ _ _ _ _ _ _ (c.in-Ok.ensures.lenient refl) c.in-Ok.ensures.ran))
 
 pub returns-in-Ok-clause-nothing_written : goal.returns-in-Ok-clause-nothing_written
 returns-in-Ok-clause-nothing_written g c = only-write _ _ c.flush.result c.flush.ensures.failed
