@@ -1,5 +1,5 @@
 -- Marks of blocks and groups along the calls on the bytes of a place.
-use Rattle.std.proofs.Common.{◌≡◌, ◌∙◌, ◌<◌, ℕ, true, false, List, refl, sym, ap, arith}
+use Rattle.std.proofs.Common.{◌≡◌, ◌∙◌, ◌<◌, ℕ, true, List, refl, sym, ap, arith}
 use Rattle.std.specs.Prelude.{◌↔◌, not, OnOk, Result, Ok, Err}
 use Rattle.geos_calls.specs.declared.call.Change.TheVariants.{Lrealloc}
 use Rattle.geos_calls.specs.declared.call.Refer.TheVariants.{Deref}

@@ -15,7 +15,6 @@ use Rattle.geos_kernel.specs.View.{KernelOn, KernelState, SeesDevice, failed_in,
 use Rattle.geos_image.specs.Parts.{Parts}
 use Rattle.geos_input.specs.Hex.{hex_fault, image_bytes, script_lines, IsBadHex}
 use Rattle.geos_cli.specs.declared.script.Mode.TheVariants.{Lenient}
-use Rattle.geos_cli.specs.declared.script.RefusedCommand.{RefusedCommand}
 use Rattle.geos_cli.specs.Script.{commands_of, EndsBy, IsAllowed, Loads, RanScript, Runs, RunsScript, ScriptEndsBy, Stage, StoppedScript, Stops, stage_of}
 use Rattle.geos_text.specs.Words.{most_bytes}
 use Rattle.geos_input.specs.Reading.{Reads}
@@ -88,13 +87,6 @@ pub never-fails : {D : Type 0} (medium : Medium D) (old new : KernelOn D) → Is
     → Steadily medium (vm_file_of old) (vm_file_of new)
     → SeesDevice medium old × SeesDevice medium new → failed_in old.core ≡ 0 → failed_in new.core ≡ 0
 never-fails medium old new steady room steadily sees none = sees.1 ∙ (steadily steady room).1 ∙ sym sees.0 ∙ none
-
--- a script that no command ended ran to its end
-pub to-the-end : (honest : Type 0) (within : Within) (image script : List ℕ) (kernel later : KernelState) (a b : Option (List ℕ))
-    (refused : Option RefusedCommand) → refused ≡ None → RanScript Lenient honest within image script refused kernel later a b
-    → RanScript Lenient honest within image script None kernel later a b
-to-the-end honest within image script kernel later a b refused none ran =
-    subst (λ r. RanScript Lenient honest within image script r kernel later a b) none ran
 
 -- bytes have an image and a script, which runs on a kernel without a block
 module _ (honest : Type 0) (bytes items image script : List ℕ) (kernel later : KernelState) (good : honest)

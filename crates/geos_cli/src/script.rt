@@ -241,25 +241,11 @@ pub(crate) fn load(alloc: Global, image: &[u8]) -> Result<Checked, ScriptFault>
     }
 }
 
-/// Checks an image and runs a script: calls, which print the words that they put out, or `refused` and a number where a block
-/// that they lend can't be locked, and commits (`update`, `save`, `revert`), which print nothing, or `refused` and a number. Each command finds
-/// the kernel's memory as the one before left it, and the kernel keeps what the last one left. The
-/// script is read whole first, and a bad one runs nothing. What commands have printed is flushed
-/// before each that may commit, also a call, and behind it before the next one; behind the last one
-/// it is not flushed.
-///
-/// A lenient script goes on behind a refused command, and `None` is answered. A strict one ends there: the command is answered, once its
-/// `refused` and number are printed, and no command behind it is begun. What a routine's own commits come to is the routine's to
-/// handle, and refuses no call.
-///
-/// Of the faults, the first that is due is answered: `TooLong` where the script has more than
-/// 1,048,576 bytes; `BadImage`; `Rejected`; `BadScript`. `Memory` may come before the first
-/// command. Up to then nothing is asked of the writer, and the kernel is as it was. `Write`
-/// comes where the writer failed. Either it got all that the commands before print and a beginning
-/// of what the last one prints; the kernel stands where that one ended. Or a flush before a command
-/// failed: it got all that those before print, and the kernel stands where they ended. No
-/// other was begun. Where `Write` is not answered, no call of the writer failed.
-pub fn run_script<W: Write, D: Device + Drop>(
+/// Runs a script as `run_script` does, in a mode. A lenient script goes on behind a refused command, and `None` is answered. A strict one
+/// ends there: the command is answered, once its `refused` and number are printed, and no command behind it is begun. Where none is
+/// refused, `None` is answered, and all is as of `run_script`. What a routine's own commits come to is the routine's to handle, and
+/// refuses no call. The faults are those of `run_script`.
+pub fn run_script_in_mode<W: Write, D: Device + Drop>(
     alloc: Global,
     mode: Mode,
     image: &[u8],
@@ -307,4 +293,62 @@ pub fn run_script<W: Write, D: Device + Drop>(
     let checked = load(alloc, image)?;
     let commands = commands_of(alloc, &checked, script)?;
     carry_out_all(mode, &checked, &commands, kernel, out)
+}
+
+/// Checks an image and runs a script: calls, which print the words that they put out, or `refused` and a number where a block
+/// that they lend can't be locked, and commits (`update`, `save`, `revert`), which print nothing, or `refused` and a number. Each command finds
+/// the kernel's memory as the one before left it, and the kernel keeps what the last one left. The
+/// script is read whole first, and a bad one runs nothing. What commands have printed is flushed
+/// before each that may commit, also a call, and behind it before the next one; behind the last one
+/// it is not flushed.
+///
+/// Of the faults, the first that is due is answered: `TooLong` where the script has more than
+/// 1,048,576 bytes; `BadImage`; `Rejected`; `BadScript`. `Memory` may come before the first
+/// command. Up to then nothing is asked of the writer, and the kernel is as it was. `Write`
+/// comes where the writer failed. Either it got all that the commands before print and a beginning
+/// of what the last one prints; the kernel stands where that one ended. Or a flush before a command
+/// failed: it got all that those before print, and the kernel stands where they ended. No
+/// other was begun. Where `Write` is not answered, no call of the writer failed.
+pub fn run_script<W: Write, D: Device + Drop>(
+    alloc: Global,
+    image: &[u8],
+    script: &[u8],
+    kernel: &mut Kernel<D>,
+    out: &mut Counted<W>,
+) -> Result<(), ScriptFault>
+    // No block of the file is locked by others: `Kernel::vm_unlocked` tells it.
+    requires unlocked { NoneLocked kernel.old.core.blocks }
+    // What it printed; and stopped at any moment, opening the file finds what the model's run of the
+    // script has as kept in one of its states.
+    ensures ran { IfOk result (λ _. RanScript Lenient (D.medium.honest kernel.old.device)
+        (Throughout D.medium kernel.old.device kernel.new.device) image.now script.now None kernel.old.core kernel.new.core
+        (W.contents out.old.stream) (W.contents out.new.stream)) }
+    ensures due { IfErr result (ScriptEndsBy image.now script.now) }
+    ensures stopped { IfErr result (λ fault. fault ≡ Write →
+        StoppedScript Lenient (D.medium.honest kernel.old.device) (Throughout D.medium kernel.old.device kernel.new.device)
+        image.now script.now kernel.old.core kernel.new.core
+        (W.contents out.old.stream) (W.contents out.new.stream)) }
+
+    // The device is as honest as it was, no block of the file is locked again, and the count of failures
+    // that bounds refusal 11 is the device's.
+    ensures honest { D.medium.honest kernel.new.device ↔ D.medium.honest kernel.old.device }
+    ensures unlocked { NoneLocked kernel.new.core.blocks }
+    ensures sees { SeesDevice D.medium kernel.old × SeesDevice D.medium kernel.new }
+    // Where no call within the device's length fails, and it has room for the file, none failed.
+    ensures steadily { Steadily D.medium (vm_file_of kernel.old) (vm_file_of kernel.new) }
+
+    // Nothing runs before a fault other than `Write`.
+    ensures kernel_kept { IfErr result (λ fault. fault ≢ Write → kernel.new ≡ kernel.old) }
+
+    // The writer: nothing is asked of it before the first command, and it failed exactly where
+    // `Write` is answered.
+    ensures nothing_written { IfErr result (λ fault. fault ≢ Write → Keeps (W.contents out.old.stream) (W.contents out.new.stream)) }
+    ensures not_asked { IfErr result (λ fault. fault ≢ Write → out.new.asked ≡ out.old.asked) }
+    ensures writer_failed { IfErr result (λ fault. fault ≡ Write → Rose out.old.failures out.new.failures) }
+    ensures writer_kept { KeptUnless Write result out.old.failures out.new.failures }
+{
+    match run_script_in_mode(alloc, Mode::Lenient, image, script, kernel, out) {
+        Ok(_) => Ok(()),
+        Err(fault) => Err(fault),
+    }
 }

@@ -10,7 +10,7 @@ ghost use Rattle.geos_input.specs.Reading.{Reads};
 ghost use Rattle.geos_cli.specs.Session.{RanBytes, StoppedBytes, EndsBytes, RanSession, StoppedSession, EndsSession};
 
 use crate::output::flush;
-use crate::script::{Mode, run_script};
+use crate::script::run_script;
 use geos_input::{Counted, ScriptFault, image_and_script, read_all};
 use geos_kernel::kernel_in_memory;
 use std::alloc::Global;
@@ -33,8 +33,8 @@ fn run_bytes<W: Write>(alloc: Global, bytes: &[u8], out: &mut Counted<W>) -> Res
 {
     let (image, script) = image_and_script(alloc, bytes)?;
     let mut kernel = kernel_in_memory(alloc, REGION)?;
-    match run_script(alloc, Mode::Lenient, &image, script, &mut kernel, out) {
-        Ok(_) => flush(out),
+    match run_script(alloc, &image, script, &mut kernel, out) {
+        Ok(()) => flush(out),
         Err(fault) => Err(fault),
     }
 }

@@ -1,10 +1,10 @@
-use Rattle.std.proofs.Common.{ap, refl}
+use Rattle.std.proofs.Common.{ap}
 use Rattle.block_handles.specs.Store.{locks_in}
 use Rattle.vm_blocks.specs.View.{vm_slot}
 use Rattle.vm_file.specs.Memory.{medium}
 use Rattle.geos_cli.specs.Session.{EndsBytes}
 use Rattle.geos_cli.proofs.Parts.{only-write, rose-since, kept-since}
-use Rattle.geos_cli.proofs.Sessions.{never-fails, passed-on, if-ok, if-fault, hex-ends, if-write, session-due, session-ends, session-ran, session-unflushed, session-stopped, to-the-end}
+use Rattle.geos_cli.proofs.Sessions.{never-fails, passed-on, if-ok, if-fault, hex-ends, if-write, session-due, session-ends, session-ran, session-unflushed, session-stopped}
 use Rattle.geos_cli.proofs.session.run_bytes.Goals as goal
 
 pub returns-in_err-image-clause-due : goal.returns-in_err-image-clause-due
@@ -18,7 +18,7 @@ returns-in-Ok-clause-ran g c =
     c.in_ok-kernel.ensures.memory c.in_ok-kernel.ensures.failures
     (never-fails medium c.in_ok-kernel.kernel c.run_script.new.kernel c.in_ok-kernel.ensures.steady
     c.in_ok-kernel.ensures.room c.run_script.ensures.steadily c.run_script.ensures.sees c.in_ok-kernel.ensures.failures)
-    _ _ _ (to-the-end _ _ _ _ _ _ _ _ _ (c.in-Ok.ensures.lenient refl) c.in-Ok.ensures.ran) c.flush.ensures.bytes)
+    _ _ _ c.in-Ok.ensures.ran c.flush.ensures.bytes)
 
 pub returns-in-Ok-clause-stopped : goal.returns-in-Ok-clause-stopped
 returns-in-Ok-clause-stopped g c =
@@ -28,7 +28,7 @@ returns-in-Ok-clause-stopped g c =
     c.in_ok-kernel.ensures.memory c.in_ok-kernel.ensures.failures
     (never-fails medium c.in_ok-kernel.kernel c.run_script.new.kernel c.in_ok-kernel.ensures.steady
     c.in_ok-kernel.ensures.room c.run_script.ensures.steadily c.run_script.ensures.sees c.in_ok-kernel.ensures.failures)
-    _ _ _ (to-the-end _ _ _ _ _ _ _ _ _ (c.in-Ok.ensures.lenient refl) c.in-Ok.ensures.ran) c.flush.ensures.bytes)
+    _ _ _ c.in-Ok.ensures.ran c.flush.ensures.bytes)
 
 pub returns-clause-stopped : goal.returns-clause-stopped
 returns-clause-stopped g c is =
@@ -46,7 +46,7 @@ returns-in-Ok-clause-due g c =
     c.in_ok-image.ensures.script c.deref.ensures.value c.in_ok-kernel.ensures.tied c.in_ok-kernel.ensures.memory
     c.in_ok-kernel.ensures.failures (never-fails medium c.in_ok-kernel.kernel c.run_script.new.kernel
     c.in_ok-kernel.ensures.steady c.in_ok-kernel.ensures.room c.run_script.ensures.steadily c.run_script.ensures.sees
-    c.in_ok-kernel.ensures.failures) _ _ (to-the-end _ _ _ _ _ _ _ _ _ (c.in-Ok.ensures.lenient refl) c.in-Ok.ensures.ran))
+    c.in_ok-kernel.ensures.failures) _ _ c.in-Ok.ensures.ran)
 
 pub returns-in-Ok-clause-nothing_written : goal.returns-in-Ok-clause-nothing_written
 returns-in-Ok-clause-nothing_written g c = only-write _ _ c.flush.result c.flush.ensures.failed
