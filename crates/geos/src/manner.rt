@@ -5,7 +5,7 @@ ghost use Rattle.vm_blocks.specs.Listed.{NoneLocked};
 use crate::request_fault::RequestFault;
 use geos_cli::{
     CallFault, Counted, EarlyEnd, Form, Mode, RefusedCommand, ScriptFault, Writing, run_call,
-    run_call_in_form, run_script, run_script_in_form, run_script_with_names,
+    run_call_in_form, run_script_in_form, run_script_in_mode, run_script_with_names,
 };
 use geos_kernel::Kernel;
 use geos_scripts::NameUse;
@@ -71,7 +71,7 @@ fn run_script_in<W: Write, D: Device + Drop>(
     let alloc = rt.alloc();
     let form = &manner.form;
     if form.is_plain() {
-        return run_script(alloc, manner.mode, image, script, kernel, out);
+        return run_script_in_mode(alloc, manner.mode, image, script, kernel, out);
     }
     let form = form_of(form);
     run_script_in_form(alloc, form, manner.mode, image, script, kernel, out)
