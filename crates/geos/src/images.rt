@@ -7,7 +7,7 @@ use crate::commands::{
 use crate::request_fault::RequestFault;
 use geos_asm::{AssembleError, with_least_budgets};
 use geos_cli::{MOST_BYTES, ScriptFault};
-use geos_scripts::{BadLines, tell_bad_lines};
+use geos_scripts::{BadLines, NameUse, tell_bad_lines};
 use geos_shell::{print, print_lines, read, write};
 
 /// The most bytes that are read of a file: one more than a text may have, and more than any image has.
@@ -118,7 +118,7 @@ pub(crate) fn explain_script<'a>(
     rt: &HostRuntime,
     image: &'a str,
     script: &'a str,
-    names: bool,
+    names: NameUse,
 ) -> Result<(), RequestFault<'a>> {
     let image = read_image(rt, image)?;
     let script = read(rt, script, MOST_READ)?;

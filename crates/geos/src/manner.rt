@@ -4,10 +4,11 @@ ghost use Rattle.vm_blocks.specs.Listed.{NoneLocked};
 
 use crate::request_fault::RequestFault;
 use geos_cli::{
-    CallFault, Counted, EarlyEnd, Form, RefusedCommand, ScriptFault, Writing, run_call,
-    run_call_in_form, run_script, run_script_in_form, run_script_strictly, run_script_with_names,
+    CallFault, Counted, EarlyEnd, Form, Mode, RefusedCommand, ScriptFault, Writing, run_call,
+    run_call_in_form, run_script_in_form, run_script_in_mode, run_script_with_names,
 };
 use geos_kernel::Kernel;
+use geos_scripts::NameUse;
 use geos_shell::{CallWords, Digits, OutputForm};
 use std::alloc::Global;
 use std::io;
@@ -17,12 +18,19 @@ use vm_file::Device;
 /// How a script or a call is run.
 #[derive(Clone, Copy)]
 pub(crate) struct Manner {
-    /// Whether a script ends at its first refused command.
-    pub(crate) strict: bool,
+    /// What a script does behind a refused command.
+    pub(crate) mode: Mode,
     /// Whether its lines may write names for words that calls put out.
-    pub(crate) names: bool,
+    pub(crate) names: NameUse,
     /// How outputs are written.
     pub(crate) form: OutputForm,
+}
+
+impl Manner {
+    /// So a script or a call is run.
+    pub(crate) fn new(mode: Mode, names: NameUse, form: OutputForm) -> Manner {
+        Manner { mode, names, form }
+    }
 }
 
 /// Standard output behind a buffer, with what is asked of it counted. `ScriptFault::Memory` where
@@ -62,15 +70,11 @@ fn run_script_in<W: Write, D: Device + Drop>(
 {
     let alloc = rt.alloc();
     let form = &manner.form;
-    if !form.is_plain() {
-        let form = form_of(form);
-        return run_script_in_form(alloc, form, manner.strict, image, script, kernel, out);
+    if form.is_plain() {
+        return run_script_in_mode(alloc, manner.mode, image, script, kernel, out);
     }
-    if manner.strict {
-        return run_script_strictly(alloc, image, script, kernel, out);
-    }
-    run_script(alloc, image, script, kernel, out)?;
-    Ok(None)
+    let form = form_of(form);
+    run_script_in_form(alloc, form, manner.mode, image, script, kernel, out)
 }
 
 /// The same of a script whose lines may write names, if they may.
@@ -84,13 +88,15 @@ fn run_lines_in<W: Write, D: Device + Drop>(
 ) -> Result<Option<EarlyEnd>, ScriptFault>
     requires { NoneLocked kernel.old.core.blocks }
 {
-    if manner.names {
-        let form = form_of(&manner.form);
-        return run_script_with_names(rt.alloc(), form, manner.strict, image, script, kernel, out);
-    }
-    match run_script_in(rt, manner, image, script, kernel, out)? {
-        None => Ok(None),
-        Some(refused) => Ok(Some(EarlyEnd::Refused(refused))),
+    match manner.names {
+        NameUse::Allowed => {
+            let form = form_of(&manner.form);
+            run_script_with_names(rt.alloc(), form, manner.mode, image, script, kernel, out)
+        }
+        NameUse::Refused => match run_script_in(rt, manner, image, script, kernel, out)? {
+            None => Ok(None),
+            Some(refused) => Ok(Some(EarlyEnd::Refused(refused))),
+        },
     }
 }
 

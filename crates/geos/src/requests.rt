@@ -10,8 +10,29 @@ use crate::manner::Manner;
 use crate::request_fault::RequestFault;
 use crate::running::{run, session};
 use crate::tracing::trace;
+use geos_cli::Mode;
 use geos_dump::Detail;
+use geos_scripts::NameUse;
 use geos_shell::Request;
+
+/// What a script does behind a refused command.
+fn mode_of(strict: bool) -> Mode {
+    if strict { Mode::Strict } else { Mode::Lenient }
+}
+
+/// Whether lines of a script may write names.
+fn use_of(names: bool) -> NameUse {
+    if names {
+        NameUse::Allowed
+    } else {
+        NameUse::Refused
+    }
+}
+
+/// How much of a VM file is printed.
+fn detail_of(chunks: bool) -> Detail {
+    if chunks { Detail::Bytes } else { Detail::Lines }
+}
 
 /// Does what is asked for.
 pub(crate) fn carry_out<'a>(rt: &HostRuntime, request: Request<'a>) -> Result<(), RequestFault<'a>>
@@ -27,11 +48,7 @@ pub(crate) fn carry_out<'a>(rt: &HostRuntime, request: Request<'a>) -> Result<()
             strict,
             form,
         } => {
-            let manner = Manner {
-                strict,
-                names: true,
-                form,
-            };
+            let manner = Manner::new(mode_of(strict), NameUse::Allowed, form);
             run_call(rt, &manner, image, call, file, region)
         }
         Request::Assemble {
@@ -47,7 +64,7 @@ pub(crate) fn carry_out<'a>(rt: &HostRuntime, request: Request<'a>) -> Result<()
             image,
             script,
             names,
-        } => explain_script(rt, image, script, names),
+        } => explain_script(rt, image, script, use_of(names)),
         Request::New { file, area } => make_file(rt, file, area),
         Request::Run {
             image,
@@ -58,11 +75,7 @@ pub(crate) fn carry_out<'a>(rt: &HostRuntime, request: Request<'a>) -> Result<()
             names,
             form,
         } => {
-            let manner = Manner {
-                strict,
-                names,
-                form,
-            };
+            let manner = Manner::new(mode_of(strict), use_of(names), form);
             run(rt, &manner, image, file, script, region)
         }
         Request::Trace {
@@ -73,11 +86,7 @@ pub(crate) fn carry_out<'a>(rt: &HostRuntime, request: Request<'a>) -> Result<()
         } => trace(rt, image, &words, file, region),
         Request::Put { chunk, at, region } => put(rt, &chunk, at, region),
         Request::Get { chunk, region } => get(rt, &chunk, region),
-        Request::Dump {
-            file,
-            chunks: false,
-        } => print_file(rt, file, Detail::Lines),
-        Request::Dump { file, chunks: true } => print_file(rt, file, Detail::Bytes),
+        Request::Dump { file, chunks } => print_file(rt, file, detail_of(chunks)),
         Request::Map { file, width } => draw_file(rt, file, width),
     }
 }

@@ -1,6 +1,6 @@
 -- Devices to which nothing is written.
 use Rattle.std.proofs.Common.{◌≡◌, ◌∙◌, ℕ, List, Option, refl, subst, sym, inr}
-use Rattle.std.specs.Prelude.{Result, Ok, Err, OnOk}
+use Rattle.std.specs.Prelude.{Result, Ok, Err, IsErrAnd, OnOk}
 use Rattle.geos_terms.specs.declared.refusal.Refusal.{Refusal}
 use Rattle.vm_file.specs.declared.commit.How.TheVariants.{Update}
 use Rattle.geos_kernel.specs.Files.{Commits}
@@ -39,6 +39,11 @@ left_alone medium old new leaves = not_asked medium old.device new.device leaves
 pub on-ok : {A E P : Type 0} (r : Result A E) → P → OnOk r P
 on-ok (Ok done) p = p
 on-ok (Err why) p = tt
+
+-- what holds of a refusal holds where it is passed on
+pub err-passed : {A E : Type 0} (P : Result A E → Type 0) (result : Result A E) (e : E) → IsErrAnd result (λ x. x ≡ e) → P (Err e) → P result
+err-passed P (Ok x) e same h = absurd same
+err-passed P (Err x) e same h = subst (λ y. P (Err y)) (sym same) h
 
 -- an update behind bytes that were put
 pub updated : {D : Type 0} (medium : Medium D) (place : Place) (at : Option ℕ) (bytes : List ℕ) (old between new : KernelOn D)

@@ -31,7 +31,7 @@ use Rattle.geos_machine.specs.Runs.{Throughout}
 use Rattle.geos_machine.proofs.Stops.{stops-first}
 use Rattle.geos_cli.specs.declared.bytes.Place.{Place}
 use Rattle.geos_cli.specs.declared.bytes.Place.TheVariants.{Chunk, Item}
-use Rattle.geos_cli.specs.Bytes.{handle_of, Closes, Gets, Measures, Opened, Opens, Puts, Reads, Resizes, Writes}
+use Rattle.geos_cli.specs.Bytes.{handle_of, Closes, Gets, Measures, Opened, Opens, Puts, Reads, Resizes, Stores, Writes}
 use Rattle.geos_cli.specs.Script.{once, Allows, Comes, IsAllowed, Leads, LeadsOn, Then, Way}
 use Rattle.geos_cli.proofs.Prints.{Wider, comes-wider, then-wider}
 use Rattle.geos_cli.proofs.LentLocks.{done-parts}
@@ -77,6 +77,12 @@ module _ (P Q : Allows) (wider : (before now : ℕ) (choice : Choice) → P befo
         (closes-wider place) before after keeps way,
   )
 
+  pub stores-wider : (place : Place) (at least : ℕ) (bytes : List ℕ) → Wider (Stores P place at least bytes) (Stores Q place at least bytes)
+  stores-wider place at least bytes =
+      let n = max (at + length bytes) least in
+      then-wider (Resizes P place n) (Writes P place at bytes) (Resizes Q place n) (Writes Q place at bytes)
+      (resizes-wider place n) (writes-wider place at bytes)
+
 module _ {D : Type 0} (medium : Medium D) (old new : KernelOn D)
     (at_once : (c : List ℕ) → medium.may_have_left old.device old.device c → medium.may_leave old.device c) (kept : LeavesKept medium old) where
   -- a call of the kernel
@@ -94,7 +100,7 @@ module _ {D : Type 0} (medium : Medium D) (old mid new : KernelOn D) (alike : me
   now = IsAllowed (medium.honest old.device)
 
   -- a way behind another, where more is allowed than it needs
-  on-way : (first second wide : Way) → Wider second wide
+  pub on-way : (first second wide : Way) → Wider second wide
       → Leads (medium.honest old.device) (Throughout medium old.device mid.device) old.core mid.core first
       → Leads (medium.honest mid.device) (Throughout medium mid.device new.device) mid.core new.core second
       → Leads (medium.honest old.device) (Throughout medium old.device new.device) old.core new.core (Then first wide)
@@ -104,7 +110,7 @@ module _ {D : Type 0} (medium : Medium D) (old mid new : KernelOn D) (alike : me
       second wide wider B)
 
   -- as much is allowed
-  as_much : (before after : ℕ) (choice : Choice) → was before after choice → now before after choice
+  pub as_much : (before after : ℕ) (choice : Choice) → was before after choice → now before after choice
   as_much = allowed-alike (medium.honest mid.device) (medium.honest old.device) alike
 
   -- a call of the kernel behind a way
@@ -121,13 +127,6 @@ module _ {D : Type 0} (medium : Medium D) (old mid new : KernelOn D) (alike : me
       → Leads (medium.honest old.device) (Throughout medium old.device new.device) old.core new.core (Then first (Reads now ref i bytes))
   then-reads first ref i bytes A B = on-way first (Reads was ref i bytes) (Reads now ref i bytes) (reads-wider was now as_much ref i bytes) A B
 
-  -- a place is resized behind it
-  pub then-resizes : (first : Way) (place : Place) (n : ℕ)
-      → Leads (medium.honest old.device) (Throughout medium old.device mid.device) old.core mid.core first
-      → LeadsOn medium mid new (λ allows. Resizes allows place n)
-      → Leads (medium.honest old.device) (Throughout medium old.device new.device) old.core new.core (Then first (Resizes now place n))
-  then-resizes first place n A B = on-way first (Resizes was place n) (Resizes now place n) (resizes-wider was now as_much place n) A B
-
   -- bytes are written there behind it
   pub then-writes : (first : Way) (place : Place) (at : ℕ) (bytes : List ℕ)
       → Leads (medium.honest old.device) (Throughout medium old.device mid.device) old.core mid.core first
@@ -135,6 +134,14 @@ module _ {D : Type 0} (medium : Medium D) (old mid new : KernelOn D) (alike : me
       → Leads (medium.honest old.device) (Throughout medium old.device new.device) old.core new.core (Then first (Writes now place at bytes))
   then-writes first place at bytes A B =
       on-way first (Writes was place at bytes) (Writes now place at bytes) (writes-wider was now as_much place at bytes) A B
+
+  -- the place is resized for them before
+  pub then-stores : (first : Way) (place : Place) (at least : ℕ) (bytes : List ℕ)
+      → Leads (medium.honest old.device) (Throughout medium old.device mid.device) old.core mid.core first
+      → LeadsOn medium mid new (λ allows. Stores allows place at least bytes)
+      → Leads (medium.honest old.device) (Throughout medium old.device new.device) old.core new.core (Then first (Stores now place at least bytes))
+  then-stores first place at least bytes A B =
+      on-way first (Stores was place at least bytes) (Stores now place at least bytes) (stores-wider was now as_much place at least bytes) A B
 
 -- ---- locks
 
@@ -157,7 +164,7 @@ refused-left {A} None m x after why n c = absurd (true≢false (ap (λ (p : Resu
 refused-left {A} (Some r) m x after why n c = sym (ap (λ (p : Result A Refusal × Memory). p.1) c)
 
 -- a locked block is listed
-listed-locked : (m : Memory) (h : ℕ) → 0 < locks_of m (vm h) → is_none (listed_at m h) ≡ false
+pub listed-locked : (m : Memory) (h : ℕ) → 0 < locks_of m (vm h) → is_none (listed_at m h) ≡ false
 listed-locked m h some = go (listed_at m h) some
   where
     go : (l : Option VmBlock) → 0 < locks_in (option_map (λ (x : VmBlock). x.block) l) → is_none l ≡ false
@@ -319,36 +326,29 @@ module _ {D : Type 0} (medium : Medium D) where
   resized-item old new g i n (Err why) R = tt
   resized-item old new g i n (Ok done) R = R
 
-  -- bytes were put in the place of all
-  pub put-all : (old resized new : KernelOn D) (place : Place) (end : ℕ) (bytes : List ℕ) (r : Result (Unit {0}) Refusal) → end ≡ 0 + length bytes
-      → (medium.honest resized.device ↔ medium.honest old.device) → LeadsOn medium old resized (λ allows. Resizes allows place end)
-      → OnOk r (LeadsOn medium resized new (λ allows. Writes allows place 0 bytes))
-      → OnOk r (LeadsOn medium old new (λ allows. Puts allows place None bytes))
-  put-all old resized new place end bytes (Err why) e alike R W = tt
-  put-all old resized new place end bytes (Ok done) e alike R W =
-      let same : end ≡ length bytes = omega (arith, e) in
-      then-writes medium old resized new alike (Resizes (IsAllowed (medium.honest old.device)) place (length bytes)) place 0 bytes
-      (subst (λ n. LeadsOn medium old resized (λ allows. Resizes allows place n)) same R) W
+  -- bytes were stored
+  pub stored : (old resized new : KernelOn D) (place : Place) (at least end len : ℕ) (bytes : List ℕ) (r : Result (Unit {0}) Refusal)
+      → end ≡ at + length bytes → len ≡ max end least → (medium.honest resized.device ↔ medium.honest old.device)
+      → LeadsOn medium old resized (λ allows. Resizes allows place len) → OnOk r (LeadsOn medium resized new (λ allows. Writes allows place at bytes))
+      → OnOk r (LeadsOn medium old new (λ allows. Stores allows place at least bytes))
+  stored old resized new place at least end len bytes (Err why) e l alike R W = tt
+  stored old resized new place at least end len bytes (Ok done) e l alike R W =
+      let n = max (at + length bytes) least in
+      let same : len ≡ n = l ∙ ap (λ k. max k least) e in
+      then-writes medium old resized new alike (Resizes (IsAllowed (medium.honest old.device)) place n) place at bytes
+      (subst (λ k. LeadsOn medium old resized (λ allows. Resizes allows place k)) same R) W
 
-  -- or over some
-  pub put-over : (old sized resized new : KernelOn D) (place : Place) (at end n len : ℕ) (bytes : List ℕ) (r : Result (Unit {0}) Refusal)
-      → end ≡ at + length bytes → len ≡ max end n
-      → (medium.honest sized.device ↔ medium.honest old.device) → (medium.honest resized.device ↔ medium.honest sized.device)
-      → LeadsOn medium old sized (λ allows. Measures allows place n) → LeadsOn medium sized resized (λ allows. Resizes allows place len)
-      → OnOk r (LeadsOn medium resized new (λ allows. Writes allows place at bytes))
+  -- bytes were put over some
+  pub put-over : (old sized new : KernelOn D) (place : Place) (at n : ℕ) (bytes : List ℕ) (r : Result (Unit {0}) Refusal)
+      → (medium.honest sized.device ↔ medium.honest old.device) → LeadsOn medium old sized (λ allows. Measures allows place n)
+      → OnOk r (LeadsOn medium sized new (λ allows. Stores allows place at n bytes))
       → OnOk r (LeadsOn medium old new (λ allows. Puts allows place (Some at) bytes))
-  put-over old sized resized new place at end n len bytes (Err why) e l one two M R W = tt
-  put-over old sized resized new place at end n len bytes (Ok done) e l one two M R W =
+  put-over old sized new place at n bytes (Err why) alike M S = tt
+  put-over old sized new place at n bytes (Ok done) alike M S =
       let now = IsAllowed (medium.honest old.device) in
-      let both : medium.honest resized.device ↔ medium.honest old.device = ((λ x. one.0 (two.0 x)), (λ x. two.1 (one.1 x))) in
-      let same : len ≡ max (at + length bytes) n = l ∙ ap (λ k. max k n) e in
-      let measures : Way = Measures now place n in
-      let so : Way = Then measures (Resizes now place (max (at + length bytes) n)) in
       leads-as (medium.honest old.device) (Throughout medium old.device new.device) old.core new.core
-      (Then so (Writes now place at bytes)) (Puts now place (Some at) bytes) (λ before after keeps w. (n, w))
-      (then-writes medium old resized new both so place at bytes
-      (then-resizes medium old sized resized one measures place (max (at + length bytes) n) M
-      (subst (λ k. LeadsOn medium sized resized (λ allows. Resizes allows place k)) same R)) W)
+      (Then (Measures now place n) (Stores now place at n bytes)) (Puts now place (Some at) bytes) (λ before after keeps w. (n, w))
+      (then-stores medium old sized new alike (Measures now place n) place at n bytes M S)
 
 -- ---- bytes that are got
 

@@ -1,8 +1,8 @@
 -- One call that was carried out, or stopped, as the call that words name.
-use Rattle.std.proofs.Common.{◌≡◌, ◌<◌, ◌+◌, ◌∙◌, ℕ, suc, Bool, true, false, List, [], ◌∷◌, length, drop, get_or, drop-cons, Option, Some, None, refl, ap, subst, arith}
+use Rattle.std.proofs.Common.{◌≡◌, ◌<◌, ◌+◌, ◌∙◌, ℕ, Bool, true, false, List, [], ◌∷◌, length, take, Option, Some, None, refl, sym, ap, subst, arith}
 use Rattle.std.specs.Prelude.{is_some, nat_lt}
 use Rattle.std.specs.Borrow.{Bor}
-use Rattle.std.proofs.lemmas.List.{length-map}
+use Rattle.std.proofs.lemmas.List.{length-map, take-map}
 use Rattle.geos_kernel.specs.View.{KernelState}
 use Rattle.geos_image.specs.Parts.{Parts}
 use Rattle.geos_machine.specs.Runs.{Within}
@@ -13,18 +13,20 @@ use Rattle.geos_cli.specs.declared.script.Call.{Call}
 use Rattle.geos_cli.specs.declared.script.Command.TheVariants as command
 use Rattle.geos_cli.specs.declared.script.Mode.TheVariants.{Lenient}
 use Rattle.geos_cli.specs.declared.script.RefusedCommand.{RefusedCommand}
-use Rattle.geos_cli.specs.Script.{on_line, From, IsAllowed, IsBadImage, Leads, RanCommands, StoppedCommands}
+use Rattle.geos_cli.specs.Script.{before_blocks, on_line, From, IsAllowed, IsBadImage, Leads, RanCommands, StoppedCommands}
+use Rattle.geos_cli.proofs.Registers.{before-taken}
 use Rattle.geos_cli.specs.Calls.{texts, Asks, CallEndsBy, RanCall, RunsCall, StoppedCall, StopsCall}
 
--- the word at i stands in front of those behind it
-pub texts-at : (words : List (Bor (List ℕ))) (i : ℕ) (none : Bor (List ℕ)) → i < length words
-    → texts (drop i words) ≡ (get_or words i none).now ∷ texts (drop (i + 1) words)
-texts-at words i none lt =
-    let next : suc i ≡ i + 1 = omega arith in
-    ap texts (drop-cons words i none lt) ∙ ap (λ k. (get_or words i none).now ∷ texts (drop k words)) next
-
+-- as many texts as words
 pub length-texts : (words : List (Bor (List ℕ))) → length (texts words) ≡ length words
 length-texts words = length-map words (λ word. word.now)
+
+-- numbers in front of blocks have none behind them, however many are taken
+pub taken-texts : (k : ℕ) (numbers : List (Bor (List ℕ))) (ws : List (List ℕ)) → before_blocks ws ≡ texts numbers
+    → before_blocks (texts (take k numbers)) ≡ take k (texts numbers)
+taken-texts k numbers ws e =
+    ap before_blocks (sym (take-map (λ word. word.now) k numbers)) ∙ ap (λ ns. before_blocks (take k ns)) (sym e) ∙ before-taken k ws
+    ∙ ap (take k) e
 
 -- what holds below a number, and at it
 pub below-more : (P : ℕ → Type 0) (n : ℕ) → ((k : ℕ) → k < n → P k) → P n → (k : ℕ) → k < n + 1 → P k

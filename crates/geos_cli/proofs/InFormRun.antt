@@ -193,20 +193,16 @@ module _ {D : Type 0} (medium : Medium D) (form : Form) (image : Parts) where
     )
 
 -- the commands of a script on an image that was loaded
-module _ {D : Type 0} (medium : Medium D) (form : Form) (own mode : Mode) (bytes script : List ℕ) (image : Parts)
+module _ {D : Type 0} (medium : Medium D) (form : Form) (mode : Mode) (bytes script : List ℕ) (image : Parts)
     (kernel later : KernelOn D) (a b : Option (List ℕ))
     (short : length script ≤ most_bytes) (loads : Loads bytes (lines script) image) (items : List Numbered)
-    (all : items ≡ commands_of image (lines script)) (as_said : own ≡ mode) where
-  pub script-ran : (refused : Option RefusedCommand) → RanInForm medium form own image items refused kernel later a b
+    (all : items ≡ commands_of image (lines script)) where
+  pub script-ran : (refused : Option RefusedCommand) → RanInForm medium form mode image items refused kernel later a b
       → RanScriptInForm medium form mode bytes script refused kernel later a b
-  script-ran refused ran =
-      let of_script = subst (λ cs. RanInForm medium form own image cs refused kernel later a b) all ran in
-      (image, short, loads, subst (λ m. RanInForm medium form m image (commands_of image (lines script)) refused kernel later a b) as_said of_script)
+  script-ran refused ran = (image, short, loads, subst (λ cs. RanInForm medium form mode image cs refused kernel later a b) all ran)
 
-  pub script-stopped : StoppedInForm medium form own image items kernel later a b → StoppedScriptInForm medium form mode bytes script kernel later a b
-  script-stopped stopped =
-      let of_script = subst (λ cs. StoppedInForm medium form own image cs kernel later a b) all stopped in
-      (image, short, loads, subst (λ m. StoppedInForm medium form m image (commands_of image (lines script)) kernel later a b) as_said of_script)
+  pub script-stopped : StoppedInForm medium form mode image items kernel later a b → StoppedScriptInForm medium form mode bytes script kernel later a b
+  script-stopped stopped = (image, short, loads, subst (λ cs. StoppedInForm medium form mode image cs kernel later a b) all stopped)
 
 -- what is left at a fault
 

@@ -1,5 +1,7 @@
 pub mod BadLaws
+pub mod BytesMarks
 pub mod BytesPut
+pub mod BytesRefused
 pub mod BytesWays
 pub mod CallRuns
 pub mod Commands

@@ -244,19 +244,15 @@ module _ {D : Type 0} (medium : Medium D) (form : Form) (mode : Mode) (image : P
             stopped-at (result, plain, shown_in form image command plain, [], own, sym (append-nil (shown_in form image command plain)), shows)
 
 -- the lines of a script on an image that was loaded
-module _ {D : Type 0} (medium : Medium D) (form : Form) (own mode : Mode) (bytes script : List ℕ) (image : Parts)
+module _ {D : Type 0} (medium : Medium D) (form : Form) (mode : Mode) (bytes script : List ℕ) (image : Parts)
     (kernel later : KernelOn D) (a b : Option (List ℕ))
-    (loads : LoadsNamed bytes script image) (items : List Said) (all : items ≡ lines_said script) (as_said : own ≡ mode) where
-  pub script-ran : (end : Option EarlyEnd) → RanLines medium form own image items end kernel later a b
+    (loads : LoadsNamed bytes script image) (items : List Said) (all : items ≡ lines_said script) where
+  pub script-ran : (end : Option EarlyEnd) → RanLines medium form mode image items end kernel later a b
       → RanNamedScript medium form mode bytes script end kernel later a b
-  script-ran end ran =
-      let of_script = subst (λ ls. RanLines medium form own image ls end kernel later a b) all ran in
-      (image, loads, subst (λ m. RanLines medium form m image (lines_said script) end kernel later a b) as_said of_script)
+  script-ran end ran = (image, loads, subst (λ ls. RanLines medium form mode image ls end kernel later a b) all ran)
 
-  pub script-stopped : StoppedLines medium form own image items kernel later a b → StoppedNamedScript medium form mode bytes script kernel later a b
-  script-stopped stopped =
-      let of_script = subst (λ ls. StoppedLines medium form own image ls kernel later a b) all stopped in
-      (image, loads, subst (λ m. StoppedLines medium form m image (lines_said script) kernel later a b) as_said of_script)
+  pub script-stopped : StoppedLines medium form mode image items kernel later a b → StoppedNamedScript medium form mode bytes script kernel later a b
+  script-stopped stopped = (image, loads, subst (λ ls. StoppedLines medium form mode image ls kernel later a b) all stopped)
 
 -- what is left at a fault of the lines
 pub leaves-bad_named : (image : Parts) (script : List ℕ) (fault : ScriptFault) (kept stopped : Type 0)

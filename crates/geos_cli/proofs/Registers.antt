@@ -70,6 +70,20 @@ before-block word rest e = rw e refl
 pub before-number : (word : List ℕ) (rest : List (List ℕ)) → names_block word ≡ false → before_blocks (word ∷ rest) ≡ word ∷ before_blocks rest
 before-number word rest e = rw e refl
 
+-- one word more in front of them
+taken-one : (k : ℕ) (w : List ℕ) (ws : List (List ℕ)) (b : Bool) → names_block w ≡ b
+    → before_blocks (take k (before_blocks ws)) ≡ take k (before_blocks ws)
+    → before_blocks (take (suc k) (before_blocks (w ∷ ws))) ≡ take (suc k) (before_blocks (w ∷ ws))
+taken-one k w ws true e others = rw (before-block w ws e) refl
+taken-one k w ws false e others =
+    rw (before-number w ws e) (before-number w (take k (before_blocks ws)) e ∙ ap (λ rest. w ∷ rest) others)
+
+-- words in front of blocks have none behind them, however many are taken
+pub before-taken : (k : ℕ) (ws : List (List ℕ)) → before_blocks (take k (before_blocks ws)) ≡ take k (before_blocks ws)
+before-taken zero ws = refl
+before-taken (suc k) [] = refl
+before-taken (suc k) (w ∷ ws) = taken-one k w ws (names_block w) refl (before-taken k ws)
+
 pub from-block : (word : List ℕ) (rest : List (List ℕ)) → names_block word ≡ true → from_blocks (word ∷ rest) ≡ word ∷ rest
 from-block word rest e = rw e refl
 

@@ -1,5 +1,5 @@
 -- Scripts and calls whose outputs are printed in a form.
-use Rattle.std.specs.Prelude.{◌≡◌, ◌⊎◌, ◌≤◌, ℕ, Bool, if◌then◌else◌, List, [], ◌∷◌, ◌++◌, length, Option, Some, None, Result, Err}
+use Rattle.std.specs.Prelude.{◌≡◌, ◌⊎◌, ◌≤◌, ℕ, List, [], ◌∷◌, ◌++◌, length, Option, Some, None, Result, Err}
 use Rattle.std.specs.Str.Lines.{lines}
 use Rattle.std.specs.Io.KnownBytes.{Appends}
 use Rattle.vm_file.specs.Device.{Medium}
@@ -138,10 +138,6 @@ abbrev pub StoppedCallInForm : {D : Type 0} → Medium D → Form → List ℕ �
 StoppedCallInForm medium form bytes name words kernel later old new =
     (image : Parts) × (call : Call) × Asks bytes name words image call
     × StoppedInForm medium form Lenient image (on_line 1 (command.Call call) ∷ []) kernel later old new
-
--- what a script does behind a refused command
-abbrev pub mode_of : Bool → Mode
-mode_of strict = if strict then Strict else Lenient
 
 -- what is left at a fault: all as it was, or behind some commands where the writer failed, or where memory was refused for what one prints
 abbrev pub Leaves : ScriptFault → Type 0 → Type 0 → Type 0

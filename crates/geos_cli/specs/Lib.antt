@@ -6,6 +6,7 @@ pub mod Forms
 pub mod InForm
 pub mod Names
 pub mod Plain
+pub mod Reading
 pub mod Script
 pub mod Session
 pub mod Stages

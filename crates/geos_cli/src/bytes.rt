@@ -1,7 +1,8 @@
 //! The bytes of a chunk of a VM file's block, or of an item, are read or written by calls of the kernel.
 
-ghost use Rattle.std.specs.Prelude.{◌≡◌, ◌↔◌, ◌<◌, ◌≤◌, ◌+◌, max, length, IfOk, OnOk, Ok, Some, None};
-ghost use Rattle.geos_cli.specs.Bytes.{handle_of, Closes, Gets, Measures, Opened, Puts, Resizes, Writes, IsUnwritten, EndsWithUpdate};
+ghost use Rattle.std.specs.Prelude.{◌≡◌, ◌↔◌, ◌<◌, ◌≤◌, ◌+◌, max, length, IfOk, IfErr, OnOk, Ok, Some, None};
+ghost use Rattle.geos_cli.specs.Bytes.{handle_of, Closes, Gets, Measures, Opened, Puts, Resizes, Stores, Writes, IsUnwritten, EndsWithUpdate};
+ghost use Rattle.geos_cli.specs.Bytes.{HasMark, IsTooLong, NotOpened, NotPut, NotResized, NotStored};
 ghost use Rattle.geos_cli.specs.Script.{Comes, LeadsOn};
 ghost use Rattle.geos_calls.specs.Calls as table;
 ghost use Rattle.geos_calls.specs.Effects.{Reference};
@@ -46,6 +47,7 @@ fn open_chunk<D: Device + Drop>(
     n: u16,
 ) -> Result<Span, Refusal>
     ensures opened { IfOk result (Opened D.medium (Place.Chunk h c) n kernel.old kernel.new) }
+    ensures refused { IfErr result (λ why. LeadsOn D.medium kernel.old kernel.new (λ allows. NotOpened allows (Place.Chunk h c) n why)) }
     ensures unwritten { IsUnwritten D.medium kernel.old.device kernel.new.device }
 {
     lock(kernel, h)?;
@@ -68,6 +70,7 @@ fn open_item<D: Device + Drop>(
     n: u16,
 ) -> Result<Span, Refusal>
     ensures opened { IfOk result (Opened D.medium (Place.Item g i) n kernel.old kernel.new) }
+    ensures refused { IfErr result (λ why. LeadsOn D.medium kernel.old kernel.new (λ allows. NotOpened allows (Place.Item g i) n why)) }
     ensures unwritten { IsUnwritten D.medium kernel.old.device kernel.new.device }
 {
     // as in `open_chunk`
@@ -78,6 +81,7 @@ fn open_item<D: Device + Drop>(
 /// Locks the block or the group, and tells where the bytes lie, which are so many at least. Where that is refused, it is not locked.
 fn open<D: Device + Drop>(kernel: &mut Kernel<D>, place: Place, n: u16) -> Result<Span, Refusal>
     ensures opened { IfOk result (Opened D.medium place n kernel.old kernel.new) }
+    ensures refused { IfErr result (λ why. LeadsOn D.medium kernel.old kernel.new (λ allows. NotOpened allows place n why)) }
     ensures unwritten { IsUnwritten D.medium kernel.old.device kernel.new.device }
 {
     match place {
@@ -99,6 +103,7 @@ fn close<D: Device + Drop>(kernel: &mut Kernel<D>, place: Place)
 /// How many bytes there are.
 fn measure<D: Device + Drop>(kernel: &mut Kernel<D>, place: Place) -> Result<u16, Refusal>
     ensures measured { IfOk result (λ n. LeadsOn D.medium kernel.old kernel.new (λ allows. Measures allows place n)) }
+    ensures refused { IfErr result (λ why. LeadsOn D.medium kernel.old kernel.new (λ allows. NotOpened allows place 0 why)) }
     ensures honest { IfOk result (λ _. D.medium.honest kernel.new.device ↔ D.medium.honest kernel.old.device) }
     ensures unwritten { IsUnwritten D.medium kernel.old.device kernel.new.device }
 {
@@ -151,6 +156,7 @@ fn resize_chunk<D: Device + Drop>(
     n: u16,
 ) -> Result<(), Refusal>
     ensures leads { OnOk result (LeadsOn D.medium kernel.old kernel.new (λ allows. Resizes allows (Place.Chunk h c) n)) }
+    ensures refused { IfErr result (λ why. LeadsOn D.medium kernel.old kernel.new (λ allows. NotResized allows (Place.Chunk h c) n why)) }
     ensures honest { OnOk result (D.medium.honest kernel.new.device ↔ D.medium.honest kernel.old.device) }
     ensures unwritten { IsUnwritten D.medium kernel.old.device kernel.new.device }
 {
@@ -169,6 +175,7 @@ fn resize_item<D: Device + Drop>(
     n: u16,
 ) -> Result<(), Refusal>
     ensures leads { OnOk result (LeadsOn D.medium kernel.old kernel.new (λ allows. Resizes allows (Place.Item g i) n)) }
+    ensures refused { IfErr result (λ why. LeadsOn D.medium kernel.old kernel.new (λ allows. NotResized allows (Place.Item g i) n why)) }
     ensures honest { OnOk result (D.medium.honest kernel.new.device ↔ D.medium.honest kernel.old.device) }
     ensures unwritten { IsUnwritten D.medium kernel.old.device kernel.new.device }
 {
@@ -177,12 +184,16 @@ fn resize_item<D: Device + Drop>(
     kernel.irealloc(g, i, n)
 }
 
-/// Gives the chunk or the item so many bytes, and marks its block or group.
+/// Gives the chunk or the item so many bytes, and marks its block or group, which stays marked.
 fn resize<D: Device + Drop>(kernel: &mut Kernel<D>, place: Place, n: u16) -> Result<(), Refusal>
     ensures leads { OnOk result (LeadsOn D.medium kernel.old kernel.new (λ allows. Resizes allows place n)) }
+    ensures refused { IfErr result (λ why. LeadsOn D.medium kernel.old kernel.new (λ allows. NotResized allows place n why)) }
+    ensures marked { OnOk result (HasMark D.medium kernel.new (handle_of place)) }
     ensures honest { OnOk result (D.medium.honest kernel.new.device ↔ D.medium.honest kernel.old.device) }
     ensures unwritten { IsUnwritten D.medium kernel.old.device kernel.new.device }
 {
+    // for a file that the model may know
+    kernel.memory_is_legal();
     match place {
         Place::Chunk(h, c) => resize_chunk(kernel, h, c, n),
         Place::Item(g, i) => resize_item(kernel, g, i, n),
@@ -204,7 +215,7 @@ fn store<D: Device + Drop>(kernel: &mut Kernel<D>, span: Span, at: u16, bytes: &
     kernel.store(span, at, bytes);
 }
 
-/// Writes bytes over those of a place from an offset on, which they are within up to `end`.
+/// Writes bytes over those of a place, whose block or group is marked, from an offset on; they are within it up to `end`.
 fn write<D: Device + Drop>(
     kernel: &mut Kernel<D>,
     place: Place,
@@ -212,15 +223,14 @@ fn write<D: Device + Drop>(
     end: u16,
     bytes: &[u8],
 ) -> Result<(), Refusal>
-    requires { end ≡ at + length bytes.now }
+    requires end { end ≡ at + length bytes.now }
+    requires marked { HasMark D.medium kernel.old (handle_of place) }
     ensures written { OnOk result (LeadsOn D.medium kernel.old kernel.new (λ allows. Writes allows place at bytes.now)) }
+    ensures refused { IfErr result (λ why. LeadsOn D.medium kernel.old kernel.new
+        (λ allows. NotOpened allows place (at + length bytes.now) why)) }
     ensures unwritten { IsUnwritten D.medium kernel.old.device kernel.new.device }
 {
     let span = open(kernel, place, end)?;
-    if !kernel.marked(place.handle()) {
-        close(kernel, place);
-        return Err(Refusal::BadHandle);
-    }
     store(kernel, span, at, bytes);
     close(kernel, place);
     Ok(())
@@ -228,7 +238,8 @@ fn write<D: Device + Drop>(
 
 /// Where bytes from an offset on end; `TooBig` where no chunk is so long.
 fn end_of(at: u16, n: usize) -> Result<u16, Refusal>
-    ensures { IfOk result (λ end. end ≡ at + n) }
+    ensures end { IfOk result (λ end. end ≡ at + n) }
+    ensures refused { IfErr result (λ why. IsTooLong why (at + n)) }
 {
     if n > usize::from(u16::MAX - at) {
         return Err(Refusal::TooBig);
@@ -242,18 +253,23 @@ fn greater(a: u16, b: u16) -> u16
     if a < b { b } else { a }
 }
 
-/// Puts bytes in the place of all that are there, and updates nothing.
-fn put_all<D: Device + Drop>(
+/// Gives a place as many bytes as those end at that are stored from an offset on, or `least` if that is more, and stores them.
+fn resize_and_write<D: Device + Drop>(
     kernel: &mut Kernel<D>,
     place: Place,
+    at: u16,
+    least: u16,
     bytes: &[u8],
 ) -> Result<(), Refusal>
-    ensures put { OnOk result (LeadsOn D.medium kernel.old kernel.new (λ allows. Puts allows place None bytes.now)) }
+    ensures stored { OnOk result (LeadsOn D.medium kernel.old kernel.new (λ allows. Stores allows place at least bytes.now)) }
+    ensures refused { IfErr result (λ why. LeadsOn D.medium kernel.old kernel.new (λ allows. NotStored allows place at least bytes.now why)) }
     ensures unwritten { IsUnwritten D.medium kernel.old.device kernel.new.device }
 {
-    let end = end_of(0, bytes.len())?;
-    resize(kernel, place, end)?;
-    write(kernel, place, 0, end, bytes)
+    // as in `open_chunk`
+    kernel.memory_is_legal();
+    let end = end_of(at, bytes.len())?;
+    resize(kernel, place, greater(end, least))?;
+    write(kernel, place, at, end, bytes)
 }
 
 /// Puts bytes over those from an offset on, and updates nothing.
@@ -264,12 +280,11 @@ fn put_over<D: Device + Drop>(
     bytes: &[u8],
 ) -> Result<(), Refusal>
     ensures put { OnOk result (LeadsOn D.medium kernel.old kernel.new (λ allows. Puts allows place (Some at) bytes.now)) }
+    ensures refused { IfErr result (λ why. LeadsOn D.medium kernel.old kernel.new (λ allows. NotPut allows place (Some at) bytes.now why)) }
     ensures unwritten { IsUnwritten D.medium kernel.old.device kernel.new.device }
 {
     let least = measure(kernel, place)?;
-    let end = end_of(at, bytes.len())?;
-    resize(kernel, place, greater(end, least))?;
-    write(kernel, place, at, end, bytes)
+    resize_and_write(kernel, place, at, least, bytes)
 }
 
 /// Puts the bytes there, as `put_bytes` does, and updates nothing.
@@ -280,24 +295,27 @@ fn put<D: Device + Drop>(
     bytes: &[u8],
 ) -> Result<(), Refusal>
     ensures put { OnOk result (LeadsOn D.medium kernel.old kernel.new (λ allows. Puts allows place at bytes.now)) }
+    ensures refused { IfErr result (λ why. LeadsOn D.medium kernel.old kernel.new (λ allows. NotPut allows place at bytes.now why)) }
     ensures unwritten { IsUnwritten D.medium kernel.old.device kernel.new.device }
 {
     match at {
-        None => put_all(kernel, place, bytes),
+        None => resize_and_write(kernel, place, 0, 0, bytes),
         Some(at) => put_over(kernel, place, at, bytes),
     }
 }
 
 /// Puts bytes in the place of those of a chunk or an item, or, from an offset on, over some of them, behind which it grows; then updates
 /// the VM file. The refusals are those of the kernel's calls: `BadHandle`, `Reserved`, `BadChunk`, `TooBig`, `NoRoom`, `Disk` and those of
-/// a commit. Where a step before the update is refused, nothing was written to the device.
+/// a commit. `Locked` comes where a block of the file is locked. Where a step before the update is refused, nothing was written
+/// to the device.
 pub fn put_bytes<D: Device + Drop>(
     kernel: &mut Kernel<D>,
     place: Place,
     at: Option<u16>,
     bytes: &[u8],
 ) -> Result<(), Refusal>
-    // What is updated are the blocks as they were, with these bytes there: as the model's calls leave them.
+    // What is updated are the blocks as they were, with these bytes there: as the model's calls leave them. A refusal is that of a call
+    // which the model refuses too.
     ensures { EndsWithUpdate D.medium place at bytes.now kernel.old kernel.new result }
 {
     put(kernel, place, at, bytes)?;
@@ -330,6 +348,8 @@ pub fn get_bytes<D: Device + Drop>(
 ) -> Result<Result<Vec<u8>, Refusal>, AllocError>
     // They are those that the model has there while it is locked, all of them; and it is unlocked again.
     ensures got { IfOk result (λ got. IfOk got (λ bytes. LeadsOn D.medium kernel.old kernel.new (λ allows. Gets allows place bytes.items))) }
+    // A refusal is that of the model's calls, too.
+    ensures refused { IfOk result (λ got. IfErr got (λ why. LeadsOn D.medium kernel.old kernel.new (λ allows. NotOpened allows place 0 why))) }
     ensures unwritten { IsUnwritten D.medium kernel.old.device kernel.new.device }
 {
     match open(kernel, place, 0) {

@@ -1,13 +1,13 @@
 //! One call, which words name.
 
-ghost use Rattle.std.specs.Prelude.{◌≡◌, ◌≢◌, ◌↔◌, ◌≤◌, length, take, drop, not, None, Some, IfNone, IfSome, IfOk, IfErr, MatchResult};
+ghost use Rattle.std.specs.Prelude.{◌≡◌, ◌≢◌, ◌↔◌, ◌≤◌, length, take, drop, not, None, IfOk, IfErr, MatchResult};
 ghost use Rattle.std.specs.List.{count_by};
 ghost use Rattle.std.specs.Io.KnownBytes.{Keeps};
 ghost use Rattle.vm_file.specs.Device.{Rose};
 ghost use Rattle.vm_file.specs.State.{Steadily};
 ghost use Rattle.geos_input.specs.declared.fault.ScriptFault.TheVariants.{Write};
 ghost use Rattle.geos_cli.specs.declared.call_fault.CallFault.TheVariants.{Script};
-ghost use Rattle.geos_cli.specs.Script.{before_blocks, call_named, from_blocks, next_handle, placed, registers_of};
+ghost use Rattle.geos_cli.specs.Script.{before_blocks, call_named, from_blocks};
 ghost use Rattle.geos_cli.specs.Calls.{borrowed, takes, texts, IsWhyNoCall, RanCall, StoppedCall, CallEndsBy};
 ghost use Rattle.geos_image.specs.Legal.{is_own};
 ghost use Rattle.geos_kernel.specs.Files.{vm_file_of};
@@ -15,33 +15,18 @@ ghost use Rattle.geos_kernel.specs.View.{SeesDevice};
 ghost use Rattle.geos_machine.specs.Runs.{Throughout};
 ghost use Rattle.vm_blocks.specs.Listed.{NoneLocked};
 
-use crate::asked::if_admitted;
 use crate::call_fault::CallFault;
-use crate::lines::{handle_of, names_block, routine_named};
+use crate::lines::{call_named, names_block, registers_of, routine_named};
 use crate::script::{Call, Command, Mode, Numbered, carry_out_all, load};
+use crate::words::Words;
 use geos_image::SlotState;
 use geos_input::Counted;
 use geos_kernel::Kernel;
 use geos_machine::admits_words;
-use geos_text::number;
 use geos_verify::Checked;
 use std::alloc::Global;
 use std::io::Write;
 use vm_file::Device;
-
-/// The registers w0 to w7 that words say: at most eight numbers. Missing ones are 0.
-fn registers_of_words(numbers: &[&str]) -> Option<[u16; 8]>
-    ensures { result ≡ registers_of (texts numbers.now) }
-{
-    let mut registers = [0; 8];
-    if numbers.len() > registers.len() {
-        return None;
-    }
-    for i in 0..numbers.len() {
-        registers[i] = number(numbers[i].as_bytes())?;
-    }
-    Some(registers)
-}
 
 /// How many words stand in front of the first that names a block.
 fn numbers_in(words: &[&str]) -> usize
@@ -56,62 +41,21 @@ fn numbers_in(words: &[&str]) -> usize
     count
 }
 
-/// The handle for a slot, and the words behind it, as `lines` reads them of a line.
-fn next_handle<'a, 'b>(state: SlotState, blocks: &'a [&'b str]) -> Option<(u16, &'a [&'b str])>
-    ensures none { IfNone result (next_handle state (texts blocks.now) ≡ None) }
-    ensures some { IfSome result (λ next. next_handle state (texts blocks.now) ≡ Some (next.0, texts next.1.now)) }
-{
-    if state.is_own() {
-        return Some((0, blocks));
-    }
-    let (word, behind) = blocks.split_first()?;
-    let handle = handle_of(word.as_bytes())?;
-    Some((handle, behind))
-}
-
-/// The handles that words write, one for each slot that is borrowed, in order, with 0 for the others; `None` where there are
-/// fewer or more.
-fn placed(states: &[SlotState; 4], blocks: &[&str]) -> Option<[u16; 4]>
-    ensures { result ≡ placed states.now (texts blocks.now) }
-{
-    let [s0, s1, s2, s3] = *states;
-    let (h0, rest) = next_handle(s0, blocks)?;
-    let (h1, rest) = next_handle(s1, rest)?;
-    let (h2, rest) = next_handle(s2, rest)?;
-    let (h3, rest) = next_handle(s3, rest)?;
-    if rest.is_empty() {
-        Some([h0, h1, h2, h3])
-    } else {
-        None
-    }
-}
-
 /// The call of the routine of that name on those numbers, which are followed by the blocks that it lends, if the machine may be asked for it.
 pub(crate) fn call_on(checked: &Checked, name: &str, words: &[&str]) -> Option<Call>
     ensures { result ≡ call_named checked.now name.now (texts words.now) }
 {
-    let routine = routine_named(checked.image(), name.as_bytes())?;
-    let (numbers, blocks) = words.split_at(numbers_in(words));
-    let words = registers_of_words(numbers)?;
-    let handles = placed(&checked.image().routine(routine).entry.slots, blocks)?;
-    if_admitted(
-        checked,
-        Call {
-            routine,
-            words,
-            handles,
-        },
-    )
+    call_named(checked, name.as_bytes(), Words::Apart(words))
 }
 
-/// Whether a public routine has the name, and may be called on the numbers.
+/// Whether a public routine has the name, and may be called on the numbers in front of blocks.
 fn takes(checked: &Checked, name: &str, numbers: &[&str]) -> bool
-    ensures { result ≡ takes checked.now name.now (texts numbers.now) }
+    ensures { result ≡ takes checked.now name.now (before_blocks (texts numbers.now)) }
 {
     let Some(routine) = routine_named(checked.image(), name.as_bytes()) else {
         return false;
     };
-    match registers_of_words(numbers) {
+    match registers_of(Words::Apart(numbers)) {
         Some(words) => admits_words(checked, routine, &words),
         None => false,
     }

@@ -9,7 +9,7 @@ ghost use Rattle.geos_input.specs.Fault.{KeptUnless};
 ghost use Rattle.geos_cli.specs.declared.call_fault.CallFault.TheVariants.{Script};
 ghost use Rattle.geos_cli.specs.Calls.{texts, CallEndsBy};
 ghost use Rattle.geos_cli.specs.Commits.{may_commit, IsGiven};
-ghost use Rattle.geos_cli.specs.InForm.{mode_of, RanShown, StoppedShown, RanInForm, StoppedInForm, RanScriptInForm, StoppedScriptInForm};
+ghost use Rattle.geos_cli.specs.InForm.{StoppedShown, RanInForm, StoppedInForm, RanScriptInForm, StoppedScriptInForm};
 ghost use Rattle.geos_cli.specs.InForm.{RanCallInForm, StoppedCallInForm, Leaves, LeavesCall};
 ghost use Rattle.geos_cli.specs.Script.{IsAdmitted, ScriptEndsBy};
 ghost use Rattle.geos_cli.specs.WithNames.{RanNoting};
@@ -72,35 +72,6 @@ pub(crate) fn carry_out_noting<W: Write, D: Device + Drop>(
     }
 }
 
-/// Carries out a command as `carry_out_noting` does, and gives what it came to.
-fn carry_out_in_form<W: Write, D: Device + Drop>(
-    alloc: Global,
-    form: Form,
-    machine: &mut Machine,
-    checked: &Checked,
-    command: &Command,
-    kernel: &mut Kernel<D>,
-    out: &mut Counted<W>,
-) -> Result<Result<(), Refusal>, ScriptFault>
-    requires admitted { IsAdmitted checked.now command.now }
-    requires unlocked { NoneLocked kernel.old.core.blocks }
-    requires given { may_commit checked.now command.now ≡ true → IsGiven out.old.asked out.old.flushed }
-    ensures ok { IfOk result (λ done. RanShown D.medium form checked.now command.now done kernel.old kernel.new
-        (W.contents out.old.stream) (W.contents out.new.stream)) }
-    ensures stopped { IfErr result (λ _. StoppedShown D.medium form checked.now command.now kernel.old kernel.new
-        (W.contents out.old.stream) (W.contents out.new.stream)) }
-    ensures honest { D.medium.honest kernel.new.device ↔ D.medium.honest kernel.old.device }
-    ensures unlocked { NoneLocked kernel.new.core.blocks }
-    ensures sees { SeesDevice D.medium kernel.old × SeesDevice D.medium kernel.new }
-    ensures steadily { Steadily D.medium (vm_file_of kernel.old) (vm_file_of kernel.new) }
-    ensures fault { IfErr result (λ fault. (fault ≡ Write) ⊎ (fault ≡ Memory)) }
-    ensures failed { IfErr result (λ fault. fault ≡ Write → Rose out.old.failures out.new.failures) }
-    ensures kept { KeptUnless Write result out.old.failures out.new.failures }
-{
-    let (done, _first) = carry_out_noting(alloc, form, machine, checked, command, kernel, out)?;
-    Ok(done)
-}
-
 /// Carries out the commands one after another, as `carry_out_all` does, and prints in a form what they print.
 fn carry_out_all_in_form<W: Write, D: Device + Drop>(
     alloc: Global,
@@ -134,7 +105,15 @@ fn carry_out_all_in_form<W: Write, D: Device + Drop>(
         let ahead = may_commit(checked, first, command);
         give_before(behind, ahead, out)?;
         behind = ahead;
-        let done = carry_out_in_form(alloc, form, &mut machine, checked, command, kernel, out)?;
+        let (done, _first) = carry_out_noting(
+            alloc,
+            form,
+            &mut machine,
+            checked,
+            command,
+            kernel,
+            out,
+        )?;
         if let Some(refused) = ended_by(mode, numbered.line, done) {
             return Ok(Some(refused));
         }
@@ -142,21 +121,14 @@ fn carry_out_all_in_form<W: Write, D: Device + Drop>(
     Ok(None)
 }
 
-/// What a script does behind a refused command.
-pub(crate) fn mode_of(strict: bool) -> Mode
-    ensures { result ≡ mode_of strict }
-{
-    if strict { Mode::Strict } else { Mode::Lenient }
-}
-
-/// Runs a script as `run_script` does, or, strictly, as `run_script_strictly`, and prints in a form what each of its commands prints.
+/// Runs a script as `run_script` does, and prints in a form what each of its commands prints.
 ///
 /// The faults are those of `run_script`, and `Memory` also where it is refused for what a command prints: that command is done, and no
 /// other is begun.
 pub fn run_script_in_form<W: Write, D: Device + Drop>(
     alloc: Global,
     form: Form,
-    strict: bool,
+    mode: Mode,
     image: &[u8],
     script: &[u8],
     kernel: &mut Kernel<D>,
@@ -164,13 +136,13 @@ pub fn run_script_in_form<W: Write, D: Device + Drop>(
 ) -> Result<Option<RefusedCommand>, ScriptFault>
     requires unlocked { NoneLocked kernel.old.core.blocks }
     // Each command did what it does plainly, and the writer got what they printed, in the form.
-    ensures ran { IfOk result (λ refused. RanScriptInForm D.medium form (mode_of strict) image.now script.now refused kernel.old kernel.new
+    ensures ran { IfOk result (λ refused. RanScriptInForm D.medium form mode image.now script.now refused kernel.old kernel.new
         (W.contents out.old.stream) (W.contents out.new.stream)) }
     ensures due { IfErr result (ScriptEndsBy image.now script.now) }
     // Nothing ran and nothing was written, or some commands did, and the writer got a beginning of their text.
     ensures left { IfErr result (λ fault. Leaves fault
         ((kernel.new ≡ kernel.old) × Keeps (W.contents out.old.stream) (W.contents out.new.stream))
-        (StoppedScriptInForm D.medium form (mode_of strict) image.now script.now kernel.old kernel.new (W.contents out.old.stream) (W.contents out.new.stream))) }
+        (StoppedScriptInForm D.medium form mode image.now script.now kernel.old kernel.new (W.contents out.old.stream) (W.contents out.new.stream))) }
     ensures honest { D.medium.honest kernel.new.device ↔ D.medium.honest kernel.old.device }
     ensures unlocked { NoneLocked kernel.new.core.blocks }
     ensures sees { SeesDevice D.medium kernel.old × SeesDevice D.medium kernel.new }
@@ -184,15 +156,7 @@ pub fn run_script_in_form<W: Write, D: Device + Drop>(
     }
     let checked = load(alloc, image)?;
     let commands = commands_of(alloc, &checked, script)?;
-    carry_out_all_in_form(
-        alloc,
-        form,
-        mode_of(strict),
-        &checked,
-        &commands,
-        kernel,
-        out,
-    )
+    carry_out_all_in_form(alloc, form, mode, &checked, &commands, kernel, out)
 }
 
 /// Runs one call as `run_call` does, and prints in a form what it puts out. The faults are those of `run_call`, and `Memory` also where

@@ -61,7 +61,7 @@ pub(crate) fn unlock<D: Device + Drop>(kernel: &mut Kernel<D>, h: u16)
 }
 
 /// Locks blocks one after another. Where one is refused, it answers how many are locked, and the refusal.
-pub(crate) fn lock_all<D: Device + Drop>(
+fn lock_all<D: Device + Drop>(
     kernel: &mut Kernel<D>,
     handles: &[u16],
 ) -> Result<(), (usize, Refusal)>
@@ -125,6 +125,41 @@ pub(crate) fn lent_handles(states: &[SlotState; 4], handles: &[u16; 4]) -> Array
     lent
 }
 
+/// Locks the blocks that a call lends, in the order of slots, and gives their handles. Where a lock is refused, those before it are
+/// unlocked again.
+pub(crate) fn lock_lent<D: Device + Drop>(
+    checked: &Checked,
+    call: &Call,
+    kernel: &mut Kernel<D>,
+) -> Result<ArrayVec<u16, 4>, Refusal>
+    requires admitted { may_ask checked.now call.now ≡ true }
+    requires unlocked { NoneLocked kernel.old.core.blocks }
+    ensures handles { IfOk result (λ lent. lent.items ≡ lent_by checked.now call.now) }
+    ensures locked { IfOk result (λ _. LeadsOn D.medium kernel.old kernel.new (λ allows. Locks allows (lent_by checked.now call.now))) }
+    ensures refused { IfErr result (λ why. LeadsOn D.medium kernel.old kernel.new
+        (λ allows. NotLent allows (lent_by checked.now call.now) why)) }
+    ensures there { IfOk result (λ _. All (λ h. has_block kernel.new.core h ≡ true) (lent_by checked.now call.now)) }
+    ensures counts { IfOk result (λ _. (g : ℕ) → locks_of kernel.new.core.blocks (vm_slot g) ≡ times g (lent_by checked.now call.now)) }
+    ensures unlocked { IfErr result (λ _. NoneLocked kernel.new.core.blocks) }
+    ensures honest { D.medium.honest kernel.new.device ↔ D.medium.honest kernel.old.device }
+    ensures sees { SeesDevice D.medium kernel.old × SeesDevice D.medium kernel.new }
+    ensures steadily { Steadily D.medium (vm_file_of kernel.old) (vm_file_of kernel.new) }
+{
+    // for how often blocks are locked
+    kernel.memory_is_legal();
+    let lent = lent_handles(
+        &checked.image().routine(call.routine).entry.slots,
+        &call.handles,
+    );
+    match lock_all(kernel, lent.as_slice()) {
+        Ok(()) => Ok(lent),
+        Err((locked, refusal)) => {
+            unlock_all(kernel, &lent.as_slice()[..locked]);
+            Err(refusal)
+        }
+    }
+}
+
 /// Runs the routine of a call on blocks that are locked for it.
 fn run<'m, D: Device + Drop>(
     machine: &'m mut Machine,
@@ -165,21 +200,8 @@ pub(crate) fn run_lent<'m, D: Device + Drop>(
     ensures sees { SeesDevice D.medium kernel.old × SeesDevice D.medium kernel.new }
     ensures steadily { Steadily D.medium (vm_file_of kernel.old) (vm_file_of kernel.new) }
 {
-    // for how often blocks are locked
-    kernel.memory_is_legal();
-    let lent = lent_handles(
-        &checked.image().routine(call.routine).entry.slots,
-        &call.handles,
-    );
-    match lock_all(kernel, lent.as_slice()) {
-        Ok(()) => {
-            let outcome = run(machine, checked, call, kernel);
-            unlock_all(kernel, lent.as_slice());
-            Ok(outcome)
-        }
-        Err((locked, refusal)) => {
-            unlock_all(kernel, &lent.as_slice()[..locked]);
-            Err(refusal)
-        }
-    }
+    let lent = lock_lent(checked, call, kernel)?;
+    let outcome = run(machine, checked, call, kernel);
+    unlock_all(kernel, lent.as_slice());
+    Ok(outcome)
 }

@@ -7,9 +7,10 @@
 //! | law | `other_calls_keep`: calls that may not commit leave what the device holds as it was; `plain_scripts_do_the_same` |
 //! | asked | which calls the machine may be asked for |
 //! | lines | what the lines of a script say |
+//! | words | words that are read one after another, of a line or of a command line |
 //! | lending | runs a routine on blocks that it borrows, which are locked for it |
 //! | output | prints what commands put out, and flushes the writer |
-//! | script | `run_script`, `run_script_strictly`: carry out the commands of a script, and print what calls put out |
+//! | script | `run_script`, `run_script_in_mode`: carry out the commands of a script, and print what calls put out |
 //! | call | `run_call`: carries out one call, which words name |
 //! | bytes | `put_bytes`, `get_bytes`: write and read a chunk or an item |
 //! | form | `Form`: how an output is written, and its text |
@@ -38,6 +39,7 @@ mod script;
 mod session;
 mod traced;
 mod with_names;
+mod words;
 
 pub use crate::bad::{bad_lines, bad_lines_with_names};
 pub use crate::bytes::{Place, get_bytes, put_bytes};
@@ -49,7 +51,7 @@ pub use crate::law::{other_calls_keep, plain_scripts_do_the_same};
 pub use crate::lines::routine_named;
 pub use crate::named_lines::{Line, MOST_KEPT};
 pub use crate::names::{is_name, kept_name};
-pub use crate::script::{RefusedCommand, run_script, run_script_strictly};
+pub use crate::script::{Mode, RefusedCommand, run_script, run_script_in_mode};
 pub use crate::session::run_session;
 pub use crate::traced::{TraceFault, TracedCall, trace_call};
 pub use crate::with_names::{EarlyEnd, run_script_with_names};

@@ -2,12 +2,14 @@
 
 ghost use Rattle.std.specs.Prelude.{◌≡◌, ◌<◌, length, None, IfNone, IfOk, IfErr, IfSome, Some};
 ghost use Rattle.std.specs.Str.Lines.{lines};
+ghost use Rattle.geos_cli.specs.Reading.{words_of};
 ghost use Rattle.geos_cli.specs.Script.{names_block, handle_of, before_blocks, from_blocks, next_handle, placed, routine_named, registers_of};
 ghost use Rattle.geos_cli.specs.Script.{call_named, how_named, command_of, commands_of, first_bad, IsBadLine};
 ghost use Rattle.geos_text.specs.Words.{words};
 
 use crate::asked::if_admitted;
 use crate::script::{Call, Command, Numbered};
+use crate::words::{Words, first_of};
 use geos_image::{Image, SlotState};
 use geos_input::ScriptFault;
 use geos_text::{first_line, first_word, number, without_comment};
@@ -39,7 +41,7 @@ pub(crate) fn names_block(word: &[u8]) -> bool
 }
 
 /// The handle that a word writes behind `@`.
-pub(crate) fn handle_of(word: &[u8]) -> Option<u16>
+fn handle_of(word: &[u8]) -> Option<u16>
     ensures { result ≡ handle_of word.now }
 {
     if names_block(word) {
@@ -51,13 +53,13 @@ pub(crate) fn handle_of(word: &[u8]) -> Option<u16>
 
 /// The registers w0 to w7 that numbers say, up to the first word that names a block: at most eight of them. Missing ones
 /// are 0.
-fn registers_of(numbers: &[u8]) -> Option<[u16; 8]>
-    ensures { result ≡ registers_of (before_blocks (words numbers.now)) }
+pub(crate) fn registers_of(numbers: Words) -> Option<[u16; 8]>
+    ensures { result ≡ registers_of (before_blocks (words_of numbers.entry)) }
 {
     let mut registers = [0; 8];
     let mut rest = numbers;
     for i in 0..registers.len() {
-        let Some((word, behind)) = first_word(rest) else {
+        let Some((word, behind)) = first_of(rest) else {
             return Some(registers);
         };
         if names_block(word) {
@@ -66,7 +68,7 @@ fn registers_of(numbers: &[u8]) -> Option<[u16; 8]>
         registers[i] = number(word)?;
         rest = behind;
     }
-    match first_word(rest) {
+    match first_of(rest) {
         None => Some(registers),
         Some((word, _behind)) => {
             if names_block(word) {
@@ -79,11 +81,11 @@ fn registers_of(numbers: &[u8]) -> Option<[u16; 8]>
 }
 
 /// The words from the first one on that names a block.
-fn from_blocks(numbers: &[u8]) -> &[u8]
-    ensures { words result.now ≡ from_blocks (words numbers.now) }
+fn from_blocks<'a>(numbers: Words<'a>) -> Words<'a>
+    ensures { words_of result ≡ from_blocks (words_of numbers.entry) }
 {
     let mut rest = numbers;
-    while let Some((word, behind)) = first_word(rest) {
+    while let Some((word, behind)) = first_of(rest) {
         if names_block(word) {
             return rest;
         }
@@ -93,37 +95,37 @@ fn from_blocks(numbers: &[u8]) -> &[u8]
 }
 
 /// The handle for a slot, and the words behind it: the first of them says it where the slot is borrowed; else it is 0.
-fn next_handle(state: SlotState, blocks: &[u8]) -> Option<(u16, &[u8])>
-    ensures none { IfNone result (next_handle state (words blocks.now) ≡ None) }
-    ensures some { IfSome result (λ next. next_handle state (words blocks.now) ≡ Some (next.0, words next.1.now)) }
+fn next_handle<'a>(state: SlotState, blocks: Words<'a>) -> Option<(u16, Words<'a>)>
+    ensures none { IfNone result (next_handle state (words_of blocks.entry) ≡ None) }
+    ensures some { IfSome result (λ next. next_handle state (words_of blocks.entry) ≡ Some (next.0, words_of next.1)) }
 {
     if state.is_own() {
         return Some((0, blocks));
     }
-    let (word, behind) = first_word(blocks)?;
+    let (word, behind) = first_of(blocks)?;
     let handle = handle_of(word)?;
     Some((handle, behind))
 }
 
 /// The handles that words write, one for each slot that is borrowed, in order, with 0 for the others; `None` where there are
 /// fewer or more.
-fn placed(states: &[SlotState; 4], blocks: &[u8]) -> Option<[u16; 4]>
-    ensures { result ≡ placed states.now (words blocks.now) }
+fn placed(states: &[SlotState; 4], blocks: Words) -> Option<[u16; 4]>
+    ensures { result ≡ placed states.now (words_of blocks.entry) }
 {
     let [s0, s1, s2, s3] = *states;
     let (h0, rest) = next_handle(s0, blocks)?;
     let (h1, rest) = next_handle(s1, rest)?;
     let (h2, rest) = next_handle(s2, rest)?;
     let (h3, rest) = next_handle(s3, rest)?;
-    match first_word(rest) {
+    match first_of(rest) {
         None => Some([h0, h1, h2, h3]),
         Some(_) => None,
     }
 }
 
 /// The call of the routine of that name on those numbers and the blocks behind them, if the machine may be asked for it.
-fn call_named(checked: &Checked, name: &[u8], numbers: &[u8]) -> Option<Call>
-    ensures { result ≡ call_named checked.now name.now (words numbers.now) }
+pub(crate) fn call_named(checked: &Checked, name: &[u8], numbers: Words) -> Option<Call>
+    ensures { result ≡ call_named checked.now name.now (words_of numbers.entry) }
 {
     let routine = routine_named(checked.image(), name)?;
     let words = registers_of(numbers)?;
@@ -165,7 +167,7 @@ pub(crate) fn command_of(checked: &Checked, line: &[u8]) -> Option<Command>
         None => Some(Command::Commit(how_named(word)?)),
         Some((name, numbers)) => {
             if word == b"call".as_slice() {
-                Some(Command::Call(call_named(checked, name, numbers)?))
+                Some(Command::Call(call_named(checked, name, Words::Line(numbers))?))
             } else {
                 None
             }

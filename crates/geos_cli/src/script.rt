@@ -241,8 +241,11 @@ pub(crate) fn load(alloc: Global, image: &[u8]) -> Result<Checked, ScriptFault>
     }
 }
 
-/// Checks an image and runs a script, to its end or to the refused command behind which it does not go on.
-fn run_in_mode<W: Write, D: Device + Drop>(
+/// Runs a script as `run_script` does, in a mode. A lenient script goes on behind a refused command, and `None` is answered. A strict one
+/// ends there: the command is answered, once its `refused` and number are printed, and no command behind it is begun. Where none is
+/// refused, `None` is answered, and all is as of `run_script`. What a routine's own commits come to is the routine's to handle, and
+/// refuses no call. The faults are those of `run_script`.
+pub fn run_script_in_mode<W: Write, D: Device + Drop>(
     alloc: Global,
     mode: Mode,
     image: &[u8],
@@ -250,7 +253,11 @@ fn run_in_mode<W: Write, D: Device + Drop>(
     kernel: &mut Kernel<D>,
     out: &mut Counted<W>,
 ) -> Result<Option<RefusedCommand>, ScriptFault>
+    // No block of the file is locked by others: `Kernel::vm_unlocked` tells it.
     requires unlocked { NoneLocked kernel.old.core.blocks }
+    // The commands are done, all or up to the one that is answered, and nothing behind that was begun.
+    // What it printed; and stopped at any moment, opening the file finds what the model's run of the
+    // script has as kept in one of its states.
     ensures ran { IfOk result (λ refused. RanScript mode (D.medium.honest kernel.old.device)
         (Throughout D.medium kernel.old.device kernel.new.device) image.now script.now refused kernel.old.core kernel.new.core
         (W.contents out.old.stream) (W.contents out.new.stream)) }
@@ -260,11 +267,20 @@ fn run_in_mode<W: Write, D: Device + Drop>(
         StoppedScript mode (D.medium.honest kernel.old.device) (Throughout D.medium kernel.old.device kernel.new.device)
         image.now script.now kernel.old.core kernel.new.core
         (W.contents out.old.stream) (W.contents out.new.stream)) }
+
+    // The device is as honest as it was, no block of the file is locked again, and the count of failures
+    // that bounds refusal 11 is the device's.
     ensures honest { D.medium.honest kernel.new.device ↔ D.medium.honest kernel.old.device }
     ensures unlocked { NoneLocked kernel.new.core.blocks }
     ensures sees { SeesDevice D.medium kernel.old × SeesDevice D.medium kernel.new }
+    // Where no call within the device's length fails, and it has room for the file, none failed.
     ensures steadily { Steadily D.medium (vm_file_of kernel.old) (vm_file_of kernel.new) }
+
+    // Nothing runs before a fault other than `Write`.
     ensures kernel_kept { IfErr result (λ fault. fault ≢ Write → kernel.new ≡ kernel.old) }
+
+    // The writer: nothing is asked of it before the first command, and it failed exactly where
+    // `Write` is answered.
     ensures nothing_written { IfErr result (λ fault. fault ≢ Write → Keeps (W.contents out.old.stream) (W.contents out.new.stream)) }
     ensures not_asked { IfErr result (λ fault. fault ≢ Write → out.new.asked ≡ out.old.asked) }
     ensures writer_failed { IfErr result (λ fault. fault ≡ Write → Rose out.old.failures out.new.failures) }
@@ -331,46 +347,8 @@ pub fn run_script<W: Write, D: Device + Drop>(
     ensures writer_failed { IfErr result (λ fault. fault ≡ Write → Rose out.old.failures out.new.failures) }
     ensures writer_kept { KeptUnless Write result out.old.failures out.new.failures }
 {
-    match run_in_mode(alloc, Mode::Lenient, image, script, kernel, out) {
+    match run_script_in_mode(alloc, Mode::Lenient, image, script, kernel, out) {
         Ok(_) => Ok(()),
         Err(fault) => Err(fault),
     }
-}
-
-/// Runs a script as `run_script`, but ends behind the first command that is refused: it is answered, once
-/// its `refused` and number are printed, and no command behind it is begun. Where none is refused, `None`
-/// is answered, and all is as of `run_script`. What a routine's own commits come to is the routine's to
-/// handle, and refuses no call. The faults are those of `run_script`.
-pub fn run_script_strictly<W: Write, D: Device + Drop>(
-    alloc: Global,
-    image: &[u8],
-    script: &[u8],
-    kernel: &mut Kernel<D>,
-    out: &mut Counted<W>,
-) -> Result<Option<RefusedCommand>, ScriptFault>
-    requires unlocked { NoneLocked kernel.old.core.blocks }
-    // The commands are done, all or up to the one that is answered, and nothing behind that was begun.
-    // What it printed; and stopped at any moment, opening the file finds what the model's run of the
-    // script has as kept in one of its states.
-    ensures ran { IfOk result (λ refused. RanScript Strict (D.medium.honest kernel.old.device)
-        (Throughout D.medium kernel.old.device kernel.new.device) image.now script.now refused kernel.old.core kernel.new.core
-        (W.contents out.old.stream) (W.contents out.new.stream)) }
-    ensures due { IfErr result (ScriptEndsBy image.now script.now) }
-    ensures stopped { IfErr result (λ fault. fault ≡ Write →
-        StoppedScript Strict (D.medium.honest kernel.old.device) (Throughout D.medium kernel.old.device kernel.new.device)
-        image.now script.now kernel.old.core kernel.new.core
-        (W.contents out.old.stream) (W.contents out.new.stream)) }
-
-    // The rest is as of `run_script`.
-    ensures honest { D.medium.honest kernel.new.device ↔ D.medium.honest kernel.old.device }
-    ensures unlocked { NoneLocked kernel.new.core.blocks }
-    ensures sees { SeesDevice D.medium kernel.old × SeesDevice D.medium kernel.new }
-    ensures steadily { Steadily D.medium (vm_file_of kernel.old) (vm_file_of kernel.new) }
-    ensures kernel_kept { IfErr result (λ fault. fault ≢ Write → kernel.new ≡ kernel.old) }
-    ensures nothing_written { IfErr result (λ fault. fault ≢ Write → Keeps (W.contents out.old.stream) (W.contents out.new.stream)) }
-    ensures not_asked { IfErr result (λ fault. fault ≢ Write → out.new.asked ≡ out.old.asked) }
-    ensures writer_failed { IfErr result (λ fault. fault ≡ Write → Rose out.old.failures out.new.failures) }
-    ensures writer_kept { KeptUnless Write result out.old.failures out.new.failures }
-{
-    run_in_mode(alloc, Mode::Strict, image, script, kernel, out)
 }

@@ -17,7 +17,7 @@ ghost use Rattle.geos_cli.specs.Traced.{stretch_of, IsMadeAs, IsTraced, TracesLe
 
 use crate::call::{call_on, why_no_call};
 use crate::call_fault::CallFault;
-use crate::lending::{lent_handles, lock_all, unlock_all};
+use crate::lending::{lock_lent, unlock_all};
 use crate::lines::routine_named;
 use crate::script::{Call, load};
 use geos_input::ScriptFault;
@@ -117,23 +117,10 @@ fn trace_lent<D: Device + Drop>(
     ensures sees { SeesDevice D.medium kernel.old × SeesDevice D.medium kernel.new }
     ensures steadily { Steadily D.medium (vm_file_of kernel.old) (vm_file_of kernel.new) }
 {
-    // for how often blocks are locked
-    kernel.memory_is_legal();
-    let lent = lent_handles(
-        &checked.image().routine(call.routine).entry.slots,
-        &call.handles,
-    );
-    match lock_all(kernel, lent.as_slice()) {
-        Ok(()) => {
-            let outcome = trace(checked, call, kernel, notes);
-            unlock_all(kernel, lent.as_slice());
-            Ok(outcome)
-        }
-        Err((locked, refusal)) => {
-            unlock_all(kernel, &lent.as_slice()[..locked]);
-            Err(refusal)
-        }
-    }
+    let lent = lock_lent(checked, call, kernel)?;
+    let outcome = trace(checked, call, kernel, notes);
+    unlock_all(kernel, lent.as_slice());
+    Ok(outcome)
 }
 
 /// Checks an image and runs one routine of it, as `run_call` does, but prints nothing: it gives what the run put out, and notes of its steps, at

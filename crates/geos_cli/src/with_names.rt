@@ -6,7 +6,7 @@ ghost use Rattle.vm_file.specs.Device.{Rose};
 ghost use Rattle.vm_file.specs.State.{Steadily};
 ghost use Rattle.geos_input.specs.declared.fault.ScriptFault.TheVariants.{Memory, Write};
 ghost use Rattle.geos_input.specs.Fault.{KeptUnless};
-ghost use Rattle.geos_cli.specs.InForm.{mode_of, Leaves};
+ghost use Rattle.geos_cli.specs.InForm.{Leaves};
 ghost use Rattle.geos_cli.specs.Names.{said_by};
 ghost use Rattle.geos_cli.specs.WithNames.{IsGood, IsBadNamed, RanLines, StoppedLines};
 ghost use Rattle.geos_cli.specs.WithNames.{RanNamedScript, StoppedNamedScript, NamedScriptEndsBy};
@@ -15,7 +15,7 @@ ghost use Rattle.geos_kernel.specs.View.{SeesDevice};
 ghost use Rattle.vm_blocks.specs.Listed.{NoneLocked};
 
 use crate::form::Form;
-use crate::in_form::{carry_out_noting, mode_of};
+use crate::in_form::carry_out_noting;
 use crate::named_lines::{Line, first_bad, lines_said};
 use crate::names::{command_in, keep};
 use crate::output::give_before;
@@ -118,7 +118,7 @@ fn good_lines<'a>(
 pub fn run_script_with_names<W: Write, D: Device + Drop>(
     alloc: Global,
     form: Form,
-    strict: bool,
+    mode: Mode,
     image: &[u8],
     script: &[u8],
     kernel: &mut Kernel<D>,
@@ -126,13 +126,13 @@ pub fn run_script_with_names<W: Write, D: Device + Drop>(
 ) -> Result<Option<EarlyEnd>, ScriptFault>
     requires unlocked { NoneLocked kernel.old.core.blocks }
     // Each line did what the same line with numbers does plainly, and the writer got what they printed, in the form.
-    ensures ran { IfOk result (λ end. RanNamedScript D.medium form (mode_of strict) image.now script.now end kernel.old kernel.new
+    ensures ran { IfOk result (λ end. RanNamedScript D.medium form mode image.now script.now end kernel.old kernel.new
         (W.contents out.old.stream) (W.contents out.new.stream)) }
     ensures due { IfErr result (NamedScriptEndsBy image.now script.now) }
     // Nothing ran and nothing was written, or some lines did, and the writer got a beginning of their text.
     ensures left { IfErr result (λ fault. Leaves fault
         ((kernel.new ≡ kernel.old) × Keeps (W.contents out.old.stream) (W.contents out.new.stream))
-        (StoppedNamedScript D.medium form (mode_of strict) image.now script.now kernel.old kernel.new (W.contents out.old.stream) (W.contents out.new.stream))) }
+        (StoppedNamedScript D.medium form mode image.now script.now kernel.old kernel.new (W.contents out.old.stream) (W.contents out.new.stream))) }
     ensures honest { D.medium.honest kernel.new.device ↔ D.medium.honest kernel.old.device }
     ensures unlocked { NoneLocked kernel.new.core.blocks }
     ensures sees { SeesDevice D.medium kernel.old × SeesDevice D.medium kernel.new }
@@ -146,5 +146,5 @@ pub fn run_script_with_names<W: Write, D: Device + Drop>(
     }
     let checked = load(alloc, image)?;
     let lines = good_lines(alloc, &checked, script)?;
-    carry_out_lines(alloc, form, mode_of(strict), &checked, &lines, kernel, out)
+    carry_out_lines(alloc, form, mode, &checked, &lines, kernel, out)
 }

@@ -1,5 +1,5 @@
 -- What is told of lines, one after another.
-use Rattle.std.proofs.Common.{◌≡◌, ◌∙◌, ◌+◌, ◌<◌, ◌↔◌, ℕ, Bool, true, false, List, [], ◌∷◌, ◌++◌, length, Option, Some, None, refl, sym, ap, subst, suc, drop, get_or, drop-cons, ◌≤◌, arith, append_assoc, append-nil, length-append}
+use Rattle.std.proofs.Common.{◌≡◌, ◌∙◌, ◌+◌, ◌<◌, ◌↔◌, ℕ, List, [], ◌∷◌, ◌++◌, length, Option, Some, None, refl, sym, ap, subst, suc, drop, get_or, drop-cons, ◌≤◌, arith, append_assoc, append-nil, length-append}
 use Rattle.std.proofs.lemmas.List.{drop_all}
 use Rattle.std.specs.Str.Lines.{lines}
 use Rattle.geos_image.specs.Parts.{Parts}
@@ -9,6 +9,8 @@ use Rattle.geos_cli.specs.Names.{lines_said}
 use Rattle.geos_cli.proofs.BadLaws.{first-bad, first-bad-in}
 use Rattle.geos_lines.specs.Telling.{sentence}
 use Rattle.geos_scripts.specs.Bad.{TellsBad, TellsEach, bad_ones, named_by_run}
+use Rattle.geos_scripts.specs.declared.names.NameUse.{NameUse}
+use Rattle.geos_scripts.specs.declared.names.NameUse.TheVariants.{Allowed, Refused}
 use Rattle.geos_scripts.specs.declared.told.BadLines.{BadLines}
 
 sentence-long : (number : ℕ) (saying rest : List ℕ) → 0 < length (sentence number saying ++ rest)
@@ -48,12 +50,12 @@ told-all bad i told past so_far =
     let none : TellsEach (numbers (drop i bad)) [] = subst (λ lines. TellsEach (numbers lines) []) (sym (drop_all i bad past)) refl in
     subst (TellsEach (numbers bad)) (append-nil told) (so_far [] none)
 
-first-named : (names : Bool) (image : Parts) (script : List ℕ) → first_of (bad_ones names image script) ≡ named_by_run names image script
-first-named true image script = first-bad-in image [] (lines_said script)
-first-named false image script = first-bad image 1 (lines script)
+first-named : (names : NameUse) (image : Parts) (script : List ℕ) → first_of (bad_ones names image script) ≡ named_by_run names image script
+first-named Allowed image script = first-bad-in image [] (lines_said script)
+first-named Refused image script = first-bad image 1 (lines script)
 
 -- what is told of a script's bad lines
-pub tells : (names : Bool) (image : Parts) (script : List ℕ) (bad : BadLines) (lines : List Line) → numbers lines ≡ bad_ones names image script
+pub tells : (names : NameUse) (image : Parts) (script : List ℕ) (bad : BadLines) (lines : List Line) → numbers lines ≡ bad_ones names image script
     → TellsEach (numbers lines) bad.told.items → bad.first ≡ first_of (numbers lines) → TellsBad names image script bad
 tells names image script bad lines are each first =
     let told = subst (λ ns. TellsEach ns bad.told.items) are each in

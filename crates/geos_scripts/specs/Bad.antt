@@ -1,11 +1,13 @@
 -- What is told of the bad lines of a script.
-use Rattle.std.specs.Prelude.{◌≡◌, ◌↔◌, ℕ, Bool, true, false, List, [], ◌∷◌, ◌++◌, Option, None}
+use Rattle.std.specs.Prelude.{◌≡◌, ◌↔◌, ℕ, List, [], ◌∷◌, ◌++◌, Option, None}
 use Rattle.std.specs.Str.Lines.{lines}
 use Rattle.geos_image.specs.Parts.{Parts}
 use Rattle.geos_cli.specs.Script.{first_bad}
 use Rattle.geos_cli.specs.Names.{first_bad_in, lines_said}
 use Rattle.geos_cli.specs.BadLines.{bad_lines, bad_lines_with_names}
 use Rattle.geos_lines.specs.Telling.{sentence}
+use Rattle.geos_scripts.specs.declared.names.NameUse.{NameUse}
+use Rattle.geos_scripts.specs.declared.names.NameUse.TheVariants.{Allowed, Refused}
 use Rattle.geos_scripts.specs.declared.told.BadLines.{BadLines}
 
 -- a text has a sentence on each of these lines, in order, and nothing else
@@ -14,18 +16,18 @@ TellsEach [] text = text ≡ []
 TellsEach (number ∷ numbers) text = (saying : List ℕ) × (rest : List ℕ) × TellsEach numbers rest × (text ≡ sentence number saying ++ rest)
 
 -- the lines that are bad, in a script whose lines may write names, or may not
-abbrev pub bad_ones : Bool → Parts → List ℕ → List ℕ
-bad_ones true image script = bad_lines_with_names image script
-bad_ones false image script = bad_lines image script
+abbrev pub bad_ones : NameUse → Parts → List ℕ → List ℕ
+bad_ones Allowed image script = bad_lines_with_names image script
+bad_ones Refused image script = bad_lines image script
 
 -- the line that a run of the script names, if it does not begin
-abbrev pub named_by_run : Bool → Parts → List ℕ → Option ℕ
-named_by_run true image script = first_bad_in image [] (lines_said script)
-named_by_run false image script = first_bad image (lines script)
+abbrev pub named_by_run : NameUse → Parts → List ℕ → Option ℕ
+named_by_run Allowed image script = first_bad_in image [] (lines_said script)
+named_by_run Refused image script = first_bad image (lines script)
 
 -- a sentence is told on each bad line of a script, in order, and nothing else; the first is the one that a run names; nothing is told
 -- exactly where a run names none
-pub record TellsBad (names : Bool) (image : Parts) (script : List ℕ) (bad : BadLines) : Type 0 where
+pub record TellsBad (names : NameUse) (image : Parts) (script : List ℕ) (bad : BadLines) : Type 0 where
   pub told : TellsEach (bad_ones names image script) bad.told.items
   pub first : bad.first ≡ named_by_run names image script
   pub silent : (bad.told.items ≡ []) ↔ (named_by_run names image script ≡ None)

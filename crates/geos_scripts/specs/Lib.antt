@@ -1,2 +1,4 @@
 pub mod Bad
 pub mod Faults
+pub mod Uses
+pub mod Walks

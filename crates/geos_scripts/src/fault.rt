@@ -30,7 +30,7 @@ pub(crate) enum Fault<'a> {
     /// The number behind its `@` is above 65,535.
     HighHandle(Word<'a>),
     /// How many blocks the call lends, and how many other ones the routine borrows.
-    Lent(u64, u64),
+    Lent(usize, usize),
     /// It is a name or keeps one, in a script whose lines may not write names.
     NotAllowed(Word<'a>),
     /// It is a name that no line before keeps.

@@ -1,13 +1,16 @@
 //! What is wrong with a line of a script: with its command, or else with what keeps a word of it.
 
-ghost use Rattle.std.specs.Prelude.{◌≡◌, ◌≤◌, true, length, IfSome};
+ghost use Rattle.std.specs.Prelude.{◌≡◌, ◌≤◌, ◌++◌, ◌∷◌, List, ℕ, All, true, false, length, drop, codes, IsTrue, IfNone, IfSome};
 ghost use Rattle.geos_image.specs.Parts.{Parts};
-ghost use Rattle.geos_cli.specs.Names.{is_arrow, is_name};
-ghost use Rattle.geos_scripts.specs.Faults.{IsSo};
+ghost use Rattle.geos_text.specs.Words.{words};
+ghost use Rattle.geos_cli.specs.Names.{is_arrow};
+ghost use Rattle.geos_scripts.specs.declared.names.NameUse.TheVariants.{Allowed};
+ghost use Rattle.geos_scripts.specs.Faults.{IsFound};
+ghost use Rattle.geos_scripts.specs.Walks.{HasArrow, IsFoundBehindArrow, IsFoundOfKeeping, begins_as_call};
 
 use crate::calls::command_fault;
 use crate::fault::Fault;
-use crate::names::Names;
+use crate::names::{NameUse, Names};
 use crate::numbers::is_arrow;
 use geos_cli::is_name;
 use geos_image::Image;
@@ -15,8 +18,9 @@ use geos_lines::{Word, word_from};
 
 /// The word `->` of a line.
 fn arrow_of(line: &[u8]) -> Option<Word>
-    ensures within { IfSome result (λ word. (word.start ≤ length line.now) × (word.end ≤ length line.now)) }
-    ensures arrow { IfSome result (λ word. is_arrow word.bytes.now ≡ true) }
+    ensures within { IfSome result (λ word. word.end ≤ length line.now) }
+    ensures arrow { IfSome result (λ word. HasArrow (words line.now) word.bytes.now (words (drop word.end line.now))) }
+    ensures none { IfNone result (All (λ w. is_arrow w ≡ false) (words line.now)) }
 {
     let mut at = 0;
     while let Some(word) = word_from(line, at) {
@@ -29,7 +33,9 @@ fn arrow_of(line: &[u8]) -> Option<Word>
 }
 
 /// Whether the line is a call.
-fn is_call(line: &[u8]) -> bool {
+fn is_call(line: &[u8]) -> bool
+    ensures { result ≡ begins_as_call (words line.now) }
+{
     match word_from(line, 0) {
         Some(word) => word.bytes == b"call".as_slice(),
         None => false,
@@ -40,7 +46,7 @@ fn is_call(line: &[u8]) -> bool {
 fn kept_fault<'a>(names: &Names, line: &'a [u8], arrow: Word<'a>) -> Option<Fault<'a>>
     requires within { arrow.end ≤ length line.now }
     requires arrow { is_arrow arrow.bytes.now ≡ true }
-    ensures { (image : Parts) → IfSome result (IsSo image) }
+    ensures { (image : Parts) → IsFoundBehindArrow image (words (drop arrow.entry.end line.now)) result }
 {
     let Some(name) = word_from(line, arrow.end) else {
         return Some(Fault::NothingKept(arrow));
@@ -58,21 +64,11 @@ fn kept_fault<'a>(names: &Names, line: &'a [u8], arrow: Word<'a>) -> Option<Faul
     }
 }
 
-/// What is wrong with a line that keeps a word.
-fn keeping_fault<'a>(
-    image: &Image,
-    names: &Names,
-    line: &'a [u8],
-    arrow: Word<'a>,
-) -> Option<Fault<'a>>
-    requires start { arrow.start ≤ length line.now }
-    requires end { arrow.end ≤ length line.now }
-    requires arrow { is_arrow arrow.bytes.now ≡ true }
-    ensures { IfSome result (IsSo image.now) }
+/// What is wrong with `->` on a line, and with the words behind it.
+fn arrow_fault<'a>(names: &Names, line: &'a [u8]) -> Option<Fault<'a>>
+    ensures { (image : Parts) → IsFoundOfKeeping Allowed image (words line.now) result }
 {
-    if let Some(fault) = command_fault(image, names, &line[..arrow.start]) {
-        return Some(fault);
-    }
+    let arrow = arrow_of(line)?;
     if is_call(line) {
         kept_fault(names, line, arrow)
     } else {
@@ -80,14 +76,22 @@ fn keeping_fault<'a>(
     }
 }
 
+/// The same, where names may be written.
+fn keeping_fault<'a>(names: &Names, line: &'a [u8]) -> Option<Fault<'a>>
+    ensures { (image : Parts) → IsFoundOfKeeping names.now.uses image (words line.now) result }
+{
+    match names.uses {
+        NameUse::Allowed => arrow_fault(names, line),
+        NameUse::Refused => None,
+    }
+}
+
 /// What is wrong with a line of a script, without its comment. `None` where nothing is found.
 pub(crate) fn fault_of<'a>(image: &Image, names: &Names, line: &'a [u8]) -> Option<Fault<'a>>
-    ensures { IfSome result (IsSo image.now) }
+    ensures { IsFound names.now.uses image.now (words line.now) result }
 {
-    if names.are_allowed() {
-        if let Some(arrow) = arrow_of(line) {
-            return keeping_fault(image, names, line, arrow);
-        }
+    match command_fault(image, names, line) {
+        Some(fault) => Some(fault),
+        None => keeping_fault(names, line),
     }
-    command_fault(image, names, line)
 }

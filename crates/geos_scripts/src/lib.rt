@@ -11,4 +11,5 @@ mod numbers;
 mod sentences;
 mod told;
 
+pub use names::NameUse;
 pub use told::{BadLines, tell_bad_lines};

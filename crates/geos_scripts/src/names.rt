@@ -4,11 +4,20 @@ use geos_cli::{Line, MOST_KEPT, kept_name};
 use geos_text::{first_line, without_comment};
 use std::alloc::{AllocError, Global};
 
+/// Whether the lines of a script may write names for words that calls put out.
+#[derive(Clone, Copy)]
+pub enum NameUse {
+    /// They may.
+    Allowed,
+    /// They may not.
+    Refused,
+}
+
 /// What a line may write in the place of a number, behind the lines before it.
 #[derive(Drop)]
 pub(crate) struct Names<'a> {
     /// Whether lines may write names.
-    allowed: bool,
+    pub(crate) uses: NameUse,
     /// The names that lines so far keep, if they may.
     kept: Vec<&'a [u8]>,
     /// The lines that are to come, and how many came.
@@ -27,10 +36,13 @@ fn keep<'a>(kept: &mut Vec<&'a [u8]>, line: &'a [u8]) -> Result<(), AllocError> 
 }
 
 impl<'a> Names<'a> {
+    ghost use Rattle.std.specs.Prelude.{◌≡◌};
+    ghost use Rattle.geos_scripts.specs.Uses.{may_write};
+
     /// No line of the script has come.
-    pub(crate) fn new(alloc: Global, script: &'a [u8], allowed: bool) -> Names<'a> {
+    pub(crate) fn new(alloc: Global, script: &'a [u8], uses: NameUse) -> Names<'a> {
         Names {
-            allowed,
+            uses,
             kept: Vec::new(alloc),
             rest: script,
             passed: 0,
@@ -44,15 +56,20 @@ impl<'a> Names<'a> {
             let (next, behind) = first_line(self.rest);
             self.rest = behind;
             self.passed += 1;
-            if self.allowed {
+            if self.are_allowed() {
                 keep(&mut self.kept, next)?;
             }
         }
         Ok(())
     }
 
-    pub(crate) fn are_allowed(&self) -> bool {
-        self.allowed
+    pub(crate) fn are_allowed(&self) -> bool
+        ensures { result ≡ may_write self.now.uses }
+    {
+        match self.uses {
+            NameUse::Allowed => true,
+            NameUse::Refused => false,
+        }
     }
 
     /// Whether no further line may keep a word.

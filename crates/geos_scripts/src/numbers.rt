@@ -1,10 +1,14 @@
 //! What is wrong with numbers, names and blocks in a call of a script.
 
-ghost use Rattle.std.specs.Prelude.{◌≡◌, ◌<◌, ◌∷◌, false, length, IfSome, IfNone};
+ghost use Rattle.std.specs.Prelude.{◌≡◌, ◌<◌, ◌≤◌, ◌∷◌, false, length, slice_get, Some, IfSome, IfNone};
 ghost use Rattle.geos_image.specs.Parts.{Parts};
 ghost use Rattle.geos_cli.specs.Names.{is_arrow};
 ghost use Rattle.geos_cli.specs.Script.{names_block};
-ghost use Rattle.geos_scripts.specs.Faults.{IsNamed, IsSo, begins_as_name};
+ghost use Rattle.geos_image.specs.declared.routine.Routine.{Routine};
+ghost use Rattle.geos_scripts.specs.declared.names.NameUse.TheVariants.{Allowed};
+ghost use Rattle.geos_scripts.specs.declared.fault.Fault.TheVariants.{Ninth};
+ghost use Rattle.geos_scripts.specs.Faults.{IsNamed, IsSoOfWord, IsWithin, begins_as_name};
+ghost use Rattle.geos_scripts.specs.Walks.{IsFoundOfBlock, IsFoundOfNumber};
 
 use crate::fault::Fault;
 use crate::names::Names;
@@ -42,7 +46,8 @@ pub(crate) fn behind_at(word: &[u8]) -> Option<&[u8]>
 /// What is wrong with a word that is a name or keeps one, where this stands in the place of a number.
 fn name_fault<'a>(names: &Names, word: Word<'a>, said: &[u8]) -> Option<Fault<'a>>
     requires { IsNamed word.bytes.now }
-    ensures { (image : Parts) → IfSome result (IsSo image) }
+    ensures none { IfNone result (names.now.uses ≡ Allowed) }
+    ensures some { IfSome result (λ fault. (image : Parts) → IsSoOfWord image fault) }
 {
     if !names.are_allowed() {
         Some(Fault::NotAllowed(word))
@@ -57,7 +62,9 @@ fn name_fault<'a>(names: &Names, word: Word<'a>, said: &[u8]) -> Option<Fault<'a
 fn digits_fault<'a>(image: &Image, r: u16, index: usize, word: Word<'a>) -> Option<Fault<'a>>
     requires there { r < length image.now.routines }
     requires eight { index < 8 }
-    ensures { IfSome result (IsSo image.now) }
+    ensures none { IfNone result ((routine : Routine) → slice_get image.now.routines r ≡ Some routine
+        → IsWithin routine index word.entry.bytes.now) }
+    ensures some { IfSome result (IsSoOfWord image.now) }
 {
     let bound = image.routine(r).entry.bounds[index];
     match number_up_to(65_535, word.bytes) {
@@ -73,6 +80,18 @@ fn digits_fault<'a>(image: &Image, r: u16, index: usize, word: Word<'a>) -> Opti
     }
 }
 
+/// What is wrong with a number of this index, whatever it is: it may be the ninth.
+fn ninth_fault(index: usize, word: Word) -> Option<Fault>
+    ensures none { IfNone result (index < 8) }
+    ensures some { IfSome result (λ fault. (fault ≡ Ninth word.entry) × (8 ≤ index)) }
+{
+    if index >= 8 {
+        Some(Fault::Ninth(word))
+    } else {
+        None
+    }
+}
+
 /// What is wrong with a number for the word w of this index.
 pub(crate) fn number_fault<'a>(
     image: &Image,
@@ -82,27 +101,25 @@ pub(crate) fn number_fault<'a>(
     word: Word<'a>,
 ) -> Option<Fault<'a>>
     requires { r < length image.now.routines }
-    ensures { IfSome result (IsSo image.now) }
+    ensures { IsFoundOfNumber names.now.uses image.now r index word.entry result }
 {
     let named = is_arrow(word.bytes) || begins_as_name(word.bytes);
     if named {
-        if let Some(fault) = name_fault(names, word, word.bytes) {
-            return Some(fault);
-        }
+        return match name_fault(names, word, word.bytes) {
+            Some(fault) => Some(fault),
+            None => ninth_fault(index, word),
+        };
     }
-    if index >= 8 {
-        Some(Fault::Ninth(word))
-    } else if named {
-        None
-    } else {
-        digits_fault(image, r, index, word)
+    match ninth_fault(index, word) {
+        Some(fault) => Some(fault),
+        None => digits_fault(image, r, index, word),
     }
 }
 
 /// What is wrong with the handle of a block, which a word says behind `@`.
 fn handle_fault<'a>(names: &Names, word: Word<'a>, said: &[u8]) -> Option<Fault<'a>>
     requires { word.bytes.now ≡ 64 ∷ said.now }
-    ensures { (image : Parts) → IfSome result (IsSo image) }
+    ensures { IsFoundOfBlock names.now.uses word.entry result }
 {
     if begins_as_name(said) {
         return name_fault(names, word, said);
@@ -116,7 +133,7 @@ fn handle_fault<'a>(names: &Names, word: Word<'a>, said: &[u8]) -> Option<Fault<
 
 /// What is wrong with a block that is lent.
 pub(crate) fn block_fault<'a>(names: &Names, word: Word<'a>) -> Option<Fault<'a>>
-    ensures { (image : Parts) → IfSome result (IsSo image) }
+    ensures { IsFoundOfBlock names.now.uses word.entry result }
 {
     match behind_at(word.bytes) {
         Some(said) => handle_fault(names, word, said),

@@ -73,8 +73,8 @@ fn put_numbers(out: &mut Vec<u8>, fault: &Fault) -> Result<(), AllocError> {
         Fault::Lent(given, wanted) => put_parts(
             out,
             &[
-                Part::Numbered("", *given),
-                Part::Numbered("; that the routine borrows: ", *wanted),
+                Part::Numbered("", *given as u64),
+                Part::Numbered("; that the routine borrows: ", *wanted as u64),
             ],
         ),
         _ => Ok(()),

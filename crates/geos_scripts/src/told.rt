@@ -8,7 +8,7 @@ ghost use Rattle.geos_cli.specs.BadLines.{first_of, numbers};
 ghost use Rattle.geos_scripts.specs.Bad.{TellsBad, TellsEach, bad_ones};
 
 use crate::keeping::fault_of;
-use crate::names::Names;
+use crate::names::{NameUse, Names};
 use crate::sentences::put_fault;
 use geos_cli::{Line, MOST_BYTES, ScriptFault, bad_lines, bad_lines_with_names};
 use geos_image::Image;
@@ -49,14 +49,13 @@ fn bad_ones<'a>(
     alloc: Global,
     checked: &Checked,
     script: &'a [u8],
-    names: bool,
+    names: NameUse,
 ) -> Result<Vec<Line<'a>>, AllocError>
     ensures { IfOk result (λ bad. numbers bad.items ≡ bad_ones names checked.now script.now) }
 {
-    if names {
-        bad_lines_with_names(alloc, checked, script)
-    } else {
-        bad_lines(alloc, checked, script)
+    match names {
+        NameUse::Allowed => bad_lines_with_names(alloc, checked, script),
+        NameUse::Refused => bad_lines(alloc, checked, script),
     }
 }
 
@@ -75,7 +74,7 @@ fn told_of(
     alloc: Global,
     checked: &Checked,
     script: &[u8],
-    names: bool,
+    names: NameUse,
 ) -> Result<BadLines, AllocError>
     ensures { IfOk result (TellsBad names checked.now script.now) }
 {
@@ -94,7 +93,7 @@ pub fn tell_bad_lines(
     alloc: Global,
     image: &[u8],
     script: &[u8],
-    names: bool,
+    names: NameUse,
 ) -> Result<BadLines, ScriptFault>
     ensures told { IfOk result (λ bad. (parts : Parts) × (image_at image.now ≡ Ok parts) × Accepted parts × TellsBad names parts script.now bad) }
 {

@@ -14,6 +14,7 @@ returns g c =
     let o = c.in_ok-span.ensures.opened in
     record {
       measured = measured medium old opened new c.args.place c.in_ok-span.span o c.close.ensures.leads;
+      refused = tt;
       honest = ((λ h. o.alike.0 (c.close.ensures.honest.0 h)), (λ h. c.close.ensures.honest.1 (o.alike.1 h)));
       unwritten = unwritten_on medium old.device opened.device new.device c.open.ensures.unwritten c.close.ensures.unwritten;
     }

@@ -1,4 +1,5 @@
 use Rattle.geos_cli.proofs.BytesPut.{only_read}
+use Rattle.geos_cli.proofs.BytesRefused.{item-refused}
 use Rattle.geos_cli.proofs.BytesWays.{item-opened}
 use Rattle.geos_cli.proofs.bytes.open_item.Goals as goal
 
@@ -12,5 +13,7 @@ returns g c =
       opened = item-opened medium old new c.args.i c.args.g c.args.n c.ilock.result (g.met.D.Device.at_once old.device)
           c.memory_is_legal.ensures.kept known.0 known.1 c.ilock.ensures.device.between c.ilock.ensures.gives
           c.ilock.ensures.stands c.ilock.ensures.writable;
+      refused = item-refused medium old new c.args.i c.args.g c.args.n c.ilock.result (g.met.D.Device.at_once old.device)
+          c.memory_is_legal.ensures.kept c.ilock.ensures.device.between c.ilock.ensures.gives;
       unwritten = only_read medium old.device new.device c.ilock.ensures.device.reads;
     }

@@ -1,7 +1,12 @@
 use Rattle.block_handles.specs.Store.{locks_of}
 use Rattle.vm_blocks.specs.View.{vm_slot}
+use Rattle.geos_cli.specs.declared.bytes.Place.TheVariants.{Chunk}
+use Rattle.geos_cli.specs.Bytes.{NotResized}
+use Rattle.geos_cli.specs.Script.{LeadsOn}
 use Rattle.geos_cli.proofs.BytesPut.{left_alone, on-ok, only_read, unwritten_on}
+use Rattle.geos_cli.proofs.BytesRefused.{unsized-chunk, unsized-unlocked}
 use Rattle.geos_cli.proofs.BytesWays.{locked-now, resized-chunk}
+use Rattle.geos_cli.proofs.Sessions.{passed-on}
 use Rattle.geos_cli.proofs.bytes.resize_chunk.Goals as goal
 
 pub mark-requires : goal.mark-requires
@@ -24,6 +29,8 @@ returns g c =
     record {
       leads = resized-chunk medium old locked marked resized new c.args.h c.args.c c.args.n c.resize_locked-done.result one two three
           c.in_ok-lock.ensures.leads c.mark.ensures.leads c.resize_locked-done.ensures.leads c.unlock.ensures.leads;
+      refused = unsized-chunk medium old locked marked resized new c.args.h c.args.c c.args.n c.resize_locked-done.result one two three
+          c.in_ok-lock.ensures.leads c.mark.ensures.leads c.resize_locked-done.ensures.leads c.unlock.ensures.leads;
       honest = on-ok c.resize_locked-done.result
           ((λ h. one.0 (two.0 (three.0 (four.0 h)))), (λ h. four.1 (three.1 (two.1 (one.1 h)))));
       unwritten = unwritten_on medium old.device resized.device new.device
@@ -35,3 +42,10 @@ returns g c =
 
 pub returns-in_err-lock-clause-unwritten : goal.returns-in_err-lock-clause-unwritten
 returns-in_err-lock-clause-unwritten g c = only_read g.D.Device.medium c.args.kernel.now.device c.lock.new.kernel.device c.lock.ensures.reads
+
+pub returns-in_err-lock-clause-refused : goal.returns-in_err-lock-clause-refused
+returns-in_err-lock-clause-refused g c =
+    let old = c.args.kernel.now in
+    let new = c.lock.new.kernel in
+    passed-on (λ why. LeadsOn g.D.Device.medium old new (λ allows. NotResized allows (Chunk c.args.h c.args.c) c.args.n why)) _ _
+    c.from_residual.ensures.1 (unsized-unlocked g.D.Device.medium old new c.args.h c.args.c c.args.n _ c.in_err-lock.ensures.leads)

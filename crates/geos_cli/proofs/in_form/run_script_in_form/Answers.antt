@@ -2,7 +2,6 @@ use Rattle.std.proofs.Common.{◌∙◌, sym, subst, arith}
 use Rattle.std.specs.Prelude.{All}
 use Rattle.std.specs.Str.Lines.{lines}
 use Rattle.geos_cli.specs.declared.script.Numbered.{Numbered}
-use Rattle.geos_cli.specs.InForm.{mode_of}
 use Rattle.geos_cli.specs.Script.{IsAdmitted, Loads}
 use Rattle.geos_cli.proofs.Commands.{commands-admitted}
 use Rattle.geos_cli.proofs.CommandsRun.{if_ok-map}
@@ -21,10 +20,10 @@ returns-clause-ran g c =
     record { read = c.in_ok-checked.ensures.image.0; accepted = c.in_ok-checked.ensures.image.1; good = c.in_ok-commands.ensures.commands.0 } in
     let same = c.deref.ensures.value ∙ c.in_ok-commands.ensures.commands.1 in
     if_ok-map c.carry_out_all_in_form.result
-    (script-ran g.D.Device.medium c.args.form c.mode_of.result (mode_of c.args.strict) c.args.image.now c.args.script.now
+    (script-ran g.D.Device.medium c.args.form c.args.mode c.args.image.now c.args.script.now
     c.in_ok-checked.checked c.args.kernel.now c.carry_out_all_in_form.new.kernel
     (g.W.Write.contents c.args.out.now.stream) (g.W.Write.contents c.carry_out_all_in_form.new.out.stream)
-    (omega (arith, c.if-script-gt-MOST_BYTES.false)) loads c.deref.result.now same c.mode_of.ensures)
+    (omega (arith, c.if-script-gt-MOST_BYTES.false)) loads c.deref.result.now same)
     c.carry_out_all_in_form.ensures.ran
 
 pub returns-clause-left : goal.returns-clause-left
@@ -33,8 +32,8 @@ returns-clause-left g c =
     record { read = c.in_ok-checked.ensures.image.0; accepted = c.in_ok-checked.ensures.image.1; good = c.in_ok-commands.ensures.commands.0 } in
     let same = c.deref.ensures.value ∙ c.in_ok-commands.ensures.commands.1 in
     fault-leaves c.carry_out_all_in_form.result _ _ _
-    (script-stopped g.D.Device.medium c.args.form c.mode_of.result (mode_of c.args.strict) c.args.image.now
+    (script-stopped g.D.Device.medium c.args.form c.args.mode c.args.image.now
     c.args.script.now c.in_ok-checked.checked c.args.kernel.now c.carry_out_all_in_form.new.kernel
     (g.W.Write.contents c.args.out.now.stream) (g.W.Write.contents c.carry_out_all_in_form.new.out.stream)
-    (omega (arith, c.if-script-gt-MOST_BYTES.false)) loads c.deref.result.now same c.mode_of.ensures)
+    (omega (arith, c.if-script-gt-MOST_BYTES.false)) loads c.deref.result.now same)
     c.carry_out_all_in_form.ensures.fault c.carry_out_all_in_form.ensures.stopped

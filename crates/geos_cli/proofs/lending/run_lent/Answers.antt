@@ -1,48 +1,33 @@
-use Rattle.std.proofs.Common.{◌≡◌, ◌∙◌, Some, sym, ap, take, subst, arith}
-use Rattle.std.specs.Prelude.{◌↔◌, slice_get}
-use Rattle.geos_terms.specs.Names.{vm}
-use Rattle.geos_image.specs.Parts.{Parts}
+use Rattle.std.proofs.Common.{◌∙◌, ap, subst, arith}
+use Rattle.std.specs.Prelude.{◌↔◌}
 use Rattle.vm_file.proofs.StateLaws.{steadily_then}
 use Rattle.geos_kernel.specs.Files.{vm_file_of}
 use Rattle.geos_machine.specs.Runs.{Throughout}
-use Rattle.geos_cli.specs.Script.{lent_handles, times, IsAllowed, Leads, Locks, NotLent, Unlocks}
-use Rattle.geos_cli.proofs.LentLocks.{entry-of}
-use Rattle.geos_cli.proofs.LentRuns.{lent-ran, lent-refused}
+use Rattle.geos_cli.specs.Script.{times, IsAllowed, Leads, Unlocks}
+use Rattle.geos_cli.proofs.LentRuns.{lent-ran}
 use Rattle.geos_cli.proofs.lending.run_lent.Goals as goal
 
-pub run-outcome-requires-clause-counts : goal.run-outcome-requires-clause-counts
-run-outcome-requires-clause-counts g c n =
-    let image = c.args.checked.now in
-    let call = c.args.call.now in
-    let slots = entry-of image call.routine c.routine.result.now
-    (subst (λ (i : Parts). slice_get i.routines call.routine ≡ Some c.routine.result.now) c.image.ensures.image c.routine.ensures) in
-    let lent = c.as_slice.ensures.value ∙ c.lent_handles-lent.ensures ∙ ap (λ s. lent_handles s call.handles) slots in
-    let known = c.memory_is_legal.ensures.file in
-    let none = (c.memory_is_legal.ensures.unlocked known.0 known.1).0 c.requires.unlocked in
-    omega (arith, c.in-Ok.ensures.counts n, sym (c.memory_is_legal.ensures.locks known.0 known.1 (vm n)) ∙ none n, ap (times n) lent)
+pub unlock_all-requires : goal.unlock_all-requires
+unlock_all-requires g c n =
+    let lent = c.as_slice.ensures.value ∙ c.in_ok-lent.ensures.handles in
+    omega (arith, c.run-outcome.ensures.counts n, c.in_ok-lent.ensures.counts n, ap (times n) lent)
 
-pub returns-in-Ok : goal.returns-in-Ok
-returns-in-Ok g c =
+pub returns : goal.returns
+returns g c =
     let medium = g.D.Device.medium in
-    let image = c.args.checked.now in
-    let call = c.args.call.now in
     let old = c.args.kernel.now in
-    let locked = c.lock_all.new.kernel in
+    let locked = c.lock_lent.new.kernel in
     let ran = c.run-outcome.new.kernel in
     let new = c.unlock_all.new.kernel in
-    let slots = entry-of image call.routine c.routine.result.now
-    (subst (λ (i : Parts). slice_get i.routines call.routine ≡ Some c.routine.result.now) c.image.ensures.image c.routine.ensures) in
-    let lent = c.lent_handles-lent.ensures ∙ ap (λ s. lent_handles s call.handles) slots in
-    let alike = c.lock_all.ensures.honest in
+    let lent = c.as_slice.ensures.value ∙ c.in_ok-lent.ensures.handles in
+    let alike = c.lock_lent.ensures.honest in
     let alike_ran : medium.honest ran.device ↔ medium.honest old.device =
     ((λ h. alike.0 (c.run-outcome.ensures.honest.0 h)), (λ h. c.run-outcome.ensures.honest.1 (alike.1 h))) in
     record {
-      ran = lent-ran medium old locked ran new alike alike_ran image call c.run-outcome.result.now
-          (subst (λ hs. Leads (medium.honest old.device) (Throughout medium old.device locked.device) old.core locked.core
-          (Locks (IsAllowed (medium.honest old.device)) hs)) (c.as_slice.ensures.value ∙ lent) c.in-Ok.ensures.locked)
-          c.run-outcome.ensures.ran
+      ran = lent-ran medium old locked ran new alike alike_ran c.args.checked.now c.args.call.now c.run-outcome.result.now
+          c.in_ok-lent.ensures.locked c.run-outcome.ensures.ran
           (subst (λ hs. Leads (medium.honest ran.device) (Throughout medium ran.device new.device) ran.core new.core
-          (Unlocks (IsAllowed (medium.honest ran.device)) hs)) (c.as_slice-in-Ok.ensures.value ∙ lent) c.unlock_all.ensures.leads);
+          (Unlocks (IsAllowed (medium.honest ran.device)) hs)) lent c.unlock_all.ensures.leads);
       refused = tt;
       honest = ((λ h. alike_ran.0 (c.unlock_all.ensures.honest.0 h)), (λ h. c.unlock_all.ensures.honest.1 (alike_ran.1 h)));
       unlocked = λ h handle.
@@ -50,49 +35,11 @@ returns-in-Ok g c =
             arith,
             c.unlock_all.ensures.counts h,
             c.run-outcome.ensures.counts h,
-            c.in-Ok.ensures.counts h,
-            c.requires.unlocked h handle,
-            ap (times h) (c.as_slice-in-Ok.ensures.value ∙ sym c.as_slice.ensures.value),
+            c.in_ok-lent.ensures.counts h,
+            ap (times h) lent,
           );
-      sees = (c.lock_all.ensures.sees.0, c.unlock_all.ensures.sees.1);
+      sees = (c.lock_lent.ensures.sees.0, c.unlock_all.ensures.sees.1);
       steadily = steadily_then medium (vm_file_of old) (vm_file_of ran) (vm_file_of new)
-          (steadily_then medium (vm_file_of old) (vm_file_of locked) (vm_file_of ran) c.lock_all.ensures.steadily c.run-outcome.ensures.steadily)
+          (steadily_then medium (vm_file_of old) (vm_file_of locked) (vm_file_of ran) c.lock_lent.ensures.steadily c.run-outcome.ensures.steadily)
           c.unlock_all.ensures.steadily;
-    }
-
-pub returns-in-Err : goal.returns-in-Err
-returns-in-Err g c =
-    let medium = g.D.Device.medium in
-    let image = c.args.checked.now in
-    let call = c.args.call.now in
-    let old = c.args.kernel.now in
-    let locked = c.lock_all.new.kernel in
-    let new = c.unlock_all-in-Err.new.kernel in
-    let slots = entry-of image call.routine c.routine.result.now
-    (subst (λ (i : Parts). slice_get i.routines call.routine ≡ Some c.routine.result.now) c.image.ensures.image c.routine.ensures) in
-    let lent = c.as_slice.ensures.value ∙ c.lent_handles-lent.ensures ∙ ap (λ s. lent_handles s call.handles) slots in
-    record {
-      ran = tt;
-      refused = subst (λ hs. Leads (medium.honest old.device) (Throughout medium old.device new.device) old.core new.core
-          (NotLent (IsAllowed (medium.honest old.device)) hs c.in-Err.refusal)) lent
-          (lent-refused medium old locked new c.lock_all.ensures.honest c.as_slice.result.now c.in-Err.locked
-          c.in-Err.ensures.within c.in-Err.refusal c.in-Err.ensures.refused
-          (subst (λ hs. Leads (medium.honest locked.device) (Throughout medium locked.device new.device) locked.core
-          new.core (Unlocks (IsAllowed (medium.honest locked.device)) (take c.in-Err.locked hs)))
-          (c.as_slice-in-Err.ensures.value ∙ sym c.as_slice.ensures.value) c.unlock_all-in-Err.ensures.leads));
-      honest = (
-        (λ h. c.lock_all.ensures.honest.0 (c.unlock_all-in-Err.ensures.honest.0 h)),
-        (λ h. c.unlock_all-in-Err.ensures.honest.1 (c.lock_all.ensures.honest.1 h)),
-      );
-      unlocked = λ h handle.
-          omega (
-            arith,
-            c.unlock_all-in-Err.ensures.counts h,
-            c.in-Err.ensures.fewer h,
-            c.requires.unlocked h handle,
-            ap (λ hs. times h (take c.in-Err.locked hs)) (c.as_slice-in-Err.ensures.value ∙ sym c.as_slice.ensures.value),
-          );
-      sees = (c.lock_all.ensures.sees.0, c.unlock_all-in-Err.ensures.sees.1);
-      steadily = steadily_then medium (vm_file_of old) (vm_file_of locked) (vm_file_of new) c.lock_all.ensures.steadily
-          c.unlock_all-in-Err.ensures.steadily;
     }

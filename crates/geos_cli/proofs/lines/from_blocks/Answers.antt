@@ -1,5 +1,5 @@
 use Rattle.std.proofs.Common.{◌∙◌, refl, sym, ap, arith}
-use Rattle.geos_text.specs.Words.{words}
+use Rattle.geos_cli.specs.Reading.{words_of}
 use Rattle.geos_cli.specs.Script.{from_blocks}
 use Rattle.geos_cli.proofs.Registers.{from-block, from-number}
 use Rattle.geos_cli.proofs.lines.from_blocks.Goals as goal
@@ -12,10 +12,10 @@ loop-word-smaller c = rw c.in-Some.ensures.some (omega arith)
 
 pub loop-word-preserved : goal.loop-word-preserved
 loop-word-preserved c = c.loop-word.invariant ∙ ap from_blocks c.in-Some.ensures.some
-    ∙ from-number c.in-Some.word.now (words c.in-Some.behind.now) (sym c.names_block.ensures ∙ c.if-names_block.false)
+    ∙ from-number c.in-Some.word.now (words_of c.in-Some.behind) (sym c.names_block.ensures ∙ c.if-names_block.false)
 
 pub returns-then-names_block : goal.returns-then-names_block
 returns-then-names_block c =
     let more = c.in-Some.ensures.some in
-    sym (c.loop-word.invariant ∙ ap from_blocks more ∙ from-block c.in-Some.word.now (words c.in-Some.behind.now)
+    sym (c.loop-word.invariant ∙ ap from_blocks more ∙ from-block c.in-Some.word.now (words_of c.in-Some.behind)
     (sym c.names_block.ensures ∙ c.if-names_block.true) ∙ sym more)

@@ -1,10 +1,10 @@
 use Rattle.std.proofs.Common.{◌≡◌, length}
-use Rattle.geos_text.specs.Words.{words}
+use Rattle.geos_cli.specs.Reading.{words_of}
 use Rattle.geos_cli.specs.Script.{from_blocks}
 use Rattle.geos_cli.proofs.lines.from_blocks.Given as goal
 
 abbrev pub invariant-loop-word : goal.invariant-loop-word
-invariant-loop-word l = from_blocks (words l.numbers) ≡ from_blocks (words l.rest)
+invariant-loop-word l = from_blocks (words_of l.numbers) ≡ from_blocks (words_of l.rest)
 
 abbrev pub decreases-loop-word : goal.decreases-loop-word
-decreases-loop-word l = length (words l.rest)
+decreases-loop-word l = length (words_of l.rest)

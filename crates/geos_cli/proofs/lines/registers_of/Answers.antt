@@ -1,6 +1,6 @@
 use Rattle.std.proofs.Common.{length-set, arith, sym, ap, ◌∙◌, ◌≡◌, ◌++◌, ◌∷◌, length, ◌+◌, ◌<◌, take, set}
 use Rattle.std.specs.Prelude.{option_map, Some}
-use Rattle.geos_text.specs.Words.{words}
+use Rattle.geos_cli.specs.Reading.{words_of}
 use Rattle.geos_text.specs.Numbers.{number_of}
 use Rattle.geos_cli.specs.Script.{before_blocks, numbers_of}
 use Rattle.geos_cli.proofs.Registers.{before-number, numbers-more, numbers-end, zeros-behind}
@@ -9,12 +9,12 @@ use Rattle.geos_cli.proofs.lines.registers_of.Goals as goal
 pub loop-i-preserved : goal.loop-i-preserved
 loop-i-preserved c =
     let so_far = c.loop-i.invariant in
-    let all = before_blocks (words c.args.numbers.now) in
-    let rest = before_blocks (words c.in-Some.behind.now) in
+    let all = before_blocks (words_of c.args.numbers) in
+    let rest = before_blocks (words_of c.in-Some.behind) in
     let registers = c.loop-i.registers in
     let i = c.loop-i.i in
     let n = c.in_ok-registers.field-0 in
-    let more = ap before_blocks c.in-Some.ensures.some ∙ before-number c.in-Some.word.now (words c.in-Some.behind.now)
+    let more = ap before_blocks c.in-Some.ensures.some ∙ before-number c.in-Some.word.now (words_of c.in-Some.behind)
     (sym c.names_block.ensures ∙ c.if-names_block.false) in
     let says : number_of c.in-Some.word.now ≡ Some n = sym c.number.ensures ∙ c.in_ok-registers.was in
     let inside : i < length registers = rw so_far.0 c.loop-i-test.true in
@@ -30,5 +30,5 @@ returns-in-None c =
     let i = c.loop-i.i in
     let none = ap before_blocks c.in-None.ensures.none in
     let numbers = so_far.1 ∙ ap (λ ws. option_map (λ ns. take i c.loop-i.registers ++ ns) (numbers_of ws)) none in
-    sym (numbers-end (before_blocks (words c.args.numbers.now)) c.loop-i.registers i so_far.0 c.loop-i.auto.i-end
+    sym (numbers-end (before_blocks (words_of c.args.numbers)) c.loop-i.registers i so_far.0 c.loop-i.auto.i-end
     (so_far.2 ∙ ap (λ ws. i + length ws) none) so_far.3 numbers)

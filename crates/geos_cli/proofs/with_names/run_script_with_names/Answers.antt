@@ -1,5 +1,4 @@
 use Rattle.std.proofs.Common.{◌∙◌, ap, map, arith}
-use Rattle.geos_cli.specs.InForm.{mode_of}
 use Rattle.geos_cli.specs.Names.{said_by}
 use Rattle.geos_cli.specs.WithNames.{LoadsNamed}
 use Rattle.geos_cli.proofs.CommandsRun.{if_ok-map}
@@ -19,10 +18,10 @@ returns-clause-ran g c =
     } in
     let same = ap (map said_by) c.deref.ensures.value ∙ c.in_ok-lines.ensures.lines.0 in
     if_ok-map c.carry_out_lines.result
-    (script-ran g.D.Device.medium c.args.form c.mode_of.result (mode_of c.args.strict) c.args.image.now c.args.script.now
+    (script-ran g.D.Device.medium c.args.form c.args.mode c.args.image.now c.args.script.now
     c.in_ok-checked.checked c.args.kernel.now c.carry_out_lines.new.kernel
     (g.W.Write.contents c.args.out.now.stream) (g.W.Write.contents c.carry_out_lines.new.out.stream) loads
-    (map said_by c.deref.result.now) same c.mode_of.ensures)
+    (map said_by c.deref.result.now) same)
     c.carry_out_lines.ensures.ran
 
 pub returns-clause-left : goal.returns-clause-left
@@ -37,8 +36,8 @@ returns-clause-left g c =
     } in
     let same = ap (map said_by) c.deref.ensures.value ∙ c.in_ok-lines.ensures.lines.0 in
     fault-leaves c.carry_out_lines.result _ _ _
-    (script-stopped g.D.Device.medium c.args.form c.mode_of.result (mode_of c.args.strict) c.args.image.now
+    (script-stopped g.D.Device.medium c.args.form c.args.mode c.args.image.now
     c.args.script.now c.in_ok-checked.checked c.args.kernel.now c.carry_out_lines.new.kernel
     (g.W.Write.contents c.args.out.now.stream) (g.W.Write.contents c.carry_out_lines.new.out.stream) loads
-    (map said_by c.deref.result.now) same c.mode_of.ensures)
+    (map said_by c.deref.result.now) same)
     c.carry_out_lines.ensures.fault c.carry_out_lines.ensures.stopped

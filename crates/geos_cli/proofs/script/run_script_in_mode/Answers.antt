@@ -6,7 +6,7 @@ use Rattle.geos_cli.specs.declared.script.Numbered.{Numbered}
 use Rattle.geos_cli.specs.Script.{IsAdmitted, Loads}
 use Rattle.geos_cli.proofs.Commands.{commands-admitted}
 use Rattle.geos_cli.proofs.CommandsRun.{if_ok-map, if_err-map, script-ran, script-stopped}
-use Rattle.geos_cli.proofs.script.run_in_mode.Goals as goal
+use Rattle.geos_cli.proofs.script.run_script_in_mode.Goals as goal
 
 pub carry_out_all-requires-clause-admitted : goal.carry_out_all-requires-clause-admitted
 carry_out_all-requires-clause-admitted g c =
