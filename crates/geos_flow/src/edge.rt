@@ -1,7 +1,6 @@
 //! The edges along which control goes from an instruction.
 
 ghost use Rattle.std.specs.Prelude.{◌≡◌, ◌<◌};
-ghost use Rattle.geos_image.specs.Parts.{Parts};
 ghost use Rattle.geos_flow.specs.Edges.{end_of, end_in, number_of};
 
 use geos_image::{Image, Instr};

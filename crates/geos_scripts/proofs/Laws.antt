@@ -1,5 +1,5 @@
 -- What is told of lines, one after another.
-use Rattle.std.proofs.Common.{◌≡◌, ◌∙◌, ◌+◌, ◌<◌, ◌↔◌, ℕ, List, [], ◌∷◌, ◌++◌, length, Option, Some, None, refl, sym, ap, subst, suc, drop, get_or, drop-cons, ◌≤◌, arith, append_assoc, append-nil, length-append}
+use Rattle.std.proofs.Common.{◌≡◌, ◌∙◌, ◌+◌, ◌<◌, ◌↔◌, ℕ, List, [], ◌∷◌, ◌++◌, length, None, refl, sym, ap, subst, suc, drop, get_or, drop-cons, ◌≤◌, arith, append_assoc, append-nil, length-append}
 use Rattle.std.proofs.lemmas.List.{drop_all}
 use Rattle.std.specs.Str.Lines.{lines}
 use Rattle.geos_image.specs.Parts.{Parts}

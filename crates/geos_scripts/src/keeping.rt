@@ -1,6 +1,6 @@
 //! What is wrong with a line of a script: with its command, or else with what keeps a word of it.
 
-ghost use Rattle.std.specs.Prelude.{◌≡◌, ◌≤◌, ◌++◌, ◌∷◌, List, ℕ, All, true, false, length, drop, codes, IsTrue, IfNone, IfSome};
+ghost use Rattle.std.specs.Prelude.{◌≡◌, ◌≤◌, All, true, false, length, drop, IfNone, IfSome};
 ghost use Rattle.geos_image.specs.Parts.{Parts};
 ghost use Rattle.geos_text.specs.Words.{words};
 ghost use Rattle.geos_cli.specs.Names.{is_arrow};

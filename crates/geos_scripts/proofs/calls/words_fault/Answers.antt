@@ -1,4 +1,4 @@
-use Rattle.std.proofs.Common.{◌≡◌, ◌∙◌, List, ℕ, [], drop, Option, refl, sym, ap, inl, inr, subst, arith}
+use Rattle.std.proofs.Common.{◌≡◌, ◌∙◌, List, ℕ, drop, Option, refl, sym, ap, inl, inr, subst, arith}
 use Rattle.std.specs.Prelude.{not, unwrap_or}
 use Rattle.std.specs.List.{count_by}
 use Rattle.geos_image.specs.Legal.{is_own}

@@ -1,4 +1,4 @@
-use Rattle.std.proofs.Common.{◌≡◌, ◌≤◌, ◌-◌, ◌+◌, List, ℕ, drop, length, Some}
+use Rattle.std.proofs.Common.{◌≡◌, ◌≤◌, ◌-◌, ◌+◌, drop, length, Some}
 use Rattle.std.specs.Prelude.{slice_get}
 use Rattle.geos_image.specs.declared.routine.Routine.{Routine}
 use Rattle.geos_text.specs.Words.{words}
