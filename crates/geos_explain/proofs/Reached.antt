@@ -1,27 +1,19 @@
 -- The marks say what control reaches.
-use Rattle.std.proofs.Common.{◌≡◌, ◌<◌, ◌≤◌, ℕ, zero, suc, Bool, true, false, List, [], ◌∷◌, length, Option, Some, sym, ap, ◌∙◌, subst, arith, inl, inr}
-use Rattle.std.specs.Prelude.{◌&&◌}
-use Rattle.std.proofs.lemmas.Bool.{and_parts, cases_lt}
+use Rattle.std.proofs.Common.{◌≡◌, ◌<◌, ◌≤◌, ℕ, zero, suc, Bool, false, List, length, Option, sym, ◌∙◌, subst, arith, inl, inr}
+use Rattle.std.proofs.lemmas.Bool.{cases_lt}
 use Rattle.std.proofs.lemmas.List.{length-replicate}
-use Rattle.std.proofs.lemmas.Option.{slice_get_within}
 use Rattle.geos_image.specs.Parts.{Parts, start_of}
 use Rattle.geos_image.proofs.Instrs.{image_parts}
-use Rattle.geos_verify.specs.Rows.{has_edge}
 use Rattle.geos_flow.specs.declared.edge.Edge.{Edge}
 use Rattle.geos_flow.specs.declared.search.Heading.TheVariants.{Ahead}
-use Rattle.geos_flow.specs.Edges.{end_of}
-use Rattle.geos_flow.specs.Flow.{Step, step_by, Lead as Steps, MarksWhatIsLed, all_led}
+use Rattle.geos_flow.specs.Flow.{Step, step_by, Lead, MarksWhatIsLed, all_led}
 use Rattle.geos_flow.specs.Marks.{no_marks, marked}
 use Rattle.geos_flow.specs.Waiting.{Has}
 use Rattle.geos_flow.proofs.Leading.{all_led-led}
 use Rattle.geos_flow.proofs.Marked.{mark-grows, mark-was, mark-there, none-marked, has-marked, is-marked}
-use Rattle.geos_flow.proofs.Taking.{step-is, is-step, end-is, end-there, inside}
-use Rattle.geos_explain.specs.Edges.{are_in_one}
-use Rattle.geos_explain.specs.Led.{stays, starts_marked, reached, is_reached, LeadsTo, Lead, MarksWhatIsReached}
-
-and-both : (x y : Bool) → x ≡ true → y ≡ true → (x && y) ≡ true
-and-both true y is both = both
-and-both false y is both = absurd cc
+use Rattle.geos_flow.proofs.Taking.{inside}
+use Rattle.geos_explain.specs.Led.{stays, starts_marked, reached, is_reached, MarksWhatIsReached}
+use Rattle.geos_explain.proofs.Comes.{lead-low}
 
 -- ---- First instructions
 
@@ -53,46 +45,6 @@ start-there image (suc n) r lt low = elim (cases_lt r n) [
       (subst (λ (k : ℕ). start_of image.routines k < 4096) (sym same) low))
 ]
 
--- ---- Edges
-
-module _ (image : Parts) where
-  abbrev steps : Edge → Option Step
-  steps edge = step_by image Ahead (stays image) edge
-
-  -- a step is an edge along which control goes
-  leads-to : (edge : Edge) (from to : ℕ) → steps edge ≡ Some (record { from = from; to = to }) → (from ≡ edge.from) × LeadsTo image edge to
-  leads-to edge from to is =
-      let found = step-is image Ahead (stays image) edge (record { from = from; to = to }) is in
-      let end = end-is image edge found.end found.ends in
-      let same : found.end ≡ to = ap (λ s. s.to) found.is in
-      let goes = and-both (has_edge end.point.instr edge.branch) (are_in_one image edge.from (end_of edge end.point.instr) (length image.routines))
-      end.has (subst (λ (k : ℕ). are_in_one image edge.from k (length image.routines) ≡ true) (sym end.is) found.is_counted) in
-      (sym (ap (λ s. s.from) found.is), record { point = end.point; there = end.there; goes = goes; ends = end.is ∙ same })
-
-  lead-of : (start : ℕ) (edges : List Edge) (pc : ℕ) → Steps steps start edges pc → Lead image start edges pc
-  lead-of start [] pc lead = lead
-  lead-of start (edge ∷ edges) pc lead =
-      let on = leads-to edge lead.0 pc lead.2 in
-      (subst (Lead image start edges) on.0 (lead-of start edges lead.0 lead.1), on.1)
-
-  steps-of : (start : ℕ) (edges : List Edge) (pc : ℕ) → pc < length image.points → Lead image start edges pc → Steps steps start edges pc
-  steps-of start [] pc low lead = lead
-  steps-of start (edge ∷ edges) pc low lead =
-      let there = slice_get_within image.points edge.from lead.1.point lead.1.there in
-      (edge.from, steps-of start edges edge.from there lead.0, step-to edge pc low lead.1)
-    where
-      step-to : (edge : Edge) (to : ℕ) → to < length image.points → LeadsTo image edge to → steps edge ≡ Some (record { from = edge.from; to = to })
-      step-to edge to below leads =
-          let parts = and_parts (has_edge leads.point.instr edge.branch) (are_in_one image edge.from (end_of edge leads.point.instr) (length image.routines)) leads.goes in
-          is-step image Ahead (stays image) edge to (end-there image edge leads.point to leads.there parts.0 leads.ends below)
-          (subst (λ (k : ℕ). are_in_one image edge.from k (length image.routines) ≡ true) leads.ends parts.1)
-
--- a way begins where an instruction stands
-lead-low : (image : Parts) (start : ℕ) (edges : List Edge) (pc : ℕ) → pc < length image.points → Lead image start edges pc → start < length image.points
-lead-low image start [] pc low lead = omega arith
-lead-low image start (edge ∷ edges) pc low lead =
-    lead-low image start edges edge.from (slice_get_within image.points edge.from lead.1.point lead.1.there) lead.0
-
 -- the marks are those of what control reaches
 pub marks-reached : MarksWhatIsReached
 unfolding is_reached reached
@@ -103,17 +55,15 @@ marks-reached image pc legal lt = (
         r = start.0;
         within = start.1;
         edges = led.edges;
-        lead = subst (λ s. Lead image s led.edges pc) start.2
-            (lead-of image led.start led.edges pc led.lead);
+        lead = subst (λ s. Lead steps s led.edges pc) start.2 led.lead;
       }),
-  λ R. (let low = lead-low image (start_of image.routines R.r) R.edges pc lt R.lead in
-      let first : start_of image.routines R.r < 4096 = omega (arith, low, short) in
+  λ R. (let first = lead-low steps (inside image Ahead (stays image) short) (start_of image.routines R.r) R.edges pc (omega (arith, lt, short)) R.lead in
       (all pc).1 (record {
         start = start_of image.routines R.r;
         begins = is-marked starts (start_of image.routines R.r) first
             (start-there image (length image.routines) R.r R.within first);
         edges = R.edges;
-        lead = steps-of image (start_of image.routines R.r) R.edges pc lt R.lead;
+        lead = R.lead;
       })),
 )
   where
@@ -123,5 +73,8 @@ marks-reached image pc legal lt = (
     starts : List Bool
     starts = starts_marked image (length image.routines)
 
-    all : MarksWhatIsLed (step_by image Ahead (stays image)) starts (all_led (step_by image Ahead (stays image)) starts)
-    all = all_led-led (step_by image Ahead (stays image)) starts (starts-full image (length image.routines)) (inside image Ahead (stays image) short)
+    steps : Edge → Option Step
+    steps edge = step_by image Ahead (stays image) edge
+
+    all : MarksWhatIsLed steps starts (all_led steps starts)
+    all = all_led-led steps starts (starts-full image (length image.routines)) (inside image Ahead (stays image) short)

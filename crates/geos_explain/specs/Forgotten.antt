@@ -1,19 +1,17 @@
 -- Which call forgets what is to be known at a place: behind it only what its routine's `out` line says is known.
-use Rattle.std.specs.Prelude.{◌≡◌, ℕ, zero, suc, ◌+◌, Bool, true, false, ◌&&◌, not, nat_lt, nat_le, if◌then◌else◌, List, [], ◌∷◌, Option, Some, None, slice_get, slice_index_or}
+use Rattle.std.specs.Prelude.{◌≡◌, ℕ, Bool, true, false, ◌&&◌, not, nat_lt, nat_le, List, Option, Some, None, slice_get, slice_index_or}
 use Rattle.geos_verify.specs.declared.place.Place.{Place as KnownPlace}
 use Rattle.geos_verify.specs.Places.{places}
 use Rattle.geos_image.specs.declared.row.Row.{Row}
-use Rattle.geos_image.specs.Parts.{start_of}
 use Rattle.geos_verify.specs.Rows.{after, bound, has_edge, is_empty, pointer_at, pointer_fits, slot_fits, slot_state}
 use Rattle.geos_flow.specs.declared.edge.Edge.{Edge}
 use Rattle.geos_explain.specs.declared.forgotten.Item.{Item}
 use Rattle.geos_explain.specs.declared.forgotten.Item.TheVariants.{Bound, Slot, Held, Leads, Apart}
-use Rattle.geos_flow.specs.declared.search.Heading.TheVariants.{Back}
 use Rattle.geos_flow.specs.Edges.{end_of}
-use Rattle.geos_flow.specs.Flow.{followed}
-use Rattle.geos_flow.specs.Marks.{no_marks, marked, is_marked}
+use Rattle.geos_flow.specs.Marks.{is_marked}
+use Rattle.geos_explain.specs.Edges.{leading_to, LeadOn}
 use Rattle.geos_explain.specs.Lost.{ComesTo}
-use Rattle.geos_explain.specs.Places.{Place, IsPlace, comes_alike, is_inside}
+use Rattle.geos_explain.specs.Places.{Place, IsPlace, comes_alike, is_inside, last_of}
 use Rattle.geos_explain.specs.Since.{IsInside}
 use Rattle.geos_explain.specs.Ways.{forgets}
 
@@ -39,7 +37,7 @@ stays_lacked place item edge = elim (slice_get (places place.image) edge.from) [
 
 -- from where a way leads to a pc on which the item is not known all along
 abbrev pub lacking_from : Place → Item → ℕ → List Bool
-lacking_from place item to = followed place.image Back (λ edge end. stays_lacked place item edge) (marked no_marks to)
+lacking_from place item to = leading_to place.image (stays_lacked place item) to
 
 -- an instruction is a call behind which the item is not known, and before which it is, and control comes from it to a pc that is
 -- marked
@@ -53,30 +51,15 @@ unfoldable pub forgets_at : Place → Item → List Bool → ℕ → Bool
 forgets_at place item marks from =
     elim (slice_get (places place.image) from) [ None ↦ false | Some point ↦ forgets_item place item marks from point ]
 
--- of the first n instructions of the routine, the last that is such a call
-unfoldable pub last_forgetting : Place → Item → List Bool → ℕ → Option ℕ
-last_forgetting place item marks zero = None
-last_forgetting place item marks (suc n) =
-    let from = start_of place.image.routines place.r + n in
-    if forgets_at place item marks from then Some from else last_forgetting place item marks n
-
 -- the last call of the routine that forgets the item on a way to the place on which it is not known again
 abbrev pub forgetting_call : Place → Item → Option ℕ
-forgetting_call place item = last_forgetting place item (lacking_from place item place.pc) place.routine.count
+forgetting_call place item = last_of place (forgets_at place item (lacking_from place item place.pc)) place.routine.count
 
 -- What is said, as a relation on ways
 
--- control comes along an edge of the routine to a pc, as it comes to the place, and the item is not known before it
-pub record IsLackedOver (place : Place) (item : Item) (edge : Edge) (to : ℕ) : Type 0 where
-  pub inside : IsInside place edge.from
-  pub comes : ComesTo place edge to
-  pub before : knows comes.point.row item ≡ false
-
--- edges lead from a pc to another, and the item is not known on them all along
-abbrev pub LackedAlong : Place → Item → ℕ → ℕ → List Edge → Type 0
-LackedAlong place item to pc [] = pc ≡ to
-LackedAlong place item to pc (edge ∷ edges) =
-    (edge.from ≡ pc) × ((next : ℕ) × IsLackedOver place item edge next × LackedAlong place item to next edges)
+-- a way leads from one pc to another on which the item is not known all along
+abbrev pub IsLackedFrom : Place → Item → ℕ → ℕ → Type 0
+IsLackedFrom place item pc to = LeadOn place.image (stays_lacked place item) pc to
 
 -- the instruction at a pc of the routine is a call, before which the item is known; behind it that is not, and from there a way
 -- leads to the place on which it is not known all along
@@ -87,8 +70,7 @@ pub record IsForgottenBy (place : Place) (item : Item) (from : ℕ) : Type 0 whe
   pub calls : forgets comes.point.instr.opcode ≡ true
   pub known : knows comes.point.row item ≡ true
   pub lost : knows (after place.image from comes.point.row false) item ≡ false
-  pub edges : List Edge
-  pub way : LackedAlong place item place.pc next edges
+  pub way : IsLackedFrom place item next place.pc
 
 -- a call that is named forgets the item on a way to the place
 abbrev pub WhatIsSaidOfCallsHolds : Type 0

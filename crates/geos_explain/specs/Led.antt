@@ -1,14 +1,12 @@
 -- Which instructions control reaches: a mark for each pc of an image, of which there are at most 4,096.
-use Rattle.std.specs.Prelude.{◌≡◌, ◌<◌, ◌↔◌, ℕ, zero, suc, Bool, true, List, [], ◌∷◌, Some, length, slice_get}
-use Rattle.geos_image.specs.declared.point.Point.{Point}
+use Rattle.std.specs.Prelude.{◌≡◌, ◌<◌, ◌↔◌, ℕ, zero, suc, Bool, true, List, length}
 use Rattle.geos_image.specs.Parts.{Parts, start_of}
 use Rattle.geos_image.specs.Legal.{is_image}
 use Rattle.geos_flow.specs.declared.edge.Edge.{Edge}
 use Rattle.geos_flow.specs.declared.search.Heading.TheVariants.{Ahead}
-use Rattle.geos_flow.specs.Edges.{end_of}
-use Rattle.geos_flow.specs.Flow.{followed}
+use Rattle.geos_flow.specs.Flow.{Lead, step_by, followed}
 use Rattle.geos_flow.specs.Marks.{no_marks, marked, is_marked}
-use Rattle.geos_explain.specs.Edges.{are_in_one, takes}
+use Rattle.geos_explain.specs.Edges.{are_in_one}
 
 -- an edge stays in a routine
 abbrev pub stays : Parts → Edge → ℕ → Bool
@@ -29,24 +27,12 @@ is_reached image pc = is_marked (reached image) pc
 
 -- What control reaches, as a relation
 
--- control goes along an edge to a pc
-pub record LeadsTo (image : Parts) (edge : Edge) (to : ℕ) : Type 0 where
-  pub point : Point
-  pub there : slice_get image.points edge.from ≡ Some point
-  pub goes : takes image edge point.instr ≡ true
-  pub ends : end_of edge point.instr ≡ to
-
--- edges, the last first, lead from one pc to another
-abbrev pub Lead : Parts → ℕ → List Edge → ℕ → Type 0
-Lead image start [] pc = pc ≡ start
-Lead image start (edge ∷ edges) pc = Lead image start edges edge.from × LeadsTo image edge pc
-
--- edges lead to the pc from the first instruction of a routine, and none of them leaves it
+-- edges that stay in a routine lead to the pc from the first instruction of one
 pub record IsReached (image : Parts) (pc : ℕ) : Type 0 where
   pub r : ℕ
   pub within : r < length image.routines
   pub edges : List Edge
-  pub lead : Lead image (start_of image.routines r) edges pc
+  pub lead : Lead (step_by image Ahead (stays image)) (start_of image.routines r) edges pc
 
 -- of the instructions of an image that the format allows, those that control reaches are marked, and no other
 abbrev pub MarksWhatIsReached : Type 0

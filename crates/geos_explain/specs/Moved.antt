@@ -1,20 +1,18 @@
 -- Which instruction moves an index going round a loop.
-use Rattle.std.specs.Prelude.{◌≡◌, ℕ, zero, suc, ◌+◌, Bool, true, false, ◌&&◌, ◌||◌, ◌==◌, if◌then◌else◌, List, [], ◌∷◌, Option, Some, None, slice_get, codes, decimal}
+use Rattle.std.specs.Prelude.{◌≡◌, ℕ, Bool, true, false, ◌&&◌, ◌||◌, ◌==◌, if◌then◌else◌, List, [], ◌∷◌, Option, Some, None, slice_get, codes, decimal}
 use Rattle.std.specs.List.{concat}
 use Rattle.geos_verify.specs.declared.place.Place.{Place as KnownPlace}
 use Rattle.geos_verify.specs.Places.{places}
 use Rattle.geos_image.specs.declared.instr.Instr.{Instr}
-use Rattle.geos_image.specs.Parts.{start_of}
 use Rattle.geos_opcodes.specs.declared.opcode.Opcode.{Opcode}
 use Rattle.geos_opcodes.specs.declared.opcode.Opcode.TheVariants.{Add, Sub, Muli}
 use Rattle.geos_opcodes.specs.Facts.{word_of}
-use Rattle.geos_flow.specs.declared.edge.Edge.{Edge}
 use Rattle.geos_explain.specs.declared.forgotten.Item.{Item}
 use Rattle.geos_explain.specs.declared.forgotten.Item.TheVariants.{Bound}
-use Rattle.geos_explain.specs.Forgotten.{lacking_from, LackedAlong}
+use Rattle.geos_explain.specs.Forgotten.{lacking_from, IsLackedFrom}
 use Rattle.geos_flow.specs.Marks.{is_marked}
 use Rattle.geos_explain.specs.Numbers.{pc_text}
-use Rattle.geos_explain.specs.Places.{Place, IsPlace}
+use Rattle.geos_explain.specs.Places.{Place, IsPlace, last_of}
 
 -- an instruction puts into a word what it makes of it
 abbrev pub moves : Instr → Opcode → ℕ → Bool
@@ -28,13 +26,6 @@ unfoldable pub moves_at : Place → ℕ → List Bool → ℕ → Bool
 moves_at place w marks from =
     elim (slice_get (places place.image) from) [ None ↦ false | Some point ↦ is_marked marks from && moves point.instr point.instr.opcode w ]
 
--- of the first n instructions of the routine, the last that does
-unfoldable pub last_moving : Place → ℕ → List Bool → ℕ → Option ℕ
-last_moving place w marks zero = None
-last_moving place w marks (suc n) =
-    let from = start_of place.image.routines place.r + n in
-    if moves_at place w marks from then Some from else last_moving place w marks n
-
 -- an instruction, if a way leads from the place to it on which an item is not known all along
 abbrev pub if_round : Place → Item → Option ℕ → Option ℕ
 if_round place item None = None
@@ -43,7 +34,7 @@ if_round place item (Some from) = if is_marked (lacking_from place item from) pl
 -- the last instruction of the routine that moves a word on a way to the place on which an item is not known, if such a way leads
 -- back to it
 abbrev pub moving : Place → Item → ℕ → Option ℕ
-moving place item w = if_round place item (last_moving place w (lacking_from place item place.pc) place.routine.count)
+moving place item w = if_round place item (last_of place (moves_at place w (lacking_from place item place.pc)) place.routine.count)
 
 -- an instruction moves a word going round
 unfoldable pub moved_words : Place → ℕ → ℕ → Instr → List ℕ
@@ -67,10 +58,8 @@ pub record IsMovedRound (place : Place) (item : Item) (w from : ℕ) : Type 0 wh
   pub point : KnownPlace
   pub there : slice_get (places place.image) from ≡ Some point
   pub does : moves point.instr point.instr.opcode w ≡ true
-  pub edges : List Edge
-  pub there_to : LackedAlong place item place.pc from edges
-  pub back_edges : List Edge
-  pub back : LackedAlong place item from place.pc back_edges
+  pub there_to : IsLackedFrom place item from place.pc
+  pub back : IsLackedFrom place item place.pc from
 
 -- an instruction that is said to move a word going round does
 abbrev pub WhatIsSaidOfRoundsHolds : Type 0

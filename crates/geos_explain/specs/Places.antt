@@ -1,5 +1,5 @@
 -- An instruction of a routine, with what is known there.
-use Rattle.std.specs.Prelude.{◌≡◌, ◌<◌, ◌≤◌, ℕ, ◌+◌, Bool, not, if◌then◌else◌, List, Option, true, length, slice_get, IfSome}
+use Rattle.std.specs.Prelude.{◌≡◌, ◌<◌, ◌≤◌, ℕ, zero, suc, ◌+◌, Bool, not, if◌then◌else◌, List, Option, Some, None, true, length, slice_get, IfSome}
 use Rattle.geos_image.specs.declared.instr.Instr.{Instr}
 use Rattle.geos_image.specs.declared.row.Row.{Row}
 use Rattle.geos_image.specs.declared.potential.Potential.{Potential}
@@ -75,7 +75,13 @@ comes_alike place pc = agrees (is_reached place.image place.pc) (is_reached plac
 abbrev pub is_inside : Place → ℕ → Bool
 is_inside place pc = has_place (start_of place.image.routines place.r) place.routine.count pc
 
--- the same, by its bounds
+-- of the first n of them, the last of which something is so
+unfoldable pub last_of : Place → (ℕ → Bool) → ℕ → Option ℕ
+last_of place is zero = None
+last_of place is (suc n) =
+    if is (start_of place.image.routines place.r + n) then Some (start_of place.image.routines place.r + n) else last_of place is n
+
+-- a pc is that of one of them, by its bounds
 pub record IsPcOf (place : Place) (pc : ℕ) : Type 0 where
   pub begins : start_of place.image.routines place.r ≤ pc
   pub ends : pc < start_of place.image.routines place.r + place.routine.count

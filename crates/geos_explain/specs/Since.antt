@@ -1,6 +1,6 @@
 -- Since where a slot is held at a place: from which instructions of its routine, or from the caller, a way leads there on which it
 -- is held all along.
-use Rattle.std.specs.Prelude.{◌≡◌, ℕ, zero, suc, ◌+◌, Bool, true, false, ◌&&◌, ◌||◌, not, nat_lt, if◌then◌else◌, List, [], ◌∷◌, Some, None, slice_get}
+use Rattle.std.specs.Prelude.{◌≡◌, ℕ, zero, suc, ◌+◌, Bool, true, false, ◌&&◌, ◌||◌, not, nat_lt, if◌then◌else◌, List, Some, None, slice_get}
 use Rattle.geos_verify.specs.declared.place.Place.{Place as KnownPlace}
 use Rattle.geos_verify.specs.Places.{places}
 use Rattle.geos_image.specs.declared.row.Row.{Row}
@@ -9,10 +9,9 @@ use Rattle.geos_verify.specs.Rows.{after, has_edge, is_empty, slot_state}
 use Rattle.geos_flow.specs.declared.edge.Edge.{Edge}
 use Rattle.geos_explain.specs.declared.since.Since.{Since}
 use Rattle.geos_explain.specs.declared.since.Since.TheVariants.{Unknown, Entry, EntryOrOther, Once, Often}
-use Rattle.geos_flow.specs.declared.search.Heading.TheVariants.{Back}
 use Rattle.geos_flow.specs.Edges.{end_of}
-use Rattle.geos_flow.specs.Flow.{followed}
-use Rattle.geos_flow.specs.Marks.{no_marks, marked, is_marked}
+use Rattle.geos_flow.specs.Marks.{is_marked}
+use Rattle.geos_explain.specs.Edges.{leading_to, LeadOn}
 use Rattle.geos_explain.specs.Lost.{ComesTo}
 use Rattle.geos_explain.specs.Places.{Place, IsPlace, comes_alike, is_inside}
 
@@ -44,7 +43,7 @@ stays_held place a edge = elim (slice_get (places place.image) edge.from) [
 
 -- from where a way leads to the place on which the slot is held
 unfoldable pub held_from : Place → ℕ → List Bool
-held_from place a = followed place.image Back (λ edge end. stays_held place a edge) (marked no_marks place.pc)
+held_from place a = leading_to place.image (stays_held place a) place.pc
 
 -- the slot is empty before an instruction, which leads on so
 unfoldable pub fills_at : Place → ℕ → List Bool → ℕ → Bool
@@ -91,17 +90,9 @@ held_since place a = since_below place a (held_from place a) place.routine.count
 abbrev pub IsInside : Place → ℕ → Type 0
 IsInside place from = is_inside place from ≡ true
 
--- control comes along an edge of the routine to a pc, as it comes to the place, and the slot is held before it and behind it
-pub record IsHeldOver (place : Place) (a : ℕ) (edge : Edge) (to : ℕ) : Type 0 where
-  pub inside : IsInside place edge.from
-  pub comes : ComesTo place edge to
-  pub before : holds comes.point.row a ≡ true
-  pub behind : holds (after place.image edge.from comes.point.row edge.branch) a ≡ true
-
--- edges lead from a pc to the place, and the slot is held on them all along
-abbrev pub HeldAlong : Place → ℕ → ℕ → List Edge → Type 0
-HeldAlong place a pc [] = pc ≡ place.pc
-HeldAlong place a pc (edge ∷ edges) = (edge.from ≡ pc) × ((to : ℕ) × IsHeldOver place a edge to × HeldAlong place a to edges)
+-- a way leads from a pc to the place on which the slot is held all along
+abbrev pub IsHeldFrom : Place → ℕ → ℕ → Type 0
+IsHeldFrom place a pc = LeadOn place.image (stays_held place a) pc place.pc
 
 -- the slot is empty before an instruction of the routine and held behind one of its edges, from where a way leads to the place on
 -- which it is held all along
@@ -112,14 +103,12 @@ pub record IsSince (place : Place) (a from : ℕ) : Type 0 where
   pub comes : ComesTo place (record { from = from; branch = branch }) to
   pub empty : holds comes.point.row a ≡ false
   pub held : holds (after place.image from comes.point.row branch) a ≡ true
-  pub edges : List Edge
-  pub way : HeldAlong place a to edges
+  pub way : IsHeldFrom place a to
 
 -- the entry row has the slot held, and from the routine's beginning a way leads to the place on which it is held all along
 pub record IsSinceEntry (place : Place) (a : ℕ) : Type 0 where
   pub held : holds place.routine.entry a ≡ true
-  pub edges : List Edge
-  pub way : HeldAlong place a (start_of place.image.routines place.r) edges
+  pub way : IsHeldFrom place a (start_of place.image.routines place.r)
 
 -- what is said of a slot is so
 abbrev pub IsSaidOf : Place → ℕ → Since → Type 0

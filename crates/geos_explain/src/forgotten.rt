@@ -3,7 +3,7 @@
 ghost use Rattle.std.specs.Prelude.{◌≡◌, ◌<◌, length, Some};
 ghost use Rattle.geos_explain.specs.Places.{IsPlace, place_of};
 ghost use Rattle.geos_explain.specs.Forgotten.{knows, comes_to_marked, lacking_from};
-ghost use Rattle.geos_explain.specs.Forgotten.{forgets_at, last_forgetting, forgetting_call, WhatIsSaidOfCallsHolds};
+ghost use Rattle.geos_explain.specs.Forgotten.{forgets_at, forgetting_call, WhatIsSaidOfCallsHolds};
 
 use crate::place::Place;
 use crate::routines::{comes_alike, is_inside};
@@ -112,7 +112,7 @@ fn forgets_at(place: &Place, item: Item, marks: &Marks, from: u16) -> bool
 }
 
 /// The last call of the routine that forgets the item on a way to the place on which it is not known again.
-#[tactic(auto, unfolding(crate::specs::Forgotten::last_forgetting))]
+#[tactic(auto, unfolding(crate::specs::Places::last_of))]
 pub(crate) fn forgetting_call(place: &Place, item: Item) -> Option<u16>
     requires { IsPlace (place_of place.now) }
     ensures { result ≡ forgetting_call (place_of place.now) item }

@@ -1,8 +1,8 @@
 //! Which instruction moves an index going round a loop.
 
 ghost use Rattle.std.specs.Prelude.{◌≡◌, ◌++◌, OnOk};
-ghost use Rattle.geos_explain.specs.Places.{IsPlace, place_of};
-ghost use Rattle.geos_explain.specs.Moved.{moves, moves_at, last_moving, if_round};
+ghost use Rattle.geos_explain.specs.Places.{IsPlace, last_of, place_of};
+ghost use Rattle.geos_explain.specs.Moved.{moves, moves_at, if_round};
 ghost use Rattle.geos_explain.specs.Moved.{moving, moved_words, moved_text, WhatIsSaidOfRoundsHolds};
 
 use crate::forgotten::{Item, lacking_from};
@@ -36,10 +36,10 @@ fn moves_at(place: &Place, w: u8, marks: &Marks, from: u16) -> bool
 }
 
 /// The last such instruction of the routine.
-#[tactic(auto, unfolding(crate::specs::Moved::last_moving))]
+#[tactic(auto, unfolding(crate::specs::Places::last_of))]
 fn last_moving(place: &Place, w: u8, marks: &Marks) -> Option<u16>
     requires { IsPlace (place_of place.now) }
-    ensures { result ≡ last_moving (place_of place.now) w marks.now place.now.routine.now.count }
+    ensures { result ≡ last_of (place_of place.now) (moves_at (place_of place.now) w marks.now) place.now.routine.now.count }
 {
     let start = place.image.start(place.r);
     let mut last = None;
