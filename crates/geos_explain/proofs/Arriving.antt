@@ -1,5 +1,5 @@
 -- What the search finds to come to a pc does come to it.
-use Rattle.std.proofs.Common.{◌≡◌, ◌+◌, ℕ, zero, suc, Bool, true, false, not, cond, List, [], ◌∷◌, length, Option, Some, None, slice_get, get_or, set, refl, sym, ap, ◌∙◌, subst, ◌⊎◌, inl, inr}
+use Rattle.std.proofs.Common.{◌≡◌, ℕ, Bool, true, false, not, cond, List, [], ◌∷◌, length, Option, Some, None, slice_get, get_or, set, refl, sym, ap, ◌∙◌, subst, ◌⊎◌, inl, inr}
 use Rattle.std.specs.Prelude.{◌&&◌, nat_lt}
 use Rattle.std.proofs.lemmas.Bool.{and_parts, cases_eq, cases_lt}
 use Rattle.std.proofs.lemmas.List.{get_or-set_same, get_or-set_other, set_past}
@@ -9,13 +9,13 @@ use Rattle.geos_image.specs.declared.row.Pointer.{Pointer}
 use Rattle.geos_image.specs.Parts.{start_of}
 use Rattle.geos_verify.specs.Rows.{pointer_at, is_stale, after, has_edge}
 use Rattle.geos_flow.specs.declared.edge.Edge.{Edge}
-use Rattle.geos_explain.specs.declared.arrivals.Arrivals.{Arrivals}
 use Rattle.geos_flow.specs.Edges.{end_of}
 use Rattle.geos_explain.specs.Places.{Place, comes_alike}
 use Rattle.geos_explain.specs.Ways.{entry_pointer, with_hint}
-use Rattle.geos_explain.specs.Arrivals.{no_arrivals, arrival, arrived, behind, arrived_along, arrived_from, arrived_over, next_arrivals, arrivals_at_entry, all_arrivals}
+use Rattle.geos_explain.specs.Arrivals.{no_arrivals, arrival, behind, brought, comes_along, arrived_along, arrived_from, nth_of, next_arrivals, arrivals_at_entry, all_arrivals}
 use Rattle.geos_explain.specs.Lost.{ComesTo, Brings, IsHint}
-use Rattle.geos_explain.proofs.Tables.{replicate-there}
+use Rattle.geos_flow.proofs.Into.{replicate-at}
+use Rattle.geos_explain.proofs.Rounding.{looked-keep, rounds-keep}
 
 -- what stands in a list behind a change was there, or is the change
 set-was : {X : Type 0} (xs : List X) (i k : ℕ) (x d : X) → (get_or (set xs i x) k d ≡ get_or xs k d) ⊎ ((k ≡ i) × (get_or (set xs i x) k d ≡ x))
@@ -35,34 +35,35 @@ cond-some false o x e = absurd cc
 pub some-same : {X : Type 0} (x y : X) → Some x ≡ Some y → x ≡ y
 some-same x y e = cc
 
+none-there : (pc : ℕ) → get_or no_arrivals pc None ≡ None
+unfolding no_arrivals
+none-there pc = replicate-at None 4096 pc
+
 module _ (place : Place) (p : ℕ) where
   abbrev pub Known : ℕ → Pointer → Type 0
   Known pc pointer = (edges : List Edge) × Brings place p edges pc pointer
 
-  pub record Found (arrivals : Arrivals) : Type 0 where
+  pub record Found (arrivals : List (Option Pointer)) : Type 0 where
     pub brings : (pc : ℕ) (pointer : Pointer) → arrival arrivals pc ≡ Some pointer → Known pc pointer
 
-  pub hint-known : (arrivals : Arrivals) → Found arrivals → (pc : ℕ) → IsHint place p pc (arrival arrivals pc)
+  pub hint-known : (arrivals : List (Option Pointer)) → Found arrivals → (pc : ℕ) → IsHint place p pc (arrival arrivals pc)
   hint-known arrivals found pc = by_hint (arrival arrivals pc) refl
     where
       by_hint : (o : Option Pointer) → arrival arrivals pc ≡ o → IsHint place p pc o
       by_hint None e = inl refl
       by_hint (Some pointer) e = inr (pointer, refl, found.brings pc pointer e)
 
-  arrived-found : (arrivals : Arrivals) → Found arrivals → (pc : ℕ) (pointer : Option Pointer)
-      → ((q : Pointer) → pointer ≡ Some q → Known pc q) → Found (arrived arrivals pc pointer)
-  arrived-found arrivals found pc pointer comes = by_test (nat_lt pc 4096 && not (is_stale pointer))
-    where
-      by_test : (b : Bool) → Found (cond b (record arrivals { at = set arrivals.at pc pointer; goes_on = true }) arrivals)
-      by_test true = record {
-        brings = λ k q e. elim (set-was arrivals.at pc k pointer None) [
-          | inl was ↦ found.brings k q (ap (λ o. cond (nat_lt k 4096) o None) (sym was) ∙ e)
-          | inr here ↦
-              let is = cond-some (nat_lt k 4096) (get_or (set arrivals.at pc pointer) k None) q e in
-              subst (λ n. Known n q) (sym here.0) (comes q (sym here.1 ∙ is.1))
-        ];
-      }
-      by_test false = found
+  -- one more pointer comes to a pc
+  set-found : (arrivals : List (Option Pointer)) → Found arrivals → (pc : ℕ) (pointer : Option Pointer)
+      → ((q : Pointer) → pointer ≡ Some q → Known pc q) → Found (set arrivals pc pointer)
+  set-found arrivals found pc pointer comes = record {
+    brings = λ k q e. elim (set-was arrivals pc k pointer None) [
+      | inl was ↦ found.brings k q (ap (λ o. cond (nat_lt k 4096) o None) (sym was) ∙ e)
+      | inr here ↦
+          let is = cond-some (nat_lt k 4096) (get_or (set arrivals pc pointer) k None) q e in
+          subst (λ n. Known n q) (sym here.0) (comes q (sym here.1 ∙ is.1))
+    ];
+  }
 
   behind-known : (edge : Edge) (point : KnownPlace) (hint : Option Pointer) → slice_get (places place.image) edge.from ≡ Some point
       → comes_alike place edge.from ≡ true → IsHint place p edge.from hint
@@ -76,22 +77,23 @@ module _ (place : Place) (p : ℕ) where
         | inr some ↦ (edge ∷ some.2.0, (comes, (hint, inr (some.0, some.1, some.2.1), e)))
       ]
 
-  along-found : (arrivals : Arrivals) → Found arrivals → (edge : Edge) (point : KnownPlace)
+  along-found : (arrivals : List (Option Pointer)) → Found arrivals → (edge : Edge) (point : KnownPlace)
       → slice_get (places place.image) edge.from ≡ Some point → Found (arrived_along place p arrivals edge point)
-  along-found arrivals found edge point there = by_test (is_stale (arrival arrivals (end_of edge point.instr)) && comes_alike place edge.from) refl
+  along-found arrivals found edge point there = by_test (comes_along place p arrivals edge point) refl
     where
-      by_test : (b : Bool) → (is_stale (arrival arrivals (end_of edge point.instr)) && comes_alike place edge.from) ≡ b
-          → Found (cond b (arrived arrivals (end_of edge point.instr)
-          (behind place.image (record { p = p; hint = arrival arrivals edge.from }) edge point)) arrivals)
+      by_test : (b : Bool) → comes_along place p arrivals edge point ≡ b
+          → Found (cond b (set arrivals (end_of edge point.instr) (brought place p arrivals edge point)) arrivals)
       by_test true is =
-          let alike = (and_parts (is_stale (arrival arrivals (end_of edge point.instr))) (comes_alike place edge.from) is).1 in
-          arrived-found arrivals found (end_of edge point.instr) (behind place.image (record { p = p; hint = arrival arrivals edge.from }) edge point)
+          let free = nat_lt (end_of edge point.instr) 4096 && is_stale (get_or arrivals (end_of edge point.instr) None) in
+          let first = and_parts (free && comes_alike place edge.from) (not (is_stale (brought place p arrivals edge point))) is in
+          let alike = (and_parts free (comes_alike place edge.from) first.0).1 in
+          set-found arrivals found (end_of edge point.instr) (brought place p arrivals edge point)
           (λ q e. behind-known edge point (arrival arrivals edge.from) there alike (hint-known arrivals found edge.from) q e)
       by_test false is = found
 
-  from-found : (arrivals : Arrivals) → Found arrivals → (from : ℕ) → Found (arrived_from place p arrivals from)
+  from-found : (arrivals : List (Option Pointer)) (from : ℕ) → Found arrivals → Found (arrived_from place p arrivals from)
   unfolding arrived_from
-  from-found arrivals found from = by_point (slice_get (places place.image) from) refl
+  from-found arrivals from found = by_point (slice_get (places place.image) from) refl
     where
       by_point : (o : Option KnownPlace) → slice_get (places place.image) from ≡ o → Found (elim o [
         | None ↦ arrivals
@@ -104,32 +106,23 @@ module _ (place : Place) (p : ℕ) where
           along-found (arrived_along place p arrivals (record { from = from; branch = false }) point) first
           (record { from = from; branch = true }) point e
 
-  over-found : (arrivals : Arrivals) → Found arrivals → (n : ℕ) → Found (arrived_over place p arrivals n)
-  unfolding arrived_over
-  over-found arrivals found zero = found
-  over-found arrivals found (suc n) = from-found (arrived_over place p arrivals n) (over-found arrivals found n)
-      (start_of place.image.routines place.r + n)
-
-  next-found : (arrivals : Arrivals) → Found arrivals → Found (next_arrivals place p arrivals)
-  next-found arrivals found = by_test arrivals.goes_on
-    where
-      by_test : (b : Bool) → Found (cond b (arrived_over place p (record arrivals { goes_on = false }) place.routine.count) arrivals)
-      by_test true = over-found (record arrivals { goes_on = false }) (record { brings = found.brings }) place.routine.count
-      by_test false = found
-
   entry-found : Found (arrivals_at_entry place p)
-  unfolding no_arrivals
-  entry-found =
-      let none : Found (record { at = no_arrivals; goes_on = true }) = record {
+  entry-found = by_test (nat_lt (start_of place.image.routines place.r) 4096)
+    where
+      none : Found no_arrivals
+      none = record {
         brings = λ pc q e.
             (let is = cond-some (nat_lt pc 4096) (get_or no_arrivals pc None) q e in
-            let nothing : get_or no_arrivals pc None ≡ None = replicate-there None 4096 pc in
+            let nothing = none-there pc in
             absurd cc);
-      } in
-      arrived-found (record { at = no_arrivals; goes_on = true }) none (start_of place.image.routines place.r)
-      (entry_pointer place.routine p) (λ q e. ([], (refl, e)))
+      }
 
-  pub all-found : (n : ℕ) → Found (all_arrivals place p n)
+      by_test : (b : Bool) → Found (cond b (set no_arrivals (start_of place.image.routines place.r) (entry_pointer place.routine p)) no_arrivals)
+      by_test true = set-found no_arrivals none (start_of place.image.routines place.r) (entry_pointer place.routine p) (λ q e. ([], (refl, e)))
+      by_test false = none
+
+  pub all-found : Found (all_arrivals place p)
   unfolding all_arrivals
-  all-found zero = entry-found
-  all-found (suc n) = next-found (all_arrivals place p n) (all-found n)
+  all-found = rounds-keep Found (next_arrivals place p)
+      (λ arrivals found. looked-keep Found (arrived_from place p) (nth_of place) from-found arrivals found place.routine.count)
+      (arrivals_at_entry place p) entry-found place.routine.count

@@ -1,5 +1,5 @@
 -- A way that is found brings a pointer, or loses it.
-use Rattle.std.proofs.Common.{◌≡◌, ◌+◌, ℕ, zero, suc, Bool, true, false, not, Option, Some, None, slice_get, refl, subst}
+use Rattle.std.proofs.Common.{◌≡◌, ℕ, Bool, true, false, not, Option, Some, None, length, slice_get, refl, subst}
 use Rattle.std.specs.Prelude.{◌&&◌, ◌==◌}
 use Rattle.std.specs.Option.{option_or}
 use Rattle.std.proofs.lemmas.Bool.{and_parts, eqb-true}
@@ -11,12 +11,15 @@ use Rattle.geos_flow.specs.declared.edge.Edge.{Edge}
 use Rattle.geos_explain.specs.declared.ways.Way.{Way}
 use Rattle.geos_explain.specs.declared.ways.Way.TheVariants.{Entry, Along}
 use Rattle.geos_explain.specs.declared.ways.Sought.{Sought}
-use Rattle.geos_flow.specs.Edges.{end_of}
+use Rattle.geos_flow.specs.Edges.{end_in}
+use Rattle.geos_flow.specs.Graphs.{first_into}
+use Rattle.geos_flow.proofs.Firsts.{first-is}
 use Rattle.geos_explain.specs.Led.{is_reached}
-use Rattle.geos_explain.specs.Places.{Place, agrees}
-use Rattle.geos_explain.specs.Ways.{is_as, is_sought, way_along, way_of, way_at, first_way, entry_way, entry_pointer, way_to, bringing, losing}
+use Rattle.geos_explain.specs.Places.{Place, agrees, is_inside}
+use Rattle.geos_explain.specs.Ways.{is_as, is_as_sought, is_sought, way_along, entry_way, entry_pointer, way_to, bringing, losing}
 use Rattle.geos_explain.specs.Lost.{LeadsBy, IsWay, IsAlike}
 use Rattle.geos_explain.proofs.Arriving.{cond-some, some-same}
+use Rattle.geos_explain.proofs.Comes.{known-end}
 
 module _ (place : Place) (p : ℕ) where
   -- what is sought
@@ -32,19 +35,6 @@ module _ (place : Place) (p : ℕ) where
   found-way known reached Entry to found = found
   found-way known reached (Along edge) to found = found.0
 
-  sought-found : (known : Bool) (to : ℕ) (reached : Bool) (edge : Edge) (point : KnownPlace)
-      → slice_get (places place.image) edge.from ≡ Some point → is_sought place (asked known reached) to edge point ≡ true
-      → IsFound known reached (Along edge) to
-  sought-found known to reached edge point there is =
-      let ends = end_of edge point.instr == to in
-      let comes = agrees reached (is_reached place.image edge.from) in
-      let has = has_edge point.instr edge.branch in
-      let known_there = is_as known (pointer_at (after place.image edge.from point.row edge.branch) p) in
-      let first = and_parts ends (comes && has && known_there) is in
-      let last = and_parts (comes && has) known_there first.1 in
-      let second = and_parts comes has last.0 in
-      (record { point = point; there = there; has = second.1; ends = eqb-true _ _ first.0; is = last.1 }, second.0)
-
   -- each way that there may be is such a one
   abbrev AllFound : Bool → Bool → Option Way → ℕ → Type 0
   AllFound known reached o to = (way : Way) → o ≡ Some way → IsFound known reached way to
@@ -55,37 +45,37 @@ module _ (place : Place) (p : ℕ) where
   or-all P None b left right = right
   or-all P (Some way) b left right = left
 
-  along-way : (known : Bool) (to : ℕ) (reached : Bool) (edge : Edge) (point : KnownPlace)
-      → slice_get (places place.image) edge.from ≡ Some point → AllFound known reached (way_along place (asked known reached) to edge point) to
-  along-way known to reached edge point there way e =
-      let is = cond-some (is_sought place (asked known reached) to edge point) (Some (Along edge)) way e in
-      subst (λ w. IsFound known reached w to) (some-same _ _ is.1) (sought-found known to reached edge point there is.0)
-
-  of-found : (known : Bool) (to : ℕ) (reached : Bool) (from : ℕ) (point : KnownPlace) → slice_get (places place.image) from ≡ Some point
-      → AllFound known reached (way_of place (asked known reached) to from point) to
-  of-found known to reached from point there =
-      let along : Edge = record { from = from; branch = false } in
-      let aside : Edge = record { from = from; branch = true } in
-      or-all (λ way. IsFound known reached way to) (way_along place (asked known reached) to along point)
-      (way_along place (asked known reached) to aside point) (along-way known to reached along point there)
-      (along-way known to reached aside point there)
-
-  at-found : (known : Bool) (to : ℕ) (reached : Bool) (from : ℕ) → AllFound known reached (way_at place (asked known reached) to from) to
-  unfolding way_at
-  at-found known to reached from = by_point (slice_get (places place.image) from) refl
+  along-found : (known : Bool) (to : ℕ) (reached : Bool) → AllFound known reached
+      (way_along (first_into place.image (λ edge end. is_sought place (asked known reached) edge) to (length place.image.points))) to
+  unfolding is_sought
+  along-found known to reached =
+      by_edge (first_into place.image (λ edge end. is_sought place (asked known reached) edge) to (length place.image.points)) refl
     where
-      by_point : (o : Option KnownPlace) → slice_get (places place.image) from ≡ o
-          → AllFound known reached (elim o [ None ↦ None | Some point ↦ way_of place (asked known reached) to from point ]) to
-      by_point None e way is = absurd cc
-      by_point (Some point) e way is = of-found known to reached from point e way is
+      by_point : (edge : Edge) → end_in place.image edge ≡ Some to → (o : Option KnownPlace) → slice_get (places place.image) edge.from ≡ o
+          → elim o [ None ↦ false | Some point ↦ is_inside place edge.from && is_as_sought place (asked known reached) edge point ] ≡ true
+          → IsFound known reached (Along edge) to
+      by_point edge ends None e is = absurd cc
+      by_point edge ends (Some point) e is =
+          let comes = agrees reached (is_reached place.image edge.from) in
+          let has = has_edge point.instr edge.branch in
+          let known_there = is_as known (pointer_at (after place.image edge.from point.row edge.branch) p) in
+          let first = and_parts (is_inside place edge.from) (comes && has && known_there) is in
+          let last = and_parts (comes && has) known_there first.1 in
+          let second = and_parts comes has last.0 in
+          let end = known-end place.image edge point to e ends in
+          (record { point = point; there = e; has = second.1; ends = end.1; is = last.1 }, second.0)
 
-  first-found : (known : Bool) (to : ℕ) (reached : Bool) (n : ℕ) → AllFound known reached (first_way place (asked known reached) to n) to
-  unfolding first_way
-  first-found known to reached zero = λ way is. absurd cc
-  first-found known to reached (suc n) =
-      let from = start_of place.image.routines place.r + n in
-      or-all (λ way. IsFound known reached way to) (first_way place (asked known reached) to n)
-      (way_at place (asked known reached) to from) (first-found known to reached n) (at-found known to reached from)
+      sought : (edge : Edge) → end_in place.image edge ≡ Some to → is_sought place (asked known reached) edge ≡ true → IsFound known reached (Along edge) to
+      sought edge ends is = by_point edge ends (slice_get (places place.image) edge.from) refl is
+
+      by_edge : (o : Option Edge)
+          → first_into place.image (λ edge end. is_sought place (asked known reached) edge) to (length place.image.points) ≡ o
+          → AllFound known reached (way_along o) to
+      by_edge None e way is = absurd cc
+      by_edge (Some edge) e way is =
+          let first = first-is place.image (λ edge end. is_sought place (asked known reached) edge) to (length place.image.points) in
+          let into = (first.into edge e).0 in
+          subst (λ w. IsFound known reached w to) (some-same _ _ is) (sought edge into.ends into.is_counted)
 
   entry-way : (known : Bool) (to : ℕ) (reached : Bool) → AllFound known reached (entry_way place (asked known reached) to) to
   entry-way known to reached way is =
@@ -98,7 +88,8 @@ module _ (place : Place) (p : ℕ) where
   unfolding way_to
   to-found known to reached =
       or-all (λ way. IsFound known reached way to) (entry_way place (asked known reached) to)
-      (first_way place (asked known reached) to place.routine.count) (entry-way known to reached) (first-found known to reached place.routine.count)
+      (way_along (first_into place.image (λ edge end. is_sought place (asked known reached) edge) to (length place.image.points)))
+      (entry-way known to reached) (along-found known to reached)
 
   pub bringing-way : (to : ℕ) (way : Way) → bringing place p to ≡ Some way → IsWay place p true way to × IsAlike place way
   unfolding bringing

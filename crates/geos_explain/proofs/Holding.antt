@@ -152,7 +152,7 @@ module _ (place : Place) (a : ℕ) where
         (also-said (since_below place a marks n) (start + n) (fills_at place a marks (start + n))
         (below-said n (omega arith)) (fills-since (start + n) (inside-at n (omega arith))))
 
-  -- ---- All that is so is said
+    -- ---- All that is so is said
 
     held-marked : (pc : ℕ) → IsHeldFrom place a pc → is_marked marks pc ≡ true
     unfolding held_from

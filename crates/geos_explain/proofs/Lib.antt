@@ -9,6 +9,6 @@ mod Noted
 mod Outside
 mod Places
 mod Reached
+mod Rounding
 mod Spending
-mod Tables
 mod Told

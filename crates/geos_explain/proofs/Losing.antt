@@ -1,5 +1,5 @@
 -- What the search for why a pointer is not known finds is so.
-use Rattle.std.proofs.Common.{◌≡◌, ◌+◌, ℕ, zero, suc, Bool, true, false, not, cond, List, [], ◌∷◌, Option, Some, None, slice_get, get_or, refl, sym, ap, ◌∙◌, subst, ◌⊎◌, inl, inr}
+use Rattle.std.proofs.Common.{◌≡◌, ℕ, Bool, true, false, not, cond, List, [], ◌∷◌, Option, Some, None, slice_get, get_or, refl, sym, ap, ◌∙◌, subst, ◌⊎◌, inl, inr}
 use Rattle.std.specs.Prelude.{◌&&◌, nat_lt, is_some, is_none, if◌then◌else◌}
 use Rattle.std.specs.Option.{option_or}
 use Rattle.std.proofs.lemmas.Bool.{and_parts}
@@ -7,27 +7,27 @@ use Rattle.geos_verify.specs.declared.place.Place.{Place as KnownPlace}
 use Rattle.geos_verify.specs.Places.{places}
 use Rattle.geos_image.specs.declared.row.Pointer.{Pointer}
 use Rattle.geos_image.specs.declared.row.SlotState.{SlotState}
-use Rattle.geos_image.specs.Parts.{start_of}
 use Rattle.geos_verify.specs.Rows.{pointer_at, is_stale, after, has_edge, leads_nowhere}
 use Rattle.geos_flow.specs.declared.edge.Edge.{Edge}
 use Rattle.geos_explain.specs.declared.ways.Way.{Way}
 use Rattle.geos_explain.specs.declared.ways.Way.TheVariants.{Entry, Along}
-use Rattle.geos_explain.specs.declared.backs.Back.TheVariants.{Loses, Lacks, Not}
 use Rattle.geos_explain.specs.declared.trace.End.{End}
 use Rattle.geos_explain.specs.declared.trace.End.TheVariants.{Unset, Unreached, Merged, Nowhere}
+use Rattle.geos_explain.specs.declared.trace.Loss.{Loss}
 use Rattle.geos_explain.specs.declared.trace.Meeting.{Meeting}
 use Rattle.geos_explain.specs.declared.trace.Trace.{Trace}
 use Rattle.geos_flow.specs.Edges.{end_of}
 use Rattle.geos_flow.specs.Marks.{no_marks, marked, is_marked}
 use Rattle.geos_explain.specs.Places.{Place, comes_alike}
 use Rattle.geos_explain.specs.Ways.{empty_behind, empty_slot, empty_along, empty_from, empty_on, bringing, losing, loses}
-use Rattle.geos_explain.specs.Arrivals.{arrival, all_arrivals}
-use Rattle.geos_explain.specs.Trace.{nowhere_or, without_way, meeting_at, end_at, passed, lacks_on, hint_at, back_as, back_by, back_along, back_from, back_over, next_round, rounds, begun, aside, aside_by, along_lost, traced_by, traced}
-use Rattle.geos_explain.specs.Lost.{LacksBehind, LacksAlong, IsLost, LeadsBy, IsWay, IsMeeting, IsUnset, BringsNowhere, IsNowhere, WhatIsSaidHolds}
+use Rattle.geos_explain.specs.Arrivals.{all_arrivals}
+use Rattle.geos_explain.specs.Trace.{nowhere_or, without_way, meeting_at, end_at, passed, lacks_on, hint_at, back_by, back_along, back_from, nth_last, next_round, all_rounds, begun, aside, aside_by, along_lost, traced_by, traced}
+use Rattle.geos_explain.specs.Lost.{ComesTo, LacksAlong, IsLost, LeadsBy, IsWay, IsMeeting, IsUnset, BringsNowhere, IsNowhere, WhatIsSaidHolds}
 use Rattle.geos_flow.specs.Waiting.{Has}
 use Rattle.geos_flow.proofs.Marked.{mark-was, none-marked}
-use Rattle.geos_explain.proofs.Arriving.{Found, hint-known, all-found, cond-some, some-same}
+use Rattle.geos_explain.proofs.Arriving.{hint-known, all-found, cond-some, some-same}
 use Rattle.geos_explain.proofs.FoundWays.{bringing-way, losing-way}
+use Rattle.geos_explain.proofs.Rounding.{looked-keep, rounds-keep}
 
 module _ (place : Place) (p : ℕ) where
   abbrev LacksFrom : ℕ → Type 0
@@ -41,9 +41,8 @@ module _ (place : Place) (p : ℕ) where
   IsEnd (Merged to) = Unit {0}
 
   record Sound (trace : Trace) : Type 0 where
-    found : Found place p trace.arrivals
     passed : (k : ℕ) → Has trace.passed k → LacksFrom k
-    lost : (edge : Edge) → trace.lost ≡ Some edge → IsLost place p edge
+    lost : (loss : Loss) → trace.lost ≡ Some loss → IsLost place p loss
     meeting : (m : Meeting) → trace.meeting ≡ Some m → IsMeeting place p m
     end : (end : End) → trace.end ≡ Some end → IsEnd end
 
@@ -158,10 +157,9 @@ module _ (place : Place) (p : ℕ) where
 
       by_meeting : (before new : Option Meeting) → trace.meeting ≡ before → met_at at ≡ new
           → Sound (cond (is_none before && is_some (option_or before new))
-          (record trace { passed = marked trace.passed at; goes_on = true; found = true; meeting = option_or before new; end = ends_at at })
-          (record trace { passed = marked trace.passed at; goes_on = true; meeting = option_or before new; end = option_or trace.end (ends_at at) }))
+          (record trace { passed = marked trace.passed at; found = true; meeting = option_or before new; end = ends_at at })
+          (record trace { passed = marked trace.passed at; meeting = option_or before new; end = option_or trace.end (ends_at at) }))
       by_meeting None None is_before is_new = record {
-        found = sound.found;
         passed = marks;
         lost = sound.lost;
         meeting =
@@ -169,14 +167,12 @@ module _ (place : Place) (p : ℕ) where
         end = later;
       }
       by_meeting None (Some new) is_before is_new = record {
-        found = sound.found;
         passed = marks;
         lost = sound.lost;
         meeting = λ m e. met-here m (meeting-is (bringing place p at) at (losing place p at) m (is_new ∙ e));
         end = at-end at from;
       }
       by_meeting (Some m0) new is_before is_new = record {
-        found = sound.found;
         passed = marks;
         lost = sound.lost;
         meeting = λ m e. sound.meeting m (is_before ∙ e);
@@ -185,45 +181,48 @@ module _ (place : Place) (p : ℕ) where
 
   by-sound : (trace : Trace) → Sound trace → (edge : Edge) (point : KnownPlace) → slice_get (places place.image) edge.from ≡ Some point
       → LacksFrom (end_of edge point.instr) → Sound (back_by place p trace edge point)
+  unfolding back_by
   by-sound trace sound edge point there from = by_lack (lacks_on place p edge point) refl
     where
-      by_loss : (comes_alike place edge.from ≡ true) → (has_edge point.instr edge.branch ≡ true)
-          → (is_stale (pointer_at (after place.image edge.from point.row edge.branch) p) ≡ true)
-          → (b : Bool) → loses place.image (hint_at trace p edge.from) edge point ≡ b → Sound (back_as place p trace edge (cond b Loses Lacks))
-      by_loss alike has stale true is = record {
-        found = sound.found;
+      kept : Bool → Bool → Trace
+      kept lost is_passed =
+          cond lost (record trace { found = true; lost = Some (record { edge = edge; hint = (hint_at place p edge.from).hint }) })
+          (cond is_passed trace (passed place p trace edge.from))
+
+      by_loss : (comes : ComesTo place edge (end_of edge point.instr)) → comes.point ≡ point
+          → is_stale (pointer_at (after place.image edge.from comes.point.row edge.branch) p) ≡ true
+          → (b : Bool) → loses place.image (hint_at place p edge.from) edge point ≡ b → Sound (kept b (is_marked trace.passed edge.from))
+      by_loss comes same stale true is = record {
         passed = sound.passed;
-        lost = λ e same.
-            (let lost : IsLost place p edge = record {
+        lost = λ loss e.
+            (let lost : IsLost place p (record { edge = edge; hint = (hint_at place p edge.from).hint }) = record {
               to = end_of edge point.instr;
-              comes = record { point = point; there = there; alike = alike; has = has; ends = refl };
-              hint = arrival trace.arrivals edge.from;
-              known = hint-known place p trace.arrivals sound.found edge.from;
-              loses = is;
+              comes = comes;
+              known = hint-known place p (all_arrivals place p) (all-found place p) edge.from;
+              loses = subst (λ q. loses place.image (hint_at place p edge.from) edge q ≡ true) (sym same) is;
               edges = from.0;
               way = from.1;
             } in
-            subst (λ x. IsLost place p x) (some-same edge e same) lost);
+            subst (λ x. IsLost place p x) (some-same _ _ e) lost);
         meeting = sound.meeting;
         end = sound.end;
       }
-      by_loss alike has stale false is = by_mark (is_marked trace.passed edge.from)
+      by_loss comes same stale false is = by_mark (is_marked trace.passed edge.from)
         where
-          lacks : LacksBehind place p edge (end_of edge point.instr)
-          lacks = record { comes = record { point = point; there = there; alike = alike; has = has; ends = refl }; stale = stale }
-
           by_mark : (b : Bool) → Sound (cond b trace (passed place p trace edge.from))
           by_mark true = sound
-          by_mark false = pass-sound trace sound edge.from (edge ∷ from.0, (refl, (end_of edge point.instr, lacks, from.1)))
+          by_mark false = pass-sound trace sound edge.from
+              (edge ∷ from.0, (refl, (end_of edge point.instr, record { comes = comes; stale = stale }, from.1)))
 
       by_lack : (b : Bool) → lacks_on place p edge point ≡ b
-          → Sound (back_as place p trace edge (cond b (cond (loses place.image (hint_at trace p edge.from) edge point) Loses Lacks) Not))
+          → Sound (cond (not b) trace (kept (loses place.image (hint_at place p edge.from) edge point) (is_marked trace.passed edge.from)))
       by_lack true is =
           let has = has_edge point.instr edge.branch in
           let alike = comes_alike place edge.from in
           let last = and_parts (alike && has) (is_stale (pointer_at (after place.image edge.from point.row edge.branch) p)) is in
           let first = and_parts alike has last.0 in
-          by_loss first.0 first.1 last.1 (loses place.image (hint_at trace p edge.from) edge point) refl
+          by_loss (record { point = point; there = there; alike = first.0; has = first.1; ends = refl }) refl last.1
+          (loses place.image (hint_at place p edge.from) edge point) refl
       by_lack false is = sound
 
   along-sound : (trace : Trace) → Sound trace → (edge : Edge) (point : KnownPlace) → slice_get (places place.image) edge.from ≡ Some point
@@ -240,9 +239,9 @@ module _ (place : Place) (p : ℕ) where
           by-sound trace sound edge point there (sound.passed to mark.1)
       by_test false is = sound
 
-  from-sound : (trace : Trace) → Sound trace → (from : ℕ) → Sound (back_from place p trace from)
+  from-sound : (trace : Trace) (from : ℕ) → Sound trace → Sound (back_from place p trace from)
   unfolding back_from
-  from-sound trace sound from = by_point (slice_get (places place.image) from) refl
+  from-sound trace from sound = by_point (slice_get (places place.image) from) refl
     where
       by_point : (o : Option KnownPlace) → slice_get (places place.image) from ≡ o → Sound (elim o [
         | None ↦ trace
@@ -254,53 +253,16 @@ module _ (place : Place) (p : ℕ) where
           let first = along-sound trace sound (record { from = from; branch = false }) point e in
           along-sound (back_along place p trace (record { from = from; branch = false }) point) first (record { from = from; branch = true }) point e
 
-  over-sound : (trace : Trace) → Sound trace → (n : ℕ) → Sound (back_over place p trace n)
-  unfolding back_over
-  over-sound trace sound zero = sound
-  over-sound trace sound (suc n) =
-      let from = start_of place.image.routines place.r + n in
-      over-sound (back_from place p trace from) (from-sound trace sound from) n
-
-  -- what else was noted does not count
-  same-sound : (trace next : Trace) → Sound trace → next.arrivals ≡ trace.arrivals → ((k : ℕ) → Has next.passed k → Has trace.passed k)
-      → next.lost ≡ trace.lost → next.meeting ≡ trace.meeting → next.end ≡ trace.end → Sound next
-  same-sound trace next sound arrivals passed lost meeting end = record {
-    found = subst (Found place p) (sym arrivals) sound.found;
-    passed = λ k h. sound.passed k (passed k h);
-    lost = λ edge e. sound.lost edge (sym lost ∙ e);
-    meeting = λ m e. sound.meeting m (sym meeting ∙ e);
-    end = λ why e. sound.end why (sym end ∙ e);
-  }
-
-  next-sound : (trace : Trace) → Sound trace → Sound (next_round place p trace)
-  next-sound trace sound = by_test trace.goes_on
-    where
-      by_test : (b : Bool) → Sound (cond b (back_over place p (record trace { goes_on = false }) place.routine.count) trace)
-      by_test true = over-sound (record trace { goes_on = false })
-          (same-sound trace (record trace { goes_on = false }) sound refl (λ k h. h) refl refl refl) place.routine.count
-      by_test false = sound
-
-  rounds-sound : (trace : Trace) → Sound trace → (n : ℕ) → Sound (rounds place p trace n)
-  unfolding rounds
-  rounds-sound trace sound zero = sound
-  rounds-sound trace sound (suc n) = next-sound (rounds place p trace n) (rounds-sound trace sound n)
+  rounds-sound : (trace : Trace) → Sound trace → Sound (all_rounds place p trace)
+  rounds-sound trace sound = rounds-keep Sound (next_round place p)
+      (λ trace sound. looked-keep Sound (back_from place p) (nth_last place) from-sound trace sound place.routine.count) trace sound place.routine.count
 
   begun-sound : Sound (begun place p)
   begun-sound =
-      let start : Trace = record {
-        arrivals = all_arrivals place p place.routine.count;
-        passed = no_marks;
-        goes_on =
-            false;
-        found = false;
-        meeting = None;
-        end = None;
-        lost = None;
-      } in
+      let start : Trace = record { passed = no_marks; found = false; meeting = None; end = None; lost = None } in
       let sound : Sound start = record {
-        found = all-found place p place.routine.count;
         passed = λ k h. absurd (none-marked k h);
-        lost = λ edge e. absurd cc;
+        lost = λ loss e. absurd cc;
         meeting = λ m e. absurd cc;
         end = λ end e. absurd cc;
       } in
@@ -321,19 +283,19 @@ module _ (place : Place) (p : ℕ) where
 
   lost-sound : (trace : Trace) → Sound trace → (m : Meeting) → trace.meeting ≡ Some m → Sound (along_lost place p trace m.lost)
   lost-sound trace sound m is =
-      let next : Trace = record trace { passed = no_marks; goes_on = false; found = is_some trace.end } in
-      let same : Sound next = same-sound trace next sound refl (λ k h. absurd (none-marked k h)) refl refl refl in
+      let next : Trace = record trace { passed = no_marks; found = is_some trace.end } in
+      let same : Sound next = record { passed = λ k h. absurd (none-marked k h); lost = sound.lost; meeting = sound.meeting; end = sound.end } in
       let met = sound.meeting m is in
       anew-sound next same trace.end m.lost m.to met.lost (met.edges, met.way)
 
   traced-sound : Sound (traced place p)
   traced-sound =
-      let first = rounds place p (begun place p) place.routine.count in
-      by_meeting first (rounds-sound (begun place p) begun-sound place.routine.count) first.meeting refl
+      let first = all_rounds place p (begun place p) in
+      by_meeting first (rounds-sound (begun place p) begun-sound) first.meeting refl
     where
       by_meeting : (first : Trace) → Sound first → (o : Option Meeting) → first.meeting ≡ o → Sound (traced_by place p first o)
       by_meeting first sound None e = sound
-      by_meeting first sound (Some m) e = rounds-sound (along_lost place p first m.lost) (lost-sound first sound m e) place.routine.count
+      by_meeting first sound (Some m) e = rounds-sound (along_lost place p first m.lost) (lost-sound first sound m e)
 
 pub said-holds : WhatIsSaidHolds
 said-holds place p =

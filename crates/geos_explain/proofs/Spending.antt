@@ -1,130 +1,249 @@
--- Where steps back come to nothing more.
-use Rattle.std.proofs.Common.{◌≡◌, ◌≢◌, ◌<◌, ◌≤◌, ◌+◌, ℕ, zero, suc, Bool, true, false, not, cond, length, Option, Some, None, slice_get, refl, sym, ap, ◌∙◌, subst, inl, inr, arith}
-use Rattle.std.specs.Prelude.{◌&&◌, is_some, is_none}
+-- Where looks at instructions come to nothing more.
+use Rattle.std.proofs.Common.{◌≡◌, ◌≢◌, ◌<◌, ◌≤◌, ℕ, Bool, true, false, not, cond, List, length, Option, Some, None, slice_get, get_or, set, refl, sym, ap, ◌∙◌, subst, inl, inr, arith}
+use Rattle.std.specs.Prelude.{◌&&◌, nat_lt, is_some, is_none}
 use Rattle.std.specs.Option.{option_or}
-use Rattle.std.proofs.lemmas.Bool.{cases_eq, cases_lt}
+use Rattle.std.proofs.lemmas.Bool.{cases_eq}
+use Rattle.std.proofs.lemmas.List.{get_or-set_same, get_or-set_other}
 use Rattle.geos_verify.specs.declared.place.Place.{Place as KnownPlace}
 use Rattle.geos_verify.specs.Places.{places}
 use Rattle.geos_verify.specs.Rows.{pointer_at, is_stale, after, has_edge}
-use Rattle.geos_image.specs.Parts.{start_of}
+use Rattle.geos_image.specs.declared.row.Pointer.{Pointer}
+use Rattle.geos_image.specs.Parts.{Parts}
 use Rattle.geos_flow.specs.declared.edge.Edge.{Edge}
-use Rattle.geos_flow.specs.declared.range.PcRange.{PcRange}
 use Rattle.geos_flow.specs.Edges.{end_of, end_in}
 use Rattle.geos_flow.specs.Marks.{no_marks, marked, is_marked}
-use Rattle.geos_flow.specs.Ranges.{IsWithin, Widens}
-use Rattle.geos_flow.proofs.Marked.{mark-grows, mark-was, mark-there, none-marked, has-marked, is-marked, marked-low}
-use Rattle.geos_explain.specs.declared.backs.Back.{Back}
-use Rattle.geos_explain.specs.declared.backs.Back.TheVariants.{Loses, Lacks, Not}
+use Rattle.geos_flow.proofs.Marked.{mark-was, marked-here, marked-keeps, none-marked, has-marked, is-marked, marked-low}
 use Rattle.geos_explain.specs.declared.trace.End.{End}
 use Rattle.geos_explain.specs.declared.trace.Meeting.{Meeting}
 use Rattle.geos_explain.specs.declared.trace.Trace.{Trace}
 use Rattle.geos_explain.specs.Places.{Place, IsPcOf, comes_alike}
-use Rattle.geos_explain.specs.Arrivals.{arrival}
-use Rattle.geos_explain.specs.Trace.{meeting_at, end_at, back_of, hint_at, passed, back_as, back_by, back_along, back_from, back_over}
-use Rattle.geos_explain.specs.Spent.{IsNothing, IsSpent, IsSpentBut, AreSpent, KeepsSpent}
+use Rattle.geos_explain.specs.Arrivals.{arrival, behind, brought, comes_along, arrived_along, arrived_from}
+use Rattle.geos_explain.specs.Spent.{HasCome, IsBack, SpentOr, AreSpent, StaySpent}
+use Rattle.geos_explain.specs.Trace.{meeting_at, end_at, lacks_on, hint_at, passed, back_by, back_along, back_from}
 use Rattle.geos_explain.specs.Ways.{bringing, losing, loses}
 use Rattle.geos_explain.proofs.Comes.{end-known}
 
--- one more place is passed, where ways meet at first there, or not
-abbrev passed_as : Trace → ℕ → Option Meeting → Option End → Bool → Trace
-passed_as trace at met end b =
-    cond b (record trace { passed = marked trace.passed at; goes_on = true; found = true; meeting = met; end = end })
-    (record trace { passed = marked trace.passed at; goes_on = true; meeting = met; end = option_or trace.end end })
+abbrev edge_at : ℕ → Bool → Edge
+edge_at from branch = record { from = from; branch = branch }
+
+-- ---- Which instructions wait
+
+-- both edges of an instruction, one after the other
+both-here : (one new : Edge → Type 0) (waits more : List Bool) (from : ℕ) → SpentOr one waits (edge_at from false) → StaySpent one waits new more
+    → SpentOr new more (edge_at from true) → (edge : Edge) → edge.from ≡ from → SpentOr new more edge
+both-here one new waits more from along stay aside edge is = subst (λ n. SpentOr new more (edge_at n edge.branch)) (sym is) (by_branch edge.branch)
+  where
+    by_branch : (b : Bool) → SpentOr new more (edge_at from b)
+    by_branch true = aside
+    by_branch false = stay (edge_at from false) along
+
+-- another still waits where one no longer does
+other-waits : (waits less : List Bool) (from pc : ℕ) → less ≡ set waits from false → pc ≢ from → is_marked waits pc ≡ true → is_marked less pc ≡ true
+other-waits waits less from pc is ne waiting =
+    ap (λ m. is_marked m pc) is ∙ ap (λ b. nat_lt pc 4096 && b) (get_or-set_other waits from pc false false ne) ∙ waiting
+
+-- one that waited was looked at
+next-spent : (place : Place) (old new : Edge → Type 0) (waits less more : List Bool) (from : ℕ) → AreSpent place old waits
+    → less ≡ set waits from false → StaySpent old less new more → ((edge : Edge) → edge.from ≡ from → SpentOr new more edge)
+    → AreSpent place new more
+next-spent place old new waits less more from spent is stay here edge inside = elim (cases_eq edge.from from) [
+  | inl same ↦ here edge same
+  | inr ne ↦ stay edge (elim (spent edge inside) [
+    | inl was ↦ inl was
+    | inr waiting ↦ inr (other-waits waits less from edge.from is ne waiting)
+  ])
+]
+
+-- one that does not wait need not be looked at
+pub same-spent : (place : Place) (spent : Edge → Type 0) (waits less : List Bool) (from : ℕ) → AreSpent place spent waits
+    → less ≡ set waits from false → is_marked waits from ≡ false → AreSpent place spent less
+same-spent place spent waits less from are is not_so edge inside = elim (are edge inside) [
+  | inl was ↦ inl was
+  | inr waiting ↦ elim (cases_eq edge.from from) [
+    | inl same ↦ (let so = subst (λ n. is_marked waits n ≡ true) same waiting in absurd cc)
+    | inr ne ↦ inr (other-waits waits less from edge.from is ne waiting)
+  ]
+]
+
+pub spent-at : (place : Place) (spent : Edge → Type 0) (waits : List Bool) (from : ℕ) → AreSpent place spent waits → IsPcOf place from
+    → is_marked waits from ≡ false → (branch : Bool) → spent (edge_at from branch)
+spent-at place spent waits from are inside not_so branch = elim (are (edge_at from branch) inside) [ inl was ↦ was | inr waiting ↦ absurd cc ]
+
+-- both edges of one that waited were looked at, one after the other
+pub both-spent : (place : Place) (old one new : Edge → Type 0) (waits less mid more : List Bool) (from : ℕ) → AreSpent place old waits
+    → less ≡ set waits from false → one (edge_at from false) → StaySpent old less one mid → new (edge_at from true) → StaySpent one mid new more
+    → AreSpent place new more
+both-spent place old one new waits less mid more from spent is along first aside second =
+    next-spent place old new waits less more from spent is (λ edge was. second edge (first edge was))
+    (both-here one new mid more from (inl along) second (inl aside))
+
+-- there was no instruction
+pub none-spent : (place : Place) (spent : Edge → Type 0) (waits less : List Bool) (from : ℕ) → AreSpent place spent waits
+    → less ≡ set waits from false → ((edge : Edge) → edge.from ≡ from → spent edge) → AreSpent place spent less
+none-spent place spent waits less from are is here =
+    next-spent place spent spent waits less less from are is (λ edge was. was) (λ edge same. inl (here edge same))
+
+pub no-point : (image : Parts) (from : ℕ) (edge : Edge) (point : KnownPlace) → slice_get (places image) from ≡ None → edge.from ≡ from
+    → slice_get (places image) edge.from ≡ Some point → ⊥
+no-point image from edge point none is there =
+    let both : None ≡ Some point = sym none ∙ sym (ap (slice_get (places image)) is) ∙ there in
+    absurd cc
+
+and-false : (a b : Bool) → b ≡ false → (a && b) ≡ false
+and-false true b is = is
+and-false false b is = refl
+
+same-point : (o : Option KnownPlace) (a b : KnownPlace) → o ≡ Some a → o ≡ Some b → a ≡ b
+same-point o a b first second = let both : Some a ≡ Some b = sym first ∙ second in cc
 
 module _ (place : Place) (p : ℕ) where
-  passed-marks : (trace : Trace) (at : ℕ) → (passed place p trace at).passed ≡ marked trace.passed at
-  unfolding passed
-  passed-marks trace at =
-      let known = bringing place p at in
-      let lost = losing place p at in
-      let met = option_or trace.meeting (meeting_at known at lost) in
-      by_test (is_none trace.meeting && is_some met) met (end_at place p known at lost)
-    where
-      by_test : (b : Bool) (met : Option Meeting) (end : Option End) → (passed_as trace at met end b).passed ≡ marked trace.passed at
-      by_test true met end = refl
-      by_test false met end = refl
+  -- ---- What comes along edges
 
-  passed-found : (trace : Trace) (at : ℕ) → (passed place p trace at).found ≡ false → trace.found ≡ false
+  -- whether something comes along an edge, by what came to its end and to its beginning
+  abbrev comes_by : Edge → KnownPlace → Option Pointer → Option Pointer → Bool
+  comes_by edge point there here =
+      nat_lt (end_of edge point.instr) 4096 && is_stale there && comes_alike place edge.from
+      && not (is_stale (behind place.image (record { p = p; hint = here }) edge point))
+
+  came : (edge : Edge) (point : KnownPlace) (there here : Option Pointer) → is_stale there ≡ false → comes_by edge point there here ≡ false
+  came edge point there here known =
+      ap (λ b. b && comes_alike place edge.from && not (is_stale (behind place.image (record { p = p; hint = here }) edge point)))
+      (and-false (nat_lt (end_of edge point.instr) 4096) (is_stale there) known)
+
+  -- nothing comes along an edge whose end something came to
+  pub here-come : (arrivals : List (Option Pointer)) (edge : Edge) (point : KnownPlace) → slice_get (places place.image) edge.from ≡ Some point
+      → comes_along place p arrivals edge point ≡ false → HasCome place p arrivals edge
+  here-come arrivals edge point there none other also =
+      subst (λ q. comes_along place p arrivals edge q ≡ false) (same-point (slice_get (places place.image) edge.from) point other there also) none
+
+  pub set-come : (old : List (Option Pointer)) (edge : Edge) (point : KnownPlace) (pointer : Option Pointer)
+      → slice_get (places place.image) edge.from ≡ Some point → end_of edge point.instr < length old → is_stale pointer ≡ false
+      → HasCome place p (set old (end_of edge point.instr) pointer) edge
+  set-come old edge point pointer there low known =
+      let to = end_of edge point.instr in
+      let new = set old to pointer in
+      let here : is_stale (get_or new to None) ≡ false = ap is_stale (get_or-set_same old to pointer None low) ∙ known in
+      here-come new edge point there (came edge point (get_or new to None) (arrival new edge.from) here)
+
+  -- where something comes to a pc, the instruction there waits, and others do as before
+  pub come-stays : (old : List (Option Pointer)) (waits : List Bool) (end : ℕ) (pointer : Option Pointer) → end < 4096 → length old ≡ 4096
+      → length waits ≡ 4096 → is_stale pointer ≡ false → StaySpent (HasCome place p old) waits (HasCome place p (set old end pointer)) (marked waits end)
+  come-stays old waits end pointer low long full known edge spent = elim spent [
+    | inr waiting ↦ inr (marked-keeps waits end edge.from waiting)
+    | inl come ↦ elim (cases_eq edge.from end) [
+      | inl same ↦ inr (subst (λ n. is_marked (marked waits end) n ≡ true) (sym same) (marked-here waits end full low))
+      | inr ne ↦ inl (λ point there. still point ne (come point there))
+    ]
+  ]
+    where
+      still : (point : KnownPlace) → edge.from ≢ end → comes_along place p old edge point ≡ false → comes_along place p (set old end pointer) edge point ≡ false
+      still point ne was = elim (cases_eq (end_of edge point.instr) end) [
+        | inl here ↦
+            let known_there : is_stale (get_or (set old end pointer) (end_of edge point.instr) None) ≡ false =
+            ap (λ n. is_stale (get_or (set old end pointer) n None)) here
+            ∙ ap is_stale (get_or-set_same old end pointer None (omega (arith, low, long))) ∙ known in
+            came edge point (get_or (set old end pointer) (end_of edge point.instr) None) (arrival (set old end pointer) edge.from) known_there
+        | inr other ↦
+            ap (λ x. comes_by edge point x (arrival (set old end pointer) edge.from))
+            (get_or-set_other old end (end_of edge point.instr) pointer None other)
+            ∙ ap (λ x. comes_by edge point (get_or old (end_of edge point.instr) None) (cond (nat_lt edge.from 4096) x None))
+            (get_or-set_other old end edge.from pointer None ne)
+            ∙ was
+      ]
+
+  -- a look where nothing more comes changes nothing
+  pub come-same : (arrivals : List (Option Pointer)) (from : ℕ) → ((branch : Bool) → HasCome place p arrivals (edge_at from branch))
+      → arrived_from place p arrivals from ≡ arrivals
+  unfolding arrived_from
+  come-same arrivals from come = by_point (slice_get (places place.image) from) refl
+    where
+      along : (branch : Bool) (point : KnownPlace) → slice_get (places place.image) from ≡ Some point
+          → arrived_along place p arrivals (edge_at from branch) point ≡ arrivals
+      along branch point there =
+          ap (λ b. cond b (set arrivals (end_of (edge_at from branch) point.instr) (brought place p arrivals (edge_at from branch) point)) arrivals)
+          (come branch point there)
+
+      by_point : (o : Option KnownPlace) → slice_get (places place.image) from ≡ o → elim o [
+        | None ↦ arrivals
+        | Some point ↦ arrived_along place p (arrived_along place p arrivals (edge_at from false) point) (edge_at from true) point
+      ] ≡ arrivals
+      by_point None e = refl
+      by_point (Some point) e = ap (λ a. arrived_along place p a (edge_at from true) point) (along false point e) ∙ along true point e
+
+  -- ---- Steps back
+
+  pub back-found : (trace : Trace) → trace.found ≡ true → (edge : Edge) → IsBack place p trace edge
+  back-found trace is edge found = absurd cc
+
+  pub back-brings : (trace : Trace) (edge : Edge) (point : KnownPlace) → slice_get (places place.image) edge.from ≡ Some point
+      → lacks_on place p edge point ≡ false → IsBack place p trace edge
+  back-brings trace edge point there brings found other also mark lacks =
+      let is = same-point (slice_get (places place.image) edge.from) other point also there in
+      let here : lacks_on place p edge point ≡ true = subst (λ q. lacks_on place p edge q ≡ true) is lacks in
+      absurd cc
+
+  pub back-passed : (trace : Trace) (edge : Edge) (point : KnownPlace) → slice_get (places place.image) edge.from ≡ Some point
+      → loses place.image (hint_at place p edge.from) edge point ≡ false → is_marked trace.passed edge.from ≡ true → IsBack place p trace edge
+  back-passed trace edge point there keeps passed found other also mark lacks =
+      let is = same-point (slice_get (places place.image) edge.from) point other there also in
+      (subst (λ q. loses place.image (hint_at place p edge.from) edge q ≡ false) is keeps, passed)
+
+  -- one that does not lead to a place that was passed
+  pub back-other : (trace : Trace) (edge : Edge) (point : KnownPlace) → slice_get (places place.image) edge.from ≡ Some point
+      → (not trace.found && is_marked trace.passed (end_of edge point.instr)) ≡ false → IsBack place p trace edge
+  back-other trace edge point there none found other also mark lacks =
+      let is = same-point (slice_get (places place.image) edge.from) other point also there in
+      let here : is_marked trace.passed (end_of edge point.instr) ≡ true =
+      subst (λ (q : KnownPlace). is_marked trace.passed (end_of edge q.instr) ≡ true) is mark in
+      let both : (not false && is_marked trace.passed (end_of edge point.instr)) ≡ false =
+      subst (λ b. (not b && is_marked trace.passed (end_of edge point.instr)) ≡ false) found none in
+      absurd cc
+
+  -- where no place was passed, nothing is to come
+  pub none-back : (trace : Trace) → trace.passed ≡ no_marks → (edge : Edge) → IsBack place p trace edge
+  none-back trace is edge found point there mark = absurd (none-marked (end_of edge point.instr)
+      (has-marked no_marks (end_of edge point.instr) (subst (λ m. is_marked m (end_of edge point.instr) ≡ true) is mark)))
+
+  -- one more place is passed, where ways meet at first there, or not
+  abbrev passed_as : Trace → ℕ → Option Meeting → Option End → Bool → Trace
+  passed_as trace at met end b =
+      cond b (record trace { passed = marked trace.passed at; found = true; meeting = met; end = end })
+      (record trace { passed = marked trace.passed at; meeting = met; end = option_or trace.end end })
+
+  passed-is : (trace : Trace) (at : ℕ) → ((passed place p trace at).passed ≡ marked trace.passed at)
+      × ((passed place p trace at).found ≡ false → trace.found ≡ false)
   unfolding passed
-  passed-found trace at =
+  passed-is trace at =
       let known = bringing place p at in
       let lost = losing place p at in
       let met = option_or trace.meeting (meeting_at known at lost) in
       by_test (is_none trace.meeting && is_some met) met (end_at place p known at lost)
     where
-      by_test : (b : Bool) (met : Option Meeting) (end : Option End) → (passed_as trace at met end b).found ≡ false → trace.found ≡ false
-      by_test true met end is = absurd cc
-      by_test false met end is = is
+      by_test : (b : Bool) (met : Option Meeting) (end : Option End) → ((passed_as trace at met end b).passed ≡ marked trace.passed at)
+          × ((passed_as trace at met end b).found ≡ false → trace.found ≡ false)
+      by_test true met end = (refl, λ is. absurd cc)
+      by_test false met end = (refl, λ is. is)
 
   -- where a place is passed, it is marked
   pub passed-there : (old new : Trace) (at : ℕ) → new ≡ passed place p old at → at < 4096 → length old.passed ≡ 4096
       → is_marked new.passed at ≡ true
   passed-there old new at is low full =
-      subst (λ m. is_marked m at ≡ true) (sym (ap (λ t. t.passed) is ∙ passed-marks old at))
-      (is-marked (marked old.passed at) at low (mark-there old.passed at full low))
+      subst (λ m. is_marked m at ≡ true) (sym (ap (λ t. t.passed) is ∙ (passed-is old at).0)) (marked-here old.passed at full low)
 
-  pub keeps-same : (trace : Trace) (range wider : PcRange) → Widens range wider → KeepsSpent place p trace range trace wider
-  keeps-same trace range wider widens = record {
-    keeps = λ edge inside found spent. elim spent [ inl is ↦ inl is | inr within ↦ inr (widens edge.from within) ];
-    found = λ found. found;
-  }
-
-  pub keeps-on : (a b c : Trace) (s t u : PcRange) → KeepsSpent place p a s b t → KeepsSpent place p b t c u → KeepsSpent place p a s c u
-  keeps-on a b c s t u first second = record {
-    keeps = λ edge inside found spent. second.keeps edge inside found (first.keeps edge inside (second.found found) spent);
-    found = λ found. first.found (second.found found);
-  }
-
-  -- where it was found, nothing is asked
-  pub keeps-found : (old new : Trace) (range wider : PcRange) → new.found ≡ true → KeepsSpent place p old range new wider
-  keeps-found old new range wider is = record {
-    keeps = λ edge inside found spent. absurd cc;
-    found = λ found. absurd cc;
-  }
-
-  -- a step that the instruction has no edge for is not taken
-  back-not : (trace : Trace) (edge : Edge) (point : KnownPlace) → has_edge point.instr edge.branch ≡ false
-      → back_of place (hint_at trace p edge.from) edge point ≡ Not
-  back-not trace edge point none = by_alike (comes_alike place edge.from) (has_edge point.instr edge.branch) none
-    where
-      stale : Bool
-      stale = is_stale (pointer_at (after place.image edge.from point.row edge.branch) p)
-
-      by_alike : (a h : Bool) → h ≡ false → cond (a && h && stale) (cond (loses place.image (hint_at trace p edge.from) edge point) Loses Lacks) Not ≡ Not
-      by_alike true true is = absurd cc
-      by_alike true false is = refl
-      by_alike false true is = absurd cc
-      by_alike false false is = refl
-
-  module _ (old new : Trace) (same : new.arrivals ≡ old.arrivals) (grows : (k : ℕ) → is_marked old.passed k ≡ true → is_marked new.passed k ≡ true) where
-    -- what came to nothing does so later
-    pub still-nothing : (edge : Edge) (point : KnownPlace) → IsNothing old edge (back_of place (hint_at old p edge.from) edge point)
-        → IsNothing new edge (back_of place (hint_at new p edge.from) edge point)
-    still-nothing edge point nothing =
-        let back : back_of place (hint_at new p edge.from) edge point ≡ back_of place (hint_at old p edge.from) edge point =
-        ap (λ a. back_of place (record { p = p; hint = arrival a edge.from }) edge point) same in
-        elim nothing [ inl not ↦ inl (back ∙ not) | inr lacks ↦ inr (back ∙ lacks.0, grows edge.from lacks.1) ]
-
-  pub pass-keeps : (old new : Trace) (at : ℕ) (range wider : PcRange) → new ≡ passed place p old at → new.arrivals ≡ old.arrivals
-      → at < length place.image.points → length place.image.points ≤ 4096
-      → ((edge : Edge) → end_in place.image edge ≡ Some at → IsWithin wider edge.from) → Widens range wider
-      → KeepsSpent place p old range new wider
-  pass-keeps old new at range wider is same low short begins widens = record {
-    keeps = λ edge inside found spent. elim spent [
-      | inr within ↦ inr (widens edge.from within)
-      | inl was ↦ at_edge edge was
-    ];
-    found = λ found. passed-found old at (sym (ap (λ t. t.found) is) ∙ found);
-  }
+  -- edges that lead there are to be looked at again, and no others
+  pub pass-stays : (old new : Trace) (at : ℕ) (waits more : List Bool) → new ≡ passed place p old at → at < length place.image.points
+      → length place.image.points ≤ 4096 → ((edge : Edge) → end_in place.image edge ≡ Some at → is_marked more edge.from ≡ true)
+      → ((pc : ℕ) → is_marked waits pc ≡ true → is_marked more pc ≡ true) → StaySpent (IsBack place p old) waits (IsBack place p new) more
+  pass-stays old new at waits more is low short begins keeps edge spent = elim spent [
+    | inr waiting ↦ inr (keeps edge.from waiting)
+    | inl was ↦ by_point was (slice_get (places place.image) edge.from) refl
+  ]
     where
       marks : new.passed ≡ marked old.passed at
-      marks = ap (λ t. t.passed) is ∙ passed-marks old at
+      marks = ap (λ t. t.passed) is ∙ (passed-is old at).0
 
       grows : (k : ℕ) → is_marked old.passed k ≡ true → is_marked new.passed k ≡ true
-      grows k was =
-          let growing = mark-grows old.passed at in
-          subst (λ m. is_marked m k ≡ true) (sym marks)
-          (is-marked (marked old.passed at) k (marked-low old.passed k was) (growing.keeps k (has-marked old.passed k was)))
+      grows k was = subst (λ m. is_marked m k ≡ true) (sym marks) (marked-keeps old.passed at k was)
 
       was-marked : (k : ℕ) → k ≢ at → is_marked new.passed k ≡ true → is_marked old.passed k ≡ true
       was-marked k ne is_new =
@@ -134,56 +253,50 @@ module _ (place : Place) (p : ℕ) where
             | inr before ↦ is-marked old.passed k (marked-low (marked old.passed at) k there) before
           ]
 
-      at_edge : (edge : Edge) → IsSpent place p old edge → IsSpentBut place p new wider edge
-      at_edge edge spent = by_point (slice_get (places place.image) edge.from) refl
+      by_point : IsBack place p old edge → (o : Option KnownPlace) → slice_get (places place.image) edge.from ≡ o → SpentOr (IsBack place p new) more edge
+      by_point was None e = inl (λ found point there. absurd cc)
+      by_point was (Some point) e = by_has (has_edge point.instr edge.branch) refl
         where
-          by_point : (o : Option KnownPlace) → slice_get (places place.image) edge.from ≡ o → IsSpentBut place p new wider edge
-          by_point None e = inl (λ point there mark. absurd cc)
-          by_point (Some point) e = by_has (has_edge point.instr edge.branch) refl
-            where
-              by_has : (b : Bool) → has_edge point.instr edge.branch ≡ b → IsSpentBut place p new wider edge
-              by_has false has = inl (λ other there mark. (
-                  let both : Some point ≡ Some other = sym e ∙ there in
-                  let is_other : point ≡ other = cc in
-                  inl (back-not new edge other (subst (λ (q : KnownPlace). has_edge q.instr edge.branch ≡ false) is_other has))))
-              by_has true has = elim (cases_eq (end_of edge point.instr) at) [
-                | inl here ↦ inr (begins edge (end-known place.image edge point at e has here low))
-                | inr ne ↦ inl (λ other there mark. (
-                    let both : Some point ≡ Some other = sym e ∙ there in
-                    let is_other : point ≡ other = cc in
-                    let not_here : end_of edge other.instr ≢ at = subst (λ (q : KnownPlace). end_of edge q.instr ≢ at) is_other ne in
-                    still-nothing old new same grows edge other (spent other there (was-marked (end_of edge other.instr) not_here mark))))
-              ]
+          by_has : (b : Bool) → has_edge point.instr edge.branch ≡ b → SpentOr (IsBack place p new) more edge
+          by_has false has = inl (back-brings new edge point e
+              (ap (λ b. b && is_stale (pointer_at (after place.image edge.from point.row edge.branch) p))
+              (and-false (comes_alike place edge.from) (has_edge point.instr edge.branch) has)))
+          by_has true has = elim (cases_eq (end_of edge point.instr) at) [
+            | inl here ↦ inr (begins edge (end-known place.image edge point at e has here low))
+            | inr ne ↦ inl (λ found other there mark lacks. (
+                let is_other = same-point (slice_get (places place.image) edge.from) point other e there in
+                let not_here : end_of edge other.instr ≢ at = subst (λ (q : KnownPlace). end_of edge q.instr ≢ at) is_other ne in
+                let before = (passed-is old at).1 (sym (ap (λ t. t.found) is) ∙ found) in
+                let still = was before other there (was-marked (end_of edge other.instr) not_here mark) lacks in
+                (still.0, grows edge.from still.1)))
+          ]
 
-  -- ---- Rounds
-
-  -- steps that come to nothing change nothing
-  as-nothing : (trace : Trace) (edge : Edge) (back : Back) → IsNothing trace edge back → back_as place p trace edge back ≡ trace
-  as-nothing trace edge Not nothing = refl
-  as-nothing trace edge Loses nothing = elim nothing [ inl is ↦ absurd cc | inr is ↦ (let not_so = is.0 in absurd cc) ]
-  as-nothing trace edge Lacks nothing = elim nothing [
-    | inl is ↦ absurd cc
-    | inr is ↦ ap (λ b. cond b trace (passed place p trace edge.from)) is.1
-  ]
-
-  along-spent : (trace : Trace) (edge : Edge) (point : KnownPlace) → slice_get (places place.image) edge.from ≡ Some point
-      → (trace.found ≡ false → IsSpent place p trace edge) → back_along place p trace edge point ≡ trace
-  unfolding back_along
-  along-spent trace edge point there spent = by_tests trace.found refl (is_marked trace.passed (end_of edge point.instr)) refl
+  -- a look that comes to nothing more changes nothing
+  along-same : (trace : Trace) (edge : Edge) (point : KnownPlace) → slice_get (places place.image) edge.from ≡ Some point
+      → IsBack place p trace edge → back_along place p trace edge point ≡ trace
+  unfolding back_along back_by
+  along-same trace edge point there back =
+      by_tests trace.found refl (is_marked trace.passed (end_of edge point.instr)) refl (lacks_on place p edge point) refl
     where
+      kept : Bool → Bool → Trace
+      kept lost is_passed =
+          cond lost (record trace { found = true; lost = Some (record { edge = edge; hint = (hint_at place p edge.from).hint }) })
+          (cond is_passed trace (passed place p trace edge.from))
+
       by_tests : (f : Bool) → trace.found ≡ f → (m : Bool) → is_marked trace.passed (end_of edge point.instr) ≡ m
-          → cond (not f && m) (back_by place p trace edge point) trace ≡ trace
-      by_tests true found m mark = refl
-      by_tests false found false mark = refl
-      by_tests false found true mark = as-nothing trace edge (back_of place (hint_at trace p edge.from) edge point) (spent found point there mark)
+          → (l : Bool) → lacks_on place p edge point ≡ l
+          → cond (not f && m) (cond (not l) trace (kept (loses place.image (hint_at place p edge.from) edge point) (is_marked trace.passed edge.from))) trace
+          ≡ trace
+      by_tests true found m mark l lacks = refl
+      by_tests false found false mark l lacks = refl
+      by_tests false found true mark false lacks = refl
+      by_tests false found true mark true lacks =
+          let still = back found point there mark lacks in
+          ap (λ b. kept b (is_marked trace.passed edge.from)) still.0 ∙ ap (kept false) still.1
 
-  abbrev edge_at : ℕ → Bool → Edge
-  edge_at from branch = record { from = from; branch = branch }
-
-  from-spent : (trace : Trace) (from : ℕ) → ((branch : Bool) → trace.found ≡ false → IsSpent place p trace (edge_at from branch))
-      → back_from place p trace from ≡ trace
+  pub back-same : (trace : Trace) (from : ℕ) → ((branch : Bool) → IsBack place p trace (edge_at from branch)) → back_from place p trace from ≡ trace
   unfolding back_from
-  from-spent trace from spent = by_point (slice_get (places place.image) from) refl
+  back-same trace from back = by_point (slice_get (places place.image) from) refl
     where
       by_point : (o : Option KnownPlace) → slice_get (places place.image) from ≡ o → elim o [
         | None ↦ trace
@@ -191,109 +304,5 @@ module _ (place : Place) (p : ℕ) where
       ] ≡ trace
       by_point None e = refl
       by_point (Some point) e =
-          ap (λ t. back_along place p t (edge_at from true) point) (along-spent trace (edge_at from false) point e (spent false))
-          ∙ along-spent trace (edge_at from true) point e (spent true)
-
-  abbrev start : ℕ
-  start = start_of place.image.routines place.r
-
-  -- a round leaves out those at which steps come to nothing
-  pub over-spent : (trace : Trace) (m n : ℕ) → m ≤ n
-      → ((edge : Edge) → start + m ≤ edge.from → edge.from < start + n → trace.found ≡ false → IsSpent place p trace edge)
-      → back_over place p trace n ≡ back_over place p trace m
-  unfolding back_over
-  over-spent trace m zero le spent =
-      let same : m ≡ zero = omega arith in
-      sym (ap (back_over place p trace) same)
-  over-spent trace m (suc n) le spent = elim (cases_lt n m) [
-    | inl past ↦
-        let same : m ≡ suc n = omega arith in
-        sym (ap (back_over place p trace) same)
-    | inr within ↦
-        ap (λ t. back_over place p t n) (from-spent trace (start + n)
-        (λ branch found. spent (edge_at (start + n) branch) (omega arith) (omega arith) found))
-        ∙ over-spent trace m n within (λ edge from below found. spent edge from (omega (arith, below)) found)
-  ]
-
-  over-none : (trace : Trace) → back_over place p trace zero ≡ trace
-  unfolding back_over
-  over-none trace = refl
-
-  pub over-next : (trace after : Trace) (first m n : ℕ) → suc m ≡ n → first ≡ start → after ≡ back_from place p trace (first + m)
-      → back_over place p after m ≡ back_over place p trace n
-  unfolding back_over
-  over-next trace after first m n next is step = rw (sym next, step, is) refl
-
-  -- a round ends where none waits in front
-  module _ (trace : Trace) (waits : PcRange) (low rest : ℕ) (within : rest ≤ place.routine.count)
-      (lower : (pc : ℕ) → IsWithin waits pc → low ≤ pc)
-      (below : (edge : Edge) → IsPcOf place edge.from → edge.from < low → trace.found ≡ false → IsSpentBut place p trace waits edge)
-      (ends : (pc : ℕ) → start ≤ pc → pc < start + rest → pc < low) where
-    pub round-ended : back_over place p trace rest ≡ trace
-    round-ended =
-        over-spent trace zero rest (omega arith) (λ edge from less found. (
-        let begins : start ≤ edge.from = omega (arith, from) in
-        let in_front = ends edge.from begins less in
-        elim (below edge (record { begins = begins; ends = omega (arith, less, within) }) in_front found) [
-          | inl spent ↦ spent
-          | inr waiting ↦ (let past = lower edge.from waiting in absurd (omega (arith, past, in_front)))
-        ]))
-        ∙ over-none trace
-
-    pub all-ended : ((edge : Edge) → IsPcOf place edge.from → start + rest ≤ edge.from → trace.found ≡ false → IsSpentBut place p trace waits edge)
-        → AreSpent place p trace waits
-    all-ended above = record {
-      at = λ edge inside found. elim (cases_lt edge.from (start + rest)) [
-        | inl before ↦ below edge inside (ends edge.from inside.begins before) found
-        | inr behind ↦ above edge inside behind found
-      ];
-    }
-
-  -- a round begins behind the last that waits
-  module _ (trace : Trace) (waits : PcRange) (spent : AreSpent place p trace waits) (rest : ℕ) (within : rest ≤ place.routine.count)
-      (behind : (pc : ℕ) → start + rest ≤ pc → pc < start + place.routine.count → waits.high ≤ pc) where
-    spent-behind : (edge : Edge) → IsPcOf place edge.from → start + rest ≤ edge.from → trace.found ≡ false → IsSpent place p trace edge
-    spent-behind edge inside from found = elim (spent.at edge inside found) [
-      | inl is ↦ is
-      | inr waiting ↦ (let past = behind edge.from from inside.ends in let before = waiting.1 in absurd (omega (arith, past, before)))
-    ]
-
-    pub round-begun : back_over place p trace rest ≡ back_over place p trace place.routine.count
-    round-begun = sym (over-spent trace rest place.routine.count within (λ edge from less found.
-        spent-behind edge (record { begins = omega (arith, from); ends = less }) from found))
-
-    pub above-begun : (range : PcRange) (edge : Edge) → IsPcOf place edge.from → start + rest ≤ edge.from → trace.found ≡ false
-        → IsSpentBut place p trace range edge
-    above-begun range edge inside from found = inl (spent-behind edge inside from found)
-
-    pub below-begun : (range : PcRange) (edge : Edge) → IsPcOf place edge.from → edge.from < waits.low → trace.found ≡ false
-        → IsSpentBut place p trace range edge
-    below-begun range edge inside less found = elim (spent.at edge inside found) [
-      | inl is ↦ inl is
-      | inr waiting ↦ (let past = waiting.0 in absurd (omega (arith, past, less)))
-    ]
-
-  -- where no place was passed, nothing is to come
-  pub none-spent : (trace : Trace) (range : PcRange) → trace.passed ≡ no_marks → AreSpent place p trace range
-  none-spent trace range is = record {
-    at = λ edge inside found. inl (λ point there mark. absurd (none-marked (end_of edge point.instr)
-        (has-marked no_marks (end_of edge point.instr) (subst (λ m. is_marked m (end_of edge point.instr) ≡ true) is mark))));
-  }
-
-  pub keeps-spent : (old new : Trace) (range wider : PcRange) → AreSpent place p old range → KeepsSpent place p old range new wider
-      → AreSpent place p new wider
-  keeps-spent old new range wider spent keeps = record {
-    at = λ edge inside found. keeps.keeps edge inside found (spent.at edge inside (keeps.found found));
-  }
-
-  -- both edges of an instruction, one after the other
-  pub both-here : (from : ℕ) → IsPcOf place from → (one new : Trace) (range wider : PcRange)
-      → (one.found ≡ false → IsSpent place p one (edge_at from false)) → KeepsSpent place p one range new wider
-      → (new.found ≡ false → IsSpent place p new (edge_at from true))
-      → (edge : Edge) → edge.from ≡ from → new.found ≡ false → IsSpentBut place p new wider edge
-  both-here from inside one new range wider along keeps aside edge is found =
-      subst (λ n. IsSpentBut place p new wider (edge_at n edge.branch)) (sym is) (by_branch edge.branch)
-    where
-      by_branch : (b : Bool) → IsSpentBut place p new wider (edge_at from b)
-      by_branch true = inl (aside found)
-      by_branch false = keeps.keeps (edge_at from false) inside found (inl (along (keeps.found found)))
+          ap (λ t. back_along place p t (edge_at from true) point) (along-same trace (edge_at from false) point e (back false))
+          ∙ along-same trace (edge_at from true) point e (back true)

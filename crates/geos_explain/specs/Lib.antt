@@ -8,6 +8,7 @@ pub mod Lacks
 pub mod Uses
 pub mod Past
 pub mod Ways
+pub mod Rounds
 pub mod Arrivals
 pub mod Trace
 pub mod Spent

@@ -10,6 +10,7 @@ use Rattle.geos_flow.specs.declared.edge.Edge.{Edge}
 use Rattle.geos_explain.specs.declared.ways.Way.{Way}
 use Rattle.geos_explain.specs.declared.ways.Way.TheVariants.{Entry, Along}
 use Rattle.geos_explain.specs.declared.trace.End.TheVariants.{Unset, Nowhere}
+use Rattle.geos_explain.specs.declared.trace.Loss.{Loss}
 use Rattle.geos_explain.specs.declared.trace.Meeting.{Meeting}
 use Rattle.geos_explain.specs.declared.trace.Trace.{Trace}
 use Rattle.geos_flow.specs.Edges.{end_of}
@@ -50,12 +51,11 @@ IsHint place p pc hint = (hint ≡ None) ⊎ ((pointer : Pointer) × (hint ≡ S
 
 -- an edge loses the pointer, of which this is known on some way there, and from its end a way leads to the place that does not
 -- bring it
-pub record IsLost (place : Place) (p : ℕ) (edge : Edge) : Type 0 where
+pub record IsLost (place : Place) (p : ℕ) (loss : Loss) : Type 0 where
   pub to : ℕ
-  pub comes : ComesTo place edge to
-  pub hint : Option Pointer
-  pub known : IsHint place p edge.from hint
-  pub loses : loses place.image (record { p = p; hint = hint }) edge comes.point ≡ true
+  pub comes : ComesTo place loss.edge to
+  pub known : IsHint place p loss.edge.from loss.hint
+  pub loses : loses place.image (record { p = p; hint = loss.hint }) loss.edge comes.point ≡ true
   pub edges : List Edge
   pub way : LacksAlong place p to edges
 
@@ -114,7 +114,7 @@ pub record IsNowhere (place : Place) (p : ℕ) (way : Way) (slot : ℕ) : Type 0
 -- what is said of a pointer holds: where an instruction is named that lost it, it did; where ways are named that meet, they do;
 -- where it is said that it is not set, it is not; and where a way is named that brings it into an empty slot, it does
 pub record Holds (place : Place) (p : ℕ) (trace : Trace) : Type 0 where
-  pub lost : (edge : Edge) → trace.lost ≡ Some edge → IsLost place p edge
+  pub lost : (loss : Loss) → trace.lost ≡ Some loss → IsLost place p loss
   pub meeting : (m : Meeting) → trace.meeting ≡ Some m → IsMeeting place p m
   pub unset : trace.end ≡ Some Unset → IsUnset place p
   pub nowhere : (way : Way) (slot : ℕ) → trace.end ≡ Some (Nowhere way slot) → IsNowhere place p way slot

@@ -27,7 +27,7 @@ use Rattle.geos_explain.specs.declared.trace.End.TheVariants.{Unset, Unreached, 
 use Rattle.geos_explain.specs.declared.trace.Meeting.{Meeting}
 use Rattle.geos_explain.specs.declared.trace.Trace.{Trace}
 use Rattle.geos_explain.specs.Ways.{with_hint, forgets, sets}
-use Rattle.geos_explain.specs.Trace.{hint_at, traced}
+use Rattle.geos_explain.specs.Trace.{traced}
 
 -- a pointer, where the row knows nothing of it
 abbrev pub if_stale : Row → ℕ → Option ℕ
@@ -182,7 +182,7 @@ end_words place p meeting (Some (Nowhere way slot)) = into_empty_words place p w
 
 -- by what a pointer was lost, or else why it is not known
 abbrev pub loss_words : Place → ℕ → Trace → List ℕ
-loss_words place p t = elim t.lost [ None ↦ end_words place p t.meeting t.end | Some edge ↦ lost_by place (hint_at t p edge.from) edge ]
+loss_words place p t = elim t.lost [ None ↦ end_words place p t.meeting t.end | Some loss ↦ lost_by place (record { p = p; hint = loss.hint }) loss.edge ]
 
 -- where a pointer was lost, and by what
 unfoldable pub trace_words : Place → ℕ → Trace → List ℕ

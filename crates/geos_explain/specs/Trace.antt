@@ -1,27 +1,23 @@
 -- How far a pointer that is not known was followed back: which places were passed, where ways met, and where it was lost.
-use Rattle.std.specs.Prelude.{◌≡◌, ℕ, zero, suc, ◌+◌, true, false, ◌&&◌, not, if◌then◌else◌, Bool, Option, Some, None, is_some, is_none, List, slice_get, slice_index_or}
+use Rattle.std.specs.Prelude.{ℕ, ◌-◌, Bool, true, false, ◌&&◌, not, if◌then◌else◌, Option, Some, None, is_some, is_none, slice_get}
 use Rattle.std.specs.Option.{option_or}
 use Rattle.geos_verify.specs.declared.place.Place.{Place as KnownPlace}
 use Rattle.geos_verify.specs.Places.{places}
-use Rattle.geos_image.specs.Parts.{start_of}
 use Rattle.geos_verify.specs.Rows.{pointer_at, is_stale, after, has_edge}
 use Rattle.geos_flow.specs.declared.edge.Edge.{Edge}
+use Rattle.geos_flow.specs.Edges.{end_of}
+use Rattle.geos_flow.specs.Marks.{no_marks, marked, is_marked}
 use Rattle.geos_explain.specs.declared.ways.Followed.{Followed}
 use Rattle.geos_explain.specs.declared.ways.Way.{Way}
 use Rattle.geos_explain.specs.declared.ways.Way.TheVariants.{Entry, Along}
-use Rattle.geos_explain.specs.declared.arrivals.Arrivals.{Arrivals}
-use Rattle.geos_explain.specs.declared.backs.Back.{Back}
-use Rattle.geos_explain.specs.declared.backs.Back.TheVariants.{Not, Loses, Lacks}
-use Rattle.geos_explain.specs.declared.backs.Backs.{Backs}
 use Rattle.geos_explain.specs.declared.trace.End.{End}
 use Rattle.geos_explain.specs.declared.trace.End.TheVariants.{Unset, Unreached, Merged, Nowhere}
 use Rattle.geos_explain.specs.declared.trace.Meeting.{Meeting}
 use Rattle.geos_explain.specs.declared.trace.Trace.{Trace}
-use Rattle.geos_flow.specs.Marks.{no_marks, marked, is_marked}
-use Rattle.geos_flow.specs.Edges.{end_of}
-use Rattle.geos_explain.specs.Places.{Place, IsPcOf, comes_alike}
+use Rattle.geos_explain.specs.Places.{Place, comes_alike}
+use Rattle.geos_explain.specs.Rounds.{looked, rounds}
 use Rattle.geos_explain.specs.Ways.{empty_on, bringing, losing, loses}
-use Rattle.geos_explain.specs.Arrivals.{arrival, all_arrivals}
+use Rattle.geos_explain.specs.Arrivals.{arrival, all_arrivals, nth_of}
 
 -- ways to a pc meet, if one brings the pointer and another does not
 abbrev pub meeting_at : Option Way → ℕ → Option Way → Option Meeting
@@ -51,8 +47,8 @@ abbrev pub passed_by : Trace → ℕ → Option Meeting → Option End → Trace
 passed_by trace at meeting end =
     let met = option_or trace.meeting meeting in
     if is_none trace.meeting && is_some met
-    then record trace { passed = marked trace.passed at; goes_on = true; found = true; meeting = met; end = end }
-    else record trace { passed = marked trace.passed at; goes_on = true; meeting = met; end = option_or trace.end end }
+    then record trace { passed = marked trace.passed at; found = true; meeting = met; end = end }
+    else record trace { passed = marked trace.passed at; meeting = met; end = option_or trace.end end }
 
 -- one more place is passed
 unfoldable pub passed : Place → ℕ → Trace → ℕ → Trace
@@ -68,37 +64,16 @@ lacks_on place p edge point =
     && is_stale (pointer_at (after place.image edge.from point.row edge.branch) p)
 
 -- a pointer, and what is known of it on some way to a pc
-abbrev pub hint_at : Trace → ℕ → ℕ → Followed
-hint_at trace p from = record { p = p; hint = arrival trace.arrivals from }
+abbrev pub hint_at : Place → ℕ → ℕ → Followed
+hint_at place p from = record { p = p; hint = arrival (all_arrivals place p) from }
 
--- what a step back along an edge comes to
-abbrev pub back_of : Place → Followed → Edge → KnownPlace → Back
-back_of place followed edge point =
-    if lacks_on place followed.p edge point then if loses place.image followed edge point then Loses else Lacks else Not
-
--- no step is taken along the edges of an instruction
-abbrev pub no_backs : Backs
-no_backs = record { along = Not; aside = Not }
-
--- this is what steps back along the edges of the instruction at a pc come to, if there is one
-abbrev pub IsBack : Place → Followed → ℕ → Backs → Type 0
-IsBack place followed from backs = (point : KnownPlace) → slice_get (places place.image) from ≡ Some point
-    → (backs.along ≡ back_of place followed (record { from = from; branch = false }) point)
-    × (backs.aside ≡ back_of place followed (record { from = from; branch = true }) point)
-
--- the same of each instruction of the routine, with what is known there on some way
-pub record AreBacks (place : Place) (p : ℕ) (arrivals : Arrivals) (backs : List Backs) : Type 0 where
-  pub at : (from : ℕ) → IsPcOf place from → IsBack place (record { p = p; hint = arrival arrivals from }) from (slice_index_or backs from no_backs)
-
--- a step back along an edge, by what it comes to: the pointer was lost there, or the instruction is passed, if it was not yet
-abbrev pub back_as : Place → ℕ → Trace → Edge → Back → Trace
-back_as place p trace edge Not = trace
-back_as place p trace edge Loses = record trace { found = true; lost = Some edge }
-back_as place p trace edge Lacks = if is_marked trace.passed edge.from then trace else passed place p trace edge.from
-
--- a step back along an edge
-abbrev pub back_by : Place → ℕ → Trace → Edge → KnownPlace → Trace
-back_by place p trace edge point = back_as place p trace edge (back_of place (hint_at trace p edge.from) edge point)
+-- a step back along an edge that does not bring the pointer: it was lost there, or the instruction is passed, if it was not yet
+unfoldable pub back_by : Place → ℕ → Trace → Edge → KnownPlace → Trace
+back_by place p trace edge point =
+    if not (lacks_on place p edge point) then trace
+    else if loses place.image (hint_at place p edge.from) edge point
+    then record trace { found = true; lost = Some (record { edge = edge; hint = (hint_at place p edge.from).hint }) }
+    else if is_marked trace.passed edge.from then trace else passed place p trace edge.from
 
 -- the same of any edge of an instruction, if it leads to a place that was passed, unless what is looked for was found already
 unfoldable pub back_along : Place → ℕ → Trace → Edge → KnownPlace → Trace
@@ -113,38 +88,22 @@ back_from place p trace from = elim (slice_get (places place.image) from) [
       (record { from = from; branch = true }) point
 ]
 
--- the same of the first n instructions of the routine, the last of them first
-unfoldable pub back_over : Place → ℕ → Trace → ℕ → Trace
-back_over place p trace zero = trace
-back_over place p trace (suc n) = back_over place p (back_from place p trace (start_of place.image.routines place.r + n)) n
+-- the pc of the routine's instruction with a number, from the last on
+abbrev pub nth_last : Place → ℕ → ℕ
+nth_last place k = nth_of place (place.routine.count - 1 - k)
 
--- the same of all of its instructions, unless the last such round passed no place
+-- the same of all of the routine's instructions, the last of them first
 abbrev pub next_round : Place → ℕ → Trace → Trace
-next_round place p trace =
-    if trace.goes_on then back_over place p (record trace { goes_on = false }) place.routine.count else trace
+next_round place p trace = looked (back_from place p) (nth_last place) trace place.routine.count
 
 -- so many rounds: each but the last passes one place more at least, so as many as the routine has instructions pass all
 -- from which the pointer can be lacking there, unless they find what is looked for
-unfoldable pub rounds : Place → ℕ → Trace → ℕ → Trace
-rounds place p trace zero = trace
-rounds place p trace (suc n) = next_round place p (rounds place p trace n)
-
--- what is known of a pointer on some way to each pc
-abbrev pub arrivals_of : Place → ℕ → Arrivals
-arrivals_of place p = all_arrivals place p place.routine.count
+abbrev pub all_rounds : Place → ℕ → Trace → Trace
+all_rounds place p trace = rounds (next_round place p) trace place.routine.count
 
 -- the place itself is passed
 abbrev pub begun : Place → ℕ → Trace
-begun place p =
-    passed place p (record {
-      arrivals = arrivals_of place p;
-      passed = no_marks;
-      goes_on = false;
-      found = false;
-      meeting = None;
-      end = None;
-      lost = None;
-    }) place.pc
+begun place p = passed place p (record { passed = no_marks; found = false; meeting = None; end = None; lost = None }) place.pc
 
 -- a step back along an edge, if there is an instruction
 unfoldable pub aside : Place → ℕ → Trace → Edge → Trace
@@ -158,17 +117,17 @@ aside_by place p trace (Along edge) = aside place p trace edge
 -- the same, unless it is known why not; nothing else was passed before
 abbrev pub along_lost : Place → ℕ → Trace → Way → Trace
 along_lost place p trace lost =
-    let anew = record trace { passed = no_marks; goes_on = false; found = is_some trace.end } in
+    let anew = record trace { passed = no_marks; found = is_some trace.end } in
     if is_some trace.end then anew else aside_by place p anew lost
 
 -- from a meeting, if there is one, so many rounds back along the way that does not bring the pointer
 abbrev pub traced_by : Place → ℕ → Trace → Option Meeting → Trace
 traced_by place p trace None = trace
-traced_by place p trace (Some meeting) = rounds place p (along_lost place p trace meeting.lost) place.routine.count
+traced_by place p trace (Some meeting) = all_rounds place p (along_lost place p trace meeting.lost)
 
 -- a pointer is followed back from a place until it was lost or ways meet, and from there along the way that does not bring it
 -- until it was lost
 abbrev pub traced : Place → ℕ → Trace
 traced place p =
-    let first = rounds place p (begun place p) place.routine.count in
+    let first = all_rounds place p (begun place p) in
     traced_by place p first first.meeting

@@ -1,5 +1,5 @@
 -- Which ways lead to a pc, which of them bring a pointer, and which instructions lose one.
-use Rattle.std.specs.Prelude.{◌≡◌, ◌<◌, ℕ, zero, suc, ◌+◌, replicate, Bool, true, false, ◌&&◌, ◌||◌, not, nat_lt, ◌==◌, if◌then◌else◌, List, Option, Some, None, slice_get, slice_set, slice_index_or}
+use Rattle.std.specs.Prelude.{ℕ, Bool, true, false, ◌&&◌, ◌||◌, not, nat_lt, ◌==◌, if◌then◌else◌, List, Option, Some, None, length, slice_get, slice_set}
 use Rattle.std.specs.Option.{option_or}
 use Rattle.geos_opcodes.specs.declared.opcode.Opcode.{Opcode}
 use Rattle.geos_opcodes.specs.declared.opcode.Opcode.TheVariants.{Call}
@@ -20,10 +20,9 @@ use Rattle.geos_explain.specs.declared.ways.Way.{Way}
 use Rattle.geos_explain.specs.declared.ways.Way.TheVariants.{Entry, Along}
 use Rattle.geos_explain.specs.declared.ways.Sought.{Sought}
 use Rattle.geos_explain.specs.declared.ways.Followed.{Followed}
-use Rattle.geos_explain.specs.declared.firsts.Firsts.{Firsts}
-use Rattle.geos_flow.specs.Edges.{end_of}
+use Rattle.geos_flow.specs.Graphs.{first_into}
 use Rattle.geos_explain.specs.Led.{is_reached}
-use Rattle.geos_explain.specs.Places.{Place, agrees}
+use Rattle.geos_explain.specs.Places.{Place, agrees, is_inside}
 
 -- a pointer is known, or is not, as is asked
 abbrev pub is_as : Bool → Option Pointer → Bool
@@ -64,36 +63,17 @@ is_as_sought place sought edge point =
     agrees sought.reached (is_reached place.image edge.from) && has_edge point.instr edge.branch
     && is_as sought.known (pointer_at (after place.image edge.from point.row edge.branch) sought.p)
 
--- the edge of the instruction is a way to a pc that is sought
-abbrev pub is_sought : Place → Sought → ℕ → Edge → KnownPlace → Bool
-is_sought place sought to edge point = end_of edge point.instr == to && is_as_sought place sought edge point
+-- an edge of the routine is sought
+unfoldable pub is_sought : Place → Sought → Edge → Bool
+is_sought place sought edge = elim (slice_get (places place.image) edge.from) [
+  | None ↦ false
+  | Some point ↦ is_inside place edge.from && is_as_sought place sought edge point
+]
 
--- the way along an edge of the instruction, if it is sought
-abbrev pub way_along : Place → Sought → ℕ → Edge → KnownPlace → Option Way
-way_along place sought to edge point = if is_sought place sought to edge point then Some (Along edge) else None
-
--- the first way of the instruction at a pc that is sought
-abbrev pub way_of : Place → Sought → ℕ → ℕ → KnownPlace → Option Way
-way_of place sought to from point =
-    option_or (way_along place sought to (record { from = from; branch = false }) point)
-    (way_along place sought to (record { from = from; branch = true }) point)
-
--- the same, if there is an instruction
-unfoldable pub way_at : Place → Sought → ℕ → ℕ → Option Way
-way_at place sought to from = elim (slice_get (places place.image) from) [ None ↦ None | Some point ↦ way_of place sought to from point ]
-
--- of the first n instructions of the routine, the first way to a pc that is sought
-unfoldable pub first_way : Place → Sought → ℕ → ℕ → Option Way
-first_way place sought to zero = None
-first_way place sought to (suc n) = option_or (first_way place sought to n) (way_at place sought to (start_of place.image.routines place.r + n))
-
--- there is no way to any pc
-unfoldable pub no_ways : List (Option Way)
-no_ways = replicate 4096 None
-
--- for each pc, of the first n instructions of the routine, the first way to it that is sought
-pub record FirstWays (place : Place) (sought : Sought) (n : ℕ) (ways : List (Option Way)) : Type 0 where
-  pub at : (to : ℕ) → to < 4096 → slice_index_or ways to None ≡ first_way place sought to n
+-- the way along an edge, if there is one
+abbrev pub way_along : Option Edge → Option Way
+way_along None = None
+way_along (Some edge) = Some (Along edge)
 
 -- the way from the caller, where the pc is the routine's first, and the caller brings the pointer, or does not
 abbrev pub entry_way : Place → Sought → ℕ → Option Way
@@ -104,7 +84,9 @@ entry_way place sought to =
 
 -- the first way to a pc that is sought
 unfoldable pub way_to : Place → Sought → ℕ → Option Way
-way_to place sought to = option_or (entry_way place sought to) (first_way place sought to place.routine.count)
+way_to place sought to =
+    option_or (entry_way place sought to)
+    (way_along (first_into place.image (λ edge end. is_sought place sought edge) to (length place.image.points)))
 
 -- which ways are sought of a pointer, from where control comes as it comes to the place: those that bring it, or those that do not
 abbrev pub sought_of : Place → ℕ → Bool → Sought
@@ -113,13 +95,6 @@ sought_of place p known = record { p = p; known = known; reached = is_reached pl
 -- the same from where control does not come so
 abbrev pub elsewhere : Sought → Sought
 elsewhere sought = record sought { reached = not sought.reached }
-
--- the first ways of a pointer to each pc: those that bring it, those that do not, and those that do not from where control does not
--- come as it comes to the place
-pub record AreFirsts (place : Place) (p : ℕ) (firsts : Firsts) : Type 0 where
-  pub known : FirstWays place (sought_of place p true) place.routine.count firsts.known
-  pub lost : FirstWays place (sought_of place p false) place.routine.count firsts.lost
-  pub elsewhere : FirstWays place (elsewhere (sought_of place p false)) place.routine.count firsts.lost_elsewhere
 
 -- the first way to a pc that brings a pointer
 unfoldable pub bringing : Place → ℕ → ℕ → Option Way

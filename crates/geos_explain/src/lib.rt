@@ -5,7 +5,6 @@
 #![tactic(auto)]
 
 mod arrivals;
-mod backs;
 mod calls;
 mod edges;
 mod explained;
@@ -32,6 +31,7 @@ mod texts;
 mod trace;
 mod unset;
 mod uses;
+mod waits;
 mod ways;
 mod words;
 mod written;

@@ -9,7 +9,7 @@ ghost use Rattle.geos_explain.specs.Stale.{unreached_words, merged_words, into_e
 use crate::filled::Filled;
 use crate::numbers::pc_part;
 use crate::place::Place;
-use crate::trace::{End, Meeting, Trace, hint_at, traced};
+use crate::trace::{End, Meeting, Trace, traced};
 use crate::uses::slot_behind;
 use crate::ways::{Followed, Way, forgets, is_stale, sets, with_hint};
 use geos_flow::Edge;
@@ -403,7 +403,7 @@ fn put_loss(out: &mut Vec<u8>, place: &Place, p: u8, t: &Trace) -> Result<(), Al
     ensures { OnOk result (out.new.items ≡ out.old.items ++ loss_words (place_of place.now) p t.now) }
 {
     match t.lost {
-        Some(edge) => put_lost_by(out, place, hint_at(t, p, edge.from), edge),
+        Some(loss) => put_lost_by(out, place, Followed { p, hint: loss.hint }, loss.edge),
         None => match t.end {
             None => out.extend_from_slice(b": fetch it again"),
             Some(End::Unset) => put_unset(out, place, p, t.meeting),

@@ -1,23 +1,23 @@
 //! How far a pointer that is not known was followed back: which places were passed, where ways met, and where it was lost.
 
-ghost use Rattle.std.specs.Prelude.{◌≡◌, ◌<◌, ◌≤◌, ◌+◌, ℕ, false, length, Some, slice_get};
-ghost use Rattle.geos_flow.specs.declared.edge.Edge.{Edge};
+ghost use Rattle.std.specs.Prelude.{◌≡◌, ◌<◌, true, false, length, Some, slice_get};
 ghost use Rattle.geos_explain.specs.Places.{IsPlace, IsPcOf, place_of};
-ghost use Rattle.geos_explain.specs.Ways.{AreFirsts};
+ghost use Rattle.geos_explain.specs.Arrivals.{all_arrivals};
 ghost use Rattle.geos_explain.specs.Lost.{WhatIsSaidHolds};
-ghost use Rattle.geos_explain.specs.Spent.{IsNothing, IsSpent, IsSpentBut, AreSpent, KeepsSpent};
-ghost use Rattle.geos_explain.specs.Trace.{meeting_at, nowhere_or, end_at, passed, hint_at, arrivals_of, AreBacks};
-ghost use Rattle.geos_explain.specs.Trace.{back_as, back_along, back_from, next_round, rounds, along_lost, traced};
+ghost use Rattle.geos_explain.specs.Spent.{IsBack, AreSpent, StaySpent};
+ghost use Rattle.geos_explain.specs.Trace.{meeting_at, nowhere_or, end_at, passed, hint_at, lacks_on};
+ghost use Rattle.geos_explain.specs.Trace.{back_by, back_along, back_from, next_round, all_rounds, along_lost, traced};
 ghost use Rattle.geos_verify.specs.Places.{places};
 
 use crate::arrivals::{Arrivals, all_arrivals, arrival};
-use crate::backs::{AllBacks, Back, all_backs, back_at, back_of};
-use crate::firsts::{Firsts, bringing, firsts_of, losing};
+use crate::firsts::{bringing, losing};
 use crate::place::Place;
 use crate::routines::comes_alike;
-use crate::ways::{Followed, Way, empty_on};
-use geos_flow::{Edge, Marks, PcRange, end_of, is_marked, mark, no_marks, no_range};
-use geos_verify::Place as KnownPlace;
+use crate::waits::take;
+use crate::ways::{Followed, Way, empty_on, is_stale, loses};
+use geos_flow::{Edge, Marks, end_of, is_marked, mark, no_marks};
+use geos_image::Pointer;
+use geos_verify::{Place as KnownPlace, has_edge, pointer_at};
 
 /// Ways meet, of which one brings a pointer and another does not.
 #[derive(Clone, Copy)]
@@ -43,23 +43,28 @@ pub(crate) enum End {
     Nowhere(Way, u8),
 }
 
+/// An instruction lost a pointer.
+#[derive(Clone, Copy)]
+pub(crate) struct Loss {
+    /// The edge on which it did.
+    pub edge: Edge,
+    /// What is known of the pointer on some way there.
+    pub hint: Option<Pointer>,
+}
+
 /// How far a pointer that is not known was followed back.
 #[derive(Clone, Copy)]
 pub(crate) struct Trace {
-    /// What is known of it on some way to each pc.
-    pub arrivals: Arrivals,
     /// From where it can be lacking.
     pub passed: Marks,
-    /// Whether the last round passed a place.
-    pub goes_on: bool,
     /// Whether what is looked for was found: an instruction that lost it, or a meeting if there was none before.
     pub found: bool,
     /// The first place that was passed where one way brings the pointer and another does not.
     pub meeting: Option<Meeting>,
     /// The first such reason that was met, on the way that does not bring it.
     pub end: Option<End>,
-    /// The edge on which its instruction lost the pointer.
-    pub lost: Option<Edge>,
+    /// By what it was lost.
+    pub lost: Option<Loss>,
 }
 
 /// Ways to a pc meet: one brings the pointer, and this one, if there is such a one, does not.
@@ -101,16 +106,23 @@ fn end_at(place: &Place, p: u8, known: Option<Way>, to: u16, lost: Option<Way>) 
     }
 }
 
-/// A pointer that is followed back from a place, with what is found once of each edge: whether it is a first way to where it leads,
-/// and what a step back along it comes to.
-#[derive(Drop)]
+/// A pointer that is followed back from a place, with what is known of it on some way to each pc.
+#[derive(Clone, Copy)]
 struct Tracing<'a> {
     place: &'a Place<'a>,
     p: u8,
-    firsts: Firsts,
-    backs: AllBacks,
-    ghost first: { AreFirsts (place_of place.now) p firsts },
-    ghost back: { AreBacks (place_of place.now) p (arrivals_of (place_of place.now) p) backs },
+    arrivals: Arrivals,
+    ghost known: { arrivals ≡ all_arrivals (place_of place.now) p },
+}
+
+/// The pointer, and what is known of it on some way to the pc.
+fn hint_at(tracing: &Tracing, from: u16) -> Followed
+    ensures { result ≡ hint_at (place_of tracing.now.place.now) tracing.now.p from }
+{
+    Followed {
+        p: tracing.p,
+        hint: arrival(&tracing.arrivals, usize::from(from)),
+    }
 }
 
 /// One more place is passed. Where the first ways meet, nothing counts of what else was passed.
@@ -118,16 +130,14 @@ struct Tracing<'a> {
 fn pass_at(trace: &mut Trace, tracing: &Tracing, at: u16)
     requires place { IsPlace (place_of tracing.now.place.now) }
     requires there { at < 4096 }
-    ensures passes { trace.new ≡ passed (place_of tracing.now.place.now) tracing.now.p trace.old at }
-    ensures arrivals { trace.new.arrivals ≡ trace.old.arrivals }
+    ensures { trace.new ≡ passed (place_of tracing.now.place.now) tracing.now.p trace.old at }
 {
     let (place, p) = (tracing.place, tracing.p);
-    let known = bringing(place, p, &tracing.firsts, at);
-    let lost = losing(place, p, &tracing.firsts, at);
+    let known = bringing(place, p, at);
+    let lost = losing(place, p, at);
     let end = end_at(place, p, known, at, lost);
     let met = trace.meeting.or(meeting_at(known, at, lost));
     mark(&mut trace.passed, usize::from(at));
-    trace.goes_on = true;
     if trace.meeting.is_none() && met.is_some() {
         trace.found = true;
         trace.end = end;
@@ -138,187 +148,153 @@ fn pass_at(trace: &mut Trace, tracing: &Tracing, at: u16)
 }
 
 /// The same, and where edges to the place begin waits.
-fn pass(trace: &mut Trace, tracing: &Tracing, waits: &mut PcRange, at: u16)
+fn pass(trace: &mut Trace, tracing: &Tracing, waits: &mut Marks, at: u16)
     requires place { IsPlace (place_of tracing.now.place.now) }
     requires there { at < length tracing.now.place.now.image.now.points }
     ensures passes { trace.new ≡ passed (place_of tracing.now.place.now) tracing.now.p trace.old at }
-    ensures arrivals { trace.new.arrivals ≡ trace.old.arrivals }
-    ensures keeps { KeepsSpent (place_of tracing.now.place.now) tracing.now.p trace.old waits.old trace.new waits.new }
+    ensures stay { StaySpent (IsBack (place_of tracing.now.place.now) tracing.now.p trace.old) waits.old
+        (IsBack (place_of tracing.now.place.now) tracing.now.p trace.new) waits.new }
 {
-    tracing.place.image.graph().widen(waits, at);
+    tracing.place.image.graph().mark_begins(waits, at);
     pass_at(trace, tracing, at);
 }
 
-/// The pointer, and what is known of it on some way to the pc.
-pub(crate) fn hint_at(trace: &Trace, p: u8, from: u16) -> Followed
-    ensures { result ≡ hint_at trace.now p from }
+/// Whether control comes along the edge of the instruction as it comes to the place, and does not bring the pointer.
+fn lacks_on(place: &Place, p: u8, edge: Edge, point: &KnownPlace) -> bool
+    requires { slice_get (places place.now.image.now) edge.from ≡ Some point.now }
+    ensures { result ≡ lacks_on (place_of place.now) p edge point.now }
 {
-    Followed {
-        p,
-        hint: arrival(&trace.arrivals, usize::from(from)),
-    }
+    comes_alike(place, edge.from)
+        && has_edge(&point.instr, edge.branch)
+        && is_stale(pointer_at(&place.image.behind(edge.from, &point.row, edge.branch), p))
 }
 
-/// A step back along an edge, by what it comes to: the pointer was lost there, or the instruction is passed, if it was not yet.
-fn step_as(trace: &mut Trace, tracing: &Tracing, waits: &mut PcRange, edge: Edge, back: Back)
+/// A step back along an edge, if it does not bring the pointer: it was lost there, or the instruction is passed, if it was not yet.
+#[tactic(auto, unfolding(crate::specs::Trace::back_by))]
+fn step_by(trace: &mut Trace, tracing: &Tracing, waits: &mut Marks, edge: Edge, point: &KnownPlace)
     requires place { IsPlace (place_of tracing.now.place.now) }
-    requires there { edge.from < length tracing.now.place.now.image.now.points }
-    ensures steps { trace.new ≡ back_as (place_of tracing.now.place.now) tracing.now.p trace.old edge back }
-    ensures arrivals { trace.new.arrivals ≡ trace.old.arrivals }
-    ensures keeps { KeepsSpent (place_of tracing.now.place.now) tracing.now.p trace.old waits.old trace.new waits.new }
-    ensures here { trace.new.found ≡ false → IsNothing trace.new edge back }
+    requires there { slice_get (places tracing.now.place.now.image.now) edge.from ≡ Some point.now }
+    ensures steps { trace.new ≡ back_by (place_of tracing.now.place.now) tracing.now.p trace.old edge point.now }
+    ensures here { IsBack (place_of tracing.now.place.now) tracing.now.p trace.new edge }
+    ensures stay { StaySpent (IsBack (place_of tracing.now.place.now) tracing.now.p trace.old) waits.old
+        (IsBack (place_of tracing.now.place.now) tracing.now.p trace.new) waits.new }
 {
-    match back {
-        Back::Not => {}
-        Back::Loses => {
-            trace.found = true;
-            trace.lost = Some(edge);
-        }
-        Back::Lacks => {
-            if !is_marked(&trace.passed, usize::from(edge.from)) {
-                pass(trace, tracing, waits, edge.from);
-            }
-        }
+    if !lacks_on(tracing.place, tracing.p, edge, point) {
+        return;
+    }
+    let followed = hint_at(tracing, edge.from);
+    if loses(tracing.place.image, followed, edge, point) {
+        trace.found = true;
+        trace.lost = Some(Loss {
+            edge,
+            hint: followed.hint,
+        });
+    } else if !is_marked(&trace.passed, usize::from(edge.from)) {
+        pass(trace, tracing, waits, edge.from);
     }
 }
 
-/// A step back along any edge of the instruction, if it leads to a place that was passed, unless what is looked for was found already.
+/// The same along any edge of the instruction, if it leads to a place that was passed, unless what is looked for was found already.
 #[tactic(auto, unfolding(crate::specs::Trace::back_along))]
 fn step_along(
     trace: &mut Trace,
     tracing: &Tracing,
-    waits: &mut PcRange,
+    waits: &mut Marks,
     edge: Edge,
     point: &KnownPlace,
 )
     requires place { IsPlace (place_of tracing.now.place.now) }
     requires there { slice_get (places tracing.now.place.now.image.now) edge.from ≡ Some point.now }
-    requires inside { IsPcOf (place_of tracing.now.place.now) edge.from }
-    requires arrivals { trace.old.arrivals ≡ arrivals_of (place_of tracing.now.place.now) tracing.now.p }
     ensures steps { trace.new ≡ back_along (place_of tracing.now.place.now) tracing.now.p trace.old edge point.now }
-    ensures arrivals { trace.new.arrivals ≡ trace.old.arrivals }
-    ensures keeps { KeepsSpent (place_of tracing.now.place.now) tracing.now.p trace.old waits.old trace.new waits.new }
-    ensures here { trace.new.found ≡ false → IsSpent (place_of tracing.now.place.now) tracing.now.p trace.new edge }
+    ensures here { IsBack (place_of tracing.now.place.now) tracing.now.p trace.new edge }
+    ensures stay { StaySpent (IsBack (place_of tracing.now.place.now) tracing.now.p trace.old) waits.old
+        (IsBack (place_of tracing.now.place.now) tracing.now.p trace.new) waits.new }
 {
     if !trace.found && is_marked(&trace.passed, end_of(edge, &point.instr)) {
-        let back = back_at(&tracing.backs, edge);
-        step_as(trace, tracing, waits, edge, back);
+        step_by(trace, tracing, waits, edge, point);
     }
 }
 
-/// The same of both edges of the instruction at a pc, if there is one.
+/// The same along both edges of the instruction at a pc, and whether it waited. If it did not, steps back along them come to nothing
+/// more.
 #[tactic(auto, unfolding(crate::specs::Trace::back_from))]
-fn step_from(trace: &mut Trace, tracing: &Tracing, waits: &mut PcRange, from: u16)
+fn step_from(trace: &mut Trace, tracing: &Tracing, waits: &mut Marks, from: u16) -> bool
     requires place { IsPlace (place_of tracing.now.place.now) }
     requires inside { IsPcOf (place_of tracing.now.place.now) from }
-    requires arrivals { trace.old.arrivals ≡ arrivals_of (place_of tracing.now.place.now) tracing.now.p }
+    requires spent { AreSpent (place_of tracing.now.place.now) (IsBack (place_of tracing.now.place.now) tracing.now.p trace.old) waits.old }
     ensures steps { trace.new ≡ back_from (place_of tracing.now.place.now) tracing.now.p trace.old from }
-    ensures arrivals { trace.new.arrivals ≡ trace.old.arrivals }
-    ensures keeps { KeepsSpent (place_of tracing.now.place.now) tracing.now.p trace.old waits.old trace.new waits.new }
-    ensures here { (edge : Edge) → edge.from ≡ from → trace.new.found ≡ false
-        → IsSpentBut (place_of tracing.now.place.now) tracing.now.p trace.new waits.new edge }
+    ensures spent { AreSpent (place_of tracing.now.place.now) (IsBack (place_of tracing.now.place.now) tracing.now.p trace.new) waits.new }
+    ensures stays { result ≡ false → trace.new ≡ trace.old }
 {
-    match tracing.place.image.place(from) {
-        Some(point) => {
-            let along = Edge {
-                from,
-                branch: false,
-            };
-            let aside = Edge { from, branch: true };
-            step_along(trace, tracing, waits, along, point);
-            step_along(trace, tracing, waits, aside, point);
-        }
-        None => {}
+    if !take(waits, from) {
+        return false;
     }
-}
-
-/// The lesser of two numbers.
-fn least(a: u16, b: u16) -> u16
-    ensures first { result ≤ a }
-    ensures second { result ≤ b }
-{
-    if a < b { a } else { b }
-}
-
-/// How many of a routine's instructions there are up to the last that waits.
-fn rest_of(waits: &PcRange, start: u16, count: u16) -> u16
-    ensures within { result ≤ count }
-    ensures behind { (pc : ℕ) → start + result ≤ pc → pc < start + count → waits.now.high ≤ pc }
-{
-    if waits.high <= start {
-        0
-    } else if waits.high - start < count {
-        waits.high - start
-    } else {
-        count
+    if let Some(point) = tracing.place.image.place(from) {
+        let along = Edge {
+            from,
+            branch: false,
+        };
+        let aside = Edge { from, branch: true };
+        step_along(trace, tracing, waits, along, point);
+        step_along(trace, tracing, waits, aside, point);
     }
+    true
 }
 
-/// The same of all of the routine's instructions, the last of them first, unless the last such round passed no place. Those that do
-/// not wait are left out: at them steps back come to nothing more.
-fn next_round(trace: &mut Trace, tracing: &Tracing, waits: &mut PcRange)
+/// The same of all of the routine's instructions, the last of them first, and whether one of them waited; unless none did the last
+/// time.
+#[tactic(auto, unfolding(crate::specs::Rounds::looked))]
+fn next_round(trace: &mut Trace, tracing: &Tracing, waits: &mut Marks, goes_on: bool) -> bool
     requires place { IsPlace (place_of tracing.now.place.now) }
-    requires arrivals { trace.old.arrivals ≡ arrivals_of (place_of tracing.now.place.now) tracing.now.p }
-    requires spent { AreSpent (place_of tracing.now.place.now) tracing.now.p trace.old waits.old }
+    requires spent { AreSpent (place_of tracing.now.place.now) (IsBack (place_of tracing.now.place.now) tracing.now.p trace.old) waits.old }
+    requires ended { goes_on ≡ false → next_round (place_of tracing.now.place.now) tracing.now.p trace.old ≡ trace.old }
     ensures steps { trace.new ≡ next_round (place_of tracing.now.place.now) tracing.now.p trace.old }
-    ensures arrivals { trace.new.arrivals ≡ trace.old.arrivals }
-    ensures spent { AreSpent (place_of tracing.now.place.now) tracing.now.p trace.new waits.new }
+    ensures spent { AreSpent (place_of tracing.now.place.now) (IsBack (place_of tracing.now.place.now) tracing.now.p trace.new) waits.new }
+    ensures ended { result ≡ false → next_round (place_of tracing.now.place.now) tracing.now.p trace.new ≡ trace.new }
 {
-    if !trace.goes_on {
-        return;
+    if !goes_on {
+        return false;
     }
-    trace.goes_on = false;
     let place = tracing.place;
     let start = place.image.start(place.r);
-    let mut low = waits.low;
-    let mut rest = rest_of(waits, start, place.routine.count);
-    *waits = no_range();
-    while rest > 0 && low < start + rest {
-        rest -= 1;
-        step_from(trace, tracing, waits, start + rest);
-        low = least(low, waits.low);
+    let count = place.routine.count;
+    let mut any = false;
+    for k in 0..count {
+        let waited = step_from(trace, tracing, waits, start + (count - 1 - k));
+        any = any || waited;
     }
+    any
 }
 
 /// As many rounds back as the routine has instructions.
-#[tactic(auto, unfolding(crate::specs::Trace::rounds))]
-fn step_rounds(trace: &mut Trace, tracing: &Tracing, waits: &mut PcRange)
+#[tactic(auto, unfolding(crate::specs::Rounds::rounds))]
+fn step_rounds(trace: &mut Trace, tracing: &Tracing, waits: &mut Marks)
     requires place { IsPlace (place_of tracing.now.place.now) }
-    requires arrivals { trace.old.arrivals ≡ arrivals_of (place_of tracing.now.place.now) tracing.now.p }
-    requires spent { AreSpent (place_of tracing.now.place.now) tracing.now.p trace.old waits.old }
-    ensures steps { trace.new ≡ rounds (place_of tracing.now.place.now) tracing.now.p trace.old tracing.now.place.now.routine.now.count }
-    ensures arrivals { trace.new.arrivals ≡ trace.old.arrivals }
+    requires spent { AreSpent (place_of tracing.now.place.now) (IsBack (place_of tracing.now.place.now) tracing.now.p trace.old) waits.old }
+    ensures { trace.new ≡ all_rounds (place_of tracing.now.place.now) tracing.now.p trace.old }
 {
+    let mut goes_on = true;
     for n in 0..tracing.place.routine.count {
-        next_round(trace, tracing, waits);
+        goes_on = next_round(trace, tracing, waits, goes_on);
     }
 }
 
 /// A step back along a way that does not bring the pointer, unless it is known why not; nothing else was passed before.
 #[tactic(auto, unfolding(crate::specs::Trace::aside))]
-fn step_along_lost(trace: &mut Trace, tracing: &Tracing, waits: &mut PcRange, lost: Way)
+fn step_along_lost(trace: &mut Trace, tracing: &Tracing, waits: &mut Marks, lost: Way)
     requires { IsPlace (place_of tracing.now.place.now) }
     ensures steps { trace.new ≡ along_lost (place_of tracing.now.place.now) tracing.now.p trace.old lost }
-    ensures arrivals { trace.new.arrivals ≡ trace.old.arrivals }
-    ensures spent { AreSpent (place_of tracing.now.place.now) tracing.now.p trace.new waits.new }
+    ensures spent { AreSpent (place_of tracing.now.place.now) (IsBack (place_of tracing.now.place.now) tracing.now.p trace.new) waits.new }
 {
-    *waits = no_range();
     trace.passed = no_marks();
-    trace.goes_on = false;
     trace.found = trace.end.is_some();
     if trace.found {
         return;
     }
-    match lost {
-        Way::Along(edge) => match tracing.place.image.place(edge.from) {
-            Some(point) => {
-                let followed = hint_at(trace, tracing.p, edge.from);
-                let back = back_of(tracing.place, followed, edge, point);
-                step_as(trace, tracing, waits, edge, back);
-            }
-            None => {}
-        },
-        Way::Entry => {}
+    if let Way::Along(edge) = lost {
+        if let Some(point) = tracing.place.image.place(edge.from) {
+            step_by(trace, tracing, waits, edge, point);
+        }
     }
 }
 
@@ -329,9 +305,7 @@ pub(crate) fn traced(place: &Place, p: u8) -> Trace
     ensures { result ≡ traced (place_of place.now) p }
 {
     let mut trace = Trace {
-        arrivals: all_arrivals(place, p),
         passed: no_marks(),
-        goes_on: false,
         found: false,
         meeting: None,
         end: None,
@@ -340,18 +314,14 @@ pub(crate) fn traced(place: &Place, p: u8) -> Trace
     let tracing = Tracing {
         place,
         p,
-        firsts: firsts_of(place, p),
-        backs: all_backs(place, p, &trace.arrivals),
+        arrivals: all_arrivals(place, p),
     };
-    let mut waits = no_range();
+    let mut waits = no_marks();
     pass(&mut trace, &tracing, &mut waits, place.pc);
     step_rounds(&mut trace, &tracing, &mut waits);
-    match trace.meeting {
-        Some(meeting) => {
-            step_along_lost(&mut trace, &tracing, &mut waits, meeting.lost);
-            step_rounds(&mut trace, &tracing, &mut waits);
-        }
-        None => {}
+    if let Some(meeting) = trace.meeting {
+        step_along_lost(&mut trace, &tracing, &mut waits, meeting.lost);
+        step_rounds(&mut trace, &tracing, &mut waits);
     }
     trace
 }

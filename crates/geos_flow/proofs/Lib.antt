@@ -1,5 +1,6 @@
 pub mod Marked
-mod Into
+pub mod Firsts
+pub mod Into
 mod Kept
 pub mod Leading
 pub mod Taking

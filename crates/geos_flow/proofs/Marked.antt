@@ -94,6 +94,15 @@ has-marked marks pc is = (and_parts (nat_lt pc 4096) (get_or marks pc false) is)
 pub marked-low : (marks : List Bool) (pc : ℕ) → is_marked marks pc ≡ true → pc < 4096
 marked-low marks pc is = ltb-true pc 4096 (and_parts (nat_lt pc 4096) (get_or marks pc false) is).0
 
+-- one more pc is marked, and what was stays so
+pub marked-here : (marks : List Bool) (pc : ℕ) → length marks ≡ 4096 → pc < 4096 → is_marked (marked marks pc) pc ≡ true
+marked-here marks pc full low = is-marked (marked marks pc) pc low (mark-there marks pc full low)
+
+pub marked-keeps : (marks : List Bool) (pc k : ℕ) → is_marked marks k ≡ true → is_marked (marked marks pc) k ≡ true
+marked-keeps marks pc k is =
+    let grows = mark-grows marks pc in
+    is-marked (marked marks pc) k (marked-low marks k is) (grows.keeps k (has-marked marks k is))
+
 -- what is marked is one of the list
 pub has-within : (marks : List Bool) (k : ℕ) → Has marks k → k < length marks
 has-within [] k h = absurd cc

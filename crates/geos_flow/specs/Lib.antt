@@ -3,4 +3,3 @@ pub mod Marks
 pub mod Flow
 pub mod Graphs
 pub mod Waiting
-pub mod Ranges

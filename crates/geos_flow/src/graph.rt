@@ -5,7 +5,8 @@ ghost use Rattle.geos_flow.specs.Edges.{number_of};
 ghost use Rattle.geos_flow.specs.Graphs.{AreInto, behind_of};
 
 use crate::edge::{Edge, end_in, number_of};
-use crate::range::{PcRange, widened};
+use crate::marks::{Marks, mark};
+use crate::search::Counting;
 use geos_image::Image;
 
 /// An image, and for each of its pcs the edges that lead there, as a list: the first one, and behind each the next.
@@ -40,10 +41,11 @@ fn note(
 }
 
 impl<'a> Graph<'a> {
-    ghost use Rattle.std.specs.Prelude.{Some};
+    ghost use Rattle.std.specs.Prelude.{ℕ, Some, true};
     ghost use Rattle.geos_flow.specs.declared.edge.Edge.{Edge};
     ghost use Rattle.geos_flow.specs.Edges.{end_in};
-    ghost use Rattle.geos_flow.specs.Ranges.{IsWithin, Widens};
+    ghost use Rattle.geos_flow.specs.Graphs.{first_into};
+    ghost use Rattle.geos_flow.specs.Marks.{is_marked};
 
     /// The edges of the image.
     pub fn of(image: &'a Image) -> Graph<'a>
@@ -82,16 +84,32 @@ impl<'a> Graph<'a> {
         self.behind[number_of(edge)]
     }
 
-    /// Widens a range to the pcs from which edges lead to one.
-    pub fn widen(&self, range: &mut PcRange, to: u16)
+    /// Marks the pcs from which edges lead to one.
+    pub fn mark_begins(&self, marks: &mut Marks, to: u16)
         requires { to < 4096 }
-        ensures begins { (edge : Edge) → end_in self.now.image.now edge ≡ Some to → IsWithin range.new edge.from }
-        ensures widens { Widens range.old range.new }
+        ensures begins { (edge : Edge) → end_in self.now.image.now edge ≡ Some to → is_marked marks.new edge.from ≡ true }
+        ensures keeps { (pc : ℕ) → is_marked marks.old pc ≡ true → is_marked marks.new pc ≡ true }
     {
         let mut at = self.first(to);
         while let Some(edge) = at {
-            *range = widened(*range, edge.from);
+            mark(marks, usize::from(edge.from));
             at = self.next(edge);
         }
+    }
+
+    /// The first edge to a pc that counts: that of the first instruction, and of one instruction that to the next.
+    pub fn first_into<C: Counting>(&self, counting: &C, to: u16) -> Option<Edge>
+        requires { to < 4096 }
+        ensures { result ≡ first_into self.now.image.now (C.counted counting.now) to (length self.now.image.now.points) }
+    {
+        let mut found = None;
+        let mut at = self.first(to);
+        while let Some(edge) = at {
+            if counting.counts(edge, to) {
+                found = Some(edge);
+            }
+            at = self.next(edge);
+        }
+        found
     }
 }

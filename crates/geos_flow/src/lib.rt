@@ -4,12 +4,10 @@
 mod edge;
 mod graph;
 mod marks;
-mod range;
 mod search;
 mod waiting;
 
 pub use edge::{Edge, end_of};
 pub use graph::Graph;
 pub use marks::{Marks, is_marked, mark, no_marks};
-pub use range::{PcRange, no_range};
 pub use search::{Counting, Heading, follow, marks_what_is_led};

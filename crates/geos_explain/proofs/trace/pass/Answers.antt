@@ -1,15 +1,16 @@
-use Rattle.std.proofs.Common.{◌≡◌, Some, subst}
+use Rattle.std.proofs.Common.{◌≡◌, Some, true, subst}
 use Rattle.geos_flow.specs.declared.edge.Edge.{Edge}
 use Rattle.geos_flow.specs.Edges.{end_in}
-use Rattle.geos_flow.specs.Ranges.{IsWithin}
+use Rattle.geos_flow.specs.Marks.{is_marked}
 use Rattle.geos_explain.specs.Places.{place_of}
-use Rattle.geos_explain.proofs.Spending.{pass-keeps}
+use Rattle.geos_explain.proofs.Spending.{pass-stays}
 use Rattle.geos_explain.proofs.trace.pass.Goals as goal
 
-pub returns-clause-keeps : goal.returns-clause-keeps
-returns-clause-keeps c =
+pub returns-clause-stay : goal.returns-clause-stay
+returns-clause-stay c =
     let place = place_of c.args.tracing.now.place.now in
-    let begins : (edge : Edge) → end_in place.image edge ≡ Some c.args.at → IsWithin c.widen.new.range edge.from =
-    subst (λ image. (edge : Edge) → end_in image edge ≡ Some c.args.at → IsWithin c.widen.new.range edge.from) c.graph.ensures c.widen.ensures.begins in
-    pass-keeps place c.args.tracing.now.p c.args.trace.now c.pass_at.new.trace c.args.at c.args.waits.now c.widen.new.range
-    c.pass_at.ensures.passes c.pass_at.ensures.arrivals c.requires.there c.requires.place.short begins c.widen.ensures.widens
+    let more = c.mark_begins.new.marks in
+    let begins : (edge : Edge) → end_in place.image edge ≡ Some c.args.at → is_marked more edge.from ≡ true =
+    subst (λ image. (edge : Edge) → end_in image edge ≡ Some c.args.at → is_marked more edge.from ≡ true) c.graph.ensures c.mark_begins.ensures.begins in
+    pass-stays place c.args.tracing.now.p c.args.trace.now c.pass_at.new.trace c.args.at c.args.waits.now more
+    c.pass_at.ensures c.requires.there c.requires.place.short begins c.mark_begins.ensures.keeps
