@@ -99,6 +99,7 @@ static uint32_t load(book *b, const char *path, uint32_t *image) {
     if (!file) return TAKHVOI_NO_FILE;
     size_t len = fread(text, 1, sizeof text, file);
     fclose(file);
+    if (len == sizeof text) return TAKHVOI_SHORT_BUFFER;
     uint32_t status = takhvoi_assemble(text, len, bytes, sizeof bytes, &told);
     if (status != TAKHVOI_DONE) return fault(status, "line", told);
     status = takhvoi_load(&b->file.kernel, bytes, (size_t)told, image, &place, &rule);

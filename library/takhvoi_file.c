@@ -46,6 +46,15 @@ static int sync_file(int fd) {
     return done == 0;
 }
 
+/* Gives an open file a number above those of the standard streams: where one of them is closed, it would have got that one's, and what the
+ * program prints would go into it. */
+static int above_streams(int fd) {
+    if (fd > STDERR_FILENO) return fd;
+    int above = fcntl(fd, F_DUPFD_CLOEXEC, STDERR_FILENO + 1);
+    close(fd);
+    return above;
+}
+
 static int lock_file(int fd) {
     int done;
     do done = flock(fd, LOCK_EX | LOCK_NB);
@@ -121,6 +130,8 @@ uint32_t takhvoi_file_open(takhvoi_file *file, const char *path, uint32_t region
     file->next = 0;
     file->fd = open(path, O_RDWR | O_CLOEXEC);
     if (file->fd < 0) return errno == ENOENT ? TAKHVOI_NO_FILE : TAKHVOI_NO_ACCESS;
+    file->fd = above_streams(file->fd);
+    if (file->fd < 0) return TAKHVOI_NO_ACCESS;
     if (!lock_file(file->fd)) {
         status = errno == EWOULDBLOCK ? TAKHVOI_FILE_IN_USE : TAKHVOI_NO_ACCESS;
         close(file->fd);
@@ -146,8 +157,9 @@ uint32_t takhvoi_file_create(takhvoi_file *file, const char *path, uint32_t area
     file->next = 0;
     file->fd = open(path, O_RDWR | O_CREAT | O_EXCL | O_CLOEXEC, 0666);
     if (file->fd < 0) return errno == EEXIST ? TAKHVOI_FILE_IS_THERE : errno == ENOENT ? TAKHVOI_NO_FILE : TAKHVOI_NO_ACCESS;
+    file->fd = above_streams(file->fd);
     status = TAKHVOI_NO_ACCESS;
-    if (lock_file(file->fd)) status = takhvoi_create(&file->kernel, area, region);
+    if (file->fd >= 0 && lock_file(file->fd)) status = takhvoi_create(&file->kernel, area, region);
     if (status == TAKHVOI_DONE && ftruncate(file->fd, (off_t)1024 + 2 * (off_t)area) != 0) status = TAKHVOI_NO_ACCESS;
     if (status == TAKHVOI_DONE) status = takhvoi_file_flush(file);
     if (status == TAKHVOI_DONE && (fsync(file->fd) != 0 || !sync_folder(path))) status = TAKHVOI_NO_ACCESS;

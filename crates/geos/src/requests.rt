@@ -1,6 +1,6 @@
 //! What the words on the command line ask for is done.
 
-ghost use Rattle.geos_shell.specs.Limits.{KeepsLimits};
+ghost use Rattle.geos_shell.specs.Limits.{KeepsLimits, RunsWithinLimits, WorksWithinLimits};
 
 use crate::calling::call as run_call;
 use crate::chunks::{get, put};
@@ -13,7 +13,7 @@ use crate::tracing::trace;
 use geos_cli::Mode;
 use geos_dump::Detail;
 use geos_scripts::NameUse;
-use geos_shell::Request;
+use geos_shell::{FileRequest, Request, RoutineRequest, TextRequest};
 
 /// What a script does behind a refused command.
 fn mode_of(strict: bool) -> Mode {
@@ -34,13 +34,13 @@ fn detail_of(chunks: bool) -> Detail {
     if chunks { Detail::Bytes } else { Detail::Lines }
 }
 
-/// Does what is asked for.
-pub(crate) fn carry_out<'a>(rt: &HostRuntime, request: Request<'a>) -> Result<(), RequestFault<'a>>
-    requires { KeepsLimits request }
+/// Runs routines, as it is asked for.
+fn run_routines<'a>(rt: &HostRuntime, request: RoutineRequest<'a>) -> Result<(), RequestFault<'a>>
+    requires { RunsWithinLimits request }
 {
     match request {
-        Request::Session => Ok(session(rt)?),
-        Request::Call {
+        RoutineRequest::Session => Ok(session(rt)?),
+        RoutineRequest::Call {
             image,
             call,
             file,
@@ -51,22 +51,13 @@ pub(crate) fn carry_out<'a>(rt: &HostRuntime, request: Request<'a>) -> Result<()
             let manner = Manner::new(mode_of(strict), NameUse::Allowed, form);
             run_call(rt, &manner, image, call, file, region)
         }
-        Request::Assemble {
-            text,
+        RoutineRequest::Trace {
             image,
-            all_rows,
-        } => assemble(rt, text, image, all_rows),
-        Request::Budget { text, new } => budget(rt, text, new),
-        Request::List(path) => list(rt, path),
-        Request::Check(path) => check(rt, path),
-        Request::Explain(path) => explain(rt, path),
-        Request::ExplainScript {
-            image,
-            script,
-            names,
-        } => explain_script(rt, image, script, use_of(names)),
-        Request::New { file, area } => make_file(rt, file, area),
-        Request::Run {
+            words,
+            file,
+            region,
+        } => trace(rt, image, &words, file, region),
+        RoutineRequest::Run {
             image,
             file,
             script,
@@ -78,15 +69,49 @@ pub(crate) fn carry_out<'a>(rt: &HostRuntime, request: Request<'a>) -> Result<()
             let manner = Manner::new(mode_of(strict), use_of(names), form);
             run(rt, &manner, image, file, script, region)
         }
-        Request::Trace {
+    }
+}
+
+/// Does with a text or an image what is asked for.
+fn work_on_text<'a>(rt: &HostRuntime, request: TextRequest<'a>) -> Result<(), RequestFault<'a>> {
+    match request {
+        TextRequest::Assemble {
+            text,
             image,
-            words,
-            file,
-            region,
-        } => trace(rt, image, &words, file, region),
-        Request::Put { chunk, at, region } => put(rt, &chunk, at, region),
-        Request::Get { chunk, region } => get(rt, &chunk, region),
-        Request::Dump { file, chunks } => print_file(rt, file, detail_of(chunks)),
-        Request::Map { file, width } => draw_file(rt, file, width),
+            all_rows,
+        } => assemble(rt, text, image, all_rows),
+        TextRequest::Budget { text, new } => budget(rt, text, new),
+        TextRequest::List(path) => list(rt, path),
+        TextRequest::Check(path) => check(rt, path),
+        TextRequest::Explain(path) => explain(rt, path),
+        TextRequest::ExplainScript {
+            image,
+            script,
+            names,
+        } => explain_script(rt, image, script, use_of(names)),
+    }
+}
+
+/// Does with a VM file what is asked for.
+fn work_on_file<'a>(rt: &HostRuntime, request: FileRequest<'a>) -> Result<(), RequestFault<'a>>
+    requires { WorksWithinLimits request }
+{
+    match request {
+        FileRequest::New { file, area } => make_file(rt, file, area),
+        FileRequest::Put { chunk, at, region } => put(rt, &chunk, at, region),
+        FileRequest::Get { chunk, region } => get(rt, &chunk, region),
+        FileRequest::Dump { file, chunks } => print_file(rt, file, detail_of(chunks)),
+        FileRequest::Map { file, width } => draw_file(rt, file, width),
+    }
+}
+
+/// Does what is asked for.
+pub(crate) fn carry_out<'a>(rt: &HostRuntime, request: Request<'a>) -> Result<(), RequestFault<'a>>
+    requires { KeepsLimits request }
+{
+    match request {
+        Request::Routines(request) => run_routines(rt, request),
+        Request::Text(request) => work_on_text(rt, request),
+        Request::File(request) => work_on_file(rt, request),
     }
 }

@@ -2,7 +2,7 @@
 
 ghost use Rattle.std.specs.Prelude.{◌≡◌, ◌++◌, OnOk, IfOk};
 ghost use Rattle.geos_causes.specs.Causes.{differing_item, differing_items, is_from, edge_text, coming_from};
-ghost use Rattle.geos_causes.specs.Causes.{coming_text, touched_text, touched_before_text, set_in_text, in_turn_text};
+ghost use Rattle.geos_causes.specs.Causes.{coming_text, call_text, touched_text, touched_before_text, set_in_text, in_turn_text};
 ghost use Rattle.geos_causes.specs.Causes.{by_word_text, set_to_text, ways_text, calls_text, apart_text};
 ghost use Rattle.geos_causes.specs.Causes.{back_text, within_text, cause_words, cause_text};
 
@@ -183,10 +183,10 @@ fn put_within(out: &mut Vec<u8>, lines: &[usize], within: &Within) -> Result<(),
     put_back(out, ", within its own loop:", lines, &within.back)
 }
 
-/// A call touches a counter within its loop.
-#[tactic(auto, unfolding(crate::specs::Causes::call_text, crate::specs::Causes::touched_text))]
-fn put_touched(out: &mut Vec<u8>, lines: &[usize], within: &Within) -> Result<(), AllocError>
-    ensures { OnOk result (out.new.items ≡ out.old.items ++ touched_text lines.now within.now) }
+/// A call touches a counter.
+#[tactic(auto, unfolding(crate::specs::Causes::call_text))]
+fn put_call(out: &mut Vec<u8>, lines: &[usize], within: &Within) -> Result<(), AllocError>
+    ensures { OnOk result (out.new.items ≡ out.old.items ++ call_text lines.now within.now) }
 {
     put_parts(
         out,
@@ -195,23 +195,24 @@ fn put_touched(out: &mut Vec<u8>, lines: &[usize], within: &Within) -> Result<()
             pc_part(lines, within.at),
             Part::Numbered(" touches k", within.counter as u64),
         ],
-    )?;
+    )
+}
+
+/// A call touches a counter within its loop.
+#[tactic(auto, unfolding(crate::specs::Causes::touched_text))]
+fn put_touched(out: &mut Vec<u8>, lines: &[usize], within: &Within) -> Result<(), AllocError>
+    ensures { OnOk result (out.new.items ≡ out.old.items ++ touched_text lines.now within.now) }
+{
+    put_call(out, lines, within)?;
     put_back(out, ", within its own loop:", lines, &within.back)
 }
 
 /// A call touches a counter that is not set behind it.
-#[tactic(auto, unfolding(crate::specs::Causes::call_text, crate::specs::Causes::touched_before_text))]
+#[tactic(auto, unfolding(crate::specs::Causes::touched_before_text))]
 fn put_touched_before(out: &mut Vec<u8>, lines: &[usize], within: &Within) -> Result<(), AllocError>
     ensures { OnOk result (out.new.items ≡ out.old.items ++ touched_before_text lines.now within.now) }
 {
-    put_parts(
-        out,
-        &[
-            Part::Text("the call at"),
-            pc_part(lines, within.at),
-            Part::Numbered(" touches k", within.counter as u64),
-        ],
-    )?;
+    put_call(out, lines, within)?;
     put_back(
         out,
         ", which nothing sets before its loop:",

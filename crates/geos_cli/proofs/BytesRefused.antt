@@ -18,7 +18,7 @@ use Rattle.geos_machine.proofs.Stops.{stops-first}
 use Rattle.geos_cli.specs.declared.bytes.Place.{Place}
 use Rattle.geos_cli.specs.declared.bytes.Place.TheVariants.{Chunk, Item}
 use Rattle.geos_cli.specs.Bytes.{IsTooLong, Measures, NotOpened, NotPut, NotResized, NotStored, Resizes}
-use Rattle.geos_cli.specs.Script.{Allows, Comes, IsAllowed, Leads, LeadsOn, Stays, Then, Way}
+use Rattle.geos_cli.specs.Script.{Allows, Comes, IsAllowed, Leads, LeadsOn, LocksOne, MarksOne, NotLocked, Stays, Then, UnlocksOne, Way}
 use Rattle.geos_cli.proofs.BytesWays.{as_much, called, on-way, resizes-wider, then-comes}
 use Rattle.geos_cli.proofs.Prints.{Wider, comes-wider, then-wider}
 use Rattle.geos_cli.proofs.LentRuns.{leads-as, stays-leads}
@@ -28,9 +28,9 @@ module _ (P Q : Allows) (wider : (before now : ℕ) (choice : Choice) → P befo
   not-opened-wider : (place : Place) (n : ℕ) (why : Refusal) → Wider (NotOpened P place n why) (NotOpened Q place n why)
   not-opened-wider (Chunk h c) n why before after keeps (inl w) = inl (comes-wider P Q wider (vlock h) (Err why) before after keeps w)
   not-opened-wider (Chunk h c) n why before after keeps (inr w) =
-      inr (then-wider (Then (Comes P (vlock h) (Ok tt)) (Comes P (deref (vm h) c n) (Err why))) (Comes P (vunlock h) (Ok tt))
-      (Then (Comes Q (vlock h) (Ok tt)) (Comes Q (deref (vm h) c n) (Err why))) (Comes Q (vunlock h) (Ok tt))
-      (then-wider (Comes P (vlock h) (Ok tt)) (Comes P (deref (vm h) c n) (Err why)) (Comes Q (vlock h) (Ok tt)) (Comes Q (deref (vm h) c n) (Err why))
+      inr (then-wider (Then (LocksOne P h) (Comes P (deref (vm h) c n) (Err why))) (UnlocksOne P h)
+      (Then (LocksOne Q h) (Comes Q (deref (vm h) c n) (Err why))) (UnlocksOne Q h)
+      (then-wider (LocksOne P h) (Comes P (deref (vm h) c n) (Err why)) (LocksOne Q h) (Comes Q (deref (vm h) c n) (Err why))
       (comes-wider P Q wider (vlock h) (Ok tt)) (comes-wider P Q wider (deref (vm h) c n) (Err why)))
       (comes-wider P Q wider (vunlock h) (Ok tt)) before after keeps w)
   not-opened-wider (Item g i) n why before after keeps w = comes-wider P Q wider (ilock g i n) (Err why) before after keeps w
@@ -42,9 +42,9 @@ module _ (P Q : Allows) (wider : (before now : ℕ) (choice : Choice) → P befo
       let mark = comes-wider P Q wider (vdirty h) (Ok tt) in
       let resize = comes-wider P Q wider (lrealloc (vm h) c n) (Err why) in
       let unlock = comes-wider P Q wider (vunlock h) (Ok tt) in
-      inr (then-wider _ (Comes P (vunlock h) (Ok tt)) _ (Comes Q (vunlock h) (Ok tt))
+      inr (then-wider _ (UnlocksOne P h) _ (UnlocksOne Q h)
       (then-wider _ (Comes P (lrealloc (vm h) c n) (Err why)) _ (Comes Q (lrealloc (vm h) c n) (Err why))
-      (then-wider (Comes P (vlock h) (Ok tt)) (Comes P (vdirty h) (Ok tt)) (Comes Q (vlock h) (Ok tt)) (Comes Q (vdirty h) (Ok tt)) lock mark) resize)
+      (then-wider (LocksOne P h) (MarksOne P h) (LocksOne Q h) (MarksOne Q h) lock mark) resize)
       unlock before after keeps w)
   not-resized-wider (Item g i) n why before after keeps w = comes-wider P Q wider (irealloc g i n) (Err why) before after keeps w
 
@@ -88,27 +88,27 @@ module _ {D : Type 0} (medium : Medium D) (old mid new : KernelOn D) (alike : me
 
 module _ {D : Type 0} (medium : Medium D) where
   -- a block was not locked for its chunk
-  pub lock-refused : (old new : KernelOn D) (h c n : ℕ) (why : Refusal) → LeadsOn medium old new (λ allows. Comes allows (vlock h) (Err why))
+  pub lock-refused : (old new : KernelOn D) (h c n : ℕ) (why : Refusal) → LeadsOn medium old new (λ allows. NotLocked allows h why)
       → LeadsOn medium old new (λ allows. NotOpened allows (Chunk h c) n why)
   lock-refused old new h c n why L =
       let now = IsAllowed (medium.honest old.device) in
-      leads-as (medium.honest old.device) (Throughout medium old.device new.device) old.core new.core (Comes now (vlock h) (Err why))
+      leads-as (medium.honest old.device) (Throughout medium old.device new.device) old.core new.core (NotLocked now h why)
       (NotOpened now (Chunk h c) n why) (λ before after keeps w. inl w) L
 
   -- or it was, and the chunk was refused
   pub chunk-refused : (old locked new : KernelOn D) (h c n : ℕ) (why : Refusal) (alike : medium.honest locked.device ↔ medium.honest old.device)
-      → LeadsOn medium old locked (λ allows. Comes allows (vlock h) (Ok tt))
+      → LeadsOn medium old locked (λ allows. LocksOne allows h)
       → ((x : List ℕ) → medium.may_have_left locked.device locked.device x → medium.may_leave locked.device x) → LeavesKept medium locked
       → LeadsToSpan (medium.honest locked.device) (deref (vm h) c n) (Err why) locked.core locked.core
-      → LeadsOn medium locked new (λ allows. Comes allows (vunlock h) (Ok tt))
+      → LeadsOn medium locked new (λ allows. UnlocksOne allows h)
       → LeadsOn medium old new (λ allows. NotOpened allows (Chunk h c) n why)
   chunk-refused old locked new h c n why alike first at_once kept (Ok ref, calls, none) U = absurd none
   chunk-refused old locked new h c n why alike first at_once kept (Err same, calls, e) U =
       let now = IsAllowed (medium.honest old.device) in
-      let locks : Way = Comes now (vlock h) (Ok tt) in
+      let locks : Way = LocksOne now h in
       let row = subst (λ (x : Refusal). Calls (medium.honest locked.device) (deref (vm h) c n) (Err x) locked.core locked.core) (sym e) calls in
       leads-as (medium.honest old.device) (Throughout medium old.device new.device) old.core new.core
-      (Then (Then locks (Comes now (deref (vm h) c n) (Err why))) (Comes now (vunlock h) (Ok tt))) (NotOpened now (Chunk h c) n why)
+      (Then (Then locks (Comes now (deref (vm h) c n) (Err why))) (UnlocksOne now h)) (NotOpened now (Chunk h c) n why)
       (λ before after keeps w. inr w)
       (then-comes medium old locked new alike (Then locks (Comes now (deref (vm h) c n) (Err why))) (vunlock h) (Ok tt)
       (then-comes medium old locked locked alike locks (deref (vm h) c n) (Err why) first
@@ -129,31 +129,31 @@ module _ {D : Type 0} (medium : Medium D) where
   pub unsized-chunk : (old locked marked resized new : KernelOn D) (h c n : ℕ) (r : Result (Unit {0}) Refusal)
       → (medium.honest locked.device ↔ medium.honest old.device) → (medium.honest marked.device ↔ medium.honest locked.device)
       → (medium.honest resized.device ↔ medium.honest marked.device)
-      → LeadsOn medium old locked (λ allows. Comes allows (vlock h) (Ok tt))
-      → LeadsOn medium locked marked (λ allows. Comes allows (vdirty h) (Ok tt))
+      → LeadsOn medium old locked (λ allows. LocksOne allows h)
+      → LeadsOn medium locked marked (λ allows. MarksOne allows h)
       → LeadsOn medium marked resized (λ allows. Comes allows (lrealloc (vm h) c n) r)
-      → LeadsOn medium resized new (λ allows. Comes allows (vunlock h) (Ok tt))
+      → LeadsOn medium resized new (λ allows. UnlocksOne allows h)
       → IfErr r (λ why. LeadsOn medium old new (λ allows. NotResized allows (Chunk h c) n why))
   unsized-chunk old locked marked resized new h c n (Ok done) one two three L M R U = tt
   unsized-chunk old locked marked resized new h c n (Err why) one two three L M R U =
       let now = IsAllowed (medium.honest old.device) in
-      let locks : Way = Comes now (vlock h) (Ok tt) in
-      let marks : Way = Then locks (Comes now (vdirty h) (Ok tt)) in
+      let locks : Way = LocksOne now h in
+      let marks : Way = Then locks (MarksOne now h) in
       let resizes : Way = Then marks (Comes now (lrealloc (vm h) c n) (Err why)) in
       let one_two : medium.honest marked.device ↔ medium.honest old.device = ((λ x. one.0 (two.0 x)), (λ x. two.1 (one.1 x))) in
       let all : medium.honest resized.device ↔ medium.honest old.device = ((λ x. one_two.0 (three.0 x)), (λ x. three.1 (one_two.1 x))) in
       leads-as (medium.honest old.device) (Throughout medium old.device new.device) old.core new.core
-      (Then resizes (Comes now (vunlock h) (Ok tt))) (NotResized now (Chunk h c) n why) (λ before after keeps w. inr w)
+      (Then resizes (UnlocksOne now h)) (NotResized now (Chunk h c) n why) (λ before after keeps w. inr w)
       (then-comes medium old resized new all resizes (vunlock h) (Ok tt)
       (then-comes medium old marked resized one_two marks (lrealloc (vm h) c n) (Err why)
       (then-comes medium old locked marked one locks (vdirty h) (Ok tt) L M) R) U)
 
   -- nor was its block locked
-  pub unsized-unlocked : (old new : KernelOn D) (h c n : ℕ) (why : Refusal) → LeadsOn medium old new (λ allows. Comes allows (vlock h) (Err why))
+  pub unsized-unlocked : (old new : KernelOn D) (h c n : ℕ) (why : Refusal) → LeadsOn medium old new (λ allows. NotLocked allows h why)
       → LeadsOn medium old new (λ allows. NotResized allows (Chunk h c) n why)
   unsized-unlocked old new h c n why L =
       let now = IsAllowed (medium.honest old.device) in
-      leads-as (medium.honest old.device) (Throughout medium old.device new.device) old.core new.core (Comes now (vlock h) (Err why))
+      leads-as (medium.honest old.device) (Throughout medium old.device new.device) old.core new.core (NotLocked now h why)
       (NotResized now (Chunk h c) n why) (λ before after keeps w. inl w) L
 
   -- an item was not resized

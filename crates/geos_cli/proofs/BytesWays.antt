@@ -32,7 +32,7 @@ use Rattle.geos_machine.proofs.Stops.{stops-first}
 use Rattle.geos_cli.specs.declared.bytes.Place.{Place}
 use Rattle.geos_cli.specs.declared.bytes.Place.TheVariants.{Chunk, Item}
 use Rattle.geos_cli.specs.Bytes.{handle_of, Closes, Gets, Measures, Opened, Opens, Puts, Reads, Resizes, Stores, Writes}
-use Rattle.geos_cli.specs.Script.{once, Allows, Comes, IsAllowed, Leads, LeadsOn, Then, Way}
+use Rattle.geos_cli.specs.Script.{once, Allows, Comes, IsAllowed, Leads, LeadsOn, LocksOne, MarksOne, Then, UnlocksOne, Way}
 use Rattle.geos_cli.proofs.Prints.{Wider, comes-wider, then-wider}
 use Rattle.geos_cli.proofs.LentLocks.{done-parts}
 use Rattle.geos_cli.proofs.LentRuns.{allowed-alike, comes-leads, leads-as, leads-wider, on-leads, stays-leads, stops-between}
@@ -41,7 +41,7 @@ use Rattle.geos_cli.proofs.LentRuns.{allowed-alike, comes-leads, leads-as, leads
 module _ (P Q : Allows) (wider : (before now : ℕ) (choice : Choice) → P before now choice → Q before now choice) where
   pub opens-wider : (place : Place) (n : ℕ) (ref : Reference) → Wider (Opens P place n ref) (Opens Q place n ref)
   opens-wider (Chunk h c) n ref =
-      then-wider (Comes P (vlock h) (Ok tt)) (Comes P (deref (vm h) c n) (Ok ref)) (Comes Q (vlock h) (Ok tt)) (Comes Q (deref (vm h) c n) (Ok ref))
+      then-wider (LocksOne P h) (Comes P (deref (vm h) c n) (Ok ref)) (LocksOne Q h) (Comes Q (deref (vm h) c n) (Ok ref))
       (comes-wider P Q wider (vlock h) (Ok tt)) (comes-wider P Q wider (deref (vm h) c n) (Ok ref))
   opens-wider (Item g i) n ref = comes-wider P Q wider (ilock g i n) (Ok ref)
 
@@ -60,9 +60,9 @@ module _ (P Q : Allows) (wider : (before now : ℕ) (choice : Choice) → P befo
       let mark = comes-wider P Q wider (vdirty h) (Ok tt) in
       let resize = comes-wider P Q wider (lrealloc (vm h) c n) (Ok tt) in
       let unlock = comes-wider P Q wider (vunlock h) (Ok tt) in
-      then-wider _ (Comes P (vunlock h) (Ok tt)) _ (Comes Q (vunlock h) (Ok tt))
+      then-wider _ (UnlocksOne P h) _ (UnlocksOne Q h)
       (then-wider _ (Comes P (lrealloc (vm h) c n) (Ok tt)) _ (Comes Q (lrealloc (vm h) c n) (Ok tt))
-      (then-wider (Comes P (vlock h) (Ok tt)) (Comes P (vdirty h) (Ok tt)) (Comes Q (vlock h) (Ok tt)) (Comes Q (vdirty h) (Ok tt)) lock mark) resize)
+      (then-wider (LocksOne P h) (MarksOne P h) (LocksOne Q h) (MarksOne Q h) lock mark) resize)
       unlock
   resizes-wider (Item g i) n = comes-wider P Q wider (irealloc g i n) (Ok tt)
 
@@ -218,7 +218,7 @@ module _ {D : Type 0} (medium : Medium D) (old new : KernelOn D) (h : ℕ) (f : 
 module _ {D : Type 0} (medium : Medium D) where
   -- a chunk, in a block that was locked
   pub opened-chunk : (old locked : KernelOn D) (h c n : ℕ) (span : Span) (alike : medium.honest locked.device ↔ medium.honest old.device)
-      → LeadsOn medium old locked (λ allows. Comes allows (vlock h) (Ok tt))
+      → LeadsOn medium old locked (λ allows. LocksOne allows h)
       → ((x : List ℕ) → medium.may_have_left locked.device locked.device x → medium.may_leave locked.device x) → LeavesKept medium locked
       → (f : VmFile) → IsFileOf (medium.honest locked.device) locked.core f
       → LeadsToSpan (medium.honest locked.device) (deref (vm h) c n) (Ok span) locked.core locked.core
@@ -230,7 +230,7 @@ module _ {D : Type 0} (medium : Medium D) where
       done-answer (effect_of (deref (vm h) c n) done.choice (memory_of locked.core f)) ref (memory_of locked.core done.file) done.comes in
       record {
         ref = ref;
-        leads = then-comes medium old locked locked alike (Comes (IsAllowed (medium.honest old.device)) (vlock h) (Ok tt)) (deref (vm h) c n)
+        leads = then-comes medium old locked locked alike (LocksOne (IsAllowed (medium.honest old.device)) h) (deref (vm h) c n)
             (Ok ref) first (called medium locked locked at_once kept (deref (vm h) c n) (Ok ref) (between-same medium locked).stops calls);
         stands = stands;
         inside = ap (λ (r : Reference). r.name) (sym answer);
@@ -303,16 +303,16 @@ module _ {D : Type 0} (medium : Medium D) where
   pub resized-chunk : (old locked marked resized new : KernelOn D) (h c n : ℕ) (r : Result (Unit {0}) Refusal)
       → (medium.honest locked.device ↔ medium.honest old.device) → (medium.honest marked.device ↔ medium.honest locked.device)
       → (medium.honest resized.device ↔ medium.honest marked.device)
-      → LeadsOn medium old locked (λ allows. Comes allows (vlock h) (Ok tt))
-      → LeadsOn medium locked marked (λ allows. Comes allows (vdirty h) (Ok tt))
+      → LeadsOn medium old locked (λ allows. LocksOne allows h)
+      → LeadsOn medium locked marked (λ allows. MarksOne allows h)
       → LeadsOn medium marked resized (λ allows. Comes allows (lrealloc (vm h) c n) r)
-      → LeadsOn medium resized new (λ allows. Comes allows (vunlock h) (Ok tt))
+      → LeadsOn medium resized new (λ allows. UnlocksOne allows h)
       → OnOk r (LeadsOn medium old new (λ allows. Resizes allows (Chunk h c) n))
   resized-chunk old locked marked resized new h c n (Err why) one two three L M R U = tt
   resized-chunk old locked marked resized new h c n (Ok done) one two three L M R U =
       let now = IsAllowed (medium.honest old.device) in
-      let locks : Way = Comes now (vlock h) (Ok tt) in
-      let marks : Way = Then locks (Comes now (vdirty h) (Ok tt)) in
+      let locks : Way = LocksOne now h in
+      let marks : Way = Then locks (MarksOne now h) in
       let resizes : Way = Then marks (Comes now (lrealloc (vm h) c n) (Ok tt)) in
       let one_two : medium.honest marked.device ↔ medium.honest old.device = ((λ x. one.0 (two.0 x)), (λ x. two.1 (one.1 x))) in
       let all : medium.honest resized.device ↔ medium.honest old.device = ((λ x. one_two.0 (three.0 x)), (λ x. three.1 (one_two.1 x))) in

@@ -13,18 +13,17 @@ use Rattle.geos_input.specs.declared.fault.ScriptFault.{ScriptFault}
 use Rattle.geos_input.specs.declared.fault.ScriptFault.TheVariants.{TooLong, BadHex, BadImage, Rejected, BadScript, Read, Write, Memory}
 use Rattle.geos_input.specs.Counted.{AppendsPart}
 use Rattle.geos_cli.specs.declared.form.Form.{Form}
-use Rattle.vm_file.specs.declared.commit.How.TheVariants.{Update}
 use Rattle.geos_cli.specs.declared.script.Command.{Command}
-use Rattle.geos_cli.specs.declared.script.Command.TheVariants as command
 use Rattle.geos_cli.specs.declared.script.Mode.{Mode}
 use Rattle.geos_cli.specs.declared.script.Mode.TheVariants.{Strict}
 use Rattle.geos_cli.specs.declared.script.Numbered.{Numbered}
 use Rattle.geos_cli.specs.declared.script.RefusedCommand.{RefusedCommand}
 use Rattle.geos_cli.specs.Forms.{shown_in}
-use Rattle.geos_cli.specs.InForm.{RunsPlainly, RanShown, StoppedShown, RunsInForm, RefusesInForm, RanInForm, StoppedInForm, RanScriptInForm, StoppedScriptInForm, Leaves}
+use Rattle.geos_cli.specs.InForm.{RunsPlainly, RanShown, StoppedNext, StoppedShown, RunsInForm, RefusesInForm, RanInForm, StoppedInForm, RanScriptInForm, StoppedScriptInForm, Leaves}
 use Rattle.std.specs.Str.Lines.{lines}
 use Rattle.geos_text.specs.Words.{most_bytes}
 use Rattle.geos_cli.specs.Script.{commands_of, Loads, GoesOn, RanCommand, StoppedCommand, IsBadImage, IsBadLine}
+use Rattle.geos_cli.specs.WithNames.{RanNoting}
 
 -- a command that was stopped while it printed into memory was carried out all the same
 pub stopped-plainly : {D : Type 0} (medium : Medium D) (form : Form) (image : Parts) (command : Command)
@@ -56,9 +55,25 @@ module _ {D : Type 0} (medium : Medium D) (form : Form) (image : Parts) (command
   pub shown-none : StoppedShown medium form image command kernel later a a
   shown-none = (result, plain, [], shown_in form image command plain, runs, refl, Appends-nil a)
 
--- stands where a list asks for one beyond its end
-pub any_command : Numbered
-any_command = record { line = 0; command = command.Commit Update }
+-- a flush before a command keeps what a writer got
+module _ {D : Type 0} (medium : Medium D) (form : Form) (image : Parts) (command : Command) (kernel later : KernelOn D)
+    (a b c : Option (List ℕ)) (kept : Keeps a b) where
+  behind-flush : (text : List ℕ) → Appends b c text → Appends a c text
+  behind-flush text appends = Appends-trans a b c [] text (Appends-kept a a b [] (Appends-nil a) kept) appends
+
+  -- so the command is what it got more
+  pub noted-behind : (result : Result (Unit {0}) Refusal) (word : Option ℕ) → RanNoting medium form image command result word kernel later b c
+      → RanNoting medium form image command result word kernel later a c
+  noted-behind result word (plain, runs, put, appends) = (plain, runs, put, behind-flush (shown_in form image command plain) appends)
+
+  -- or a beginning of it
+  pub stopped-behind : StoppedShown medium form image command kernel later b c → StoppedNext medium form image command kernel later a c
+  stopped-behind (result, plain, part, rest, runs, parts, appends) = (part, inr (result, plain, rest, runs, parts), behind-flush part appends)
+
+-- where it fails, the command is not begun
+pub not-begun : {D : Type 0} (medium : Medium D) (form : Form) (image : Parts) (command : Command) (kernel : KernelOn D)
+    (a b : Option (List ℕ)) → Keeps a b → StoppedNext medium form image command kernel kernel a b
+not-begun medium form image command kernel a b kept = ([], inl (refl, refl), Appends-kept a a b [] (Appends-nil a) kept)
 
 module _ {D : Type 0} (medium : Medium D) (form : Form) (image : Parts) where
   -- one more command is carried out behind the others
@@ -93,11 +108,6 @@ module _ {D : Type 0} (medium : Medium D) (form : Form) (image : Parts) where
   -- before the first command
   pub none-ran : (mode : Mode) (kernel : KernelOn D) (a : Option (List ℕ)) → RanInForm medium form mode image [] None kernel kernel a a
   none-ran mode kernel a = ([], (refl, refl), Appends-nil a)
-
-  -- a flush keeps what the writer got
-  pub shown-kept : (mode : Mode) (commands : List Numbered) (kernel later : KernelOn D) (a b c : Option (List ℕ))
-      → RanInForm medium form mode image commands None kernel later a b → Keeps b c → RanInForm medium form mode image commands None kernel later a c
-  shown-kept mode commands kernel later a b c (text, runs, appends) kept = (text, runs, Appends-kept a b c text appends kept)
 
   module _ (mode : Mode) (commands : List Numbered) (k : ℕ) (kernel between : KernelOn D) (a b : Option (List ℕ)) where
     -- behind the last one
@@ -151,11 +161,11 @@ module _ {D : Type 0} (medium : Medium D) (form : Form) (image : Parts) where
                 (shown_in form image here.command plain) appends shows,
           )
 
-      -- the writer failed, or memory was refused, while it was printed
+      -- it was not begun, or the writer failed, or memory was refused, while it was printed
       pub stopped-at : RanInForm medium form mode image (take k commands) None kernel between a b
-          → StoppedShown medium form image here.command between later b c
+          → StoppedNext medium form image here.command between later b c
           → StoppedInForm medium form mode image commands kernel later a c
-      stopped-at (text, runs, appends) (result, plain, part, rest, own, parts, shows) = (
+      stopped-at (text, runs, appends) (part, ends, shows) = (
         text ++ part,
         record {
           done = take k commands;
@@ -166,31 +176,11 @@ module _ {D : Type 0} (medium : Medium D) (form : Form) (image : Parts) where
           earlier = text;
           part = part;
           runs = runs;
-          ends = inr (result, plain, rest, own, parts);
+          ends = ends;
           written = refl;
         },
         Appends-trans a b c text part appends shows,
       )
-
-    -- the flush before a command failed
-    pub stopped-ahead : (default : Numbered) → k < length commands → RanInForm medium form mode image (take k commands) None kernel between a b
-        → StoppedInForm medium form mode image commands kernel between a b
-    stopped-ahead default in_range (text, runs, appends) = (
-      text,
-      record {
-        done = take k commands;
-        next = get_or commands k default;
-        others = drop (suc k) commands;
-        in_order = split default between b in_range;
-        between = between;
-        earlier = text;
-        part = [];
-        runs = runs;
-        ends = inl (refl, refl);
-        written = sym (append-nil text);
-      },
-      appends,
-    )
 
 -- the commands of a script on an image that was loaded
 module _ {D : Type 0} (medium : Medium D) (form : Form) (mode : Mode) (bytes script : List ℕ) (image : Parts)

@@ -1,6 +1,6 @@
 -- Calls of the kernel and runs, one after another, from kernel to kernel.
 use Rattle.std.proofs.Common.{◌≡◌, ◌<◌, ◌+◌, ℕ, List, [], ◌∷◌, ◌++◌, length, take, drop, get_or, refl, sym, ap, ◌∙◌, inl, inr, ⊎_elim, arith, append-nil, append_assoc, suc, take-append-drop, drop-cons}
-use Rattle.std.specs.Prelude.{◌↔◌, Result, Ok, Err}
+use Rattle.std.specs.Prelude.{◌↔◌, Result, Ok}
 use Rattle.std.proofs.lemmas.List.{take_more}
 use Rattle.geos_terms.specs.declared.refusal.Refusal.{Refusal}
 use Rattle.geos_calls.specs.VmFile.{Kept, VmFile}
@@ -18,7 +18,7 @@ use Rattle.geos_machine.proofs.Stops.{stops-first, stops-on}
 use Rattle.geos_kernel.proofs.Chosen.{lasts-on}
 use Rattle.geos_kernel.proofs.Seen.{file-on}
 use Rattle.geos_cli.specs.declared.script.Call.{Call as ScriptCall}
-use Rattle.geos_cli.specs.Script.{printed, stage_of, Stage, Allows, IsAllowed, Way, Comes, Then, Stays, LockedBehind, UnlockedBehind, Locks, Unlocks, lent_handle, lent_handles, lent_by, Leads, RunsOn, RunsLent, NotLent}
+use Rattle.geos_cli.specs.Script.{printed, stage_of, Stage, Allows, IsAllowed, Way, Comes, Then, Stays, LocksOne, NotLocked, UnlocksOne, LockedBehind, UnlockedBehind, Locks, Unlocks, lent_handle, lent_handles, lent_by, Leads, RunsOn, RunsLent, NotLent}
 use Rattle.geos_cli.proofs.Prints.{runs-wider, same-way, unlocked-wider}
 use Rattle.geos_cli.proofs.CommandsRun.{Joins, throughout-then, RunsCall, StopsBetween, allowed-between, one-left, one-right, run-leads}
 
@@ -91,27 +91,27 @@ leads-as honest within kernel later A B wider leads = leads-wider honest honest 
 -- ---- one block more
 
 locked-more : (allows : Allows) (way : Way) (handles : List ℕ) (h : ℕ) (before after : Stage) (keeps : List Kept)
-    → Then (LockedBehind allows way handles) (Comes allows (vlock h) (Ok tt)) before after keeps
+    → Then (LockedBehind allows way handles) (LocksOne allows h) before after keeps
     → LockedBehind allows way (handles ++ h ∷ []) before after keeps
 locked-more allows way [] h before after keeps w = w
-locked-more allows way (x ∷ handles) h before after keeps w = locked-more allows (Then way (Comes allows (vlock x) (Ok tt)))
+locked-more allows way (x ∷ handles) h before after keeps w = locked-more allows (Then way (LocksOne allows x))
     handles h before after keeps w
 
 unlocked-more : (allows : Allows) (way : Way) (handles : List ℕ) (h : ℕ) (before after : Stage) (keeps : List Kept)
-    → Then (UnlockedBehind allows way handles) (Comes allows (vunlock h) (Ok tt)) before after keeps
+    → Then (UnlockedBehind allows way handles) (UnlocksOne allows h) before after keeps
     → UnlockedBehind allows way (handles ++ h ∷ []) before after keeps
 unlocked-more allows way [] h before after keeps w = w
-unlocked-more allows way (x ∷ handles) h before after keeps w = unlocked-more allows (Then way (Comes allows (vunlock x) (Ok tt)))
+unlocked-more allows way (x ∷ handles) h before after keeps w = unlocked-more allows (Then way (UnlocksOne allows x))
     handles h before after keeps w
 
 pub locks-one : (allows : Allows) (handles : List ℕ) (k : ℕ) → k < length handles → (before after : Stage) (keeps : List Kept)
-    → Then (LockedBehind allows Stays (take k handles)) (Comes allows (vlock (get_or handles k 0)) (Ok tt)) before after keeps
+    → Then (LockedBehind allows Stays (take k handles)) (LocksOne allows (get_or handles k 0)) before after keeps
     → LockedBehind allows Stays (take (k + 1) handles) before after keeps
 locks-one allows handles k lt before after keeps w = rw (take_more handles k 0 lt)
     (locked-more allows Stays (take k handles) (get_or handles k 0) before after keeps w)
 
 pub unlocks-one : (allows : Allows) (handles : List ℕ) (k : ℕ) → k < length handles → (before after : Stage) (keeps : List Kept)
-    → Then (UnlockedBehind allows Stays (take k handles)) (Comes allows (vunlock (get_or handles k 0)) (Ok tt)) before after keeps
+    → Then (UnlockedBehind allows Stays (take k handles)) (UnlocksOne allows (get_or handles k 0)) before after keeps
     → UnlockedBehind allows Stays (take (k + 1) handles) before after keeps
 unlocks-one allows handles k lt before after keeps w = rw (take_more handles k 0 lt)
     (unlocked-more allows Stays (take k handles) (get_or handles k 0) before after keeps w)
@@ -204,26 +204,26 @@ module _ {D : Type 0} (medium : Medium D) (old mid new : KernelOn D) where
       pub on-locks : Leads (medium.honest old.device) (Throughout medium old.device mid.device) old.core mid.core
           (Locks (IsAllowed (medium.honest old.device)) (take k handles))
           → Leads (medium.honest mid.device) (Throughout medium mid.device new.device) mid.core new.core
-          (Comes (IsAllowed (medium.honest mid.device)) (vlock (get_or handles k 0)) (Ok tt))
+          (LocksOne (IsAllowed (medium.honest mid.device)) (get_or handles k 0))
           → Leads (medium.honest old.device) (Throughout medium old.device new.device) old.core new.core
           (Locks (IsAllowed (medium.honest old.device)) (take (k + 1) handles))
       on-locks A B =
           let allows = IsAllowed (medium.honest old.device) in
           leads-as (medium.honest old.device) (Throughout medium old.device new.device) old.core new.core
-          (Then (Locks allows (take k handles)) (Comes allows (vlock (get_or handles k 0)) (Ok tt))) (Locks allows (take (k + 1) handles))
+          (Then (Locks allows (take k handles)) (LocksOne allows (get_or handles k 0))) (Locks allows (take (k + 1) handles))
           (locks-one allows handles k in_range) (on-comes (Locks allows (take k handles)) (vlock (get_or handles k 0)) (Ok tt) A B)
 
       -- or unlocked
       pub on-unlocks : Leads (medium.honest old.device) (Throughout medium old.device mid.device) old.core mid.core
           (Unlocks (IsAllowed (medium.honest old.device)) (take k handles))
           → Leads (medium.honest mid.device) (Throughout medium mid.device new.device) mid.core new.core
-          (Comes (IsAllowed (medium.honest mid.device)) (vunlock (get_or handles k 0)) (Ok tt))
+          (UnlocksOne (IsAllowed (medium.honest mid.device)) (get_or handles k 0))
           → Leads (medium.honest old.device) (Throughout medium old.device new.device) old.core new.core
           (Unlocks (IsAllowed (medium.honest old.device)) (take (k + 1) handles))
       on-unlocks A B =
           let allows = IsAllowed (medium.honest old.device) in
           leads-as (medium.honest old.device) (Throughout medium old.device new.device) old.core new.core
-          (Then (Unlocks allows (take k handles)) (Comes allows (vunlock (get_or handles k 0)) (Ok tt))) (Unlocks allows (take (k + 1) handles))
+          (Then (Unlocks allows (take k handles)) (UnlocksOne allows (get_or handles k 0))) (Unlocks allows (take (k + 1) handles))
           (unlocks-one allows handles k in_range) (on-comes (Unlocks allows (take k handles)) (vunlock (get_or handles k 0)) (Ok tt) A B)
 
 -- blocks are locked, a routine runs, and they are unlocked
@@ -248,14 +248,14 @@ pub lent-refused : {D : Type 0} (medium : Medium D) (old refused new : KernelOn 
     → (handles : List ℕ) (k : ℕ) → k < length handles → (why : Refusal)
     → Leads (medium.honest old.device) (Throughout medium old.device refused.device) old.core refused.core
     (Then (Locks (IsAllowed (medium.honest old.device)) (take k handles))
-    (Comes (IsAllowed (medium.honest old.device)) (vlock (get_or handles k 0)) (Err why)))
+    (NotLocked (IsAllowed (medium.honest old.device)) (get_or handles k 0) why))
     → Leads (medium.honest refused.device) (Throughout medium refused.device new.device) refused.core new.core
     (Unlocks (IsAllowed (medium.honest refused.device)) (take k handles))
     → Leads (medium.honest old.device) (Throughout medium old.device new.device) old.core new.core
     (NotLent (IsAllowed (medium.honest old.device)) handles why)
 lent-refused medium old refused new alike handles k in_range why A U =
     let allows = IsAllowed (medium.honest old.device) in
-    let whole : Way = Then (Then (Locks allows (take k handles)) (Comes allows (vlock (get_or handles k 0)) (Err why)))
+    let whole : Way = Then (Then (Locks allows (take k handles)) (NotLocked allows (get_or handles k 0) why))
     (Unlocks allows (take k handles)) in
     leads-as (medium.honest old.device) (Throughout medium old.device new.device) old.core new.core whole (NotLent allows handles why)
     (λ before after keeps w. record {
@@ -265,7 +265,7 @@ lent-refused medium old refused new alike handles k in_range why A U =
       in_order = sym (take-append-drop k handles) ∙ ap (λ hs. take k handles ++ hs) (drop-cons handles k 0 in_range);
       does = w;
     })
-    (on-unlocked medium old refused new alike (Then (Locks allows (take k handles)) (Comes allows (vlock (get_or handles k 0)) (Err why)))
+    (on-unlocked medium old refused new alike (Then (Locks allows (take k handles)) (NotLocked allows (get_or handles k 0) why))
     (take k handles) A U)
 
 -- a list of four

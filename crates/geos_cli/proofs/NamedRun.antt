@@ -1,8 +1,8 @@
 -- Lines with names, carried out one after another.
 use Rattle.std.proofs.Common.{◌≡◌, ◌<◌, ◌≤◌, ◌+◌, ℕ, suc, List, [], ◌∷◌, ◌++◌, length, map, take, drop, get_or, refl, sym, ap, ◌∙◌, subst, inl, inr, append_assoc, append-nil, take-append-drop, drop-cons}
 use Rattle.std.specs.Prelude.{Bool, true, false, if◌then◌else◌, Option, Some, None, option_and_then, Result, Err, IfSome}
-use Rattle.std.specs.Io.KnownBytes.{Appends, Keeps}
-use Rattle.std.proofs.KnownBytes.{Appends-kept, Appends-nil, Appends-trans}
+use Rattle.std.specs.Io.KnownBytes.{Appends}
+use Rattle.std.proofs.KnownBytes.{Appends-nil, Appends-trans}
 use Rattle.std.proofs.lemmas.List.{map-append, take_more, take_all}
 use Rattle.vm_file.specs.Device.{Medium}
 use Rattle.geos_terms.specs.declared.refusal.Refusal.{Refusal}
@@ -22,7 +22,7 @@ use Rattle.geos_cli.specs.declared.script.RefusedCommand.{RefusedCommand}
 use Rattle.geos_cli.specs.declared.with_names.EarlyEnd.{EarlyEnd}
 use Rattle.geos_cli.specs.declared.with_names.EarlyEnd.TheVariants.{Refused, BadLine}
 use Rattle.geos_cli.specs.Forms.{shown_in}
-use Rattle.geos_cli.specs.InForm.{Leaves, RanShown, RunsPlainly, StoppedShown}
+use Rattle.geos_cli.specs.InForm.{Leaves, RanShown, RunsPlainly, StoppedNext}
 use Rattle.geos_cli.specs.Names.{Names, Said, command_in, first_put_out, if_kept, in_place, lines_said, may_keep, names_behind, names_of, said_by}
 use Rattle.geos_cli.specs.Script.{GoesOn, IsAdmitted, RanCommand, command_of}
 use Rattle.geos_cli.specs.WithNames.{ComesTo, IsBadNamed, LoadsNamed, RanLines, RanNamedScript, RanNoting, RunsLines, StoppedLines, StoppedNamedScript}
@@ -124,11 +124,6 @@ module _ {D : Type 0} (medium : Medium D) (form : Form) (mode : Mode) (image : P
   pub none-ran : (kernel : KernelOn D) (a : Option (List ℕ)) → RanSoFar [] [] kernel kernel a a
   none-ran kernel a = ([], (refl, refl, refl), Appends-nil a)
 
-  -- a flush keeps what the writer got
-  pub so_far-kept : (lines : List Said) (names : Names) (kernel later : KernelOn D) (a b c : Option (List ℕ))
-      → RanSoFar lines names kernel later a b → Keeps b c → RanSoFar lines names kernel later a c
-  so_far-kept lines names kernel later a b c (text, runs, appends) kept = (text, runs, Appends-kept a b c text appends kept)
-
   module _ (lines : List Line) (k : ℕ) (names : Names) (kernel between : KernelOn D) (a b : Option (List ℕ))
       (so_far : RanSoFar (map said_by (take k lines)) names kernel between a b) where
     -- behind the last one
@@ -218,10 +213,10 @@ module _ {D : Type 0} (medium : Medium D) (form : Form) (mode : Mode) (image : P
           Appends-trans a b c so_far.0 (shown_in form image command plain) so_far.2 shows,
         )
 
-        -- the writer failed, or memory was refused, while it was printed
-        pub stopped-at : StoppedShown medium form image command between later b c
+        -- it was not begun, or the writer failed, or memory was refused, while it was printed
+        pub stopped-at : StoppedNext medium form image command between later b c
             → StoppedLines medium form mode image (map said_by lines) kernel later a c
-        stopped-at (result, plain, part, rest, own, parts, shows) = (
+        stopped-at (part, ends, shows) = (
           so_far.0 ++ part,
           record {
             names = names;
@@ -230,7 +225,7 @@ module _ {D : Type 0} (medium : Medium D) (form : Form) (mode : Mode) (image : P
             next = here;
             comes = comes;
             part = part;
-            ends = inr (command, named, inr (result, plain, rest, own, parts));
+            ends = inr (command, named, ends);
             written = refl;
           },
           Appends-trans a b c so_far.0 part so_far.2 shows,
@@ -241,7 +236,8 @@ module _ {D : Type 0} (medium : Medium D) (form : Form) (mode : Mode) (image : P
             → RanNoting medium form image command result word between later b c
             → StoppedLines medium form mode image (map said_by lines) kernel later a c
         stopped-behind result word (plain, own, put, shows) =
-            stopped-at (result, plain, shown_in form image command plain, [], own, sym (append-nil (shown_in form image command plain)), shows)
+            let shown = shown_in form image command plain in
+            stopped-at (shown, inr (result, plain, [], own, sym (append-nil shown)), shows)
 
 -- the lines of a script on an image that was loaded
 module _ {D : Type 0} (medium : Medium D) (form : Form) (mode : Mode) (bytes script : List ℕ) (image : Parts)

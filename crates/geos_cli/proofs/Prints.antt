@@ -16,7 +16,7 @@ use Rattle.geos_cli.specs.declared.script.Command.TheVariants as command
 use Rattle.geos_cli.specs.declared.script.Mode.{Mode}
 use Rattle.geos_cli.specs.declared.script.Numbered.{Numbered}
 use Rattle.geos_cli.specs.declared.script.Call.{Call as ScriptCall}
-use Rattle.geos_cli.specs.Script.{Allows, Does, GoesOn, Prints, PrintsPart, PrintsUpTo, Stage, Way, Comes, Then, Stays, LockedBehind, UnlockedBehind, Locks, Unlocks, RunsOn, lent_by}
+use Rattle.geos_cli.specs.Script.{Allows, Does, GoesOn, Prints, PrintsPart, PrintsUpTo, Stage, Way, Comes, Then, Stays, LocksOne, NotLocked, UnlocksOne, LockedBehind, UnlockedBehind, Locks, Unlocks, RunsOn, lent_by}
 
 -- one more command prints behind the others, where they left it, and the script goes on
 pub prints-more : (mode : Mode) (allows : Allows) (image : Parts) (commands : List Numbered) (before between after : Stage)
@@ -89,13 +89,13 @@ module _ (P Q : Allows) (wider : (before now : ℕ) (choice : Choice) → P befo
 
   locked-wider : (V W : Way) → Wider V W → (handles : List ℕ) → Wider (LockedBehind P V handles) (LockedBehind Q W handles)
   locked-wider V W first [] = first
-  locked-wider V W first (h ∷ handles) = locked-wider (Then V (Comes P (vlock h) (Ok tt))) (Then W (Comes Q (vlock h) (Ok tt)))
-      (then-wider V (Comes P (vlock h) (Ok tt)) W (Comes Q (vlock h) (Ok tt)) first (comes-wider (vlock h) (Ok tt))) handles
+  locked-wider V W first (h ∷ handles) = locked-wider (Then V (LocksOne P h)) (Then W (LocksOne Q h))
+      (then-wider V (LocksOne P h) W (LocksOne Q h) first (comes-wider (vlock h) (Ok tt))) handles
 
   pub unlocked-wider : (V W : Way) → Wider V W → (handles : List ℕ) → Wider (UnlockedBehind P V handles) (UnlockedBehind Q W handles)
   unlocked-wider V W first [] = first
-  unlocked-wider V W first (h ∷ handles) = unlocked-wider (Then V (Comes P (vunlock h) (Ok tt)))
-      (Then W (Comes Q (vunlock h) (Ok tt))) (then-wider V (Comes P (vunlock h) (Ok tt)) W (Comes Q (vunlock h) (Ok tt)) first
+  unlocked-wider V W first (h ∷ handles) = unlocked-wider (Then V (UnlocksOne P h))
+      (Then W (UnlocksOne Q h)) (then-wider V (UnlocksOne P h) W (UnlocksOne Q h) first
       (comes-wider (vunlock h) (Ok tt))) handles
 
   pub runs-wider : (image : Parts) (call : ScriptCall) (text : List ℕ) → Wider (RunsOn P image call text) (RunsOn Q image call text)
@@ -130,10 +130,10 @@ module _ (P Q : Allows) (wider : (before now : ℕ) (choice : Choice) → P befo
           refused = n.refused;
           others = n.others;
           in_order = n.in_order;
-          does = then-wider (Then (Locks P n.locked) (Comes P (vlock n.refused) (Err why))) (Unlocks P n.locked)
-              (Then (Locks Q n.locked) (Comes Q (vlock n.refused) (Err why))) (Unlocks Q n.locked)
-              (then-wider (Locks P n.locked) (Comes P (vlock n.refused) (Err why)) (Locks Q n.locked)
-              (Comes Q (vlock n.refused) (Err why)) (locked-wider Stays Stays (same-way Stays) n.locked) (comes-wider (vlock n.refused) (Err why)))
+          does = then-wider (Then (Locks P n.locked) (NotLocked P n.refused why)) (Unlocks P n.locked)
+              (Then (Locks Q n.locked) (NotLocked Q n.refused why)) (Unlocks Q n.locked)
+              (then-wider (Locks P n.locked) (NotLocked P n.refused why) (Locks Q n.locked)
+              (NotLocked Q n.refused why) (locked-wider Stays Stays (same-way Stays) n.locked) (comes-wider (vlock n.refused) (Err why)))
               (unlocked-wider Stays Stays (same-way Stays) n.locked) before after keeps n.does;
         },
       )
@@ -176,26 +176,26 @@ module _ (P Q : Allows) (back : (before now : ℕ) (choice : Choice) → P befor
 
   locked-back : (V : Way) → Backs V → (handles : List ℕ) → Backs (LockedBehind P V handles)
   locked-back V first [] = first
-  locked-back V first (h ∷ handles) = locked-back (Then V (Comes P (vlock h) (Ok tt)))
-      (then-back V (Comes P (vlock h) (Ok tt)) first (comes-back (vlock h) (Ok tt))) handles
+  locked-back V first (h ∷ handles) = locked-back (Then V (LocksOne P h))
+      (then-back V (LocksOne P h) first (comes-back (vlock h) (Ok tt))) handles
 
   locked-still : (V W : Way) → Stills V W → (handles : List ℕ) → Stills (LockedBehind P V handles) (LockedBehind Q W handles)
   locked-still V W first [] = first
   locked-still V W first (h ∷ handles) =
-      locked-still (Then V (Comes P (vlock h) (Ok tt))) (Then W (Comes Q (vlock h) (Ok tt)))
-      (then-still V (Comes P (vlock h) (Ok tt)) W (Comes Q (vlock h) (Ok tt)) first (comes-still (vlock h) (Ok tt)) (comes-back (vlock h) (Ok tt)))
+      locked-still (Then V (LocksOne P h)) (Then W (LocksOne Q h))
+      (then-still V (LocksOne P h) W (LocksOne Q h) first (comes-still (vlock h) (Ok tt)) (comes-back (vlock h) (Ok tt)))
       handles
 
   unlocked-back : (V : Way) → Backs V → (handles : List ℕ) → Backs (UnlockedBehind P V handles)
   unlocked-back V first [] = first
-  unlocked-back V first (h ∷ handles) = unlocked-back (Then V (Comes P (vunlock h) (Ok tt)))
-      (then-back V (Comes P (vunlock h) (Ok tt)) first (comes-back (vunlock h) (Ok tt))) handles
+  unlocked-back V first (h ∷ handles) = unlocked-back (Then V (UnlocksOne P h))
+      (then-back V (UnlocksOne P h) first (comes-back (vunlock h) (Ok tt))) handles
 
   unlocked-still : (V W : Way) → Stills V W → (handles : List ℕ) → Stills (UnlockedBehind P V handles) (UnlockedBehind Q W handles)
   unlocked-still V W first [] = first
   unlocked-still V W first (h ∷ handles) =
-      unlocked-still (Then V (Comes P (vunlock h) (Ok tt))) (Then W (Comes Q (vunlock h) (Ok tt)))
-      (then-still V (Comes P (vunlock h) (Ok tt)) W (Comes Q (vunlock h) (Ok tt)) first (comes-still (vunlock h) (Ok tt))
+      unlocked-still (Then V (UnlocksOne P h)) (Then W (UnlocksOne Q h))
+      (then-still V (UnlocksOne P h) W (UnlocksOne Q h) first (comes-still (vunlock h) (Ok tt))
       (comes-back (vunlock h) (Ok tt))) handles
 
   runs-back : (call : ScriptCall) (text : List ℕ) → Backs (RunsOn P image call text)
@@ -222,8 +222,8 @@ module _ (P Q : Allows) (back : (before now : ℕ) (choice : Choice) → P befor
       (then-back (Locks P lent) (RunsOn P image call text) (locked-back Stays stays-back lent) (runs-back call text))
       (unlocked-back Stays stays-back lent) before after keeps ran none
   does-back (command.Call call) result before after text keeps (inr (why, is, e, n)) none =
-      then-back (Then (Locks P n.locked) (Comes P (vlock n.refused) (Err why))) (Unlocks P n.locked)
-      (then-back (Locks P n.locked) (Comes P (vlock n.refused) (Err why)) (locked-back Stays stays-back n.locked)
+      then-back (Then (Locks P n.locked) (NotLocked P n.refused why)) (Unlocks P n.locked)
+      (then-back (Locks P n.locked) (NotLocked P n.refused why) (locked-back Stays stays-back n.locked)
       (comes-back (vlock n.refused) (Err why)))
       (unlocked-back Stays stays-back n.locked) before after keeps n.does none
   does-back (command.Commit how) result before after text keeps (choice, chosen, comes, e, k) none =
@@ -258,10 +258,10 @@ module _ (P Q : Allows) (back : (before now : ℕ) (choice : Choice) → P befor
           refused = n.refused;
           others = n.others;
           in_order = n.in_order;
-          does = then-still (Then (Locks P n.locked) (Comes P (vlock n.refused) (Err why))) (Unlocks P n.locked)
-              (Then (Locks Q n.locked) (Comes Q (vlock n.refused) (Err why))) (Unlocks Q n.locked)
-              (then-still (Locks P n.locked) (Comes P (vlock n.refused) (Err why)) (Locks Q n.locked)
-              (Comes Q (vlock n.refused) (Err why)) (locked-still Stays Stays stays-still n.locked)
+          does = then-still (Then (Locks P n.locked) (NotLocked P n.refused why)) (Unlocks P n.locked)
+              (Then (Locks Q n.locked) (NotLocked Q n.refused why)) (Unlocks Q n.locked)
+              (then-still (Locks P n.locked) (NotLocked P n.refused why) (Locks Q n.locked)
+              (NotLocked Q n.refused why) (locked-still Stays Stays stays-still n.locked)
               (comes-still (vlock n.refused) (Err why)) (comes-back (vlock n.refused) (Err why)))
               (unlocked-still Stays Stays stays-still n.locked) (unlocked-back Stays stays-back n.locked) before after keeps zero n.does;
         },

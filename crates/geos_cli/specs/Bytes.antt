@@ -10,7 +10,6 @@ use Rattle.geos_calls.specs.VmFile.{Kept, VmFile}
 use Rattle.geos_calls.specs.Memory.{is_marked}
 use Rattle.geos_calls.specs.Effects.{Reference}
 use Rattle.geos_calls.specs.Calls.{deref, load8, lrealloc, store}
-use Rattle.geos_calls.specs.VmCalls.{vdirty, vlock, vunlock}
 use Rattle.geos_calls.specs.ItemCalls.{ilock, irealloc}
 use Rattle.geos_kernel.specs.Files.{Commits}
 use Rattle.geos_kernel.specs.declared.span.Span.{Span}
@@ -19,7 +18,7 @@ use Rattle.geos_kernel.specs.View.{IsFileOf, IsMarked, KernelOn, memory_of}
 use Rattle.geos_cli.specs.declared.bytes.Place.{Place}
 use Rattle.geos_cli.specs.declared.bytes.Place.TheVariants.{Chunk, Item}
 use Rattle.geos_cli.specs.Script.{LeadsOn}
-use Rattle.geos_cli.specs.Stages.{Allows, Comes, Stage, Stays, Then, Way}
+use Rattle.geos_cli.specs.Stages.{Allows, Comes, LocksOne, MarksOne, NotLocked, Stage, Stays, Then, UnlocksOne, Way}
 
 -- the handle of the block, or of the group, that a place lies in
 abbrev pub handle_of : Place → ℕ
@@ -28,12 +27,12 @@ handle_of (Item g i) = g
 
 -- the block is locked, and this refers to all bytes of its chunk, n at least; or the group is, and this refers to its item's
 abbrev pub Opens : Allows → Place → ℕ → Reference → Way
-Opens allows (Chunk h c) n ref = Then (Comes allows (vlock h) (Ok tt)) (Comes allows (deref (vm h) c n) (Ok ref))
+Opens allows (Chunk h c) n ref = Then (LocksOne allows h) (Comes allows (deref (vm h) c n) (Ok ref))
 Opens allows (Item g i) n ref = Comes allows (ilock g i n) (Ok ref)
 
 -- the block or the group is unlocked
 abbrev pub Closes : Allows → Place → Way
-Closes allows place = Comes allows (vunlock (handle_of place)) (Ok tt)
+Closes allows place = UnlocksOne allows (handle_of place)
 
 -- these bytes are read, one after another, from offset i of a reference on
 abbrev pub Reads : Allows → Reference → ℕ → List ℕ → Way
@@ -55,22 +54,22 @@ Gets allows place bytes before after keeps =
 -- is refused, and its group is not locked
 abbrev pub NotOpened : Allows → Place → ℕ → Refusal → Stage → Stage → List Kept → Type 0
 NotOpened allows (Chunk h c) n why before after keeps =
-    Comes allows (vlock h) (Err why) before after keeps
-    ⊎ Then (Then (Comes allows (vlock h) (Ok tt)) (Comes allows (deref (vm h) c n) (Err why))) (Comes allows (vunlock h) (Ok tt)) before after keeps
+    NotLocked allows h why before after keeps
+    ⊎ Then (Then (LocksOne allows h) (Comes allows (deref (vm h) c n) (Err why))) (UnlocksOne allows h) before after keeps
 NotOpened allows (Item g i) n why before after keeps = Comes allows (ilock g i n) (Err why) before after keeps
 
 -- a chunk gets n bytes, and its block is marked; or an item does, which marks its group
 abbrev pub Resizes : Allows → Place → ℕ → Way
-Resizes allows (Chunk h c) n = Then (Then (Then (Comes allows (vlock h) (Ok tt)) (Comes allows (vdirty h) (Ok tt)))
-    (Comes allows (lrealloc (vm h) c n) (Ok tt))) (Comes allows (vunlock h) (Ok tt))
+Resizes allows (Chunk h c) n = Then (Then (Then (LocksOne allows h) (MarksOne allows h))
+    (Comes allows (lrealloc (vm h) c n) (Ok tt))) (UnlocksOne allows h)
 Resizes allows (Item g i) n = Comes allows (irealloc g i n) (Ok tt)
 
 -- a chunk does not, with this refusal: its block is not locked, or is locked, marked and unlocked again; or an item does not
 abbrev pub NotResized : Allows → Place → ℕ → Refusal → Stage → Stage → List Kept → Type 0
 NotResized allows (Chunk h c) n why before after keeps =
-    Comes allows (vlock h) (Err why) before after keeps
-    ⊎ Then (Then (Then (Comes allows (vlock h) (Ok tt)) (Comes allows (vdirty h) (Ok tt)))
-    (Comes allows (lrealloc (vm h) c n) (Err why))) (Comes allows (vunlock h) (Ok tt)) before after keeps
+    NotLocked allows h why before after keeps
+    ⊎ Then (Then (Then (LocksOne allows h) (MarksOne allows h))
+    (Comes allows (lrealloc (vm h) c n) (Err why))) (UnlocksOne allows h) before after keeps
 NotResized allows (Item g i) n why before after keeps = Comes allows (irealloc g i n) (Err why) before after keeps
 
 -- a place is opened, bytes are stored at an offset of it, and it is closed

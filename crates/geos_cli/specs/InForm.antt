@@ -84,6 +84,11 @@ EndsAt medium form image command kernel later text =
     ⊎ ((result : Result (Unit {0}) Refusal) × (plain : List ℕ) × (rest : List ℕ)
     × RunsPlainly medium image command result kernel later plain × (shown_in form image command plain ≡ text ++ rest))
 
+-- and a writer got the text
+abbrev pub StoppedNext : {D : Type 0} → Medium D → Form → Parts → Command → KernelOn D → KernelOn D → Option (List ℕ) → Option (List ℕ) → Type 0
+StoppedNext medium form image command kernel later old new =
+    (text : List ℕ) × EndsAt medium form image command kernel later text × Appends old new text
+
 -- some of the commands were carried out, and the text has all that they print in the form; the next one was not begun, or the text ends
 -- with a beginning of what it prints; the others were not begun
 pub record StopsInForm {D : Type 0} (medium : Medium D) (form : Form) (mode : Mode) (image : Parts) (commands : List Numbered)

@@ -9,7 +9,7 @@ use Rattle.geos_calls.specs.VmFile.{Kept, VmFile}
 use Rattle.geos_terms.specs.declared.refusal.Refusal.{Refusal}
 use Rattle.geos_terms.specs.Refusals.{refusal_number}
 use Rattle.geos_calls.specs.Effects.{Choice, outcome, effect_of}
-use Rattle.geos_calls.specs.VmCalls.{commit, vlock}
+use Rattle.geos_calls.specs.VmCalls.{commit}
 use Rattle.vm_file.specs.declared.commit.How.{How}
 use Rattle.vm_file.specs.declared.commit.How.TheVariants.{Update, Save, Revert}
 use Rattle.vm_blocks.specs.ListedCalls.{keeper_of}
@@ -34,7 +34,7 @@ use Rattle.geos_cli.specs.declared.script.Mode.TheVariants.{Lenient, Strict}
 use Rattle.geos_cli.specs.declared.script.Numbered.{Numbered}
 use Rattle.geos_cli.specs.declared.script.RefusedCommand.{RefusedCommand}
 use Rattle.geos_cli.specs.Commits.{is_flush_due}
-pub use Rattle.geos_cli.specs.Stages.{LockedMore, Stage, stage_of, Allows, IsAllowed, Way, Comes, Then, Stays, LockedBehind, UnlockedBehind, Locks, Unlocks, lent_handle, lent_handles, once, times}
+pub use Rattle.geos_cli.specs.Stages.{LockedMore, Stage, stage_of, Allows, IsAllowed, Way, Comes, Then, Stays, LocksOne, NotLocked, MarksOne, UnlocksOne, LockedBehind, UnlockedBehind, Locks, Unlocks, lent_handle, lent_handles, once, times}
 use Rattle.geos_input.specs.declared.fault.ScriptFault.{ScriptFault}
 use Rattle.geos_input.specs.declared.fault.ScriptFault.TheVariants.{TooLong, BadHex, BadImage, Rejected, BadScript, Read, Write, Memory}
 use Rattle.geos_text.specs.Words.{is_empty, words, without_comment}
@@ -182,7 +182,7 @@ pub record NotLent (allows : Allows) (handles : List ℕ) (why : Refusal) (befor
   pub refused : ℕ
   pub others : List ℕ
   pub in_order : handles ≡ locked ++ refused ∷ others
-  pub does : Then (Then (Locks allows locked) (Comes allows (vlock refused) (Err why))) (Unlocks allows locked) before after keeps
+  pub does : Then (Then (Locks allows locked) (NotLocked allows refused why)) (Unlocks allows locked) before after keeps
 
 -- a command takes one memory to another under allowed choices, comes to this result, and prints this: a
 -- call, by the locks of the blocks that it lends, a model's run, what that puts out, and the unlocks, or by the refusal of

@@ -1,10 +1,10 @@
 -- Stages of a script, and calls of the kernel that lead from one to another.
-use Rattle.std.specs.Prelude.{◌≡◌, ◌⊎◌, ℕ, List, [], ◌∷◌, ◌++◌, ◌+◌, ◌==◌, true, if◌then◌else◌, Result, Ok}
+use Rattle.std.specs.Prelude.{◌≡◌, ◌⊎◌, ℕ, List, [], ◌∷◌, ◌++◌, ◌+◌, ◌==◌, true, if◌then◌else◌, Result, Ok, Err}
 use Rattle.geos_terms.specs.declared.refusal.Refusal.{Refusal}
 use Rattle.geos_calls.specs.Memory as model
 use Rattle.geos_calls.specs.VmFile.{Kept, VmFile}
 use Rattle.geos_calls.specs.Effects.{Choice, Call, outcome, effect_of}
-use Rattle.geos_calls.specs.VmCalls.{vlock, vunlock}
+use Rattle.geos_calls.specs.VmCalls.{vdirty, vlock, vunlock}
 use Rattle.geos_kernel.specs.View.{KernelState, failed_in, memory_of}
 use Rattle.geos_kernel.specs.Kernel.{HasRisen}
 use Rattle.block_handles.specs.Store.{Store, locks_of}
@@ -53,15 +53,31 @@ Then first second before after keeps =
 abbrev pub Stays : Stage → Stage → List Kept → Type 0
 Stays before after keeps = (after ≡ before) × (keeps ≡ before.memory.file.kept ∷ [])
 
+-- a block of the file is locked once more
+abbrev pub LocksOne : Allows → ℕ → Way
+LocksOne allows h = Comes allows (vlock h) (Ok tt)
+
+-- it is not, with this refusal
+abbrev pub NotLocked : Allows → ℕ → Refusal → Way
+NotLocked allows h why = Comes allows (vlock h) (Err why)
+
+-- a locked block of the file is marked as changed
+abbrev pub MarksOne : Allows → ℕ → Way
+MarksOne allows h = Comes allows (vdirty h) (Ok tt)
+
+-- it is unlocked once
+abbrev pub UnlocksOne : Allows → ℕ → Way
+UnlocksOne allows h = Comes allows (vunlock h) (Ok tt)
+
 -- a way, and then blocks are locked, one after another
 abbrev pub LockedBehind : Allows → Way → List ℕ → Way
 LockedBehind allows way [] = way
-LockedBehind allows way (h ∷ handles) = LockedBehind allows (Then way (Comes allows (vlock h) (Ok tt))) handles
+LockedBehind allows way (h ∷ handles) = LockedBehind allows (Then way (LocksOne allows h)) handles
 
 -- a way, and then blocks are unlocked, one after another
 abbrev pub UnlockedBehind : Allows → Way → List ℕ → Way
 UnlockedBehind allows way [] = way
-UnlockedBehind allows way (h ∷ handles) = UnlockedBehind allows (Then way (Comes allows (vunlock h) (Ok tt))) handles
+UnlockedBehind allows way (h ∷ handles) = UnlockedBehind allows (Then way (UnlocksOne allows h)) handles
 
 -- blocks are locked, one after another
 abbrev pub Locks : Allows → List ℕ → Way

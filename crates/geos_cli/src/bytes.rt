@@ -3,10 +3,9 @@
 ghost use Rattle.std.specs.Prelude.{◌≡◌, ◌↔◌, ◌<◌, ◌≤◌, ◌+◌, max, length, IfOk, IfErr, OnOk, Ok, Some, None};
 ghost use Rattle.geos_cli.specs.Bytes.{handle_of, Closes, Gets, Measures, Opened, Puts, Resizes, Stores, Writes, IsUnwritten, EndsWithUpdate};
 ghost use Rattle.geos_cli.specs.Bytes.{HasMark, IsTooLong, NotOpened, NotPut, NotResized, NotStored};
-ghost use Rattle.geos_cli.specs.Script.{Comes, LeadsOn};
+ghost use Rattle.geos_cli.specs.Script.{Comes, LeadsOn, MarksOne};
 ghost use Rattle.geos_calls.specs.Calls as table;
 ghost use Rattle.geos_calls.specs.Effects.{Reference};
-ghost use Rattle.geos_calls.specs.VmCalls.{vdirty};
 ghost use Rattle.geos_kernel.specs.Loads.{Loads};
 ghost use Rattle.geos_kernel.specs.Spans.{IsStanding, IsWritable, Stands};
 ghost use Rattle.geos_kernel.specs.View.{IsLocked, IsMarked};
@@ -115,7 +114,7 @@ fn measure<D: Device + Drop>(kernel: &mut Kernel<D>, place: Place) -> Result<u16
 /// Marks a locked block.
 fn mark<D: Device + Drop>(kernel: &mut Kernel<D>, h: u16)
     requires { IsLocked kernel.old.core (vm h) }
-    ensures leads { LeadsOn D.medium kernel.old kernel.new (λ allows. Comes allows (vdirty h) (Ok tt)) }
+    ensures leads { LeadsOn D.medium kernel.old kernel.new (λ allows. MarksOne allows h) }
     ensures locked { IsLocked kernel.new.core (vm h) }
     ensures marked { IsMarked kernel.new.core h }
     ensures honest { D.medium.honest kernel.new.device ↔ D.medium.honest kernel.old.device }

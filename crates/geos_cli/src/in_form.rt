@@ -1,6 +1,6 @@
 //! Scripts and calls whose outputs are printed in a form.
 
-ghost use Rattle.std.specs.Prelude.{◌≡◌, ◌≢◌, ◌↔◌, ◌⊎◌, true, All, IfOk, IfErr, MatchResult};
+ghost use Rattle.std.specs.Prelude.{◌≡◌, ◌≢◌, ◌↔◌, ◌⊎◌, All, IfOk, IfErr, MatchResult};
 ghost use Rattle.std.specs.Io.KnownBytes.{Keeps};
 ghost use Rattle.vm_file.specs.Device.{Rose};
 ghost use Rattle.vm_file.specs.State.{Steadily};
@@ -8,69 +8,25 @@ ghost use Rattle.geos_input.specs.declared.fault.ScriptFault.TheVariants.{Memory
 ghost use Rattle.geos_input.specs.Fault.{KeptUnless};
 ghost use Rattle.geos_cli.specs.declared.call_fault.CallFault.TheVariants.{Script};
 ghost use Rattle.geos_cli.specs.Calls.{texts, CallEndsBy};
-ghost use Rattle.geos_cli.specs.Commits.{may_commit, IsGiven};
-ghost use Rattle.geos_cli.specs.InForm.{StoppedShown, RanInForm, StoppedInForm, RanScriptInForm, StoppedScriptInForm};
+ghost use Rattle.geos_cli.specs.InForm.{RanInForm, StoppedInForm, RanScriptInForm, StoppedScriptInForm};
 ghost use Rattle.geos_cli.specs.InForm.{RanCallInForm, StoppedCallInForm, Leaves, LeavesCall};
 ghost use Rattle.geos_cli.specs.Script.{IsAdmitted, ScriptEndsBy};
-ghost use Rattle.geos_cli.specs.WithNames.{RanNoting};
 ghost use Rattle.geos_kernel.specs.Files.{vm_file_of};
 ghost use Rattle.geos_kernel.specs.View.{SeesDevice};
 ghost use Rattle.vm_blocks.specs.Listed.{NoneLocked};
 
 use crate::call::{call_on, why_no_call};
 use crate::call_fault::CallFault;
-use crate::form::{Form, first_put_out, shown_in};
+use crate::form::Form;
 use crate::lines::commands_of;
-use crate::output::{give_before, write};
-use crate::script::{
-    Command, Mode, Numbered, RefusedCommand, carry_out, ended_by, first_commit, load, may_commit,
-};
+use crate::progress::Progress;
+use crate::script::{Command, Mode, Numbered, RefusedCommand, ended_by, load};
 use geos_input::{Counted, MOST_BYTES, ScriptFault};
 use geos_kernel::Kernel;
-use geos_machine::Machine;
-use geos_terms::Refusal;
 use geos_verify::Checked;
 use std::alloc::Global;
 use std::io::Write;
 use vm_file::Device;
-
-/// Carries out a command, and prints in a form what it prints; gives what it came to, and the word that it put out first. Its plain text is
-/// at most 1,024 lines of six bytes. `Memory` where that or the text in the form has none, `Write` where the writer fails: the command is
-/// done all the same.
-pub(crate) fn carry_out_noting<W: Write, D: Device + Drop>(
-    alloc: Global,
-    form: Form,
-    machine: &mut Machine,
-    checked: &Checked,
-    command: &Command,
-    kernel: &mut Kernel<D>,
-    out: &mut Counted<W>,
-) -> Result<(Result<(), Refusal>, Option<u16>), ScriptFault>
-    requires admitted { IsAdmitted checked.now command.now }
-    requires unlocked { NoneLocked kernel.old.core.blocks }
-    requires given { may_commit checked.now command.now ≡ true → IsGiven out.old.asked out.old.flushed }
-    ensures ok { IfOk result (λ came. RanNoting D.medium form checked.now command.now came.0 came.1 kernel.old kernel.new
-        (W.contents out.old.stream) (W.contents out.new.stream)) }
-    ensures stopped { IfErr result (λ _. StoppedShown D.medium form checked.now command.now kernel.old kernel.new
-        (W.contents out.old.stream) (W.contents out.new.stream)) }
-    ensures honest { D.medium.honest kernel.new.device ↔ D.medium.honest kernel.old.device }
-    ensures unlocked { NoneLocked kernel.new.core.blocks }
-    ensures sees { SeesDevice D.medium kernel.old × SeesDevice D.medium kernel.new }
-    ensures steadily { Steadily D.medium (vm_file_of kernel.old) (vm_file_of kernel.new) }
-    ensures fault { IfErr result (λ fault. (fault ≡ Write) ⊎ (fault ≡ Memory)) }
-    ensures failed { IfErr result (λ fault. fault ≡ Write → Rose out.old.failures out.new.failures) }
-    ensures kept { KeptUnless Write result out.old.failures out.new.failures }
-{
-    let mut plain = Counted::new(Vec::new(alloc));
-    match carry_out(machine, checked, command, kernel, &mut plain) {
-        Ok(done) => {
-            let text = shown_in(alloc, form, checked, command, &plain.stream)?;
-            write(out, &text)?;
-            Ok((done, first_put_out(&plain.stream)))
-        }
-        Err(_) => Err(ScriptFault::Memory),
-    }
-}
 
 /// Carries out the commands one after another, as `carry_out_all` does, and prints in a form what they print.
 fn carry_out_all_in_form<W: Write, D: Device + Drop>(
@@ -96,24 +52,11 @@ fn carry_out_all_in_form<W: Write, D: Device + Drop>(
     ensures failed { IfErr result (λ fault. fault ≡ Write → Rose out.old.failures out.new.failures) }
     ensures kept { KeptUnless Write result out.old.failures out.new.failures }
 {
-    let mut machine = Machine::new();
+    let mut progress = Progress::new(checked);
     kernel.memory_is_legal();
-    let first = first_commit(checked.image().points());
-    let mut behind = false;
     for numbered in commands {
         let command = &numbered.command;
-        let ahead = may_commit(checked, first, command);
-        give_before(behind, ahead, out)?;
-        behind = ahead;
-        let (done, _first) = carry_out_noting(
-            alloc,
-            form,
-            &mut machine,
-            checked,
-            command,
-            kernel,
-            out,
-        )?;
+        let (done, _word) = progress.carry_out_next(alloc, form, checked, command, kernel, out)?;
         if let Some(refused) = ended_by(mode, numbered.line, done) {
             return Ok(Some(refused));
         }

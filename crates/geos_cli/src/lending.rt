@@ -4,7 +4,7 @@ ghost use Rattle.std.specs.Prelude.{◌≡◌, ◌↔◌, ◌+◌, ◌≤◌, �
 ghost use Rattle.std.specs.Prelude.{Ok, Err, OnOk, OnErr, IfOk, IfErr};
 ghost use Rattle.geos_terms.specs.Names.{vm};
 ghost use Rattle.geos_calls.specs.VmFile.{VmFile};
-ghost use Rattle.geos_calls.specs.VmCalls.{vlock, vunlock};
+ghost use Rattle.geos_calls.specs.VmCalls.{vlock};
 ghost use Rattle.block_handles.specs.Store.{locks_of};
 ghost use Rattle.vm_file.specs.Outcomes.{ReadsOnly};
 ghost use Rattle.vm_file.specs.State.{Steadily};
@@ -16,7 +16,7 @@ ghost use Rattle.geos_kernel.specs.View.{IsFileOf, IsLocked, SeesDevice};
 ghost use Rattle.geos_machine.specs.Lent.{has_block};
 ghost use Rattle.geos_machine.specs.Runs.{RanWith, Throughout};
 ghost use Rattle.geos_cli.specs.Script.{lent_by, lent_handle, lent_handles, may_ask, once, printed, times};
-ghost use Rattle.geos_cli.specs.Script.{Comes, LeadsOn, LockedMore, Locks, NotLent, RunsLent, Then, Unlocks};
+ghost use Rattle.geos_cli.specs.Script.{Comes, LeadsOn, LockedMore, Locks, NotLent, NotLocked, RunsLent, Then, Unlocks, UnlocksOne};
 
 use crate::script::Call;
 use arrayvec::ArrayVec;
@@ -48,7 +48,7 @@ pub(crate) fn lock<D: Device + Drop>(kernel: &mut Kernel<D>, h: u16) -> Result<(
 /// Unlocks a block of the file once.
 pub(crate) fn unlock<D: Device + Drop>(kernel: &mut Kernel<D>, h: u16)
     requires { IsLocked kernel.old.core (vm h) }
-    ensures leads { LeadsOn D.medium kernel.old kernel.new (λ allows. Comes allows (vunlock h) (Ok tt)) }
+    ensures leads { LeadsOn D.medium kernel.old kernel.new (λ allows. UnlocksOne allows h) }
     ensures counts { (g : ℕ) → locks_of kernel.new.core.blocks (vm_slot g) + once h g ≡ locks_of kernel.old.core.blocks (vm_slot g) }
     ensures vm { LeavesVm kernel.old kernel.new }
     ensures honest { D.medium.honest kernel.new.device ↔ D.medium.honest kernel.old.device }
@@ -67,7 +67,7 @@ fn lock_all<D: Device + Drop>(
 ) -> Result<(), (usize, Refusal)>
     ensures locked { IfOk result (λ _. LeadsOn D.medium kernel.old kernel.new (λ allows. Locks allows handles.now)) }
     ensures refused { IfErr result (λ e. LeadsOn D.medium kernel.old kernel.new
-        (λ allows. Then (Locks allows (take e.0 handles.now)) (Comes allows (vlock (get_or handles.now e.0 0)) (Err e.1)))) }
+        (λ allows. Then (Locks allows (take e.0 handles.now)) (NotLocked allows (get_or handles.now e.0 0) e.1))) }
     ensures within { IfErr result (λ e. e.0 < length handles.now) }
     ensures counts { IfOk result (λ _. LockedMore kernel.old.core.blocks kernel.new.core.blocks handles.now) }
     ensures fewer { IfErr result (λ e. LockedMore kernel.old.core.blocks kernel.new.core.blocks (take e.0 handles.now)) }

@@ -14,6 +14,7 @@
 //! | call | `run_call`: carries out one call, which words name |
 //! | bytes | `put_bytes`, `get_bytes`: write and read a chunk or an item |
 //! | form | `Form`: how an output is written, and its text |
+//! | progress | the commands of a script, one after another, printed in a form |
 //! | in_form | `run_script_in_form`, `run_call_in_form`: the same, printed in a form |
 //! | traced | `trace_call`: one call, of whose steps notes are taken |
 //! | bad | `bad_lines`, `bad_lines_with_names`: all bad lines of a script |
@@ -35,6 +36,7 @@ mod lines;
 mod named_lines;
 mod names;
 mod output;
+mod progress;
 mod script;
 mod session;
 mod traced;

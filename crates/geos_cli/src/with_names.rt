@@ -15,14 +15,12 @@ ghost use Rattle.geos_kernel.specs.View.{SeesDevice};
 ghost use Rattle.vm_blocks.specs.Listed.{NoneLocked};
 
 use crate::form::Form;
-use crate::in_form::carry_out_noting;
 use crate::named_lines::{Line, first_bad, lines_said};
 use crate::names::{command_in, keep};
-use crate::output::give_before;
-use crate::script::{Mode, RefusedCommand, ended_by, first_commit, load, may_commit};
+use crate::progress::Progress;
+use crate::script::{Mode, RefusedCommand, ended_by, load};
 use geos_input::{Counted, MOST_BYTES, ScriptFault};
 use geos_kernel::Kernel;
-use geos_machine::Machine;
 use geos_verify::Checked;
 use std::alloc::Global;
 use std::io::Write;
@@ -61,27 +59,14 @@ fn carry_out_lines<W: Write, D: Device + Drop>(
     ensures failed { IfErr result (λ fault. fault ≡ Write → Rose out.old.failures out.new.failures) }
     ensures kept { KeptUnless Write result out.old.failures out.new.failures }
 {
-    let mut machine = Machine::new();
+    let mut progress = Progress::new(checked);
     kernel.memory_is_legal();
-    let first = first_commit(checked.image().points());
     let mut names = Vec::new(alloc);
-    let mut behind = false;
     for line in lines {
         let Some(command) = command_in(alloc, checked, &names, line.text)? else {
             return Ok(Some(EarlyEnd::BadLine(line.number)));
         };
-        let ahead = may_commit(checked, first, &command);
-        give_before(behind, ahead, out)?;
-        behind = ahead;
-        let (done, word) = carry_out_noting(
-            alloc,
-            form,
-            &mut machine,
-            checked,
-            &command,
-            kernel,
-            out,
-        )?;
+        let (done, word) = progress.carry_out_next(alloc, form, checked, &command, kernel, out)?;
         if let Some(refused) = ended_by(mode, line.number, done) {
             return Ok(Some(EarlyEnd::Refused(refused)));
         }

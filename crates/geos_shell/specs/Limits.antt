@@ -1,8 +1,12 @@
 -- Which numbers a request may have.
 use Rattle.std.specs.Prelude.{◌≡◌, ℕ, ◌≤◌, ◌%◌}
 use Rattle.geos_shell.specs.declared.numbers.Number.{Number}
+use Rattle.geos_shell.specs.declared.request.FileRequest.{FileRequest}
+use Rattle.geos_shell.specs.declared.request.FileRequest.TheVariants.{New, Put, Get, Dump, Map}
 use Rattle.geos_shell.specs.declared.request.Request.{Request}
-use Rattle.geos_shell.specs.declared.request.Request.TheVariants.{Session, Call, Trace, Assemble, Budget, List, Check, Explain, ExplainScript, New, Run, Put, Get, Dump, Map}
+use Rattle.geos_shell.specs.declared.request.Request.TheVariants.{Routines, Text, File}
+use Rattle.geos_shell.specs.declared.request.RoutineRequest.{RoutineRequest}
+use Rattle.geos_shell.specs.declared.request.RoutineRequest.TheVariants.{Session, Call, Trace, Run}
 
 -- a number is within the limits of its kind
 abbrev pub IsWithin : Number → ℕ → Type 0
@@ -20,20 +24,23 @@ IsRegion n = (65536 ≤ n) × (n ≤ 16777216)
 abbrev pub IsWidth : ℕ → Type 0
 IsWidth n = (60 ≤ n) × (n ≤ 1000)
 
--- each number of a request is within its limits
+-- each number of what runs routines is within its limits
+abbrev pub RunsWithinLimits : RoutineRequest → Type 0
+RunsWithinLimits Session = Unit {0}
+RunsWithinLimits (Call image call file region strict form) = IsRegion region
+RunsWithinLimits (Trace image words file region) = IsRegion region
+RunsWithinLimits (Run image file script region strict names form) = IsRegion region
+
+-- each number of what works on a VM file is
+abbrev pub WorksWithinLimits : FileRequest → Type 0
+WorksWithinLimits (New file area) = IsArea area
+WorksWithinLimits (Put chunk at region) = IsRegion region
+WorksWithinLimits (Get chunk region) = IsRegion region
+WorksWithinLimits (Dump file chunks) = Unit {0}
+WorksWithinLimits (Map file width) = IsWidth width
+
+-- each number of a request is
 abbrev pub KeepsLimits : Request → Type 0
-KeepsLimits (New file area) = IsArea area
-KeepsLimits (Call image call file region strict form) = IsRegion region
-KeepsLimits (Trace image words file region) = IsRegion region
-KeepsLimits (Run image file script region strict names form) = IsRegion region
-KeepsLimits (Put chunk at region) = IsRegion region
-KeepsLimits (Get chunk region) = IsRegion region
-KeepsLimits (Map file width) = IsWidth width
-KeepsLimits Session = Unit {0}
-KeepsLimits (Assemble text image all_rows) = Unit {0}
-KeepsLimits (Budget text new) = Unit {0}
-KeepsLimits (List path) = Unit {0}
-KeepsLimits (Check path) = Unit {0}
-KeepsLimits (Explain path) = Unit {0}
-KeepsLimits (ExplainScript image script names) = Unit {0}
-KeepsLimits (Dump file chunks) = Unit {0}
+KeepsLimits (Routines request) = RunsWithinLimits request
+KeepsLimits (Text request) = Unit {0}
+KeepsLimits (File request) = WorksWithinLimits request

@@ -29,5 +29,7 @@ pub use forms::{Digits, OutputForm};
 pub use locks::{FileLock, Lockable, Sharing};
 pub use new_file::NewFile;
 pub use printable::Printable;
-pub use request::{CallWords, ChunkPath, Request, TraceWords, requested};
+pub use request::{
+    CallWords, ChunkPath, FileRequest, Request, RoutineRequest, TextRequest, TraceWords, requested,
+};
 pub use streams::{StreamFault, print, print_lines, read, write};

@@ -1,7 +1,7 @@
 //! What the words on the command line ask for.
 
 ghost use Rattle.std.specs.Prelude.{IfOk};
-ghost use Rattle.geos_shell.specs.Limits.{KeepsLimits};
+ghost use Rattle.geos_shell.specs.Limits.{KeepsLimits, RunsWithinLimits, WorksWithinLimits};
 
 use crate::answer::Answer;
 use crate::command_line::matches_of;
@@ -47,10 +47,9 @@ pub struct ChunkPath<'a> {
     pub item: bool,
 }
 
-/// What the words on the command line ask for. A path of `-` is a standard stream, but that of a VM
-/// file.
+/// To run routines of a text or an image.
 #[derive(Drop)]
-pub enum Request<'a> {
+pub enum RoutineRequest<'a> {
     /// To run the session on the standard input.
     Session,
     /// To run one call of a text's or an image's routines, or with none the script on the standard input; on a VM file, or with none on
@@ -71,6 +70,22 @@ pub enum Request<'a> {
         file: Option<&'a str>,
         region: u32,
     },
+    /// To run a script on a VM file, with so many bytes for blocks in memory; to its end, or, strictly, to
+    /// its first refused command. Its lines may write names for words, or may not.
+    Run {
+        image: &'a str,
+        file: &'a str,
+        script: &'a str,
+        region: u32,
+        strict: bool,
+        names: bool,
+        form: OutputForm,
+    },
+}
+
+/// To make something of a text or an image, or to say something of it. Nothing runs.
+#[derive(Drop)]
+pub enum TextRequest<'a> {
     /// To make the image of a text, with all rows or with those at its key places.
     Assemble {
         text: &'a str,
@@ -94,21 +109,15 @@ pub enum Request<'a> {
         script: &'a str,
         names: bool,
     },
+}
+
+/// To make a VM file, to write into it, or to show it.
+#[derive(Drop)]
+pub enum FileRequest<'a> {
     /// To make a VM file with areas of so many bytes, a legal area size.
     New {
         file: &'a str,
         area: u32,
-    },
-    /// To run a script on a VM file, with so many bytes for blocks in memory; to its end, or, strictly, to
-    /// its first refused command. Its lines may write names for words, or may not.
-    Run {
-        image: &'a str,
-        file: &'a str,
-        script: &'a str,
-        region: u32,
-        strict: bool,
-        names: bool,
-        form: OutputForm,
     },
     /// To write the standard input into a chunk of a VM file, and to update that, with so many bytes for blocks in memory.
     Put {
@@ -131,6 +140,18 @@ pub enum Request<'a> {
         file: &'a str,
         width: u32,
     },
+}
+
+/// What the words on the command line ask for. A path of `-` is a standard stream, but that of a VM
+/// file.
+#[derive(Drop)]
+pub enum Request<'a> {
+    /// To run routines.
+    Routines(RoutineRequest<'a>),
+    /// To work on a text or an image.
+    Text(TextRequest<'a>),
+    /// To work on a VM file.
+    File(FileRequest<'a>),
 }
 
 /// A word that the command wants, so it is there.
@@ -158,8 +179,8 @@ fn call_words<'a>(alloc: Global, words: &ArgMatches<'a>) -> Result<Option<CallWo
 }
 
 /// What a `call` asks for. A wrong number is said first.
-fn call_of<'a>(alloc: Global, words: &ArgMatches<'a>) -> Result<Request<'a>, Misuse>
-    ensures { IfOk result KeepsLimits }
+fn call_of<'a>(alloc: Global, words: &ArgMatches<'a>) -> Result<RoutineRequest<'a>, Misuse>
+    ensures { IfOk result RunsWithinLimits }
 {
     let region = CALL_REGION.of(words)?;
     let image = word(words, "IN");
@@ -171,7 +192,7 @@ fn call_of<'a>(alloc: Global, words: &ArgMatches<'a>) -> Result<Request<'a>, Mis
     if call.is_some() && strict {
         return Err(Misuse::NoScript);
     }
-    Ok(Request::Call {
+    Ok(RoutineRequest::Call {
         image,
         call,
         file: words.get_str("file"),
@@ -182,8 +203,8 @@ fn call_of<'a>(alloc: Global, words: &ArgMatches<'a>) -> Result<Request<'a>, Mis
 }
 
 /// What a `trace` asks for. A wrong number is said first.
-fn trace_of<'a>(alloc: Global, words: &ArgMatches<'a>) -> Result<Request<'a>, Misuse>
-    ensures { IfOk result KeepsLimits }
+fn trace_of<'a>(alloc: Global, words: &ArgMatches<'a>) -> Result<RoutineRequest<'a>, Misuse>
+    ensures { IfOk result RunsWithinLimits }
 {
     let region = TRACE_REGION.of(words)?;
     let steps = STEPS.of(words)?;
@@ -191,7 +212,7 @@ fn trace_of<'a>(alloc: Global, words: &ArgMatches<'a>) -> Result<Request<'a>, Mi
         name: word(words, "NAME"),
         words: words_of(alloc, words, "N")?,
     };
-    Ok(Request::Trace {
+    Ok(RoutineRequest::Trace {
         image: word(words, "IN"),
         words: TraceWords {
             call,
@@ -205,14 +226,12 @@ fn trace_of<'a>(alloc: Global, words: &ArgMatches<'a>) -> Result<Request<'a>, Mi
 }
 
 /// What an `asm` asks for. The image of a text does not take its place: the text would be lost.
-fn asm_of<'a>(words: &ArgMatches<'a>) -> Result<Request<'a>, Misuse>
-    ensures { IfOk result KeepsLimits }
-{
+fn asm_of<'a>(words: &ArgMatches<'a>) -> Result<TextRequest<'a>, Misuse> {
     let (text, image) = (word(words, "IN"), word(words, "OUT"));
     if text == image && !is_stream(text) {
         return Err(Misuse::ImageOntoText);
     }
-    Ok(Request::Assemble {
+    Ok(TextRequest::Assemble {
         text,
         image,
         all_rows: words.get_flag("all-rows"),
@@ -220,11 +239,11 @@ fn asm_of<'a>(words: &ArgMatches<'a>) -> Result<Request<'a>, Misuse>
 }
 
 /// What a `new` asks for.
-fn new_of<'a>(words: &ArgMatches<'a>) -> Result<Request<'a>, Misuse>
-    ensures { IfOk result KeepsLimits }
+fn new_of<'a>(words: &ArgMatches<'a>) -> Result<FileRequest<'a>, Misuse>
+    ensures { IfOk result WorksWithinLimits }
 {
     match AREA.of(words) {
-        Ok(area) => Ok(Request::New {
+        Ok(area) => Ok(FileRequest::New {
             file: word(words, "FILE"),
             area,
         }),
@@ -233,15 +252,15 @@ fn new_of<'a>(words: &ArgMatches<'a>) -> Result<Request<'a>, Misuse>
 }
 
 /// What a `run` asks for. A wrong number is said first.
-fn run_of<'a>(words: &ArgMatches<'a>) -> Result<Request<'a>, Misuse>
-    ensures { IfOk result KeepsLimits }
+fn run_of<'a>(words: &ArgMatches<'a>) -> Result<RoutineRequest<'a>, Misuse>
+    ensures { IfOk result RunsWithinLimits }
 {
     let region = REGION.of(words)?;
     let (image, script) = (word(words, "IMAGE"), word(words, "SCRIPT"));
     if is_stream(image) && is_stream(script) {
         return Err(Misuse::TwoOfOneStream(Usage::Run));
     }
-    Ok(Request::Run {
+    Ok(RoutineRequest::Run {
         image,
         file: word(words, "FILE"),
         script,
@@ -253,18 +272,16 @@ fn run_of<'a>(words: &ArgMatches<'a>) -> Result<Request<'a>, Misuse>
 }
 
 /// What an `explain` asks for.
-fn explain_of<'a>(words: &ArgMatches<'a>) -> Result<Request<'a>, Misuse>
-    ensures { IfOk result KeepsLimits }
-{
+fn explain_of<'a>(words: &ArgMatches<'a>) -> Result<TextRequest<'a>, Misuse> {
     let image = word(words, "IMAGE");
     let names = words.get_flag("vars");
     match words.get_str("script") {
         None if names => Err(Misuse::NamesOfNoScript),
-        None => Ok(Request::Explain(image)),
+        None => Ok(TextRequest::Explain(image)),
         Some(script) if is_stream(image) && is_stream(script) => {
             Err(Misuse::TwoOfOneStream(Usage::Explain))
         }
-        Some(script) => Ok(Request::ExplainScript {
+        Some(script) => Ok(TextRequest::ExplainScript {
             image,
             script,
             names,
@@ -283,8 +300,8 @@ fn chunk_of<'a>(words: &ArgMatches<'a>, usage: Usage) -> Result<ChunkPath<'a>, M
 }
 
 /// What a `put` asks for.
-fn put_of<'a>(words: &ArgMatches<'a>) -> Result<Request<'a>, Misuse>
-    ensures { IfOk result KeepsLimits }
+fn put_of<'a>(words: &ArgMatches<'a>) -> Result<FileRequest<'a>, Misuse>
+    ensures { IfOk result WorksWithinLimits }
 {
     let region = PUT_REGION.of(words)?;
     let chunk = chunk_of(words, Usage::Put)?;
@@ -292,24 +309,24 @@ fn put_of<'a>(words: &ArgMatches<'a>) -> Result<Request<'a>, Misuse>
         Some(_) => Some(word_of(words, "AT", Usage::Put)?),
         None => None,
     };
-    Ok(Request::Put { chunk, at, region })
+    Ok(FileRequest::Put { chunk, at, region })
 }
 
 /// What a `get` asks for.
-fn get_of<'a>(words: &ArgMatches<'a>) -> Result<Request<'a>, Misuse>
-    ensures { IfOk result KeepsLimits }
+fn get_of<'a>(words: &ArgMatches<'a>) -> Result<FileRequest<'a>, Misuse>
+    ensures { IfOk result WorksWithinLimits }
 {
     let region = GET_REGION.of(words)?;
     let chunk = chunk_of(words, Usage::Get)?;
-    Ok(Request::Get { chunk, region })
+    Ok(FileRequest::Get { chunk, region })
 }
 
 /// What a `map` asks for.
-fn map_of<'a>(words: &ArgMatches<'a>) -> Result<Request<'a>, Misuse>
-    ensures { IfOk result KeepsLimits }
+fn map_of<'a>(words: &ArgMatches<'a>) -> Result<FileRequest<'a>, Misuse>
+    ensures { IfOk result WorksWithinLimits }
 {
     match WIDTH.of(words) {
-        Ok(width) => Ok(Request::Map {
+        Ok(width) => Ok(FileRequest::Map {
             file: word(words, "FILE"),
             width,
         }),
@@ -317,30 +334,21 @@ fn map_of<'a>(words: &ArgMatches<'a>) -> Result<Request<'a>, Misuse>
     }
 }
 
-/// What a command on an image alone asks for.
-fn of_image<'a>(name: &str, image: &'a str) -> Request<'a>
-    ensures { KeepsLimits result }
-{
-    match name {
-        "list" => Request::List(image),
-        _ => Request::Check(image),
+/// What a `budget` asks for.
+fn budget_of<'a>(words: &ArgMatches<'a>) -> TextRequest<'a> {
+    TextRequest::Budget {
+        text: word(words, "TEXT"),
+        new: words.get_str("OUT").unwrap_or(STANDARD),
     }
 }
 
-/// What a command without a number asks for.
-fn unnumbered_of<'a>(name: &str, words: &ArgMatches<'a>) -> Request<'a>
-    ensures { KeepsLimits result }
+/// What a `dump` asks for.
+fn dump_of<'a>(words: &ArgMatches<'a>) -> FileRequest<'a>
+    ensures { WorksWithinLimits result }
 {
-    match name {
-        "budget" => Request::Budget {
-            text: word(words, "TEXT"),
-            new: words.get_str("OUT").unwrap_or(STANDARD),
-        },
-        "dump" => Request::Dump {
-            file: word(words, "FILE"),
-            chunks: words.get_flag("chunks"),
-        },
-        _ => of_image(name, word(words, "IMAGE")),
+    FileRequest::Dump {
+        file: word(words, "FILE"),
+        chunks: words.get_flag("chunks"),
     }
 }
 
@@ -349,20 +357,23 @@ fn request_of<'a>(alloc: Global, matches: &ArgMatches<'a>) -> Result<Request<'a>
     ensures { IfOk result KeepsLimits }
 {
     let Some((name, words)) = matches.subcommand() else {
-        return Ok(Request::Session);
+        return Ok(Request::Routines(RoutineRequest::Session));
     };
-    match name {
-        "call" => call_of(alloc, words),
-        "trace" => trace_of(alloc, words),
-        "asm" => asm_of(words),
-        "explain" => explain_of(words),
-        "new" => new_of(words),
-        "run" => run_of(words),
-        "put" => put_of(words),
-        "get" => get_of(words),
-        "map" => map_of(words),
-        _ => Ok(unnumbered_of(name, words)),
-    }
+    Ok(match name {
+        "call" => Request::Routines(call_of(alloc, words)?),
+        "trace" => Request::Routines(trace_of(alloc, words)?),
+        "run" => Request::Routines(run_of(words)?),
+        "asm" => Request::Text(asm_of(words)?),
+        "budget" => Request::Text(budget_of(words)),
+        "list" => Request::Text(TextRequest::List(word(words, "IMAGE"))),
+        "explain" => Request::Text(explain_of(words)?),
+        "new" => Request::File(new_of(words)?),
+        "put" => Request::File(put_of(words)?),
+        "get" => Request::File(get_of(words)?),
+        "dump" => Request::File(dump_of(words)),
+        "map" => Request::File(map_of(words)?),
+        _ => Request::Text(TextRequest::Check(word(words, "IMAGE"))),
+    })
 }
 
 /// The words with their control characters by their bytes.

@@ -1,9 +1,7 @@
 use Rattle.std.proofs.Common.{sym, subst}
-use Rattle.std.specs.Prelude.{Ok}
-use Rattle.geos_calls.specs.VmCalls.{vunlock}
 use Rattle.geos_terms.specs.Names.{vm}
 use Rattle.geos_kernel.specs.View.{IsLocked}
-use Rattle.geos_cli.specs.Script.{Comes, LeadsOn}
+use Rattle.geos_cli.specs.Script.{LeadsOn, UnlocksOne}
 use Rattle.geos_cli.proofs.BytesPut.{left_alone}
 use Rattle.geos_cli.proofs.bytes.close.Goals as goal
 
@@ -16,7 +14,7 @@ returns g c =
     let old = c.args.kernel.now in
     let new = c.unlock.new.kernel in
     record {
-      leads = subst (λ h. LeadsOn medium old new (λ allows. Comes allows (vunlock h) (Ok (tt {0})))) c.handle.ensures c.unlock.ensures.leads;
+      leads = subst (λ h. LeadsOn medium old new (λ allows. UnlocksOne allows h)) c.handle.ensures c.unlock.ensures.leads;
       honest = c.unlock.ensures.honest;
       unwritten = left_alone medium old new c.unlock.ensures.vm;
     }

@@ -1,7 +1,7 @@
 use Rattle.std.proofs.Common.{◌∙◌, refl, arith}
 use Rattle.vm_file.proofs.StateLaws.{steadily_then}
 use Rattle.geos_kernel.specs.Files.{vm_file_of}
-use Rattle.geos_cli.proofs.InFormRun.{any_command, none-ran, more-ran, all-ran, refused-ran, shown-kept, stopped-at, stopped-ahead}
+use Rattle.geos_cli.proofs.InFormRun.{none-ran, more-ran, all-ran, refused-ran, stopped-at}
 use Rattle.geos_cli.proofs.NamedRun.{shown-of}
 use Rattle.geos_cli.proofs.Parts.{IfErr-any}
 use Rattle.geos_cli.proofs.in_form.carry_out_all_in_form.Goals as goal
@@ -14,6 +14,7 @@ loop-numbered-init g c = (
   c.requires.unlocked,
   c.memory_is_legal.ensures.sees,
   (λ steady room. (room, refl)),
+  c.new-progress.ensures,
 )
 
 pub returns-clause-ran : goal.returns-clause-ran
@@ -25,59 +26,46 @@ returns-clause-ran g c =
 pub loop-numbered-preserved : goal.loop-numbered-preserved
 loop-numbered-preserved g c =
     let shown = shown-of g.D.Device.medium c.args.form c.args.checked.now _ _ _ _ _ _ _ c.in_ok-done.ensures.ok in
-    let before = shown-kept g.D.Device.medium c.args.form c.args.checked.now c.args.mode _ _ _ _ _ _ c.loop-numbered.invariant.0
-    c.give_before.ensures.bytes in
     let alike = c.loop-numbered.invariant.2 in
-    let next = c.carry_out_noting.ensures.honest in (
+    let next = c.carry_out_next.ensures.honest in (
       more-ran g.D.Device.medium c.args.form c.args.checked.now c.args.mode c.args.commands.now c.loop-numbered.numbered-index
-          _ _ _ _ _ _ _ c.loop-numbered-test.true _ c.in_default.ensures before shown,
-      c.in_ok-done.ensures.kept ∙ c.in_ok-give_before.ensures.kept ∙ c.loop-numbered.invariant.1,
+          _ _ _ _ _ _ _ c.loop-numbered-test.true _ c.in_default.ensures c.loop-numbered.invariant.0 shown,
+      c.in_ok-done.ensures.kept ∙ c.loop-numbered.invariant.1,
       ((λ h. alike.0 (next.0 h)), (λ h. next.1 (alike.1 h))),
-      c.carry_out_noting.ensures.unlocked,
-      c.carry_out_noting.ensures.sees.1,
+      c.carry_out_next.ensures.unlocked,
+      c.carry_out_next.ensures.sees.1,
       steadily_then g.D.Device.medium (vm_file_of c.args.kernel.now) (vm_file_of c.loop-numbered.kernel)
-          (vm_file_of c.carry_out_noting.new.kernel) c.loop-numbered.invariant.5 c.carry_out_noting.ensures.steadily,
+          (vm_file_of c.carry_out_next.new.kernel) c.loop-numbered.invariant.5 c.carry_out_next.ensures.steadily,
+      c.carry_out_next.ensures.first ∙ c.loop-numbered.invariant.6,
     )
 
 pub returns-in_err-done-clause-stopped : goal.returns-in_err-done-clause-stopped
 returns-in_err-done-clause-stopped g c =
-    let before = shown-kept g.D.Device.medium c.args.form c.args.checked.now c.args.mode _ _ _ _ _ _ c.loop-numbered.invariant.0
-    c.give_before.ensures.bytes in
     IfErr-any _ (stopped-at g.D.Device.medium c.args.form c.args.checked.now c.args.mode c.args.commands.now
-    c.loop-numbered.numbered-index _ _ _ _ _ _ _ c.loop-numbered-test.true before c.in_err-done.ensures.stopped)
-
-pub returns-in_err-give_before-clause-stopped : goal.returns-in_err-give_before-clause-stopped
-returns-in_err-give_before-clause-stopped g c =
-    let before = shown-kept g.D.Device.medium c.args.form c.args.checked.now c.args.mode _ _ _ _ _ _ c.loop-numbered.invariant.0
-    c.give_before.ensures.bytes in
-    IfErr-any _ (stopped-ahead g.D.Device.medium c.args.form c.args.checked.now c.args.mode c.args.commands.now
-    c.loop-numbered.numbered-index c.args.kernel.now c.loop-numbered.kernel
-    (g.W.Write.contents c.args.out.now.stream) (g.W.Write.contents c.give_before.new.out.stream) any_command c.loop-numbered-test.true before)
+    c.loop-numbered.numbered-index _ _ _ _ _ _ _ c.loop-numbered-test.true c.loop-numbered.invariant.0 c.in_err-done.ensures.stopped)
 
 pub returns-clause-sees : goal.returns-clause-sees
 returns-clause-sees g c = (c.memory_is_legal.ensures.sees, c.loop-numbered.invariant.4)
 
 pub returns-in_err-done-clause-sees : goal.returns-in_err-done-clause-sees
-returns-in_err-done-clause-sees g c = (c.memory_is_legal.ensures.sees, c.carry_out_noting.ensures.sees.1)
+returns-in_err-done-clause-sees g c = (c.memory_is_legal.ensures.sees, c.carry_out_next.ensures.sees.1)
 
 pub returns-in-Some-clause-ran : goal.returns-in-Some-clause-ran
 returns-in-Some-clause-ran g c =
     let shown = shown-of g.D.Device.medium c.args.form c.args.checked.now _ _ _ _ _ _ _ c.in_ok-done.ensures.ok in
-    let before = shown-kept g.D.Device.medium c.args.form c.args.checked.now c.args.mode _ _ _ _ _ _ c.loop-numbered.invariant.0
-    c.give_before.ensures.bytes in
     refused-ran g.D.Device.medium c.args.form c.args.checked.now c.args.mode c.args.commands.now c.loop-numbered.numbered-index
     _ _ _ _ _ _ _ c.loop-numbered-test.true c.in-Some.refused c.in-Some.ensures.0 c.in-Some.ensures.1 _
-    c.in-Some.ensures.2 before shown
+    c.in-Some.ensures.2 c.loop-numbered.invariant.0 shown
 
 pub returns-in-Some-clause-sees : goal.returns-in-Some-clause-sees
-returns-in-Some-clause-sees g c = (c.memory_is_legal.ensures.sees, c.carry_out_noting.ensures.sees.1)
+returns-in-Some-clause-sees g c = (c.memory_is_legal.ensures.sees, c.carry_out_next.ensures.sees.1)
 
 pub returns-in_err-done-clause-steadily : goal.returns-in_err-done-clause-steadily
 returns-in_err-done-clause-steadily g c =
     steadily_then g.D.Device.medium (vm_file_of c.args.kernel.now) (vm_file_of c.loop-numbered.kernel)
-    (vm_file_of c.carry_out_noting.new.kernel) c.loop-numbered.invariant.5 c.carry_out_noting.ensures.steadily
+    (vm_file_of c.carry_out_next.new.kernel) c.loop-numbered.invariant.5 c.carry_out_next.ensures.steadily
 
 pub returns-in-Some-clause-steadily : goal.returns-in-Some-clause-steadily
 returns-in-Some-clause-steadily g c =
     steadily_then g.D.Device.medium (vm_file_of c.args.kernel.now) (vm_file_of c.loop-numbered.kernel)
-    (vm_file_of c.carry_out_noting.new.kernel) c.loop-numbered.invariant.5 c.carry_out_noting.ensures.steadily
+    (vm_file_of c.carry_out_next.new.kernel) c.loop-numbered.invariant.5 c.carry_out_next.ensures.steadily

@@ -3,7 +3,7 @@ use Rattle.vm_file.proofs.StateLaws.{steadily_then}
 use Rattle.geos_kernel.specs.Files.{vm_file_of}
 use Rattle.geos_text.specs.Words.{words}
 use Rattle.geos_cli.specs.Names.{names_of, said_by}
-use Rattle.geos_cli.proofs.NamedRun.{RanSoFar, admitted-named, all-ran, any_line, ended-badly, more-ran, named-in, not-begun, refused-ran, so_far-kept, stopped-at, stopped-behind}
+use Rattle.geos_cli.proofs.NamedRun.{RanSoFar, admitted-named, all-ran, any_line, ended-badly, more-ran, named-in, not-begun, refused-ran, stopped-at, stopped-behind}
 use Rattle.geos_cli.proofs.Parts.{IfErr-any}
 use Rattle.geos_cli.proofs.with_names.carry_out_lines.Goals as goal
 
@@ -21,80 +21,61 @@ returns-in_default-clause-ran g c =
     (names_of c.loop-line.names.items) c.args.kernel.now c.loop-line.kernel (g.W.Write.contents c.args.out.now.stream)
     (g.W.Write.contents c.loop-line.out.stream) c.loop-line.invariant.0 any_line c.loop-line-test.true _ refl none
 
-pub may_commit-ahead-requires-clause-admitted : goal.may_commit-ahead-requires-clause-admitted
-may_commit-ahead-requires-clause-admitted g c = admitted-named c.args.checked.now (names_of c.deref.result.now)
-    (words (get_or c.args.lines.now c.loop-line.line-index any_line).text.now) c.in-Some.command (sym c.in_ok-command.ensures ∙ c.in-Some.is)
-
-pub returns-in_err-give_before-clause-stopped : goal.returns-in_err-give_before-clause-stopped
-returns-in_err-give_before-clause-stopped g c =
-    let before = so_far-kept g.D.Device.medium c.args.form c.args.mode c.args.checked.now _ _ _ _ _ _ _
-    c.loop-line.invariant.0 c.give_before.ensures.bytes in
-    IfErr-any _ (not-begun g.D.Device.medium c.args.form c.args.mode c.args.checked.now c.args.lines.now c.loop-line.line-index
-    (names_of c.loop-line.names.items) c.args.kernel.now c.loop-line.kernel (g.W.Write.contents c.args.out.now.stream)
-    (g.W.Write.contents c.give_before.new.out.stream) before any_line c.loop-line-test.true)
-
-pub carry_out_noting-requires-clause-admitted : goal.carry_out_noting-requires-clause-admitted
-carry_out_noting-requires-clause-admitted g c = admitted-named c.args.checked.now (names_of c.deref.result.now)
+pub carry_out_next-requires-clause-admitted : goal.carry_out_next-requires-clause-admitted
+carry_out_next-requires-clause-admitted g c = admitted-named c.args.checked.now (names_of c.deref.result.now)
     (words (get_or c.args.lines.now c.loop-line.line-index any_line).text.now) c.in-Some.command (sym c.in_ok-command.ensures ∙ c.in-Some.is)
 
 pub returns-in_err-done-clause-stopped : goal.returns-in_err-done-clause-stopped
 returns-in_err-done-clause-stopped g c =
-    let before = so_far-kept g.D.Device.medium c.args.form c.args.mode c.args.checked.now _ _ _ _ _ _ _
-    c.loop-line.invariant.0 c.give_before.ensures.bytes in
     let named = named-in c.args.checked.now c.loop-line.names.items c.deref.result.now
     (words (get_or c.args.lines.now c.loop-line.line-index any_line).text.now) _ _ c.deref.ensures.value c.in_ok-command.ensures c.in-Some.is in
     IfErr-any _ (stopped-at g.D.Device.medium c.args.form c.args.mode c.args.checked.now c.args.lines.now c.loop-line.line-index
     (names_of c.loop-line.names.items) c.args.kernel.now c.loop-line.kernel (g.W.Write.contents c.args.out.now.stream)
-    (g.W.Write.contents c.give_before.new.out.stream) before any_line c.loop-line-test.true c.in-Some.command named
-    c.carry_out_noting.new.kernel (g.W.Write.contents c.carry_out_noting.new.out.stream) c.in_err-done.ensures.stopped)
+    (g.W.Write.contents c.loop-line.out.stream) c.loop-line.invariant.0 any_line c.loop-line-test.true c.in-Some.command named
+    c.carry_out_next.new.kernel (g.W.Write.contents c.carry_out_next.new.out.stream) c.in_err-done.ensures.stopped)
 
 pub returns-in-Some-ended_by-clause-ran : goal.returns-in-Some-ended_by-clause-ran
 returns-in-Some-ended_by-clause-ran g c =
     let ended = c.in-Some-ended_by.ensures in
-    let before = so_far-kept g.D.Device.medium c.args.form c.args.mode c.args.checked.now _ _ _ _ _ _ _
-    c.loop-line.invariant.0 c.give_before.ensures.bytes in
     let named = named-in c.args.checked.now c.loop-line.names.items c.deref.result.now
     (words (get_or c.args.lines.now c.loop-line.line-index any_line).text.now) _ _ c.deref.ensures.value c.in_ok-command.ensures c.in-Some.is in
     refused-ran g.D.Device.medium c.args.form c.args.mode c.args.checked.now c.args.lines.now c.loop-line.line-index
     (names_of c.loop-line.names.items) c.args.kernel.now c.loop-line.kernel (g.W.Write.contents c.args.out.now.stream)
-    (g.W.Write.contents c.give_before.new.out.stream) before any_line c.loop-line-test.true c.in-Some.command named
-    c.carry_out_noting.new.kernel (g.W.Write.contents c.carry_out_noting.new.out.stream) c.in-Some-ended_by.refused
+    (g.W.Write.contents c.loop-line.out.stream) c.loop-line.invariant.0 any_line c.loop-line-test.true c.in-Some.command named
+    c.carry_out_next.new.kernel (g.W.Write.contents c.carry_out_next.new.out.stream) c.in-Some-ended_by.refused
     ended.0 ended.1 _ _ ended.2 c.in_ok-done.ensures.ok
 
 pub returns-in_err-keep-clause-stopped : goal.returns-in_err-keep-clause-stopped
 returns-in_err-keep-clause-stopped g c =
-    let before = so_far-kept g.D.Device.medium c.args.form c.args.mode c.args.checked.now _ _ _ _ _ _ _
-    c.loop-line.invariant.0 c.give_before.ensures.bytes in
     let named = named-in c.args.checked.now c.loop-line.names.items c.deref.result.now
     (words (get_or c.args.lines.now c.loop-line.line-index any_line).text.now) _ _ c.deref.ensures.value c.in_ok-command.ensures c.in-Some.is in
     IfErr-any _ (stopped-behind g.D.Device.medium c.args.form c.args.mode c.args.checked.now c.args.lines.now
     c.loop-line.line-index (names_of c.loop-line.names.items) c.args.kernel.now c.loop-line.kernel
-    (g.W.Write.contents c.args.out.now.stream) (g.W.Write.contents c.give_before.new.out.stream) before any_line
-    c.loop-line-test.true c.in-Some.command named c.carry_out_noting.new.kernel (g.W.Write.contents c.carry_out_noting.new.out.stream)
+    (g.W.Write.contents c.args.out.now.stream) (g.W.Write.contents c.loop-line.out.stream) c.loop-line.invariant.0 any_line
+    c.loop-line-test.true c.in-Some.command named c.carry_out_next.new.kernel (g.W.Write.contents c.carry_out_next.new.out.stream)
     _ _ c.in_ok-done.ensures.ok)
 
 pub loop-line-preserved : goal.loop-line-preserved
 loop-line-preserved g c =
-    let before = so_far-kept g.D.Device.medium c.args.form c.args.mode c.args.checked.now _ _ _ _ _ _ _
-    c.loop-line.invariant.0 c.give_before.ensures.bytes in
     let named = named-in c.args.checked.now c.loop-line.names.items c.deref.result.now
     (words (get_or c.args.lines.now c.loop-line.line-index any_line).text.now) _ _ c.deref.ensures.value c.in_ok-command.ensures c.in-Some.is in
     let more = more-ran g.D.Device.medium c.args.form c.args.mode c.args.checked.now c.args.lines.now c.loop-line.line-index
     (names_of c.loop-line.names.items) c.args.kernel.now c.loop-line.kernel (g.W.Write.contents c.args.out.now.stream)
-    (g.W.Write.contents c.give_before.new.out.stream) before any_line c.loop-line-test.true c.in-Some.command named
-    c.carry_out_noting.new.kernel (g.W.Write.contents c.carry_out_noting.new.out.stream) _ _ c.in_default-ended_by.ensures
+    (g.W.Write.contents c.loop-line.out.stream) c.loop-line.invariant.0 any_line c.loop-line-test.true c.in-Some.command named
+    c.carry_out_next.new.kernel (g.W.Write.contents c.carry_out_next.new.out.stream) _ _ c.in_default-ended_by.ensures
     c.in_ok-done.ensures.ok in
     let alike = c.loop-line.invariant.2 in
-    let next = c.carry_out_noting.ensures.honest in (
+    let next = c.carry_out_next.ensures.honest in (
       subst (λ ns. RanSoFar g.D.Device.medium c.args.form c.args.mode c.args.checked.now
-          (map said_by (take (c.loop-line.line-index + 1) c.args.lines.now)) ns c.args.kernel.now c.carry_out_noting.new.kernel
-          (g.W.Write.contents c.args.out.now.stream) (g.W.Write.contents c.carry_out_noting.new.out.stream)) (sym c.in_ok-keep.ensures) more,
-      c.in_ok-done.ensures.kept ∙ c.in_ok-give_before.ensures.kept ∙ c.loop-line.invariant.1,
+          (map said_by (take (c.loop-line.line-index + 1) c.args.lines.now)) ns c.args.kernel.now c.carry_out_next.new.kernel
+          (g.W.Write.contents c.args.out.now.stream) (g.W.Write.contents c.carry_out_next.new.out.stream)) (sym c.in_ok-keep.ensures) more,
+      c.in_ok-done.ensures.kept ∙ c.loop-line.invariant.1,
       ((λ h. alike.0 (next.0 h)), (λ h. next.1 (alike.1 h))),
-      c.carry_out_noting.ensures.unlocked,
-      c.carry_out_noting.ensures.sees.1,
+      c.carry_out_next.ensures.unlocked,
+      c.carry_out_next.ensures.sees.1,
       steadily_then g.D.Device.medium (vm_file_of c.args.kernel.now) (vm_file_of c.loop-line.kernel)
-          (vm_file_of c.carry_out_noting.new.kernel) c.loop-line.invariant.5 c.carry_out_noting.ensures.steadily,
+          (vm_file_of c.carry_out_next.new.kernel) c.loop-line.invariant.5 c.carry_out_next.ensures.steadily,
+      c.carry_out_next.ensures.first ∙ c.loop-line.invariant.6,
     )
 
 pub returns-clause-ran : goal.returns-clause-ran

@@ -4,7 +4,7 @@ use Rattle.geos_cli.specs.Names.{first_put_out}
 use Rattle.geos_cli.proofs.InFormRun.{shown-part, stopped-plainly}
 use Rattle.geos_cli.proofs.NamedRun.{noted}
 use Rattle.geos_cli.proofs.Parts.{IfErr-any}
-use Rattle.geos_cli.proofs.in_form.carry_out_noting.Goals as goal
+use Rattle.geos_cli.proofs.progress.carry_out_noting.Goals as goal
 
 pub returns-in_err-write-in-Ok-clause-stopped : goal.returns-in_err-write-in-Ok-clause-stopped
 returns-in_err-write-in-Ok-clause-stopped g c =

@@ -1,0 +1,131 @@
+//! The commands of a script, one after another, whose outputs are printed in a form.
+
+ghost use Rattle.std.specs.Prelude.{◌≡◌, ◌↔◌, ◌⊎◌, true, IfOk, IfErr};
+ghost use Rattle.vm_file.specs.Device.{Rose};
+ghost use Rattle.vm_file.specs.State.{Steadily};
+ghost use Rattle.geos_input.specs.declared.fault.ScriptFault.TheVariants.{Memory, Write};
+ghost use Rattle.geos_input.specs.Fault.{KeptUnless};
+ghost use Rattle.geos_cli.specs.Commits.{first_commit, may_commit, IsGiven};
+ghost use Rattle.geos_cli.specs.InForm.{StoppedNext, StoppedShown};
+ghost use Rattle.geos_cli.specs.Script.{IsAdmitted};
+ghost use Rattle.geos_cli.specs.WithNames.{RanNoting};
+ghost use Rattle.geos_kernel.specs.Files.{vm_file_of};
+ghost use Rattle.geos_kernel.specs.View.{SeesDevice};
+ghost use Rattle.vm_blocks.specs.Listed.{NoneLocked};
+
+use crate::form::{Form, first_put_out, shown_in};
+use crate::output::{give_before, write};
+use crate::script::{Command, carry_out, first_commit, may_commit};
+use geos_input::{Counted, ScriptFault};
+use geos_kernel::Kernel;
+use geos_machine::Machine;
+use geos_terms::Refusal;
+use geos_verify::Checked;
+use std::alloc::Global;
+use std::io::Write;
+use vm_file::Device;
+
+/// Carries out a command, and prints in a form what it prints; gives what it came to, and the word that it put out first. Its plain text is
+/// at most 1,024 lines of six bytes. `Memory` where that or the text in the form has none, `Write` where the writer fails: the command is
+/// done all the same.
+fn carry_out_noting<W: Write, D: Device + Drop>(
+    alloc: Global,
+    form: Form,
+    machine: &mut Machine,
+    checked: &Checked,
+    command: &Command,
+    kernel: &mut Kernel<D>,
+    out: &mut Counted<W>,
+) -> Result<(Result<(), Refusal>, Option<u16>), ScriptFault>
+    requires admitted { IsAdmitted checked.now command.now }
+    requires unlocked { NoneLocked kernel.old.core.blocks }
+    requires given { may_commit checked.now command.now ≡ true → IsGiven out.old.asked out.old.flushed }
+    ensures ok { IfOk result (λ came. RanNoting D.medium form checked.now command.now came.0 came.1 kernel.old kernel.new
+        (W.contents out.old.stream) (W.contents out.new.stream)) }
+    ensures stopped { IfErr result (λ _. StoppedShown D.medium form checked.now command.now kernel.old kernel.new
+        (W.contents out.old.stream) (W.contents out.new.stream)) }
+    ensures honest { D.medium.honest kernel.new.device ↔ D.medium.honest kernel.old.device }
+    ensures unlocked { NoneLocked kernel.new.core.blocks }
+    ensures sees { SeesDevice D.medium kernel.old × SeesDevice D.medium kernel.new }
+    ensures steadily { Steadily D.medium (vm_file_of kernel.old) (vm_file_of kernel.new) }
+    ensures fault { IfErr result (λ fault. (fault ≡ Write) ⊎ (fault ≡ Memory)) }
+    ensures failed { IfErr result (λ fault. fault ≡ Write → Rose out.old.failures out.new.failures) }
+    ensures kept { KeptUnless Write result out.old.failures out.new.failures }
+{
+    let mut plain = Counted::new(Vec::new(alloc));
+    match carry_out(machine, checked, command, kernel, &mut plain) {
+        Ok(done) => {
+            let text = shown_in(alloc, form, checked, command, &plain.stream)?;
+            write(out, &text)?;
+            Ok((done, first_put_out(&plain.stream)))
+        }
+        Err(_) => Err(ScriptFault::Memory),
+    }
+}
+
+/// How far a script is: what lasts from one of its commands to the next.
+#[derive(Drop)]
+pub(crate) struct Progress {
+    /// The machine that runs its calls.
+    machine: Machine,
+    /// The first pc of an instruction of the image that commits.
+    first: Option<usize>,
+    /// Whether the last command may have committed.
+    behind: bool,
+}
+
+impl Progress {
+    /// Before the first command.
+    pub(crate) fn new(checked: &Checked) -> Progress
+        ensures { result.first ≡ first_commit checked.now.points }
+    {
+        Progress {
+            machine: Machine::new(),
+            first: first_commit(checked.image().points()),
+            behind: false,
+        }
+    }
+
+    /// Carries out the next command as `carry_out_noting` does, on the image that it was begun with. What was printed is flushed before, where
+    /// this command may commit, or the last one may have; `Write` also where that fails, and the command is not begun then.
+    pub(crate) fn carry_out_next<W: Write, D: Device + Drop>(
+        &mut self,
+        alloc: Global,
+        form: Form,
+        checked: &Checked,
+        command: &Command,
+        kernel: &mut Kernel<D>,
+        out: &mut Counted<W>,
+    ) -> Result<(Result<(), Refusal>, Option<u16>), ScriptFault>
+        requires admitted { IsAdmitted checked.now command.now }
+        requires unlocked { NoneLocked kernel.old.core.blocks }
+        requires first { self.old.first ≡ first_commit checked.now.points }
+        ensures ok { IfOk result (λ came. RanNoting D.medium form checked.now command.now came.0 came.1 kernel.old kernel.new
+            (W.contents out.old.stream) (W.contents out.new.stream)) }
+        ensures stopped { IfErr result (λ _. StoppedNext D.medium form checked.now command.now kernel.old kernel.new
+            (W.contents out.old.stream) (W.contents out.new.stream)) }
+        ensures first { self.new.first ≡ self.old.first }
+        ensures honest { D.medium.honest kernel.new.device ↔ D.medium.honest kernel.old.device }
+        ensures unlocked { NoneLocked kernel.new.core.blocks }
+        ensures sees { SeesDevice D.medium kernel.old × SeesDevice D.medium kernel.new }
+        ensures steadily { Steadily D.medium (vm_file_of kernel.old) (vm_file_of kernel.new) }
+        ensures fault { IfErr result (λ fault. (fault ≡ Write) ⊎ (fault ≡ Memory)) }
+        ensures failed { IfErr result (λ fault. fault ≡ Write → Rose out.old.failures out.new.failures) }
+        ensures kept { KeptUnless Write result out.old.failures out.new.failures }
+    {
+        // for a device that the kernel sees
+        kernel.memory_is_legal();
+        let ahead = may_commit(checked, self.first, command);
+        give_before(self.behind, ahead, out)?;
+        self.behind = ahead;
+        carry_out_noting(
+            alloc,
+            form,
+            &mut self.machine,
+            checked,
+            command,
+            kernel,
+            out,
+        )
+    }
+}
