@@ -1,7 +1,8 @@
 //! The forms of instructions, by the table of opcodes.
 
+use crate::sentences::put_text;
 use geos_opcodes::{FIELDS, Opcode, Operand, operand_at};
-use geos_text::{Part, put_parts};
+use geos_text::put_numbered;
 use std::alloc::AllocError;
 
 /// An operand in words.
@@ -61,10 +62,8 @@ fn put_nouns(out: &mut Vec<u8>, opcode: Opcode) -> Result<(), AllocError> {
     for field in FIELDS.iter() {
         let kind = operand_at(opcode, *field);
         if kind != Operand::Unused {
-            put_parts(
-                out,
-                &[Part::Text(joint(before, all)), Part::Text(noun(kind))],
-            )?;
+            put_text(out, joint(before, all))?;
+            put_text(out, noun(kind))?;
             before = before.saturating_add(1);
         }
     }
@@ -73,16 +72,16 @@ fn put_nouns(out: &mut Vec<u8>, opcode: Opcode) -> Result<(), AllocError> {
 
 /// Appends an instruction with operands of its form.
 fn put_example(out: &mut Vec<u8>, opcode: Opcode) -> Result<(), AllocError> {
-    put_parts(out, &[Part::Text(opcode.word())])?;
+    put_text(out, opcode.word())?;
     let mut before: u64 = 0;
     for field in FIELDS.iter() {
         let kind = operand_at(opcode, *field);
         if kind != Operand::Unused {
             let (text, numbered) = example(kind);
             if numbered {
-                put_parts(out, &[Part::Numbered(text, before)])?;
+                put_numbered(out, text, before)?;
             } else {
-                put_parts(out, &[Part::Text(text)])?;
+                put_text(out, text)?;
             }
             before = before.saturating_add(1);
         }
@@ -92,12 +91,12 @@ fn put_example(out: &mut Vec<u8>, opcode: Opcode) -> Result<(), AllocError> {
 
 /// Appends the form of an opcode's instructions: the nouns of their operands, and an example.
 pub(crate) fn put_form(out: &mut Vec<u8>, opcode: Opcode) -> Result<(), AllocError> {
-    put_parts(out, &[Part::Text(opcode.word())])?;
+    put_text(out, opcode.word())?;
     if count(opcode) == 0 {
-        return put_parts(out, &[Part::Text(" stands alone")]);
+        return put_text(out, " stands alone");
     }
-    put_parts(out, &[Part::Text(" wants ")])?;
+    put_text(out, " wants ")?;
     put_nouns(out, opcode)?;
-    put_parts(out, &[Part::Text(", as ")])?;
+    put_text(out, ", as ")?;
     put_example(out, opcode)
 }

@@ -9,11 +9,11 @@ ghost use Rattle.geos_source.specs.Names as names;
 ghost use Rattle.geos_lines.specs.Forms.{fits, kinds_of, IsOperand, StopsHere, StopsAt};
 
 use crate::forms::{noun, put_form};
-use crate::sentences::{Wrong, put_above, put_quoted, put_too_much, put_word, put_wrong};
+use crate::sentences::{Wrong, put_above, put_quoted, put_text, put_too_much, put_word, put_wrong};
 use crate::words::{Word, word_from};
 use geos_opcodes::{FIELDS, Opcode, Operand, operand_at};
 use geos_source::name_of;
-use geos_text::{NumberError, Part, number_up_to, put_parts, register};
+use geos_text::{NumberError, number_up_to, register};
 use std::alloc::AllocError;
 
 /// Why a word is no operand of a kind.
@@ -149,13 +149,21 @@ fn put_undefined(out: &mut Vec<u8>, opcode: Opcode, last: Option<Word>) -> Resul
         Opcode::Call => "; no routine",
         _ => "; no label",
     };
+    put_text(out, what)?;
     match last {
         Some(word) => {
-            put_parts(out, &[Part::Text(what), Part::Text(" has the name ")])?;
+            put_text(out, " has the name ")?;
             put_word(out, word)
         }
-        None => put_parts(out, &[Part::Text(what), Part::Text(" has its name")]),
+        None => put_text(out, " has its name"),
     }
+}
+
+/// Appends that a word is missing which is wanted.
+pub(crate) fn put_missing(out: &mut Vec<u8>, what: &str) -> Result<(), AllocError> {
+    put_text(out, "; ")?;
+    put_text(out, what)?;
+    put_text(out, " is missing")
 }
 
 /// Appends what is wrong with an instruction of this opcode, whose operands stand in the line from an index on.
@@ -170,19 +178,12 @@ fn put_operands(
     put_form(out, opcode)?;
     match stop_of(opcode, line, from) {
         Stop::At(word, _, misfit) => {
-            put_parts(out, &[Part::Text("; ")])?;
+            put_text(out, "; ")?;
             put_misfit(out, word, misfit)
         }
-        Stop::Missing(kind) => put_parts(
-            out,
-            &[
-                Part::Text("; "),
-                Part::Text(noun(kind)),
-                Part::Text(" is missing"),
-            ],
-        ),
+        Stop::Missing(kind) => put_missing(out, noun(kind)),
         Stop::TooMuch(word) => {
-            put_parts(out, &[Part::Text("; ")])?;
+            put_text(out, "; ")?;
             put_too_much(out, word)
         }
         Stop::Nowhere(last) => put_undefined(out, opcode, last),
@@ -214,29 +215,47 @@ fn in_small_letters(word: &[u8]) -> Option<&'static str> {
     }
 }
 
-/// What may have been meant by a word that no line begins with.
-fn put_meant(out: &mut Vec<u8>, word: Word, behind: Option<Word>) -> Result<(), AllocError> {
-    put_word(out, word)?;
-    put_parts(out, &[Part::Text(" is no instruction")])?;
-    if let Some(opcode) = in_capitals(word.bytes) {
-        return put_parts(out, &[Part::Text(": say "), Part::Text(opcode.word())]);
+/// What is to be said in place of a word, if that has other letters than those that a line can begin with.
+fn in_right_letters(word: &[u8]) -> Option<&'static str> {
+    match in_capitals(word) {
+        Some(opcode) => Some(opcode.word()),
+        None => in_small_letters(word),
     }
-    if let Some(small) = in_small_letters(word.bytes) {
-        return put_parts(out, &[Part::Text(": say "), Part::Text(small)]);
-    }
-    if word.bytes.starts_with(b"#") || word.bytes.starts_with(b"/") {
-        return put_parts(out, &[Part::Text(": a comment begins with ;")]);
+}
+
+/// Whether a word stands behind labels alone.
+fn is_behind_label(word: &[u8]) -> bool {
+    word == b":".as_slice() || Opcode::from_word(word).is_some()
+}
+
+/// Appends that a word may have been meant as a label.
+fn put_label(out: &mut Vec<u8>, word: &[u8]) -> Result<(), AllocError> {
+    put_text(out, ": for a label say ")?;
+    put_quoted(out, word)?;
+    put_text(out, " and a colon, in one word")
+}
+
+/// Appends what else may have been meant by a word, a comment or a label.
+fn put_other(out: &mut Vec<u8>, word: &[u8], behind: Option<Word>) -> Result<(), AllocError> {
+    if word.starts_with(b"#") || word.starts_with(b"/") {
+        return put_text(out, ": a comment begins with ;");
     }
     match behind {
-        Some(next) => {
-            if next.bytes == b":".as_slice() || Opcode::from_word(next.bytes).is_some() {
-                put_parts(out, &[Part::Text(": for a label say ")])?;
-                put_quoted(out, word.bytes)?;
-                return put_parts(out, &[Part::Text(" and a colon, in one word")]);
-            }
-            put_parts(out, &[Part::Text(", and none of routine, in and out")])
+        Some(next) if is_behind_label(next.bytes) => put_label(out, word),
+        _ => put_text(out, ", and none of routine, in and out"),
+    }
+}
+
+/// Appends what may have been meant by a word that no line begins with.
+fn put_meant(out: &mut Vec<u8>, word: Word, behind: Option<Word>) -> Result<(), AllocError> {
+    put_word(out, word)?;
+    put_text(out, " is no instruction")?;
+    match in_right_letters(word.bytes) {
+        Some(right) => {
+            put_text(out, ": say ")?;
+            put_text(out, right)
         }
-        None => put_parts(out, &[Part::Text(", and none of routine, in and out")]),
+        None => put_other(out, word.bytes, behind),
     }
 }
 

@@ -2,10 +2,10 @@
 
 ghost use Rattle.std.specs.Prelude.{◌≤◌, length};
 
-use crate::instr_lines::{Misfit, name_misfit, number_misfit, put_misfit};
-use crate::sentences::{Wrong, hint, put_too_much, put_word};
+use crate::instr_lines::{Misfit, name_misfit, number_misfit, put_misfit, put_missing};
+use crate::sentences::{Wrong, hint, put_text, put_too_much, put_word};
 use crate::words::{Word, word_from};
-use geos_text::{Part, put_parts, register};
+use geos_text::{put_numbered, register};
 use std::alloc::AllocError;
 
 /// The form of a line that begins a routine.
@@ -69,22 +69,15 @@ fn head_stop(line: &[u8], from: usize) -> HeadStop
 pub(crate) fn put_routine(out: &mut Vec<u8>, line: &[u8], from: usize) -> Result<(), AllocError>
     requires { from ≤ length line.now }
 {
-    put_parts(out, &[Part::Text(ROUTINE)])?;
+    put_text(out, ROUTINE)?;
     match head_stop(line, from) {
         HeadStop::At(word, misfit) => {
-            put_parts(out, &[Part::Text("; ")])?;
+            put_text(out, "; ")?;
             put_misfit(out, word, misfit)
         }
-        HeadStop::Missing(what) => put_parts(
-            out,
-            &[
-                Part::Text("; "),
-                Part::Text(what),
-                Part::Text(" is missing"),
-            ],
-        ),
+        HeadStop::Missing(what) => put_missing(out, what),
         HeadStop::TooMuch(word) => {
-            put_parts(out, &[Part::Text("; ")])?;
+            put_text(out, "; ")?;
             put_too_much(out, word)
         }
         HeadStop::Nowhere => Ok(()),
@@ -166,12 +159,10 @@ fn put_item(out: &mut Vec<u8>, item: Word, misfit: Misfit) -> Result<(), AllocEr
                 Some(hint) => hint,
                 None => form_of_item(item.bytes),
             };
-            put_parts(out, &[Part::Text(" is no item"), Part::Text(reason)])
+            put_text(out, " is no item")?;
+            put_text(out, reason)
         }
-        Misfit::Above(bound) => put_parts(
-            out,
-            &[Part::Numbered(" has a number above ", u64::from(bound))],
-        ),
+        Misfit::Above(bound) => put_numbered(out, " has a number above ", u64::from(bound)),
     }
 }
 

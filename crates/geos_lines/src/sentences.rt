@@ -1,7 +1,7 @@
 //! All sentences on faulty lines.
 
 use crate::words::Word;
-use geos_text::{Part, put_parts};
+use geos_text::put_numbered;
 use std::alloc::AllocError;
 
 /// The most bytes of a word that are shown.
@@ -70,6 +70,11 @@ impl Wrong {
     }
 }
 
+/// Appends a text.
+pub(crate) fn put_text(out: &mut Vec<u8>, text: &str) -> Result<(), AllocError> {
+    out.extend_from_slice(text.as_bytes())
+}
+
 /// Appends a byte of a word; where it is no printable character, by its digits.
 fn put_byte(out: &mut Vec<u8>, byte: u8) -> Result<(), AllocError> {
     if byte.is_ascii_graphic() || byte == b' ' {
@@ -87,21 +92,21 @@ fn put_byte(out: &mut Vec<u8>, byte: u8) -> Result<(), AllocError> {
 
 /// Appends a word in quotation marks, or its first bytes.
 pub(crate) fn put_quoted(out: &mut Vec<u8>, word: &[u8]) -> Result<(), AllocError> {
-    put_parts(out, &[Part::Text("\"")])?;
+    put_text(out, "\"")?;
     for byte in &word[..word.len().min(MOST_SHOWN)] {
         put_byte(out, *byte)?;
     }
     if word.len() > MOST_SHOWN {
-        put_parts(out, &[Part::Text("..")])?;
+        put_text(out, "..")?;
     }
-    put_parts(out, &[Part::Text("\"")])
+    put_text(out, "\"")
 }
 
 /// Appends a word in quotation marks, and its column, in bytes from 1. `AllocError` where the allocator refuses memory.
 pub fn put_word(out: &mut Vec<u8>, word: Word) -> Result<(), AllocError> {
     put_quoted(out, word.bytes)?;
     let column = word.start.saturating_add(1);
-    put_parts(out, &[Part::Numbered(" at column ", column as u64)])
+    put_numbered(out, " at column ", column as u64)
 }
 
 /// What a word has that none may have, or that it is longer than this.
@@ -125,22 +130,26 @@ pub(crate) fn hint(word: &[u8], most: usize) -> Option<&'static str> {
 pub(crate) fn put_wrong(out: &mut Vec<u8>, word: Word, wrong: Wrong) -> Result<(), AllocError> {
     put_word(out, word)?;
     match hint(word.bytes, wrong.most_bytes()) {
-        Some(hint) => put_parts(out, &[Part::Text(wrong.short_text()), Part::Text(hint)]),
-        None => put_parts(out, &[Part::Text(wrong.text())]),
+        Some(hint) => {
+            put_text(out, wrong.short_text())?;
+            put_text(out, hint)
+        }
+        None => put_text(out, wrong.text()),
     }
 }
 
 /// Appends that a number is past its bound.
 pub(crate) fn put_above(out: &mut Vec<u8>, word: Word, bound: u32) -> Result<(), AllocError> {
     put_word(out, word)?;
-    put_parts(out, &[Part::Numbered(" is above ", u64::from(bound))])
+    put_numbered(out, " is above ", u64::from(bound))
 }
 
 /// Appends that a word is one too many.
 pub(crate) fn put_too_much(out: &mut Vec<u8>, word: Word) -> Result<(), AllocError> {
     put_word(out, word)?;
+    put_text(out, " is too much")?;
     match hint(word.bytes, usize::MAX) {
-        Some(hint) => put_parts(out, &[Part::Text(" is too much"), Part::Text(hint)]),
-        None => put_parts(out, &[Part::Text(" is too much")]),
+        Some(hint) => put_text(out, hint),
+        None => Ok(()),
     }
 }

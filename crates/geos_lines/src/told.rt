@@ -7,10 +7,10 @@ ghost use Rattle.geos_lines.specs.Telling.{IsTold, TellsFaults, also, line_of, s
 use crate::instr_lines::put_instr;
 use crate::names::{NamesSoFar, Statement, Twice};
 use crate::other_lines::{put_items, put_routine};
-use crate::sentences::put_word;
+use crate::sentences::{put_text, put_word};
 use crate::words::Word;
 use geos_source::{BadLine, Why, faults_of};
-use geos_text::{Part, first_line, put_parts, without_comment};
+use geos_text::{Part, first_line, put_numbered, put_parts, without_comment};
 use std::alloc::{AllocError, Global};
 
 /// Appends the sentence on a name that was used before.
@@ -21,70 +21,71 @@ fn put_twice(out: &mut Vec<u8>, twice: Twice) -> Result<(), AllocError> {
     } else {
         " is a routine already, of line "
     };
-    put_parts(out, &[Part::Numbered(what, twice.first as u64)])
+    put_numbered(out, what, twice.first as u64)
+}
+
+/// What a line begins behind its labels.
+#[derive(Clone, Copy)]
+enum Beginning {
+    Routine,
+    In,
+    Out,
+    Instr,
+    Nothing,
+}
+
+impl Beginning {
+    fn of(statement: Statement) -> Beginning {
+        match statement.word {
+            Some(word) => Beginning::by(word.bytes),
+            None => Beginning::Nothing,
+        }
+    }
+
+    /// What a line with this word begins.
+    fn by(word: &[u8]) -> Beginning {
+        match word {
+            b"routine" => Beginning::Routine,
+            b"in" => Beginning::In,
+            b"out" => Beginning::Out,
+            _ => Beginning::Instr,
+        }
+    }
+
+    /// What is said of a line that stands where it may not.
+    fn misplaced(self) -> &'static str {
+        match self {
+            Beginning::Routine => "the routine has no instruction",
+            Beginning::In =>
+                "in stands once, behind the line that begins a routine and before its instructions",
+            Beginning::Out =>
+                "out stands once, behind the line that begins a routine and before its instructions",
+            Beginning::Instr => "the instruction stands before any line routine NAME budget N",
+            Beginning::Nothing => "the text has no line routine NAME budget N",
+        }
+    }
 }
 
 /// Which of the limits the line passes.
-fn too_many(number: usize, word: Option<Word>) -> &'static str {
+fn too_many(number: usize, statement: Statement) -> &'static str {
     if number == 1 {
         return "a text has at most 1048576 bytes";
     }
-    match word {
-        Some(
-            Word {
-                bytes: b"routine",
-                ..
-            },
-        ) => "a text has at most 32 routines",
+    match Beginning::of(statement) {
+        Beginning::Routine => "a text has at most 32 routines",
         _ => "a text has at most 4096 instructions",
     }
 }
 
 /// What is wrong with where the line stands.
 fn put_misplaced(out: &mut Vec<u8>, statement: Statement) -> Result<(), AllocError> {
-    match (statement.label, statement.word) {
-        (Some(label), None)
-        | (
-            Some(label),
-            Some(
-                Word {
-                    bytes: b"routine" | b"in" | b"out",
-                    ..
-                },
-            ),
-        ) => {
-            put_parts(out, &[Part::Text("no instruction follows the label ")])?;
+    let beginning = Beginning::of(statement);
+    match statement.label {
+        Some(label) if !matches!(beginning, Beginning::Instr) => {
+            put_text(out, "no instruction follows the label ")?;
             put_word(out, label)
         }
-        (
-            _,
-            Some(
-                Word {
-                    bytes: b"routine",
-                    ..
-                },
-            ),
-        ) => put_parts(out, &[Part::Text("the routine has no instruction")]),
-        (_, Some(Word { bytes: b"in", .. })) => put_parts(
-            out,
-            &[Part::Text(
-                "in stands once, behind the line that begins a routine and before its instructions",
-            )],
-        ),
-        (_, Some(Word { bytes: b"out", .. })) => put_parts(
-            out,
-            &[Part::Text(
-                "out stands once, behind the line that begins a routine and before its instructions",
-            )],
-        ),
-        (_, Some(_)) => put_parts(
-            out,
-            &[Part::Text("the instruction stands before any line routine NAME budget N")],
-        ),
-        (None, None) => put_parts(
-            out,
-            &[Part::Text("the text has no line routine NAME budget N")],
-        ),
+        _ => put_text(out, beginning.misplaced()),
     }
 }
 
@@ -97,12 +98,31 @@ fn put_form(out: &mut Vec<u8>, statement: Statement) -> Result<(), AllocError> {
     if word.end > line.len() {
         return Ok(());
     }
-    if word.bytes == b"routine".as_slice() {
-        put_routine(out, line, word.end)
-    } else if word.bytes == b"in".as_slice() || word.bytes == b"out".as_slice() {
-        put_items(out, line, word.end)
-    } else {
-        put_instr(out, line, word)
+    match Beginning::by(word.bytes) {
+        Beginning::Routine => put_routine(out, line, word.end),
+        Beginning::In | Beginning::Out => put_items(out, line, word.end),
+        _ => put_instr(out, line, word),
+    }
+}
+
+/// Appends what is wrong with a line.
+fn put_saying(
+    out: &mut Vec<u8>,
+    number: usize,
+    statement: Statement,
+    twice: Option<Twice>,
+    why: Why,
+) -> Result<(), AllocError> {
+    match why {
+        Why::UsedTwice => match twice {
+            Some(twice) => put_twice(out, twice),
+            None => put_text(out, "a name is used twice"),
+        },
+        Why::TooMany => put_text(out, too_many(number, statement)),
+        Why::OutOfPlace => put_misplaced(out, statement),
+        Why::UnknownWord | Why::WrongOperands | Why::OutOfRange | Why::Undefined => put_form(
+            out, statement,
+        ),
     }
 }
 
@@ -115,15 +135,7 @@ fn saying(
     why: Why,
 ) -> Result<Vec<u8>, AllocError> {
     let mut out = Vec::new(alloc);
-    match (why, twice) {
-        (Why::UsedTwice, Some(twice)) => put_twice(&mut out, twice)?,
-        (Why::UsedTwice, None) => put_parts(&mut out, &[Part::Text("a name is used twice")])?,
-        (Why::TooMany, _) => put_parts(&mut out, &[Part::Text(too_many(number, statement.word))])?,
-        (Why::OutOfPlace, _) => put_misplaced(&mut out, statement)?,
-        (Why::UnknownWord | Why::WrongOperands | Why::OutOfRange | Why::Undefined, _) => put_form(
-            &mut out, statement,
-        )?,
-    }
+    put_saying(&mut out, number, statement, twice, why)?;
     Ok(out)
 }
 

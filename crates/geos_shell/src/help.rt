@@ -276,19 +276,19 @@ The first bar is the area that is read, with all blocks as they are and as they 
 each block has a bar, as long beside the longest as the block is: `#` is in use, `.` is free. `used` counts
 bytes, those of the heap's header and table too; a group has `group` in the place of its user ID.";
 
-/// What there is to add on a command. The commands name it, and their table is without its long texts:
-/// a proof goes over each byte of the texts of a table.
+/// What is said of a command. The commands name it, and their table is without its texts: a proof goes over
+/// each byte of the texts of a table.
 #[derive(Clone, Copy)]
 pub(crate) enum More {
-    Nothing,
     Called,
     Traced,
-    Faults,
+    Assembled,
     Budgeted,
+    Listed,
+    Checked,
     Explained,
-    Rules,
     Made,
-    Runs,
+    Ran,
     Put,
     Got,
     Dumped,
@@ -296,17 +296,38 @@ pub(crate) enum More {
 }
 
 impl More {
+    /// What the command does.
+    pub(crate) fn about(self) -> &'static str {
+        match self {
+            More::Called => "Checks a text or an image, and runs one routine of it, or a script",
+            More::Traced => "Runs one routine, and prints each step, or how often each line ran",
+            More::Assembled => "Makes the image of a text",
+            More::Budgeted => "Writes a text with the least budget of each routine",
+            More::Listed => "Prints the image as text",
+            More::Checked => "Prints `accepted` where the image may run",
+            More::Explained =>
+                "Prints an image or a text with what is known at each instruction, and why it may not run",
+            More::Made => "Makes a VM file without a block",
+            More::Ran => "Runs a script on a VM file",
+            More::Put => "Writes the standard input into a chunk of a VM file",
+            More::Got => "Prints the bytes of a chunk of a VM file",
+            More::Dumped => "Prints the blocks of a VM file, and their chunks",
+            More::Mapped => "Draws a VM file: how full its areas and blocks are",
+        }
+    }
+
+    /// What there is to add.
     pub(crate) fn text(self) -> &'static str {
         match self {
-            More::Nothing => "",
+            More::Listed => "",
             More::Called => CALLED,
             More::Traced => TRACED,
-            More::Faults => FAULTS,
+            More::Assembled => FAULTS,
             More::Budgeted => BUDGETED,
             More::Explained => EXPLAINED,
-            More::Rules => RULES,
+            More::Checked => RULES,
             More::Made => MADE,
-            More::Runs => RUNS,
+            More::Ran => RUNS,
             More::Put => PUT,
             More::Got => GOT,
             More::Dumped => DUMPED,

@@ -5,7 +5,9 @@
 #![tactic(auto)]
 
 mod answer;
+mod arguments;
 mod command_line;
+mod commands;
 mod descriptors;
 mod file_id;
 mod forms;
