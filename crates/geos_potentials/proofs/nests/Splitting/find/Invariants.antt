@@ -1,0 +1,6 @@
+use Rattle.geos_potentials.specs.Stuck.{StayNoted}
+use Rattle.geos_potentials.proofs.nests.Splitting.find.Given as goal
+
+-- as much is known of counters as at first
+abbrev pub invariant-loop : goal.invariant-loop
+invariant-loop l = StayNoted l.fn.classes l.classes

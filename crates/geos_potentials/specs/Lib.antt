@@ -1,0 +1,16 @@
+pub mod Numbers
+pub mod Count
+pub mod Trails
+pub mod Arcs
+pub mod Constants
+pub mod Least
+pub mod Ranks
+pub mod Demands
+pub mod Spreads
+pub mod Stuck
+pub mod Halts
+pub mod Pieces
+pub mod Accepted
+pub mod Rounds
+pub mod Steps
+pub mod Touching

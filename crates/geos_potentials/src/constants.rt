@@ -1,0 +1,194 @@
+//! Constants: the longest ways from each place, where units of counters pay for so much.
+
+ghost use Rattle.std.specs.Prelude.{◌≡◌, ◌<◌, ◌≤◌, ◌+◌, Some, true, false};
+ghost use Rattle.geos_image.specs.Parts.{start_of};
+ghost use Rattle.geos_potentials.specs.Count.{StaysFrom};
+ghost use Rattle.geos_potentials.specs.Demands.{StayWanted};
+ghost use Rattle.geos_potentials.specs.Least.{link_at, AreEnds, AreLeast, StayAtMost, IsLookedAt, AreLookedAt, AsksNoMore, AskNoMore, NoneOutside, ArePut, SomePasses, steps_at};
+ghost use Rattle.geos_potentials.specs.Numbers.{numbers_of};
+ghost use Rattle.geos_potentials.specs.declared.lengths.Link.{Link};
+
+use crate::asked::{Potentials, return_steps};
+use crate::graph::Graph;
+use crate::jumps::Jump;
+use crate::lengths::Link;
+use crate::nests::Splitting;
+use crate::pieces::{Order, Piece};
+use crate::units::{Lack, Units};
+use geos_image::Potential;
+use geos_rows::Body;
+
+/// The edge of a place that is looked at: all but those of LOOPs that are left out.
+fn link_at(
+    graph: &Graph,
+    splitting: &Splitting,
+    units: &Units,
+    pc: u16,
+    branch: bool,
+) -> Option<Link>
+    requires { pc < 4096 }
+    ensures { IsLookedAt graph.now.arcs splitting.now.jumps units.now.pay pc branch result }
+{
+    if branch {
+        if let Jump::Free = splitting.jumps.at(pc) {
+            return None;
+        }
+    }
+    let arc = graph.arc(pc, branch)?;
+    Some(units.link(pc, &arc))
+}
+
+/// Notes what the edges of a routine cost, and that a way from a place takes what a return does there, if anything.
+fn begin(body: &Body, graph: &Graph, splitting: &Splitting, units: &mut Units)
+    ensures ends { AreEnds body.now.image.now body.now.r units.old.lengths.ways units.new.lengths.ways }
+    ensures outside { NoneOutside body.now.image.now body.now.r units.new.lengths.links }
+    ensures looked { AreLookedAt body.now.image.now body.now.r graph.now.arcs splitting.now.jumps units.new.pay units.new.lengths.links }
+    ensures pay { units.new.pay ≡ units.old.pay }
+{
+    units.lengths.clear_links();
+    for pc in body.start..body.end {
+        let along = link_at(graph, splitting, units, pc, false);
+        let branching = link_at(graph, splitting, units, pc, true);
+        units.lengths.set_links(pc, [along, branching]);
+        let steps = return_steps(body.image.instr(pc));
+        units.lengths.set_steps(pc, steps);
+    }
+}
+
+/// Makes ways longer until none grows.
+fn lengthen(order: &Order, all: &Piece, units: &mut Units) -> Result<(), Lack>
+    ensures links { units.new.lengths.links ≡ units.old.lengths.links }
+    ensures below { StayAtMost units.old.lengths.links units.old.lengths.ways units.new.lengths.ways }
+    ensures pay { units.new.pay ≡ units.old.pay }
+{
+    // A way that passes no place twice is found by as many sweeps as it has edges, and in the last one nothing is longer.
+    for _ in 0..all.length().saturating_add(2) {
+        if !units.look(2 * all.length()) {
+            return Err(Lack::Looks);
+        }
+        if !units.lengths.sweep(order, all) {
+            return Ok(());
+        }
+    }
+    Err(Lack::Endless)
+}
+
+/// Finds the longest way from each place.
+pub(crate) fn find_constants(
+    body: &Body,
+    graph: &Graph,
+    splitting: &Splitting,
+    units: &mut Units,
+) -> Result<(), Lack>
+    ensures least { AreLeast body.now.image.now body.now.r units.new.lengths.links units.old.lengths.ways units.new.lengths.ways }
+    ensures outside { NoneOutside body.now.image.now body.now.r units.new.lengths.links }
+    ensures looked { AreLookedAt body.now.image.now body.now.r graph.now.arcs splitting.now.jumps units.new.pay units.new.lengths.links }
+    ensures pay { units.new.pay ≡ units.old.pay }
+{
+    begin(body, graph, splitting, units);
+    let all = Piece {
+        begin: body.start,
+        end: body.end,
+    };
+    lengthen(&splitting.order, &all, units)
+}
+
+/// Sets what a unit has to pay for at the LOOP at a pc, whose counter is 0.
+fn free_loop(graph: &Graph, units: &mut Units, pc: u16) -> Result<(), Lack>
+    requires { pc < 4096 }
+    ensures lengths { units.new.lengths ≡ units.old.lengths }
+    ensures wanted { StayWanted graph.now.arcs units.old.pay units.new.pay }
+{
+    let Some(arc) = graph.arc(pc, true) else {
+        return Ok(());
+    };
+    let asked = units.lengths.steps(arc.to).saturating_add(arc.steps());
+    match u32::try_from(asked.saturating_sub(units.lengths.steps(pc))) {
+        Ok(unit) => {
+            units.raise_at_loop(graph, pc, unit);
+            Ok(())
+        }
+        Err(_) => Err(Lack::Passes),
+    }
+}
+
+/// The same for each LOOP of a routine whose counter is 0.
+pub(crate) fn free_loops(
+    body: &Body,
+    graph: &Graph,
+    splitting: &Splitting,
+    units: &mut Units,
+) -> Result<(), Lack>
+    ensures lengths { units.new.lengths ≡ units.old.lengths }
+    ensures wanted { StayWanted graph.now.arcs units.old.pay units.new.pay }
+{
+    for pc in body.start..body.end {
+        if let Jump::Free = splitting.jumps.at(pc) {
+            free_loop(graph, units, pc)?;
+        }
+    }
+    units.carry_all(graph);
+    Ok(())
+}
+
+/// Whether an edge asks no more than with other units.
+fn asks_at_most(link: &Link, other: &Link) -> bool
+    ensures { result ≡ true → (link.now.to ≡ other.now.to) × (link.now.costs ≤ other.now.costs) × (other.now.paid ≤ link.now.paid) }
+{
+    if link.to != other.to {
+        return false;
+    }
+    if other.costs < link.costs {
+        return false;
+    }
+    other.paid <= link.paid
+}
+
+/// Whether an edge that is looked at asks no more than it costs with the units as they are now.
+fn asks_no_more(graph: &Graph, units: &Units, pc: u16, branch: bool) -> bool
+    requires { pc < 4096 }
+    ensures { result ≡ true → (link : Link) → link_at units.now.lengths.links pc branch ≡ Some link
+        → AsksNoMore graph.now.arcs units.now.pay pc branch link }
+{
+    let Some(link) = units.lengths.link(pc, branch) else {
+        return true;
+    };
+    let Some(arc) = graph.arc(pc, branch) else {
+        return false;
+    };
+    asks_at_most(&link, &units.link(pc, &arc))
+}
+
+/// Whether no edge that is looked at asks more: units have grown since the LOOPs whose counter is 0 pay, and are not wanted at others.
+pub(crate) fn all_ask_no_more(body: &Body, graph: &Graph, units: &Units) -> bool
+    ensures { result ≡ true → AskNoMore body.now.image.now body.now.r graph.now.arcs units.now.pay units.now.lengths.links }
+{
+    for pc in body.start..body.end {
+        if !asks_no_more(graph, units, pc, false) || !asks_no_more(graph, units, pc, true) {
+            return false;
+        }
+    }
+    true
+}
+
+/// The potentials of a routine are what was found; `false` where a constant is past what a potential can say.
+pub(crate) fn put_potentials(body: &Body, units: &Units, potentials: &mut Potentials) -> bool
+    ensures put { result ≡ true → ArePut body.now.image.now body.now.r units.now.pay units.now.lengths.ways (numbers_of potentials.new) }
+    ensures passes { result ≡ false → SomePasses body.now.image.now body.now.r (steps_at units.now.lengths.ways) }
+    ensures stays { StaysFrom (start_of body.now.image.now.routines (body.now.r + 1)) (numbers_of potentials.old) (numbers_of potentials.new) }
+{
+    // For what its law says.
+    potentials.lengths();
+    for pc in body.start..body.end {
+        let length = units.lengths.steps(pc);
+        if u64::from(u32::MAX) < length {
+            return false;
+        }
+        let potential = Potential {
+            constant: length as u32,
+            coefficients: units.pay.at(pc),
+        };
+        potentials.set(pc, potential);
+    }
+    true
+}
