@@ -24,12 +24,7 @@ use Rattle.geos_infer.specs.Spreads.{ComeBehind, ComeFrom, ForgetsIt}
 use Rattle.geos_infer.specs.Stuck.{NotesIdle, LeadsNotedIdle, IsNotedIdleWay, GoesRoundIdle}
 use Rattle.geos_infer.specs.Trails.{IsTrail, LeadsKeeping, keeps_counter}
 use Rattle.geos_infer.specs.Why.{LeadsTo}
-use Rattle.geos_infer.specs.Halts.{IsInTheWay}
-use Rattle.geos_infer.specs.declared.pieces.Piece.{Piece}
-use Rattle.geos_infer.specs.declared.search.Halt.{Halt}
-use Rattle.geos_infer.specs.declared.search.Halt.TheVariants.{Stuck, Unclear, Unpaid, Passes}
 use Rattle.geos_infer.proofs.Demand.{is-arc}
-use Rattle.geos_infer.proofs.Unpayable.{none-accepted-round}
 
 -- What edges do to counters
 
@@ -220,11 +215,3 @@ module _ (image : Parts) (r : ℕ) (known : List (Option Row)) (table : List (Li
           branches = G.branches;
           way = way-idle G.branches G.next G.from lead.stays G.way;
         }
-
--- what is in the way is so, if it is where the search is stuck
-pub stuck-only : (image : Parts) (r : ℕ) (known : List (Option Row)) (coefficients : List (List ℕ)) (halt : Halt) → r < length image.routines
-    → ((piece : Piece) → halt ≡ Stuck piece → IsNeverPaid image r) → (halt ≡ Passes → ⊥) → IsInTheWay image r known coefficients halt
-stuck-only image r known coefficients (Stuck piece) lt never others = (never piece refl, none-accepted-round image r lt (never piece refl))
-stuck-only image r known coefficients Passes lt never others = absurd (others refl)
-stuck-only image r known coefficients Unclear lt never others = tt
-stuck-only image r known coefficients (Unpaid lack) lt never others = tt

@@ -327,7 +327,6 @@ fn cause_of_halt(
 {
     match halt {
         Halt::Stuck(piece) => Ok(first_cause(body, touching, search, &piece, trails)),
-        Halt::Unclear => Ok(None),
         Halt::Unpaid(lack) => cause_of_lack(
             alloc, body, touching, known, search, lack, trails, strongest,
         ),

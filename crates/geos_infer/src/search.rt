@@ -11,16 +11,12 @@ ghost use Rattle.geos_infer.specs.Demands.{AreWanted};
 ghost use Rattle.geos_infer.specs.Halts.{IsInTheWay};
 ghost use Rattle.geos_infer.specs.Least.{steps_at};
 ghost use Rattle.geos_infer.specs.Numbers.{numbers_of};
-ghost use Rattle.geos_infer.specs.Stuck.{GoesRoundIdle};
-ghost use Rattle.geos_infer.specs.declared.pieces.Piece.{Piece};
-ghost use Rattle.geos_infer.specs.declared.search.Halt.TheVariants.{Stuck, Passes};
 
 use crate::body::Body;
 use crate::classes::Classes;
 use crate::constants::{all_ask_no_more, find_constants, free_loops, put_potentials};
 use crate::graph::Graph;
-use crate::idle::goes_round_idle;
-use crate::nests::{NoNests, Splitting};
+use crate::nests::Splitting;
 use crate::pieces::Piece;
 use crate::table::{Known, Potentials};
 use crate::units::{Lack, Units};
@@ -32,8 +28,6 @@ use std::alloc::{AllocError, Global};
 pub(crate) enum Halt {
     /// Control goes round in a component, and no LOOP on the way may pay.
     Stuck(Piece),
-    /// No LOOP may pay in a component, and no such way round was found in it; or there are too many nests. Neither should be.
-    Unclear,
     /// Nests are not paid for.
     Unpaid(Lack),
     /// With the coefficients that are found a constant is past what a potential can say.
@@ -61,24 +55,6 @@ impl Search {
             splitting,
             units,
         })
-    }
-
-    /// What is in the way where no nests are found: where no LOOP may pay in a component, a way round in it is looked for.
-    fn halt_of(&self, body: &Body, stop: NoNests) -> Halt
-        ensures stuck { (piece : Piece) → result ≡ Stuck piece
-            → GoesRoundIdle body.now.image.now body.now.r self.now.graph.arcs self.now.classes }
-        ensures no_other { result ≡ Passes → ⊥ }
-    {
-        match stop {
-            NoNests::NoChoice(piece) => {
-                if goes_round_idle(body, &self.graph, &self.classes, &self.splitting, &piece) {
-                    Halt::Stuck(piece)
-                } else {
-                    Halt::Unclear
-                }
-            }
-            NoNests::TooMany => Halt::Unclear,
-        }
     }
 
     /// Finds coefficients with which the nests that were found are paid for, and the least constants with them.
@@ -115,8 +91,8 @@ impl Search {
     {
         self.graph.note(body, known, touched);
         self.classes.note(body, &self.graph);
-        if let Err(stop) = self.splitting.find(body, &self.graph, &mut self.classes) {
-            return Err(self.halt_of(body, stop));
+        if let Err(piece) = self.splitting.find(body, &self.graph, &mut self.classes) {
+            return Err(Halt::Stuck(piece));
         }
         match self.pay(body) {
             Ok(()) => {}

@@ -1,9 +1,10 @@
 use Rattle.std.proofs.Common.{sym, subst}
 use Rattle.geos_infer.specs.Code.{IsPcOf}
 use Rattle.geos_infer.specs.Spreads.{ComeBehind, ComeFrom, ForgetsIt}
-use Rattle.geos_infer.proofs.Idling.{notes-idle, round-never-paid, stuck-only}
+use Rattle.geos_infer.proofs.Idling.{notes-idle, round-never-paid}
 use Rattle.geos_infer.specs.Numbers.{numbers_of}
 use Rattle.geos_infer.proofs.Demand.{for-loops}
+use Rattle.geos_infer.proofs.Unpayable.{none-accepted-round}
 use Rattle.geos_infer.proofs.Priced.{found-least, none-pay}
 use Rattle.geos_infer.proofs.search.Search.find.Goals as goal
 
@@ -19,8 +20,9 @@ returns-in-Err-clause-way c = λ notes.
     let idle = notes-idle image body.r c.args.known.now c.args.touched.now arcs c.note.ensures notes c.find.new.classes
     (subst (λ n. ComeBehind arcs n (IsPcOf image body.r) ForgetsIt c.find.new.classes.touched) begins touched)
     (subst (λ n. ComeFrom arcs n c.find.new.classes.unset) begins unset) in
-    stuck-only image body.r c.args.known.now c.args.self.now.units.pay c.halt_of.result body.there (λ piece is. round-never-paid image body.r c.args.known.now c.args.touched.now arcs
-    c.note.ensures notes c.find.new.classes idle (c.halt_of.ensures.stuck piece is)) c.halt_of.ensures.no_other
+    let never = round-never-paid image body.r c.args.known.now c.args.touched.now arcs c.note.ensures notes c.find.new.classes idle
+    c.in-Err.ensures.round in
+    (never, none-accepted-round image body.r body.there never)
 
 pub returns-then-put_potentials-clause-least : goal.returns-then-put_potentials-clause-least
 returns-then-put_potentials-clause-least c =
