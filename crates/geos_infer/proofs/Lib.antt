@@ -33,6 +33,7 @@ pub mod Answering
 pub mod Rising
 pub mod Unpayable
 pub mod Demand
+pub mod Growing
 pub mod Spreading
 pub mod Idling
 pub mod Choosing

@@ -302,10 +302,8 @@ fn cause_of_lack(
         Lack::Passes => {
             cause_of_passing(alloc, body, touching, known, search, trails, strongest)
         }
-        Lack::InTurn | Lack::NoShare | Lack::AsksMore => {
-            Ok(cause_in_turn(body, touching, search, trails))
-        }
-        Lack::Looks | Lack::Endless => Ok(cause_of_looks(body)),
+        Lack::InTurn | Lack::NoShare => Ok(cause_in_turn(body, touching, search, trails)),
+        Lack::Looks => Ok(cause_of_looks(body)),
     }
 }
 

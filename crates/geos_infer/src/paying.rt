@@ -242,6 +242,7 @@ impl Paying {
                 self.weigh(graph, splitting, units);
             }
         }
-        Err(Lack::Endless)
+        // Each sweep looks at an edge at least.
+        Err(Lack::Looks)
     }
 }

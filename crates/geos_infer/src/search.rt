@@ -14,7 +14,7 @@ ghost use Rattle.geos_infer.specs.Numbers.{numbers_of};
 
 use crate::body::Body;
 use crate::classes::Classes;
-use crate::constants::{all_ask_no_more, find_constants, free_loops, put_potentials};
+use crate::constants::{find_constants, free_loops, put_potentials};
 use crate::graph::Graph;
 use crate::nests::Splitting;
 use crate::pieces::Piece;
@@ -68,9 +68,6 @@ impl Search {
             .pay_all(body.start, &self.graph, &mut self.splitting)?;
         find_constants(body, &self.graph, &self.splitting, &mut self.units)?;
         free_loops(body, &self.graph, &self.splitting, &mut self.units)?;
-        if !all_ask_no_more(body, &self.graph, &self.units) {
-            return Err(Lack::AsksMore);
-        }
         Ok(())
     }
 

@@ -1,17 +1,19 @@
 //! What a unit of each counter pays for, nest by nest: as much as ways round lack that go through its LOOPs.
 
-ghost use Rattle.std.specs.Prelude.{◌≡◌, ◌<◌, ◌≤◌};
+ghost use Rattle.std.specs.Prelude.{◌≡◌, ◌≢◌, ◌<◌, ◌≤◌, ℕ, true, false};
 ghost use Rattle.geos_infer.specs.Arcs.{IsLink, unit_at, price_of, paid_by};
-ghost use Rattle.geos_infer.specs.Demands.{AreWanted, StayWanted};
+ghost use Rattle.geos_infer.specs.Demands.{AreWanted, HaveGrown, StayWanted};
+ghost use Rattle.geos_infer.specs.Least.{StayAtLoops};
 
 use crate::arcs::{Arc, Counting};
 use crate::graph::Graph;
+use crate::jumps::Jumps;
 use crate::lengths::{Lengths, Link, Share};
 use crate::nests::Splitting;
 use crate::paying::Paying;
 use crate::pieces::Piece;
 use crate::pile::Pile;
-use crate::spread::{Spread, go_back, go_back_from, number_of, only, raise};
+use crate::spread::{Spread, go_back, go_back_free, go_back_from, number_of, only, raise};
 use crate::table::two_tables;
 use geos_image::MOST_INSTRS;
 use std::alloc::{AllocError, Global};
@@ -33,12 +35,8 @@ pub(crate) enum Lack {
     InTurn,
     /// A way round in a nest lacks something, and takes no unit of a LOOP that could be raised.
     NoShare,
-    /// With what LOOPs pay whose counter is 0, some edge asks more than was paid for.
-    AsksMore,
     /// Too many edges were looked at.
     Looks,
-    /// A loop came to its limit, which none should.
-    Endless,
 }
 
 /// The units of counters, and the longest ways where these pay.
@@ -67,12 +65,14 @@ impl Units {
         })
     }
 
-    /// Whether so many more edges may be looked at.
+    /// Whether so many more edges may be looked at, and one at least.
     pub(crate) fn look(&mut self, edges: u32) -> bool
         ensures lengths { self.new.lengths ≡ self.old.lengths }
         ensures pay { self.new.pay ≡ self.old.pay }
+        ensures more { result ≡ true → self.old.looks < self.new.looks }
+        ensures past { result ≡ false → LOOKS < self.new.looks }
     {
-        self.looks = self.looks.saturating_add(edges);
+        self.looks = self.looks.saturating_add(edges.max(1));
         self.looks <= LOOKS
     }
 
@@ -89,6 +89,8 @@ impl Units {
         requires { pc < 4096 }
         ensures lengths { self.new.lengths ≡ self.old.lengths }
         ensures wanted { StayWanted graph.now.arcs self.old.pay self.new.pay }
+        ensures more { HaveGrown self.old.pay self.new.pay }
+        ensures others { (at k : ℕ) → at ≢ pc → unit_at self.new.pay at k ≡ unit_at self.old.pay at k }
     {
         let Some(arc) = graph.arc(pc, true) else {
             return;
@@ -99,12 +101,14 @@ impl Units {
         }
     }
 
-    /// Units that have grown at the places that wait are there where they are asked for.
-    pub(crate) fn carry_all(&mut self, graph: &Graph)
+    /// Units for LOOPs that are left out are where they are asked for.
+    pub(crate) fn carry_free(&mut self, graph: &Graph, jumps: &Jumps)
         ensures lengths { self.new.lengths ≡ self.old.lengths }
         ensures wanted { StayWanted graph.now.arcs self.old.pay self.new.pay }
+        ensures more { HaveGrown self.old.pay self.new.pay }
+        ensures stay { StayAtLoops graph.now.arcs jumps.now self.old.pay self.new.pay }
     {
-        go_back(graph, &mut self.pay, &mut self.waits);
+        go_back_free(graph, jumps, &mut self.pay, &mut self.waits);
     }
 
     /// What it costs that an edge sets a counter which is wanted where it leads.
@@ -238,14 +242,11 @@ impl Units {
         ensures { StayWanted graph.now.arcs self.old.pay self.new.pay }
     {
         let mut fits = true;
-        for _ in 0..u32::MAX {
-            let Some(pc) = self.waits.take() else {
-                return if fits { Ok(()) } else { Err(Lack::Passes) };
-            };
+        while let Some(pc) = self.waits.take() {
             fits = fits && self.note_dearer(graph, splitting, paying, round, pc);
             go_back_from(graph, &mut self.pay, &mut self.waits, pc);
         }
-        Err(Lack::Endless)
+        if fits { Ok(()) } else { Err(Lack::Passes) }
     }
 
     /// The unit of a nest is at its LOOPs, and where it is asked for.

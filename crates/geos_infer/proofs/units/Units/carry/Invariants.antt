@@ -1,6 +1,10 @@
-use Rattle.geos_infer.specs.Demands.{StayWanted}
+use Rattle.std.proofs.Common.{◌+◌, ◌*◌}
+use Rattle.geos_infer.specs.Demands.{left_in, StayWanted}
 use Rattle.geos_infer.proofs.units.Units.carry.Given as goal
 
 -- what was wanted at first still is
-abbrev pub invariant-loop : goal.invariant-loop
-invariant-loop l = StayWanted l.graph.arcs l.fn.self.pay l.self.pay
+abbrev pub invariant-loop-pc : goal.invariant-loop-pc
+invariant-loop-pc l = StayWanted l.graph.arcs l.fn.self.pay l.self.pay
+
+abbrev pub decreases-loop-pc : goal.decreases-loop-pc
+decreases-loop-pc l = 2 * left_in l.self.pay + l.self.waits.count
