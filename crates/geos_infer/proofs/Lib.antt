@@ -29,6 +29,7 @@ pub mod Longest
 pub mod Costs
 pub mod Strong
 pub mod Priced
+pub mod Rounding
 pub mod Answering
 pub mod Rising
 pub mod Unpayable

@@ -22,6 +22,8 @@ pub mod Ranks
 pub mod Demands
 pub mod Spreads
 pub mod Stuck
+pub mod Rounds
+pub mod Lacks
 pub mod Halts
 pub mod Pieces
 pub mod Alike

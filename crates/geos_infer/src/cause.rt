@@ -320,7 +320,7 @@ fn cause_of_halt(
 ) -> Result<Option<Cause>, AllocError>
     requires touched { KnowsTouched body.now.image.now touching.now }
     requires rows { FitWhereReached body.now.image.now body.now.r known.now }
-    requires way { IsInTheWay body.now.image.now body.now.r known.now search.now.units.pay halt }
+    requires way { IsInTheWay body.now.image.now body.now.r known.now search.now halt }
     ensures { IfOk result (λ cause. IfSome cause (Holds body.now.image.now body.now.r)) }
 {
     match halt {

@@ -1,13 +1,15 @@
 //! Constants: the longest ways from each place, where units of counters pay for so much.
 
-ghost use Rattle.std.specs.Prelude.{◌≡◌, ◌≢◌, ◌<◌, ◌+◌, ◌&&◌, ℕ, true, false, slice_index_or};
+ghost use Rattle.std.specs.Prelude.{◌≡◌, ◌≢◌, ◌<◌, ◌≤◌, ◌+◌, ◌&&◌, ℕ, true, false, IfErr, slice_index_or};
 ghost use Rattle.geos_image.specs.Parts.{start_of};
 ghost use Rattle.geos_infer.specs.Arcs.{unit_at};
 ghost use Rattle.geos_infer.specs.Count.{StaysFrom};
 ghost use Rattle.geos_infer.specs.Demands.{HaveGrown, StayWanted};
+ghost use Rattle.geos_infer.specs.Lacks.{AsksPast, FreePasses};
 ghost use Rattle.geos_infer.specs.Least.{AreEnds, AreLeast, StayAtMost, is_free, IsLookedAt, AreLookedAt, StayAtLoops, NoneOutside, ArePut, SomePasses, steps_at};
 ghost use Rattle.geos_infer.specs.Numbers.{numbers_of};
 ghost use Rattle.geos_infer.specs.declared.jumps.Jump.TheVariants.{Plain};
+ghost use Rattle.geos_infer.specs.declared.units.Lack.TheVariants.{Looks, Passes};
 
 use crate::asked::return_steps;
 use crate::body::Body;
@@ -68,6 +70,7 @@ fn lengthen(order: &Order, all: &Piece, units: &mut Units) -> Result<(), Lack>
     ensures links { units.new.lengths.links ≡ units.old.lengths.links }
     ensures below { StayAtMost units.old.lengths.links units.old.lengths.ways units.new.lengths.ways }
     ensures pay { units.new.pay ≡ units.old.pay }
+    ensures looks { IfErr result (λ lack. (lack ≡ Looks) × (LOOKS ≤ units.new.looks)) }
 {
     // A way that passes no place twice is found by as many sweeps as it has edges, and in the last one nothing is longer. That there is none
     // longer where nests are paid for is not proved: so the looks are the bound.
@@ -93,6 +96,7 @@ pub(crate) fn find_constants(
     ensures outside { NoneOutside body.now.image.now body.now.r units.new.lengths.links }
     ensures looked { AreLookedAt body.now.image.now body.now.r graph.now.arcs splitting.now.jumps units.new.pay units.new.lengths.links }
     ensures pay { units.new.pay ≡ units.old.pay }
+    ensures looks { IfErr result (λ lack. (lack ≡ Looks) × (LOOKS ≤ units.new.looks)) }
 {
     begin(body, graph, splitting, units);
     let all = Piece {
@@ -105,6 +109,7 @@ pub(crate) fn find_constants(
 /// Sets what a unit has to pay for at the LOOP at a pc, whose counter is 0.
 fn free_loop(graph: &Graph, units: &mut Units, pc: u16) -> Result<(), Lack>
     requires { pc < 4096 }
+    ensures passes { IfErr result (λ lack. (lack ≡ Passes) × AsksPast graph.now.arcs units.new.lengths.ways pc) }
     ensures lengths { units.new.lengths ≡ units.old.lengths }
     ensures wanted { StayWanted graph.now.arcs units.old.pay units.new.pay }
     ensures more { HaveGrown units.old.pay units.new.pay }
@@ -124,13 +129,9 @@ fn free_loop(graph: &Graph, units: &mut Units, pc: u16) -> Result<(), Lack>
 }
 
 /// The same, if the LOOP at the pc is left out.
-fn free_at(
-    graph: &Graph,
-    splitting: &Splitting,
-    units: &mut Units,
-    pc: u16,
-) -> Result<(), Lack>
+fn free_at(graph: &Graph, splitting: &Splitting, units: &mut Units, pc: u16) -> Result<(), Lack>
     requires { pc < 4096 }
+    ensures passes { IfErr result (λ lack. (lack ≡ Passes) × FreePasses graph.now.arcs splitting.now.jumps units.new.lengths.ways) }
     ensures lengths { units.new.lengths ≡ units.old.lengths }
     ensures wanted { StayWanted graph.now.arcs units.old.pay units.new.pay }
     ensures more { HaveGrown units.old.pay units.new.pay }
@@ -151,6 +152,7 @@ pub(crate) fn free_loops(
     splitting: &Splitting,
     units: &mut Units,
 ) -> Result<(), Lack>
+    ensures passes { IfErr result (λ lack. (lack ≡ Passes) × FreePasses graph.now.arcs splitting.now.jumps units.new.lengths.ways) }
     ensures lengths { units.new.lengths ≡ units.old.lengths }
     ensures wanted { StayWanted graph.now.arcs units.old.pay units.new.pay }
     ensures more { HaveGrown units.old.pay units.new.pay }

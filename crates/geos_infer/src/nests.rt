@@ -3,6 +3,7 @@
 ghost use Rattle.std.specs.Prelude.{◌≡◌, ◌<◌, ◌≤◌, ◌+◌, None, IfErr, slice_index_or, slice_set};
 ghost use Rattle.geos_infer.specs.Pieces.{NoneMayPay};
 ghost use Rattle.geos_infer.specs.Stuck.{StayNoted, GoesRoundIdle};
+ghost use Rattle.geos_infer.specs.declared.nests.Nest.{Nest};
 
 use crate::body::Body;
 use crate::choice::{Choice, Chosen, Tier, choose};
@@ -95,6 +96,7 @@ impl Nests {
     /// One of them.
     pub(crate) fn at(&self, nest: u16) -> Nest
         requires { nest < 4096 }
+        ensures { (other : Nest) → result ≡ slice_index_or self.now.list nest other }
     {
         self.list.at(nest)
     }
@@ -102,9 +104,12 @@ impl Nests {
     pub(crate) fn set(&mut self, id: u16, nest: Nest)
         requires { id < 4096 }
         ensures list { self.new.list ≡ slice_set self.old.list id nest }
+        ensures there { (other : Nest) → slice_index_or self.new.list id other ≡ nest }
         ensures count { self.new.count ≡ self.old.count }
         ensures inner { self.new.inner ≡ self.old.inner }
     {
+        // For what its law says.
+        self.list.lengths();
         self.list.set(id, nest);
     }
 

@@ -9,6 +9,7 @@ ghost use Rattle.geos_infer.specs.Constants.{AreLeastIn, AreLeastWith, AreForLoo
 ghost use Rattle.geos_infer.specs.Count.{StaysFrom};
 ghost use Rattle.geos_infer.specs.Demands.{AreWanted};
 ghost use Rattle.geos_infer.specs.Halts.{IsInTheWay};
+ghost use Rattle.geos_infer.specs.Lacks.{IsLack};
 ghost use Rattle.geos_infer.specs.Least.{steps_at};
 ghost use Rattle.geos_infer.specs.Numbers.{numbers_of};
 
@@ -63,6 +64,8 @@ impl Search {
             → AreArcs body.now.image.now body.now.r known table self.old.graph.arcs
             → AreLeastWith body.now.image.now body.now.r known self.new.units.pay (steps_at self.new.units.lengths.ways)) }
         ensures wanted { IfOk result (λ _. AreWanted self.old.graph.arcs self.new.units.pay) }
+        ensures lack { IfErr result (IsLack self.new.graph.arcs self.new.splitting self.new.units) }
+        ensures graph { self.new.graph ≡ self.old.graph }
     {
         self.units
             .pay_all(body.start, &self.graph, &mut self.splitting)?;
@@ -83,7 +86,8 @@ impl Search {
         ensures least { IfOk result (λ _. AreLeastIn body.now.image.now body.now.r known.now (numbers_of potentials.new)) }
         ensures wanted { IfOk result (λ _. AreForLoops body.now.image.now body.now.r (coefficients_at (numbers_of potentials.new).coefficients)) }
         ensures way { NotesTouched body.now.image.now touched.now
-            → IfErr result (IsInTheWay body.now.image.now body.now.r known.now self.new.units.pay) }
+            → IfErr result (IsInTheWay body.now.image.now body.now.r known.now self.new) }
+        ensures noted { AreArcs body.now.image.now body.now.r known.now touched.now self.new.graph.arcs }
         ensures stays { StaysFrom (start_of body.now.image.now.routines (body.now.r + 1)) (numbers_of potentials.old) (numbers_of potentials.new) }
     {
         self.graph.note(body, known, touched);

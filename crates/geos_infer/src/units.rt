@@ -1,15 +1,16 @@
 //! What a unit of each counter pays for, nest by nest: as much as ways round lack that go through its LOOPs.
 
-ghost use Rattle.std.specs.Prelude.{◌≡◌, ◌≢◌, ◌<◌, ◌≤◌, ℕ, true, false};
+ghost use Rattle.std.specs.Prelude.{◌≡◌, ◌≢◌, ◌<◌, ◌≤◌, ℕ, true, false, IfErr};
 ghost use Rattle.geos_infer.specs.Arcs.{IsLink, unit_at, price_of, paid_by};
 ghost use Rattle.geos_infer.specs.Demands.{AreWanted, HaveGrown, StayWanted};
+ghost use Rattle.geos_infer.specs.Lacks.{IsLack, SomeIsDue, PricePasses};
 ghost use Rattle.geos_infer.specs.Least.{StayAtLoops};
 
 use crate::arcs::{Arc, Counting};
 use crate::graph::Graph;
 use crate::jumps::Jumps;
 use crate::lengths::{Lengths, Link, Share};
-use crate::nests::Splitting;
+use crate::nests::{Nests, Splitting};
 use crate::paying::Paying;
 use crate::pieces::Piece;
 use crate::pile::Pile;
@@ -31,7 +32,7 @@ pub(crate) enum Lack {
     SetWithin(Piece),
     /// What a unit pays for, or what it costs to set its counter, is past what a potential can say.
     Passes,
-    /// Nests were paid for again and again.
+    /// A nest is still to be paid for after 64 rounds over all.
     InTurn,
     /// A way round in a nest lacks something, and takes no unit of a LOOP that could be raised.
     NoShare,
@@ -49,6 +50,18 @@ pub(crate) struct Units {
     pub(crate) before: Spread,
     waits: Pile,
     looks: u32,
+}
+
+/// Whether some nest is to be paid for.
+fn some_due(nests: &Nests) -> bool
+    ensures { result ≡ true → SomeIsDue nests.now }
+{
+    for id in 0..nests.count().min(MOST_INSTRS) {
+        if nests.at(id).due {
+            return true;
+        }
+    }
+    false
 }
 
 impl Units {
@@ -207,6 +220,7 @@ impl Units {
         to: u16,
     ) -> bool
         requires { to < 4096 }
+        ensures { result ≡ false → PricePasses graph.now.arcs self.now.pay }
     {
         let mut lead = graph.first_into(to);
         for _ in 0..2 * u32::from(MOST_INSTRS) {
@@ -214,12 +228,9 @@ impl Units {
                 return true;
             };
             if let Some(arc) = graph.arc(edge.from, edge.branch) {
-                if let Some((counter, most)) = arc.sets() {
+                if let Some((counter, _)) = arc.sets() {
                     if counter == paying.nest.counter {
-                        let price = u64::from(self.unit(to, counter)).saturating_mul(u64::from(
-                            most,
-                        ));
-                        if u64::from(u32::MAX) < price {
+                        if u64::from(u32::MAX) < self.price(arc.to, &arc.counting) {
                             return false;
                         }
                         self.note_due(splitting, paying, round, edge.from);
@@ -239,11 +250,12 @@ impl Units {
         paying: &Paying,
         round: u16,
     ) -> Result<(), Lack>
-        ensures { StayWanted graph.now.arcs self.old.pay self.new.pay }
+        ensures wanted { StayWanted graph.now.arcs self.old.pay self.new.pay }
+        ensures lack { IfErr result (IsLack graph.now.arcs splitting.new self.new) }
     {
         let mut fits = true;
         while let Some(pc) = self.waits.take() {
-            fits = fits && self.note_dearer(graph, splitting, paying, round, pc);
+            fits &= self.note_dearer(graph, splitting, paying, round, pc);
             go_back_from(graph, &mut self.pay, &mut self.waits, pc);
         }
         if fits { Ok(()) } else { Err(Lack::Passes) }
@@ -257,7 +269,8 @@ impl Units {
         paying: &Paying,
         round: u16,
     ) -> Result<(), Lack>
-        ensures { StayWanted graph.now.arcs self.old.pay self.new.pay }
+        ensures wanted { StayWanted graph.now.arcs self.old.pay self.new.pay }
+        ensures lack { IfErr result (IsLack graph.now.arcs splitting.new self.new) }
     {
         let piece = &paying.nest.piece;
         for x in piece.begin..piece.end {
@@ -278,7 +291,8 @@ impl Units {
         round: u16,
     ) -> Result<(), Lack>
         requires { id < 4096 }
-        ensures { StayWanted graph.now.arcs self.old.pay self.new.pay }
+        ensures wanted { StayWanted graph.now.arcs self.old.pay self.new.pay }
+        ensures lack { IfErr result (IsLack graph.now.arcs splitting.new self.new) }
     {
         let mut nest = splitting.nests.at(id);
         nest.due = false;
@@ -288,7 +302,9 @@ impl Units {
         if nest.tight {
             self.note_before(graph, splitting, &paying);
         }
-        paying.find_unit(graph, splitting, self)?;
+        if let Err(lack) = paying.find_unit(graph, splitting, self) {
+            return Err(lack);
+        }
         self.set_unit(graph, splitting, &paying, round)
     }
 
@@ -299,7 +315,8 @@ impl Units {
         splitting: &mut Splitting,
         round: u16,
     ) -> Result<bool, Lack>
-        ensures { StayWanted graph.now.arcs self.old.pay self.new.pay }
+        ensures wanted { StayWanted graph.now.arcs self.old.pay self.new.pay }
+        ensures lack { IfErr result (IsLack graph.now.arcs splitting.new self.new) }
     {
         let mut some = false;
         for id in (0..splitting.nests.count().min(MOST_INSTRS)).rev() {
@@ -322,7 +339,8 @@ impl Units {
         splitting: &mut Splitting,
     ) -> Result<(), Lack>
         requires { start < 4096 }
-        ensures { AreWanted graph.now.arcs self.new.pay }
+        ensures wanted { AreWanted graph.now.arcs self.new.pay }
+        ensures lack { IfErr result (IsLack graph.now.arcs splitting.new self.new) }
     {
         self.looks = 0;
         self.pay.fill_from(0, [0; 4]);
@@ -334,6 +352,10 @@ impl Units {
                 return Ok(());
             }
         }
-        Err(Lack::InTurn)
+        if some_due(&splitting.nests) {
+            Err(Lack::InTurn)
+        } else {
+            Ok(())
+        }
     }
 }

@@ -23,5 +23,5 @@ returns-clause-least c = λ known table are.
 
 pub returns-clause-wanted : goal.returns-clause-wanted
 returns-clause-wanted c =
-    let before = subst (AreWanted c.args.self.now.graph.arcs) (sym c.find_constants.ensures.pay) c.pay_all.ensures in
+    let before = subst (AreWanted c.args.self.now.graph.arcs) (sym c.find_constants.ensures.pay) c.pay_all.ensures.wanted in
     c.free_loops.ensures.wanted before

@@ -1,10 +1,14 @@
-use Rattle.std.proofs.Common.{◌+◌, ◌*◌}
+use Rattle.std.proofs.Common.{◌≡◌, ◌+◌, ◌*◌, false}
 use Rattle.geos_infer.specs.Demands.{left_in, StayWanted}
+use Rattle.geos_infer.specs.Lacks.{PricePasses}
 use Rattle.geos_infer.proofs.units.Units.carry.Given as goal
 
--- what was wanted at first still is
+-- what was wanted at first still is, and some price passes where one did
 abbrev pub invariant-loop-pc : goal.invariant-loop-pc
-invariant-loop-pc l = StayWanted l.graph.arcs l.fn.self.pay l.self.pay
+invariant-loop-pc l = record {
+  wanted : StayWanted l.graph.arcs l.fn.self.pay l.self.pay;
+  passes : l.fits ≡ false → PricePasses l.graph.arcs l.self.pay;
+}
 
 abbrev pub decreases-loop-pc : goal.decreases-loop-pc
 decreases-loop-pc l = 2 * left_in l.self.pay + l.self.waits.count
