@@ -1,9 +1,9 @@
 -- No image is accepted that has the code of a routine for which such a cause holds that no numbers of steps are enough.
-use Rattle.std.proofs.Common.{◌≢◌, ℕ, Bool, true, List, [], ◌∷◌, sym, ◌∙◌}
+use Rattle.std.proofs.Common.{ℕ, Bool, true, List, [], ◌∷◌, sym, ◌∙◌}
 use Rattle.std.proofs.lemmas.Bool.{false≢true}
 use Rattle.geos_image.specs.Keys.{branches}
 use Rattle.geos_image.specs.Parts.{Parts}
-use Rattle.geos_potentials.specs.Rounds.{LeadsUnpaid, IsUnpaidWay, GoesRound, LeadsIdle, IsIdleWay, IsNeverPaid}
+use Rattle.geos_potentials.specs.Idle.{LeadsUnpaid, IsUnpaidWay, GoesRound, LeadsIdle, IsIdleWay, IsNeverPaid}
 use Rattle.geos_infer.specs.Causes.{NoneIsAcceptedFor}
 use Rattle.geos_infer.specs.declared.cause.Cause.TheVariants.{NoLoop, TouchedWithin, TouchedBefore, StepsPass, WordUnbounded, NumberHigh}
 use Rattle.geos_infer.proofs.Past.{words-none, none-accepted-past}

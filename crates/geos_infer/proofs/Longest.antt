@@ -7,7 +7,7 @@ use Rattle.geos_image.specs.declared.row.Row.{Row}
 use Rattle.geos_image.specs.Parts.{Parts, start_of}
 use Rattle.geos_infer.specs.Ahead.{OnlyAhead, TakesAlong, NonePasses, GoesOn, IsLongestOver, IsLongestFrom}
 use Rattle.geos_infer.specs.Causes.{LoopsTo, ComesRound, NoOtherHolds}
-use Rattle.geos_potentials.specs.Rounds.{IsKept}
+use Rattle.geos_potentials.specs.Idle.{IsKept}
 use Rattle.geos_rows.specs.Code.{IsPcOf}
 use Rattle.geos_potentials.specs.Numbers.{zeros}
 use Rattle.geos_potentials.specs.Steps.{most_steps, taken_at}

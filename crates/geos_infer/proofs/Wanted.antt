@@ -20,7 +20,7 @@ use Rattle.geos_verify.specs.declared.place.Place.{Place}
 use Rattle.geos_verify.specs.Places.{places}
 use Rattle.geos_image.specs.Keys.{branches}
 use Rattle.geos_verify.specs.Rows.{fits, row_along, row_branching}
-use Rattle.geos_verify.specs.Potentials.{pays, pays_branching}
+use Rattle.geos_verify.specs.Potentials.{pays_branching}
 use Rattle.geos_verify.specs.Touched.{calls}
 use Rattle.geos_verify.specs.Rules.{has_place, returns, names_empty_slot, tests, HasPoint, IsChecked}
 use Rattle.geos_verify.proofs.Passed.{passed}

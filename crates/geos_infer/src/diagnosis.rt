@@ -4,7 +4,7 @@ ghost use Rattle.std.specs.Prelude.{◌≡◌, ◌<◌, ◌≤◌, true, false, 
 ghost use Rattle.geos_infer.specs.Ahead.{OnlyAhead};
 ghost use Rattle.geos_infer.specs.Causes.{LeadsBack, SetsWithin, Holds, NoOtherHolds, NoneIsAcceptedFor, tells_of_slots};
 ghost use Rattle.geos_potentials.specs.Touching.{KnowsTouched};
-ghost use Rattle.geos_potentials.specs.Rounds.{IsNeverPaid};
+ghost use Rattle.geos_potentials.specs.Idle.{IsNeverPaid};
 ghost use Rattle.geos_rows.specs.Code.{TargetAhead};
 ghost use Rattle.geos_potentials.specs.Halts.{IsInTheWay};
 ghost use Rattle.geos_rows.specs.Reached.{FitWhereReached};
@@ -208,10 +208,8 @@ fn cause_of_lack(
         Lack::Passes => {
             cause_of_passing(alloc, body, touching, known, search, trails, strongest)
         }
-        Lack::InTurn | Lack::NoShare | Lack::AsksMore => {
-            Ok(cause_in_turn(body, touching, search, trails))
-        }
-        Lack::Looks | Lack::Endless => Ok(cause_of_looks(body)),
+        Lack::InTurn | Lack::NoShare => Ok(cause_in_turn(body, touching, search, trails)),
+        Lack::Looks => Ok(cause_of_looks(body)),
     }
 }
 
@@ -228,12 +226,11 @@ fn cause_of_halt(
 ) -> Result<Option<Cause>, AllocError>
     requires touched { KnowsTouched body.now.image.now touching.now }
     requires rows { FitWhereReached body.now.image.now body.now.r known.now }
-    requires way { IsInTheWay body.now.image.now body.now.r known.now search.now.units.pay halt }
+    requires way { IsInTheWay body.now.image.now body.now.r known.now search.now halt }
     ensures { IfOk result (λ cause. IfSome cause (Holds body.now.image.now body.now.r)) }
 {
     match halt {
         Halt::Stuck(piece) => Ok(first_cause(body, touching, search, &piece, trails)),
-        Halt::Unclear => Ok(None),
         Halt::Unpaid(lack) => cause_of_lack(
             alloc, body, touching, known, search, lack, trails, strongest,
         ),

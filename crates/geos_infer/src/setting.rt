@@ -3,7 +3,7 @@
 ghost use Rattle.std.specs.Prelude.{◌≡◌, ◌<◌, ◌≤◌, true, IfSome, IfOk};
 ghost use Rattle.geos_potentials.specs.Touching.{KnowsTouched};
 ghost use Rattle.geos_infer.specs.Causes.{LoopsTo, PaysForLoop, IsAtMost, Holds};
-ghost use Rattle.geos_potentials.specs.Rounds.{IsKept};
+ghost use Rattle.geos_potentials.specs.Idle.{IsKept};
 ghost use Rattle.geos_rows.specs.Reached.{FitWhereReached, AreAtMostAny};
 ghost use Rattle.geos_infer.specs.Taken.{WordsPass};
 

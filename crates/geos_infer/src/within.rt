@@ -3,7 +3,7 @@
 ghost use Rattle.std.specs.Prelude.{◌≡◌, ◌<◌, ◌≤◌, true, List, Bool, None, IfSome};
 ghost use Rattle.geos_potentials.specs.Touching.{KnowsTouched};
 ghost use Rattle.geos_infer.specs.Causes.{LoopsTo, SetsWithin, TouchesWithin, TouchesBefore, sets_counter};
-ghost use Rattle.geos_potentials.specs.Rounds.{IsKept, PassesAt, calls_touching};
+ghost use Rattle.geos_potentials.specs.Idle.{IsKept, PassesAt, calls_touching};
 ghost use Rattle.geos_rows.specs.Code.{IsPcOf};
 ghost use Rattle.geos_potentials.specs.Trails.{IsTrail};
 

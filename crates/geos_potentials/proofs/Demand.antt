@@ -22,7 +22,7 @@ use Rattle.geos_potentials.proofs.Asks.{zero-at}
 use Rattle.geos_potentials.specs.Demands.{keeps, kept_over, AreRaised, IsKeptOver, IsWanted, AreWanted, StayWanted, taken_from}
 
 -- units only grow
-grows : (old next : List (List ℕ)) (p : ℕ) (numbers : List ℕ) → AreRaised old next p numbers → (at k : ℕ) → unit_at old at k ≤ unit_at next at k
+pub grows : (old next : List (List ℕ)) (p : ℕ) (numbers : List ℕ) → AreRaised old next p numbers → (at k : ℕ) → unit_at old at k ≤ unit_at next at k
 grows old next p numbers R at k = elim (cases_eq at p) [
   | inl same ↦ subst (λ (n : ℕ). unit_at old n k ≤ unit_at next n k) (sym same) (let is = R.here k in omega (arith, is))
   | inr ne ↦ (let is = R.others at k ne in omega (arith, is))
@@ -108,16 +108,16 @@ kept-some counting numbers (suc (suc zero)) some = some-kept (keeps counting 2) 
 kept-some counting numbers (suc (suc (suc zero))) some = some-kept (keeps counting 3) (slice_index numbers 3) some
 kept-some counting numbers (suc (suc (suc (suc k)))) some = absurd (omega arith)
 
--- what an edge keeps of what is wanted where it leads is wanted where it begins
-pub back-wanted : (arcs : List (List (Option Arc))) (old next : List (List ℕ)) (p : ℕ) (branch : Bool) (arc : Arc) (numbers : List ℕ)
-    → arc_at arcs p branch ≡ Some arc → numbers ≡ kept_over arc.counting (slice_index_or old arc.to []) → AreRaised old next p numbers
-    → StayWanted arcs old next
-back-wanted arcs old next p branch arc numbers read is R before = raised-wanted arcs old next p numbers R wanted before
+-- what an edge keeps of what is wanted where it leads is wanted where it begins, of some counters
+pub some-back-wanted : (arcs : List (List (Option Arc))) (old next : List (List ℕ)) (p : ℕ) (branch : Bool) (arc : Arc) (numbers : List ℕ)
+    → arc_at arcs p branch ≡ Some arc
+    → ((k : ℕ) → 0 < slice_index numbers k → slice_index numbers k ≡ slice_index (kept_over arc.counting (slice_index_or old arc.to [])) k)
+    → AreRaised old next p numbers → StayWanted arcs old next
+some-back-wanted arcs old next p branch arc numbers read is R before = raised-wanted arcs old next p numbers R wanted before
   where
     wanted : (k : ℕ) → 0 < slice_index numbers k → IsWanted arcs next p k (slice_index numbers k)
     wanted k some =
-        let same : slice_index numbers k ≡ slice_index (kept_over arc.counting (slice_index_or old arc.to [])) k =
-        ap (λ (xs : List ℕ). slice_index xs k) is in
+        let same = is k some in
         let kept = kept-some arc.counting (slice_index_or old arc.to []) k (subst (λ (n : ℕ). 0 < n) same some) in
         let number : slice_index numbers k ≡ unit_at old arc.to k = same ∙ kept.1 in
         let W = still arcs old next p numbers R arc.to k (unit_at old arc.to k) (before arc.to k (subst (λ (n : ℕ). 0 < n) number some)) in
@@ -132,6 +132,13 @@ back-wanted arcs old next p branch arc numbers read is R before = raised-wanted 
           takes = W.takes;
           much = W.much;
         })
+
+-- of all
+pub back-wanted : (arcs : List (List (Option Arc))) (old next : List (List ℕ)) (p : ℕ) (branch : Bool) (arc : Arc) (numbers : List ℕ)
+    → arc_at arcs p branch ≡ Some arc → numbers ≡ kept_over arc.counting (slice_index_or old arc.to []) → AreRaised old next p numbers
+    → StayWanted arcs old next
+back-wanted arcs old next p branch arc numbers read is = some-back-wanted arcs old next p branch arc numbers read
+    (λ k some. ap (λ (xs : List ℕ). slice_index xs k) is)
 
 -- At a LOOP
 

@@ -1,5 +1,5 @@
 -- What is noted of counters in a routine is so: where one may not pay by what is noted, it may not.
-use Rattle.std.proofs.Common.{◌≡◌, ◌<◌, ◌⊎◌, ◌+◌, ℕ, zero, suc, Bool, true, false, not, List, [], ◌∷◌, ◌++◌, length, Option, Some, refl, sym, ap, ◌∙◌, subst, arith, inl, inr}
+use Rattle.std.proofs.Common.{◌≡◌, ◌<◌, ◌⊎◌, ◌+◌, ℕ, zero, suc, Bool, true, false, not, List, [], ◌∷◌, ◌++◌, Option, Some, refl, sym, ap, ◌∙◌, subst, arith, inl, inr}
 use Rattle.std.specs.Prelude.{◌&&◌, ◌||◌, ◌==◌, slice_index_or}
 use Rattle.std.proofs.lemmas.Bool.{false≢true}
 use Rattle.std.proofs.lemmas.Option.{same_Some}
@@ -17,7 +17,7 @@ use Rattle.geos_potentials.specs.declared.arcs.Counting.{Counting}
 use Rattle.geos_potentials.specs.declared.classes.Classes.{Classes}
 use Rattle.geos_potentials.specs.Arcs.{arc_at, unit_at, counting_of, touched_by, AreArcs}
 use Rattle.geos_rows.specs.Code.{is_loop, IsPcOf}
-use Rattle.geos_potentials.specs.Rounds.{calls_touching, MayNotPay, LeadsIdle, IsIdleWay, IsNeverPaid}
+use Rattle.geos_potentials.specs.Idle.{calls_touching, MayNotPay, LeadsIdle, IsIdleWay, IsNeverPaid}
 use Rattle.geos_potentials.specs.Touching.{NotesTouched}
 use Rattle.geos_potentials.specs.Demands.{keeps, forgets, taken_from, IsKeptOver}
 use Rattle.geos_rows.specs.Flow.{row_of, known_at}
@@ -25,12 +25,7 @@ use Rattle.geos_potentials.specs.Spreads.{ComeBehind, ComeFrom, ForgetsIt}
 use Rattle.geos_potentials.specs.Stuck.{NotesIdle, LeadsNotedIdle, IsNotedIdleWay, GoesRoundIdle}
 use Rattle.geos_potentials.specs.Trails.{IsTrail, LeadsKeeping, keeps_counter}
 use Rattle.geos_rows.specs.Why.{LeadsTo}
-use Rattle.geos_potentials.specs.Halts.{IsInTheWay}
-use Rattle.geos_potentials.specs.declared.pieces.Piece.{Piece}
-use Rattle.geos_potentials.specs.declared.search.Halt.{Halt}
-use Rattle.geos_potentials.specs.declared.search.Halt.TheVariants.{Stuck, Unclear, Unpaid, Passes}
 use Rattle.geos_potentials.proofs.Demand.{is-arc}
-use Rattle.geos_potentials.proofs.Unpayable.{none-accepted-round}
 
 -- What edges do to counters
 
@@ -221,11 +216,3 @@ module _ (image : Parts) (r : ℕ) (known : List (Option Row)) (table : List (Li
           branches = G.branches;
           way = way-idle G.branches G.next G.from lead.stays G.way;
         }
-
--- what is in the way is so, if it is where the search is stuck
-pub stuck-only : (image : Parts) (r : ℕ) (known : List (Option Row)) (coefficients : List (List ℕ)) (halt : Halt) → r < length image.routines
-    → ((piece : Piece) → halt ≡ Stuck piece → IsNeverPaid image r) → (halt ≡ Passes → ⊥) → IsInTheWay image r known coefficients halt
-stuck-only image r known coefficients (Stuck piece) lt never others = (never piece refl, none-accepted-round image r lt (never piece refl))
-stuck-only image r known coefficients Passes lt never others = absurd (others refl)
-stuck-only image r known coefficients Unclear lt never others = tt
-stuck-only image r known coefficients (Unpaid lack) lt never others = tt

@@ -12,3 +12,5 @@ pub mod Choosing
 pub mod Accepted
 pub mod Numbered
 pub mod Staying
+pub mod Growing
+pub mod Rounding

@@ -66,7 +66,7 @@ over-costs image table i row false pay pc to n m has h = along-costs image table
 module _ (image : Parts) (r : ℕ) (known : List (Option Row)) (table : List (List Bool)) (pay : List (List ℕ))
     (steps : ℕ → ℕ) (P : ConstantsPay image r (row_known known) (coefficients_at pay) steps) where
   -- steps that pay for an edge pay for what is noted of it
-  arc-paid : (pc : ℕ) (branch : Bool) (arc : Arc) → IsPcOf image r pc → IsArc image r known table pc branch arc
+  pub arc-paid : (pc : ℕ) (branch : Bool) (arc : Arc) → IsPcOf image r pc → IsArc image r known table pc branch arc
       → steps arc.to + (1 + arc.called + price_of pay arc.to arc.counting) ≤ steps pc + paid_by pay pc arc.counting
   arc-paid pc branch arc within A =
       let i = A.leads.point.instr in

@@ -3,7 +3,7 @@ use Rattle.std.proofs.Common.{◌≡◌, ◌≤◌, ◌<◌, ◌+◌, ℕ, Bool,
 use Rattle.std.specs.Prelude.{slice_index}
 use Rattle.geos_image.specs.Parts.{Parts, start_of}
 use Rattle.geos_rows.specs.Code.{IsPcOf}
-use Rattle.geos_potentials.specs.Rounds.{IsIdleWay, IsNeverPaid, MayNotPay}
+use Rattle.geos_potentials.specs.Idle.{IsIdleWay, IsNeverPaid, MayNotPay}
 use Rattle.geos_potentials.specs.Ranks.{AllRise, AreIdleNoted, noted_idle}
 use Rattle.geos_potentials.specs.Trails.{IsTrail, LeadsKeeping}
 use Rattle.geos_potentials.specs.declared.classes.Classes.{Classes}

@@ -24,7 +24,7 @@ use Rattle.geos_verify.proofs.Leads.{leads-along, leads-branching, may_begin}
 use Rattle.geos_verify.proofs.Places.{item_at}
 use Rattle.geos_semantics.proofs.Paid.{spent-at}
 use Rattle.geos_rows.specs.Code.{is_loop, IsPcOf}
-use Rattle.geos_potentials.specs.Rounds.{calls_touching, MayNotPay, LeadsIdle, IsIdleWay, IsNeverPaid}
+use Rattle.geos_potentials.specs.Idle.{calls_touching, MayNotPay, LeadsIdle, IsIdleWay, IsNeverPaid}
 use Rattle.geos_potentials.specs.Numbers.{zeros}
 use Rattle.geos_potentials.specs.Accepted.{HasAccepted}
 use Rattle.geos_potentials.specs.Trails.{IsTrail, keeps_counter}

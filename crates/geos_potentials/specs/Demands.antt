@@ -1,5 +1,5 @@
 -- What units of counters are wanted for.
-use Rattle.std.specs.Prelude.{◌≡◌, ◌≢◌, ◌≤◌, ◌<◌, ℕ, max, Bool, true, false, ◌==◌, not, if◌then◌else◌, List, [], ◌∷◌, Option, Some, None, slice_index, slice_index_or}
+use Rattle.std.specs.Prelude.{◌≡◌, ◌≢◌, ◌≤◌, ◌<◌, ◌+◌, ◌-◌, ℕ, max, Bool, true, false, ◌==◌, not, if◌then◌else◌, List, [], ◌∷◌, Option, Some, None, slice_index, slice_index_or}
 use Rattle.geos_potentials.specs.declared.arcs.Arc.{Arc}
 use Rattle.geos_potentials.specs.declared.arcs.Counting.{Counting}
 use Rattle.geos_potentials.specs.declared.arcs.Counting.TheVariants.{Sets, Takes, Forgets}
@@ -35,6 +35,20 @@ kept_over counting numbers =
 pub record AreRaised (old next : List (List ℕ)) (pc : ℕ) (numbers : List ℕ) : Type 0 where
   pub here : (k : ℕ) → unit_at next pc k ≡ max (unit_at old pc k) (slice_index numbers k)
   pub others : (at k : ℕ) → at ≢ pc → unit_at next at k ≡ unit_at old at k
+
+-- no number is less next
+abbrev pub HaveGrown : List (List ℕ) → List (List ℕ) → Type 0
+HaveGrown old next = (pc k : ℕ) → unit_at old pc k ≤ unit_at next pc k
+
+-- by how much numbers can still grow that have 32 bits
+abbrev pub left_at : List ℕ → ℕ
+left_at [] = 0
+left_at (n ∷ numbers) = (4294967295 - n) + left_at numbers
+
+-- those of all places
+abbrev pub left_in : List (List ℕ) → ℕ
+left_in [] = 0
+left_in (numbers ∷ places) = left_at numbers + left_in places
 
 -- What they are wanted for
 

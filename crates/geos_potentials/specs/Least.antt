@@ -2,9 +2,10 @@
 use Rattle.std.specs.Prelude.{◌≡◌, ◌≤◌, ◌<◌, ◌+◌, ◌⊎◌, ℕ, Bool, true, false, if◌then◌else◌, List, [], Option, Some, None, slice_get, slice_index, slice_index_or}
 use Rattle.geos_image.specs.Parts.{Parts}
 use Rattle.geos_image.specs.declared.point.Point.{Point}
-use Rattle.geos_potentials.specs.Arcs.{arc_at, price_of, paid_by, IsLink}
+use Rattle.geos_potentials.specs.Arcs.{arc_at, unit_at, price_of, paid_by, IsLink}
 use Rattle.geos_rows.specs.Code.{IsPcOf}
 use Rattle.geos_potentials.specs.Count.{return_steps}
+use Rattle.geos_potentials.specs.Demands.{taken_from}
 use Rattle.geos_potentials.specs.Numbers.{Numbers}
 use Rattle.geos_potentials.specs.declared.arcs.Arc.{Arc}
 use Rattle.geos_potentials.specs.declared.jumps.Jump.{Jump}
@@ -70,6 +71,7 @@ is_free _ = false
 abbrev pub IsLookedAt : List (List (Option Arc)) → List Jump → List (List ℕ) → ℕ → Bool → Option Link → Type 0
 IsLookedAt arcs jumps pay pc branch None = (arc_at arcs pc branch ≡ None) ⊎ ((branch ≡ true) × (is_free (slice_index_or jumps pc Plain) ≡ true))
 IsLookedAt arcs jumps pay pc branch (Some link) = (arc : Arc) × (arc_at arcs pc branch ≡ Some arc) × IsLink pay pc arc link
+    × (branch ≡ true → is_free (slice_index_or jumps pc Plain) ≡ false)
 
 -- the same of each edge of routine r
 abbrev pub AreLookedAt : Parts → ℕ → List (List (Option Arc)) → List Jump → List (List ℕ) → List (List (Option Link)) → Type 0
@@ -90,6 +92,11 @@ pub record AsksNoMore (arcs : List (List (Option Arc))) (pay : List (List ℕ)) 
 abbrev pub AskNoMore : Parts → ℕ → List (List (Option Arc)) → List (List ℕ) → List (List (Option Link)) → Type 0
 AskNoMore image r arcs pay links = (pc : ℕ) (branch : Bool) (link : Link) → IsPcOf image r pc → link_at links pc branch ≡ Some link
     → AsksNoMore arcs pay pc branch link
+
+-- units pay for as much next at each LOOP on their counter that is not left out
+abbrev pub StayAtLoops : List (List (Option Arc)) → List Jump → List (List ℕ) → List (List ℕ) → Type 0
+StayAtLoops arcs jumps pay next = (pc k : ℕ) (arc : Arc) → arc_at arcs pc true ≡ Some arc → taken_from arc.counting ≡ Some k
+    → is_free (slice_index_or jumps pc Plain) ≡ false → unit_at next pc k ≡ unit_at pay pc k
 
 -- no edge from outside of routine r is looked at
 abbrev pub NoneOutside : Parts → ℕ → List (List (Option Link)) → Type 0

@@ -11,6 +11,8 @@ pub mod Stuck
 pub mod Halts
 pub mod Pieces
 pub mod Accepted
-pub mod Rounds
+pub mod Idle
 pub mod Steps
 pub mod Touching
+pub mod Lacks
+pub mod Rounds

@@ -2,7 +2,7 @@
 use Rattle.std.specs.Prelude.{◌≡◌, ◌≤◌, ◌<◌, ℕ, Bool, true, List, [], ◌∷◌, Option, Some, slice_index_or}
 use Rattle.geos_image.specs.Parts.{Parts}
 use Rattle.geos_potentials.specs.Arcs.{arc_at}
-use Rattle.geos_potentials.specs.Rounds.{MayNotPay}
+use Rattle.geos_potentials.specs.Idle.{MayNotPay}
 use Rattle.geos_rows.specs.Code.{IsPcOf}
 use Rattle.geos_potentials.specs.Demands.{taken_from}
 use Rattle.geos_potentials.specs.Ranks.{noted_idle}

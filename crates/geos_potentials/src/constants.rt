@@ -1,12 +1,15 @@
 //! Constants: the longest ways from each place, where units of counters pay for so much.
 
-ghost use Rattle.std.specs.Prelude.{◌≡◌, ◌<◌, ◌≤◌, ◌+◌, Some, true, false};
+ghost use Rattle.std.specs.Prelude.{◌≡◌, ◌≢◌, ◌<◌, ◌≤◌, ◌+◌, ◌&&◌, ℕ, true, false, IfErr, slice_index_or};
 ghost use Rattle.geos_image.specs.Parts.{start_of};
+ghost use Rattle.geos_potentials.specs.Arcs.{unit_at};
 ghost use Rattle.geos_potentials.specs.Count.{StaysFrom};
-ghost use Rattle.geos_potentials.specs.Demands.{StayWanted};
-ghost use Rattle.geos_potentials.specs.Least.{link_at, AreEnds, AreLeast, StayAtMost, IsLookedAt, AreLookedAt, AsksNoMore, AskNoMore, NoneOutside, ArePut, SomePasses, steps_at};
+ghost use Rattle.geos_potentials.specs.Demands.{HaveGrown, StayWanted};
+ghost use Rattle.geos_potentials.specs.Lacks.{AsksPast, FreePasses};
+ghost use Rattle.geos_potentials.specs.Least.{AreEnds, AreLeast, StayAtMost, is_free, IsLookedAt, AreLookedAt, StayAtLoops, NoneOutside, ArePut, SomePasses, steps_at};
 ghost use Rattle.geos_potentials.specs.Numbers.{numbers_of};
-ghost use Rattle.geos_potentials.specs.declared.lengths.Link.{Link};
+ghost use Rattle.geos_potentials.specs.declared.jumps.Jump.TheVariants.{Plain};
+ghost use Rattle.geos_potentials.specs.declared.units.Lack.TheVariants.{Looks, Passes};
 
 use crate::asked::{Potentials, return_steps};
 use crate::graph::Graph;
@@ -14,9 +17,17 @@ use crate::jumps::Jump;
 use crate::lengths::Link;
 use crate::nests::Splitting;
 use crate::pieces::{Order, Piece};
-use crate::units::{Lack, Units};
+use crate::units::{LOOKS, Lack, Units};
 use geos_image::Potential;
 use geos_rows::Body;
+
+/// Whether an edge is the way to its target of a LOOP that is left out.
+fn is_left_out(splitting: &Splitting, pc: u16, branch: bool) -> bool
+    requires { pc < 4096 }
+    ensures { result ≡ branch && is_free (slice_index_or splitting.now.jumps pc Plain) }
+{
+    branch && matches!(splitting.jumps.at(pc), Jump::Free)
+}
 
 /// The edge of a place that is looked at: all but those of LOOPs that are left out.
 fn link_at(
@@ -29,10 +40,8 @@ fn link_at(
     requires { pc < 4096 }
     ensures { IsLookedAt graph.now.arcs splitting.now.jumps units.now.pay pc branch result }
 {
-    if branch {
-        if let Jump::Free = splitting.jumps.at(pc) {
-            return None;
-        }
+    if is_left_out(splitting, pc, branch) {
+        return None;
     }
     let arc = graph.arc(pc, branch)?;
     Some(units.link(pc, &arc))
@@ -60,9 +69,11 @@ fn lengthen(order: &Order, all: &Piece, units: &mut Units) -> Result<(), Lack>
     ensures links { units.new.lengths.links ≡ units.old.lengths.links }
     ensures below { StayAtMost units.old.lengths.links units.old.lengths.ways units.new.lengths.ways }
     ensures pay { units.new.pay ≡ units.old.pay }
+    ensures looks { IfErr result (λ lack. (lack ≡ Looks) × (LOOKS ≤ units.new.looks)) }
 {
-    // A way that passes no place twice is found by as many sweeps as it has edges, and in the last one nothing is longer.
-    for _ in 0..all.length().saturating_add(2) {
+    // A way that passes no place twice is found by as many sweeps as it has edges, and in the last one nothing is longer. That there is none
+    // longer where nests are paid for is not proved: so the looks are the bound.
+    for _ in 0..LOOKS {
         if !units.look(2 * all.length()) {
             return Err(Lack::Looks);
         }
@@ -70,7 +81,7 @@ fn lengthen(order: &Order, all: &Piece, units: &mut Units) -> Result<(), Lack>
             return Ok(());
         }
     }
-    Err(Lack::Endless)
+    Err(Lack::Looks)
 }
 
 /// Finds the longest way from each place.
@@ -84,6 +95,7 @@ pub(crate) fn find_constants(
     ensures outside { NoneOutside body.now.image.now body.now.r units.new.lengths.links }
     ensures looked { AreLookedAt body.now.image.now body.now.r graph.now.arcs splitting.now.jumps units.new.pay units.new.lengths.links }
     ensures pay { units.new.pay ≡ units.old.pay }
+    ensures looks { IfErr result (λ lack. (lack ≡ Looks) × (LOOKS ≤ units.new.looks)) }
 {
     begin(body, graph, splitting, units);
     let all = Piece {
@@ -96,8 +108,11 @@ pub(crate) fn find_constants(
 /// Sets what a unit has to pay for at the LOOP at a pc, whose counter is 0.
 fn free_loop(graph: &Graph, units: &mut Units, pc: u16) -> Result<(), Lack>
     requires { pc < 4096 }
+    ensures passes { IfErr result (λ lack. (lack ≡ Passes) × AsksPast graph.now.arcs units.new.lengths.ways pc) }
     ensures lengths { units.new.lengths ≡ units.old.lengths }
     ensures wanted { StayWanted graph.now.arcs units.old.pay units.new.pay }
+    ensures more { HaveGrown units.old.pay units.new.pay }
+    ensures others { (at k : ℕ) → at ≢ pc → unit_at units.new.pay at k ≡ unit_at units.old.pay at k }
 {
     let Some(arc) = graph.arc(pc, true) else {
         return Ok(());
@@ -112,63 +127,41 @@ fn free_loop(graph: &Graph, units: &mut Units, pc: u16) -> Result<(), Lack>
     }
 }
 
-/// The same for each LOOP of a routine whose counter is 0.
+/// The same, if the LOOP at the pc is left out.
+fn free_at(graph: &Graph, splitting: &Splitting, units: &mut Units, pc: u16) -> Result<(), Lack>
+    requires { pc < 4096 }
+    ensures passes { IfErr result (λ lack. (lack ≡ Passes) × FreePasses graph.now.arcs splitting.now.jumps units.new.lengths.ways) }
+    ensures lengths { units.new.lengths ≡ units.old.lengths }
+    ensures wanted { StayWanted graph.now.arcs units.old.pay units.new.pay }
+    ensures more { HaveGrown units.old.pay units.new.pay }
+    ensures stay { StayAtLoops graph.now.arcs splitting.now.jumps units.old.pay units.new.pay }
+{
+    if is_left_out(splitting, pc, true) {
+        free_loop(graph, units, pc)
+    } else {
+        Ok(())
+    }
+}
+
+/// The same for each LOOP of a routine whose counter is 0. With these units edges that are looked at ask no more: units have only grown, and
+/// not at LOOPs that are looked at.
 pub(crate) fn free_loops(
     body: &Body,
     graph: &Graph,
     splitting: &Splitting,
     units: &mut Units,
 ) -> Result<(), Lack>
+    ensures passes { IfErr result (λ lack. (lack ≡ Passes) × FreePasses graph.now.arcs splitting.now.jumps units.new.lengths.ways) }
     ensures lengths { units.new.lengths ≡ units.old.lengths }
     ensures wanted { StayWanted graph.now.arcs units.old.pay units.new.pay }
+    ensures more { HaveGrown units.old.pay units.new.pay }
+    ensures stay { StayAtLoops graph.now.arcs splitting.now.jumps units.old.pay units.new.pay }
 {
     for pc in body.start..body.end {
-        if let Jump::Free = splitting.jumps.at(pc) {
-            free_loop(graph, units, pc)?;
-        }
+        free_at(graph, splitting, units, pc)?;
     }
-    units.carry_all(graph);
+    units.carry_free(graph, &splitting.jumps);
     Ok(())
-}
-
-/// Whether an edge asks no more than with other units.
-fn asks_at_most(link: &Link, other: &Link) -> bool
-    ensures { result ≡ true → (link.now.to ≡ other.now.to) × (link.now.costs ≤ other.now.costs) × (other.now.paid ≤ link.now.paid) }
-{
-    if link.to != other.to {
-        return false;
-    }
-    if other.costs < link.costs {
-        return false;
-    }
-    other.paid <= link.paid
-}
-
-/// Whether an edge that is looked at asks no more than it costs with the units as they are now.
-fn asks_no_more(graph: &Graph, units: &Units, pc: u16, branch: bool) -> bool
-    requires { pc < 4096 }
-    ensures { result ≡ true → (link : Link) → link_at units.now.lengths.links pc branch ≡ Some link
-        → AsksNoMore graph.now.arcs units.now.pay pc branch link }
-{
-    let Some(link) = units.lengths.link(pc, branch) else {
-        return true;
-    };
-    let Some(arc) = graph.arc(pc, branch) else {
-        return false;
-    };
-    asks_at_most(&link, &units.link(pc, &arc))
-}
-
-/// Whether no edge that is looked at asks more: units have grown since the LOOPs whose counter is 0 pay, and are not wanted at others.
-pub(crate) fn all_ask_no_more(body: &Body, graph: &Graph, units: &Units) -> bool
-    ensures { result ≡ true → AskNoMore body.now.image.now body.now.r graph.now.arcs units.now.pay units.now.lengths.links }
-{
-    for pc in body.start..body.end {
-        if !asks_no_more(graph, units, pc, false) || !asks_no_more(graph, units, pc, true) {
-            return false;
-        }
-    }
-    true
 }
 
 /// The potentials of a routine are what was found; `false` where a constant is past what a potential can say.

@@ -1,7 +1,7 @@
 //! The edges of a routine with what they cost, from each place and into it.
 
 ghost use Rattle.std.specs.Prelude.{◌≡◌, ◌<◌, [], if◌then◌else◌, None, slice_index_or};
-ghost use Rattle.geos_potentials.specs.Arcs.{AreArcs, arc_at};
+ghost use Rattle.geos_potentials.specs.Arcs.{AreArcs, NoArcsOutside, arc_at};
 
 use crate::arcs::Arc;
 use crate::counting::arc_of;
@@ -28,8 +28,10 @@ impl Graph {
 
     /// Notes the edges of a routine, in the place of those of another.
     pub(crate) fn note(&mut self, body: &Body, known: &Known, touched: &Touched)
-        ensures { AreArcs body.now.image.now body.now.r known.now touched.now self.new.arcs }
+        ensures arcs { AreArcs body.now.image.now body.now.r known.now touched.now self.new.arcs }
+        ensures outside { NoArcsOutside body.now.image.now body.now.r self.new.arcs }
     {
+        self.arcs.fill_from(0, [None, None]);
         // For what its law says.
         self.arcs.lengths();
         self.leads.clear_from(body.start);

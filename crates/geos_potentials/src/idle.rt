@@ -2,7 +2,7 @@
 
 ghost use Rattle.std.specs.Prelude.{◌≡◌, ◌<◌, ◌≤◌, ℕ, true, Some, IfSome};
 ghost use Rattle.geos_potentials.specs.Touching.{KnowsTouched, NotesTouched, NotesAllTouched};
-ghost use Rattle.geos_potentials.specs.Rounds.{calls_touching, LeadsIdle};
+ghost use Rattle.geos_potentials.specs.Idle.{calls_touching, LeadsIdle};
 ghost use Rattle.geos_rows.specs.Code.{IsPcOf};
 ghost use Rattle.geos_potentials.specs.Ranks.{noted_idle, GoesOn, IsNotedBehind, AreNotedFrom, AreIdleNoted};
 ghost use Rattle.geos_potentials.specs.Stuck.{LeadsNotedIdle, GoesRoundIdle};

@@ -19,11 +19,25 @@ pub enum Jump {
 }
 
 impl Jump {
+    ghost use Rattle.std.specs.Prelude.{◌≡◌};
+    ghost use Rattle.geos_potentials.specs.Rounds.{pays_in};
+
     /// Whether it is a LOOP's that pays in a nest.
-    pub(crate) fn pays_in(self, nest: u16) -> bool {
+    pub(crate) fn pays_in(self, nest: u16) -> bool
+        ensures { result ≡ pays_in nest self }
+    {
         match self {
             Jump::Pays(other) => other == nest,
             _ => false,
+        }
+    }
+
+    /// Whether it is a LOOP's that is left out, or pays in a nest around one.
+    pub(crate) fn is_left_out_in(self, nest: u16) -> bool {
+        match self {
+            Jump::Plain => false,
+            Jump::Free => true,
+            Jump::Pays(other) => other < nest,
         }
     }
 }

@@ -130,11 +130,18 @@ impl Lengths {
         }
     }
 
-    /// The edge that made the way from a place so long.
-    pub(crate) fn next(&self, pc: u16) -> Option<Link>
+    /// Which edge made the way from a place so long; `true` for the one to the target.
+    pub(crate) fn first(&self, pc: u16) -> Option<bool>
         requires { pc < 4096 }
     {
-        let branch = self.ways.get(pc).first?;
+        self.ways.get(pc).first
+    }
+
+    /// The edge that made the way from a place so long.
+    fn next(&self, pc: u16) -> Option<Link>
+        requires { pc < 4096 }
+    {
+        let branch = self.first(pc)?;
         self.link(pc, branch)
     }
 

@@ -1,15 +1,15 @@
 //! Nests: places among which control goes round, each with the LOOPs that pay for that.
 
-ghost use Rattle.std.specs.Prelude.{◌≡◌, ◌<◌, ◌+◌, None, Err, IfSome, slice_index_or, slice_set};
+ghost use Rattle.std.specs.Prelude.{◌≡◌, ◌<◌, ◌≤◌, ◌+◌, None, IfErr, slice_index_or, slice_set};
 ghost use Rattle.geos_potentials.specs.Pieces.{NoneMayPay};
-ghost use Rattle.geos_potentials.specs.Stuck.{StayNoted};
-ghost use Rattle.geos_potentials.specs.declared.nests.NoNests.TheVariants.{NoChoice};
-ghost use Rattle.geos_potentials.specs.declared.pieces.Piece.{Piece};
+ghost use Rattle.geos_potentials.specs.Stuck.{StayNoted, GoesRoundIdle};
+ghost use Rattle.geos_potentials.specs.declared.nests.Nest.{Nest};
 
 use crate::choice::{Choice, Chosen, Tier, choose};
 use crate::classes::Classes;
 use crate::components::Components;
 use crate::graph::Graph;
+use crate::idle::goes_round_idle;
 use crate::jumps::{Jump, Jumps, lead_within};
 use crate::pieces::{Order, Piece};
 use geos_image::MOST_INSTRS;
@@ -95,6 +95,7 @@ impl Nests {
     /// One of them.
     pub fn at(&self, nest: u16) -> Nest
         requires { nest < 4096 }
+        ensures { (other : Nest) → result ≡ slice_index_or self.now.list nest other }
     {
         self.list.at(nest)
     }
@@ -102,9 +103,12 @@ impl Nests {
     pub(crate) fn set(&mut self, id: u16, nest: Nest)
         requires { id < 4096 }
         ensures list { self.new.list ≡ slice_set self.old.list id nest }
+        ensures there { (other : Nest) → slice_index_or self.new.list id other ≡ nest }
         ensures count { self.new.count ≡ self.old.count }
         ensures inner { self.new.inner ≡ self.old.inner }
     {
+        // For what its law says.
+        self.list.lengths();
         self.list.set(id, nest);
     }
 
@@ -118,6 +122,7 @@ impl Nests {
 
     /// A component is to be a nest.
     fn wait(&mut self, piece: Piece, around: Option<u16>)
+        ensures count { self.new.count ≡ self.old.count }
         ensures waits { self.old.waits < 4096 → self.new.waits ≡ self.old.waits + 1 }
         ensures waiting { self.old.waits < 4096
             → self.new.waiting ≡ slice_set self.old.waiting self.old.waits (record { piece = piece; around = around }) }
@@ -129,7 +134,9 @@ impl Nests {
     }
 
     /// The last component that is to be a nest.
-    fn take(&mut self) -> Option<Waiting> {
+    fn take(&mut self) -> Option<Waiting>
+        ensures { self.new.count ≡ self.old.count }
+    {
         if self.waits == 0 || MOST_INSTRS < self.waits {
             return None;
         }
@@ -138,13 +145,12 @@ impl Nests {
     }
 
     /// Lists a nest; its number.
-    fn list(&mut self, waiting: &Waiting, choice: &Choice) -> Option<u16>
-        ensures { IfSome result (λ id. id < 4096) }
+    fn list(&mut self, waiting: &Waiting, choice: &Choice) -> u16
+        requires { self.old.count < 4096 }
+        ensures id { result ≡ self.old.count }
+        ensures count { self.new.count ≡ self.old.count + 1 }
     {
         let id = self.count;
-        if MOST_INSTRS <= id {
-            return None;
-        }
         let depth = self.depth_in(waiting.around);
         let nest = Nest {
             piece: waiting.piece,
@@ -157,7 +163,7 @@ impl Nests {
         };
         self.list.set(id, nest);
         self.count = id + 1;
-        Some(id)
+        id
     }
 
     /// How many nests are around one in a nest.
@@ -167,15 +173,6 @@ impl Nests {
             _ => 0,
         }
     }
-}
-
-/// Why the nests of a routine are not found.
-#[derive(Clone, Copy)]
-pub(crate) enum NoNests {
-    /// No LOOP may pay in a component.
-    NoChoice(Piece),
-    /// There are more of them than places.
-    TooMany,
 }
 
 /// What a search for nests goes by.
@@ -214,7 +211,9 @@ impl Splitting {
     }
 
     /// Splits a piece into its components; those in which control goes round are to be nests.
-    fn split(&mut self, graph: &Graph, piece: &Piece, around: Option<u16>) {
+    fn split(&mut self, graph: &Graph, piece: &Piece, around: Option<u16>)
+        ensures { self.new.nests.count ≡ self.old.nests.count }
+    {
         self.components
             .arrange(graph, &self.jumps, &mut self.order, piece);
         let mut begin = piece.begin;
@@ -236,7 +235,9 @@ impl Splitting {
         classes: &Classes,
         piece: &Piece,
         choice: &Chosen,
-    ) {
+    )
+        ensures { self.new.nests.count ≡ self.old.nests.count }
+    {
         for x in piece.begin..piece.end {
             let pc = self.order.place(x);
             if let Some(arc) = graph.arc(pc, false) {
@@ -250,26 +251,31 @@ impl Splitting {
         }
     }
 
-    /// Makes a nest of a component; where no LOOP of it may pay, it is left as it is.
+    /// Makes a nest of a component. Where no LOOP of it may pay, and control goes round in it, that is in the way; where control does not, it
+    /// needs no nest.
     fn make(
         &mut self,
         body: &Body,
         graph: &Graph,
         classes: &mut Classes,
         waiting: &Waiting,
-    ) -> Result<(), NoNests>
+    ) -> Result<(), Piece>
+        requires { self.old.nests.count < 4096 }
         ensures noted { StayNoted classes.old classes.new }
-        ensures none { (piece : Piece) → result ≡ Err (NoChoice piece)
-            → NoneMayPay graph.now.arcs self.new.jumps self.new.order classes.new piece }
+        ensures none { IfErr result (NoneMayPay graph.now.arcs self.new.jumps self.new.order classes.new) }
+        ensures round { IfErr result (λ _. GoesRoundIdle body.now.image.now body.now.r graph.now.arcs classes.new) }
+        ensures count { self.new.nests.count ≤ self.old.nests.count + 1 }
     {
         let piece = &waiting.piece;
         classes.note_set_within(body.start, graph, &self.order, piece);
         let Some(choice) = choose(graph, &self.jumps, &self.order, classes, piece) else {
-            return Err(NoNests::NoChoice(*piece));
+            return if goes_round_idle(body, graph, classes, self, piece) {
+                Err(*piece)
+            } else {
+                Ok(())
+            };
         };
-        let Some(nest) = self.nests.list(waiting, &choice) else {
-            return Err(NoNests::TooMany);
-        };
+        let nest = self.nests.list(waiting, &choice);
         let all = DEEP <= self.nests.at(nest).depth;
         let chosen = Chosen { choice, nest, all };
         self.mark(body, graph, classes, piece, &chosen);
@@ -291,16 +297,17 @@ impl Splitting {
         }
     }
 
-    /// Finds the nests of a routine. What is known of counters stays, but for what is set in a piece.
+    /// Finds the nests of a routine, or a component in which control goes round and no LOOP may pay. What is known of counters stays, but for
+    /// what is set in a piece.
     pub(crate) fn find(
         &mut self,
         body: &Body,
         graph: &Graph,
         classes: &mut Classes,
-    ) -> Result<(), NoNests>
+    ) -> Result<(), Piece>
         ensures noted { StayNoted classes.old classes.new }
-        ensures none { (piece : Piece) → result ≡ Err (NoChoice piece)
-            → NoneMayPay graph.now.arcs self.new.jumps self.new.order classes.new piece }
+        ensures none { IfErr result (NoneMayPay graph.now.arcs self.new.jumps self.new.order classes.new) }
+        ensures round { IfErr result (λ _. GoesRoundIdle body.now.image.now body.now.r graph.now.arcs classes.new) }
     {
         self.free_loops(body, graph, classes);
         self.nests.count = 0;
@@ -313,9 +320,7 @@ impl Splitting {
             let Some(waiting) = self.nests.take() else {
                 return Ok(());
             };
-            if let Err(stop) = self.make(body, graph, classes, &waiting) {
-                return Err(stop);
-            }
+            self.make(body, graph, classes, &waiting)?;
         }
         Ok(())
     }

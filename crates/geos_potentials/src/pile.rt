@@ -1,6 +1,6 @@
 //! Places that wait, each once.
 
-ghost use Rattle.std.specs.Prelude.{◌<◌, IfSome};
+ghost use Rattle.std.specs.Prelude.{◌≡◌, ◌≤◌, ◌<◌, ◌+◌, IfSome};
 
 use crate::place::Place;
 use geos_image::MOST_INSTRS;
@@ -14,7 +14,7 @@ pub struct Pile {
     /// Whether each place is among them.
     has: Table<bool>,
     /// How many there are.
-    count: u16,
+    pub count: u16,
 }
 
 impl Pile {
@@ -31,6 +31,7 @@ impl Pile {
     /// A place waits, if it does not already.
     pub fn put(&mut self, pc: u16)
         requires { pc < 4096 }
+        ensures { self.new.count ≤ self.old.count + 1 }
     {
         if self.has.at(pc) || MOST_INSTRS <= self.count {
             return;
@@ -42,7 +43,8 @@ impl Pile {
 
     /// The place on top, if there is one; it no longer waits.
     pub fn take(&mut self) -> Option<u16>
-        ensures { IfSome result (λ pc. pc < 4096) }
+        ensures inside { IfSome result (λ pc. pc < 4096) }
+        ensures fewer { IfSome result (λ _. self.new.count + 1 ≡ self.old.count) }
     {
         if self.count == 0 || MOST_INSTRS < self.count {
             return None;

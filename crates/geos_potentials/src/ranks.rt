@@ -2,7 +2,7 @@
 
 ghost use Rattle.std.specs.Prelude.{◌≡◌, ◌<◌, ◌≤◌, ℕ, true, slice_index, IfOk};
 ghost use Rattle.geos_potentials.specs.Touching.{KnowsTouched};
-ghost use Rattle.geos_potentials.specs.Rounds.{LeadsIdle, IsNeverPaid};
+ghost use Rattle.geos_potentials.specs.Idle.{LeadsIdle, IsNeverPaid};
 ghost use Rattle.geos_potentials.specs.Ranks.{AllRise, AreIdleNoted};
 
 use crate::classes::Classes;

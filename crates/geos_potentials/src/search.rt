@@ -9,18 +9,15 @@ ghost use Rattle.geos_potentials.specs.Constants.{AreLeastIn, AreLeastWith, AreF
 ghost use Rattle.geos_potentials.specs.Count.{StaysFrom};
 ghost use Rattle.geos_potentials.specs.Demands.{AreWanted};
 ghost use Rattle.geos_potentials.specs.Halts.{IsInTheWay};
+ghost use Rattle.geos_potentials.specs.Lacks.{IsLack};
 ghost use Rattle.geos_potentials.specs.Least.{steps_at};
 ghost use Rattle.geos_potentials.specs.Numbers.{numbers_of};
-ghost use Rattle.geos_potentials.specs.Stuck.{GoesRoundIdle};
-ghost use Rattle.geos_potentials.specs.declared.pieces.Piece.{Piece};
-ghost use Rattle.geos_potentials.specs.declared.search.Halt.TheVariants.{Stuck, Passes};
 
 use crate::asked::Potentials;
 use crate::classes::Classes;
-use crate::constants::{all_ask_no_more, find_constants, free_loops, put_potentials};
+use crate::constants::{find_constants, free_loops, put_potentials};
 use crate::graph::Graph;
-use crate::idle::goes_round_idle;
-use crate::nests::{NoNests, Splitting};
+use crate::nests::Splitting;
 use crate::pieces::Piece;
 use crate::units::{Lack, Units};
 use geos_rows::{Body, Known};
@@ -32,8 +29,6 @@ use std::alloc::{AllocError, Global};
 pub enum Halt {
     /// Control goes round in a component, and no LOOP on the way may pay.
     Stuck(Piece),
-    /// No LOOP may pay in a component, and no such way round was found in it; or there are too many nests. Neither should be.
-    Unclear,
     /// Nests are not paid for.
     Unpaid(Lack),
     /// With the coefficients that are found a constant is past what a potential can say.
@@ -64,38 +59,19 @@ impl Search {
         })
     }
 
-    /// What is in the way where no nests are found: where no LOOP may pay in a component, a way round in it is looked for.
-    fn halt_of(&self, body: &Body, stop: NoNests) -> Halt
-        ensures stuck { (piece : Piece) → result ≡ Stuck piece
-            → GoesRoundIdle body.now.image.now body.now.r self.now.graph.arcs self.now.classes }
-        ensures no_other { result ≡ Passes → ⊥ }
-    {
-        match stop {
-            NoNests::NoChoice(piece) => {
-                if goes_round_idle(body, &self.graph, &self.classes, &self.splitting, &piece) {
-                    Halt::Stuck(piece)
-                } else {
-                    Halt::Unclear
-                }
-            }
-            NoNests::TooMany => Halt::Unclear,
-        }
-    }
-
     /// Finds coefficients with which the nests that were found are paid for, and the least constants with them.
     fn pay(&mut self, body: &Body) -> Result<(), Lack>
         ensures least { IfOk result (λ _. (known : List (Option Row)) (table : List (List Bool))
             → AreArcs body.now.image.now body.now.r known table self.old.graph.arcs
             → AreLeastWith body.now.image.now body.now.r known self.new.units.pay (steps_at self.new.units.lengths.ways)) }
         ensures wanted { IfOk result (λ _. AreWanted self.old.graph.arcs self.new.units.pay) }
+        ensures lack { IfErr result (IsLack self.new.graph.arcs self.new.splitting self.new.units) }
+        ensures graph { self.new.graph ≡ self.old.graph }
     {
         self.units
             .pay_all(body.start, &self.graph, &mut self.splitting)?;
         find_constants(body, &self.graph, &self.splitting, &mut self.units)?;
         free_loops(body, &self.graph, &self.splitting, &mut self.units)?;
-        if !all_ask_no_more(body, &self.graph, &self.units) {
-            return Err(Lack::AsksMore);
-        }
         Ok(())
     }
 
@@ -111,13 +87,14 @@ impl Search {
         ensures least { IfOk result (λ _. AreLeastIn body.now.image.now body.now.r known.now (numbers_of potentials.new)) }
         ensures wanted { IfOk result (λ _. AreForLoops body.now.image.now body.now.r (coefficients_at (numbers_of potentials.new).coefficients)) }
         ensures way { NotesTouched body.now.image.now touched.now
-            → IfErr result (IsInTheWay body.now.image.now body.now.r known.now self.new.units.pay) }
+            → IfErr result (IsInTheWay body.now.image.now body.now.r known.now self.new) }
+        ensures noted { AreArcs body.now.image.now body.now.r known.now touched.now self.new.graph.arcs }
         ensures stays { StaysFrom (start_of body.now.image.now.routines (body.now.r + 1)) (numbers_of potentials.old) (numbers_of potentials.new) }
     {
         self.graph.note(body, known, touched);
         self.classes.note(body, &self.graph);
-        if let Err(stop) = self.splitting.find(body, &self.graph, &mut self.classes) {
-            return Err(self.halt_of(body, stop));
+        if let Err(piece) = self.splitting.find(body, &self.graph, &mut self.classes) {
+            return Err(Halt::Stuck(piece));
         }
         match self.pay(body) {
             Ok(()) => {}

@@ -1,17 +1,20 @@
 //! What a unit of each counter pays for, nest by nest: as much as ways round lack that go through its LOOPs.
 
-ghost use Rattle.std.specs.Prelude.{◌≡◌, ◌<◌, ◌≤◌};
+ghost use Rattle.std.specs.Prelude.{◌≡◌, ◌≢◌, ◌<◌, ◌≤◌, ℕ, true, false, IfErr};
 ghost use Rattle.geos_potentials.specs.Arcs.{IsLink, unit_at, price_of, paid_by};
-ghost use Rattle.geos_potentials.specs.Demands.{AreWanted, StayWanted};
+ghost use Rattle.geos_potentials.specs.Demands.{AreWanted, HaveGrown, StayWanted};
+ghost use Rattle.geos_potentials.specs.Lacks.{IsLack, SomeIsDue, PricePasses};
+ghost use Rattle.geos_potentials.specs.Least.{StayAtLoops};
 
 use crate::arcs::{Arc, Counting};
 use crate::graph::Graph;
+use crate::jumps::Jumps;
 use crate::lengths::{Lengths, Link, Share};
-use crate::nests::Splitting;
+use crate::nests::{Nests, Splitting};
 use crate::paying::Paying;
 use crate::pieces::Piece;
 use crate::pile::Pile;
-use crate::spread::{Spread, go_back, go_back_from, number_of, only, raise};
+use crate::spread::{Spread, go_back, go_back_free, go_back_from, number_of, only, raise};
 use geos_image::MOST_INSTRS;
 use geos_rows::two_tables;
 use std::alloc::{AllocError, Global};
@@ -29,16 +32,12 @@ pub enum Lack {
     SetWithin(Piece),
     /// What a unit pays for, or what it costs to set its counter, is past what a potential can say.
     Passes,
-    /// Nests were paid for again and again.
+    /// A nest is still to be paid for after 64 rounds over all.
     InTurn,
     /// A way round in a nest lacks something, and takes no unit of a LOOP that could be raised.
     NoShare,
-    /// With what LOOPs pay whose counter is 0, some edge asks more than was paid for.
-    AsksMore,
     /// Too many edges were looked at.
     Looks,
-    /// A loop came to its limit, which none should.
-    Endless,
 }
 
 /// The units of counters, and the longest ways where these pay.
@@ -51,6 +50,18 @@ pub struct Units {
     pub(crate) before: Spread,
     waits: Pile,
     looks: u32,
+}
+
+/// Whether some nest is to be paid for.
+fn some_due(nests: &Nests) -> bool
+    ensures { result ≡ true → SomeIsDue nests.now }
+{
+    for id in 0..nests.count().min(MOST_INSTRS) {
+        if nests.at(id).due {
+            return true;
+        }
+    }
+    false
 }
 
 impl Units {
@@ -67,12 +78,14 @@ impl Units {
         })
     }
 
-    /// Whether so many more edges may be looked at.
+    /// Whether so many more edges may be looked at, and one at least.
     pub(crate) fn look(&mut self, edges: u32) -> bool
         ensures lengths { self.new.lengths ≡ self.old.lengths }
         ensures pay { self.new.pay ≡ self.old.pay }
+        ensures more { result ≡ true → self.old.looks < self.new.looks }
+        ensures past { result ≡ false → LOOKS < self.new.looks }
     {
-        self.looks = self.looks.saturating_add(edges);
+        self.looks = self.looks.saturating_add(edges.max(1));
         self.looks <= LOOKS
     }
 
@@ -89,6 +102,8 @@ impl Units {
         requires { pc < 4096 }
         ensures lengths { self.new.lengths ≡ self.old.lengths }
         ensures wanted { StayWanted graph.now.arcs self.old.pay self.new.pay }
+        ensures more { HaveGrown self.old.pay self.new.pay }
+        ensures others { (at k : ℕ) → at ≢ pc → unit_at self.new.pay at k ≡ unit_at self.old.pay at k }
     {
         let Some(arc) = graph.arc(pc, true) else {
             return;
@@ -99,12 +114,14 @@ impl Units {
         }
     }
 
-    /// Units that have grown at the places that wait are there where they are asked for.
-    pub(crate) fn carry_all(&mut self, graph: &Graph)
+    /// Units for LOOPs that are left out are where they are asked for.
+    pub(crate) fn carry_free(&mut self, graph: &Graph, jumps: &Jumps)
         ensures lengths { self.new.lengths ≡ self.old.lengths }
         ensures wanted { StayWanted graph.now.arcs self.old.pay self.new.pay }
+        ensures more { HaveGrown self.old.pay self.new.pay }
+        ensures stay { StayAtLoops graph.now.arcs jumps.now self.old.pay self.new.pay }
     {
-        go_back(graph, &mut self.pay, &mut self.waits);
+        go_back_free(graph, jumps, &mut self.pay, &mut self.waits);
     }
 
     /// What it costs that an edge sets a counter which is wanted where it leads.
@@ -203,6 +220,7 @@ impl Units {
         to: u16,
     ) -> bool
         requires { to < 4096 }
+        ensures { result ≡ false → PricePasses graph.now.arcs self.now.pay }
     {
         let mut lead = graph.first_into(to);
         for _ in 0..2 * u32::from(MOST_INSTRS) {
@@ -210,12 +228,9 @@ impl Units {
                 return true;
             };
             if let Some(arc) = graph.arc(edge.from, edge.branch) {
-                if let Some((counter, most)) = arc.sets() {
+                if let Some((counter, _)) = arc.sets() {
                     if counter == paying.nest.counter {
-                        let price = u64::from(self.unit(to, counter)).saturating_mul(u64::from(
-                            most,
-                        ));
-                        if u64::from(u32::MAX) < price {
+                        if u64::from(u32::MAX) < self.price(arc.to, &arc.counting) {
                             return false;
                         }
                         self.note_due(splitting, paying, round, edge.from);
@@ -235,17 +250,15 @@ impl Units {
         paying: &Paying,
         round: u16,
     ) -> Result<(), Lack>
-        ensures { StayWanted graph.now.arcs self.old.pay self.new.pay }
+        ensures wanted { StayWanted graph.now.arcs self.old.pay self.new.pay }
+        ensures lack { IfErr result (IsLack graph.now.arcs splitting.new self.new) }
     {
         let mut fits = true;
-        for _ in 0..u32::MAX {
-            let Some(pc) = self.waits.take() else {
-                return if fits { Ok(()) } else { Err(Lack::Passes) };
-            };
-            fits = fits && self.note_dearer(graph, splitting, paying, round, pc);
+        while let Some(pc) = self.waits.take() {
+            fits &= self.note_dearer(graph, splitting, paying, round, pc);
             go_back_from(graph, &mut self.pay, &mut self.waits, pc);
         }
-        Err(Lack::Endless)
+        if fits { Ok(()) } else { Err(Lack::Passes) }
     }
 
     /// The unit of a nest is at its LOOPs, and where it is asked for.
@@ -256,7 +269,8 @@ impl Units {
         paying: &Paying,
         round: u16,
     ) -> Result<(), Lack>
-        ensures { StayWanted graph.now.arcs self.old.pay self.new.pay }
+        ensures wanted { StayWanted graph.now.arcs self.old.pay self.new.pay }
+        ensures lack { IfErr result (IsLack graph.now.arcs splitting.new self.new) }
     {
         let piece = &paying.nest.piece;
         for x in piece.begin..piece.end {
@@ -277,7 +291,8 @@ impl Units {
         round: u16,
     ) -> Result<(), Lack>
         requires { id < 4096 }
-        ensures { StayWanted graph.now.arcs self.old.pay self.new.pay }
+        ensures wanted { StayWanted graph.now.arcs self.old.pay self.new.pay }
+        ensures lack { IfErr result (IsLack graph.now.arcs splitting.new self.new) }
     {
         let mut nest = splitting.nests.at(id);
         nest.due = false;
@@ -287,7 +302,9 @@ impl Units {
         if nest.tight {
             self.note_before(graph, splitting, &paying);
         }
-        paying.find_unit(graph, splitting, self)?;
+        if let Err(lack) = paying.find_unit(graph, splitting, self) {
+            return Err(lack);
+        }
         self.set_unit(graph, splitting, &paying, round)
     }
 
@@ -298,7 +315,8 @@ impl Units {
         splitting: &mut Splitting,
         round: u16,
     ) -> Result<bool, Lack>
-        ensures { StayWanted graph.now.arcs self.old.pay self.new.pay }
+        ensures wanted { StayWanted graph.now.arcs self.old.pay self.new.pay }
+        ensures lack { IfErr result (IsLack graph.now.arcs splitting.new self.new) }
     {
         let mut some = false;
         for id in (0..splitting.nests.count().min(MOST_INSTRS)).rev() {
@@ -321,7 +339,8 @@ impl Units {
         splitting: &mut Splitting,
     ) -> Result<(), Lack>
         requires { start < 4096 }
-        ensures { AreWanted graph.now.arcs self.new.pay }
+        ensures wanted { AreWanted graph.now.arcs self.new.pay }
+        ensures lack { IfErr result (IsLack graph.now.arcs splitting.new self.new) }
     {
         self.looks = 0;
         self.pay.fill_from(0, [0; 4]);
@@ -333,6 +352,10 @@ impl Units {
                 return Ok(());
             }
         }
-        Err(Lack::InTurn)
+        if some_due(&splitting.nests) {
+            Err(Lack::InTurn)
+        } else {
+            Ok(())
+        }
     }
 }

@@ -1,7 +1,7 @@
 //! Ways round that no counter pays for.
 
 ghost use Rattle.std.specs.Prelude.{◌≡◌, ◌<◌, ℕ, true, Some, List, Bool, IfSome, IfOk};
-ghost use Rattle.geos_potentials.specs.Rounds.{LeadsUnpaid, IsUnpaidWay, GoesRound};
+ghost use Rattle.geos_potentials.specs.Idle.{LeadsUnpaid, IsUnpaidWay, GoesRound};
 
 use crate::cycles::has_unpaid_cycle;
 use geos_rows::{Body, Table, edge_in, is_loop, two_tables};

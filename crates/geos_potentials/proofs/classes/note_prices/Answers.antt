@@ -20,7 +20,7 @@ loop-pc-preserved c =
     let p = c.loop-pc.pc in elim c.match-arc.branch [
       | in-Some w ↦ subst (ComeBehind arcs body.start place SetsTo) (sym w.prices-is)
           (behind-raised arcs body.start place SetsTo c.loop-pc.prices w.raise.new.spread p w.in-Some.arc w.sets.result
-          (in-body body p c.loop-pc.auto.pc c.loop-pc-test.true) (sym c.arc.ensures ∙ w.in-Some.is) w.sets.ensures w.raise.ensures
+          (in-body body p c.loop-pc.auto.pc c.loop-pc-test.true) (sym c.arc.ensures ∙ w.in-Some.is) w.sets.ensures w.raise.ensures.raised
           c.loop-pc.invariant)
       | in_default w ↦ subst (ComeBehind arcs body.start place SetsTo) (sym w.prices-is) c.loop-pc.invariant
     ]

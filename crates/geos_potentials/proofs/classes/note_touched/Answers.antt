@@ -20,7 +20,7 @@ loop-pc-preserved c =
     let p = c.loop-pc.pc in elim c.match-arc.branch [
       | in-Some w ↦ subst (ComeBehind arcs body.start place ForgetsIt) (sym w.touched-is)
           (behind-raised arcs body.start place ForgetsIt c.loop-pc.touched w.raise.new.spread p w.in-Some.arc w.forgets.result
-          (in-body body p c.loop-pc.auto.pc c.loop-pc-test.true) (sym c.arc.ensures ∙ w.in-Some.is) w.forgets.ensures w.raise.ensures
+          (in-body body p c.loop-pc.auto.pc c.loop-pc-test.true) (sym c.arc.ensures ∙ w.in-Some.is) w.forgets.ensures w.raise.ensures.raised
           c.loop-pc.invariant)
       | in_default w ↦ subst (ComeBehind arcs body.start place ForgetsIt) (sym w.touched-is) c.loop-pc.invariant
     ]

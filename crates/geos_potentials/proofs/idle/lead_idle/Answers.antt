@@ -6,7 +6,7 @@ use Rattle.geos_image.specs.Fields.{FieldsFit}
 use Rattle.geos_image.specs.declared.instr.Instr.{Instr}
 use Rattle.geos_verify.proofs.Places.{if_some}
 use Rattle.geos_rows.specs.Code.{is_loop}
-use Rattle.geos_potentials.specs.Rounds.{MayNotPay}
+use Rattle.geos_potentials.specs.Idle.{MayNotPay}
 use Rattle.geos_rows.proofs.Back.{loop-only}
 use Rattle.geos_rows.proofs.Bodies.{in-body}
 use Rattle.geos_potentials.proofs.Rising.{idle-noted}
