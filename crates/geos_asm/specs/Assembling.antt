@@ -8,11 +8,12 @@ use Rattle.geos_source.specs.Texts.{Code, code_of}
 use Rattle.geos_source.specs.Coded.{HasCode}
 use Rattle.geos_source.specs.Skeletons.{skeleton}
 use Rattle.geos_verify.specs.Rules.{IsChecked}
-use Rattle.geos_infer.specs.Code.{Forward}
-use Rattle.geos_infer.specs.Reached.{AllHoldWhereReached}
-use Rattle.geos_infer.specs.Theorem.{HasAccepted, FindsWhatThereIs, NoneIsAccepted, NothingHoldsIn}
+use Rattle.geos_rows.specs.Code.{Forward}
+use Rattle.geos_rows.specs.Reached.{AllHoldWhereReached}
+use Rattle.geos_potentials.specs.Accepted.{HasAccepted}
+use Rattle.geos_infer.specs.Theorem.{FindsWhatThereIs, NoneIsAccepted, NothingHoldsIn}
 use Rattle.geos_infer.specs.Causes.{Holds, tells_of_slots}
-use Rattle.geos_infer.specs.Why.{MeetAlike}
+use Rattle.geos_rows.specs.Why.{MeetAlike}
 use Rattle.geos_infer.specs.declared.cause.Cause.{Cause}
 use Rattle.geos_asm.specs.declared.error.AssembleError.{AssembleError}
 use Rattle.geos_asm.specs.declared.error.AssembleError.TheVariants.{BadLine, NoRows, Memory}

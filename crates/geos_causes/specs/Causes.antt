@@ -5,11 +5,11 @@ use Rattle.geos_image.specs.declared.row.SlotState.{SlotState}
 use Rattle.geos_image.specs.declared.row.SlotState.TheVariants.{Empty}
 use Rattle.geos_listing.specs.Rows.{texts_below, state_word}
 use Rattle.geos_verify.specs.Rows.{is_empty}
-use Rattle.geos_infer.specs.Joins.{slots_agree}
-use Rattle.geos_infer.specs.declared.edges.Edge.{Edge}
-use Rattle.geos_infer.specs.declared.apart.Apart.{Apart}
-use Rattle.geos_infer.specs.declared.apart.Coming.{Coming}
-use Rattle.geos_infer.specs.declared.cause.BackWay.{BackWay}
+use Rattle.geos_rows.specs.Joins.{slots_agree}
+use Rattle.geos_rows.specs.declared.edges.Edge.{Edge}
+use Rattle.geos_rows.specs.declared.apart.Apart.{Apart}
+use Rattle.geos_rows.specs.declared.apart.Coming.{Coming}
+use Rattle.geos_potentials.specs.declared.unpaid.BackWay.{BackWay}
 use Rattle.geos_infer.specs.declared.cause.Within.{Within}
 use Rattle.geos_infer.specs.declared.cause.LoopPair.{LoopPair}
 use Rattle.geos_infer.specs.declared.cause.ByWord.{ByWord}

@@ -2,7 +2,7 @@
 
 ghost use Rattle.std.specs.Prelude.{◌≡◌, ◌<◌, ◌++◌, length, IfSome, OnOk};
 ghost use Rattle.geos_image.specs.Legal.{text_end};
-ghost use Rattle.geos_infer.specs.Joins.{slots_agree};
+ghost use Rattle.geos_rows.specs.Joins.{slots_agree};
 ghost use Rattle.geos_causes.specs.Emptied.{name_text, emptied_text, emptied_item, emptied_items};
 
 use geos_explain::pc_part;

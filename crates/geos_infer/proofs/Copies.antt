@@ -1,88 +1,18 @@
 -- Lists that are made item after item from the routines and points of an image.
-use Rattle.std.proofs.Common.{◌≡◌, ◌∙◌, ◌<◌, ◌≤◌, ℕ, zero, suc, ◌+◌, ◌-◌, List, [], ◌∷◌, ◌++◌, length, take, replicate, Option, Some, true, slice_get, get_or, map, set, refl, sym, ap, subst, add-one, arith}
+use Rattle.std.proofs.Common.{◌≡◌, ◌∙◌, ◌<◌, ◌≤◌, ℕ, zero, suc, ◌+◌, List, [], ◌∷◌, ◌++◌, length, take, Option, Some, true, slice_get, refl, sym, ap, subst, add-one, arith}
 use Rattle.std.specs.Prelude.{IfSome, slice_index, slice_index_or}
-use Rattle.std.proofs.lemmas.List.{length-append, length-set, append_assoc, replicate-append-replicate, set-append_left, map-set, length-replicate, take_all}
+use Rattle.std.proofs.lemmas.List.{length-append, take_all}
 use Rattle.std.proofs.lemmas.Option.{slice_get_within}
 use Rattle.geos_image.specs.declared.instr.Instr.{Instr}
 use Rattle.geos_image.specs.declared.point.Point.{Point}
-use Rattle.geos_image.specs.declared.potential.Potential.{Potential}
 use Rattle.geos_image.specs.declared.routine.Routine.{Routine}
 use Rattle.geos_image.specs.declared.row.Row.{Row}
 use Rattle.geos_image.specs.Legal.{is_row}
 use Rattle.geos_image.specs.Parts.{Parts}
-use Rattle.geos_infer.specs.Flow.{row_of, known_at}
-use Rattle.geos_infer.specs.Numbers.{Numbers, steps_of, coefficients_of, numbers_of}
+use Rattle.geos_rows.specs.Flow.{row_of, known_at}
+use Rattle.geos_potentials.specs.Numbers.{Numbers}
 use Rattle.geos_infer.specs.Points.{PointsOf, RoutinesOf}
 use borrow.Author.Count.{below_more}
-
--- The same item everywhere, where none is written
-
-module _ {A : Type 0} (x : A) where
-  copy_at : (n pc : ℕ) → get_or (replicate n x) pc x ≡ x
-  copy_at zero pc = refl
-  copy_at (suc n) zero = refl
-  copy_at (suc n) (suc pc) = copy_at n pc
-
-  -- where no items are written, it is at each place
-  pub same-everywhere : (items : List A) (n pc : ℕ) → items ≡ [] → get_or (items ++ replicate n x) pc x ≡ x
-  same-everywhere items n pc none = ap (λ (xs : List A). get_or (xs ++ replicate n x) pc x) none ∙ copy_at n pc
-
-  -- items, and behind them the same one up to so many
-  abbrev pub filled : ℕ → List A → List A
-  filled n items = items ++ replicate (n - length items) x
-
-  -- with so many more of them written
-  pub longer : (k : ℕ) (old items : List A) → items ≡ old ++ replicate k x → length items ≡ length old + k
-  longer k old items is = ap length is ∙ length-append old (replicate k x) ∙ ap (λ (m : ℕ). length old + m) (length-replicate k x)
-
-  pub filled-reach : (n k : ℕ) (old items : List A) → length old + k ≤ n → items ≡ old ++ replicate k x → filled n items ≡ filled n old
-  filled-reach n k old items le is =
-      let rest : k + (n - length items) ≡ n - length old = omega (arith, longer k old items is) in
-      ap (λ (xs : List A). xs ++ replicate (n - length items) x) is
-      ∙ append_assoc old (replicate k x) (replicate (n - length items) x)
-      ∙ ap (λ (xs : List A). old ++ xs) (replicate-append-replicate k (n - length items) x ∙ ap (λ (m : ℕ). replicate m x) rest)
-
-  -- one of them may be set
-  pub filled-set : (n pc : ℕ) (y : A) (items : List A) → pc < length items → filled n (set items pc y) ≡ set (filled n items) pc y
-  filled-set n pc y items lt =
-      ap (λ (m : ℕ). set items pc y ++ replicate (n - m) x) (length-set items pc y)
-      ∙ sym (set-append_left items (replicate (n - length items) x) pc y lt)
-
-  -- one more may be written behind them
-  pub filled-push : (n : ℕ) (y : A) (items : List A) → length items < n → filled n (items ++ y ∷ []) ≡ set (filled n items) (length items) y
-  filled-push n y items lt =
-      let more : filled n (items ++ x ∷ []) ≡ filled n items = filled-reach n 1 items (items ++ x ∷ []) (omega arith) refl in
-      let last : set (items ++ x ∷ []) (length items) y ≡ items ++ y ∷ [] = set-last items in
-      let within : length items < length (items ++ x ∷ []) = omega (arith, length-append items (x ∷ [])) in
-      ap (filled n) (sym last) ∙ filled-set n (length items) y (items ++ x ∷ []) within ∙ ap (λ (xs : List A). set xs (length items) y) more
-    where
-      set-last : (xs : List A) → set (xs ++ x ∷ []) (length xs) y ≡ xs ++ y ∷ []
-      set-last [] = refl
-      set-last (z ∷ xs) = ap (λ (ys : List A). z ∷ ys) (set-last xs)
-
--- Potentials
-
-abbrev none : Potential
-none = record { constant = 0; coefficients = [] }
-
-pub numbers-at : (potentials : List Potential) (pc : ℕ) (p : Potential) → ((other : Potential) → p ≡ get_or potentials pc other)
-    → (p.constant ≡ get_or (numbers_of potentials).steps pc 0) × (p.coefficients ≡ get_or (numbers_of potentials).coefficients pc [])
-numbers-at [] pc p at = (ap steps_of (at none), ap coefficients_of (at none))
-numbers-at (q ∷ potentials) zero p at = (ap steps_of (at none), ap coefficients_of (at none))
-numbers-at (q ∷ potentials) (suc pc) p at = numbers-at potentials pc p at
-
-abbrev both : List ℕ → List (List ℕ) → Numbers
-both steps coefficients = record { steps = steps; coefficients = coefficients }
-
-pub numbers-set : (potentials : List Potential) (pc : ℕ) (p : Potential)
-    → numbers_of (set potentials pc p) ≡ record {
-      steps = set (numbers_of potentials).steps pc p.constant;
-      coefficients =
-          set (numbers_of potentials).coefficients pc p.coefficients;
-    }
-numbers-set potentials pc p =
-    ap (λ (steps : List ℕ). both steps (map coefficients_of (set potentials pc p))) (map-set steps_of potentials pc p)
-    ∙ ap (both (set (map steps_of potentials) pc p.constant)) (map-set coefficients_of potentials pc p)
 
 -- Routines
 

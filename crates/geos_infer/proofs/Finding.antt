@@ -20,22 +20,24 @@ use Rattle.geos_verify.specs.Rules.{has_place, names_empty_slot, refusal, HasPoi
 use Rattle.geos_verify.proofs.Places.{item_at, place_bounds, places-length, given-place}
 use Rattle.geos_infer.specs.declared.error.InferError.{InferError}
 use Rattle.geos_infer.specs.declared.error.InferError.TheVariants.{NoRows}
-use Rattle.geos_infer.specs.Joins.{clean}
-use Rattle.geos_infer.specs.Code.{Edge, IsPcOf, Forward, ForwardIn, SameCode, instrs_of, instr_of, edge_end, edge_row}
-use Rattle.geos_infer.specs.Solutions.{RowsHoldIn, StepsHoldIn, NoRowsHoldIn, NoStepsHoldIn, call_steps}
-use Rattle.geos_infer.specs.Flow.{row_of, known_at, KnownAt, edge_number, Flowing, HaveFlowed}
-use Rattle.geos_infer.specs.Numbers.{Numbers, zeros}
-use Rattle.geos_infer.specs.Count.{Counting, CountedIn, AreCounted}
+use Rattle.geos_rows.specs.Joins.{clean}
+use Rattle.geos_rows.specs.Code.{Edge, IsPcOf, Forward, ForwardIn, SameCode, instrs_of, instr_of, edge_end, edge_row}
+use Rattle.geos_rows.specs.Solutions.{RowsHoldIn, NoRowsHoldIn}
+use Rattle.geos_potentials.specs.Steps.{StepsHoldIn, NoStepsHoldIn, call_steps}
+use Rattle.geos_rows.specs.Flow.{row_of, known_at, KnownAt, edge_number, Flowing, HaveFlowed}
+use Rattle.geos_potentials.specs.Numbers.{Numbers, zeros}
+use Rattle.geos_potentials.specs.Count.{Counting, CountedIn, AreCounted}
 use Rattle.geos_infer.specs.Points.{potential_of, PointsOf, RoutinesOf}
-use Rattle.geos_infer.specs.Theorem.{HasAccepted, FindsWhatThereIs, NoneIsAccepted, NothingHoldsIn, NamesRoutine, with_points}
+use Rattle.geos_potentials.specs.Accepted.{HasAccepted}
+use Rattle.geos_infer.specs.Theorem.{FindsWhatThereIs, NoneIsAccepted, NothingHoldsIn, NamesRoutine, with_points}
 use Rattle.geos_verify.proofs.Pairwise.{both}
 use Rattle.geos_verify.proofs.RowsFit.{fits-trans}
-use Rattle.geos_infer.proofs.Cleaning.{clean-least}
-use Rattle.geos_infer.proofs.Bodies.{lies}
+use Rattle.geos_rows.proofs.Cleaning.{clean-least}
+use Rattle.geos_rows.proofs.Bodies.{lies}
 use Rattle.geos_infer.proofs.Borrowing.{routines-too}
-use Rattle.geos_infer.proofs.Flows.{all-reached}
-use Rattle.geos_infer.proofs.Ends.{code-at, code-length, code-place, same-edge}
-use Rattle.geos_infer.proofs.Wanted.{row_at, constant_at, map-get, routine-at, ends-at, closed-wanted, rows-wanted, steps-wanted, forward-in}
+use Rattle.geos_rows.proofs.Flows.{all-reached}
+use Rattle.geos_rows.proofs.Ends.{code-at, code-length, code-place, same-edge, map-get, ends-at}
+use Rattle.geos_infer.proofs.Wanted.{row_at, constant_at, routine-at, closed-wanted, rows-wanted, steps-wanted, forward-in}
 use Rattle.geos_infer.proofs.Accepting.{Beside, accepts}
 
 number-last : (k n : ℕ) (b : Bool) → k < n → edge_number k b < 2 * n

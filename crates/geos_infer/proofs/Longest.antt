@@ -1,24 +1,23 @@
 -- Ways in routines in which none leads back.
-use Rattle.std.proofs.Common.{◌≡◌, ◌≤◌, ◌<◌, ◌+◌, ℕ, Bool, true, false, List, [], ◌∷◌, length, Option, Some, None, get_or, set, refl, sym, ap, ◌∙◌, subst, arith, inl, inr, ◌⊎◌}
+use Rattle.std.proofs.Common.{◌≡◌, ◌≤◌, ◌<◌, ◌+◌, ℕ, Bool, true, false, List, [], ◌∷◌, length, Option, Some, None, get_or, set, refl, sym, ◌∙◌, subst, arith, inl, inr, ◌⊎◌}
 use Rattle.std.specs.Prelude.{max}
 use Rattle.std.proofs.lemmas.Bool.{cases_eq, cases_lt, false≢true}
 use Rattle.std.proofs.lemmas.List.{get_or-set_same, get_or-set_other}
-use Rattle.std.proofs.lemmas.Option.{same_Some}
-use Rattle.geos_image.specs.declared.point.Point.{Point}
 use Rattle.geos_image.specs.declared.row.Row.{Row}
 use Rattle.geos_image.specs.Parts.{Parts, start_of}
 use Rattle.geos_infer.specs.Ahead.{OnlyAhead, TakesAlong, NonePasses, GoesOn, IsLongestOver, IsLongestFrom}
-use Rattle.geos_infer.specs.Causes.{LoopsTo, ComesRound, IsKept, NoOtherHolds}
-use Rattle.geos_infer.specs.Code.{IsPcOf, edge_end}
-use Rattle.geos_infer.specs.Numbers.{zeros}
-use Rattle.geos_infer.specs.Solutions.{most_steps}
-use Rattle.geos_infer.specs.Taken.{Place, Takes, taken_at}
-use Rattle.geos_infer.specs.Trails.{IsTrail}
-use Rattle.geos_infer.specs.Why.{LeadsTo}
-use Rattle.geos_infer.specs.declared.cause.BackWay.{BackWay}
+use Rattle.geos_infer.specs.Causes.{LoopsTo, ComesRound, NoOtherHolds}
+use Rattle.geos_potentials.specs.Idle.{IsKept}
+use Rattle.geos_rows.specs.Code.{IsPcOf}
+use Rattle.geos_potentials.specs.Numbers.{zeros}
+use Rattle.geos_potentials.specs.Steps.{most_steps, taken_at}
+use Rattle.geos_infer.specs.Taken.{Place, Takes}
+use Rattle.geos_potentials.specs.Trails.{IsTrail}
+use Rattle.geos_rows.specs.Why.{LeadsTo}
+use Rattle.geos_potentials.specs.declared.unpaid.BackWay.{BackWay}
 use Rattle.geos_infer.specs.declared.cause.Cause.TheVariants.{SlotsDiffer, NoLoop, SetWithin, TouchedWithin, TouchedBefore, InTurn, StepsPass, WordUnbounded, NumberHigh, GivenUp, StepsMayPass, NoSteps, Unknown}
-use Rattle.geos_infer.proofs.Came.{comes-to}
-use Rattle.geos_infer.proofs.Ends.{code-at}
+use Rattle.geos_rows.proofs.Came.{comes-to}
+use Rattle.geos_rows.proofs.Ends.{code-at, leads-one}
 
 -- a way begins in its routine
 begins-in : (image : Parts) (r pc : ℕ) (branches : List Bool) (steps : ℕ) → TakesAlong image r pc branches steps → IsPcOf image r pc
@@ -131,12 +130,6 @@ none-other image r (NoSteps back) none other holds =
 none-other image r Unknown none other holds = other refl
 
 -- The edges of one instruction
-
--- an edge of an instruction leads to one place
-pub leads-one : (image : Parts) (pc : ℕ) (branch : Bool) (a b : ℕ) → LeadsTo image pc branch a → LeadsTo image pc branch b → a ≡ b
-leads-one image pc branch a b x y =
-    let same : x.point ≡ y.point = same_Some x.point y.point (sym x.there ∙ y.there) in
-    sym x.leads ∙ ap (λ (point : Point). edge_end pc point.instr branch) same ∙ y.leads
 
 pub over-some : (image : Parts) (r pc to rest : ℕ) (branch : Bool) (longest : List ℕ) → LeadsTo image pc branch to
     → IsPcOf image r to → rest ≡ get_or longest to 0 → IsLongestOver image r pc branch longest rest

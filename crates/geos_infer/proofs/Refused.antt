@@ -1,10 +1,8 @@
 -- What ways take is paid for in an image that is accepted.
-use Rattle.std.proofs.Common.{◌≡◌, ◌≤◌, ◌<◌, ℕ, zero, suc, ◌+◌, ◌*◌, Bool, true, false, List, [], ◌∷◌, length, map, take, drop, Option, Some, None, slice_get, get_or, set, refl, sym, ap, ◌∙◌, subst, arith, inl, inr, ◌⊎◌}
-use Rattle.std.specs.Prelude.{◌&&◌, ◌||◌, ◌==◌, if◌then◌else◌}
-use Rattle.std.specs.List.{list_any}
+use Rattle.std.proofs.Common.{◌≡◌, ◌≤◌, ℕ, suc, ◌+◌, ◌*◌, Bool, true, false, List, [], ◌∷◌, length, Option, Some, None, slice_get, get_or, set, refl, sym, ap, ◌∙◌, subst, arith, inl, inr, ◌⊎◌}
+use Rattle.std.specs.Prelude.{if◌then◌else◌}
 use Rattle.std.proofs.lemmas.Bool.{cases_lt, false≢true}
-use Rattle.std.proofs.lemmas.List.{set-get_or, get_or_past, take-map, drop-map}
-use Rattle.std.proofs.lemmas.Option.{same_Some, slice_get_within, get_or_from_slice_get}
+use Rattle.std.proofs.lemmas.List.{set-get_or, get_or_past}
 use Rattle.geos_opcodes.specs.declared.opcode.Opcode.{Opcode}
 use Rattle.geos_opcodes.specs.declared.opcode.Opcode.TheVariants.{Setk, Setkw, Loop, Call, Ret, Jmp}
 use Rattle.geos_image.specs.declared.instr.Instr.{Instr}
@@ -12,28 +10,26 @@ use Rattle.geos_image.specs.declared.row.Row.{Row}
 use Rattle.geos_image.specs.declared.potential.Potential.{Potential}
 use Rattle.geos_image.specs.declared.routine.Routine.{Routine}
 use Rattle.geos_image.specs.declared.point.Point.{Point}
-use Rattle.geos_image.specs.Parts.{Parts, start_of}
-use Rattle.geos_image.specs.Ranges.{PointFits, PotentialFits}
+use Rattle.geos_image.specs.Parts.{Parts}
 use Rattle.geos_image.specs.Keys.{branches, falls_through}
 use Rattle.geos_verify.specs.Rows.{bound}
 use Rattle.geos_verify.specs.Potentials.{budget_of, pays_along, pays_branching}
 use Rattle.geos_verify.specs.Rules.{returns, HasPoint}
-use Rattle.geos_verify.specs.Touched.{calls, counts, points_of, touches_here, touches_within, touches, touched_by}
+use Rattle.geos_verify.specs.Touched.{calls, counts, touches, touched_by}
 use Rattle.geos_verify.specs.declared.place.Place.{Place as Known}
 use Rattle.geos_verify.specs.Places.{places}
-use Rattle.geos_verify.proofs.Places.{place_true, point-of as find-point}
 use Rattle.geos_semantics.specs.Lists.{dot}
 use Rattle.geos_semantics.specs.Theorem.{value}
-use Rattle.geos_verify.proofs.Leads.{leads-along, leads-branching, may_return, point_at}
+use Rattle.geos_verify.proofs.Leads.{leads-along, leads-branching, may_return}
 use Rattle.geos_semantics.proofs.Paid.{pays-value, pays_setting-value, pays_taking-value, pays_calling-value, spent-at}
-use Rattle.geos_infer.specs.Code.{IsPcOf, SameCode, instr_of, instrs_of}
-use Rattle.geos_infer.specs.Solutions.{call_steps}
-use Rattle.geos_infer.specs.Taken.{Place, Counts, Takes, taken_at, word_at}
-use Rattle.geos_infer.specs.Theorem.{HasAccepted}
-use Rattle.geos_infer.specs.Why.{LeadsTo}
-use Rattle.geos_infer.proofs.Asks.{called}
-use Rattle.geos_infer.proofs.Ends.{code-at, place-code-at}
-use Rattle.geos_infer.proofs.Wanted.{along-steps, ends-at, map-get, pays-steps}
+use Rattle.geos_rows.specs.Code.{IsPcOf, instr_of}
+use Rattle.geos_potentials.specs.Steps.{call_steps, taken_at}
+use Rattle.geos_infer.specs.Taken.{Place, Counts, Takes, word_at}
+use Rattle.geos_potentials.specs.Accepted.{HasAccepted}
+use Rattle.geos_rows.specs.Why.{LeadsTo}
+use Rattle.geos_potentials.proofs.Asks.{called}
+use Rattle.geos_rows.proofs.Ends.{place-code-at, map-get}
+use Rattle.geos_potentials.proofs.Accepted.{along-steps, pays-steps, touches-same, same-instr, four-at}
 
 -- Potentials and counters
 
@@ -53,50 +49,6 @@ pub dot-zeros : (cs ks : List ℕ) → ((k : ℕ) → get_or ks k 0 ≡ 0) → d
 dot-zeros [] ks none = refl
 dot-zeros (c ∷ cs) [] none = refl
 dot-zeros (c ∷ cs) (k ∷ ks) none = let first : c * k ≡ 0 = rw (none 0) (omega arith) in omega (arith, first, dot-zeros cs ks (λ n. none (suc n)))
-
--- Which counters a routine touches is said by the code
-
-list_any-map : (g : Instr → Bool) (points : List Point) → list_any (λ point. g point.instr) points ≡ list_any g (map instr_of points)
-list_any-map g [] = refl
-list_any-map g (point ∷ points) = ap (λ (b : Bool). g point.instr || b) (list_any-map g points)
-
-list_any-same : (f g : Instr → Bool) (code : List Instr) → ((i : Instr) → f i ≡ g i) → list_any f code ≡ list_any g code
-list_any-same f g [] same = refl
-list_any-same f g (i ∷ code) same = rw (same i, list_any-same f g code same) refl
-
--- the instructions of a routine
-abbrev code_of : List Routine → List Instr → ℕ → List Instr
-code_of routines code r = elim (slice_get routines r) [ None ↦ [] | Some routine ↦ take routine.count (drop (start_of routines r) code) ]
-
-points-code : (image : Parts) (r : ℕ) → map instr_of (points_of image r) ≡ code_of image.routines (instrs_of image) r
-points-code image r = by_routine (slice_get image.routines r)
-  where
-    by_routine : (o : Option Routine)
-        → map instr_of (elim o [ None ↦ [] | Some routine ↦ take routine.count (drop (start_of image.routines r) image.points) ])
-        ≡ elim o [ None ↦ [] | Some routine ↦ take routine.count (drop (start_of image.routines r) (instrs_of image)) ]
-    by_routine None = refl
-    by_routine (Some routine) =
-        sym (take-map instr_of routine.count (drop (start_of image.routines r) image.points))
-        ∙ ap (take routine.count) (sym (drop-map instr_of (start_of image.routines r) image.points))
-
-touches-within : (image other : Parts) → SameCode image other → (depth k r : ℕ) → touches_within depth other k r ≡ touches_within depth image k r
-touches-within image other same zero k r = refl
-touches-within image other same (suc depth) k r =
-    let f : Instr → Bool = touches_here (touches_within depth other k) k in
-    let g : Instr → Bool = touches_here (touches_within depth image k) k in
-    let equal : (i : Instr) → f i ≡ g i = λ i. ap (λ (b : Bool). (counts i.opcode && i.a == k) || (calls i.opcode && b))
-    (touches-within image other same depth k i.imm) in
-    let code : code_of other.routines (instrs_of other) r ≡ code_of image.routines (instrs_of image) r =
-    ap (λ (routines : List Routine). code_of routines (instrs_of other) r) same.routines
-    ∙ ap (λ (code : List Instr). code_of image.routines code r) same.instrs in
-    list_any-map f (points_of other r) ∙ ap (list_any f) (points-code other r) ∙ ap (list_any f) code
-    ∙ list_any-same f g (code_of image.routines (instrs_of image) r) equal
-    ∙ ap (list_any g) (sym (points-code image r)) ∙ sym (list_any-map g (points_of image r))
-
-pub touches-same : (image other : Parts) → SameCode image other → (k r : ℕ) → touches other k r ≡ touches image k r
-touches-same image other same k r =
-    ap (λ (routines : List Routine). touches_within (length routines) other k r) same.routines
-    ∙ touches-within image other same (length image.routines) k r
 
 -- Edges
 
@@ -150,23 +102,6 @@ ends _ = inr (inl refl)
 -- Ways
 
 module _ (image : Parts) (has : HasAccepted image) (r : ℕ) (routine : Routine) (there : slice_get has.other.routines r ≡ Some routine) where
-  -- an instruction is the same in the image that is accepted
-  pub same-instr : (pc : ℕ) (old : Point) (point : Known) → slice_get image.points pc ≡ Some old
-      → slice_get (places has.other) pc ≡ Some point → point.instr ≡ old.instr
-  same-instr pc old point read at =
-      same_Some point.instr old.instr (sym (place-code-at has.other pc point at) ∙ ap (λ (code : List Instr). slice_get code pc) has.same.instrs
-      ∙ code-at image pc old read)
-
-  pub point-of : (pc : ℕ) → IsPcOf image r pc → (point : Known) × HasPoint has.other r routine pc point
-  point-of pc within =
-      let low : start_of has.other.routines r ≤ pc = subst (λ (routines : List Routine). start_of routines r ≤ pc)
-      (sym has.same.routines) within.above in
-      let high : pc < start_of has.other.routines (r + 1) = subst (λ (routines : List Routine). pc < start_of routines (r + 1))
-      (sym has.same.routines) within.below in
-      let end = ends-at has.other.routines r routine there in
-      point_at has.other.keyed has.other r routine pc has.checked.0 there
-      (place_true (start_of has.other.routines r) routine.count pc low (omega (arith, high, end)))
-
   takes-here : (pc : ℕ) (old : Point) → slice_get image.points pc ≡ Some old → taken_at image pc ≡ 1 + call_steps image old.instr
   takes-here pc old read = rw (read, taken_at) refl
 
@@ -174,13 +109,6 @@ module _ (image : Parts) (has : HasAccepted image) (r : ℕ) (routine : Routine)
   calls-same i j same = ap (call_steps has.other) same
       ∙ ap (λ (routines : List Routine). if calls j.opcode then (elim (slice_get routines j.imm) [ None ↦ 0 | Some routine ↦ routine.budget ]) else 0)
       has.same.routines
-
-  pub four-at : (pc : ℕ) (place : Known) → slice_get (places has.other) pc ≡ Some place → PotentialFits place.potential
-  four-at pc place read =
-      let found = find-point has.other pc place read in
-      let fitting : PointFits found.0 = subst PointFits (get_or_from_slice_get has.other.points pc found.0 found.0 found.1)
-      (has.fits.points pc found.0 (slice_get_within has.other.points pc found.0 found.1)) in
-      subst PotentialFits (sym found.2.potential) fitting.potential
 
   -- what an instruction takes is paid for, also that of a return
   pub instr-paid : (pc : ℕ) (point : Known) → HasPoint has.other r routine pc point → taken_at image pc ≤ point.potential.constant
@@ -225,19 +153,19 @@ module _ (image : Parts) (has : HasAccepted image) (r : ℕ) (routine : Routine)
         → Counts (word_at rows pc leads.point.instr.b) image leads.point.instr leads.point.instr.opcode branch before after
         → (next : Known) × HasPoint has.other r routine to next × (value next.potential after + taken_at image pc ≤ value point.potential before)
     edge-value pc to before after point false within at leads counts =
-        let same = same-instr pc leads.point point leads.there at.read in
+        let same = same-instr image has r routine there pc leads.point point leads.there at.read in
         let falls : falls_through point.instr.opcode ≡ true = ap (λ (x : Instr). falls_through x.opcode) same ∙ leads.has in
         let L = leads-along has.other.keyed has.other has.checked.0 has.checked.1 r pc routine point at point.instr.opcode refl falls in
         let here = subst (λ (x : Instr). Counts (word_at rows pc x.b) image x x.opcode false before after) (sym same) counts in
         let paid = along-value
         (word_at rows pc point.instr.b) image has.other point.instr point.instr.opcode point.row point.potential L.point.potential
         before after (most pc point within at.read point.instr.b) (touches-same image has.other has.same) (four-at
-        (pc + 1) L.point L.has.read).four L.pays here in
+        image has r routine there (pc + 1) L.point L.has.read).four L.pays here in
         let taken = takes-here pc leads.point leads.there in
         let calls_it = calls-same point.instr leads.point.instr same in
         (L.point, subst (λ (n : ℕ). HasPoint has.other r routine n L.point) leads.leads L.has, omega (arith, paid, taken, calls_it))
     edge-value pc to before after point true within at leads counts =
-        let same = same-instr pc leads.point point leads.there at.read in
+        let same = same-instr image has r routine there pc leads.point point leads.there at.read in
         let goes : branches point.instr.opcode ≡ true = ap (λ (x : Instr). branches x.opcode) same ∙ leads.has in
         let L = leads-branching has.other.keyed has.other has.checked.0 has.checked.1 r pc routine point at point.instr.opcode refl goes in
         let here = subst (λ (x : Instr). Counts (word_at rows pc x.b) image x x.opcode true before after) (sym same) counts in

@@ -1,12 +1,12 @@
 -- The rows and numbers of steps of an accepted image hold.
-use Rattle.std.proofs.Common.{◌≡◌, ◌≢◌, ℕ, zero, suc, ◌+◌, ◌*◌, ◌^◌, ◌<◌, ◌≤◌, Bool, true, false, List, [], ◌∷◌, length, map, take, ◌-◌, Some, None, slice_get, get_or, refl, sym, ap, ◌∙◌, subst, arith, add-one, inl, inr}
-use Rattle.std.specs.Prelude.{◌&&◌, nat_le, if◌then◌else◌, slice_index, slice_set, option_map}
-use Rattle.std.proofs.lemmas.Bool.{and_parts, leb-true, cases_lt}
+use Rattle.std.proofs.Common.{◌≡◌, ◌≢◌, ℕ, suc, ◌+◌, ◌^◌, ◌<◌, ◌≤◌, Bool, true, false, List, [], ◌∷◌, length, map, take, ◌-◌, Some, None, slice_get, get_or, refl, sym, ap, ◌∙◌, subst, arith, inl, inr}
+use Rattle.std.specs.Prelude.{if◌then◌else◌, option_map}
+use Rattle.std.proofs.lemmas.Bool.{cases_lt}
 use Rattle.std.proofs.lemmas.List.{length-map}
 use Rattle.std.proofs.lemmas.List.Sums.{sum_by-cons}
 use Rattle.std.proofs.lemmas.Option.{slice_get-map, slice_get_within, get_or_from_slice_get, same_Some}
 use Rattle.geos_opcodes.specs.declared.opcode.Opcode.{Opcode}
-use Rattle.geos_opcodes.specs.declared.opcode.Opcode.TheVariants.{Setk, Setkw, Loop, Call}
+use Rattle.geos_opcodes.specs.declared.opcode.Opcode.TheVariants.{Loop, Call}
 use Rattle.geos_image.specs.declared.instr.Instr.{Instr}
 use Rattle.geos_image.specs.declared.row.Row.{Row}
 use Rattle.geos_image.specs.declared.potential.Potential.{Potential}
@@ -15,36 +15,30 @@ use Rattle.geos_image.specs.Parts.{Parts, start_of, total_count}
 use Rattle.geos_image.specs.Legal.{is_image}
 use Rattle.geos_image.specs.Ranges.{ImageFits, PointFits}
 use Rattle.geos_image.proofs.Instrs.{image_parts}
-use Rattle.geos_image.proofs.Starts.{start_of-next, start_of-le}
+use Rattle.geos_image.proofs.Starts.{start_of-le}
 use Rattle.geos_verify.specs.declared.place.Place.{Place}
-use Rattle.geos_verify.specs.Lists.{all2}
 use Rattle.geos_verify.specs.Places.{places}
 use Rattle.geos_image.specs.Keys.{branches}
-use Rattle.geos_verify.specs.Rows.{fits, bound, row_along, row_branching}
-use Rattle.geos_verify.specs.Potentials.{pays, pays_setting, pays_calling, budget_of, pays_along, pays_branching}
-use Rattle.geos_verify.specs.Touched.{calls, touched_by}
+use Rattle.geos_verify.specs.Rows.{fits, row_along, row_branching}
+use Rattle.geos_verify.specs.Potentials.{pays_branching}
+use Rattle.geos_verify.specs.Touched.{calls}
 use Rattle.geos_verify.specs.Rules.{has_place, returns, names_empty_slot, tests, HasPoint, IsChecked}
 use Rattle.geos_verify.proofs.Passed.{passed}
 use Rattle.geos_verify.proofs.Places.{place_bounds, place_true, item_at, places-length, point-of}
 use Rattle.geos_verify.proofs.Leads.{leads-along, leads-branching, may_return, may_begin, begins-within}
-use Rattle.geos_infer.specs.Code.{Edge, IsPcOf, ClosedIn, Entered, EnteredIn, SameCode, Forward, ForwardIn, instrs_of, edge_row}
-use Rattle.geos_infer.specs.Solutions.{RowsHoldIn, StepsHoldIn, call_steps}
-use Rattle.geos_infer.proofs.Bodies.{lies}
-use Rattle.geos_infer.proofs.Ends.{code-length, code-place, place-code-at, same-edge}
-use Rattle.geos_infer.proofs.Asks.{called}
+use Rattle.geos_rows.specs.Code.{Edge, IsPcOf, ClosedIn, Entered, EnteredIn, SameCode, Forward, ForwardIn, instrs_of, edge_row}
+use Rattle.geos_rows.specs.Solutions.{RowsHoldIn}
+use Rattle.geos_potentials.specs.Steps.{StepsHoldIn, call_steps}
+use Rattle.geos_rows.proofs.Bodies.{lies}
+use Rattle.geos_rows.proofs.Ends.{code-length, code-place, place-code-at, same-edge, map-get, ends-at}
+use Rattle.geos_potentials.proofs.Asks.{called}
+use Rattle.geos_potentials.proofs.Accepted.{along-steps, pays-steps}
 
 abbrev pub row_at : Place → Row
 row_at place = place.row
 
 abbrev pub constant_at : Place → ℕ
 constant_at place = place.potential.constant
-
--- what was mapped
-pub map-get : {X Y : Type 0} (f : X → Y) (xs : List X) (k : ℕ) (y : Y) → slice_get (map f xs) k ≡ Some y → (x : X)
-    × (slice_get xs k ≡ Some x) × (f x ≡ y)
-map-get f [] k y e = absurd cc
-map-get f (x ∷ xs) zero y e = (x, refl, same_Some (f x) y e)
-map-get f (x ∷ xs) (suc k) y e = map-get f xs k y e
 
 -- each pc is in a routine
 pub routine-at : (routines : List Routine) (pc : ℕ) → pc < total_count routines → (r : ℕ) × (routine : Routine)
@@ -67,38 +61,6 @@ has-point o legal pc point read =
     let lt = slice_get_within (places o) pc point read in
     let at = routine-at o.routines pc (omega (arith, places-length o)) in
     (at.0, at.1, record { there = at.2; within = place_true (start_of o.routines at.0) at.1.count pc at.3 at.4; read = read })
-
--- a routine ends where the next one begins
-pub ends-at : (routines : List Routine) (r : ℕ) (routine : Routine) → slice_get routines r ≡ Some routine
-    → start_of routines (r + 1) ≡ start_of routines r + routine.count
-ends-at routines r routine there = ap (start_of routines) (add-one r) ∙ start_of-next routines r routine there
-
-setting-steps : (k n : ℕ) (p q : Potential) → pays_setting k n p q ≡ true → q.constant + 1 + 0 ≤ p.constant
-setting-steps k n p q h =
-    let a = and_parts (nat_le (q.constant + 1 + slice_index q.coefficients k * n) p.constant)
-    (all2 nat_le (slice_set q.coefficients k 0) p.coefficients) h in
-    let le = leb-true (q.constant + 1 + slice_index q.coefficients k * n) p.constant a.0 in
-    omega arith
-
-pub pays-steps : (p q : Potential) → pays p q ≡ true → q.constant + 1 + 0 ≤ p.constant
-pays-steps p q h =
-    let le = leb-true (q.constant + 1) p.constant
-    ((and_parts (nat_le (q.constant + 1) p.constant) (all2 nat_le q.coefficients p.coefficients) h).0) in
-    omega arith
-
-calling-steps : (budget : ℕ) (touched : List Bool) (p q : Potential) → pays_calling budget touched p q ≡ true → q.constant + 1 + budget ≤ p.constant
-calling-steps budget touched p q h =
-    let a = and_parts (nat_le (q.constant + 1 + budget) p.constant && all2 nat_le q.coefficients p.coefficients) _ h in
-    leb-true (q.constant + 1 + budget) p.constant
-    ((and_parts (nat_le (q.constant + 1 + budget) p.constant) (all2 nat_le q.coefficients p.coefficients) a.0).0)
-
-pub along-steps : (image : Parts) (i : Instr) (opcode : Opcode) (row : Row) (p q : Potential) → pays_along image i opcode row p q ≡ true
-    → q.constant + 1 + called image i opcode ≤ p.constant
-along-steps image i Setk row p q h = setting-steps i.a i.imm p q h
-along-steps image i Setkw row p q h = setting-steps i.a (bound row i.b) p q h
-along-steps image i Loop row p q h = setting-steps i.a 0 p q h
-along-steps image i Call row p q h = calling-steps (budget_of image i.imm) (touched_by image i.imm) p q h
-along-steps image i _ row p q h = pays-steps p q h
 
 branching-steps : (image : Parts) (i : Instr) (opcode : Opcode) (p q : Potential) → opcode ≢ Loop → branches opcode ≡ true
     → pays_branching i opcode p q ≡ true → q.constant + 1 + called image i opcode ≤ p.constant

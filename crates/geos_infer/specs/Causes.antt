@@ -1,29 +1,27 @@
 -- Causes for which no rows or no numbers of steps are found for a routine, and what each says.
-use Rattle.std.specs.Prelude.{◌≡◌, ◌≢◌, ◌≤◌, ◌<◌, ◌⊎◌, ℕ, Bool, ◌&&◌, List, [], ◌∷◌, ◌+◌, true, false, ◌==◌, Option, None, Some, length, slice_get}
+use Rattle.std.specs.Prelude.{◌≡◌, ◌≢◌, ◌≤◌, ◌<◌, ℕ, Bool, ◌&&◌, List, true, false, ◌==◌, Option, None, length}
 use Rattle.geos_opcodes.specs.declared.opcode.Opcode.{Opcode}
 use Rattle.geos_opcodes.specs.declared.opcode.Opcode.TheVariants.{Setk, Setkw, Loop}
 use Rattle.geos_image.specs.declared.instr.Instr.{Instr}
-use Rattle.geos_image.specs.declared.point.Point.{Point}
 use Rattle.geos_image.specs.declared.row.Row.{Row}
-use Rattle.geos_image.specs.Parts.{Parts, start_of}
+use Rattle.geos_image.specs.Parts.{Parts}
 use Rattle.geos_verify.specs.Rows.{bound}
-use Rattle.geos_verify.specs.Touched.{calls, noted, touches}
-use Rattle.geos_infer.specs.Code.{IsPcOf}
-use Rattle.geos_infer.specs.Flow.{row_of, known_at}
-use Rattle.geos_infer.specs.Reached.{FitWhereReached}
-use Rattle.geos_infer.specs.Theorem.{HasAccepted}
-use Rattle.geos_infer.specs.Why.{LeadsTo, AreApart, MeetAlike}
-use Rattle.geos_infer.specs.Trails.{IsTrail}
+use Rattle.geos_rows.specs.Code.{IsPcOf}
+use Rattle.geos_rows.specs.Flow.{row_of, known_at}
+use Rattle.geos_rows.specs.Reached.{FitWhereReached}
+use Rattle.geos_potentials.specs.Accepted.{HasAccepted}
+use Rattle.geos_rows.specs.Why.{LeadsTo, AreApart, MeetAlike}
+use Rattle.geos_potentials.specs.Trails.{IsTrail}
 use Rattle.geos_infer.specs.Taken as taken
 use Rattle.geos_infer.specs.Ahead.{MayPass, NonePasses}
-use Rattle.geos_infer.specs.declared.spent.Touching.{Touching}
-use Rattle.geos_infer.specs.declared.cause.BackWay.{BackWay}
+use Rattle.geos_potentials.specs.declared.unpaid.BackWay.{BackWay}
 use Rattle.geos_infer.specs.declared.cause.Within.{Within}
 use Rattle.geos_infer.specs.declared.cause.LoopPair.{LoopPair}
 use Rattle.geos_infer.specs.declared.cause.ByWord.{ByWord}
 use Rattle.geos_infer.specs.declared.cause.ByNumber.{ByNumber}
 use Rattle.geos_infer.specs.declared.cause.Cause.{Cause}
 use Rattle.geos_infer.specs.declared.cause.Cause.TheVariants.{SlotsDiffer, NoLoop, SetWithin, TouchedWithin, TouchedBefore, InTurn, StepsPass, WordUnbounded, NumberHigh, GivenUp, StepsMayPass, NoSteps, Unknown}
+use Rattle.geos_potentials.specs.Idle.{GoesRound, PassesAt, calls_touching, IsKept, IsNeverPaid}
 
 -- an instruction of routine r leads back within it by its target
 pub record LeadsBack (image : Parts) (r : ℕ) (back : BackWay) : Type 0 where
@@ -31,31 +29,6 @@ pub record LeadsBack (image : Parts) (r : ℕ) (back : BackWay) : Type 0 where
   pub order : back.to ≤ back.from
   pub from : IsPcOf image r back.from
   pub to : IsPcOf image r back.to
-
--- the instruction is a LOOP
-abbrev pub is_loop : Opcode → Bool
-is_loop Loop = true
-is_loop _ = false
-
--- the instruction at a pc has an edge to one of routine r, and it is no LOOP's way to its target, for which a counter may pay
-pub record LeadsUnpaid (image : Parts) (r pc : ℕ) (branch : Bool) (to : ℕ) : Type 0 where
-  pub leads : LeadsTo image pc branch to
-  pub stays : IsPcOf image r to
-  pub unpaid : (point : Point) → slice_get image.points pc ≡ Some point → (branch && is_loop point.instr.opcode) ≡ false
-
--- such edges lead from a pc to another; each says whether it is the one to a target
-abbrev pub IsUnpaidWay : Parts → ℕ → ℕ → List Bool → ℕ → Type 0
-IsUnpaidWay image r from [] to = from ≡ to
-IsUnpaidWay image r from (branch ∷ branches) to = (next : ℕ) × LeadsUnpaid image r from branch next × IsUnpaidWay image r next branches to
-
--- an instruction of routine r leads back, and control can come from there to it again within the routine, and a LOOP's
--- way to its target is never taken
-pub record GoesRound (image : Parts) (r from to : ℕ) : Type 0 where
-  pub leads : LeadsUnpaid image r from true to
-  pub order : to ≤ from
-  pub begins : IsPcOf image r from
-  pub branches : List Bool
-  pub way : IsUnpaidWay image r to branches from
 
 -- the instruction is a LOOP on this counter
 abbrev pub loops_on : ℕ → Instr → Opcode → Bool
@@ -68,27 +41,6 @@ sets_counter k i Setk = i.a == k
 sets_counter k i Setkw = i.a == k
 sets_counter k i _ = false
 
--- the instruction at a pc passes a test
-abbrev pub PassesAt : Parts → ℕ → (Instr → Bool) → Type 0
-PassesAt image pc test = (point : Point) × (slice_get image.points pc ≡ Some point) × (test point.instr ≡ true)
-
--- a table says only what routines do touch
-abbrev pub NotesTouched : Parts → List (List Bool) → Type 0
-NotesTouched image table = (k r : ℕ) → noted table k r ≡ true → touches image k r ≡ true
-
--- a table says all that routines touch, and perhaps more
-abbrev pub NotesAllTouched : Parts → List (List Bool) → Type 0
-NotesAllTouched image table = (k r : ℕ) → k < 4 → touches image k r ≡ true → noted table k r ≡ true
-
--- what is known of the counters that routines touch is so
-pub record KnowsTouched (image : Parts) (touching : Touching) : Type 0 where
-  pub certain : NotesTouched image touching.certain
-  pub possible : NotesAllTouched image touching.possible
-
--- the instruction calls a routine that touches this counter
-abbrev pub calls_touching : Parts → ℕ → Instr → Bool
-calls_touching image k i = calls i.opcode && touches image k i.imm
-
 -- a LOOP of routine r on this counter leads to its target in the routine
 pub record LoopsTo (image : Parts) (r : ℕ) (back : BackWay) (counter : ℕ) : Type 0 where
   pub leads : LeadsTo image back.from true back.to
@@ -99,12 +51,6 @@ pub record LoopsTo (image : Parts) (r : ℕ) (back : BackWay) (counter : ℕ) : 
 -- control can come from one pc of routine r to another
 abbrev pub ComesRound : Parts → ℕ → ℕ → ℕ → Type 0
 ComesRound image r from to = (branches : List Bool) × IsTrail image r None from branches to
-
--- behind a pc of routine r control can come to another, and on that way nothing sets the counter, and no routine is called that touches it
-pub record IsKept (image : Parts) (r counter at to : ℕ) : Type 0 where
-  pub behind : IsPcOf image r (at + 1)
-  pub branches : List Bool
-  pub trail : IsTrail image r (Some counter) (at + 1) branches to
 
 -- from a LOOP's target control comes to where its counter is set, and from there with the counter to the LOOP
 pub record SetsWithin (image : Parts) (r : ℕ) (within : Within) : Type 0 where
@@ -130,45 +76,6 @@ pub record TouchesBefore (image : Parts) (r : ℕ) (within : Within) : Type 0 wh
 pub record TouchesWithin (image : Parts) (r : ℕ) (within : Within) : Type 0 where
   pub left : LeavesTouched image r within
   pub round : ComesRound image r within.back.to within.at
-
--- Ways round on which no LOOP may pay
-
--- a counter is at a pc of routine r, on some way, as it was where the routine begins
-pub record IsUnset (image : Parts) (r counter pc : ℕ) : Type 0 where
-  pub branches : List Bool
-  pub trail : IsTrail image r (Some counter) (start_of image.routines r) branches pc
-
--- it is there as a call left it of a routine that touches it
-pub record IsLeft (image : Parts) (r counter pc : ℕ) : Type 0 where
-  pub at : ℕ
-  pub here : IsPcOf image r at
-  pub touches : PassesAt image at (calls_touching image counter)
-  pub kept : IsKept image r counter at pc
-
--- it is there as something left it that is not a SETK of the routine, so that it may not pay there
-abbrev pub MayNotPay : Parts → ℕ → ℕ → ℕ → Type 0
-MayNotPay image r counter pc = IsUnset image r counter pc ⊎ IsLeft image r counter pc
-
--- the instruction at a pc has an edge to one of routine r; if it is a LOOP's way to its target, the counter may not pay
-pub record LeadsIdle (image : Parts) (r pc : ℕ) (branch : Bool) (to : ℕ) : Type 0 where
-  pub leads : LeadsTo image pc branch to
-  pub stays : IsPcOf image r to
-  pub idle : (branch && is_loop leads.point.instr.opcode) ≡ true → MayNotPay image r leads.point.instr.a pc
-
--- such edges lead from a pc to another; each says whether it is the one to a target
-abbrev pub IsIdleWay : Parts → ℕ → ℕ → List Bool → ℕ → Type 0
-IsIdleWay image r from [] to = from ≡ to
-IsIdleWay image r from (branch ∷ branches) to = (next : ℕ) × LeadsIdle image r from branch next × IsIdleWay image r next branches to
-
--- control can go round in routine r, and no LOOP on the way may pay
-pub record IsNeverPaid (image : Parts) (r : ℕ) : Type 0 where
-  pub from : ℕ
-  pub begins : IsPcOf image r from
-  pub branch : Bool
-  pub next : ℕ
-  pub first : LeadsIdle image r from branch next
-  pub branches : List Bool
-  pub way : IsIdleWay image r next branches from
 
 -- in the loop that a LOOP closes, the counter of another LOOP is set, and kept from there to that
 pub record SetsFor (image : Parts) (r : ℕ) (back other : BackWay) (counter at : ℕ) : Type 0 where

@@ -1,5 +1,5 @@
 -- Ways that control may go, with its counters, and the steps that are taken on them.
-use Rattle.std.specs.Prelude.{◌≡◌, ◌<◌, ◌+◌, ◌-◌, ℕ, Bool, true, false, List, [], ◌∷◌, Option, Some, None, length, slice_get, slice_index, slice_set}
+use Rattle.std.specs.Prelude.{◌≡◌, ◌<◌, ◌+◌, ◌-◌, ℕ, Bool, true, false, List, [], ◌∷◌, Option, Some, None, length, slice_index, slice_set}
 use Rattle.geos_opcodes.specs.declared.opcode.Opcode.{Opcode}
 use Rattle.geos_opcodes.specs.declared.opcode.Opcode.TheVariants.{Setk, Setkw, Loop, Call}
 use Rattle.geos_image.specs.declared.instr.Instr.{Instr}
@@ -7,17 +7,13 @@ use Rattle.geos_image.specs.declared.row.Row.{Row}
 use Rattle.geos_image.specs.Parts.{Parts}
 use Rattle.geos_verify.specs.Rows.{bound}
 use Rattle.geos_verify.specs.Touched.{touches}
-use Rattle.geos_infer.specs.Code.{IsPcOf}
-use Rattle.geos_infer.specs.Flow.{known_at}
-use Rattle.geos_infer.specs.Numbers.{zeros}
-use Rattle.geos_infer.specs.Reached.{AreAtMostAny}
-use Rattle.geos_infer.specs.Solutions.{call_steps, most_steps}
-use Rattle.geos_infer.specs.Theorem.{HasAccepted}
-use Rattle.geos_infer.specs.Why.{LeadsTo}
-
--- what the instruction at a pc takes: a step, and all that the routine may take that it calls
-abbrev pub taken_at : Parts → ℕ → ℕ
-taken_at image pc = elim (slice_get image.points pc) [ None ↦ 0 | Some point ↦ 1 + call_steps image point.instr ]
+use Rattle.geos_rows.specs.Code.{IsPcOf}
+use Rattle.geos_rows.specs.Flow.{known_at}
+use Rattle.geos_potentials.specs.Numbers.{zeros}
+use Rattle.geos_rows.specs.Reached.{AreAtMostAny}
+use Rattle.geos_potentials.specs.Steps.{taken_at, most_steps}
+use Rattle.geos_potentials.specs.Accepted.{HasAccepted}
+use Rattle.geos_rows.specs.Why.{LeadsTo}
 
 -- where control is, and what the counters k0 to k3 are then
 pub record Place : Type 0 where

@@ -3,23 +3,17 @@ use Rattle.std.specs.Prelude.{◌<◌, ℕ, false, List, length}
 use Rattle.geos_image.specs.declared.row.Row.{Row}
 use Rattle.geos_image.specs.declared.point.Point.{Point}
 use Rattle.geos_image.specs.Parts.{Parts}
-use Rattle.geos_image.specs.Ranges.{ImageFits}
-use Rattle.geos_verify.specs.Rules.{IsAcceptable, IsChecked}
+use Rattle.geos_verify.specs.Rules.{IsAcceptable}
 use Rattle.geos_infer.specs.declared.error.InferError.{InferError}
 use Rattle.geos_infer.specs.declared.error.InferError.TheVariants.{NoRows, Memory}
-use Rattle.geos_infer.specs.Code.{SameCode, Forward, ForwardIn}
-use Rattle.geos_infer.specs.Solutions.{RowsHoldIn, StepsHoldIn}
+use Rattle.geos_rows.specs.Code.{Forward, ForwardIn}
+use Rattle.geos_rows.specs.Solutions.{RowsHoldIn}
+use Rattle.geos_potentials.specs.Steps.{StepsHoldIn}
+use Rattle.geos_potentials.specs.Accepted.{HasAccepted}
 
 -- the routines of the image with these points, and all rows
 abbrev pub with_points : Parts → List Point → Parts
 with_points image points = record { keyed = false; routines = image.routines; points = points }
-
--- some image with the code of this one is accepted, and its numbers fit their fields
-pub record HasAccepted (image : Parts) : Type 0 where
-  pub other : Parts
-  pub same : SameCode image other
-  pub fits : ImageFits other
-  pub checked : IsChecked other
 
 -- what is found is accepted, if its code has no loops and some image with that code is
 abbrev pub FindsWhatThereIs : Parts → Parts → Type 0

@@ -3,11 +3,8 @@
 ghost use Rattle.std.specs.Prelude.{◌≡◌, ◌<◌, ◌≤◌, ℕ, true, false, slice_index, IfOk};
 ghost use Rattle.geos_infer.specs.Ahead.{OnlyAhead, MayPass, NonePasses, IsLongestOver, IsLongestFrom};
 
-use crate::asked::larger64;
-use crate::body::Body;
-use crate::counting::taken_at;
-use crate::edges::edge_in;
-use crate::table::Table;
+use geos_potentials::taken_at;
+use geos_rows::{Body, Table, edge_in};
 use std::alloc::{AllocError, Global};
 
 /// How many steps are taken behind an edge; 0 where the instruction at the pc has none, or it leaves the routine.
@@ -31,7 +28,7 @@ fn longest_from(body: &Body, longest: &Table<u64>, pc: u16) -> u64
 {
     let along = longest_over(body, longest, pc, false);
     let branching = longest_over(body, longest, pc, true);
-    taken_at(body, pc) + larger64(along, branching)
+    taken_at(body, pc) + along.max(branching)
 }
 
 /// Whether more steps are taken on some way than a potential can say, by a table of which nothing is known but that it is new.

@@ -2,18 +2,15 @@
 //! other.
 
 ghost use Rattle.std.specs.Prelude.{◌<◌, IfSome};
-ghost use Rattle.geos_infer.specs.Causes.{KnowsTouched, WaitInTurn, SetsFor};
+ghost use Rattle.geos_potentials.specs.Touching.{KnowsTouched};
+ghost use Rattle.geos_infer.specs.Causes.{WaitInTurn, SetsFor};
 
-use crate::body::Body;
-use crate::cause::{BackWay, LoopPair};
-use crate::graph::Graph;
-use crate::jumps::Jump;
-use crate::nests::Splitting;
-use crate::pieces::Piece;
-use crate::spent::Touching;
+use crate::cause::LoopPair;
 use crate::trails::Trails;
 use crate::within::{comes_round, kept_from, loop_at, note_set, sets_at};
 use geos_image::MOST_INSTRS;
+use geos_potentials::{BackWay, Graph, Jump, Piece, Splitting, Touching};
+use geos_rows::Body;
 
 /// How many pairs of LOOPs are looked at.
 const PAIRS: u16 = 256;

@@ -1,22 +1,21 @@
 //! Rows and potentials for the code of an image.
 
-ghost use Rattle.std.specs.Prelude.{◌≡◌, ◌<◌, ℕ, false, length, IfOk, IfErr};
+ghost use Rattle.std.specs.Prelude.{◌≡◌, ◌<◌, ◌≤◌, ◌⊎◌, ℕ, false, length, IfOk, IfErr};
 ghost use Rattle.geos_infer.specs.declared.error.InferError.TheVariants.{NoRows};
-ghost use Rattle.geos_infer.specs.Code.{SameCode};
-ghost use Rattle.geos_infer.specs.Constants.{HasLeastConstants, HasCoefficientsForLoops, PaysForLoops};
-ghost use Rattle.geos_infer.specs.Numbers.{numbers_of};
+ghost use Rattle.geos_rows.specs.Code.{SameCode};
+ghost use Rattle.geos_potentials.specs.Constants.{AreLeastFrom, HasLeastConstants, HasCoefficientsForLoops, PaysForLoops};
+ghost use Rattle.geos_potentials.specs.Count.{AreCounted};
+ghost use Rattle.geos_potentials.specs.Numbers.{numbers_of};
 ghost use Rattle.geos_infer.specs.Points.{PointsOf, RoutinesOf};
-ghost use Rattle.geos_infer.specs.Reached.{AllHoldWhereReached, KeptRowsHold, RowsThatHoldPass};
-ghost use Rattle.geos_infer.specs.Solutions.{NoStepsHoldIn};
+ghost use Rattle.geos_rows.specs.Reached.{AllHoldWhereReached, KeptRowsHold, RowsThatHoldPass};
+ghost use Rattle.geos_potentials.specs.Steps.{NoStepsHoldIn};
 ghost use Rattle.geos_infer.specs.Theorem.{FindsWhatThereIs, NoneIsAccepted, NothingHoldsIn, NamesRoutine};
-ghost use Rattle.geos_infer.specs.Why.{MeetAlike};
+ghost use Rattle.geos_rows.specs.Why.{MeetAlike};
 
-use crate::count::count;
 use crate::error::InferError;
-use crate::flow::row_of;
-use crate::rows::find_rows;
-use crate::table::{Known, Potentials};
-use geos_image::{Image, Point, Routine, Whole};
+use geos_image::{Image, Point, Potential, Routine, Whole};
+use geos_potentials::{Potentials, find_potentials};
+use geos_rows::{Known, find_rows, row_of};
 use std::alloc::{AllocError, Global};
 
 /// The instructions of the image, with the rows and potentials that were found.
@@ -48,6 +47,34 @@ fn routines_of(alloc: Global, image: &Image) -> Result<Vec<Routine>, AllocError>
         routines.push(*image.routine(r))?;
     }
     Ok(routines)
+}
+
+/// Enough steps at each instruction, and coefficients, where so many routines have rows. `NoRows`
+/// names the first one that has none, or for which no steps were found.
+fn count(
+    alloc: Global,
+    image: &Image,
+    routines: u16,
+    known: &Known,
+) -> Result<Potentials, InferError>
+    requires { routines ≤ length image.now.routines }
+    ensures all { IfOk result (λ _. routines ≡ length image.now.routines) }
+    ensures counted { IfOk result (λ potentials. AreCounted image.now 0 routines (numbers_of potentials)) }
+    ensures least { IfOk result (λ potentials. AreLeastFrom image.now 0 routines known.now (numbers_of potentials)) }
+    ensures within { IfErr result (NamesRoutine image.now) }
+    ensures none { IfErr result (λ error. (r : ℕ) → error ≡ NoRows r → (r ≡ routines) ⊎ NoStepsHoldIn image.now r) }
+{
+    let nothing = Potential {
+        constant: 0,
+        coefficients: [0; 4],
+    };
+    let mut potentials = Potentials::new(alloc, nothing)?;
+    let left = find_potentials(alloc, image, routines, known, &mut potentials)?;
+    match left {
+        Some(r) => Err(InferError::NoRows(r)),
+        None if routines < image.count() => Err(InferError::NoRows(routines)),
+        None => Ok(potentials),
+    }
 }
 
 /// The code of the skeleton (its routines, with entry and exit rows and budgets, and its instructions), with a row and a

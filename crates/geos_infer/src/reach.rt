@@ -3,7 +3,7 @@
 ghost use Rattle.std.specs.Prelude.{◌≡◌, ◌<◌, ◌⊎◌, Some, slice_set};
 
 use crate::counters::{Counter, number_in};
-use crate::table::Table;
+use geos_rows::Table;
 
 /// What is known of a way to a place.
 #[derive(Clone, Copy)]

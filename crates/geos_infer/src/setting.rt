@@ -1,26 +1,19 @@
 //! Counters that are set for loops at a price past what a potential can say.
 
 ghost use Rattle.std.specs.Prelude.{◌≡◌, ◌<◌, ◌≤◌, true, IfSome, IfOk};
-ghost use Rattle.geos_infer.specs.Causes.{KnowsTouched, LoopsTo, IsKept, PaysForLoop, IsAtMost, Holds};
-ghost use Rattle.geos_infer.specs.Reached.{FitWhereReached, AreAtMostAny};
+ghost use Rattle.geos_potentials.specs.Touching.{KnowsTouched};
+ghost use Rattle.geos_infer.specs.Causes.{LoopsTo, PaysForLoop, IsAtMost, Holds};
+ghost use Rattle.geos_potentials.specs.Idle.{IsKept};
+ghost use Rattle.geos_rows.specs.Reached.{FitWhereReached, AreAtMostAny};
 ghost use Rattle.geos_infer.specs.Taken.{WordsPass};
 
-use crate::body::Body;
-use crate::cause::{BackWay, ByNumber, ByWord, Cause};
-use crate::counting::bound_of;
-use crate::edges::is_loop;
-use crate::flow::row_of;
-use crate::graph::Graph;
-use crate::jumps::Jump;
-use crate::nests::Splitting;
-use crate::search::Search;
-use crate::spent::Touching;
-use crate::strongest::Strongest;
-use crate::table::Known;
+use crate::cause::{ByNumber, ByWord, Cause};
 use crate::trails::Trails;
 use crate::turns::steps_pass;
 use crate::within::{comes_round, is_kept, loop_at};
 use geos_image::Opcode;
+use geos_potentials::{BackWay, Graph, Jump, Search, Splitting, Touching, find_dearest};
+use geos_rows::{Body, Known, Strongest, bound_of, is_loop, row_of};
 use std::alloc::{AllocError, Global};
 
 /// The LOOP at a pc, if it takes from the counter, and the counter is kept up to it from behind a place from where control goes on.
@@ -100,35 +93,6 @@ fn pays_for_loop(
         Some(back) => comes_round(body, touching, graph, trails, back.to, back.from),
         None => false,
     }
-}
-
-/// What it costs that the instruction at a pc sets a counter; 0 where it sets none, or to 0.
-fn price_at(search: &Search, pc: u16) -> u64
-    requires { pc < 4096 }
-{
-    match search.graph.arc(pc, false) {
-        Some(arc) => match arc.sets() {
-            Some(_) => search.units.link(pc, &arc).costs,
-            None => 0,
-        },
-        None => 0,
-    }
-}
-
-/// The place where a counter is set at the greatest price, if a unit of one costs something.
-fn find_dearest(body: &Body, search: &Search) -> Option<u16>
-    ensures { IfSome result (λ at. at < body.now.end) }
-{
-    let mut dearest = None;
-    let mut most = 1;
-    for pc in body.start..body.end {
-        let price = price_at(search, pc);
-        if most < price {
-            most = price;
-            dearest = Some(pc);
-        }
-    }
-    dearest
 }
 
 /// How much a word is at a place at most by the rows that are known, if no rows that hold are found to say less.

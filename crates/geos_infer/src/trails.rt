@@ -2,16 +2,12 @@
 
 ghost use Rattle.std.specs.Prelude.{◌≡◌, ◌<◌, true, List, Bool, Option, IfSome};
 ghost use Rattle.geos_image.specs.Parts.{Parts};
-ghost use Rattle.geos_infer.specs.Causes.{KnowsTouched, NotesAllTouched};
-ghost use Rattle.geos_infer.specs.Trails.{LeadsKeeping, IsTrail, keeps};
+ghost use Rattle.geos_potentials.specs.Touching.{KnowsTouched, NotesAllTouched};
+ghost use Rattle.geos_potentials.specs.Trails.{LeadsKeeping, IsTrail, keeps};
 
-use crate::body::Body;
-use crate::edges::edge_in;
-use crate::graph::Graph;
-use crate::pile::Pile;
-use crate::spent::{Touching, touches};
-use crate::table::{Table, two_tables};
 use geos_image::{Instr, MOST_INSTRS, Opcode};
+use geos_potentials::{Graph, Pile, Touching, touches};
+use geos_rows::{Body, Table, edge_in, two_tables};
 use geos_verify::Touched;
 use std::alloc::{AllocError, Global};
 

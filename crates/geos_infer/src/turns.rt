@@ -2,18 +2,15 @@
 
 ghost use Rattle.std.specs.Prelude.{◌≡◌, ◌<◌, ◌≤◌, ◌-◌, ℕ, true, false, IfSome, IfOk};
 ghost use Rattle.geos_infer.specs.Turns.{begin_at, begin_from, AlwaysComesTo, GoOn, AreReached, StayReached, IsTurn, AreTurns};
-ghost use Rattle.geos_infer.specs.Taken.{NoneIsAcceptedPast, StepsPassBy};
-ghost use Rattle.geos_infer.specs.Why.{LeadsTo};
+ghost use Rattle.geos_infer.specs.Taken.{NoneIsAcceptedPast, StepsPassBy, word_at};
+ghost use Rattle.geos_rows.specs.Why.{LeadsTo};
 
-use crate::body::Body;
 use crate::counters::{
     Counter, counter_at, counters_after, number_in, unless_all_changed, untouched, with_counter,
 };
-use crate::counting::{taken_at, word_at};
-use crate::edges::{Edge, edge_in, is_loop};
 use crate::reach::{Reach, Reached, note};
-use crate::spent::touched_by;
-use crate::table::{Known, two_tables};
+use geos_potentials::{taken_at, touched_by};
+use geos_rows::{Body, Edge, Known, edge_in, is_loop, two_tables};
 use geos_verify::Touched;
 use std::alloc::{AllocError, Global};
 
@@ -40,6 +37,20 @@ fn capped(steps: u64) -> u64
     ensures past { 4294967295 < steps → 4294967295 < result }
 {
     steps.min(u64::from(u32::MAX) + 1)
+}
+
+/// How much a word is taken for at a pc: as much as it may be by the row that is known there; 0, the least, where none is.
+fn word_at(rows: &Known, pc: u16, word: u8) -> u16
+    requires { pc < 4096 }
+    ensures { result ≡ word_at rows.now pc word }
+{
+    match rows.at(pc) {
+        Some(row) => match row.bounds.get(usize::from(word)) {
+            Some(bound) => *bound,
+            None => 0,
+        },
+        None => 0,
+    }
 }
 
 /// A way to a pc goes on along an edge, if that is taken.

@@ -1,19 +1,17 @@
 //! Counters that are set, or that a call touches, where their own loops go round.
 
 ghost use Rattle.std.specs.Prelude.{◌≡◌, ◌<◌, ◌≤◌, true, List, Bool, None, IfSome};
-ghost use Rattle.geos_infer.specs.Causes.{KnowsTouched, LoopsTo, IsKept};
-ghost use Rattle.geos_infer.specs.Causes.{SetsWithin, TouchesWithin, TouchesBefore, PassesAt, sets_counter, calls_touching};
-ghost use Rattle.geos_infer.specs.Code.{IsPcOf};
-ghost use Rattle.geos_infer.specs.Trails.{IsTrail};
+ghost use Rattle.geos_potentials.specs.Touching.{KnowsTouched};
+ghost use Rattle.geos_infer.specs.Causes.{LoopsTo, SetsWithin, TouchesWithin, TouchesBefore, sets_counter};
+ghost use Rattle.geos_potentials.specs.Idle.{IsKept, PassesAt, calls_touching};
+ghost use Rattle.geos_rows.specs.Code.{IsPcOf};
+ghost use Rattle.geos_potentials.specs.Trails.{IsTrail};
 
-use crate::body::Body;
-use crate::cause::{BackWay, Within};
-use crate::edges::{edge_in, is_loop};
-use crate::graph::Graph;
-use crate::pieces::{Order, Piece};
-use crate::spent::{Touching, touches};
+use crate::cause::Within;
 use crate::trails::{Came, Trails};
 use geos_image::{Instr, Opcode};
+use geos_potentials::{BackWay, Graph, Order, Piece, Touching, touches};
+use geos_rows::{Body, edge_in, is_loop};
 
 /// The way of the LOOP at a pc to its target, and its counter.
 pub(crate) fn loop_at(body: &Body, from: u16) -> Option<(BackWay, u8)>

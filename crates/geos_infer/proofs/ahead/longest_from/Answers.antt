@@ -6,5 +6,5 @@ pub returns : goal.returns
 returns c =
     let body = c.args.body.now in
     both-over body.image.now body.r c.args.pc c.args.longest.now c.longest_over-along.result c.longest_over-branching.result
-    (c.taken_at.result + c.larger64.result) (omega (arith, c.taken_at.ensures.value, c.larger64.ensures))
+    (c.taken_at.result + c.max.result) (omega (arith, c.taken_at.ensures.value, c.max.ensures))
     c.longest_over-along.ensures.value c.longest_over-branching.ensures.value

@@ -1,15 +1,15 @@
 use Rattle.std.proofs.Common.{◌<◌, ℕ, length, sym, subst, arith, inl, inr}
 use Rattle.geos_image.specs.Parts.{Parts}
-use Rattle.geos_infer.specs.Flow.{HaveFlowed}
-use Rattle.geos_infer.specs.Constants.{HasLeastConstants, HasCoefficientsForLoops, PaysForLoops, AreLeastFrom}
-use Rattle.geos_infer.specs.Count.{AreCounted}
-use Rattle.geos_infer.specs.Numbers.{numbers_of}
-use Rattle.geos_infer.specs.Reached.{AllHoldWhereReached}
+use Rattle.geos_rows.specs.Flow.{HaveFlowed}
+use Rattle.geos_potentials.specs.Constants.{HasLeastConstants, HasCoefficientsForLoops, PaysForLoops, AreLeastFrom}
+use Rattle.geos_potentials.specs.Count.{AreCounted}
+use Rattle.geos_potentials.specs.Numbers.{numbers_of}
+use Rattle.geos_rows.specs.Reached.{AllHoldWhereReached}
 use Rattle.geos_infer.specs.Theorem.{FindsWhatThereIs, NamesRoutine, with_points}
-use Rattle.geos_infer.specs.Why.{MeetAlike}
+use Rattle.geos_rows.specs.Why.{MeetAlike}
 use Rattle.geos_infer.proofs.Finding.{found-formed, found-code, found-acceptable, none-accepted, stuck-in, made-formed, made-is, made-code}
 use Rattle.geos_infer.proofs.Answering.{least-given, paid-given, for-given}
-use Rattle.geos_infer.proofs.Reaching.{fit-holds}
+use Rattle.geos_infer.proofs.Holding.{fit-holds}
 use Rattle.geos_infer.proofs.inference.infer.Goals as goal
 
 pub returns-in-Err-clause-none : goal.returns-in-Err-clause-none

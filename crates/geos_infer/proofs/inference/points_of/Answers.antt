@@ -1,7 +1,8 @@
 use Rattle.std.proofs.Common.{None, refl, ◌∙◌, ap, arith}
-use Rattle.geos_infer.specs.Flow.{row_of}
-use Rattle.geos_infer.specs.Numbers.{numbers_of}
-use Rattle.geos_infer.proofs.Copies.{numbers-at, made-none, made-more, made-all, point_of}
+use Rattle.geos_rows.specs.Flow.{row_of}
+use Rattle.geos_potentials.specs.Numbers.{numbers_of}
+use Rattle.geos_potentials.proofs.Numbered.{numbers-at}
+use Rattle.geos_infer.proofs.Copies.{made-none, made-more, made-all, point_of}
 use Rattle.geos_infer.proofs.inference.points_of.Goals as goal
 
 pub loop-pc-init : goal.loop-pc-init

@@ -1,4 +1,4 @@
-use Rattle.geos_infer.specs.Numbers.{numbers_of}
+use Rattle.geos_potentials.specs.Numbers.{numbers_of}
 use Rattle.geos_infer.proofs.Copies.{Made}
 use Rattle.geos_infer.proofs.inference.points_of.Given as goal
 

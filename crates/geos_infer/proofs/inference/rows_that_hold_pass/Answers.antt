@@ -1,4 +1,4 @@
-use Rattle.geos_infer.proofs.Reaching.{rules-pass}
+use Rattle.geos_infer.proofs.Holding.{rules-pass}
 use Rattle.geos_infer.proofs.inference.rows_that_hold_pass.Goals as goal
 
 pub returns : goal.returns

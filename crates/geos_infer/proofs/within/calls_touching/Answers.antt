@@ -1,5 +1,5 @@
 use Rattle.std.proofs.Common.{sym, ◌∙◌, arith}
-use Rattle.geos_infer.proofs.Asks.{calls-at}
+use Rattle.geos_infer.proofs.Tests.{calls-at}
 use Rattle.geos_infer.proofs.within.calls_touching.Goals as goal
 
 pub returns-in-Call : goal.returns-in-Call

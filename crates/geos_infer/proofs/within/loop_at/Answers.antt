@@ -1,5 +1,5 @@
 use Rattle.std.proofs.Common.{sym, ◌∙◌, arith}
-use Rattle.geos_infer.proofs.Asks.{loops-at}
+use Rattle.geos_infer.proofs.Tests.{loops-at}
 use Rattle.geos_infer.proofs.within.loop_at.Goals as goal
 
 pub returns-clause-loops : goal.returns-clause-loops

@@ -1,6 +1,6 @@
 use Rattle.std.proofs.Common.{sym, ◌∙◌, arith}
 use Rattle.geos_infer.specs.Causes.{sets_counter}
-use Rattle.geos_infer.proofs.Asks.{passes-at}
+use Rattle.geos_infer.proofs.Tests.{passes-at}
 use Rattle.geos_infer.proofs.within.sets_at.Goals as goal
 
 pub returns : goal.returns

@@ -1,5 +1,5 @@
 use Rattle.std.proofs.Common.{ℕ, List, Bool, [], ◌∷◌, refl, subst, arith}
-use Rattle.geos_infer.specs.Trails.{IsTrail}
+use Rattle.geos_potentials.specs.Trails.{IsTrail}
 use Rattle.geos_infer.proofs.trails.Trails.lead.Goals as goal
 
 pub loop-init : goal.loop-init

@@ -1,5 +1,5 @@
 use Rattle.std.proofs.Common.{◌<◌, List, Bool}
-use Rattle.geos_infer.specs.Trails.{IsTrail}
+use Rattle.geos_potentials.specs.Trails.{IsTrail}
 use Rattle.geos_infer.proofs.trails.Trails.lead.Given as goal
 
 -- the edges that were looked at lead on from here

@@ -1,8 +1,0 @@
-use Rattle.geos_infer.proofs.Spreading.{from-come, filled-none}
-use Rattle.geos_infer.proofs.classes.note_unset.Goals as goal
-
-pub returns : goal.returns
-returns c =
-    let start = c.args.body.now.start in
-    from-come c.args.graph.now.arcs start c.fill_from.new.self c.raise.new.spread c.go_on.new.spread _
-    (filled-none start c.fill_from.new.self c.lengths.ensures c.fill_from.ensures.same) c.raise.ensures c.go_on.ensures

@@ -1,7 +1,0 @@
-use Rattle.geos_infer.specs.Alike.{AllComeAlike}
-use Rattle.geos_infer.specs.Why.{MeetAlike}
-use Rattle.geos_infer.proofs.descent.seed.Given as goal
-
--- control comes so with what is known at first
-abbrev pub invariant-loop-pc : goal.invariant-loop-pc
-invariant-loop-pc l = MeetAlike l.body.image.now l.body.r → AllComeAlike l.body.image.now l.body.r l.known → AllComeAlike l.body.image.now l.body.r l.from

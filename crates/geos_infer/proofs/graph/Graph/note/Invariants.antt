@@ -1,9 +1,0 @@
-use Rattle.std.proofs.Common.{◌≡◌, ◌<◌, ℕ, Bool, length}
-use Rattle.geos_infer.specs.Arcs.{IsArcIf, arc_at}
-use Rattle.geos_infer.specs.Code.{IsPcOf}
-use Rattle.geos_infer.proofs.graph.Graph.note.Given as goal
-
--- the edges of the instructions before pc are noted
-abbrev pub invariant-loop-pc : goal.invariant-loop-pc
-invariant-loop-pc l = (length l.self.arcs ≡ 4096) × ((pc : ℕ) (branch : Bool) → IsPcOf l.body.image.now l.body.r pc
-    → pc < l.pc → IsArcIf l.body.image.now l.body.r l.known l.touched pc branch (arc_at l.self.arcs pc branch))

@@ -1,7 +1,0 @@
-use Rattle.std.proofs.Common.{◌≡◌}
-use Rattle.geos_infer.specs.Least.{StayAtMost}
-use Rattle.geos_infer.proofs.lengths.Lengths.sweep.Given as goal
-
--- the edges stay, and ways stay at most what pays for them
-abbrev pub invariant-loop-x : goal.invariant-loop-x
-invariant-loop-x l = (l.self.links ≡ l.fn.self.links) × StayAtMost l.fn.self.links l.fn.self.ways l.self.ways

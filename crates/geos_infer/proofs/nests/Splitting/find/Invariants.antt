@@ -1,6 +1,0 @@
-use Rattle.geos_infer.specs.Stuck.{StayNoted}
-use Rattle.geos_infer.proofs.nests.Splitting.find.Given as goal
-
--- as much is known of counters as at first
-abbrev pub invariant-loop : goal.invariant-loop
-invariant-loop l = StayNoted l.fn.classes l.classes

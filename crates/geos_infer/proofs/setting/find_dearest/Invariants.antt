@@ -1,5 +1,0 @@
-use Rattle.std.specs.Prelude.{◌<◌, IfSome}
-use Rattle.geos_infer.proofs.setting.find_dearest.Given as goal
-
-abbrev pub invariant-loop-pc : goal.invariant-loop-pc
-invariant-loop-pc l = IfSome l.dearest (λ at. at < l.body.end)

@@ -1,6 +1,0 @@
-use Rattle.geos_infer.specs.Demands.{StayWanted}
-use Rattle.geos_infer.proofs.spread.go_back_from.Given as goal
-
--- what was wanted at first still is
-abbrev pub invariant-loop : goal.invariant-loop
-invariant-loop l = StayWanted l.graph.arcs l.fn.spread l.spread

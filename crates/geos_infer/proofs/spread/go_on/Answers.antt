@@ -1,5 +1,0 @@
-use Rattle.geos_infer.proofs.Spreading.{come-refl}
-use Rattle.geos_infer.proofs.spread.go_on.Goals as goal
-
-pub loop-init : goal.loop-init
-loop-init c = come-refl c.args.graph.now.arcs c.args.low c.args.spread.now

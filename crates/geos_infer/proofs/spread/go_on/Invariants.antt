@@ -1,6 +1,0 @@
-use Rattle.geos_infer.specs.Spreads.{HaveCome}
-use Rattle.geos_infer.proofs.spread.go_on.Given as goal
-
--- each number comes from where it was at first
-abbrev pub invariant-loop : goal.invariant-loop
-invariant-loop l = HaveCome l.graph.arcs l.low l.fn.spread l.spread

@@ -1,0 +1,16 @@
+pub mod Counts
+pub mod Asks
+pub mod Noting
+pub mod Costs
+pub mod Priced
+pub mod Rising
+pub mod Unpayable
+pub mod Demand
+pub mod Spreading
+pub mod Idling
+pub mod Choosing
+pub mod Accepted
+pub mod Numbered
+pub mod Staying
+pub mod Growing
+pub mod Rounding

@@ -1,0 +1,51 @@
+use Rattle.std.proofs.Common.{◌≡◌, ◌<◌, ℕ, false, not, length, sym, ap, ◌∙◌, subst, arith}
+use Rattle.std.proofs.lemmas.Bool.{false≢true}
+use Rattle.std.proofs.lemmas.Option.{same_Some}
+use Rattle.geos_potentials.specs.Ranks.{noted_idle}
+use Rattle.geos_potentials.proofs.Choosing.{priced-more, set-stays, set-new, least-some}
+use Rattle.geos_potentials.proofs.choice.add_price.Goals as goal
+
+pub returns-in_default : goal.returns-in_default
+returns-in_default c = λ tight before.
+    let prices = c.args.prices.now in
+    priced-more c.args.graph.now.arcs c.args.jumps.now c.args.order.now c.args.classes.now c.args.piece.now c.args.x c.place-pc.result
+    prices prices c.place-pc.ensures.stands (λ k some. some) (λ k few takes busy. absurd (c.in_default.not-Some k (c.counter_at.ensures k takes)))
+    before
+
+pub returns-then-counter-ge4 : goal.returns-then-counter-ge4
+returns-then-counter-ge4 c = λ tight before.
+    let prices = c.args.prices.now in
+    priced-more c.args.graph.now.arcs c.args.jumps.now c.args.order.now c.args.classes.now c.args.piece.now c.args.x c.place-pc.result
+    prices prices c.place-pc.ensures.stands (λ k some. some)
+    (λ k few takes busy.
+    (let same = same_Some c.in-Some.counter k (sym c.in-Some.is ∙ c.counter_at.ensures k takes) in
+    let many = c.if-counter-ge4.true in
+    absurd (omega (arith, few, same, many))))
+    before
+
+pub returns-then-not-may_pay : goal.returns-then-not-may_pay
+returns-then-not-may_pay c = λ tight before.
+    let prices = c.args.prices.now in
+    let pc = c.place-pc.result in
+    priced-more c.args.graph.now.arcs c.args.jumps.now c.args.order.now c.args.classes.now c.args.piece.now c.args.x pc
+    prices prices c.place-pc.ensures.stands (λ k some. some)
+    (λ k few takes busy.
+    (let same = same_Some c.in-Some.counter k (sym c.in-Some.is ∙ c.counter_at.ensures k takes) in
+    let here = subst (λ (n : ℕ). noted_idle c.args.classes.now pc n ≡ false) (sym same) busy in
+    absurd (false≢true (sym c.if-not-may_pay.true ∙ c.may_pay.ensures.tight tight ∙ ap not here))))
+    before
+
+pub returns : goal.returns
+returns c = λ tight before.
+    let prices = c.args.prices.now in
+    let at : c.from-at.result ≡ c.in-Some.counter = c.from-at.ensures in
+    let few = c.if-counter-ge4.false in
+    let long = c.told-prices in
+    let room : c.from-at.result < length prices = omega (arith, at, few, long) in
+    let some = least-some _ _ c.least.result c.least.ensures in
+    priced-more c.args.graph.now.arcs c.args.jumps.now c.args.order.now c.args.classes.now c.args.piece.now c.args.x c.place-pc.result
+    prices _ c.place-pc.ensures.stands (set-stays prices c.from-at.result c.least.result room some)
+    (λ k few takes busy.
+    set-new prices c.from-at.result c.least.result room some k
+    (sym (at ∙ same_Some c.in-Some.counter k (sym c.in-Some.is ∙ c.counter_at.ensures k takes))))
+    before

@@ -1,0 +1,73 @@
+use Rattle.std.proofs.Common.{◌≡◌, ◌<◌, ℕ, Bool, true, false, List, [], ◌∷◌, length, Option, None, get_or, inl, inr, refl, sym, ap, ◌∙◌, subst, arith}
+use Rattle.std.specs.Prelude.{if◌then◌else◌}
+use Rattle.std.proofs.lemmas.Bool.{cases_lt}
+use Rattle.std.proofs.lemmas.List.{length-set, get_or_past}
+use Rattle.geos_potentials.specs.Arcs.{IsArcIf, arc_at}
+use Rattle.geos_rows.specs.Code.{IsPcOf}
+use Rattle.geos_rows.proofs.Bodies.{in-body}
+use Rattle.geos_potentials.specs.declared.arcs.Arc.{Arc}
+use Rattle.geos_potentials.proofs.Costs.{arc-other, arc-same}
+use Rattle.geos_potentials.proofs.graph.Graph.note.Goals as goal
+
+abbrev no_arcs : List (Option Arc)
+no_arcs = None ∷ None ∷ []
+
+neither : (branch : Bool) → get_or no_arcs (if branch then 1 else 0) None ≡ None
+neither true = refl
+neither false = refl
+
+pub loop-pc-init : goal.loop-pc-init
+loop-pc-init c =
+    let body = c.args.body.now in
+    record {
+      long = c.lengths.ensures;
+      noted = λ pc branch within lt. absurd (omega (arith, within.above, body.begins));
+      outside = λ pc branch out. elim (cases_lt pc 4096) [
+        | inl lt ↦ ap (λ (x : List (Option Arc)). get_or x (if branch then 1 else 0) None) (c.fill_from.ensures.same pc [] (omega arith) lt)
+            ∙ neither branch
+        | inr past ↦ ap (λ (x : List (Option Arc)). get_or x (if branch then 1 else 0) None)
+            (get_or_past c.fill_from.new.self pc [] (omega (arith, past, c.lengths.ensures)))
+      ];
+    }
+
+pub loop-pc-preserved : goal.loop-pc-preserved
+loop-pc-preserved c =
+    let p = c.loop-pc.pc in
+    let both = c.arc_of-along.result ∷ c.arc_of-branching.result ∷ [] in
+    let body = c.args.body.now in
+    let inside = in-body body p c.loop-pc.auto.pc c.loop-pc-test.true in record {
+      long = ap length c.set.ensures ∙ length-set c.loop-pc.self.arcs p both ∙ c.loop-pc.invariant.long;
+      outside = λ pc branch out. ap (λ (arcs : List (List (Option Arc))). arc_at arcs pc branch) c.set.ensures
+          ∙ arc-other c.loop-pc.self.arcs p pc both branch (λ same. out (subst (IsPcOf body.image.now body.r) (sym same) inside))
+          ∙ c.loop-pc.invariant.outside pc branch out;
+      noted = λ pc branch within lt. elim (cases_lt pc p) [
+        | inl earlier ↦
+            let ne : pc ≡ p → ⊥ = (λ same. omega arith) in
+            let is : arc_at c.loop-pc.self.arcs pc branch ≡ arc_at c.set.new.self pc branch =
+            sym (ap (λ (arcs : List (List (Option Arc))). arc_at arcs pc branch) c.set.ensures
+            ∙ arc-other c.loop-pc.self.arcs p pc both branch ne) in
+            subst (IsArcIf c.args.body.now.image.now c.args.body.now.r c.args.known.now c.args.touched.now pc branch) is
+            (c.loop-pc.invariant.noted pc branch within earlier)
+        | inr late ↦
+            let same : p ≡ pc = omega arith in
+            subst (λ (n : ℕ). IsArcIf c.args.body.now.image.now c.args.body.now.r c.args.known.now c.args.touched.now
+            n branch (arc_at c.set.new.self n branch)) same (here branch)
+      ];
+    }
+  where
+    here : (branch : Bool) → IsArcIf c.args.body.now.image.now c.args.body.now.r c.args.known.now c.args.touched.now
+        c.loop-pc.pc branch (arc_at c.set.new.self c.loop-pc.pc branch)
+    here branch = subst (IsArcIf c.args.body.now.image.now c.args.body.now.r c.args.known.now c.args.touched.now c.loop-pc.pc branch)
+        (sym (at branch)) (by_branch branch)
+      where
+        within : c.loop-pc.pc < length c.loop-pc.self.arcs
+        within = let body = c.args.body.now in omega (arith, c.loop-pc.invariant.long, c.loop-pc-test.true, body.room, body.short)
+
+        at : (b : Bool) → arc_at c.set.new.self c.loop-pc.pc b ≡ arc_at ((c.arc_of-along.result ∷ c.arc_of-branching.result ∷ []) ∷ []) 0 b
+        at b = ap (λ (arcs : List (List (Option Arc))). arc_at arcs c.loop-pc.pc b) c.set.ensures
+            ∙ arc-same c.loop-pc.self.arcs c.loop-pc.pc (c.arc_of-along.result ∷ c.arc_of-branching.result ∷ []) b within
+
+        by_branch : (b : Bool) → IsArcIf c.args.body.now.image.now c.args.body.now.r c.args.known.now c.args.touched.now
+            c.loop-pc.pc b (arc_at ((c.arc_of-along.result ∷ c.arc_of-branching.result ∷ []) ∷ []) 0 b)
+        by_branch true = c.arc_of-branching.ensures
+        by_branch false = c.arc_of-along.ensures

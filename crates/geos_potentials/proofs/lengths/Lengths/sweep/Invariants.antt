@@ -1,0 +1,7 @@
+use Rattle.std.proofs.Common.{◌≡◌}
+use Rattle.geos_potentials.specs.Least.{StayAtMost}
+use Rattle.geos_potentials.proofs.lengths.Lengths.sweep.Given as goal
+
+-- the edges stay, and ways stay at most what pays for them
+abbrev pub invariant-loop-x : goal.invariant-loop-x
+invariant-loop-x l = (l.self.links ≡ l.fn.self.links) × StayAtMost l.fn.self.links l.fn.self.ways l.self.ways

@@ -1,0 +1,25 @@
+use Rattle.std.proofs.Common.{◌≡◌, inl, inr, subst, arith}
+use Rattle.std.proofs.lemmas.Bool.{cases_lt}
+use Rattle.geos_potentials.specs.Numbers.{numbers_of}
+use Rattle.geos_potentials.proofs.Priced.{PaidAt, all-paid-in}
+use Rattle.geos_potentials.proofs.paid.are_paid.Goals as goal
+
+pub loop-pc-init : goal.loop-pc-init
+loop-pc-init c = λ pc within lt. (let body = c.args.body.now in let above = within.above in absurd (omega (arith, above, lt, body.begins)))
+
+pub loop-pc-preserved : goal.loop-pc-preserved
+loop-pc-preserved c = λ pc within lt. elim (cases_lt pc c.loop-pc.pc) [
+  | inl earlier ↦ c.loop-pc.invariant pc within earlier
+  | inr late ↦
+      let same : c.loop-pc.pc ≡ pc = omega arith in
+      let paid = c.is_paid_at.ensures in
+      let is = c.if-not-is_paid_at.false in
+      subst (PaidAt c.args.body.now.image.now c.args.body.now.r c.args.known.now (numbers_of c.args.potentials.now)) same
+      (record { along = paid.along is; branching = paid.branching is; returns = paid.returns is })
+]
+
+pub returns : goal.returns
+returns c = λ is.
+    let body = c.args.body.now in
+    all-paid-in body.image.now body.r c.args.known.now (numbers_of c.args.potentials.now)
+    (λ pc within. (let below = within.below in c.loop-pc.invariant pc within (omega (arith, below, body.ends, c.loop-pc-test.false))))

@@ -1,0 +1,64 @@
+use Rattle.std.proofs.Common.{sym, subst}
+use Rattle.geos_potentials.specs.Arcs.{AreArcs, NoArcsOutside}
+use Rattle.geos_rows.specs.Code.{IsPcOf}
+use Rattle.geos_potentials.specs.Lacks.{IsLack}
+use Rattle.geos_potentials.specs.Spreads.{ComeBehind, ComeFrom, ForgetsIt}
+use Rattle.geos_potentials.specs.declared.graph.Graph.{Graph}
+use Rattle.geos_potentials.proofs.Rounding.{never-pay}
+use Rattle.geos_potentials.proofs.Idling.{notes-idle, round-never-paid}
+use Rattle.geos_potentials.specs.Numbers.{numbers_of}
+use Rattle.geos_potentials.proofs.Demand.{for-loops}
+use Rattle.geos_potentials.proofs.Unpayable.{none-accepted-round}
+use Rattle.geos_potentials.proofs.Priced.{found-least, none-pay}
+use Rattle.geos_potentials.proofs.search.Search.find.Goals as goal
+
+pub returns-in-Err-clause-way : goal.returns-in-Err-clause-way
+returns-in-Err-clause-way c = λ notes.
+    let body = c.args.body.now in
+    let image = body.image.now in
+    let arcs = c.note.new.self.arcs in
+    let stay = c.find.ensures.noted in
+    let touched = subst (ComeBehind arcs body.start (IsPcOf image body.r) ForgetsIt) (sym stay.touched) c.note-2.ensures.touched in
+    let unset = subst (ComeFrom arcs body.start) (sym stay.unset) c.note-2.ensures.unset in
+    let begins = body.begins in
+    let idle = notes-idle image body.r c.args.known.now c.args.touched.now arcs c.note.ensures.arcs notes c.find.new.classes
+    (subst (λ n. ComeBehind arcs n (IsPcOf image body.r) ForgetsIt c.find.new.classes.touched) begins touched)
+    (subst (λ n. ComeFrom arcs n c.find.new.classes.unset) begins unset) in
+    let never = round-never-paid image body.r c.args.known.now c.args.touched.now arcs c.note.ensures.arcs notes c.find.new.classes idle
+    c.in-Err.ensures.round in
+    (never, none-accepted-round image body.r body.there never)
+
+pub returns-in-Err-pay-clause-way : goal.returns-in-Err-pay-clause-way
+returns-in-Err-pay-clause-way c = λ notes.
+    let body = c.args.body.now in
+    let image = body.image.now in
+    let search = c.pay.new.self in
+    let arcs = search.graph.arcs in
+    let noted = subst (λ (g : Graph). AreArcs image body.r c.args.known.now c.args.touched.now g.arcs) (sym c.pay.ensures.graph) c.note.ensures.arcs in
+    let outside = subst (λ (g : Graph). NoArcsOutside image body.r g.arcs) (sym c.pay.ensures.graph) c.note.ensures.outside in (
+      c.in-Err-pay.ensures.lack,
+      λ is. never-pay image body.r c.args.known.now c.args.touched.now arcs noted outside search.units.pay
+          (subst (IsLack arcs search.splitting search.units) is c.in-Err-pay.ensures.lack),
+    )
+
+pub returns-then-put_potentials-clause-least : goal.returns-then-put_potentials-clause-least
+returns-then-put_potentials-clause-least c =
+    let body = c.args.body.now in
+    let units = c.pay.new.self.units in
+    found-least body.image.now body.r c.args.known.now units.pay units.lengths.ways
+    (c.in-Ok.ensures.least c.args.known.now c.args.touched.now c.note.ensures.arcs)
+    (numbers_of c.put_potentials.new.potentials) (c.put_potentials.ensures.put c.if-put_potentials.true)
+
+pub returns-then-put_potentials-clause-wanted : goal.returns-then-put_potentials-clause-wanted
+returns-then-put_potentials-clause-wanted c =
+    let body = c.args.body.now in
+    for-loops body.image.now body.r c.args.known.now c.args.touched.now c.note.new.self.arcs c.note.ensures.arcs c.pay.new.self.units.pay
+    (numbers_of c.put_potentials.new.potentials).coefficients c.in-Ok.ensures.wanted
+    (λ pc within. (c.put_potentials.ensures.put c.if-put_potentials.true pc within).1)
+
+pub returns-else-put_potentials-clause-way : goal.returns-else-put_potentials-clause-way
+returns-else-put_potentials-clause-way c = λ notes.
+    let body = c.args.body.now in
+    let units = c.pay.new.self.units in
+    none-pay body.image.now body.r c.args.known.now units.pay units.lengths.ways
+    (c.in-Ok.ensures.least c.args.known.now c.args.touched.now c.note.ensures.arcs) (c.put_potentials.ensures.passes c.if-put_potentials.false)

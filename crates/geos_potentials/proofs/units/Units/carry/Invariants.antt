@@ -1,0 +1,14 @@
+use Rattle.std.proofs.Common.{◌≡◌, ◌+◌, ◌*◌, false}
+use Rattle.geos_potentials.specs.Demands.{left_in, StayWanted}
+use Rattle.geos_potentials.specs.Lacks.{PricePasses}
+use Rattle.geos_potentials.proofs.units.Units.carry.Given as goal
+
+-- what was wanted at first still is, and some price passes where one did
+abbrev pub invariant-loop-pc : goal.invariant-loop-pc
+invariant-loop-pc l = record {
+  wanted : StayWanted l.graph.arcs l.fn.self.pay l.self.pay;
+  passes : l.fits ≡ false → PricePasses l.graph.arcs l.self.pay;
+}
+
+abbrev pub decreases-loop-pc : goal.decreases-loop-pc
+decreases-loop-pc l = 2 * left_in l.self.pay + l.self.waits.count

@@ -1,0 +1,17 @@
+use Rattle.std.proofs.Common.{◌≡◌, sym, ap, ◌∙◌, subst}
+use Rattle.geos_potentials.specs.Demands.{AreWanted}
+use Rattle.geos_potentials.specs.declared.units.Units.{Units}
+use Rattle.geos_potentials.proofs.units.Units.pay.Goals.{then-nest, else-nest}
+use Rattle.geos_potentials.proofs.units.Units.pay.Goals as goal
+
+pub returns-clause-wanted : goal.returns-clause-wanted
+returns-clause-wanted c = λ before.
+    let noted : c.if-nest.self.pay ≡ c.args.self.now.pay = elim c.if-nest.branch [
+      | then-nest w ↦ ap (λ (u : Units). u.pay) w.self-is ∙ w.note_before.ensures
+      | else-nest w ↦ ap (λ (u : Units). u.pay) w.self-is
+    ] in
+    c.set_unit.ensures.wanted (subst (AreWanted c.args.graph.now.arcs) (sym (c.find_unit.ensures.pay ∙ noted)) before)
+
+pub returns-in-Err-clause-lack : goal.returns-in-Err-clause-lack
+returns-in-Err-clause-lack c = c.in-Err.ensures.lack
+    (λ other. rw c.begin-paying.ensures.id (c.set.ensures.there other ∙ sym c.begin-paying.ensures.nest))

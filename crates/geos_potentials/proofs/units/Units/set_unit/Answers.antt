@@ -1,0 +1,12 @@
+use Rattle.std.proofs.Common.{sym, subst}
+use Rattle.geos_potentials.specs.Demands.{AreWanted}
+use Rattle.geos_potentials.specs.declared.units.Units.{Units}
+use Rattle.geos_potentials.proofs.units.Units.set_unit.Goals.{then-pays_in, else-pays_in}
+use Rattle.geos_potentials.proofs.units.Units.set_unit.Goals as goal
+
+pub loop-x-preserved : goal.loop-x-preserved
+loop-x-preserved c = λ before. elim c.if-pays_in.branch [
+  | then-pays_in w ↦ subst (λ (u : Units). AreWanted c.args.graph.now.arcs u.pay) (sym w.self-is)
+      (w.raise_at_loop.ensures.wanted (c.loop-x.invariant before))
+  | else-pays_in w ↦ subst (λ (u : Units). AreWanted c.args.graph.now.arcs u.pay) (sym w.self-is) (c.loop-x.invariant before)
+]

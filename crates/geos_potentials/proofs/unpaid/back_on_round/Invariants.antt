@@ -1,0 +1,5 @@
+use Rattle.std.proofs.Common.{◌<◌}
+use Rattle.geos_potentials.proofs.unpaid.back_on_round.Given as goal
+
+abbrev pub invariant-loop : goal.invariant-loop
+invariant-loop l = l.at < 4096

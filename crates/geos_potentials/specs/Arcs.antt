@@ -1,0 +1,76 @@
+-- The edges of a routine, with what they cost and what they do to counters.
+use Rattle.std.specs.Prelude.{◌≡◌, ℕ, ◌+◌, ◌*◌, Bool, true, false, if◌then◌else◌, List, [], ◌∷◌, Option, Some, None, slice_index, slice_index_or}
+use Rattle.geos_opcodes.specs.declared.opcode.Opcode.{Opcode}
+use Rattle.geos_opcodes.specs.declared.opcode.Opcode.TheVariants.{Setk, Setkw, Loop, Call}
+use Rattle.geos_image.specs.declared.instr.Instr.{Instr}
+use Rattle.geos_image.specs.declared.row.Row.{Row}
+use Rattle.geos_image.specs.Parts.{Parts}
+use Rattle.geos_verify.specs.Rows.{bound}
+use Rattle.geos_potentials.specs.declared.arcs.Arc.{Arc}
+use Rattle.geos_potentials.specs.declared.arcs.Counting.{Counting}
+use Rattle.geos_potentials.specs.declared.arcs.Counting.TheVariants.{Nothing, Sets, Takes, Forgets}
+use Rattle.geos_potentials.specs.declared.lengths.Link.{Link}
+use Rattle.geos_rows.specs.Code.{IsPcOf}
+use Rattle.geos_rows.specs.Flow.{row_of, known_at}
+use Rattle.geos_potentials.specs.Steps.{taken_at}
+use Rattle.geos_rows.specs.Why.{LeadsTo}
+
+-- the counters that a routine touches, by a table
+abbrev pub touched_by : List (List Bool) → ℕ → List Bool
+touched_by table r = slice_index_or table r (false ∷ false ∷ false ∷ false ∷ [])
+
+-- what an edge of an instruction does to counters: SETK sets its own, SETKW to what the row says of the word, LOOP takes a unit where it
+-- goes to its target, and leaves 0 behind it; of the counters that a called routine touches nothing is known
+abbrev pub counting_of : Row → List (List Bool) → Instr → Opcode → Bool → Counting
+counting_of row table i Setk false = Sets i.a i.imm
+counting_of row table i Setkw false = Sets i.a (bound row i.b)
+counting_of row table i Loop false = Sets i.a 0
+counting_of row table i Loop true = Takes i.a
+counting_of row table i Call false = Forgets (touched_by table i.imm)
+counting_of row table i _ branch = Nothing
+
+-- it is the edge of the instruction at a pc that stays in routine r, where these rows are known
+pub record IsArc (image : Parts) (r : ℕ) (known : List (Option Row)) (table : List (List Bool)) (pc : ℕ) (branch : Bool) (arc : Arc) : Type 0 where
+  pub leads : LeadsTo image pc branch arc.to
+  pub stays : IsPcOf image r arc.to
+  pub steps : 1 + arc.called ≡ taken_at image pc
+  pub counting : arc.counting ≡ counting_of (row_of (known_at known pc)) table leads.point.instr leads.point.instr.opcode branch
+
+-- it is that edge, or there is none
+abbrev pub IsArcIf : Parts → ℕ → List (Option Row) → List (List Bool) → ℕ → Bool → Option Arc → Type 0
+IsArcIf image r known table pc branch None = (to : ℕ) → LeadsTo image pc branch to → IsPcOf image r to → ⊥
+IsArcIf image r known table pc branch (Some arc) = IsArc image r known table pc branch arc
+
+-- the edge of a pc that is noted
+abbrev pub arc_at : List (List (Option Arc)) → ℕ → Bool → Option Arc
+arc_at arcs pc branch = slice_index_or (slice_index_or arcs pc []) (if branch then 1 else 0) None
+
+-- the edges of routine r are noted
+abbrev pub AreArcs : Parts → ℕ → List (Option Row) → List (List Bool) → List (List (Option Arc)) → Type 0
+AreArcs image r known table arcs = (pc : ℕ) (branch : Bool) → IsPcOf image r pc → IsArcIf image r known table pc branch (arc_at arcs pc branch)
+
+-- none of a pc outside of routine r is
+abbrev pub NoArcsOutside : Parts → ℕ → List (List (Option Arc)) → Type 0
+NoArcsOutside image r arcs = (pc : ℕ) (branch : Bool) → (IsPcOf image r pc → ⊥) → arc_at arcs pc branch ≡ None
+
+-- What an edge costs
+
+-- what a unit of a counter pays for at a place
+abbrev pub unit_at : List (List ℕ) → ℕ → ℕ → ℕ
+unit_at pay pc k = slice_index (slice_index_or pay pc []) k
+
+-- what it costs to set a counter, as it is wanted where the edge leads
+abbrev pub price_of : List (List ℕ) → ℕ → Counting → ℕ
+price_of pay to (Sets k n) = unit_at pay to k * n
+price_of pay to _ = 0
+
+-- what is paid by the counter that a unit is taken from
+abbrev pub paid_by : List (List ℕ) → ℕ → Counting → ℕ
+paid_by pay pc (Takes k) = unit_at pay pc k
+paid_by pay pc _ = 0
+
+-- this is what an edge of a pc costs, where units of counters pay for so much
+pub record IsLink (pay : List (List ℕ)) (pc : ℕ) (arc : Arc) (link : Link) : Type 0 where
+  pub to : link.to ≡ arc.to
+  pub costs : link.costs ≡ 1 + arc.called + price_of pay arc.to arc.counting
+  pub paid : link.paid ≡ paid_by pay pc arc.counting

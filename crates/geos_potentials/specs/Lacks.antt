@@ -1,0 +1,78 @@
+-- Why no units are found.
+use Rattle.std.specs.Prelude.{◌≡◌, ◌≤◌, ◌<◌, ◌+◌, ◌⊎◌, ℕ, Bool, true, List, Option, Some, slice_index_or}
+use Rattle.geos_potentials.specs.Arcs.{arc_at, price_of}
+use Rattle.geos_potentials.specs.Least.{is_free, steps_at}
+use Rattle.geos_potentials.specs.Rounds.{CostsMore, CostsPast, SetsEnough}
+use Rattle.geos_potentials.specs.declared.arcs.Arc.{Arc}
+use Rattle.geos_potentials.specs.declared.jumps.Jump.{Jump}
+use Rattle.geos_potentials.specs.declared.jumps.Jump.TheVariants.{Plain}
+use Rattle.geos_potentials.specs.declared.lengths.Way.{Way}
+use Rattle.geos_potentials.specs.declared.nests.Nest.{Nest}
+use Rattle.geos_potentials.specs.declared.nests.Nests.{Nests}
+use Rattle.geos_potentials.specs.declared.nests.Splitting.{Splitting}
+use Rattle.geos_potentials.specs.declared.pieces.Piece.{Piece}
+use Rattle.geos_potentials.specs.declared.units.Lack.{Lack}
+use Rattle.geos_potentials.specs.declared.units.Lack.TheVariants.{SetWithin, Passes, InTurn, NoShare, Looks}
+use Rattle.geos_potentials.specs.declared.units.Units.{Units}
+
+-- control goes round in the piece of a nest on a way on which its counter is set to as much, at least, as its LOOPs take; or on one that costs
+-- more than units pay for, and no LOOP of the nest takes from its counter there; or on one that costs more, even where a unit of the counter
+-- pays for as much as one can; or at least 2 ^ 27 edges were looked at
+abbrev pub IsLackIn : List (List (Option Arc)) → List Jump → ℕ → Nest → Units → Lack → Type 0
+IsLackIn arcs jumps id nest units (SetWithin piece) = (piece ≡ nest.piece) × SetsEnough arcs jumps id nest.counter
+IsLackIn arcs jumps id nest units NoShare = CostsMore arcs units.pay
+IsLackIn arcs jumps id nest units Looks = 134217728 ≤ units.looks
+IsLackIn arcs jumps id nest units InTurn = ⊥
+IsLackIn arcs jumps id nest units Passes = CostsPast arcs jumps units.pay id nest.counter
+
+-- so it is of a nest of a routine
+pub record SetsInNest (arcs : List (List (Option Arc))) (splitting : Splitting) (piece : Piece) : Type 0 where
+  pub id : ℕ
+  pub nest : Nest
+  pub there : (other : Nest) → slice_index_or splitting.nests.list id other ≡ nest
+  pub is : piece ≡ nest.piece
+  pub sets : SetsEnough arcs splitting.jumps id nest.counter
+
+-- some nest is to be paid for
+pub record SomeIsDue (nests : Nests) : Type 0 where
+  pub id : ℕ
+  pub nest : Nest
+  pub there : (other : Nest) → slice_index_or nests.list id other ≡ nest
+  pub due : nest.due ≡ true
+
+-- what it costs to set a counter by some edge is past what a potential can say
+pub record PricePasses (arcs : List (List (Option Arc))) (pay : List (List ℕ)) : Type 0 where
+  pub pc : ℕ
+  pub branch : Bool
+  pub arc : Arc
+  pub read : arc_at arcs pc branch ≡ Some arc
+  pub past : 4294967295 < price_of pay arc.to arc.counting
+
+-- a way round in a nest costs more than is paid, even where a unit of its counter pays for as much as one can
+pub record NestPasses (arcs : List (List (Option Arc))) (splitting : Splitting) (pay : List (List ℕ)) : Type 0 where
+  pub id : ℕ
+  pub nest : Nest
+  pub there : (other : Nest) → slice_index_or splitting.nests.list id other ≡ nest
+  pub costs : CostsPast arcs splitting.jumps pay id nest.counter
+
+-- the LOOP at a pc asks for more than a unit can pay for, where ways take so many steps
+pub record AsksPast (arcs : List (List (Option Arc))) (ways : List Way) (pc : ℕ) : Type 0 where
+  pub arc : Arc
+  pub read : arc_at arcs pc true ≡ Some arc
+  pub past : steps_at ways pc + 4294967295 < steps_at ways arc.to + (1 + arc.called)
+
+-- so does one that is left out
+pub record FreePasses (arcs : List (List (Option Arc))) (jumps : List Jump) (ways : List Way) : Type 0 where
+  pub pc : ℕ
+  pub free : is_free (slice_index_or jumps pc Plain) ≡ true
+  pub asks : AsksPast arcs ways pc
+
+-- the same of what the search has come to: also, what it costs to set a counter passes, or what a LOOP asks for that is left out; or, where
+-- nests wait on each other, one is still to be paid for
+abbrev pub IsLack : List (List (Option Arc)) → Splitting → Units → Lack → Type 0
+IsLack arcs splitting units (SetWithin piece) = SetsInNest arcs splitting piece
+IsLack arcs splitting units NoShare = CostsMore arcs units.pay
+IsLack arcs splitting units Looks = 134217728 ≤ units.looks
+IsLack arcs splitting units InTurn = SomeIsDue splitting.nests
+IsLack arcs splitting units Passes = PricePasses arcs units.pay ⊎ (NestPasses arcs splitting units.pay
+    ⊎ FreePasses arcs splitting.jumps units.lengths.ways)

@@ -1,0 +1,150 @@
+-- Ways round along edges that are noted, and what is paid for on them.
+use Rattle.std.specs.Prelude.{◌≡◌, ◌≢◌, ◌≤◌, ◌<◌, ◌+◌, ◌-◌, ◌*◌, ◌⊎◌, max, ◌==◌, ◌&&◌, ℕ, Bool, true, false, if◌then◌else◌, List, [], ◌∷◌, Option, None, Some, slice_index_or}
+use Rattle.geos_potentials.specs.declared.arcs.Arc.{Arc}
+use Rattle.geos_potentials.specs.declared.arcs.Counting.{Counting}
+use Rattle.geos_potentials.specs.declared.arcs.Counting.TheVariants.{Sets}
+use Rattle.geos_potentials.specs.declared.lengths.Link.{Link}
+use Rattle.geos_potentials.specs.declared.lengths.Share.{Share}
+use Rattle.geos_potentials.specs.declared.lengths.Share.TheVariants.{Nothing, Pays as PaysFor, Costs}
+use Rattle.geos_potentials.specs.declared.paying.Round.{Round}
+use Rattle.geos_potentials.specs.declared.jumps.Jump.{Jump}
+use Rattle.geos_potentials.specs.declared.jumps.Jump.TheVariants.{Plain, Pays}
+use Rattle.geos_potentials.specs.Arcs.{arc_at, unit_at, price_of, paid_by}
+
+-- an edge that is followed
+pub record Step : Type 0 where
+  pub pc : ℕ
+  pub branch : Bool
+  pub arc : Arc
+
+-- steps along noted edges lead from a pc to another; the last one stands first
+abbrev pub AreSteps : List (List (Option Arc)) → ℕ → List Step → ℕ → Type 0
+AreSteps arcs from [] to = from ≡ to
+AreSteps arcs from (step ∷ before) to = (step.arc.to ≡ to) × (arc_at arcs step.pc step.branch ≡ Some step.arc) × AreSteps arcs from before step.pc
+
+-- the sum of a number of each
+abbrev pub total : (Step → ℕ) → List Step → ℕ
+total f [] = 0
+total f (step ∷ steps) = f step + total f steps
+
+-- what a step costs, where units of counters pay for so much
+abbrev pub cost_of : List (List ℕ) → Step → ℕ
+cost_of pay step = 1 + step.arc.called + price_of pay step.arc.to step.arc.counting
+
+-- what units pay of it
+abbrev pub paid_of : List (List ℕ) → Step → ℕ
+paid_of pay step = paid_by pay step.pc step.arc.counting
+
+-- control goes round on a way that costs more than units pay for
+pub record CostsMore (arcs : List (List (Option Arc))) (pay : List (List ℕ)) : Type 0 where
+  pub from : ℕ
+  pub steps : List Step
+  pub round : AreSteps arcs from steps from
+  pub more : total (paid_of pay) steps < total (cost_of pay) steps
+
+-- to how much a counter is set by an edge
+abbrev pub set_by : ℕ → Counting → ℕ
+set_by k (Sets c n) = if c == k then n else 0
+set_by k _ = 0
+
+abbrev pub set_of : ℕ → Step → ℕ
+set_of k step = set_by k step.arc.counting
+
+-- the way to its target of a LOOP that pays in a nest takes a unit
+abbrev pub pays_in : ℕ → Jump → Bool
+pays_in nest (Pays other) = other == nest
+pays_in nest _ = false
+
+abbrev pub taken_of : List Jump → ℕ → Step → ℕ
+taken_of jumps nest step = if step.branch && pays_in nest (slice_index_or jumps step.pc Plain) then 1 else 0
+
+-- control goes round on a way on which a counter is set to as much, at least, as the LOOPs of a nest take from it there
+pub record SetsEnough (arcs : List (List (Option Arc))) (jumps : List Jump) (nest k : ℕ) : Type 0 where
+  pub from : ℕ
+  pub steps : List Step
+  pub round : AreSteps arcs from steps from
+  pub some : 0 < total (set_of k) steps
+  pub enough : total (taken_of jumps nest) steps ≤ total (set_of k) steps
+
+-- Where a unit of a counter pays for as much as one can
+
+-- what it costs then that an edge sets a counter
+abbrev pub dearest_price : List (List ℕ) → ℕ → ℕ → Counting → ℕ
+dearest_price pay k to (Sets c n) = (if c == k then max (unit_at pay to c) 4294967295 else unit_at pay to c) * n
+dearest_price pay k to _ = 0
+
+abbrev pub dearest_of : List (List ℕ) → ℕ → Step → ℕ
+dearest_of pay k step = 1 + step.arc.called + dearest_price pay k step.arc.to step.arc.counting
+
+-- what is paid of it then
+abbrev pub most_paid_of : List Jump → List (List ℕ) → ℕ → Step → ℕ
+most_paid_of jumps pay nest step = if step.branch && pays_in nest (slice_index_or jumps step.pc Plain) then 4294967295 else paid_of pay step
+
+-- control goes round on a way that costs more than is paid, even if a unit of a nest's counter pays for as much as one can
+pub record CostsPast (arcs : List (List (Option Arc))) (jumps : List Jump) (pay : List (List ℕ)) (nest k : ℕ) : Type 0 where
+  pub from : ℕ
+  pub steps : List Step
+  pub round : AreSteps arcs from steps from
+  pub past : total (most_paid_of jumps pay nest) steps < total (dearest_of pay k) steps
+
+-- What is known of a way round that is added up
+
+-- what an edge has to do with the unit of a nest is so; it pays where it is the way to its target of a LOOP of the nest
+abbrev pub HasShare : List (List ℕ) → ℕ → ℕ → ℕ → Arc → Bool → Link → Share → Type 0
+HasShare pay k unit pc arc pays link Nothing = (pays ≡ false) × (link.costs ≡ 1 + arc.called + price_of pay arc.to arc.counting)
+    × (link.paid ≡ paid_by pay pc arc.counting)
+HasShare pay k unit pc arc pays link PaysFor = (pays ≡ true) × (link.costs ≡ 1 + arc.called + price_of pay arc.to arc.counting)
+    × (unit ≤ link.paid)
+HasShare pay k unit pc arc pays link (Costs most) = (pays ≡ false) × (arc.counting ≡ Sets k most) × (0 < most)
+    × (link.costs ≡ 1 + arc.called + max (unit_at pay arc.to k) unit * most)
+
+-- a link is one of a pc's edges, with its share
+abbrev pub LinksIn : List (List (Option Arc)) → List Jump → List (List ℕ) → ℕ → ℕ → ℕ → ℕ → Bool → Link → Type 0
+LinksIn arcs jumps pay nest k unit pc branch link = (arc : Arc) × (arc_at arcs pc branch ≡ Some arc) × (link.to ≡ arc.to)
+    × HasShare pay k unit pc arc (branch && pays_in nest (slice_index_or jumps pc Plain)) link link.share
+
+-- it is set for so many units more, or for none that are less than another
+abbrev pub SetsLow : ℕ → ℕ → ℕ → ℕ → Type 0
+SetsLow here unit most low = (low ≡ 0) ⊎ ((low ≡ most) × (here ≤ unit))
+
+-- one more edge is added up, with its share
+abbrev pub Adds : List (List ℕ) → ℕ → ℕ → Round → Link → Round → Share → Type 0
+Adds pay k unit round link next Nothing = (next.costs ≡ round.costs + link.costs) × (next.paid ≡ round.paid + link.paid)
+    × (next.all_takes ≡ round.all_takes) × (next.all_sets ≡ round.all_sets) × (next.is_set ≡ round.is_set) × (next.least ≡ round.least)
+    × (next.sets ≡ round.sets)
+Adds pay k unit round link next PaysFor = (next.costs ≡ round.costs + link.costs) × (next.paid ≡ round.paid + link.paid)
+    × (next.all_takes ≡ round.all_takes + 1) × (next.all_sets ≡ round.all_sets) × (next.is_set ≡ round.is_set) × (next.least ≢ None)
+    × (next.sets ≡ round.sets)
+Adds pay k unit round link next (Costs most) = (next.costs ≡ round.costs + link.costs) × (next.paid ≡ round.paid + link.paid)
+    × (next.all_takes ≡ round.all_takes) × (next.all_sets ≡ round.all_sets + most) × (next.is_set ≡ true) × (next.least ≡ round.least)
+    × ((low : ℕ) × SetsLow (unit_at pay link.to k) unit most low × (next.sets ≡ round.sets + low))
+
+-- steps are added up
+pub record AddsUp (jumps : List Jump) (pay : List (List ℕ)) (nest k unit : ℕ) (steps : List Step) (round : Round) : Type 0 where
+  pub takes : round.all_takes ≡ total (taken_of jumps nest) steps
+  pub sets : round.all_sets ≤ total (set_of k) steps
+  pub some : round.is_set ≡ true → 0 < total (set_of k) steps
+  pub none : round.least ≡ None → round.all_takes ≡ 0
+  pub least : round.least ≢ None → 0 < round.all_takes
+  pub plain : round.least ≡ None → round.is_set ≡ false
+      → (round.costs ≡ total (cost_of pay) steps) × (round.paid ≡ total (paid_of pay) steps)
+  pub dear : round.costs + (4294967295 - unit) * round.sets ≤ total (dearest_of pay k) steps
+  pub paid : total (most_paid_of jumps pay nest) steps ≤ round.paid + (4294967295 - unit) * round.all_takes
+
+-- those from a pc to another are
+pub record AddsUpTo (arcs : List (List (Option Arc))) (jumps : List Jump) (pay : List (List ℕ)) (nest k unit from at : ℕ) (round : Round)
+    : Type 0 where
+  pub steps : List Step
+  pub lead : AreSteps arcs from steps at
+  pub adds : AddsUp jumps pay nest k unit steps round
+
+-- those of a way round are, and it lacks something
+pub record IsRound (arcs : List (List (Option Arc))) (jumps : List Jump) (pay : List (List ℕ)) (nest k unit : ℕ) (round : Round) : Type 0 where
+  pub from : ℕ
+  pub up : AddsUpTo arcs jumps pay nest k unit from from round
+  pub lacks : round.paid < round.costs
+
+-- what it lacks is more than units that fit 32 bits pay for: so many take and are set
+abbrev pub LacksPast : ℕ → Round → Type 0
+LacksPast unit round = (round.sets < round.takes) × (round.all_takes ≤ round.takes)
+    × ((4294967295 - unit) * (round.takes - round.sets) < round.costs - round.paid)

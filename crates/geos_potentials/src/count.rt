@@ -1,0 +1,169 @@
+//! How many steps are left at most, and what units of counters pay for, routine by routine.
+
+ghost use Rattle.std.specs.Prelude.{◌≡◌, ◌<◌, ◌≤◌, ◌+◌, ℕ, None, true, false, is_some, length, IfOk, IfSome};
+ghost use Rattle.geos_image.specs.Parts.{start_of};
+ghost use Rattle.geos_rows.specs.Code.{ForwardIn};
+ghost use Rattle.geos_potentials.specs.Constants.{HasLoops, PayLeastIn, AreLeastFrom};
+ghost use Rattle.geos_potentials.specs.Steps.{NoStepsHoldIn};
+ghost use Rattle.geos_potentials.specs.Count.{CountsOn, AreCounted, StaysFrom};
+ghost use Rattle.geos_potentials.specs.Numbers.{numbers_of};
+
+use crate::asked::{Potentials, potential_at};
+use crate::cycles::has_unpaid_cycle;
+use crate::paid::are_paid;
+use crate::search::Search;
+use crate::spent::{calls_are_spent, find_touched};
+use crate::unpaid::WaysIn;
+use geos_image::Image;
+use geos_rows::{Body, Known, Table, body_of, is_loop, leads_back, two_tables};
+use geos_verify::Touched;
+use std::alloc::{AllocError, Global};
+
+/// Steps of a routine are counted from its last instruction to its first; `None` where a number is
+/// past what a potential can say.
+fn sweep(body: &Body, known: &Known, potentials: &mut Potentials) -> Option<()>
+    ensures counts { CountsOn body.now.image.now body.now.r (numbers_of potentials.old) (numbers_of potentials.new) (is_some result) }
+    ensures stays { StaysFrom (start_of body.now.image.now.routines (body.now.r + 1)) (numbers_of potentials.old) (numbers_of potentials.new) }
+{
+    // For what its law says.
+    potentials.lengths();
+    for pc in (body.start..body.end).rev() {
+        let next = potential_at(body, known, potentials, pc)?;
+        potentials.set(pc, next);
+    }
+    Some(())
+}
+
+/// Whether some instruction of a routine is a LOOP, or leads back.
+fn has_loops(body: &Body) -> bool
+    ensures forward { ForwardIn body.now.image.now body.now.r → result ≡ false }
+    ensures none { result ≡ false → HasLoops body.now.image.now body.now.r → ⊥ }
+{
+    for pc in body.start..body.end {
+        if is_loop(body.image.instr(pc).opcode) || leads_back(body, pc) {
+            return true;
+        }
+    }
+    false
+}
+
+/// What counting in routines with loops takes.
+#[derive(Drop)]
+struct Tables {
+    touched: Touched,
+    into: Table<WaysIn>,
+    listed: Table<u16>,
+    search: Search,
+}
+
+impl Tables {
+    fn new(alloc: Global, image: &Image) -> Result<Tables, AllocError> {
+        let (into, listed) = two_tables(alloc, WaysIn::with_left(0), 0)?;
+        let search = Search::new(alloc)?;
+        Ok(Tables {
+            touched: find_touched(image),
+            into,
+            listed,
+            search,
+        })
+    }
+}
+
+/// Counts the steps of a routine with loops; `false` where no number of them is found to be enough, or a
+/// counter is wanted behind a call that touches it.
+fn count_loops(body: &Body, known: &Known, tables: &mut Tables, potentials: &mut Potentials) -> bool
+    ensures least { result ≡ true → PayLeastIn body.now.image.now body.now.r known.now (numbers_of potentials.new) }
+    ensures stays { StaysFrom (start_of body.now.image.now.routines (body.now.r + 1)) (numbers_of potentials.old) (numbers_of potentials.new) }
+{
+    if has_unpaid_cycle(body, &mut tables.into, &mut tables.listed) {
+        return false;
+    }
+    tables
+        .search
+        .find(body, known, &tables.touched, potentials)
+        .is_ok()
+        && are_paid(body, known, potentials)
+        && calls_are_spent(body, &tables.touched, potentials)
+}
+
+/// Counts the steps of a routine; `false` where no number of them is found to be enough. The tables are made for the first routine with
+/// loops: an image without them needs none.
+fn count_in(
+    alloc: Global,
+    body: &Body,
+    known: &Known,
+    made: &mut Option<Tables>,
+    potentials: &mut Potentials,
+) -> Result<bool, AllocError>
+    ensures counts { IfOk result (CountsOn body.now.image.now body.now.r (numbers_of potentials.old) (numbers_of potentials.new)) }
+    ensures least { IfOk result (λ counted. counted ≡ true → HasLoops body.now.image.now body.now.r
+        → PayLeastIn body.now.image.now body.now.r known.now (numbers_of potentials.new)) }
+    ensures stays { IfOk result (λ _. StaysFrom (start_of body.now.image.now.routines (body.now.r + 1))
+        (numbers_of potentials.old) (numbers_of potentials.new)) }
+{
+    if !has_loops(body) {
+        return Ok(sweep(body, known, potentials).is_some());
+    }
+    let mut tables = match made.take() {
+        Some(tables) => tables,
+        None => Tables::new(alloc, body.image)?,
+    };
+    let counted = count_loops(body, known, &mut tables, potentials);
+    if let Some(old) = made.replace(tables) {
+        // By a call, so that the check does not go over each table here.
+        drop(old);
+    }
+    Ok(counted)
+}
+
+/// Counts the steps of so many routines, from the last to the first, with tables once there are any; the first routine for which no
+/// number is found, if there is one.
+fn count_each(
+    alloc: Global,
+    image: &Image,
+    routines: u16,
+    known: &Known,
+    tables: &mut Option<Tables>,
+    potentials: &mut Potentials,
+) -> Result<Option<u16>, AllocError>
+    requires { routines ≤ length image.now.routines }
+    ensures counted { IfOk result (λ _. AreCounted image.now 0 routines (numbers_of potentials.new)) }
+    ensures least { IfOk result (λ left. left ≡ None → AreLeastFrom image.now 0 routines known.now (numbers_of potentials.new)) }
+    ensures within { IfOk result (λ left. IfSome left (λ r. r < routines)) }
+    ensures none { IfOk result (λ left. IfSome left (NoStepsHoldIn image.now)) }
+{
+    let mut left = None;
+    for r in (0..routines).rev() {
+        let counted = count_in(alloc, &body_of(image, r), known, tables, potentials)?;
+        if !counted {
+            left = Some(r);
+        }
+    }
+    Ok(left)
+}
+
+/// Finds how many steps are left at most at each instruction of so many routines, and what units of counters pay for, with the rows that
+/// are known. A routine is answered for which none are found, if there is one: where it has no loops, no numbers of steps hold in it.
+/// Else the potentials of each routine with loops pay for its edges and returns, each constant is at most any that does with these rows
+/// and coefficients, and each coefficient is wanted for a LOOP. Where none of them has loops, and some numbers of steps hold in all,
+/// those that are found do, and are at most any that do.
+pub fn find_potentials(
+    alloc: Global,
+    image: &Image,
+    routines: u16,
+    known: &Known,
+    potentials: &mut Potentials,
+) -> Result<Option<u16>, AllocError>
+    requires { routines ≤ length image.now.routines }
+    ensures counted { IfOk result (λ _. AreCounted image.now 0 routines (numbers_of potentials.new)) }
+    ensures least { IfOk result (λ left. left ≡ None → AreLeastFrom image.now 0 routines known.now (numbers_of potentials.new)) }
+    ensures within { IfOk result (λ left. IfSome left (λ r. r < routines)) }
+    ensures none { IfOk result (λ left. IfSome left (NoStepsHoldIn image.now)) }
+{
+    let mut tables = None;
+    let left = count_each(alloc, image, routines, known, &mut tables, potentials);
+    if let Some(tables) = tables {
+        drop(tables);
+    }
+    left
+}

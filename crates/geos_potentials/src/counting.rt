@@ -1,0 +1,83 @@
+//! What the edges of an instruction cost, and what they do to counters.
+
+ghost use Rattle.std.specs.Prelude.{◌≡◌, ◌<◌, ◌≤◌, ◌+◌, false};
+ghost use Rattle.geos_image.specs.Fields.{FieldsFit};
+ghost use Rattle.geos_potentials.specs.Arcs.{counting_of, IsArcIf};
+ghost use Rattle.geos_rows.specs.Flow.{row_of, known_at};
+ghost use Rattle.geos_potentials.specs.Steps.{taken_at};
+
+use crate::arcs::{Arc, Counting};
+use crate::spent::touched_by;
+use geos_image::{Instr, Opcode};
+use geos_rows::{Body, Known, bound_of, edge_in, row_of};
+use geos_verify::Touched;
+
+/// What the edge of the instruction at a pc to the next one does to counters.
+fn counting_along(i: &Instr, known: &Known, touched: &Touched, pc: u16) -> Counting
+    requires fields { FieldsFit i.now.opcode i.now }
+    requires inside { pc < 4096 }
+    ensures { result ≡ counting_of (row_of (known_at known.now pc)) touched.now i.now i.now.opcode false }
+{
+    match i.opcode {
+        Opcode::Setk => Counting::Sets(i.a, i.imm),
+        Opcode::Setkw => Counting::Sets(i.a, bound_of(&row_of(&known.at(pc)), i.b)),
+        Opcode::Loop => Counting::Sets(i.a, 0),
+        Opcode::Call => Counting::Forgets(touched_by(touched, i.imm)),
+        _ => Counting::Nothing,
+    }
+}
+
+/// What an edge of the instruction at a pc does to counters.
+fn counting_over(i: &Instr, known: &Known, touched: &Touched, pc: u16, branch: bool) -> Counting
+    requires fields { FieldsFit i.now.opcode i.now }
+    requires inside { pc < 4096 }
+    ensures { result ≡ counting_of (row_of (known_at known.now pc)) touched.now i.now i.now.opcode branch }
+{
+    if !branch {
+        return counting_along(i, known, touched, pc);
+    }
+    match i.opcode {
+        Opcode::Loop => Counting::Takes(i.a),
+        _ => Counting::Nothing,
+    }
+}
+
+/// The budget of the routine that the instruction at a pc calls; 0 where it calls none.
+fn called_at(body: &Body, pc: u16) -> u32
+    requires { pc < body.now.end }
+    ensures { 1 + result ≡ taken_at body.now.image.now pc }
+{
+    let i = body.image.instr(pc);
+    match i.opcode {
+        Opcode::Call => body.image.routine(i.imm).budget,
+        _ => 0,
+    }
+}
+
+/// What the instruction at a pc takes: a step, and the budget of the routine that it calls.
+pub fn taken_at(body: &Body, pc: u16) -> u64
+    requires { pc < body.now.end }
+    ensures value { result ≡ taken_at body.now.image.now pc }
+    ensures small { result ≤ 4294967296 }
+{
+    1 + u64::from(called_at(body, pc))
+}
+
+/// The edge of the instruction at a pc, if it stays in the routine.
+pub(crate) fn arc_of(
+    body: &Body,
+    known: &Known,
+    touched: &Touched,
+    pc: u16,
+    branch: bool,
+) -> Option<Arc>
+    requires { pc < body.now.end }
+    ensures { IsArcIf body.now.image.now body.now.r known.now touched.now pc branch result }
+{
+    let edge = edge_in(body, pc, branch)?;
+    Some(Arc {
+        to: edge.to,
+        called: called_at(body, pc),
+        counting: counting_over(body.image.instr(pc), known, touched, pc, branch),
+    })
+}

@@ -1,0 +1,97 @@
+//! Cycles that no counter pays for.
+
+ghost use Rattle.std.specs.Prelude.{◌≡◌, ◌<◌, false};
+ghost use Rattle.geos_rows.specs.Code.{ForwardIn};
+
+use crate::unpaid::{WaysIn, lead_unpaid};
+use geos_image::MOST_INSTRS;
+use geos_rows::{Body, Table, is_loop, leads_back};
+
+/// Whether an edge leads back in a routine that is no LOOP's way to its target.
+fn leads_back_unpaid(body: &Body) -> bool
+    ensures { ForwardIn body.now.image.now body.now.r → result ≡ false }
+{
+    for pc in body.start..body.end {
+        if !is_loop(body.image.instr(pc).opcode) && leads_back(body, pc) {
+            return true;
+        }
+    }
+    false
+}
+
+/// Counts the edges into each place of a routine.
+fn count_edges(body: &Body, into: &mut Table<WaysIn>) {
+    into.fill_from(body.start, WaysIn::with_left(0));
+    for pc in body.start..body.end {
+        for branch in [false, true] {
+            if let Some(to) = lead_unpaid(body, pc, branch) {
+                into.set(to, WaysIn::with_left(into.at(to).left.saturating_add(1)));
+            }
+        }
+    }
+}
+
+/// Puts a pc behind those that are listed; how many are listed then.
+fn list(listed: &mut Table<u16>, count: u16, pc: u16) -> u16 {
+    if MOST_INSTRS <= count {
+        return count;
+    }
+    listed.set(count, pc);
+    count + 1
+}
+
+/// Takes the edges from a listed place away, and lists the places that no edge is left into; how
+/// many are listed then.
+fn take_edges(
+    body: &Body,
+    pc: u16,
+    into: &mut Table<WaysIn>,
+    listed: &mut Table<u16>,
+    count: u16,
+) -> u16
+    requires { pc < body.now.end }
+{
+    let mut count = count;
+    for branch in [false, true] {
+        if let Some(to) = lead_unpaid(body, pc, branch) {
+            let left = into.at(to).left.saturating_sub(1);
+            into.set(to, WaysIn::with_left(left));
+            if left == 0 {
+                count = list(listed, count, to);
+            }
+        }
+    }
+    count
+}
+
+/// Whether control can go round in a routine and never take a LOOP's way to its target: no number
+/// of steps is enough for that. It looks at each edge twice. The tables are only written.
+pub(crate) fn has_unpaid_cycle(
+    body: &Body,
+    into: &mut Table<WaysIn>,
+    listed: &mut Table<u16>,
+) -> bool
+    ensures { ForwardIn body.now.image.now body.now.r → result ≡ false }
+{
+    if !leads_back_unpaid(body) {
+        return false;
+    }
+    count_edges(body, into);
+    let mut count = 0;
+    for pc in body.start..body.end {
+        if into.at(pc).left == 0 {
+            count = list(listed, count, pc);
+        }
+    }
+    // Places that are on no cycle and behind none are listed one after another.
+    for at in 0..body.end - body.start {
+        if count <= at {
+            return true;
+        }
+        let pc = listed.at(at);
+        if pc < body.end {
+            count = take_edges(body, pc, into, listed, count);
+        }
+    }
+    false
+}

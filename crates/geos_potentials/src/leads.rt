@@ -1,0 +1,81 @@
+//! The edges that lead into each place of a routine.
+
+ghost use Rattle.std.specs.Prelude.{◌≡◌, ◌<◌, ◌≤◌, ℕ, [], if◌then◌else◌, None, MatchOption, slice_index_or};
+
+use crate::arcs::Arc;
+use geos_rows::{Table, two_tables};
+use std::alloc::{AllocError, Global};
+
+/// An edge into a place: where it begins, and whether it leads to the target of the instruction there.
+#[derive(Clone, Copy)]
+pub(crate) struct Lead {
+    pub(crate) from: u16,
+    pub(crate) branch: bool,
+    ghost inside: { from < 4096 },
+}
+
+/// The edges into each place, as a list: its first one, and behind each edge the next.
+#[derive(Drop)]
+pub(crate) struct Leads {
+    first: Table<Option<Lead>>,
+    /// Behind the edge of each place to the next instruction, and behind the one to its target.
+    behind: Table<[Option<Lead>; 2]>,
+}
+
+impl Leads {
+    /// There are no edges.
+    pub(crate) fn new(alloc: Global) -> Result<Leads, AllocError> {
+        let (first, behind) = two_tables(alloc, None, [None, None])?;
+        Ok(Leads { first, behind })
+    }
+
+    /// There are no edges into the places from a pc on.
+    pub(crate) fn clear_from(&mut self, pc: u16)
+        requires { pc < 4096 }
+        ensures { (to : ℕ) → pc ≤ to → to < 4096 → slice_index_or self.new.first to None ≡ None }
+    {
+        self.first.fill_from(pc, None);
+    }
+
+    /// An edge comes first among those into where it leads, if there is one; the edge that came first there before.
+    fn put(&mut self, from: u16, branch: bool, arc: &Option<Arc>) -> Option<Lead>
+        requires { from < 4096 }
+        ensures result { MatchOption arc.now (result ≡ None) (λ edge. result ≡ slice_index_or self.old.first edge.to None) }
+        ensures behind { self.new.behind ≡ self.old.behind }
+    {
+        let Some(arc) = arc else {
+            return None;
+        };
+        let behind = self.first.at(arc.to);
+        self.first.set(arc.to, Some(Lead { from, branch }));
+        behind
+    }
+
+    /// The edges of a place lead to others: that to the next instruction, and that to its target.
+    pub(crate) fn add(&mut self, from: u16, arcs: &[Option<Arc>; 2])
+        requires { from < 4096 }
+    {
+        let [along, branching] = arcs;
+        let behind = [
+            self.put(from, false, along),
+            self.put(from, true, branching),
+        ];
+        self.behind.set(from, behind);
+    }
+
+    /// The first edge into a place.
+    pub(crate) fn first(&self, to: u16) -> Option<Lead>
+        requires { to < 4096 }
+        ensures { result ≡ slice_index_or self.now.first to None }
+    {
+        self.first.at(to)
+    }
+
+    /// The next edge into where an edge leads.
+    pub(crate) fn next(&self, lead: Lead) -> Option<Lead>
+        ensures { result ≡ slice_index_or (slice_index_or self.now.behind lead.from []) (if lead.branch then 1 else 0) None }
+    {
+        let [along, branching] = self.behind.get(lead.from);
+        if lead.branch { *branching } else { *along }
+    }
+}

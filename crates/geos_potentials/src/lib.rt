@@ -1,0 +1,51 @@
+//! Potentials: how many steps are left at most at each instruction of a routine, and what units of counters pay for.
+//!
+//! docs/VERIFIER.md says what potentials are.
+#![tactic(auto)]
+
+mod arcs;
+mod asked;
+mod choice;
+mod classes;
+mod components;
+mod constants;
+mod count;
+mod counting;
+mod cycles;
+mod dearest;
+mod depth;
+mod graph;
+mod idle;
+mod jumps;
+mod leads;
+mod lengths;
+mod nests;
+mod paid;
+mod paying;
+mod pieces;
+mod pile;
+mod place;
+mod ranks;
+mod search;
+mod spent;
+mod spread;
+mod units;
+mod unpaid;
+
+pub use arcs::{Arc, Counting};
+pub use asked::Potentials;
+pub use count::find_potentials;
+pub use counting::taken_at;
+pub use dearest::find_dearest;
+pub use graph::Graph;
+pub use jumps::{Jump, Jumps};
+pub use nests::{Nest, Nests, Splitting};
+pub use pieces::{Order, Piece};
+pub use pile::Pile;
+pub use place::Place;
+pub use ranks::some_always_may_pay;
+pub use search::{Halt, Search};
+pub use spent::{Touching, find_touching, touched_by, touches};
+pub use spread::Spread;
+pub use units::{Lack, Units};
+pub use unpaid::{BackWay, find_round};

@@ -1,0 +1,330 @@
+//! Nests: places among which control goes round, each with the LOOPs that pay for that.
+
+ghost use Rattle.std.specs.Prelude.{◌≡◌, ◌<◌, ◌≤◌, ◌+◌, None, IfErr, slice_index_or, slice_set};
+ghost use Rattle.geos_potentials.specs.Pieces.{NoneMayPay};
+ghost use Rattle.geos_potentials.specs.Stuck.{StayNoted, GoesRoundIdle};
+ghost use Rattle.geos_potentials.specs.declared.nests.Nest.{Nest};
+
+use crate::choice::{Choice, Chosen, Tier, choose};
+use crate::classes::Classes;
+use crate::components::Components;
+use crate::graph::Graph;
+use crate::idle::goes_round_idle;
+use crate::jumps::{Jump, Jumps, lead_within};
+use crate::pieces::{Order, Piece};
+use geos_image::MOST_INSTRS;
+use geos_rows::{Body, Table, two_tables};
+use std::alloc::{AllocError, Global};
+
+/// Places among which control goes round.
+#[derive(Clone, Copy)]
+pub struct Nest {
+    pub piece: Piece,
+    /// The counter whose LOOPs pay.
+    pub(crate) counter: u8,
+    /// The nest around it.
+    pub(crate) around: Option<u16>,
+    /// How many are around it.
+    depth: u16,
+    /// Whether its counter is set in it and kept from there to one of its LOOPs.
+    pub(crate) tight: bool,
+    /// Whether it is to be paid for.
+    pub(crate) due: bool,
+    /// The last round over the nests in which one in it was left to the next.
+    pub(crate) put_off: u16,
+    /// How often it was paid for.
+    pub paid: u16,
+}
+
+impl Nest {
+    const NOTHING: Nest = Nest {
+        piece: Piece { begin: 0, end: 0 },
+        counter: 0,
+        around: None,
+        depth: 0,
+        tight: false,
+        due: false,
+        put_off: 0,
+        paid: 0,
+    };
+}
+
+/// A component that is to be a nest.
+#[derive(Clone, Copy)]
+struct Waiting {
+    piece: Piece,
+    around: Option<u16>,
+}
+
+/// The nests of a routine, each before those in it.
+#[derive(Drop)]
+pub struct Nests {
+    list: Table<Nest>,
+    count: u16,
+    /// Components that are to be nests.
+    waiting: Table<Waiting>,
+    waits: u16,
+    /// The innermost nest of the edge from each place to the next.
+    inner: Table<Option<u16>>,
+}
+
+impl Nests {
+    pub(crate) fn new(alloc: Global) -> Result<Nests, AllocError> {
+        let waiting = Waiting {
+            piece: Piece { begin: 0, end: 0 },
+            around: None,
+        };
+        let (list, waiting) = two_tables(alloc, Nest::NOTHING, waiting)?;
+        let inner = Table::new(alloc, None)?;
+        Ok(Nests {
+            list,
+            count: 0,
+            waiting,
+            waits: 0,
+            inner,
+        })
+    }
+
+    /// How many there are.
+    pub(crate) fn count(&self) -> u16
+        ensures { result ≡ self.now.count }
+    {
+        self.count
+    }
+
+    /// One of them.
+    pub fn at(&self, nest: u16) -> Nest
+        requires { nest < 4096 }
+        ensures { (other : Nest) → result ≡ slice_index_or self.now.list nest other }
+    {
+        self.list.at(nest)
+    }
+
+    pub(crate) fn set(&mut self, id: u16, nest: Nest)
+        requires { id < 4096 }
+        ensures list { self.new.list ≡ slice_set self.old.list id nest }
+        ensures there { (other : Nest) → slice_index_or self.new.list id other ≡ nest }
+        ensures count { self.new.count ≡ self.old.count }
+        ensures inner { self.new.inner ≡ self.old.inner }
+    {
+        // For what its law says.
+        self.list.lengths();
+        self.list.set(id, nest);
+    }
+
+    /// The innermost nest of the edge from a place to the next.
+    pub(crate) fn inner(&self, pc: u16) -> Option<u16>
+        requires { pc < 4096 }
+        ensures { result ≡ slice_index_or self.now.inner pc None }
+    {
+        self.inner.at(pc)
+    }
+
+    /// A component is to be a nest.
+    fn wait(&mut self, piece: Piece, around: Option<u16>)
+        ensures count { self.new.count ≡ self.old.count }
+        ensures waits { self.old.waits < 4096 → self.new.waits ≡ self.old.waits + 1 }
+        ensures waiting { self.old.waits < 4096
+            → self.new.waiting ≡ slice_set self.old.waiting self.old.waits (record { piece = piece; around = around }) }
+    {
+        if self.waits < MOST_INSTRS {
+            self.waiting.set(self.waits, Waiting { piece, around });
+            self.waits += 1;
+        }
+    }
+
+    /// The last component that is to be a nest.
+    fn take(&mut self) -> Option<Waiting>
+        ensures { self.new.count ≡ self.old.count }
+    {
+        if self.waits == 0 || MOST_INSTRS < self.waits {
+            return None;
+        }
+        self.waits -= 1;
+        Some(self.waiting.at(self.waits))
+    }
+
+    /// Lists a nest; its number.
+    fn list(&mut self, waiting: &Waiting, choice: &Choice) -> u16
+        requires { self.old.count < 4096 }
+        ensures id { result ≡ self.old.count }
+        ensures count { self.new.count ≡ self.old.count + 1 }
+    {
+        let id = self.count;
+        let depth = self.depth_in(waiting.around);
+        let nest = Nest {
+            piece: waiting.piece,
+            counter: choice.counter,
+            around: waiting.around,
+            depth,
+            tight: matches!(choice.tier, Tier::Tight),
+            due: true,
+            ..Nest::NOTHING
+        };
+        self.list.set(id, nest);
+        self.count = id + 1;
+        id
+    }
+
+    /// How many nests are around one in a nest.
+    fn depth_in(&self, around: Option<u16>) -> u16 {
+        match around {
+            Some(nest) if nest < MOST_INSTRS => self.list.at(nest).depth.saturating_add(1),
+            _ => 0,
+        }
+    }
+}
+
+/// What a search for nests goes by.
+#[derive(Drop)]
+pub struct Splitting {
+    pub order: Order,
+    pub jumps: Jumps,
+    pub nests: Nests,
+    components: Components,
+}
+
+impl Splitting {
+    pub(crate) fn new(alloc: Global) -> Result<Splitting, AllocError> {
+        let order = Order::new(alloc)?;
+        let jumps = Table::new(alloc, Jump::Plain)?;
+        let nests = Nests::new(alloc)?;
+        let components = Components::new(alloc)?;
+        Ok(Splitting {
+            order,
+            jumps,
+            nests,
+            components,
+        })
+    }
+
+    /// Whether control goes round among the places of a piece, which are a component.
+    fn goes_round(&self, graph: &Graph, piece: &Piece) -> bool {
+        if MOST_INSTRS <= piece.begin || piece.length() == 0 {
+            return false;
+        }
+        if 1 < piece.length() {
+            return true;
+        }
+        let pc = self.order.place(piece.begin);
+        lead_within(graph, &self.jumps, &self.order, piece, pc, true).is_some()
+    }
+
+    /// Splits a piece into its components; those in which control goes round are to be nests.
+    fn split(&mut self, graph: &Graph, piece: &Piece, around: Option<u16>)
+        ensures { self.new.nests.count ≡ self.old.nests.count }
+    {
+        self.components
+            .arrange(graph, &self.jumps, &mut self.order, piece);
+        let mut begin = piece.begin;
+        for component in (0..self.components.count().min(MOST_INSTRS)).rev() {
+            let end = self.components.end_of(component);
+            let part = Piece { begin, end };
+            if self.goes_round(graph, &part) {
+                self.nests.wait(part, around);
+            }
+            begin = end;
+        }
+    }
+
+    /// The LOOPs that are chosen in a nest pay in it.
+    fn mark(
+        &mut self,
+        body: &Body,
+        graph: &Graph,
+        classes: &Classes,
+        piece: &Piece,
+        choice: &Chosen,
+    )
+        ensures { self.new.nests.count ≡ self.old.nests.count }
+    {
+        for x in piece.begin..piece.end {
+            let pc = self.order.place(x);
+            if let Some(arc) = graph.arc(pc, false) {
+                if self.order.has(piece, arc.to) {
+                    self.nests.inner.set(pc, Some(choice.nest));
+                }
+            }
+            if choice.takes(graph, &self.jumps, &self.order, classes, piece, pc) {
+                self.jumps.set(pc, Jump::Pays(choice.nest));
+            }
+        }
+    }
+
+    /// Makes a nest of a component. Where no LOOP of it may pay, and control goes round in it, that is in the way; where control does not, it
+    /// needs no nest.
+    fn make(
+        &mut self,
+        body: &Body,
+        graph: &Graph,
+        classes: &mut Classes,
+        waiting: &Waiting,
+    ) -> Result<(), Piece>
+        requires { self.old.nests.count < 4096 }
+        ensures noted { StayNoted classes.old classes.new }
+        ensures none { IfErr result (NoneMayPay graph.now.arcs self.new.jumps self.new.order classes.new) }
+        ensures round { IfErr result (λ _. GoesRoundIdle body.now.image.now body.now.r graph.now.arcs classes.new) }
+        ensures count { self.new.nests.count ≤ self.old.nests.count + 1 }
+    {
+        let piece = &waiting.piece;
+        classes.note_set_within(body.start, graph, &self.order, piece);
+        let Some(choice) = choose(graph, &self.jumps, &self.order, classes, piece) else {
+            return if goes_round_idle(body, graph, classes, self, piece) {
+                Err(*piece)
+            } else {
+                Ok(())
+            };
+        };
+        let nest = self.nests.list(waiting, &choice);
+        let all = DEEP <= self.nests.at(nest).depth;
+        let chosen = Chosen { choice, nest, all };
+        self.mark(body, graph, classes, piece, &chosen);
+        self.split(graph, piece, Some(nest));
+        Ok(())
+    }
+
+    /// LOOPs to which control comes with their counters at 0 alone are left out.
+    fn free_loops(&mut self, body: &Body, graph: &Graph, classes: &Classes) {
+        self.jumps.fill_from(body.start, Jump::Plain);
+        for pc in body.start..body.end {
+            if let Some(arc) = graph.arc(pc, true) {
+                if let Some(counter) = arc.takes() {
+                    if classes.is_spent(pc, counter) {
+                        self.jumps.set(pc, Jump::Free);
+                    }
+                }
+            }
+        }
+    }
+
+    /// Finds the nests of a routine, or a component in which control goes round and no LOOP may pay. What is known of counters stays, but for
+    /// what is set in a piece.
+    pub(crate) fn find(
+        &mut self,
+        body: &Body,
+        graph: &Graph,
+        classes: &mut Classes,
+    ) -> Result<(), Piece>
+        ensures noted { StayNoted classes.old classes.new }
+        ensures none { IfErr result (NoneMayPay graph.now.arcs self.new.jumps self.new.order classes.new) }
+        ensures round { IfErr result (λ _. GoesRoundIdle body.now.image.now body.now.r graph.now.arcs classes.new) }
+    {
+        self.free_loops(body, graph, classes);
+        self.nests.count = 0;
+        self.nests.waits = 0;
+        self.nests.inner.fill_from(body.start, None);
+        let all = self.order.begin(body);
+        self.split(graph, &all, None);
+        // Each nest has a LOOP of its own.
+        for _ in 0..MOST_INSTRS {
+            let Some(waiting) = self.nests.take() else {
+                return Ok(());
+            };
+            self.make(body, graph, classes, &waiting)?;
+        }
+        Ok(())
+    }
+}
+
+/// As many nests in one another, from where on LOOPs of all prices are taken at once.
+const DEEP: u16 = 8;

@@ -1,0 +1,413 @@
+//! A nest that is paid for: the least unit with which no way round in it lacks something.
+
+ghost use Rattle.std.specs.Prelude.{◌≡◌, ◌<◌, ◌≤◌, ◌-◌, ◌⊎◌, List, Option, None, IfSome, IfErr, slice_index_or};
+ghost use Rattle.geos_potentials.specs.Lacks.{IsLackIn, IsLack};
+ghost use Rattle.geos_potentials.specs.Rounds.{HasShare, LinksIn, SetsLow, Adds, IsRound, LacksPast};
+ghost use Rattle.geos_potentials.specs.declared.arcs.Arc.{Arc};
+ghost use Rattle.geos_potentials.specs.declared.arcs.Counting.TheVariants.{Sets};
+ghost use Rattle.geos_potentials.specs.declared.jumps.Jump.{Jump};
+ghost use Rattle.geos_potentials.specs.declared.nests.Nest.{Nest};
+ghost use Rattle.geos_potentials.specs.declared.units.Units.{Units};
+
+use crate::arcs::Arc;
+use crate::graph::Graph;
+use crate::lengths::{Link, Share};
+use crate::nests::{Nest, Splitting};
+use crate::spread::number_of;
+use crate::units::{LOOKS, Lack, Units};
+use geos_image::MOST_INSTRS;
+
+/// How often the unit of a nest is raised to just what a way round lacks, before it is doubled each time.
+const RAISES: u32 = 32;
+
+/// So many sweeps over a nest are each followed by a look for ways that come round, then every so many: such a way grows with each sweep, and is
+/// found at last.
+const EACH: u32 = 4;
+
+/// A way round that lacks something.
+#[derive(Clone, Copy)]
+struct Round {
+    costs: u64,
+    paid: u64,
+    /// How many units the nest's LOOPs take whose unit is the nest's, and how many are set for these.
+    takes: u64,
+    sets: u64,
+    /// The same, whatever the unit is.
+    all_takes: u64,
+    all_sets: u64,
+    /// The least unit at its LOOPs; none where it has none.
+    least: Option<u32>,
+    /// The least of those that are more than the nest's; the most there can be, where none is.
+    above: u32,
+    /// Whether the counter is set on it for them.
+    is_set: bool,
+}
+
+impl Round {
+    ghost use Rattle.std.specs.Prelude.{◌≡◌, ◌≢◌, ◌+◌, ℕ, true, None, IfSome};
+    ghost use Rattle.geos_potentials.specs.Rounds.{SetsLow};
+
+    const NOTHING: Round = Round {
+        costs: 0,
+        paid: 0,
+        takes: 0,
+        sets: 0,
+        all_takes: 0,
+        all_sets: 0,
+        least: None,
+        above: u32::MAX,
+        is_set: false,
+    };
+
+    /// The same with what one more edge costs; none where that is past 64 bits.
+    fn with_cost(&self, link: &Link) -> Option<Round>
+        ensures { IfSome result (λ next. (next.costs ≡ self.now.costs + link.now.costs) × (next.paid ≡ self.now.paid + link.now.paid)
+            × (next.all_takes ≡ self.now.all_takes) × (next.all_sets ≡ self.now.all_sets) × (next.is_set ≡ self.now.is_set)
+            × (next.least ≡ self.now.least) × (next.sets ≡ self.now.sets)) }
+    {
+        let costs = self.costs.checked_add(link.costs)?;
+        let paid = self.paid.checked_add(link.paid)?;
+        Some(Round {
+            costs,
+            paid,
+            ..*self
+        })
+    }
+
+    /// The same with one more LOOP, where a unit at it is so much, and is so much in the nest.
+    fn with_take(&self, here: u32, unit: u32) -> Option<Round>
+        ensures { IfSome result (λ next. (next.costs ≡ self.now.costs) × (next.paid ≡ self.now.paid)
+            × (next.all_takes ≡ self.now.all_takes + 1) × (next.all_sets ≡ self.now.all_sets) × (next.is_set ≡ self.now.is_set)
+            × (next.least ≢ None) × (next.sets ≡ self.now.sets)) }
+    {
+        let all_takes = self.all_takes.checked_add(1)?;
+        let least = match self.least {
+            Some(least) => least.min(here),
+            None => here,
+        };
+        let is_low = here <= unit;
+        Some(Round {
+            all_takes,
+            takes: self.takes.saturating_add(u64::from(is_low)),
+            least: Some(least),
+            above: if is_low {
+                self.above
+            } else {
+                self.above.min(here)
+            },
+            ..*self
+        })
+    }
+
+    /// The same where the counter is once more set to so much, where a unit is so much, and is so much in the nest.
+    fn with_set(&self, most: u16, here: u32, unit: u32) -> Option<Round>
+        ensures { IfSome result (λ next. (next.costs ≡ self.now.costs) × (next.paid ≡ self.now.paid)
+            × (next.all_takes ≡ self.now.all_takes) × (next.all_sets ≡ self.now.all_sets + most) × (next.is_set ≡ true)
+            × (next.least ≡ self.now.least) × ((low : ℕ) × SetsLow here unit most low × (next.sets ≡ self.now.sets + low))) }
+    {
+        let all_sets = self.all_sets.checked_add(u64::from(most))?;
+        let low = low_set(most, here, unit);
+        let sets = self.sets.checked_add(low)?;
+        Some(Round {
+            all_sets,
+            sets,
+            is_set: true,
+            ..*self
+        })
+    }
+}
+
+/// A nest that is paid for.
+#[derive(Clone, Copy)]
+pub(crate) struct Paying {
+    pub(crate) nest: Nest,
+    pub(crate) id: u16,
+    pub(crate) unit: u32,
+}
+
+/// To how much the counter is set for units that are no more than the nest's.
+fn low_set(most: u16, here: u32, unit: u32) -> u64
+    ensures { SetsLow here unit most result }
+{
+    if here <= unit { u64::from(most) } else { 0 }
+}
+
+/// The most that a unit can pay for.
+const MOST: u64 = u32::MAX as u64;
+
+/// The unit with which the way round that lacks something is paid for, where LOOPs take so many units more than are set; past the most, where
+/// none pays for it.
+fn paying_unit(unit: u32, round: &Round, takes: u64, raises: u32) -> u64
+    requires some { 0 < takes }
+    requires takes { takes ≡ round.now.takes - round.now.sets }
+    ensures { 4294967295 < result → LacksPast unit round.now }
+{
+    let lacks = round.costs.saturating_sub(round.paid);
+    let next = u64::from(unit).saturating_add(lacks.div_ceil(takes));
+    if next <= MOST {
+        return if RAISES < raises {
+            next.saturating_mul(2).min(MOST)
+        } else {
+            next
+        };
+    }
+    // LOOPs whose unit is more may yet pay.
+    if round.takes < round.all_takes {
+        u64::from(round.above)
+    } else {
+        next
+    }
+}
+
+/// The unit of a nest, where the way round that lacks something is paid for; none where it is not, whatever the unit is.
+fn next_unit(unit: u32, round: &Round, raises: u32) -> Option<u64>
+    ensures none { result ≡ None → (round.now.least ≡ None) ⊎ (round.now.all_takes ≤ round.now.all_sets) }
+    ensures past { IfSome result (λ next. 4294967295 < next → LacksPast unit round.now) }
+{
+    let least = round.least?;
+    if round.takes == 0 && round.sets == 0 {
+        return Some(u64::from(least));
+    }
+    let takes = round.takes.saturating_sub(round.sets);
+    if takes != 0 {
+        return Some(paying_unit(unit, round, takes, raises));
+    }
+    // Where LOOPs take more in all than is set, it is paid for from some unit on that one of them has.
+    if round.all_takes <= round.all_sets {
+        None
+    } else {
+        Some(u64::from(round.above))
+    }
+}
+
+impl Paying {
+    /// A nest, with the least unit at the LOOPs that pay in it.
+    pub(crate) fn begin(units: &Units, splitting: &Splitting, id: u16, nest: Nest) -> Paying
+        ensures nest { result.nest ≡ nest }
+        ensures id { result.id ≡ id }
+    {
+        let mut unit = u32::MAX;
+        for x in nest.piece.begin..nest.piece.end {
+            let pc = splitting.order.place(x);
+            if splitting.jumps.at(pc).pays_in(id) {
+                unit = unit.min(units.unit(pc, nest.counter));
+            }
+        }
+        Paying { nest, id, unit }
+    }
+
+    /// To how much an edge sets the counter for the nest's LOOPs.
+    fn set_for_it(&self, units: &Units, arc: &Arc) -> Option<u16>
+        ensures { IfSome result (λ most. (arc.now.counting ≡ Sets self.now.nest.counter most) × (0 < most)) }
+    {
+        if !self.nest.tight {
+            return None;
+        }
+        let (counter, most) = arc.sets()?;
+        if counter != self.nest.counter || number_of(units.before.get(arc.to), counter) == 0 {
+            return None;
+        }
+        Some(most)
+    }
+
+    /// An edge with what it costs; `pays` where it is the way to its target of one of the nest's LOOPs.
+    fn link(&self, units: &Units, pc: u16, arc: &Arc, pays: bool) -> Link
+        requires { pc < 4096 }
+        ensures to { result.to ≡ arc.now.to }
+        ensures share { HasShare units.now.pay self.now.nest.counter self.now.unit pc arc.now pays result result.share }
+    {
+        let Link {
+            to,
+            costs,
+            paid,
+            ..
+        } = units.link(pc, arc);
+        if pays {
+            return Link {
+                to,
+                costs,
+                paid: paid.max(u64::from(self.unit)),
+                share: Share::Pays,
+            };
+        }
+        let Some(most) = self.set_for_it(units, arc) else {
+            return Link {
+                to,
+                costs,
+                paid,
+                share: Share::Nothing,
+            };
+        };
+        let unit = units.unit(to, self.nest.counter).max(self.unit);
+        Link {
+            to,
+            costs: arc
+                .steps()
+                .saturating_add(u64::from(unit).saturating_mul(u64::from(most))),
+            paid,
+            share: Share::Costs(most),
+        }
+    }
+
+    /// The edge of a place that is looked at.
+    fn link_at(
+        &self,
+        graph: &Graph,
+        splitting: &Splitting,
+        units: &Units,
+        pc: u16,
+        branch: bool,
+    ) -> Option<Link>
+        requires { pc < 4096 }
+        ensures { IfSome result (LinksIn graph.now.arcs splitting.now.jumps units.now.pay self.now.id self.now.nest.counter self.now.unit pc branch) }
+    {
+        let arc = graph.arc(pc, branch)?;
+        if !splitting.order.has(&self.nest.piece, arc.to) {
+            return None;
+        }
+        let jump = splitting.jumps.at(pc);
+        if branch && jump.is_left_out_in(self.id) {
+            return None;
+        }
+        let pays = branch && jump.pays_in(self.id);
+        Some(self.link(units, pc, &arc, pays))
+    }
+
+    /// Notes what each edge costs, and forgets which edges made ways long.
+    fn weigh(&self, graph: &Graph, splitting: &Splitting, units: &mut Units)
+        ensures pay { units.new.pay ≡ units.old.pay }
+        ensures looks { units.new.looks ≡ units.old.looks }
+    {
+        let piece = &self.nest.piece;
+        for x in piece.begin..piece.end {
+            let pc = splitting.order.place(x);
+            let along = self.link_at(graph, splitting, units, pc, false);
+            let branching = self.link_at(graph, splitting, units, pc, true);
+            units.lengths.set_links(pc, [along, branching]);
+        }
+        units.lengths.forget(&splitting.order, piece);
+    }
+
+    /// A way round with one more edge.
+    fn with_link(&self, units: &Units, round: &Round, pc: u16, link: &Link) -> Option<Round>
+        requires { pc < 4096 }
+        ensures { IfSome result (λ next. Adds units.now.pay self.now.nest.counter self.now.unit round.now link.now next link.now.share) }
+    {
+        let counter = self.nest.counter;
+        let next = round.with_cost(link)?;
+        match link.share {
+            Share::Nothing => Some(next),
+            Share::Pays => next.with_take(units.unit(pc, counter), self.unit),
+            Share::Costs(most) => next.with_set(most, units.unit(link.to, counter), self.unit),
+        }
+    }
+
+    /// The way round from a place, along the edges that made ways so long, if it lacks something.
+    fn round_at(
+        &self,
+        graph: &Graph,
+        splitting: &Splitting,
+        units: &Units,
+        from: u16,
+    ) -> Option<Round>
+        requires { from < 4096 }
+        ensures { IfSome result (IsRound graph.now.arcs splitting.now.jumps units.now.pay self.now.id self.now.nest.counter self.now.unit) }
+    {
+        let mut round = Round::NOTHING;
+        let mut at = from;
+        for _ in 0..MOST_INSTRS {
+            let branch = units.lengths.first(at)?;
+            let link = self.link_at(graph, splitting, units, at, branch)?;
+            round = self.with_link(units, &round, at, &link)?;
+            at = link.to;
+            if at == from {
+                return if round.paid < round.costs {
+                    Some(round)
+                } else {
+                    None
+                };
+            }
+        }
+        None
+    }
+
+    /// Why a way round is not paid for, whatever the unit is.
+    fn lack_of(&self, round: &Round) -> Lack
+        requires { (round.now.least ≡ None) ⊎ (round.now.all_takes ≤ round.now.all_sets) }
+        ensures { (arcs : List (List (Option Arc))) (jumps : List Jump) (units : Units)
+            → IsRound arcs jumps units.pay self.now.id self.now.nest.counter self.now.unit round.now
+            → IsLackIn arcs jumps self.now.id self.now.nest units result }
+    {
+        if round.is_set {
+            return Lack::SetWithin(self.nest.piece);
+        }
+        match round.least {
+            Some(_) => Lack::SetWithin(self.nest.piece),
+            None => Lack::NoShare,
+        }
+    }
+
+    /// The unit, where a way round is paid for, too.
+    fn raised(&self, round: &Round, raises: u32) -> Result<u32, Lack>
+        ensures { (arcs : List (List (Option Arc))) (jumps : List Jump) (units : Units)
+            → IsRound arcs jumps units.pay self.now.id self.now.nest.counter self.now.unit round.now
+            → IfErr result (IsLackIn arcs jumps self.now.id self.now.nest units) }
+    {
+        let Some(unit) = next_unit(self.unit, round, raises) else {
+            return Err(self.lack_of(round));
+        };
+        match u32::try_from(unit) {
+            Ok(unit) => Ok(unit),
+            Err(_) => Err(Lack::Passes),
+        }
+    }
+
+    /// A way round that lacks something, if one is found.
+    fn find_round(&self, graph: &Graph, splitting: &Splitting, units: &mut Units) -> Option<Round>
+        ensures pay { units.new.pay ≡ units.old.pay }
+        ensures looks { units.new.looks ≡ units.old.looks }
+        ensures round { IfSome result (IsRound graph.now.arcs splitting.now.jumps units.new.pay self.now.id self.now.nest.counter self.now.unit) }
+    {
+        let at = units
+            .lengths
+            .find_round(&splitting.order, &self.nest.piece)?;
+        self.round_at(graph, splitting, units, at)
+    }
+
+    /// The least unit with which no way round lacks something.
+    pub(crate) fn find_unit(
+        &mut self,
+        graph: &Graph,
+        splitting: &Splitting,
+        units: &mut Units,
+    ) -> Result<(), Lack>
+        ensures pay { units.new.pay ≡ units.old.pay }
+        ensures lack { ((other : Nest) → slice_index_or splitting.now.nests.list self.old.id other ≡ self.old.nest)
+            → IfErr result (IsLack graph.now.arcs splitting.now units.new) }
+    {
+        let piece = self.nest.piece;
+        let mut raises = 0;
+        self.weigh(graph, splitting, units);
+        for sweep in 0..LOOKS {
+            if !units.look(2 * piece.length()) {
+                return Err(Lack::Looks);
+            }
+            if !units.lengths.sweep(&splitting.order, &piece) {
+                return Ok(());
+            }
+            if EACH < sweep && sweep % EACH != 0 {
+                continue;
+            }
+            if let Some(round) = self.find_round(graph, splitting, units) {
+                match self.raised(&round, raises) {
+                    Ok(unit) => self.unit = unit,
+                    Err(lack) => return Err(lack),
+                }
+                raises = raises.saturating_add(1);
+                self.weigh(graph, splitting, units);
+            }
+        }
+        // Each sweep looks at an edge at least.
+        Err(Lack::Looks)
+    }
+}

@@ -1,0 +1,84 @@
+//! The places of a routine in the order in which they are gone over, and pieces of that order.
+
+ghost use Rattle.std.specs.Prelude.{◌≤◌};
+
+use crate::place::Place;
+use geos_rows::{Body, Table, two_tables};
+use std::alloc::{AllocError, Global};
+
+/// The places from one on up to another, in an order of places.
+#[derive(Clone, Copy)]
+pub struct Piece {
+    pub begin: u16,
+    pub end: u16,
+    ghost room: { end ≤ 4096 },
+}
+
+impl Piece {
+    /// How many places there are.
+    pub(crate) fn length(&self) -> u32
+        ensures { result ≤ 4096 }
+    {
+        u32::from(self.end.saturating_sub(self.begin))
+    }
+}
+
+/// The places of a routine in some order.
+#[derive(Drop)]
+pub struct Order {
+    /// The place that stands first, and so on.
+    pub places: Table<Place>,
+    /// Where each place stands.
+    pub at: Table<u16>,
+}
+
+impl Order {
+    ghost use Rattle.std.specs.Prelude.{◌≡◌, ◌<◌, ◌≤◌, ◌↔◌, IsTrue, slice_index, slice_set};
+    ghost use Rattle.geos_potentials.specs.Stuck.{StandsAt};
+
+    /// There are no places.
+    pub(crate) fn new(alloc: Global) -> Result<Order, AllocError> {
+        let (places, at) = two_tables(alloc, Place { pc: 0 }, 0)?;
+        Ok(Order { places, at })
+    }
+
+    /// The places of a routine stand in the order of their pcs; the piece that they are.
+    pub(crate) fn begin(&mut self, body: &Body) -> Piece {
+        for pc in body.start..body.end {
+            self.put(pc, pc);
+        }
+        Piece {
+            begin: body.start,
+            end: body.end,
+        }
+    }
+
+    /// A place stands here.
+    pub(crate) fn put(&mut self, x: u16, pc: u16)
+        requires here { x < 4096 }
+        requires place { pc < 4096 }
+        ensures { self.new.at ≡ slice_set self.old.at pc x }
+    {
+        self.places.set(x, Place { pc });
+        self.at.set(pc, x);
+    }
+
+    /// The place that stands here.
+    pub fn place(&self, x: u16) -> u16
+        requires { x < 4096 }
+        ensures stands { StandsAt self.now x result }
+        ensures inside { result < 4096 }
+    {
+        let Place { pc } = self.places.at(x);
+        pc
+    }
+
+    /// Whether a piece has a place.
+    pub fn has(&self, piece: &Piece, pc: u16) -> bool
+        requires { pc < 4096 }
+        ensures { IsTrue result ↔ (piece.now.begin ≤ slice_index self.now.at pc) × (slice_index self.now.at pc < piece.now.end) }
+    {
+        let x = self.at.at(pc);
+        piece.begin <= x && x < piece.end
+    }
+}

@@ -1,0 +1,109 @@
+//! The search for potentials of a routine with loops.
+
+ghost use Rattle.std.specs.Prelude.{◌≡◌, ◌+◌, List, Bool, Option, IfOk, IfErr};
+ghost use Rattle.geos_image.specs.Parts.{start_of};
+ghost use Rattle.geos_image.specs.declared.row.Row.{Row};
+ghost use Rattle.geos_potentials.specs.Arcs.{AreArcs};
+ghost use Rattle.geos_potentials.specs.Touching.{NotesTouched};
+ghost use Rattle.geos_potentials.specs.Constants.{AreLeastIn, AreLeastWith, AreForLoops, coefficients_at};
+ghost use Rattle.geos_potentials.specs.Count.{StaysFrom};
+ghost use Rattle.geos_potentials.specs.Demands.{AreWanted};
+ghost use Rattle.geos_potentials.specs.Halts.{IsInTheWay};
+ghost use Rattle.geos_potentials.specs.Lacks.{IsLack};
+ghost use Rattle.geos_potentials.specs.Least.{steps_at};
+ghost use Rattle.geos_potentials.specs.Numbers.{numbers_of};
+
+use crate::asked::Potentials;
+use crate::classes::Classes;
+use crate::constants::{find_constants, free_loops, put_potentials};
+use crate::graph::Graph;
+use crate::nests::Splitting;
+use crate::pieces::Piece;
+use crate::units::{Lack, Units};
+use geos_rows::{Body, Known};
+use geos_verify::Touched;
+use std::alloc::{AllocError, Global};
+
+/// What is in the way of the search.
+#[derive(Clone, Copy)]
+pub enum Halt {
+    /// Control goes round in a component, and no LOOP on the way may pay.
+    Stuck(Piece),
+    /// Nests are not paid for.
+    Unpaid(Lack),
+    /// With the coefficients that are found a constant is past what a potential can say.
+    Passes,
+}
+
+/// What the search takes.
+#[derive(Drop)]
+pub struct Search {
+    pub graph: Graph,
+    pub(crate) classes: Classes,
+    pub splitting: Splitting,
+    pub units: Units,
+}
+
+impl Search {
+    /// Nothing is noted yet.
+    pub fn new(alloc: Global) -> Result<Search, AllocError> {
+        let graph = Graph::new(alloc)?;
+        let classes = Classes::new(alloc)?;
+        let units = Units::new(alloc)?;
+        let splitting = Splitting::new(alloc)?;
+        Ok(Search {
+            graph,
+            classes,
+            splitting,
+            units,
+        })
+    }
+
+    /// Finds coefficients with which the nests that were found are paid for, and the least constants with them.
+    fn pay(&mut self, body: &Body) -> Result<(), Lack>
+        ensures least { IfOk result (λ _. (known : List (Option Row)) (table : List (List Bool))
+            → AreArcs body.now.image.now body.now.r known table self.old.graph.arcs
+            → AreLeastWith body.now.image.now body.now.r known self.new.units.pay (steps_at self.new.units.lengths.ways)) }
+        ensures wanted { IfOk result (λ _. AreWanted self.old.graph.arcs self.new.units.pay) }
+        ensures lack { IfErr result (IsLack self.new.graph.arcs self.new.splitting self.new.units) }
+        ensures graph { self.new.graph ≡ self.old.graph }
+    {
+        self.units
+            .pay_all(body.start, &self.graph, &mut self.splitting)?;
+        find_constants(body, &self.graph, &self.splitting, &mut self.units)?;
+        free_loops(body, &self.graph, &self.splitting, &mut self.units)?;
+        Ok(())
+    }
+
+    /// Finds potentials of a routine, or what is in the way. The constants are the least that pay with the coefficients, and each of these is
+    /// wanted for a LOOP.
+    pub fn find(
+        &mut self,
+        body: &Body,
+        known: &Known,
+        touched: &Touched,
+        potentials: &mut Potentials,
+    ) -> Result<(), Halt>
+        ensures least { IfOk result (λ _. AreLeastIn body.now.image.now body.now.r known.now (numbers_of potentials.new)) }
+        ensures wanted { IfOk result (λ _. AreForLoops body.now.image.now body.now.r (coefficients_at (numbers_of potentials.new).coefficients)) }
+        ensures way { NotesTouched body.now.image.now touched.now
+            → IfErr result (IsInTheWay body.now.image.now body.now.r known.now self.new) }
+        ensures noted { AreArcs body.now.image.now body.now.r known.now touched.now self.new.graph.arcs }
+        ensures stays { StaysFrom (start_of body.now.image.now.routines (body.now.r + 1)) (numbers_of potentials.old) (numbers_of potentials.new) }
+    {
+        self.graph.note(body, known, touched);
+        self.classes.note(body, &self.graph);
+        if let Err(piece) = self.splitting.find(body, &self.graph, &mut self.classes) {
+            return Err(Halt::Stuck(piece));
+        }
+        match self.pay(body) {
+            Ok(()) => {}
+            Err(lack) => return Err(Halt::Unpaid(lack)),
+        }
+        if put_potentials(body, &self.units, potentials) {
+            Ok(())
+        } else {
+            Err(Halt::Passes)
+        }
+    }
+}

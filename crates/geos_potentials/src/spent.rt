@@ -1,0 +1,90 @@
+//! Behind a call nothing is known of the counters that the routine touches, so that no coefficient
+//! may be left on them.
+
+ghost use Rattle.std.specs.Prelude.{◌≡◌, ◌<◌};
+ghost use Rattle.geos_verify.specs.Touched.{noted};
+ghost use Rattle.geos_potentials.specs.Arcs.{touched_by};
+ghost use Rattle.geos_potentials.specs.Touching.{NotesTouched, NotesAllTouched, KnowsTouched};
+
+use crate::asked::Potentials;
+use geos_image::{Image, Opcode};
+use geos_rows::Body;
+use geos_verify::{Touched, are_spent, touched_in};
+
+/// Which counters each routine touches; a routine may call those before it.
+pub(crate) fn find_touched(image: &Image) -> Touched
+    ensures { NotesTouched image.now result }
+{
+    let mut table = [[false; 4]; 32];
+    for r in 0..image.count() {
+        table[usize::from(r)] = touched_in(image, r, &table);
+    }
+    table
+}
+
+/// Which counters each routine may touch: those that the table says, or all, where it says too little, since a routine calls one
+/// behind it.
+fn may_touch(image: &Image, table: &Touched) -> Touched
+    ensures { NotesAllTouched image.now result }
+{
+    for r in 0..image.count() {
+        if touched_in(image, r, table) != table[usize::from(r)] {
+            return [[true; 4]; 32];
+        }
+    }
+    *table
+}
+
+/// Which counters routines touch.
+#[derive(Clone, Copy)]
+pub struct Touching {
+    /// They do touch these.
+    pub certain: Touched,
+    /// They touch no others.
+    pub possible: Touched,
+}
+
+/// Which counters the routines of an image touch.
+pub fn find_touching(image: &Image) -> Touching
+    ensures { KnowsTouched image.now result }
+{
+    let certain = find_touched(image);
+    let possible = may_touch(image, &certain);
+    Touching { certain, possible }
+}
+
+/// Which counters a routine touches, as the table says it.
+pub fn touched_by(table: &Touched, r: u16) -> [bool; 4]
+    ensures { result ≡ touched_by table.now r }
+{
+    match table.get(usize::from(r)) {
+        Some(touched) => *touched,
+        None => [false; 4],
+    }
+}
+
+/// Whether the table says that a routine touches a counter.
+pub fn touches(table: &Touched, r: u16, counter: u8) -> bool
+    ensures { result ≡ noted table.now counter r }
+{
+    match table.get(usize::from(r)) {
+        Some(touched) => match touched.get(usize::from(counter)) {
+            Some(touches) => *touches,
+            None => false,
+        },
+        None => false,
+    }
+}
+
+/// Whether no coefficient is left behind the calls of a routine, on counters that the routines touch that are called.
+pub(crate) fn calls_are_spent(body: &Body, touched: &Touched, potentials: &Potentials) -> bool {
+    for pc in body.start..body.end - 1 {
+        let i = body.image.instr(pc);
+        if let Opcode::Call = i.opcode {
+            if !are_spent(&touched_by(touched, i.imm), &potentials.at(pc + 1)) {
+                return false;
+            }
+        }
+    }
+    true
+}

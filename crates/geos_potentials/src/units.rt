@@ -1,0 +1,361 @@
+//! What a unit of each counter pays for, nest by nest: as much as ways round lack that go through its LOOPs.
+
+ghost use Rattle.std.specs.Prelude.{◌≡◌, ◌≢◌, ◌<◌, ◌≤◌, ℕ, true, false, IfErr};
+ghost use Rattle.geos_potentials.specs.Arcs.{IsLink, unit_at, price_of, paid_by};
+ghost use Rattle.geos_potentials.specs.Demands.{AreWanted, HaveGrown, StayWanted};
+ghost use Rattle.geos_potentials.specs.Lacks.{IsLack, SomeIsDue, PricePasses};
+ghost use Rattle.geos_potentials.specs.Least.{StayAtLoops};
+
+use crate::arcs::{Arc, Counting};
+use crate::graph::Graph;
+use crate::jumps::Jumps;
+use crate::lengths::{Lengths, Link, Share};
+use crate::nests::{Nests, Splitting};
+use crate::paying::Paying;
+use crate::pieces::Piece;
+use crate::pile::Pile;
+use crate::spread::{Spread, go_back, go_back_free, go_back_from, number_of, only, raise};
+use geos_image::MOST_INSTRS;
+use geos_rows::two_tables;
+use std::alloc::{AllocError, Global};
+
+/// How often the nests are gone over.
+const ROUNDS: u16 = 64;
+
+/// How many edges are looked at in all: some 2 s. Of the texts that were made to hurt none took a third of that.
+pub(crate) const LOOKS: u32 = 1 << 27;
+
+/// Why no units are found.
+#[derive(Clone, Copy)]
+pub enum Lack {
+    /// The counter of a nest is set in it on a way round to more than its LOOPs take from it.
+    SetWithin(Piece),
+    /// What a unit pays for, or what it costs to set its counter, is past what a potential can say.
+    Passes,
+    /// A nest is still to be paid for after 64 rounds over all.
+    InTurn,
+    /// A way round in a nest lacks something, and takes no unit of a LOOP that could be raised.
+    NoShare,
+    /// Too many edges were looked at.
+    Looks,
+}
+
+/// The units of counters, and the longest ways where these pay.
+#[derive(Drop)]
+pub struct Units {
+    /// What a unit of each counter pays for, at each place.
+    pub pay: Spread,
+    pub(crate) lengths: Lengths,
+    /// 1 of a nest's counter where it is kept up to a LOOP that pays in the nest.
+    pub(crate) before: Spread,
+    waits: Pile,
+    looks: u32,
+}
+
+/// Whether some nest is to be paid for.
+fn some_due(nests: &Nests) -> bool
+    ensures { result ≡ true → SomeIsDue nests.now }
+{
+    for id in 0..nests.count().min(MOST_INSTRS) {
+        if nests.at(id).due {
+            return true;
+        }
+    }
+    false
+}
+
+impl Units {
+    pub(crate) fn new(alloc: Global) -> Result<Units, AllocError> {
+        let (pay, before) = two_tables(alloc, [0; 4], [0; 4])?;
+        let lengths = Lengths::new(alloc)?;
+        let waits = Pile::new(alloc)?;
+        Ok(Units {
+            pay,
+            lengths,
+            before,
+            waits,
+            looks: 0,
+        })
+    }
+
+    /// Whether so many more edges may be looked at, and one at least.
+    pub(crate) fn look(&mut self, edges: u32) -> bool
+        ensures lengths { self.new.lengths ≡ self.old.lengths }
+        ensures pay { self.new.pay ≡ self.old.pay }
+        ensures more { result ≡ true → self.old.looks < self.new.looks }
+        ensures past { result ≡ false → LOOKS < self.new.looks }
+    {
+        self.looks = self.looks.saturating_add(edges.max(1));
+        self.looks <= LOOKS
+    }
+
+    /// The unit of a counter at a place.
+    pub(crate) fn unit(&self, pc: u16, counter: u8) -> u32
+        requires { pc < 4096 }
+        ensures { result ≡ unit_at self.now.pay pc counter }
+    {
+        number_of(self.pay.get(pc), counter)
+    }
+
+    /// What a unit pays for at the LOOP at a pc is at least so much.
+    pub(crate) fn raise_at_loop(&mut self, graph: &Graph, pc: u16, unit: u32)
+        requires { pc < 4096 }
+        ensures lengths { self.new.lengths ≡ self.old.lengths }
+        ensures wanted { StayWanted graph.now.arcs self.old.pay self.new.pay }
+        ensures more { HaveGrown self.old.pay self.new.pay }
+        ensures others { (at k : ℕ) → at ≢ pc → unit_at self.new.pay at k ≡ unit_at self.old.pay at k }
+    {
+        let Some(arc) = graph.arc(pc, true) else {
+            return;
+        };
+        if let Some(counter) = arc.takes() {
+            let units = only(counter, unit);
+            raise(&mut self.pay, &mut self.waits, pc, &units);
+        }
+    }
+
+    /// Units for LOOPs that are left out are where they are asked for.
+    pub(crate) fn carry_free(&mut self, graph: &Graph, jumps: &Jumps)
+        ensures lengths { self.new.lengths ≡ self.old.lengths }
+        ensures wanted { StayWanted graph.now.arcs self.old.pay self.new.pay }
+        ensures more { HaveGrown self.old.pay self.new.pay }
+        ensures stay { StayAtLoops graph.now.arcs jumps.now self.old.pay self.new.pay }
+    {
+        go_back_free(graph, jumps, &mut self.pay, &mut self.waits);
+    }
+
+    /// What it costs that an edge sets a counter which is wanted where it leads.
+    fn price(&self, to: u16, counting: &Counting) -> u64
+        requires { to < 4096 }
+        ensures value { result ≡ price_of self.now.pay to counting.now }
+        ensures small { result ≤ 281470681677825 }
+    {
+        match counting {
+            Counting::Sets(counter, most) => {
+                u64::from(self.unit(to, *counter)).saturating_mul(u64::from(*most))
+            }
+            _ => 0,
+        }
+    }
+
+    /// What is paid where a unit is taken from a counter at a place.
+    fn paid(&self, pc: u16, counting: &Counting) -> u64
+        requires { pc < 4096 }
+        ensures { result ≡ paid_by self.now.pay pc counting.now }
+    {
+        match counting {
+            Counting::Takes(counter) => u64::from(self.unit(pc, *counter)),
+            _ => 0,
+        }
+    }
+
+    /// An edge with what it costs.
+    pub(crate) fn link(&self, pc: u16, arc: &Arc) -> Link
+        requires { pc < 4096 }
+        ensures { IsLink self.now.pay pc arc.now result }
+    {
+        Link {
+            to: arc.to,
+            costs: arc
+                .steps()
+                .saturating_add(self.price(arc.to, &arc.counting)),
+            paid: self.paid(pc, &arc.counting),
+            share: Share::Nothing,
+        }
+    }
+
+    /// Notes from where the counter of a nest is kept up to its LOOPs.
+    fn note_before(&mut self, graph: &Graph, splitting: &Splitting, paying: &Paying)
+        ensures { self.new.pay ≡ self.old.pay }
+    {
+        self.before.fill_from(0, [0; 4]);
+        let piece = &paying.nest.piece;
+        for x in piece.begin..piece.end {
+            let pc = splitting.order.place(x);
+            if splitting.jumps.at(pc).pays_in(paying.id) {
+                let here = only(paying.nest.counter, 1);
+                raise(&mut self.before, &mut self.waits, pc, &here);
+            }
+        }
+        go_back(graph, &mut self.before, &mut self.waits);
+    }
+
+    /// Nests around a place where a counter is set are to be paid for, where that has grown dearer while a nest was paid for; those around
+    /// one that is left to the next round are left to that, too.
+    fn note_due(&self, splitting: &mut Splitting, paying: &Paying, round: u16, pc: u16)
+        requires { pc < 4096 }
+    {
+        let mut left = false;
+        let mut inner = true;
+        let mut around = splitting.nests.inner(pc);
+        for _ in 0..MOST_INSTRS {
+            let Some(id) = around else {
+                return;
+            };
+            if MOST_INSTRS <= id {
+                return;
+            }
+            let mut nest = splitting.nests.at(id);
+            if left {
+                nest.put_off = round;
+            }
+            if !(inner && nest.tight && id == paying.id) {
+                nest.due = true;
+            }
+            splitting.nests.set(id, nest);
+            left |= paying.id < id;
+            inner = false;
+            around = nest.around;
+        }
+    }
+
+    /// Nests are to be paid for in which a counter is set for the units at a place, which have grown; `false` where what that costs is past
+    /// what a potential can say.
+    fn note_dearer(
+        &self,
+        graph: &Graph,
+        splitting: &mut Splitting,
+        paying: &Paying,
+        round: u16,
+        to: u16,
+    ) -> bool
+        requires { to < 4096 }
+        ensures { result ≡ false → PricePasses graph.now.arcs self.now.pay }
+    {
+        let mut lead = graph.first_into(to);
+        for _ in 0..2 * u32::from(MOST_INSTRS) {
+            let Some(edge) = lead else {
+                return true;
+            };
+            if let Some(arc) = graph.arc(edge.from, edge.branch) {
+                if let Some((counter, _)) = arc.sets() {
+                    if counter == paying.nest.counter {
+                        if u64::from(u32::MAX) < self.price(arc.to, &arc.counting) {
+                            return false;
+                        }
+                        self.note_due(splitting, paying, round, edge.from);
+                    }
+                }
+            }
+            lead = graph.next_into(edge);
+        }
+        true
+    }
+
+    /// Units that have grown at the places that wait are there where they are asked for.
+    fn carry(
+        &mut self,
+        graph: &Graph,
+        splitting: &mut Splitting,
+        paying: &Paying,
+        round: u16,
+    ) -> Result<(), Lack>
+        ensures wanted { StayWanted graph.now.arcs self.old.pay self.new.pay }
+        ensures lack { IfErr result (IsLack graph.now.arcs splitting.new self.new) }
+    {
+        let mut fits = true;
+        while let Some(pc) = self.waits.take() {
+            fits &= self.note_dearer(graph, splitting, paying, round, pc);
+            go_back_from(graph, &mut self.pay, &mut self.waits, pc);
+        }
+        if fits { Ok(()) } else { Err(Lack::Passes) }
+    }
+
+    /// The unit of a nest is at its LOOPs, and where it is asked for.
+    fn set_unit(
+        &mut self,
+        graph: &Graph,
+        splitting: &mut Splitting,
+        paying: &Paying,
+        round: u16,
+    ) -> Result<(), Lack>
+        ensures wanted { StayWanted graph.now.arcs self.old.pay self.new.pay }
+        ensures lack { IfErr result (IsLack graph.now.arcs splitting.new self.new) }
+    {
+        let piece = &paying.nest.piece;
+        for x in piece.begin..piece.end {
+            let pc = splitting.order.place(x);
+            if splitting.jumps.at(pc).pays_in(paying.id) {
+                self.raise_at_loop(graph, pc, paying.unit);
+            }
+        }
+        self.carry(graph, splitting, paying, round)
+    }
+
+    /// Pays for a nest.
+    fn pay(
+        &mut self,
+        graph: &Graph,
+        splitting: &mut Splitting,
+        id: u16,
+        round: u16,
+    ) -> Result<(), Lack>
+        requires { id < 4096 }
+        ensures wanted { StayWanted graph.now.arcs self.old.pay self.new.pay }
+        ensures lack { IfErr result (IsLack graph.now.arcs splitting.new self.new) }
+    {
+        let mut nest = splitting.nests.at(id);
+        nest.due = false;
+        nest.paid = nest.paid.saturating_add(1);
+        splitting.nests.set(id, nest);
+        let mut paying = Paying::begin(self, splitting, id, nest);
+        if nest.tight {
+            self.note_before(graph, splitting, &paying);
+        }
+        if let Err(lack) = paying.find_unit(graph, splitting, self) {
+            return Err(lack);
+        }
+        self.set_unit(graph, splitting, &paying, round)
+    }
+
+    /// Pays for the nests that are to be paid for, inner ones first; whether there were any.
+    fn pay_round(
+        &mut self,
+        graph: &Graph,
+        splitting: &mut Splitting,
+        round: u16,
+    ) -> Result<bool, Lack>
+        ensures wanted { StayWanted graph.now.arcs self.old.pay self.new.pay }
+        ensures lack { IfErr result (IsLack graph.now.arcs splitting.new self.new) }
+    {
+        let mut some = false;
+        for id in (0..splitting.nests.count().min(MOST_INSTRS)).rev() {
+            let nest = splitting.nests.at(id);
+            if nest.due {
+                some = true;
+                if nest.put_off != round {
+                    self.pay(graph, splitting, id, round)?;
+                }
+            }
+        }
+        Ok(some)
+    }
+
+    /// Pays for all nests of a routine. Whatever a unit pays for at a place is wanted by a LOOP.
+    pub(crate) fn pay_all(
+        &mut self,
+        start: u16,
+        graph: &Graph,
+        splitting: &mut Splitting,
+    ) -> Result<(), Lack>
+        requires { start < 4096 }
+        ensures wanted { AreWanted graph.now.arcs self.new.pay }
+        ensures lack { IfErr result (IsLack graph.now.arcs splitting.new self.new) }
+    {
+        self.looks = 0;
+        self.pay.fill_from(0, [0; 4]);
+        // For what its law says.
+        self.pay.lengths();
+        self.lengths.clear(start);
+        for round in 1..ROUNDS + 1 {
+            if !self.pay_round(graph, splitting, round)? {
+                return Ok(());
+            }
+        }
+        if some_due(&splitting.nests) {
+            Err(Lack::InTurn)
+        } else {
+            Ok(())
+        }
+    }
+}

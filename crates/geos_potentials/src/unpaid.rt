@@ -1,0 +1,175 @@
+//! Ways round that no counter pays for.
+
+ghost use Rattle.std.specs.Prelude.{◌≡◌, ◌<◌, ℕ, true, Some, List, Bool, IfSome, IfOk};
+ghost use Rattle.geos_potentials.specs.Idle.{LeadsUnpaid, IsUnpaidWay, GoesRound};
+
+use crate::cycles::has_unpaid_cycle;
+use geos_rows::{Body, Table, edge_in, is_loop, two_tables};
+use std::alloc::{AllocError, Global};
+
+/// An edge to a target by which control goes round: one that leads back, or that of a LOOP.
+#[derive(Clone, Copy)]
+pub struct BackWay {
+    /// The pc of the instruction that it comes from.
+    pub from: u16,
+    /// The pc that it leads to.
+    pub to: u16,
+}
+
+/// An edge by which control comes to a place.
+#[derive(Clone, Copy)]
+struct Came {
+    from: u16,
+    branch: bool,
+    ghost inside: { from < 4096 },
+}
+
+/// The edges into a place.
+#[derive(Clone, Copy)]
+pub(crate) struct WaysIn {
+    /// How many are left; those from a place into which none is are taken away.
+    pub(crate) left: u16,
+    /// One of those that are left, once such are noted.
+    came: Option<Came>,
+}
+
+impl WaysIn {
+    /// So many are left, and none is noted.
+    pub(crate) fn with_left(left: u16) -> WaysIn {
+        WaysIn { left, came: None }
+    }
+}
+
+/// Where an edge of the instruction leads, if it has it, it stays in the routine, and it is no LOOP's way to its target.
+pub(crate) fn lead_unpaid(body: &Body, pc: u16, branch: bool) -> Option<u16>
+    requires { pc < body.now.end }
+    ensures leads { IfSome result (LeadsUnpaid body.now.image.now body.now.r pc branch) }
+    ensures all { (to : ℕ) → LeadsUnpaid body.now.image.now body.now.r pc branch to → result ≡ Some to }
+    ensures inside { IfSome result (λ to. to < 4096) }
+{
+    if branch && is_loop(body.image.instr(pc).opcode) {
+        return None;
+    }
+    match edge_in(body, pc, branch) {
+        Some(edge) => Some(edge.to),
+        None => None,
+    }
+}
+
+/// Notes where an edge leads, if it is a place into which edges are left, and no edge was noted there before.
+fn note(body: &Body, into: &mut Table<WaysIn>, pc: u16, branch: bool)
+    requires { pc < body.now.end }
+{
+    if let Some(to) = lead_unpaid(body, pc, branch) {
+        let WaysIn { left, came } = into.at(to);
+        if left != 0 && came.is_none() {
+            let came = Some(Came { from: pc, branch });
+            into.set(to, WaysIn { left, came });
+        }
+    }
+}
+
+/// Notes an edge into each place into which edges are left, from such a place.
+fn note_all(body: &Body, into: &mut Table<WaysIn>) {
+    for pc in body.start..body.end {
+        if into.at(pc).left != 0 {
+            note(body, into, pc, false);
+            note(body, into, pc, true);
+        }
+    }
+}
+
+/// The first place into which an edge is noted.
+fn first_place(body: &Body, into: &Table<WaysIn>) -> Option<u16>
+    ensures { IfSome result (λ pc. pc < 4096) }
+{
+    for pc in body.start..body.end {
+        if into.at(pc).came.is_some() {
+            return Some(pc);
+        }
+    }
+    None
+}
+
+/// A place on a way round: one goes back along the edges that are noted for so long that some place comes twice.
+fn place_on_round(body: &Body, into: &Table<WaysIn>) -> Option<u16>
+    ensures { IfSome result (λ pc. pc < 4096) }
+{
+    let mut at = first_place(body, into)?;
+    for _ in body.start..body.end {
+        at = into.at(at).came?.from;
+    }
+    Some(at)
+}
+
+/// Whether the edge that is noted at a place leads there.
+fn came_to(body: &Body, came: Came, to: u16) -> bool
+    ensures leads { result ≡ true → LeadsUnpaid body.now.image.now body.now.r came.from came.branch to }
+    ensures inside { result ≡ true → came.from < body.now.end }
+{
+    if body.end <= came.from {
+        return false;
+    }
+    match lead_unpaid(body, came.from, came.branch) {
+        Some(there) => there == to,
+        None => false,
+    }
+}
+
+/// Whether the edges that are noted lead from one pc to another.
+fn leads_on(body: &Body, into: &Table<WaysIn>, from: u16, to: u16) -> bool
+    requires { to < body.now.end }
+    ensures { result ≡ true → (branches : List Bool) × IsUnpaidWay body.now.image.now body.now.r from branches to }
+{
+    let mut at = to;
+    for _ in body.start..body.end {
+        if at == from {
+            return true;
+        }
+        let Some(edge) = into.at(at).came else {
+            return false;
+        };
+        if !came_to(body, edge, at) {
+            return false;
+        }
+        at = edge.from;
+    }
+    false
+}
+
+/// The way back on the way round that a place is on.
+fn back_on_round(body: &Body, into: &Table<WaysIn>, place: u16) -> Option<BackWay>
+    requires { place < 4096 }
+    ensures { IfSome result (λ back. GoesRound body.now.image.now body.now.r back.from back.to) }
+{
+    let mut at = place;
+    for _ in body.start..body.end {
+        let from = into.at(at).came?.from;
+        let back = Came { from, branch: true };
+        if at <= from && came_to(body, back, at) && leads_on(body, into, at, from) {
+            return Some(BackWay { from, to: at });
+        }
+        at = from;
+    }
+    None
+}
+
+/// A way back on a way round that no counter pays for, by tables that are only written.
+fn round_by(body: &Body, into: &mut Table<WaysIn>, listed: &mut Table<u16>) -> Option<BackWay>
+    ensures { IfSome result (λ back. GoesRound body.now.image.now body.now.r back.from back.to) }
+{
+    if !has_unpaid_cycle(body, into, listed) {
+        return None;
+    }
+    note_all(body, into);
+    let place = place_on_round(body, into)?;
+    back_on_round(body, into, place)
+}
+
+/// A way back from whose end control can come to it again and no counter pays for that, if there is one.
+pub fn find_round(alloc: Global, body: &Body) -> Result<Option<BackWay>, AllocError>
+    ensures { IfOk result (λ found. IfSome found (λ back. GoesRound body.now.image.now body.now.r back.from back.to)) }
+{
+    let (mut into, mut listed) = two_tables(alloc, WaysIn::with_left(0), 0)?;
+    Ok(round_by(body, &mut into, &mut listed))
+}

@@ -1,0 +1,10 @@
+use Rattle.std.proofs.Common.{true}
+use Rattle.geos_rows.specs.Alike.{StaysAlike}
+use Rattle.geos_rows.proofs.rounds.flow_on.Given as goal
+
+-- control comes so with what is known
+abbrev pub invariant-loop : goal.invariant-loop
+invariant-loop l = StaysAlike l.body.image.now l.body.r l.fn.known l.known true
+
+abbrev pub invariant-loop-branch : goal.invariant-loop-branch
+invariant-loop-branch l = StaysAlike l.body.image.now l.body.r l.fn.known l.known true

@@ -1,0 +1,10 @@
+pub mod Joins
+pub mod Code
+pub mod Edges
+pub mod Solutions
+pub mod Flow
+pub mod Reached
+pub mod Why
+pub mod Meeting
+pub mod Alike
+pub mod Weakest

@@ -1,0 +1,194 @@
+//! Where ways of control meet with slots that differ.
+
+ghost use Rattle.std.specs.Prelude.{◌≡◌, ◌<◌, true, false, slice_set, IfSome, IfNone, IfOk, IfErr};
+ghost use Rattle.geos_rows.specs.Meeting.{AllCome, BringsAlong, GoesFurther, HasGone, HaveAllGone, IsSpread, NoneWaits, count_unknown};
+ghost use Rattle.geos_rows.specs.Why.{ComesBy, AllEmptied, AreApart, MeetAlike};
+
+use crate::body::Body;
+use crate::common::agree;
+use crate::edges::{Edge, edge_in};
+use crate::emptied::{Emptied, emptied_along};
+use crate::table::{Table, two_tables};
+use geos_image::Row;
+use geos_verify::after;
+use std::alloc::{AllocError, Global};
+
+/// How control comes to a place.
+#[derive(Clone, Copy)]
+pub struct Coming {
+    /// The edge that it comes along; `None` where the routine begins at the place.
+    pub from: Option<Edge>,
+    /// What is known then, of slots above all.
+    pub row: Row,
+    /// By which CALL on a way there each slot was left empty, if by one.
+    pub emptied: [Option<Emptied>; 4],
+}
+
+/// A place to which control comes on two ways, with slots that differ in more than marks.
+#[derive(Clone, Copy)]
+pub struct Apart {
+    /// The place.
+    pub to: u16,
+    pub first: Coming,
+    pub second: Coming,
+}
+
+/// How control was first found to come to each place.
+pub(crate) type Comings = Table<Option<Coming>>;
+
+/// An edge, and the row that control brings along it.
+#[derive(Clone, Copy)]
+struct Brought {
+    edge: Edge,
+    row: Row,
+    emptied: [Option<Emptied>; 4],
+}
+
+/// What control brings along an edge, where it is known to come to the edge's beginning.
+fn bring(body: &Body, known: &Comings, pc: u16, branch: bool) -> Option<Brought>
+    requires here { pc < body.now.end }
+    requires come { AllCome body.now.image.now body.now.r known.now }
+    ensures by { IfSome result (λ brought. ComesBy body.now.image.now body.now.r brought.edge brought.row) }
+    ensures emptied { IfSome result (λ brought. AllEmptied body.now.image.now body.now.r brought.edge.to brought.row brought.emptied) }
+    ensures inside { IfSome result (λ brought. brought.edge.to < body.now.end) }
+    ensures some { IfSome result (λ brought. BringsAlong body.now.image.now known.now pc branch brought.edge.to brought.row) }
+    ensures none { IfNone result (HasGone body.now.image.now body.now.r known.now pc branch) }
+{
+    let before = known.at(pc)?;
+    let edge = edge_in(body, pc, branch)?;
+    let row = after(body.image, pc, &before.row, branch);
+    Some(Brought {
+        edge,
+        row,
+        emptied: emptied_along(body, &before, edge, &row),
+    })
+}
+
+/// What is known at a pc goes along an edge: control is known to come to the place where that leads now, and that waits to go on,
+/// unless it was known before. Whether that is new; `Err` where slots differ.
+fn go(
+    body: &Body,
+    known: &mut Comings,
+    waits: &mut Table<bool>,
+    pc: u16,
+    branch: bool,
+) -> Result<bool, Apart>
+    requires here { pc < body.now.end }
+    requires come { AllCome body.now.image.now body.now.r known.old }
+    ensures come { AllCome body.now.image.now body.now.r known.new }
+    ensures ok { IfOk result (GoesFurther known.old known.new waits.old waits.new) }
+    ensures gone { IfOk result (λ further. HasGone body.now.image.now body.now.r known.new pc branch) }
+    ensures err { IfErr result (AreApart body.now.image.now body.now.r) }
+{
+    let Some(brought) = bring(body, known, pc, branch) else {
+        return Ok(false);
+    };
+    let to = brought.edge.to;
+    let emptied = brought.emptied;
+    let coming = Coming {
+        from: Some(brought.edge),
+        row: brought.row,
+        emptied,
+    };
+    // For what their law says.
+    known.lengths();
+    waits.lengths();
+    match known.at(to) {
+        None => {
+            known.set(to, Some(coming));
+            waits.set(to, true);
+            Ok(true)
+        }
+        Some(first) if agree(&first.row, &coming.row) => Ok(false),
+        Some(first) => Err(Apart {
+            to,
+            first,
+            second: coming,
+        }),
+    }
+}
+
+/// What waits at a pc goes on along both edges. Whether something is new.
+fn go_on(body: &Body, known: &mut Comings, waits: &mut Table<bool>, pc: u16) -> Result<bool, Apart>
+    requires here { pc < body.now.end }
+    requires spread { IsSpread body.now.image.now body.now.r known.old waits.old }
+    ensures spread { IfOk result (λ further. IsSpread body.now.image.now body.now.r known.new waits.new) }
+    ensures ok { IfOk result (GoesFurther known.old known.new (slice_set waits.old pc false) waits.new) }
+    ensures err { IfErr result (AreApart body.now.image.now body.now.r) }
+{
+    waits.set(pc, false);
+    let along = go(body, known, waits, pc, false)?;
+    let aside = go(body, known, waits, pc, true)?;
+    Ok(along || aside)
+}
+
+/// All that waits goes on along its edges. Each place does so once, whichever way control takes. Whether something is new.
+fn go_all(body: &Body, known: &mut Comings, waits: &mut Table<bool>) -> Result<bool, Apart>
+    requires { IsSpread body.now.image.now body.now.r known.old waits.old }
+    ensures spread { IfOk result (λ further. IsSpread body.now.image.now body.now.r known.new waits.new) }
+    ensures settled { IfOk result (λ further. further ≡ false → NoneWaits body.now.image.now body.now.r waits.new body.now.end) }
+    ensures fewer { IfOk result (λ further. further ≡ true → count_unknown known.new < count_unknown known.old) }
+    ensures err { IfErr result (AreApart body.now.image.now body.now.r) }
+{
+    let mut further = false;
+    for pc in body.start..body.end {
+        if waits.at(pc) {
+            further |= go_on(body, known, waits, pc)?;
+        }
+    }
+    Ok(further)
+}
+
+/// What is known at first goes along all edges; the first place that is found where slots differ then.
+fn first_apart(body: &Body, known: &mut Comings, waits: &mut Table<bool>) -> Option<Apart>
+    requires { IsSpread body.now.image.now body.now.r known.old waits.old }
+    ensures some { IfSome result (AreApart body.now.image.now body.now.r) }
+    ensures none { IfNone result (MeetAlike body.now.image.now body.now.r) }
+    ensures gone { IfNone result (HaveAllGone body.now.image.now body.now.r known.new) }
+{
+    loop {
+        match go_all(body, known, waits) {
+            Ok(true) => {}
+            Ok(false) => return None,
+            Err(apart) => return Some(apart),
+        }
+    }
+}
+
+/// How control comes to the places of a routine. `Err` where it comes to one on two ways with slots that differ in more than marks, which
+/// is the first such place that is found.
+pub(crate) fn find_comings(alloc: Global, body: &Body) -> Result<Result<Comings, Apart>, AllocError>
+    ensures err { IfOk result (λ found. IfErr found (AreApart body.now.image.now body.now.r)) }
+    ensures ok { IfOk result (λ found. IfOk found (HaveAllGone body.now.image.now body.now.r)) }
+    ensures none { IfOk result (λ found. IfOk found (λ _. MeetAlike body.now.image.now body.now.r)) }
+{
+    let (mut known, mut waits) = two_tables(alloc, None, false)?;
+    // For what their law says.
+    known.lengths();
+    waits.lengths();
+    known.set(
+        body.start,
+        Some(Coming {
+            from: None,
+            row: body.image.routine(body.r).entry,
+            emptied: [None; 4],
+        }),
+    );
+    waits.set(body.start, true);
+    match first_apart(body, &mut known, &mut waits) {
+        Some(apart) => Ok(Err(apart)),
+        None => Ok(Ok(known)),
+    }
+}
+
+/// The first place that is found to which control comes on two ways, with slots that differ in more than marks. `None` where
+/// there is none.
+pub fn find_apart(alloc: Global, body: &Body) -> Result<Option<Apart>, AllocError>
+    ensures some { IfOk result (λ found. IfSome found (AreApart body.now.image.now body.now.r)) }
+    ensures none { IfOk result (λ found. IfNone found (MeetAlike body.now.image.now body.now.r)) }
+{
+    match find_comings(alloc, body)? {
+        Ok(_) => Ok(None),
+        Err(apart) => Ok(Some(apart)),
+    }
+}

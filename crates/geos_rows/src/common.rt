@@ -1,0 +1,191 @@
+//! What two rows have in common.
+
+ghost use Rattle.std.specs.Prelude.{◌≡◌, max, map, true, length, IfSome, IfNone};
+ghost use Rattle.geos_image.specs.Legal.{is_shaped, is_row};
+ghost use Rattle.geos_verify.specs.Lists.{zip2};
+ghost use Rattle.geos_rows.specs.Joins.{slots_agree, slot_join, pointer_join, pair_join, agree, joined, join, without_empty, clean, IsLeastAbove, FitNothing, IsLeastClean};
+
+use geos_image::{Pointer, Row, SlotState};
+use geos_verify::{leads_nowhere, slot_fits};
+
+fn slots_agree(r: SlotState, s: SlotState) -> bool
+    ensures { result ≡ slots_agree r s }
+{
+    slot_fits(r, s) || slot_fits(s, r)
+}
+
+/// Whether the slots of the rows differ in marks at most.
+pub(crate) fn agree(r: &Row, s: &Row) -> bool
+    ensures { result ≡ agree r.now s.now }
+{
+    let [r0, r1, r2, r3] = r.slots;
+    let [s0, s1, s2, s3] = s.slots;
+    slots_agree(r0, s0) & slots_agree(r1, s1) & slots_agree(r2, s2) & slots_agree(r3, s3)
+}
+
+fn slot_join(r: SlotState, s: SlotState) -> SlotState
+    ensures { result ≡ slot_join r s }
+{
+    if slot_fits(r, s) { s } else { r }
+}
+
+fn slots_join(r: &[SlotState; 4], s: &[SlotState; 4]) -> [SlotState; 4]
+    ensures { result ≡ zip2 slot_join r.now s.now }
+{
+    let [r0, r1, r2, r3] = *r;
+    let [s0, s1, s2, s3] = *s;
+    [
+        slot_join(r0, s0),
+        slot_join(r1, s1),
+        slot_join(r2, s2),
+        slot_join(r3, s3),
+    ]
+}
+
+fn higher(a: u16, b: u16) -> u16
+    ensures { result ≡ max a b }
+{
+    a.max(b)
+}
+
+fn bounds_join(r: &[u16; 8], s: &[u16; 8]) -> [u16; 8]
+    ensures { result ≡ zip2 max r.now s.now }
+{
+    let [r0, r1, r2, r3, r4, r5, r6, r7] = *r;
+    let [s0, s1, s2, s3, s4, s5, s6, s7] = *s;
+    [
+        higher(r0, s0),
+        higher(r1, s1),
+        higher(r2, s2),
+        higher(r3, s3),
+        higher(r4, s4),
+        higher(r5, s5),
+        higher(r6, s6),
+        higher(r7, s7),
+    ]
+}
+
+fn pointer_join(p: Option<Pointer>, q: Option<Pointer>) -> Option<Pointer>
+    ensures { result ≡ pointer_join p q }
+{
+    match (p, q) {
+        (Some(p), Some(q)) => {
+            if p.slot == q.slot {
+                Some(Pointer {
+                    slot: p.slot,
+                    least: p.least.min(q.least),
+                })
+            } else {
+                None
+            }
+        }
+        _ => None,
+    }
+}
+
+fn pointers_join(r: &[Option<Pointer>; 4], s: &[Option<Pointer>; 4]) -> [Option<Pointer>; 4]
+    ensures { result ≡ zip2 pointer_join r.now s.now }
+{
+    let [r0, r1, r2, r3] = *r;
+    let [s0, s1, s2, s3] = *s;
+    [
+        pointer_join(r0, s0),
+        pointer_join(r1, s1),
+        pointer_join(r2, s2),
+        pointer_join(r3, s3),
+    ]
+}
+
+fn pairs_join(r: &[bool; 6], s: &[bool; 6]) -> [bool; 6]
+    ensures { result ≡ zip2 pair_join r.now s.now }
+{
+    let [r0, r1, r2, r3, r4, r5] = *r;
+    let [s0, s1, s2, s3, s4, s5] = *s;
+    [r0 & s0, r1 & s1, r2 & s2, r3 & s3, r4 & s4, r5 & s5]
+}
+
+fn joined(r: &Row, s: &Row) -> Row
+    ensures { result ≡ joined r.now s.now }
+{
+    Row {
+        bounds: bounds_join(&r.bounds, &s.bounds),
+        slots: slots_join(&r.slots, &s.slots),
+        pointers: pointers_join(&r.pointers, &s.pointers),
+        pairs: pairs_join(&r.pairs, &s.pairs),
+    }
+}
+
+/// A law: how long the lists of a row are.
+fn lengths(
+    bounds: &[u16; 8],
+    slots: &[SlotState; 4],
+    pointers: &[Option<Pointer>; 4],
+    pairs: &[bool; 6],
+)
+    ensures bounds { length bounds.now ≡ 8 }
+    ensures slots { length slots.now ≡ 4 }
+    ensures pointers { length pointers.now ≡ 4 }
+    ensures pairs { length pairs.now ≡ 6 }
+{}
+
+/// A law: each row has the shape that the format wants.
+pub(crate) fn shape(row: &Row)
+    ensures { is_shaped row.now ≡ true }
+{
+    lengths(&row.bounds, &row.slots, &row.pointers, &row.pairs);
+}
+
+/// The least of the rows that both fit: what is known where control may come with either.
+/// `None` where there is no such row, since a slot is in states that differ in more than a mark.
+pub fn join(one: &Row, other: &Row) -> Option<Row>
+    ensures value { result ≡ join one.now other.now }
+    ensures some { IfSome result (IsLeastAbove one.now other.now) }
+    ensures none { IfNone result (FitNothing one.now other.now) }
+{
+    shape(one);
+    shape(other);
+    if agree(one, other) {
+        Some(joined(one, other))
+    } else {
+        None
+    }
+}
+
+fn without_empty(slots: &[SlotState; 4], pointer: Option<Pointer>) -> Option<Pointer>
+    ensures { result ≡ without_empty slots.now pointer }
+{
+    if leads_nowhere(slots, pointer) {
+        None
+    } else {
+        pointer
+    }
+}
+
+fn pointers_without_empty(row: &Row) -> [Option<Pointer>; 4]
+    ensures { result ≡ map (without_empty row.now.slots) row.now.pointers }
+{
+    let [p0, p1, p2, p3] = row.pointers;
+    let slots = &row.slots;
+    [
+        without_empty(slots, p0),
+        without_empty(slots, p1),
+        without_empty(slots, p2),
+        without_empty(slots, p3),
+    ]
+}
+
+/// The row without pointers into empty slots: the least of the rows that it fits and that have
+/// none.
+pub fn clean(row: &Row) -> Row
+    ensures value { result ≡ clean row.now }
+    ensures least { IsLeastClean row.now result }
+    ensures legal { is_row true result ≡ true }
+{
+    shape(row);
+    Row {
+        bounds: row.bounds,
+        slots: row.slots,
+        pointers: pointers_without_empty(row),
+        pairs: row.pairs,
+    }
+}

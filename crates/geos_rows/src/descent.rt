@@ -1,0 +1,52 @@
+//! Rows that were widened come down again.
+
+ghost use Rattle.std.specs.Prelude.{◌≡◌, true};
+ghost use Rattle.geos_rows.specs.Alike.{AllComeAlike, StaysAlike};
+ghost use Rattle.geos_rows.specs.Why.{MeetAlike};
+
+use crate::body::Body;
+use crate::edges::edge_in;
+use crate::flow::{flow, spread};
+use crate::seeds::{copy_rows, seed_entry};
+use crate::table::Known;
+
+/// What was given up may come back one loop further in at each descent.
+const DESCENTS: u16 = 2;
+
+/// Makes what is known at first in a routine its entry row, and what edges to targets that lead back say of
+/// the rows that are known; `false` where two of them have no join.
+fn seed(body: &Body, known: &Known, from: &mut Known) -> bool
+    ensures { MeetAlike body.now.image.now body.now.r → AllComeAlike body.now.image.now body.now.r known.now
+        → (result ≡ true) × AllComeAlike body.now.image.now body.now.r from.new }
+{
+    seed_entry(body, from);
+    for pc in body.start..body.end {
+        let Some(row) = known.at(pc) else {
+            continue;
+        };
+        let Some(edge) = edge_in(body, pc, true) else {
+            continue;
+        };
+        if edge.to <= pc && !spread(body, edge, &row, from).has_joined() {
+            return false;
+        }
+    }
+    true
+}
+
+/// Rows flow again, from what the edges that lead back say of the rows that are known: they fit what is
+/// known, and still hold. `false` where two have no join.
+pub(crate) fn descend(body: &Body, from: &mut Known, known: &mut Known) -> bool
+    ensures { StaysAlike body.now.image.now body.now.r known.old known.new result }
+{
+    for _ in 0..DESCENTS {
+        if !seed(body, known, from) {
+            return false;
+        }
+        copy_rows(body, from, known);
+        if !flow(body, known) {
+            return false;
+        }
+    }
+    true
+}

@@ -1,0 +1,69 @@
+//! Where control goes from an instruction, within its routine.
+
+ghost use Rattle.std.specs.Prelude.{◌≡◌, ◌<◌, ◌≤◌, false, slice_get, IfSome};
+ghost use Rattle.geos_rows.specs.Code.{is_loop, ForwardIn, IsPcOf, TargetAhead, edge_end};
+ghost use Rattle.geos_rows.specs.Edges.{edge_within, IsInside};
+ghost use Rattle.geos_rows.specs.Why.{LeadsTo};
+
+use crate::body::Body;
+use geos_image::{Instr, Opcode};
+use geos_verify::has_edge;
+
+/// An edge of the instruction at a pc: to its target where `branch` says so, else to the next
+/// instruction.
+#[derive(Clone, Copy)]
+pub struct Edge {
+    pub pc: u16,
+    pub branch: bool,
+    /// Where it leads.
+    pub to: u16,
+}
+
+/// Whether the instruction is a LOOP.
+pub fn is_loop(opcode: Opcode) -> bool
+    ensures { result ≡ is_loop opcode }
+{
+    match opcode {
+        Opcode::Loop => true,
+        _ => false,
+    }
+}
+
+/// The pc that the edge leads to.
+pub(crate) fn edge_end(pc: u16, i: &Instr, branch: bool) -> u16
+    requires { pc < 4096 }
+    ensures { result ≡ edge_end pc i.now branch }
+{
+    if branch { i.target } else { pc + 1 }
+}
+
+/// The edge of the instruction at a pc, if it has it and it stays in the routine.
+pub fn edge_in(body: &Body, pc: u16, branch: bool) -> Option<Edge>
+    requires { pc < body.now.end }
+    ensures value { IfSome (slice_get body.now.image.now.points pc)
+        (λ point. result ≡ edge_within body.now.start body.now.end pc point.instr branch) }
+    ensures inside { IfSome result (IsInside body.now.image.now body.now.end pc branch) }
+    ensures leads { IfSome result (λ edge. LeadsTo body.now.image.now pc branch edge.to) }
+    ensures stays { IfSome result (λ edge. IsPcOf body.now.image.now body.now.r edge.to) }
+{
+    let i = body.image.instr(pc);
+    let to = edge_end(pc, i, branch);
+    if has_edge(i, branch) && body.start <= to && to < body.end {
+        Some(Edge { pc, branch, to })
+    } else {
+        None
+    }
+}
+
+/// Whether the edge to the target leads back in the routine, or to the instruction itself.
+pub fn leads_back(body: &Body, pc: u16) -> bool
+    requires above { body.now.start ≤ pc }
+    requires below { pc < body.now.end }
+    ensures none { ForwardIn body.now.image.now body.now.r → result ≡ false }
+    ensures ahead { result ≡ false → TargetAhead body.now.image.now body.now.r pc }
+{
+    match edge_in(body, pc, true) {
+        Some(edge) => edge.to <= pc,
+        None => false,
+    }
+}

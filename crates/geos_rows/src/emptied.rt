@@ -1,0 +1,92 @@
+//! Slots that a CALL leaves empty, since the lines of its routine do not say that they are held.
+
+ghost use Rattle.std.specs.Prelude.{◌≡◌, ◌<◌, IfSome};
+ghost use Rattle.geos_image.specs.Parts.{Parts};
+ghost use Rattle.geos_verify.specs.Rows.{after};
+ghost use Rattle.geos_rows.specs.Code.{IsPcOf};
+ghost use Rattle.geos_rows.specs.Why.{LeadsTo, CallsBeside, IsEmptied, AllEmptied, IsComing};
+
+use crate::apart::Coming;
+use crate::body::Body;
+use crate::edges::Edge;
+use geos_image::{Opcode, Row, SlotState};
+use geos_verify::{is_empty, slot_state};
+
+/// A CALL that leaves a slot empty which is held before it: the lines `in` and `out` of the routine that it calls do not say that the
+/// slot is held.
+#[derive(Clone, Copy)]
+pub struct Emptied {
+    /// The pc of the CALL.
+    pub at: u16,
+    /// What the slot holds before it.
+    pub state: SlotState,
+    /// The name of the routine that it calls, with zeros behind it.
+    pub callee: [u8; 16],
+}
+
+/// The instruction at a pc, if it is a CALL, the slot is held before it, and the `in` line of the routine that it calls does not say so.
+fn call_beside(body: &Body, pc: u16, before: &Row, a: u8) -> Option<Emptied>
+    requires { pc < body.now.end }
+    ensures at { IfSome result (λ emptied. emptied.at ≡ pc) }
+    ensures calls { IfSome result (CallsBeside body.now.image.now a before.now) }
+{
+    let i = body.image.instr(pc);
+    let Opcode::Call = i.opcode else {
+        return None;
+    };
+    let state = slot_state(before, a);
+    let callee = body.image.routine(i.imm);
+    if is_empty(state) || !is_empty(slot_state(&callee.entry, a)) {
+        return None;
+    }
+    Some(Emptied {
+        at: pc,
+        state,
+        callee: callee.name,
+    })
+}
+
+/// By which CALL a slot was left empty, where control came to the beginning of an edge and goes along it, and the row is known then:
+/// by that at the beginning, or, where it was empty there, by the one that left it so.
+fn emptied_by(body: &Body, before: &Coming, edge: Edge, row: &Row, a: u8) -> Option<Emptied>
+    requires here { edge.pc < body.now.end }
+    requires few { a < 4 }
+    requires came { IsComing body.now.image.now body.now.r edge.pc before.now }
+    requires leads { LeadsTo body.now.image.now edge.pc edge.branch edge.to }
+    requires stays { IsPcOf body.now.image.now body.now.r edge.to }
+    requires row { row.now ≡ after body.now.image.now edge.pc before.now.row edge.branch }
+    ensures { IfSome result (IsEmptied body.now.image.now body.now.r a edge.to row.now) }
+{
+    if !is_empty(slot_state(row, a)) {
+        return None;
+    }
+    if is_empty(slot_state(&before.row, a)) {
+        return before.emptied[usize::from(a)];
+    }
+    if edge.branch {
+        return None;
+    }
+    call_beside(body, edge.pc, &before.row, a)
+}
+
+/// The same of each slot.
+pub(crate) fn emptied_along(
+    body: &Body,
+    before: &Coming,
+    edge: Edge,
+    row: &Row,
+) -> [Option<Emptied>; 4]
+    requires here { edge.pc < body.now.end }
+    requires came { IsComing body.now.image.now body.now.r edge.pc before.now }
+    requires leads { LeadsTo body.now.image.now edge.pc edge.branch edge.to }
+    requires stays { IsPcOf body.now.image.now body.now.r edge.to }
+    requires row { row.now ≡ after body.now.image.now edge.pc before.now.row edge.branch }
+    ensures { AllEmptied body.now.image.now body.now.r edge.to row.now result }
+{
+    [
+        emptied_by(body, before, edge, row, 0),
+        emptied_by(body, before, edge, row, 1),
+        emptied_by(body, before, edge, row, 2),
+        emptied_by(body, before, edge, row, 3),
+    ]
+}

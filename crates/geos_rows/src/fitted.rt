@@ -1,0 +1,102 @@
+//! Whether what was found in a routine holds.
+
+ghost use Rattle.std.specs.Prelude.{◌≡◌, ◌<◌, ◌↔◌, true, nat_le};
+ghost use Rattle.geos_verify.specs.Lists.{all2};
+ghost use Rattle.geos_rows.specs.Code.{ForwardIn};
+ghost use Rattle.geos_rows.specs.Flow.{fits_known};
+ghost use Rattle.geos_rows.specs.Reached.{EdgeFits, BackFit, AllFit};
+ghost use Rattle.geos_rows.specs.Weakest.{any_words, FitsWeakest, EdgeIsWeak, AllWeak};
+
+use crate::body::Body;
+use crate::common::{clean, shape};
+use crate::edges::{edge_end, leads_back};
+use crate::table::Known;
+use geos_image::Row;
+use geos_verify::{after, fits, has_edge};
+
+/// A law: a word is at most the greatest one.
+fn word(bound: u16)
+    ensures { nat_le bound 65535 ≡ true }
+{}
+
+/// A law: bounds are those of words.
+fn words(bounds: &[u16; 8])
+    ensures { all2 nat_le bounds.now any_words ≡ true }
+{
+    let [b0, b1, b2, b3, b4, b5, b6, b7] = *bounds;
+    word(b0);
+    word(b1);
+    word(b2);
+    word(b3);
+    word(b4);
+    word(b5);
+    word(b6);
+    word(b7);
+}
+
+/// Whether something is known at a place that the row fits.
+fn fits_known(known: &Option<Row>, row: &Row) -> bool
+    ensures value { result ≡ fits_known known.now row.now }
+    ensures weak { FitsWeakest known.now row.now result }
+{
+    shape(row);
+    words(&row.bounds);
+    match known {
+        None => false,
+        Some(known) => fits(row, known),
+    }
+}
+
+/// Whether what is known behind an edge of the instruction at a pc fits what is known where it leads, if
+/// there is such an edge and it stays in the routine.
+fn edge_fits(body: &Body, pc: u16, branch: bool, known: &Known) -> bool
+    requires { pc < body.now.end }
+    ensures fits { (result ≡ true) ↔ EdgeFits body.now.image.now body.now.r known.now pc branch }
+    ensures weak { EdgeIsWeak body.now.image.now body.now.r known.now pc branch → result ≡ true }
+{
+    let Some(row) = known.at(pc) else {
+        return true;
+    };
+    let i = body.image.instr(pc);
+    let to = edge_end(pc, i, branch);
+    if has_edge(i, branch) && body.start <= to && to < body.end {
+        let next = after(body.image, pc, &clean(&row), branch);
+        fits_known(&known.at(to), &next)
+    } else {
+        true
+    }
+}
+
+/// Whether what is known behind each edge of a routine that leads back fits what is known where that leads.
+pub(crate) fn back_edges_fit(body: &Body, known: &Known) -> bool
+    ensures none { ForwardIn body.now.image.now body.now.r → result ≡ true }
+    ensures fit { result ≡ true → BackFit body.now.image.now body.now.r known.now }
+{
+    for pc in body.start..body.end {
+        if leads_back(body, pc) && !edge_fits(body, pc, true, known) {
+            return false;
+        }
+    }
+    true
+}
+
+/// Whether the entry row of a routine fits what is known where it begins, and what is known behind each
+/// edge fits what is known where that leads.
+pub(crate) fn all_fit(body: &Body, known: &Known) -> bool
+    ensures fit { result ≡ true → AllFit body.now.image.now body.now.r known.now }
+    ensures weak { AllWeak body.now.image.now body.now.r known.now → result ≡ true }
+{
+    let entry = body.image.routine(body.r).entry;
+    if !fits_known(&known.at(body.start), &entry) {
+        return false;
+    }
+    for pc in body.start..body.end {
+        if !edge_fits(body, pc, false, known) {
+            return false;
+        }
+        if !edge_fits(body, pc, true, known) {
+            return false;
+        }
+    }
+    true
+}

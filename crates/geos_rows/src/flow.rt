@@ -1,0 +1,149 @@
+//! Rows flow along the edges that lead ahead.
+
+ghost use Rattle.std.specs.Prelude.{◌≡◌, ◌<◌, ◌≤◌, ◌+◌, ◌*◌, true, IfSome, IfNone};
+ghost use Rattle.geos_image.specs.Legal.{is_row};
+ghost use Rattle.geos_image.specs.Parts.{start_of};
+ghost use Rattle.geos_verify.specs.Rows.{after, bound};
+ghost use Rattle.geos_rows.specs.Alike.{StaysAlike};
+ghost use Rattle.geos_rows.specs.Edges.{IsInside};
+ghost use Rattle.geos_rows.specs.Flow.{row_of, has_joined, IsJoin, HaveNoJoin, Arrives, Spreads, Seeded, FlowsBelow, FitAhead, StaysBefore};
+ghost use Rattle.geos_rows.specs.Joins.{clean};
+
+use crate::body::Body;
+use crate::common::{clean, join};
+use crate::edges::{Edge, edge_in};
+use crate::table::Known;
+use geos_image::{Row, SlotState};
+use geos_verify::after;
+
+/// What holds of the registers at a place that nothing reaches, at its strongest.
+const STRONGEST: Row = Row {
+    bounds: [0; 8],
+    slots: [SlotState::Empty; 4],
+    pointers: [None; 4],
+    pairs: [true; 6],
+};
+
+/// The row at a place where this much is known.
+pub fn row_of(known: &Option<Row>) -> Row
+    ensures value { result ≡ row_of known.now }
+    ensures legal { is_row true result ≡ true }
+{
+    match known {
+        None => STRONGEST,
+        Some(row) => clean(row),
+    }
+}
+
+/// The bound of a word; a row has no other word.
+pub fn bound_of(row: &Row, word: u8) -> u16
+    ensures { word < 8 → result ≡ bound row.now word }
+{
+    match row.bounds.get(usize::from(word)) {
+        Some(bound) => *bound,
+        None => u16::MAX,
+    }
+}
+
+/// What is known where another row comes to a place; nothing where they have no join.
+fn join_known(old: &Option<Row>, row: &Row) -> Option<Row>
+    ensures some { IfSome result (IsJoin old.now row.now) }
+    ensures none { IfNone result (HaveNoJoin old.now row.now) }
+{
+    match old {
+        None => Some(*row),
+        Some(old) => join(old, row),
+    }
+}
+
+/// How a row came to a place.
+#[derive(Clone, Copy)]
+pub(crate) enum Arrival {
+    /// No less is known there than was.
+    Same,
+    /// Less is known there, or something now where nothing was.
+    Weaker,
+    /// It has no join with what is known there, which stays.
+    Apart,
+}
+
+impl Arrival {
+    /// Whether the row has a join with what was known.
+    pub(crate) fn has_joined(self) -> bool
+        ensures { result ≡ has_joined self }
+    {
+        match self {
+            Arrival::Same | Arrival::Weaker => true,
+            Arrival::Apart => false,
+        }
+    }
+}
+
+/// A row comes to a place, and is joined with what is known there.
+fn arrive(known: &mut Known, to: u16, row: &Row) -> Arrival
+    requires { to < 4096 }
+    ensures arrives { Arrives result known.old to row.now known.new }
+    ensures stays { StaysBefore to known.old known.new }
+{
+    let old = known.at(to);
+    let Some(joined) = join_known(&old, row) else {
+        return Arrival::Apart;
+    };
+    known.set(to, Some(joined));
+    match old {
+        Some(old) if old == joined => Arrival::Same,
+        _ => Arrival::Weaker,
+    }
+}
+
+/// A row goes along an edge: what is known behind the instruction comes to the place where the edge
+/// leads.
+pub(crate) fn spread(body: &Body, edge: Edge, row: &Row, known: &mut Known) -> Arrival
+    requires { IsInside body.now.image.now body.now.end edge.pc edge.branch edge }
+    ensures arrives { Arrives result known.old edge.to (after body.now.image.now edge.pc (clean row.now) edge.branch) known.new }
+    ensures stays { StaysBefore edge.to known.old known.new }
+{
+    let next = after(body.image, edge.pc, &clean(row), edge.branch);
+    arrive(known, edge.to, &next)
+}
+
+/// The row that is known at the pc goes along the edge, if that leads ahead; `false` where it has no
+/// join with what is known there.
+fn spread_ahead(body: &Body, pc: u16, branch: bool, known: &mut Known) -> bool
+    requires above { body.now.start ≤ pc }
+    requires below { pc < body.now.end }
+    ensures spreads { Spreads body.now.image.now body.now.r pc branch known.old known.new result }
+    ensures alike { StaysAlike body.now.image.now body.now.r known.old known.new result }
+    ensures stays { StaysBefore pc known.old known.new }
+{
+    let Some(row) = known.at(pc) else {
+        return true;
+    };
+    let Some(edge) = edge_in(body, pc, branch) else {
+        return true;
+    };
+    if edge.to <= pc {
+        return true;
+    }
+    spread(body, edge, &row, known).has_joined()
+}
+
+/// From what is known at first, rows flow along the edges of a routine that lead ahead; `false`
+/// where two have no join.
+pub(crate) fn flow(body: &Body, known: &mut Known) -> bool
+    ensures below { Seeded body.now.image.now body.now.r known.old → FlowsBelow body.now.image.now body.now.r known.new result }
+    ensures fit { Seeded body.now.image.now body.now.r known.old → result ≡ true
+        → FitAhead body.now.image.now body.now.r known.new (2 * start_of body.now.image.now.routines (body.now.r + 1)) }
+    ensures alike { StaysAlike body.now.image.now body.now.r known.old known.new result }
+    ensures stays { StaysBefore body.now.start known.old known.new }
+{
+    for pc in body.start..body.end {
+        if !spread_ahead(body, pc, false, known) {
+            return false;
+        }
+        if !spread_ahead(body, pc, true, known) {
+            return false;
+        }
+    }
+    true
+}

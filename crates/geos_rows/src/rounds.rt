@@ -1,0 +1,87 @@
+//! Rows flow on along the edges of a routine, until nothing new comes to any place.
+
+ghost use Rattle.std.specs.Prelude.{◌<◌, true};
+ghost use Rattle.geos_rows.specs.Alike.{AllComeAlike, GoesAlike, StaysAlike};
+ghost use Rattle.geos_rows.specs.Edges.{IsInside};
+ghost use Rattle.geos_rows.specs.Flow.{has_joined};
+
+use crate::body::Body;
+use crate::edges::{Edge, edge_in};
+use crate::flow::{Arrival, spread};
+use crate::table::Known;
+use crate::waiting::Waiting;
+use crate::widening::{Kept, widened};
+use geos_image::Row;
+
+/// How often places go along their edges at most: each of 4,096 does so 100 times until all that changes there is given up, and then 22
+/// times more, since 8 bounds and 4 pointers are given up, 4 slots lose a mark, and 6 pairs go.
+pub(crate) const PASSES: u32 = 4096 * 256;
+
+/// A place was weakened: so much is kept of the join.
+fn widen(body: &Body, kept: Kept, old: &Option<Row>, to: u16, known: &mut Known)
+    requires { to < 4096 }
+    ensures { AllComeAlike body.now.image.now body.now.r known.old → AllComeAlike body.now.image.now body.now.r known.new }
+{
+    if let (Some(old), Some(joined)) = (old, known.at(to)) {
+        known.set(to, Some(widened(body, kept, old, &joined)));
+    }
+}
+
+/// A row goes along an edge; what is weaker behind it waits.
+pub(crate) fn pass(
+    body: &Body,
+    edge: Edge,
+    row: &Row,
+    waiting: &mut Waiting,
+    known: &mut Known,
+) -> Arrival
+    requires { IsInside body.now.image.now body.now.end edge.pc edge.branch edge }
+    ensures { GoesAlike body.now.image.now body.now.r edge row.now
+        → StaysAlike body.now.image.now body.now.r known.old known.new (has_joined result) }
+{
+    let old = known.at(edge.to);
+    let arrival = spread(body, edge, row, known);
+    if let Arrival::Weaker = arrival {
+        let kept = waiting.weaken(edge);
+        if !kept.is_join() {
+            widen(body, kept, &old, edge.to, known);
+        }
+        waiting.wait(edge.to);
+    }
+    arrival
+}
+
+/// What is known at a pc of the routine goes along one edge of the instruction there, if it stays in the routine; `false` where it has
+/// no join with what is known there.
+fn pass_from(body: &Body, pc: u16, branch: bool, waiting: &mut Waiting, known: &mut Known) -> bool
+    ensures { StaysAlike body.now.image.now body.now.r known.old known.new result }
+{
+    if pc < body.start || body.end <= pc {
+        return true;
+    }
+    let Some(row) = known.at(pc) else {
+        return true;
+    };
+    let Some(edge) = edge_in(body, pc, branch) else {
+        return true;
+    };
+    pass(body, edge, &row, waiting, known).has_joined()
+}
+
+/// Rows of a routine flow on from the places that wait, along all its edges until nothing new comes to any place; `false` where two
+/// have no join.
+pub(crate) fn flow_on(body: &Body, waiting: &mut Waiting, known: &mut Known) -> bool
+    ensures { StaysAlike body.now.image.now body.now.r known.old known.new true }
+{
+    for _ in 0..PASSES {
+        let Some(pc) = waiting.take() else {
+            return true;
+        };
+        for branch in [false, true] {
+            if !pass_from(body, pc, branch, waiting, known) {
+                return false;
+            }
+        }
+    }
+    false
+}

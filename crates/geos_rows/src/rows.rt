@@ -1,0 +1,191 @@
+//! What is known at each instruction.
+
+ghost use Rattle.std.specs.Prelude.{◌≡◌, ◌<◌, ◌≤◌, ℕ, true, length, IfOk};
+ghost use Rattle.geos_rows.specs.Flow.{FlowsAnew, HaveFlowed, StaysBefore};
+ghost use Rattle.geos_rows.specs.Reached.{AllFit, FitWhereReached, Keeps};
+ghost use Rattle.geos_rows.specs.Solutions.{NoRowsHoldIn};
+ghost use Rattle.geos_rows.specs.Why.{MeetAlike};
+
+use crate::body::{Body, body_of};
+use crate::descent::descend;
+use crate::edges::leads_back;
+use crate::fitted::{all_fit, back_edges_fit};
+use crate::flow::flow;
+use crate::rounds::flow_on;
+use crate::seeds::{copy_rows, seed_entry};
+use crate::table::{Known, two_tables};
+use crate::waiting::Waiting;
+use crate::weakened::weaken;
+use crate::weakest::find_weakest;
+use geos_image::Image;
+use std::alloc::{AllocError, Global};
+
+/// What is written anew for each routine in which rows flow back, or that has places that nothing reaches.
+#[derive(Drop)]
+struct Tables {
+    /// Rows that flow on along the edges that lead back.
+    flowing: Known,
+    /// The rows of the places that nothing reaches.
+    others: Known,
+    from: Known,
+    waiting: Waiting,
+}
+
+impl Tables {
+    fn new(alloc: Global) -> Result<Tables, AllocError> {
+        let waiting = Waiting::new(alloc)?;
+        let flowing = Known::new(alloc, None)?;
+        let (others, from) = two_tables(alloc, None, None)?;
+        Ok(Tables {
+            flowing,
+            others,
+            from,
+            waiting,
+        })
+    }
+}
+
+/// What is known where an edge leads back has yet to go along it; along the others it has gone.
+fn wait_to_go_back(body: &Body, waiting: &mut Waiting) {
+    waiting.clear(body);
+    for pc in body.start..body.end {
+        if leads_back(body, pc) {
+            waiting.wait(pc);
+        }
+    }
+}
+
+/// Rows of a routine flow on along the edges that lead back, and come down again; `false` where two have no join.
+fn settle(body: &Body, tables: &mut Tables, known: &mut Known) -> bool
+    ensures fit { result ≡ true → AllFit body.now.image.now body.now.r known.new }
+    ensures stays { StaysBefore body.now.start known.old known.new }
+{
+    let Tables {
+        flowing,
+        from,
+        waiting,
+        ..
+    } = tables;
+    copy_rows(body, known, flowing);
+    wait_to_go_back(body, waiting);
+    if !flow_on(body, waiting, flowing) {
+        return false;
+    }
+    // Rows that were not widened are the strongest that hold: none comes down again.
+    if waiting.has_widened() && !descend(body, from, flowing) {
+        return false;
+    }
+    // Rows that flowed till nothing new came fit along all edges, and still do when they have come
+    // down. That is not proved of the search: so each edge is looked at.
+    if !all_fit(body, flowing) {
+        return false;
+    }
+    copy_rows(body, flowing, known);
+    true
+}
+
+/// Finds what is known in a routine wherever control reaches; `false` where two rows have no join, or do not come to hold.
+fn search(body: &Body, tables: &mut Tables, known: &mut Known) -> bool
+    ensures flows { FlowsAnew body.now.image.now body.now.r known.new result }
+    ensures fit { result ≡ true → AllFit body.now.image.now body.now.r known.new }
+    ensures stays { StaysBefore body.now.start known.old known.new }
+{
+    seed_entry(body, known);
+    if !flow(body, known) {
+        return false;
+    }
+    if back_edges_fit(body, known) {
+        // Rows have flowed along each edge that leads ahead, and fit along it.
+        return true;
+    }
+    settle(body, tables, known)
+}
+
+/// Makes known the rows of the places where nothing is.
+fn complete(body: &Body, others: &Known, known: &mut Known)
+    ensures { Keeps body.now.start body.now.end known.old known.old known.new }
+{
+    // For what its law says.
+    known.lengths();
+    for pc in body.start..body.end {
+        if known.get(pc).is_none() {
+            known.set(pc, others.at(pc));
+        }
+    }
+}
+
+/// Finds what is known at each instruction of a routine; `false` where two rows have no join, or those that flow do not come to hold.
+fn find_rows_in(body: &Body, tables: &mut Tables, known: &mut Known) -> bool
+    ensures flows { FlowsAnew body.now.image.now body.now.r known.new result }
+    ensures fit { result ≡ true → FitWhereReached body.now.image.now body.now.r known.new }
+    ensures stays { StaysBefore body.now.start known.old known.new }
+{
+    if !search(body, tables, known) {
+        return false;
+    }
+    if weaken(
+        body,
+        known,
+        &mut tables.from,
+        &mut tables.waiting,
+        &mut tables.others,
+    ) {
+        copy_rows(body, &tables.from, known);
+        return true;
+    }
+    complete(body, &tables.others, known);
+    true
+}
+
+/// Finds what is known at each instruction of a routine: the weakest rows that hold, where others are not found; `false` where ways of
+/// control meet with slots that differ in more than marks.
+fn find_some_rows(
+    alloc: Global,
+    body: &Body,
+    tables: &mut Tables,
+    known: &mut Known,
+) -> Result<bool, AllocError>
+    ensures flows { IfOk result (FlowsAnew body.now.image.now body.now.r known.new) }
+    ensures alike { IfOk result (λ found. MeetAlike body.now.image.now body.now.r → found ≡ true) }
+    ensures fit { IfOk result (λ found. found ≡ true → FitWhereReached body.now.image.now body.now.r known.new) }
+    ensures stays { StaysBefore body.now.start known.old known.new }
+{
+    if find_rows_in(body, tables, known) {
+        return Ok(true);
+    }
+    find_weakest(alloc, body, known)
+}
+
+/// Finds what is known at each instruction, up to the first routine where ways of control meet with slots that differ in more than marks;
+/// how many routines there are before it.
+fn find_all_rows(alloc: Global, image: &Image, known: &mut Known) -> Result<u16, AllocError>
+    ensures few { IfOk result (λ count. count ≤ length image.now.routines) }
+    ensures found { IfOk result (λ count. count ≡ length image.now.routines → HaveFlowed image.now known.new count) }
+    ensures none { IfOk result (λ count. count < length image.now.routines → NoRowsHoldIn image.now count) }
+    ensures alike { IfOk result (λ count. count < length image.now.routines → MeetAlike image.now count → ⊥) }
+    ensures fit { IfOk result (λ count. (r : ℕ) → r < count → FitWhereReached image.now r known.new) }
+{
+    let mut tables = Tables::new(alloc)?;
+    for r in 0..image.count() {
+        let found = find_some_rows(alloc, &body_of(image, r), &mut tables, known)?;
+        if !found {
+            return Ok(r);
+        }
+    }
+    Ok(image.count())
+}
+
+/// Finds what is known at each instruction, up to the first routine where ways of control meet with slots that differ in more than marks;
+/// and how many routines there are before it. In these it holds wherever control reaches.
+pub fn find_rows(alloc: Global, image: &Image) -> Result<(Known, u16), AllocError>
+    ensures few { IfOk result (λ both. both.1 ≤ length image.now.routines) }
+    ensures found { IfOk result (λ both. both.1 ≡ length image.now.routines → HaveFlowed image.now both.0 both.1) }
+    ensures none { IfOk result (λ both. both.1 < length image.now.routines → NoRowsHoldIn image.now both.1) }
+    ensures alike { IfOk result (λ both. both.1 < length image.now.routines → MeetAlike image.now both.1 → ⊥) }
+    ensures fit { IfOk result (λ both. (r : ℕ) → r < both.1 → FitWhereReached image.now r both.0) }
+    ensures met { IfOk result (λ both. (r : ℕ) → r < both.1 → MeetAlike image.now r) }
+{
+    let mut known = Known::new(alloc, None)?;
+    let routines = find_all_rows(alloc, image, &mut known)?;
+    Ok((known, routines))
+}

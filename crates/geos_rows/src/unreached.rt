@@ -1,0 +1,187 @@
+//! Rows at places that nothing reaches: the rules are tried there too.
+
+ghost use Rattle.std.specs.Prelude.{◌≡◌, ◌<◌, true, false};
+ghost use Rattle.geos_image.specs.Fields.{FieldsFit};
+ghost use Rattle.geos_rows.specs.Flow.{AllKnown};
+
+use crate::body::Body;
+use crate::common::clean;
+use crate::edges::edge_in;
+use crate::rounds::{PASSES, pass};
+use crate::table::Known;
+use crate::waiting::Waiting;
+use geos_image::{Instr, Opcode, Pointer, Row, SlotState};
+use geos_opcodes::{Kind, SlotUse};
+use geos_verify::uses_at;
+
+/// Whether something is known at each instruction of a routine.
+fn all_known(body: &Body, known: &Known) -> bool
+    ensures { result ≡ false → AllKnown body.now.image.now body.now.r known.now → ⊥ }
+{
+    for pc in body.start..body.end {
+        let Some(_row) = known.at(pc) else {
+            return false;
+        };
+    }
+    true
+}
+
+/// The first slot that is held, with as many bytes as can be.
+fn first_held(slots: &[SlotState; 4]) -> Option<Pointer> {
+    for slot in 0..4 {
+        match slots[usize::from(slot)] {
+            SlotState::Empty => (),
+            _ => {
+                return Some(Pointer {
+                    slot,
+                    least: u16::MAX,
+                });
+            }
+        }
+    }
+    None
+}
+
+/// A pointer as it is wanted, with as many bytes as can be; any, where none is wanted.
+fn strongest_pointer(wanted: Option<Pointer>, any: Option<Pointer>) -> Option<Pointer> {
+    match wanted {
+        Some(pointer) => Some(Pointer {
+            slot: pointer.slot,
+            least: u16::MAX,
+        }),
+        None => any,
+    }
+}
+
+/// The strongest row that fits another, but for marks.
+fn strongest(row: &Row) -> Row {
+    let any = first_held(&row.slots);
+    let [p0, p1, p2, p3] = row.pointers;
+    Row {
+        bounds: [0; 8],
+        slots: row.slots,
+        pointers: [
+            strongest_pointer(p0, any),
+            strongest_pointer(p1, any),
+            strongest_pointer(p2, any),
+            strongest_pointer(p3, any),
+        ],
+        pairs: [true; 6],
+    }
+}
+
+/// The slots before an instruction, where those behind it are such.
+fn slots_before(i: &Instr, behind: &[SlotState; 4]) -> [SlotState; 4]
+    requires { FieldsFit i.now.opcode i.now }
+{
+    let mut slots = *behind;
+    match uses_at(i).slot {
+        SlotUse::LocksNew(_) | SlotUse::Locks(_) => slots[i.a as usize] = SlotState::Empty,
+        SlotUse::Unlocks(kind) => {
+            slots[i.a as usize] = match kind {
+                Kind::MemBlock => SlotState::Mem,
+                Kind::VmBlock => SlotState::Vm {
+                    marked: true,
+                    borrowed: false,
+                },
+                Kind::DbGroup => SlotState::Db { marked: true },
+            };
+        }
+        _ => (),
+    }
+    slots
+}
+
+/// What an instruction leads on to: the row of the routine that is called, that of the place behind
+/// it as far as it is known, or that of the target; else the exit row.
+fn wanted_behind(body: &Body, pc: u16, from: &Known) -> Row
+    requires { pc < body.now.end }
+{
+    let i = body.image.instr(pc);
+    if let Opcode::Call = i.opcode {
+        return body.image.routine(i.imm).entry;
+    }
+    for branch in [false, true] {
+        if let Some(edge) = edge_in(body, pc, branch) {
+            if let Some(row) = from.at(edge.to) {
+                return Row {
+                    bounds: row.bounds,
+                    slots: slots_before(i, &row.slots),
+                    pointers: row.pointers,
+                    pairs: row.pairs,
+                };
+            }
+        }
+    }
+    body.image.routine(body.r).exit
+}
+
+/// The strongest rows, from behind, at places where nothing is known.
+fn guess(body: &Body, known: &Known, from: &mut Known) {
+    for pc in body.start..body.end {
+        from.set(pc, known.at(pc));
+    }
+    for pc in (body.start..body.end).rev() {
+        if from.at(pc).is_none() {
+            from.set(pc, Some(strongest(&wanted_behind(body, pc, from))));
+        }
+    }
+}
+
+/// What is known at a place goes along the edges to places that nothing reaches.
+fn pass_lone(body: &Body, pc: u16, known: &Known, waiting: &mut Waiting, others: &mut Known)
+    requires { pc < body.now.end }
+{
+    let Some(row) = others.at(pc) else {
+        return;
+    };
+    for branch in [false, true] {
+        if let Some(edge) = edge_in(body, pc, branch) {
+            if known.at(edge.to).is_none() {
+                pass(body, edge, &row, waiting, others);
+            }
+        }
+    }
+}
+
+/// What waits of the places that nothing reaches goes along its edges, until nothing new comes to any of them.
+fn flow_lone(body: &Body, known: &Known, from: &Known, waiting: &mut Waiting, others: &mut Known) {
+    for _ in 0..PASSES {
+        let Some(pc) = waiting.take() else {
+            return;
+        };
+        if body.end <= pc {
+            return;
+        }
+        if let Some(row) = others.at(pc).or(from.at(pc)) {
+            others.set(pc, Some(clean(&row)));
+            pass_lone(body, pc, known, waiting, others);
+        }
+    }
+}
+
+/// Finds rows at the instructions of a routine where nothing is known; whether there are such. Where two
+/// rows that come to a place have no join the first stays.
+pub(crate) fn fill(
+    body: &Body,
+    known: &Known,
+    from: &mut Known,
+    waiting: &mut Waiting,
+    others: &mut Known,
+) -> bool
+    ensures { result ≡ true → AllKnown body.now.image.now body.now.r known.now → ⊥ }
+{
+    if all_known(body, known) {
+        return false;
+    }
+    waiting.clear(body);
+    for pc in body.start..body.end {
+        if known.at(pc).is_none() {
+            waiting.wait(pc);
+        }
+        others.set(pc, None);
+    }
+    guess(body, known, from);
+    flow_lone(body, known, from, waiting, others);
+    true
+}

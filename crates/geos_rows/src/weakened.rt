@@ -1,0 +1,81 @@
+//! Rows at places that are reached, weakened by what flows into them from places that nothing reaches.
+
+ghost use Rattle.std.specs.Prelude.{◌≡◌, ◌<◌, true};
+ghost use Rattle.geos_rows.specs.Flow.{AllKnown};
+ghost use Rattle.geos_rows.specs.Reached.{AllFit};
+
+use crate::body::Body;
+use crate::common::clean;
+use crate::fitted::all_fit;
+use crate::flow::{bound_of, row_of};
+use crate::rounds::flow_on;
+use crate::table::Known;
+use crate::unreached::fill;
+use crate::waiting::Waiting;
+use geos_image::{Instr, Opcode, Row};
+use geos_verify::{fits, misuses};
+
+/// Whether the instruction at a pc is refused where the row is known: by a rule on what it does with slots and pointers, on the
+/// routine that it calls, or on its return.
+fn is_refused(body: &Body, pc: u16, row: &Row) -> bool
+    requires { pc < body.now.end }
+{
+    let i = body.image.instr(pc);
+    match i.opcode {
+        Opcode::Call => !fits(row, &body.image.routine(i.imm).entry),
+        Opcode::Ret => !fits(row, &body.image.routine(body.r).exit),
+        _ => misuses(i, row),
+    }
+}
+
+/// Whether what the instruction sets a counter to has one bound in both rows.
+fn counts_alike(i: &Instr, row: &Row, weaker: &Row) -> bool {
+    match i.opcode {
+        Opcode::Setkw => bound_of(row, i.b) == bound_of(weaker, i.b),
+        _ => true,
+    }
+}
+
+/// Whether the weaker rows are as good at each place that is reached: what is refused there is refused with both, and a counter is
+/// set to as much.
+fn all_as_good(body: &Body, found: &Known, weaker: &Known) -> bool {
+    for pc in body.start..body.end {
+        if let Some(row) = found.at(pc) {
+            let row = clean(&row);
+            let weaker = row_of(&weaker.at(pc));
+            if !counts_alike(body.image.instr(pc), &row, &weaker)
+                || is_refused(body, pc, &weaker) && !is_refused(body, pc, &row)
+            {
+                return false;
+            }
+        }
+    }
+    true
+}
+
+/// Finds the rows of the places that nothing reaches, and makes `weaker` the rows of a routine where those have flowed on into the
+/// places that are reached. Whether there are such places, and these rows fit along all edges, and are as good at each place that is
+/// reached: else those that were found are to stay.
+pub(crate) fn weaken(
+    body: &Body,
+    found: &Known,
+    weaker: &mut Known,
+    waiting: &mut Waiting,
+    others: &mut Known,
+) -> bool
+    ensures some { result ≡ true → AllKnown body.now.image.now body.now.r found.now → ⊥ }
+    ensures fit { result ≡ true → AllFit body.now.image.now body.now.r weaker.new }
+{
+    if !fill(body, found, weaker, waiting, others) {
+        return false;
+    }
+    waiting.clear(body);
+    for pc in body.start..body.end {
+        weaker.set(pc, found.at(pc).or(others.at(pc)));
+        waiting.wait(pc);
+    }
+    if !flow_on(body, waiting, weaker) {
+        return false;
+    }
+    all_as_good(body, found, weaker) && all_fit(body, weaker)
+}
