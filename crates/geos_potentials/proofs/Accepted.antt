@@ -1,5 +1,5 @@
 -- What is known of an image that is accepted, and has the code of another.
-use Rattle.std.proofs.Common.{◌≡◌, ℕ, zero, suc, ◌+◌, ◌*◌, ◌<◌, ◌≤◌, Bool, true, List, [], ◌∷◌, length, map, take, ◌-◌, Some, None, slice_get, refl, sym, ap, ◌∙◌, subst, arith, drop, Option}
+use Rattle.std.proofs.Common.{◌≡◌, ℕ, zero, suc, ◌+◌, ◌*◌, ◌<◌, ◌≤◌, Bool, true, List, [], ◌∷◌, length, map, take, Some, None, slice_get, refl, sym, ap, ◌∙◌, subst, arith, drop, Option}
 use Rattle.std.specs.Prelude.{◌&&◌, nat_le, slice_index, slice_set, ◌||◌, ◌==◌}
 use Rattle.std.proofs.lemmas.Bool.{and_parts, leb-true}
 use Rattle.std.proofs.lemmas.Option.{slice_get_within, get_or_from_slice_get, same_Some}
@@ -13,7 +13,7 @@ use Rattle.geos_image.specs.Parts.{Parts, start_of}
 use Rattle.geos_image.specs.Ranges.{PointFits, PotentialFits}
 use Rattle.geos_verify.specs.Lists.{all2}
 use Rattle.geos_verify.specs.Places.{places}
-use Rattle.geos_verify.specs.Rows.{fits, bound}
+use Rattle.geos_verify.specs.Rows.{bound}
 use Rattle.geos_verify.specs.Potentials.{pays, pays_setting, pays_calling, budget_of, pays_along}
 use Rattle.geos_verify.specs.Touched.{calls, touched_by, counts, points_of, touches_here, touches_within, touches}
 use Rattle.geos_verify.specs.Rules.{HasPoint}

@@ -1,5 +1,5 @@
 -- The steps and coefficients of potentials at a pc, and where one is set.
-use Rattle.std.proofs.Common.{◌≡◌, ◌∙◌, ℕ, zero, suc, ◌-◌, List, [], ◌∷◌, get_or, map, set, ap}
+use Rattle.std.proofs.Common.{◌≡◌, ◌∙◌, ℕ, zero, suc, List, [], ◌∷◌, get_or, map, set, ap}
 use Rattle.std.proofs.lemmas.List.{map-set}
 use Rattle.geos_image.specs.declared.potential.Potential.{Potential}
 use Rattle.geos_potentials.specs.Numbers.{Numbers, steps_of, coefficients_of, numbers_of}
