@@ -1,6 +1,8 @@
 //! The program `geos`: runs a session on its standard input, or a command on a text or an image in a file.
 #![tactic(auto)]
 
+ghost use Rattle.geos_shell.specs.Limits.{KeepsLimits};
+
 mod calling;
 mod chunks;
 mod commands;
@@ -12,7 +14,7 @@ mod requests;
 mod running;
 mod tracing;
 
-use geos_shell::{Answer, keep_stream_numbers, requested, words};
+use geos_shell::{Answer, Request, keep_stream_numbers, requested, words};
 use requests::carry_out;
 use std::fmt::Display;
 use std::process::ExitCode;
@@ -32,13 +34,24 @@ fn answered(rt: &HostRuntime, answer: &Answer) -> ExitCode {
     }
 }
 
+/// Does what is asked for, and gives the program's status.
+fn run_request(rt: &HostRuntime, request: Request) -> ExitCode
+    requires { KeepsLimits request }
+{
+    // A fault would be written over what the file has, so that the status alone tells.
+    if request.has_faults(rt) {
+        return ExitCode::FAILURE;
+    }
+    match carry_out(rt, request) {
+        Ok(()) => ExitCode::SUCCESS,
+        Err(fault) => fail(rt, fault),
+    }
+}
+
 /// Does what the words ask for, and gives the program's status.
 fn run(rt: &HostRuntime, words: &[String]) -> ExitCode {
     match requested(rt.alloc(), words) {
-        Ok(request) => match carry_out(rt, request) {
-            Ok(()) => ExitCode::SUCCESS,
-            Err(fault) => fail(rt, fault),
-        },
+        Ok(request) => run_request(rt, request),
         Err(answer) => answered(rt, &answer),
     }
 }

@@ -4,7 +4,7 @@ use geos_asm::AssembleError;
 use geos_cli::ScriptFault;
 use geos_dump::DumpError;
 use geos_image::ReadError;
-use geos_shell::{Printable, StreamFault};
+use geos_shell::{Named, StreamFault};
 use geos_verify::Reject;
 use thiserror::Error;
 use vm_file::{CreateError, OpenError};
@@ -25,16 +25,16 @@ pub(crate) enum RequestFault<'a> {
     #[error("refused {0}")]
     NotDone(u16),
     /// No public routine has the name that a call gives.
-    #[error("bad call: no public routine {}", Printable(.0))]
+    #[error("bad call: no public routine {}", Named(.0))]
     NoRoutine(&'a str),
     /// No routine has the name whose steps are asked for.
-    #[error("no routine {}", Printable(.0))]
+    #[error("no routine {}", Named(.0))]
     NoSuchRoutine(&'a str),
     /// What a call gives as this word is no number that the word may be.
-    #[error("bad call: w{} can't be {}", .0, Printable(.1))]
+    #[error("bad call: w{} can't be {}", .0, Named(.1))]
     BadNumber(usize, &'a str),
     /// A call of a routine that borrows so many blocks gives more or fewer, or none by its handle.
-    #[error("bad call: {} borrows blocks: {}, each as @h behind the numbers", Printable(.0), .1)]
+    #[error("bad call: {} borrows blocks: {}, each as @h behind the numbers", Named(.0), .1)]
     BadBlocks(&'a str, usize),
     /// A call gives a ninth number.
     #[error("bad call: more than eight numbers")]

@@ -9,7 +9,7 @@ use std::os::unix::fs::FileExt;
 const VM_FILE: [u8; 4] = *b"GVM1";
 
 /// Whether a file begins as a VM file does. An error where it can't be read: else what a user saved in it might be lost.
-fn begins_as_vm_file(rt: &HostRuntime, path: &str) -> io::Result<bool> {
+pub(crate) fn begins_as_vm_file(rt: &HostRuntime, path: &str) -> io::Result<bool> {
     // One without a byte need not be readable.
     if fs::metadata(rt, path)?.len() == 0 {
         return Ok(false);

@@ -9,6 +9,7 @@ mod arguments;
 mod command_line;
 mod commands;
 mod descriptors;
+mod faults;
 mod file_id;
 mod forms;
 mod help;
@@ -30,7 +31,7 @@ pub use descriptors::keep_stream_numbers;
 pub use forms::{Digits, OutputForm};
 pub use locks::{FileLock, Lockable, Sharing};
 pub use new_file::NewFile;
-pub use printable::Printable;
+pub use printable::Named;
 pub use request::{
     CallWords, ChunkPath, FileRequest, Request, RoutineRequest, TextRequest, TraceWords, requested,
 };

@@ -6,7 +6,7 @@ use std::fmt::{self, Display, Formatter};
 /// A text of the user's in a line of the program's: each of its control characters is written by its bytes, as `\x0a`, so that it
 /// ends no line, and does nothing to a terminal.
 #[derive(Clone, Copy)]
-pub struct Printable<'a>(pub &'a str);
+pub(crate) struct Printable<'a>(pub(crate) &'a str);
 
 /// Whether a text has control characters.
 pub(crate) fn has_control(text: &str) -> bool {
@@ -35,9 +35,9 @@ impl Display for Printable<'_> {
     }
 }
 
-/// A path of the user's in a line of the program's: written as `Printable` is, but for an empty one, which is `''`.
+/// A path, a name or a number of the user's in a line of the program's: written as `Printable` is, but for an empty one, which is `''`.
 #[derive(Clone, Copy)]
-pub(crate) struct Named<'a>(pub(crate) &'a str);
+pub struct Named<'a>(pub &'a str);
 
 impl Display for Named<'_> {
     fn fmt<W: fmt::Write>(&self, f: &mut Formatter<W>) -> fmt::Result {

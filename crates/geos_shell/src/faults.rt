@@ -1,0 +1,101 @@
+//! Requests on files that standard error goes into.
+
+use crate::kept::begins_as_vm_file;
+use crate::file_id::regular_at;
+use crate::output::faults_go_into;
+use crate::request::{ChunkPath, FileRequest, Request, RoutineRequest, TextRequest};
+use crate::streams::{STANDARD, is_stream, name_of};
+
+/// Whether standard error goes into the file with the path.
+fn are_in(rt: &HostRuntime, path: &str) -> bool {
+    matches!(regular_at(rt, path), Some(file) if faults_go_into(rt, file))
+}
+
+/// Whether it goes into what is read of the path, the standard input where that is `-`.
+fn are_in_read(rt: &HostRuntime, path: &str) -> bool {
+    are_in(rt, name_of(path))
+}
+
+/// Whether it goes into a VM file at the path that is to be written. Any other file there may take faults.
+fn are_in_kept(rt: &HostRuntime, path: &str) -> bool {
+    !is_stream(path) && are_in(rt, path) && !matches!(begins_as_vm_file(rt, path), Ok(false))
+}
+
+/// Whether it goes into the VM file, if there is one.
+fn are_in_any(rt: &HostRuntime, file: Option<&str>) -> bool {
+    match file {
+        Some(file) => are_in(rt, file),
+        None => false,
+    }
+}
+
+impl RoutineRequest<'_> {
+    fn has_faults(&self, rt: &HostRuntime) -> bool {
+        match self {
+            RoutineRequest::Session => are_in_read(rt, STANDARD),
+            RoutineRequest::Call {
+                image, call, file, ..
+            } => {
+                are_in_any(rt, *file)
+                    || are_in_read(rt, image)
+                    || call.is_none() && are_in_read(rt, STANDARD)
+            }
+            RoutineRequest::Trace { image, file, .. } => {
+                are_in_any(rt, *file) || are_in_read(rt, image)
+            }
+            RoutineRequest::Run {
+                image,
+                file,
+                script,
+                ..
+            } => are_in(rt, file) || are_in_read(rt, image) || are_in_read(rt, script),
+        }
+    }
+}
+
+impl TextRequest<'_> {
+    fn has_faults(&self, rt: &HostRuntime) -> bool {
+        match self {
+            TextRequest::Assemble { text, image, .. } => {
+                are_in_read(rt, text) || are_in_kept(rt, image)
+            }
+            TextRequest::Budget { text, new } => are_in_read(rt, text) || are_in_kept(rt, new),
+            TextRequest::List(path) | TextRequest::Check(path) | TextRequest::Explain(path) => {
+                are_in_read(rt, path)
+            }
+            TextRequest::ExplainScript { image, script, .. } => {
+                are_in_read(rt, image) || are_in_read(rt, script)
+            }
+        }
+    }
+}
+
+impl FileRequest<'_> {
+    fn has_faults(&self, rt: &HostRuntime) -> bool {
+        match self {
+            FileRequest::Put {
+                chunk: ChunkPath { file, .. },
+                ..
+            } => are_in(rt, file) || are_in_read(rt, STANDARD),
+            FileRequest::Get {
+                chunk: ChunkPath { file, .. },
+                ..
+            } => are_in(rt, file),
+            FileRequest::New { file, .. }
+            | FileRequest::Dump { file, .. }
+            | FileRequest::Map { file, .. } => are_in(rt, file),
+        }
+    }
+}
+
+impl Request<'_> {
+    /// Whether standard error goes into a file that the request reads or works on, or into a VM file that it is to write: whatever is said
+    /// there would come into what the file has.
+    pub fn has_faults(&self, rt: &HostRuntime) -> bool {
+        match self {
+            Request::Routines(request) => request.has_faults(rt),
+            Request::Text(request) => request.has_faults(rt),
+            Request::File(request) => request.has_faults(rt),
+        }
+    }
+}
