@@ -9,7 +9,6 @@ use Rattle.std.proofs.Math.Nat.{pow-suc}
 use Rattle.geos_image.specs.declared.row.Row.{Row}
 use Rattle.geos_image.specs.declared.row.Pointer.{Pointer}
 use Rattle.geos_image.specs.declared.row.SlotState.{SlotState}
-use Rattle.geos_image.specs.declared.row.SlotState.TheVariants.{Empty, Mem, Vm, Db}
 use Rattle.geos_image.specs.Legal.{is_own, is_pointer, is_row}
 use Rattle.geos_image.specs.Ranges.{IsWord, PointerFits, RowFits}
 use Rattle.geos_image.specs.Spelling.{word, flag, slot_code, pointer, pairs_byte, row}
