@@ -7,6 +7,7 @@ pub mod Places
 pub mod NumberLaws
 pub mod InstrLaws
 pub mod RunLaws
+pub mod SlotLaws
 pub mod RowLaws
 pub mod PointLaws
 pub mod KeyLaws

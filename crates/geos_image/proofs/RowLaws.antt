@@ -9,11 +9,11 @@ use Rattle.std.proofs.Math.Nat.{pow-suc}
 use Rattle.geos_image.specs.declared.row.Row.{Row}
 use Rattle.geos_image.specs.declared.row.Pointer.{Pointer}
 use Rattle.geos_image.specs.declared.row.SlotState.{SlotState}
-use Rattle.geos_image.specs.declared.row.SlotState.TheVariants.{Empty, Mem, Vm, Db}
 use Rattle.geos_image.specs.Legal.{is_own, is_pointer, is_row}
 use Rattle.geos_image.specs.Ranges.{IsWord, PointerFits, RowFits}
 use Rattle.geos_image.specs.Spelling.{word, flag, slot_code, pointer, pairs_byte, row}
 use Rattle.geos_image.specs.Reading.{guard, byte_at, word_at, byte_below, word_below, items_at, slot_states, slot_of, slot_at, pointer_at, pairs_of, row_at}
+use Rattle.geos_image.proofs.SlotLaws.{slot_of_again}
 use Rattle.geos_image.proofs.Steps.{ok_is, after, guard_ok, or_fault_ok, find_passes}
 use Rattle.geos_image.proofs.Places.{plus, IsBytes, Takes, Takes-then, Left, Left-as, four_texts}
 use Rattle.geos_image.proofs.NumberLaws.{byte_found, word_found, below_ok, unused_found, byte_again, word_again, byte_below_again, word_below_again}
@@ -34,23 +34,6 @@ slot_found borrows bytes at next s e h =
     eqb-true _ _ ((and_parts (slot_code s == code) (borrows || is_own s)
     (find_passes (λ state. slot_code state == code && (borrows || is_own state)) slot_states s found)).0) in
     subst (λ (k : ℕ). Takes bytes at (k ∷ []) next) (sym spells) (byte_found bytes at next code e read-code))
-
-slot_of_again : (borrows : Bool) (s : SlotState) → (borrows || is_own s) ≡ true → slot_of borrows (slot_code s) ≡ Some s
-slot_of_again true Empty h = refl
-slot_of_again true Mem h = refl
-slot_of_again true (Vm false false) h = refl
-slot_of_again true (Vm true false) h = refl
-slot_of_again true (Db false) h = refl
-slot_of_again true (Db true) h = refl
-slot_of_again true (Vm false true) h = refl
-slot_of_again true (Vm true true) h = refl
-slot_of_again false Empty h = refl
-slot_of_again false Mem h = refl
-slot_of_again false (Vm false false) h = refl
-slot_of_again false (Vm true false) h = refl
-slot_of_again false (Db false) h = refl
-slot_of_again false (Db true) h = refl
-slot_of_again false (Vm marked true) h = absurd cc
 
 slot_again : (borrows : Bool) (bytes : List ℕ) (at next : ℕ) (s : SlotState) (rest : List ℕ) → next ≡ at + 1
     → (borrows || is_own s) ≡ true → Left bytes at (slot_text s ++ rest) → (slot_at borrows bytes at ≡ Ok s) × Left bytes next rest

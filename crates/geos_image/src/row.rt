@@ -20,30 +20,6 @@ pub enum SlotState {
     Db { marked: bool },
 }
 
-/// Every state of a slot.
-const SLOT_STATES: [SlotState; 8] = [
-    SlotState::Empty,
-    SlotState::Mem,
-    SlotState::Vm {
-        marked: false,
-        borrowed: false,
-    },
-    SlotState::Vm {
-        marked: true,
-        borrowed: false,
-    },
-    SlotState::Db { marked: false },
-    SlotState::Db { marked: true },
-    SlotState::Vm {
-        marked: false,
-        borrowed: true,
-    },
-    SlotState::Vm {
-        marked: true,
-        borrowed: true,
-    },
-];
-
 impl SlotState {
     /// The byte that spells it.
     pub(crate) fn code(self) -> u8
@@ -71,11 +47,29 @@ impl SlotState {
     }
 
     /// The state that the byte spells, if it spells one. `borrows` says whether a slot may be borrowed.
+    #[tactic(auto, using(crate::proofs::SlotLaws::slot_is_named))]
     pub(crate) fn from_code(borrows: bool, code: u8) -> Option<SlotState>
         ensures { result ≡ slot_of borrows code }
     {
-        SLOT_STATES.iter().copied().find(|state| state.code() == code
-            && (borrows || state.is_own()))
+        if code == 0 {
+            Some(SlotState::Empty)
+        } else if code == 1 {
+            Some(SlotState::Mem)
+        } else if code < 4 {
+            Some(SlotState::Vm {
+                marked: code == 3,
+                borrowed: false,
+            })
+        } else if code < 6 {
+            Some(SlotState::Db { marked: code == 5 })
+        } else if borrows && code < 8 {
+            Some(SlotState::Vm {
+                marked: code == 7,
+                borrowed: true,
+            })
+        } else {
+            None
+        }
     }
 }
 

@@ -1,6 +1,6 @@
 //! What spells an opcode: its byte in an image, and its word in a text.
 
-ghost use Rattle.std.specs.Prelude.{◌≡◌, IfSome, Some};
+ghost use Rattle.std.specs.Prelude.{◌≡◌, IfSome, Some, slice_get};
 ghost use Rattle.geos_opcodes.specs.Facts as table;
 
 use crate::opcode::Opcode;
@@ -85,6 +85,13 @@ pub const OPCODES: [Opcode; 77] = [
     Opcode::Igetmap,
     Opcode::Isetmap,
 ];
+
+/// The opcode at a place of a list, if there is one.
+fn opcode_at(list: &[Opcode], place: usize) -> Option<Opcode>
+    ensures { result ≡ slice_get list.now place }
+{
+    list.get(place).copied()
+}
 
 impl Opcode {
     /// The byte that spells the opcode. No two opcodes have one byte.
@@ -191,10 +198,15 @@ impl Opcode {
     }
 
     /// The opcode that the byte spells, if one does.
+    #[tactic(auto, using(crate::proofs::Laws::opcode_placed))]
     pub fn from_code(code: u8) -> Option<Opcode>
         ensures { result ≡ table.opcode_of code }
     {
-        OPCODES.iter().copied().find(|opcode| opcode.code() == code)
+        if code == 0 {
+            None
+        } else {
+            opcode_at(&OPCODES, usize::from(code) - 1)
+        }
     }
 
     /// The opcode whose word it is; `None` where it is no opcode's.

@@ -27,16 +27,17 @@ fn pointer_at(bytes: &[u8], at: usize) -> Result<Option<Pointer>, Fault>
     ensures legal { IfOk result (λ p. is_pointer p ≡ true) }
 {
     let slot = byte_at(bytes, at)?;
-    if slot >= 4 && slot != STALE {
-        return Err(at);
-    }
-    byte_below(1, bytes, at + 1)?;
-    let least = word_below(if slot == STALE { 1 } else { 65_536 }, bytes, at + 2)?;
-    Ok(if slot < 4 {
-        Some(Pointer { slot, least })
+    if slot == STALE {
+        byte_below(1, bytes, at + 1)?;
+        word_below(1, bytes, at + 2)?;
+        Ok(None)
+    } else if slot < 4 {
+        byte_below(1, bytes, at + 1)?;
+        let least = word_below(65_536, bytes, at + 2)?;
+        Ok(Some(Pointer { slot, least }))
     } else {
-        None
-    })
+        Err(at)
+    }
 }
 
 fn pairs_of(byte: u8) -> [bool; 6]
