@@ -1,4 +1,4 @@
-use Rattle.std.proofs.Common.{◌≡◌, get_or, refl, subst, sym}
+use Rattle.std.proofs.Common.{get_or, refl, subst, sym}
 use Rattle.std.specs.Prelude.{Ok}
 use Rattle.geos_terms.specs.Names.{mem, vm}
 use Rattle.geos_calls.specs.Calls.{unlock}
@@ -27,7 +27,7 @@ returns-clause-works g c =
     let honest : Type 0 = g.D.Device.medium.honest c.args.kernel.now.device in
     let named = unlocked-name honest i k c.args.m.now (mem 0) VmBlock c.requires.ready (rw c.requires.instr.is refl) in
     let calls : Calls honest (unlock (vm (get_or c.args.m.now.slots i.a (mem 0)).h)) (Ok tt) k l
-        = rw (c.vm.ensures, c.requires.instr.a_is) at c.munlock.ensures.calls in
+    = rw (c.vm.ensures, c.requires.instr.a_is) at c.munlock.ensures.calls in
     on-further honest i k l c.args.m.now c.args.m.now
     (slot-unlocked honest i k l c.args.m.now (mem 0) unlock
     (λ name choice memory. refl) (λ beside pc safe. unlocks-held i _ VmBlock (rw c.requires.instr.is refl) safe)
