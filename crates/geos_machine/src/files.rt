@@ -106,7 +106,7 @@ pub(crate) fn vunlock<D: Device + Drop>(
 }
 
 /// Unlocks the block or group of a slot, which is empty then.
-#[inline(never)]
+#[inline]
 pub(crate) fn unlock<D: Device + Drop>(
     m: &Machine,
     kernel: &mut Kernel<D>,
