@@ -73,7 +73,7 @@ pub(crate) fn munlock<D: Device + Drop>(
     ensures works { Works (D.medium.honest kernel.old.device) i.now kernel.old.core m.now kernel.new.core m.now result }
     ensures vm { LeavesVm kernel.old kernel.new }
 {
-    kernel.munlock(m.slots[a]);
+    kernel.munlock(Name::mem(m.slots[a].h));
     Goes::Further
 }
 

@@ -88,6 +88,23 @@ pub(crate) fn ilock<D: Device + Drop>(
     }
 }
 
+/// Unlocks the block of a slot, which is empty then.
+#[inline]
+pub(crate) fn vunlock<D: Device + Drop>(
+    m: &Machine,
+    kernel: &mut Kernel<D>,
+    i: &Instr,
+    a: usize,
+) -> Goes
+    requires instr { IsInstr Opcode.Vunlock i.now a }
+    requires ready { Ready (D.medium.honest kernel.old.device) i.now kernel.old.core m.now }
+    ensures works { Works (D.medium.honest kernel.old.device) i.now kernel.old.core m.now kernel.new.core m.now result }
+    ensures vm { LeavesVm kernel.old kernel.new }
+{
+    kernel.munlock(Name::vm(m.slots[a].h));
+    Goes::Further
+}
+
 /// Unlocks the block or group of a slot, which is empty then.
 #[inline]
 pub(crate) fn unlock<D: Device + Drop>(
