@@ -5,7 +5,7 @@ ghost use Rattle.geos_flow.specs.Edges.{number_of};
 ghost use Rattle.geos_flow.specs.Graphs.{AreInto, behind_of};
 
 use crate::edge::{Edge, end_in, number_of};
-use crate::marks::{Marks, mark};
+use crate::pending::Pending;
 use crate::search::Counting;
 use geos_image::Image;
 
@@ -41,10 +41,10 @@ fn note(
 }
 
 impl<'a> Graph<'a> {
-    ghost use Rattle.std.specs.Prelude.{ℕ, Some, true};
+    ghost use Rattle.std.specs.Prelude.{◌⊎◌, ℕ, Some, true};
     ghost use Rattle.geos_flow.specs.declared.edge.Edge.{Edge};
     ghost use Rattle.geos_flow.specs.Edges.{end_in};
-    ghost use Rattle.geos_flow.specs.Graphs.{first_into};
+    ghost use Rattle.geos_flow.specs.Graphs.{LeadsTo, first_into};
     ghost use Rattle.geos_flow.specs.Marks.{is_marked};
 
     /// The edges of the image.
@@ -84,15 +84,16 @@ impl<'a> Graph<'a> {
         self.behind[number_of(edge)]
     }
 
-    /// Marks the pcs from which edges lead to one.
-    pub fn mark_begins(&self, marks: &mut Marks, to: u16)
+    /// The pcs from which edges lead to one wait, and what waited.
+    pub fn put_begins(&self, waits: &mut Pending, to: u16)
         requires { to < 4096 }
-        ensures begins { (edge : Edge) → end_in self.now.image.now edge ≡ Some to → is_marked marks.new edge.from ≡ true }
-        ensures keeps { (pc : ℕ) → is_marked marks.old pc ≡ true → is_marked marks.new pc ≡ true }
+        ensures begins { (edge : Edge) → end_in self.now.image.now edge ≡ Some to → is_marked waits.new edge.from ≡ true }
+        ensures keeps { (pc : ℕ) → is_marked waits.old pc ≡ true → is_marked waits.new pc ≡ true }
+        ensures was { (pc : ℕ) → is_marked waits.new pc ≡ true → (is_marked waits.old pc ≡ true) ⊎ LeadsTo self.now.image.now pc to }
     {
         let mut at = self.first(to);
         while let Some(edge) = at {
-            mark(marks, usize::from(edge.from));
+            waits.put(edge.from);
             at = self.next(edge);
         }
     }
