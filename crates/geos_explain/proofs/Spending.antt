@@ -17,7 +17,6 @@ use Rattle.geos_flow.proofs.Marked.{mark-was, marked-here, marked-keeps, none-ma
 use Rattle.geos_explain.specs.declared.trace.End.{End}
 use Rattle.geos_explain.specs.declared.trace.Meeting.{Meeting}
 use Rattle.geos_explain.specs.declared.trace.Trace.{Trace}
-use Rattle.geos_image.specs.Parts.{start_of}
 use Rattle.geos_explain.specs.Places.{Place, IsPcOf, comes_alike}
 use Rattle.geos_explain.specs.Rounds.{looked}
 use Rattle.geos_explain.specs.Arrivals.{arrival, behind, brought, comes_along, arrived_along, arrived_from, nth_of}

@@ -1,4 +1,4 @@
-use Rattle.std.proofs.Common.{◌≡◌, ◌+◌, ◌-◌, suc, refl, sym, ap, ◌∙◌, arith}
+use Rattle.std.proofs.Common.{◌≡◌, ◌+◌, ◌-◌, refl, sym, ap, ◌∙◌, arith}
 use Rattle.geos_explain.specs.Places.{place_of}
 use Rattle.geos_explain.specs.Rounds.{looked}
 use Rattle.geos_explain.specs.Arrivals.{nth_of}
