@@ -1,25 +1,15 @@
-use Rattle.std.proofs.Common.{◌≡◌, ◌+◌, true, length, ap, subst, sym, arith, inl, inr}
+use Rattle.std.proofs.Common.{◌≡◌, ◌+◌, true, ap, subst, sym, arith, inl, inr}
 use Rattle.std.proofs.lemmas.Bool.{cases_eq, cases_lt}
 use Rattle.geos_flow.specs.Edges.{number_of}
-use Rattle.geos_flow.specs.Graphs.{above, IsLast}
+use Rattle.geos_flow.specs.Graphs.{above}
 use Rattle.geos_flow.specs.Marks.{is_marked}
-use Rattle.geos_flow.proofs.Into.{number-low, same-edge}
+use Rattle.geos_flow.proofs.Into.{same-edge}
 use Rattle.geos_flow.proofs.Taking.{end-inside}
 use Rattle.geos_flow.proofs.graph.Graph.put_begins.Goals as goal
 
-next-last : (c : goal.After-next-at) → IsLast c.args.self.now.image.now (number_of c.in-Some.edge) c.args.to c.next-at.result
-next-last c =
-    let graph = c.args.self.now in
-    let image = graph.image.now in
-    let edge = c.in-Some.edge in
-    let ends = c.loop-at.invariant.leads edge c.in-Some.is in
-    let low = end-inside image edge c.args.to ends in
-    let into = graph.into in
-    rw (c.next-at.ensures) (into.behind edge c.args.to (number-low edge (length image.points) low.0) ends)
-
 pub loop-at-smaller : goal.loop-at-smaller
 loop-at-smaller c =
-    let last = next-last c in
+    let last = c.next-at.ensures c.args.to (c.loop-at.invariant.leads c.in-Some.edge c.in-Some.is) in
     let number : above c.loop-at.at ≡ number_of c.in-Some.edge + 1 = ap above c.in-Some.is in
     omega (arith, last.below, number)
 
@@ -30,7 +20,7 @@ put-requires c =
 
 pub loop-at-preserved : goal.loop-at-preserved
 loop-at-preserved c =
-    let last = next-last c in
+    let last = c.next-at.ensures c.args.to (c.loop-at.invariant.leads c.in-Some.edge c.in-Some.is) in
     let edge = c.in-Some.edge in
     let so_far = c.loop-at.invariant in
     let number : above c.loop-at.at ≡ number_of edge + 1 = ap above c.in-Some.is in
