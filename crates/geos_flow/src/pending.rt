@@ -10,6 +10,19 @@ use std::marker::Model;
 /// How many pcs a block has.
 const BLOCK: u16 = 64;
 
+/// Whether one of the pcs of a block is marked, the first of which is this.
+fn is_any(marks: &Marks, first: u16) -> bool
+    requires { first + 64 ≤ 4096 }
+    ensures { result ≡ false → NoneIn marks.now first (first + 64) }
+{
+    for pc in first..first + BLOCK {
+        if marks[usize::from(pc)] {
+            return true;
+        }
+    }
+    false
+}
+
 /// Which pcs wait. It is seen as their marks.
 #[derive(Drop)]
 pub struct Pending {
@@ -65,8 +78,9 @@ impl Pending {
         ensures { self.new ≡ slice_set self.old pc false }
     {
         self.marks[usize::from(pc)] = false;
-        let first = usize::from(pc / BLOCK * BLOCK);
-        self.blocks[usize::from(pc / BLOCK)] = self.marks[first..first + 64].contains(&true);
+        if !is_any(&self.marks, pc / BLOCK * BLOCK) {
+            self.blocks[usize::from(pc / BLOCK)] = false;
+        }
     }
 
     /// Behind a pc that does not wait: the next one, or, where none of its block waits, the first behind that.

@@ -1,10 +1,11 @@
-use Rattle.std.proofs.Common.{◌+◌, ◌-◌, arith}
-use Rattle.geos_flow.proofs.Blocks.{take-in}
+use Rattle.std.proofs.Common.{false, set}
+use Rattle.geos_flow.proofs.Blocks.{less-in, none-left}
 use Rattle.geos_flow.proofs.pending.Pending.take.Goals as goal
 
 pub invariant_of-self : goal.invariant_of-self
 invariant_of-self c =
-    let first = c.from-first.result in
-    let said = rw (c.from.ensures) at c.contains.ensures.value in
-    rw (c.from.ensures, c.from-2.ensures) (take-in c.self.inside.blocks c.self.inside.marks c.args.pc first (first + 64 - first) c.contains.result
-    c.self.told.1 c.self.told.0 c.requires c.self.invariant c.from-first.ensures (omega arith) said)
+    let old = c.self.inside in
+    let pc = c.args.pc in
+    let none = rw (c.from.ensures) at (c.is_any.ensures c.if-not-is_any.true) in
+    rw (c.from.ensures, c.from-then-not-is_any.ensures)
+    (none-left old.blocks (set old.marks pc false) pc none (less-in old.blocks old.marks pc c.self.told.0 c.requires c.self.invariant))
