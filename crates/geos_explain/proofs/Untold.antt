@@ -60,7 +60,6 @@ module _ (refused : List (Option Rule)) (most untold pc : ℕ) (rule : Rule) (fi
       let more = count_by_more_yes is_told refused untold None (omega (arith, within)) there.1 in
       omega (arith, there.0, more, count-on refused (untold + 1) pc (omega arith))
 
-
 pub text-below : (most before all : ℕ) (place : Place) (rule : Rule) → before < most → told_text most before all place rule ≡ refusal_line place rule
 text-below most before all place rule less = rw (lt-ltb before most less) refl
 

@@ -113,6 +113,7 @@ fn next_arrivals(
     let mut start = place.image.start(place.r);
     let end = start + place.routine.count;
     let mut any = false;
+    waits.settle();
     while let Some(from) = waits.first_in(start, end) {
         arrive_from(arrivals, waits, place, p, from);
         start = from + 1;

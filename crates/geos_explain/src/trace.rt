@@ -170,7 +170,13 @@ fn lacks_on(place: &Place, p: u8, edge: Edge, point: &KnownPlace) -> bool
 
 /// A step back along an edge, if it does not bring the pointer: it was lost there, or the instruction is passed, if it was not yet.
 #[tactic(auto, unfolding(crate::specs::Trace::back_by))]
-fn step_by(trace: &mut Trace, tracing: &Tracing, waits: &mut Pending, edge: Edge, point: &KnownPlace)
+fn step_by(
+    trace: &mut Trace,
+    tracing: &Tracing,
+    waits: &mut Pending,
+    edge: Edge,
+    point: &KnownPlace,
+)
     requires place { IsPlace (place_of tracing.now.place.now) }
     requires there { slice_get (places tracing.now.place.now.image.now) edge.from ≡ Some point.now }
     ensures steps { trace.new ≡ back_by (place_of tracing.now.place.now) tracing.now.p trace.old edge point.now }
@@ -252,6 +258,7 @@ fn next_round(trace: &mut Trace, tracing: &Tracing, waits: &mut Pending, goes_on
     let start = place.image.start(place.r);
     let mut end = start + place.routine.count;
     let mut any = false;
+    waits.settle();
     while let Some(from) = waits.last_in(start, end) {
         step_from(trace, tracing, waits, from);
         end = from;

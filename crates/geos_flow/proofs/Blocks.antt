@@ -26,18 +26,21 @@ was-marked marks pc k full low there = elim (cases_eq k pc) [
       ∙ get_or-set_same marks pc false false (omega arith) in
       let has = has-marked (set marks pc false) k there in
       absurd cc
-  | inr ne ↦ (ne, is-marked marks k (marked-low (set marks pc false) k there)
-      (sym (get_or-set_other marks pc k false false ne) ∙ has-marked (set marks pc false) k there))
+  | inr ne ↦ (
+    ne,
+    is-marked marks k (marked-low (set marks pc false) k there)
+        (sym (get_or-set_other marks pc k false false ne) ∙ has-marked (set marks pc false) k there),
+  )
 ]
 
 -- where one pc less is marked
 pub less-in : (blocks marks : List Bool) (pc : ℕ) → length marks ≡ 4096 → pc < 4096 → AreIn blocks marks → AreIn blocks (set marks pc false)
 less-in blocks marks pc full low are k there = are k (was-marked marks pc k full low there).1
 
--- the same, and none of its block is
-pub none-left : (blocks marks : List Bool) (pc : ℕ) → NoneIn marks (pc / 64 * 64) (pc / 64 * 64 + 64) → AreIn blocks marks
-    → AreIn (set blocks (pc / 64) false) marks
-none-left blocks marks pc none are k there = elim (cases_eq (k / 64) (pc / 64)) [
+-- where none of a block is marked
+pub none-left : (blocks marks : List Bool) (block : ℕ) → NoneIn marks (block * 64) (block * 64 + 64) → AreIn blocks marks
+    → AreIn (set blocks block false) marks
+none-left blocks marks block none are k there = elim (cases_eq (k / 64) block) [
   | inl same ↦ (let not_so = none k (omega (arith, same)) (omega (arith, same)) in absurd cc)
-  | inr ne ↦ get_or-set_other blocks (pc / 64) (k / 64) false false ne ∙ are k there
+  | inr ne ↦ get_or-set_other blocks block (k / 64) false false ne ∙ are k there
 ]

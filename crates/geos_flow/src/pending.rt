@@ -27,7 +27,7 @@ fn is_any(marks: &Marks, first: u16) -> bool
 #[derive(Drop)]
 pub struct Pending {
     marks: Marks,
-    /// For each block of 64 pcs whether one of them waits.
+    /// For each block of 64 pcs whether one of them waits, or has since it was last looked at.
     blocks: [bool; 64],
 }
 
@@ -78,8 +78,24 @@ impl Pending {
         ensures { self.new ≡ slice_set self.old pc false }
     {
         self.marks[usize::from(pc)] = false;
-        if !is_any(&self.marks, pc / BLOCK * BLOCK) {
-            self.blocks[usize::from(pc / BLOCK)] = false;
+    }
+
+    /// Looks whether one of a block still waits.
+    fn settle_block(&mut self, block: u16)
+        requires { block < 64 }
+        ensures { self.new ≡ self.old }
+    {
+        if self.blocks[usize::from(block)] && !is_any(&self.marks, block * BLOCK) {
+            self.blocks[usize::from(block)] = false;
+        }
+    }
+
+    /// The same of each block: from then on blocks of which none waits are passed at one look.
+    pub fn settle(&mut self)
+        ensures { self.new ≡ self.old }
+    {
+        for block in 0..64 {
+            self.settle_block(block);
         }
     }
 

@@ -1,6 +1,7 @@
-use Rattle.std.proofs.Common.{◌≡◌, ◌+◌, ◌-◌, refl, sym, ap, ◌∙◌, arith}
+use Rattle.std.proofs.Common.{◌≡◌, ◌+◌, ◌-◌, refl, sym, ap, subst, ◌∙◌, arith}
 use Rattle.geos_explain.specs.Places.{place_of}
 use Rattle.geos_explain.specs.Rounds.{looked}
+use Rattle.geos_explain.specs.Spent.{HasCome, AreSpent}
 use Rattle.geos_explain.specs.Arrivals.{arrived_from, nth_of, next_arrivals}
 use Rattle.geos_explain.proofs.Rounding.{looked-none, looked-more}
 use Rattle.geos_explain.proofs.Spending.{come-on}
@@ -12,7 +13,7 @@ loop-from-init c =
     record {
       so_far = looked-none (arrived_from place c.args.p) (nth_of place) c.args.arrivals.now (c.start-start.result - nth_of place 0)
           (omega (arith, c.start-start.ensures.start));
-      spent = c.requires.spent;
+      spent = subst (λ w. AreSpent place (HasCome place c.args.p c.args.arrivals.now) w) (sym c.settle.ensures) c.requires.spent;
       stays = λ none. refl;
       begins = omega (arith, c.start-start.ensures.start);
       ends = omega (arith, c.start-start.ensures.start);

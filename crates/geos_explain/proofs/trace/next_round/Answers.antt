@@ -1,6 +1,7 @@
-use Rattle.std.proofs.Common.{◌≡◌, ◌+◌, ◌-◌, refl, sym, ap, ◌∙◌, arith}
+use Rattle.std.proofs.Common.{◌≡◌, ◌+◌, ◌-◌, refl, sym, ap, subst, ◌∙◌, arith}
 use Rattle.geos_explain.specs.Places.{place_of}
 use Rattle.geos_explain.specs.Rounds.{looked}
+use Rattle.geos_explain.specs.Spent.{FindsNoMore, AreSpent}
 use Rattle.geos_explain.specs.Arrivals.{nth_of}
 use Rattle.geos_explain.specs.Trace.{back_from, nth_last, next_round}
 use Rattle.geos_explain.proofs.Rounding.{looked-none, looked-more}
@@ -13,7 +14,7 @@ loop-from-init c =
     record {
       so_far = looked-none (back_from place c.args.tracing.now.p) (nth_last place) c.args.trace.now
           (nth_of place place.routine.count - (c.start-start.result + place.routine.count)) (omega (arith, c.start-start.ensures.start));
-      spent = c.requires.spent;
+      spent = subst (λ w. AreSpent place (FindsNoMore place c.args.tracing.now.p c.args.trace.now) w) (sym c.settle.ensures) c.requires.spent;
       stays = λ none. refl;
       within = omega (arith, c.start-start.ensures.start);
       ends = omega (arith, c.start-start.ensures.start);
