@@ -12,3 +12,4 @@ mod Reached
 mod Rounding
 mod Spending
 mod Told
+mod Untold

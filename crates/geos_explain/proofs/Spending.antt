@@ -1,5 +1,5 @@
 -- Where looks at instructions come to nothing more.
-use Rattle.std.proofs.Common.{◌≡◌, ◌≢◌, ◌<◌, ◌≤◌, ℕ, Bool, true, false, not, cond, List, length, Option, Some, None, slice_get, get_or, set, refl, sym, ap, ◌∙◌, subst, inl, inr, arith}
+use Rattle.std.proofs.Common.{◌≡◌, ◌≢◌, ◌<◌, ◌≤◌, ◌-◌, ℕ, Bool, true, false, not, cond, List, length, Option, Some, None, slice_get, get_or, set, refl, sym, ap, ◌∙◌, subst, inl, inr, arith}
 use Rattle.std.specs.Prelude.{◌&&◌, nat_lt, is_some, is_none}
 use Rattle.std.specs.Option.{option_or}
 use Rattle.std.proofs.lemmas.Bool.{cases_eq}
@@ -12,16 +12,19 @@ use Rattle.geos_image.specs.Parts.{Parts}
 use Rattle.geos_flow.specs.declared.edge.Edge.{Edge}
 use Rattle.geos_flow.specs.Edges.{end_of, end_in}
 use Rattle.geos_flow.specs.Marks.{no_marks, marked, is_marked}
+use Rattle.geos_flow.specs.Pending.{Adds, NoneIn}
 use Rattle.geos_flow.proofs.Marked.{mark-was, marked-here, marked-keeps, none-marked, has-marked, is-marked, marked-low}
 use Rattle.geos_explain.specs.declared.trace.End.{End}
 use Rattle.geos_explain.specs.declared.trace.Meeting.{Meeting}
 use Rattle.geos_explain.specs.declared.trace.Trace.{Trace}
 use Rattle.geos_explain.specs.Places.{Place, IsPcOf, comes_alike}
-use Rattle.geos_explain.specs.Arrivals.{arrival, behind, brought, comes_along, arrived_along, arrived_from}
-use Rattle.geos_explain.specs.Spent.{HasCome, IsBack, SpentOr, AreSpent, StaySpent}
-use Rattle.geos_explain.specs.Trace.{meeting_at, end_at, lacks_on, hint_at, passed, back_by, back_along, back_from}
+use Rattle.geos_explain.specs.Rounds.{looked}
+use Rattle.geos_explain.specs.Arrivals.{arrival, behind, brought, comes_along, arrived_along, arrived_from, nth_of}
+use Rattle.geos_explain.specs.Spent.{HasCome, FindsNoMore, SpentOr, AreSpent, StaySpent}
+use Rattle.geos_explain.specs.Trace.{meeting_at, end_at, lacks_on, hint_at, passed, back_by, back_along, back_from, nth_last}
 use Rattle.geos_explain.specs.Ways.{bringing, losing, loses}
 use Rattle.geos_explain.proofs.Comes.{end-known}
+use Rattle.geos_explain.proofs.Rounding.{looked-same}
 
 abbrev edge_at : ℕ → Bool → Edge
 edge_at from branch = record { from = from; branch = branch }
@@ -54,17 +57,7 @@ next-spent place old new waits less more from spent is stay here edge inside = e
   ])
 ]
 
--- one that does not wait need not be looked at
-pub same-spent : (place : Place) (spent : Edge → Type 0) (waits less : List Bool) (from : ℕ) → AreSpent place spent waits
-    → less ≡ set waits from false → is_marked waits from ≡ false → AreSpent place spent less
-same-spent place spent waits less from are is not_so edge inside = elim (are edge inside) [
-  | inl was ↦ inl was
-  | inr waiting ↦ elim (cases_eq edge.from from) [
-    | inl same ↦ (let so = subst (λ n. is_marked waits n ≡ true) same waiting in absurd cc)
-    | inr ne ↦ inr (other-waits waits less from edge.from is ne waiting)
-  ]
-]
-
+-- one that does not wait is spent
 pub spent-at : (place : Place) (spent : Edge → Type 0) (waits : List Bool) (from : ℕ) → AreSpent place spent waits → IsPcOf place from
     → is_marked waits from ≡ false → (branch : Bool) → spent (edge_at from branch)
 spent-at place spent waits from are inside not_so branch = elim (are (edge_at from branch) inside) [ inl was ↦ was | inr waiting ↦ absurd cc ]
@@ -126,12 +119,12 @@ module _ (place : Place) (p : ℕ) where
       here-come new edge point there (came edge point (get_or new to None) (arrival new edge.from) here)
 
   -- where something comes to a pc, the instruction there waits, and others do as before
-  pub come-stays : (old : List (Option Pointer)) (waits : List Bool) (end : ℕ) (pointer : Option Pointer) → end < 4096 → length old ≡ 4096
-      → length waits ≡ 4096 → is_stale pointer ≡ false → StaySpent (HasCome place p old) waits (HasCome place p (set old end pointer)) (marked waits end)
-  come-stays old waits end pointer low long full known edge spent = elim spent [
-    | inr waiting ↦ inr (marked-keeps waits end edge.from waiting)
+  pub come-stays : (old : List (Option Pointer)) (waits more : List Bool) (end : ℕ) (pointer : Option Pointer) → end < 4096 → length old ≡ 4096
+      → Adds end waits more → is_stale pointer ≡ false → StaySpent (HasCome place p old) waits (HasCome place p (set old end pointer)) more
+  come-stays old waits more end pointer low long adds known edge spent = elim spent [
+    | inr waiting ↦ inr (adds.keeps edge.from waiting)
     | inl come ↦ elim (cases_eq edge.from end) [
-      | inl same ↦ inr (subst (λ n. is_marked (marked waits end) n ≡ true) (sym same) (marked-here waits end full low))
+      | inl same ↦ inr (subst (λ n. is_marked more n ≡ true) (sym same) adds.there)
       | inr ne ↦ inl (λ point there. still point ne (come point there))
     ]
   ]
@@ -170,27 +163,37 @@ module _ (place : Place) (p : ℕ) where
       by_point None e = refl
       by_point (Some point) e = ap (λ a. arrived_along place p a (edge_at from true) point) (along false point e) ∙ along true point e
 
+  -- the same of all of a round from one pc on and below another, where none waits
+  pub come-on : (initial arrivals : List (Option Pointer)) (waits : List Bool) (from end : ℕ)
+      → AreSpent place (HasCome place p arrivals) waits → NoneIn waits from end → nth_of place 0 ≤ from → from ≤ end → end ≤ nth_of place place.routine.count
+      → arrivals ≡ looked (arrived_from place p) (nth_of place) initial (from - nth_of place 0)
+      → arrivals ≡ looked (arrived_from place p) (nth_of place) initial (end - nth_of place 0)
+  come-on initial arrivals waits from end spent none begins goes ends is =
+      looked-same (arrived_from place p) (nth_of place) initial arrivals (from - nth_of place 0) (end - nth_of place 0) is (omega arith)
+      (λ k past below. come-same arrivals (nth_of place k) (spent-at place (HasCome place p arrivals) waits (nth_of place k) spent
+      (record { begins = omega arith; ends = omega arith }) (none (nth_of place k) (omega arith) (omega arith))))
+
   -- ---- Steps back
 
-  pub back-found : (trace : Trace) → trace.found ≡ true → (edge : Edge) → IsBack place p trace edge
+  pub back-found : (trace : Trace) → trace.found ≡ true → (edge : Edge) → FindsNoMore place p trace edge
   back-found trace is edge found = absurd cc
 
   pub back-brings : (trace : Trace) (edge : Edge) (point : KnownPlace) → slice_get (places place.image) edge.from ≡ Some point
-      → lacks_on place p edge point ≡ false → IsBack place p trace edge
+      → lacks_on place p edge point ≡ false → FindsNoMore place p trace edge
   back-brings trace edge point there brings found other also mark lacks =
       let is = same-point (slice_get (places place.image) edge.from) other point also there in
       let here : lacks_on place p edge point ≡ true = subst (λ q. lacks_on place p edge q ≡ true) is lacks in
       absurd cc
 
   pub back-passed : (trace : Trace) (edge : Edge) (point : KnownPlace) → slice_get (places place.image) edge.from ≡ Some point
-      → loses place.image (hint_at place p edge.from) edge point ≡ false → is_marked trace.passed edge.from ≡ true → IsBack place p trace edge
+      → loses place.image (hint_at place p edge.from) edge point ≡ false → is_marked trace.passed edge.from ≡ true → FindsNoMore place p trace edge
   back-passed trace edge point there keeps passed found other also mark lacks =
       let is = same-point (slice_get (places place.image) edge.from) point other there also in
       (subst (λ q. loses place.image (hint_at place p edge.from) edge q ≡ false) is keeps, passed)
 
   -- one that does not lead to a place that was passed
   pub back-other : (trace : Trace) (edge : Edge) (point : KnownPlace) → slice_get (places place.image) edge.from ≡ Some point
-      → (not trace.found && is_marked trace.passed (end_of edge point.instr)) ≡ false → IsBack place p trace edge
+      → (not trace.found && is_marked trace.passed (end_of edge point.instr)) ≡ false → FindsNoMore place p trace edge
   back-other trace edge point there none found other also mark lacks =
       let is = same-point (slice_get (places place.image) edge.from) other point also there in
       let here : is_marked trace.passed (end_of edge point.instr) ≡ true =
@@ -200,7 +203,7 @@ module _ (place : Place) (p : ℕ) where
       absurd cc
 
   -- where no place was passed, nothing is to come
-  pub none-back : (trace : Trace) → trace.passed ≡ no_marks → (edge : Edge) → IsBack place p trace edge
+  pub none-back : (trace : Trace) → trace.passed ≡ no_marks → (edge : Edge) → FindsNoMore place p trace edge
   none-back trace is edge found point there mark = absurd (none-marked (end_of edge point.instr)
       (has-marked no_marks (end_of edge point.instr) (subst (λ m. is_marked m (end_of edge point.instr) ≡ true) is mark)))
 
@@ -233,7 +236,7 @@ module _ (place : Place) (p : ℕ) where
   -- edges that lead there are to be looked at again, and no others
   pub pass-stays : (old new : Trace) (at : ℕ) (waits more : List Bool) → new ≡ passed place p old at → at < length place.image.points
       → length place.image.points ≤ 4096 → ((edge : Edge) → end_in place.image edge ≡ Some at → is_marked more edge.from ≡ true)
-      → ((pc : ℕ) → is_marked waits pc ≡ true → is_marked more pc ≡ true) → StaySpent (IsBack place p old) waits (IsBack place p new) more
+      → ((pc : ℕ) → is_marked waits pc ≡ true → is_marked more pc ≡ true) → StaySpent (FindsNoMore place p old) waits (FindsNoMore place p new) more
   pass-stays old new at waits more is low short begins keeps edge spent = elim spent [
     | inr waiting ↦ inr (keeps edge.from waiting)
     | inl was ↦ by_point was (slice_get (places place.image) edge.from) refl
@@ -253,11 +256,11 @@ module _ (place : Place) (p : ℕ) where
             | inr before ↦ is-marked old.passed k (marked-low (marked old.passed at) k there) before
           ]
 
-      by_point : IsBack place p old edge → (o : Option KnownPlace) → slice_get (places place.image) edge.from ≡ o → SpentOr (IsBack place p new) more edge
+      by_point : FindsNoMore place p old edge → (o : Option KnownPlace) → slice_get (places place.image) edge.from ≡ o → SpentOr (FindsNoMore place p new) more edge
       by_point was None e = inl (λ found point there. absurd cc)
       by_point was (Some point) e = by_has (has_edge point.instr edge.branch) refl
         where
-          by_has : (b : Bool) → has_edge point.instr edge.branch ≡ b → SpentOr (IsBack place p new) more edge
+          by_has : (b : Bool) → has_edge point.instr edge.branch ≡ b → SpentOr (FindsNoMore place p new) more edge
           by_has false has = inl (back-brings new edge point e
               (ap (λ b. b && is_stale (pointer_at (after place.image edge.from point.row edge.branch) p))
               (and-false (comes_alike place edge.from) (has_edge point.instr edge.branch) has)))
@@ -273,7 +276,7 @@ module _ (place : Place) (p : ℕ) where
 
   -- a look that comes to nothing more changes nothing
   along-same : (trace : Trace) (edge : Edge) (point : KnownPlace) → slice_get (places place.image) edge.from ≡ Some point
-      → IsBack place p trace edge → back_along place p trace edge point ≡ trace
+      → FindsNoMore place p trace edge → back_along place p trace edge point ≡ trace
   unfolding back_along back_by
   along-same trace edge point there back =
       by_tests trace.found refl (is_marked trace.passed (end_of edge point.instr)) refl (lacks_on place p edge point) refl
@@ -294,7 +297,7 @@ module _ (place : Place) (p : ℕ) where
           let still = back found point there mark lacks in
           ap (λ b. kept b (is_marked trace.passed edge.from)) still.0 ∙ ap (kept false) still.1
 
-  pub back-same : (trace : Trace) (from : ℕ) → ((branch : Bool) → IsBack place p trace (edge_at from branch)) → back_from place p trace from ≡ trace
+  pub back-same : (trace : Trace) (from : ℕ) → ((branch : Bool) → FindsNoMore place p trace (edge_at from branch)) → back_from place p trace from ≡ trace
   unfolding back_from
   back-same trace from back = by_point (slice_get (places place.image) from) refl
     where
@@ -306,3 +309,14 @@ module _ (place : Place) (p : ℕ) where
       by_point (Some point) e =
           ap (λ t. back_along place p t (edge_at from true) point) (along-same trace (edge_at from false) point e (back false))
           ∙ along-same trace (edge_at from true) point e (back true)
+
+  -- the same of all of a round below one pc and from another on, where none waits
+  pub back-on : (initial trace : Trace) (waits : List Bool) (from end : ℕ) → AreSpent place (FindsNoMore place p trace) waits → NoneIn waits from end
+      → nth_of place 0 ≤ from → from ≤ end → end ≤ nth_of place place.routine.count
+      → trace ≡ looked (back_from place p) (nth_last place) initial (nth_of place place.routine.count - end)
+      → trace ≡ looked (back_from place p) (nth_last place) initial (nth_of place place.routine.count - from)
+  back-on initial trace waits from end spent none begins goes ends is =
+      let all = nth_of place place.routine.count in
+      looked-same (back_from place p) (nth_last place) initial trace (all - end) (all - from) is (omega arith)
+      (λ k past below. back-same trace (nth_last place k) (spent-at place (FindsNoMore place p trace) waits (nth_last place k) spent
+      (record { begins = omega arith; ends = omega arith }) (none (nth_last place k) (omega arith) (omega arith))))

@@ -23,6 +23,7 @@ pub mod Steps
 pub mod Unset
 pub mod Written
 pub mod Words
+pub mod Told
 pub mod Refusals
 pub mod Explanation
 pub mod Texts

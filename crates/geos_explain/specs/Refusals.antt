@@ -1,5 +1,5 @@
 -- Which refusals are told at a place.
-use Rattle.std.specs.Prelude.{◌≡◌, ◌↔◌, ℕ, ◌+◌, ◌-◌, ◌/◌, Bool, true, false, ◌&&◌, nat_le, nat_lt, ◌==◌, if◌then◌else◌, List, [], ◌∷◌, take, count_by, Option, Some, None, is_some, length, slice_get, slice_index_or, codes, decimal}
+use Rattle.std.specs.Prelude.{◌≡◌, ◌↔◌, ℕ, ◌+◌, ◌-◌, Bool, false, ◌&&◌, nat_le, nat_lt, ◌==◌, if◌then◌else◌, List, [], ◌∷◌, take, count_by, Option, Some, None, length, slice_get, codes, decimal}
 use Rattle.std.specs.List.{concat}
 use Rattle.std.specs.Option.{option_map_or}
 use Rattle.geos_image.specs.declared.routine.Routine.{Routine}
@@ -11,29 +11,8 @@ use Rattle.geos_verify.specs.Places.{places}
 use Rattle.geos_verify.specs.Refused.{AreRefusals}
 use Rattle.geos_verify.specs.Rules.{refusal, over_budget, HasPoint}
 use Rattle.geos_explain.specs.Places.{Place, Explained, place_at}
+use Rattle.geos_explain.specs.Told.{is_of_budget, is_told, rule_at, most_told}
 use Rattle.geos_explain.specs.Words.{refusal_line}
-
--- a rule is the one on the budget
-abbrev pub is_of_budget : Rule → Bool
-is_of_budget OverBudget = true
-is_of_budget _ = false
-
--- the rule that is told at the place that it refuses: not that on the budget, which is told of its routine
-abbrev pub told_rule : Option Rule → Option Rule
-told_rule None = None
-told_rule (Some rule) = if is_of_budget rule then None else Some rule
-
--- there is such a rule
-abbrev pub is_told : Option Rule → Bool
-is_told rule = is_some (told_rule rule)
-
--- the rule that is told at a pc
-abbrev pub rule_at : List (Option Rule) → ℕ → Option Rule
-rule_at refused pc = told_rule (slice_index_or refused pc None)
-
--- how many refusals are told of an image of so many instructions
-abbrev pub most_told : ℕ → ℕ
-most_told len = 32768 / (len + 1)
 
 -- how many more places are refused from here on
 unfoldable pub more_line : ℕ → List ℕ

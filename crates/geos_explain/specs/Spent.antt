@@ -19,8 +19,8 @@ HasCome place p arrivals edge = (point : KnownPlace) → slice_get (places place
 
 -- a step back along an edge comes to nothing more: what is looked for was found, or it does not lead to a place that was passed, or
 -- brings the pointer, or its instruction did not lose it and was passed
-abbrev pub IsBack : Place → ℕ → Trace → Edge → Type 0
-IsBack place p trace edge = trace.found ≡ false → (point : KnownPlace) → slice_get (places place.image) edge.from ≡ Some point
+abbrev pub FindsNoMore : Place → ℕ → Trace → Edge → Type 0
+FindsNoMore place p trace edge = trace.found ≡ false → (point : KnownPlace) → slice_get (places place.image) edge.from ≡ Some point
     → is_marked trace.passed (end_of edge point.instr) ≡ true → lacks_on place p edge point ≡ true
     → (loses place.image (hint_at place p edge.from) edge point ≡ false) × (is_marked trace.passed edge.from ≡ true)
 

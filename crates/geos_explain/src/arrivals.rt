@@ -9,9 +9,8 @@ ghost use Rattle.geos_verify.specs.Places.{places};
 use crate::filled::Filled;
 use crate::place::Place;
 use crate::routines::comes_alike;
-use crate::waits::{all_wait, take};
 use crate::ways::{Followed, entry_pointer, is_stale, with_hint};
-use geos_flow::{Edge, Marks, end_of, mark};
+use geos_flow::{Edge, Pending, end_of};
 use geos_image::Pointer;
 use geos_verify::{Place as KnownPlace, has_edge, pointer_at};
 
@@ -49,7 +48,7 @@ fn behind(image: &Filled, followed: Followed, edge: Edge, point: &KnownPlace) ->
 /// What the edge brings comes to its end, if nothing did yet; the instruction there waits then.
 fn arrive_along(
     arrivals: &mut Arrivals,
-    waits: &mut Marks,
+    waits: &mut Pending,
     place: &Place,
     p: u8,
     edge: Edge,
@@ -66,24 +65,21 @@ fn arrive_along(
         let brought = behind(place.image, Followed { p, hint }, edge, point);
         if !is_stale(brought) {
             arrivals[end] = brought;
-            mark(waits, end);
+            waits.put(end as u16);
         }
     }
 }
 
-/// The same of both edges of the instruction at a pc, and whether it waited. If it did not, nothing more comes along them.
+/// The same of both edges of the instruction at a pc, which no longer waits.
 #[tactic(auto, unfolding(crate::specs::Arrivals::arrived_from))]
-fn arrive_from(arrivals: &mut Arrivals, waits: &mut Marks, place: &Place, p: u8, from: u16) -> bool
+fn arrive_from(arrivals: &mut Arrivals, waits: &mut Pending, place: &Place, p: u8, from: u16)
     requires place { IsPlace (place_of place.now) }
     requires inside { IsPcOf (place_of place.now) from }
     requires spent { AreSpent (place_of place.now) (HasCome (place_of place.now) p arrivals.old) waits.old }
     ensures arrives { arrivals.new ≡ arrived_from (place_of place.now) p arrivals.old from }
     ensures spent { AreSpent (place_of place.now) (HasCome (place_of place.now) p arrivals.new) waits.new }
-    ensures stays { result ≡ false → arrivals.new ≡ arrivals.old }
 {
-    if !take(waits, from) {
-        return false;
-    }
+    waits.take(from);
     if let Some(point) = place.image.place(from) {
         let along = Edge {
             from,
@@ -93,15 +89,13 @@ fn arrive_from(arrivals: &mut Arrivals, waits: &mut Marks, place: &Place, p: u8,
         arrive_along(arrivals, waits, place, p, along, point);
         arrive_along(arrivals, waits, place, p, aside, point);
     }
-    true
 }
 
 /// The same of all of the routine's instructions, the first of them first, and whether one of them waited; unless none did the last
-/// time.
-#[tactic(auto, unfolding(crate::specs::Rounds::looked))]
+/// time. Along the edges of those that do not wait nothing more comes.
 fn next_arrivals(
     arrivals: &mut Arrivals,
-    waits: &mut Marks,
+    waits: &mut Pending,
     place: &Place,
     p: u8,
     goes_on: bool,
@@ -116,11 +110,14 @@ fn next_arrivals(
     if !goes_on {
         return false;
     }
-    let start = place.image.start(place.r);
+    let mut start = place.image.start(place.r);
+    let end = start + place.routine.count;
     let mut any = false;
-    for k in 0..place.routine.count {
-        let waited = arrive_from(arrivals, waits, place, p, start + k);
-        any = any || waited;
+    waits.settle();
+    while let Some(from) = waits.first_in(start, end) {
+        arrive_from(arrivals, waits, place, p, from);
+        start = from + 1;
+        any = true;
     }
     any
 }
@@ -147,7 +144,7 @@ pub(crate) fn all_arrivals(place: &Place, p: u8) -> Arrivals
     ensures { result ≡ all_arrivals (place_of place.now) p }
 {
     let mut found = arrivals_at_entry(place, p);
-    let mut waits = all_wait();
+    let mut waits = Pending::all();
     let mut goes_on = true;
     for n in 0..place.routine.count {
         goes_on = next_arrivals(&mut found, &mut waits, place, p, goes_on);

@@ -1,7 +1,8 @@
 //! An image that is explained.
 
-ghost use Rattle.std.specs.Prelude.{◌≡◌};
+ghost use Rattle.std.specs.Prelude.{◌≡◌, length};
 ghost use Rattle.geos_explain.specs.Led.{reached};
+ghost use Rattle.geos_explain.specs.Told.{most_told, IsFirstUntold};
 
 use crate::filled::Filled;
 use geos_flow::Marks;
@@ -17,5 +18,8 @@ pub(crate) struct Explained<'a> {
     pub marks: &'a Marks,
     /// For each pc the lowest rule that refuses there, if one does.
     pub refused: &'a [Option<Rule>],
+    /// The first pc whose refusal is not told, since so many before it are.
+    pub untold: usize,
     ghost marked: { marks.now ≡ reached image.now },
+    ghost told: { IsFirstUntold refused.now (most_told (length image.now.points)) untold },
 }

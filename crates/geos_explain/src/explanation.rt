@@ -12,7 +12,7 @@ use crate::filled::Filled;
 use crate::led::reached;
 use crate::notes::put_note;
 use crate::place::Place;
-use crate::refusals::{put_over_budget, put_refusal};
+use crate::refusals::{first_untold, most_told, put_over_budget, put_refusal};
 use crate::routines::{ExplainedRoutine, place_at};
 use geos_image::{Image, Routine};
 use geos_listing::{Targets, put_code, put_label_line, put_routine_line, put_row, targets_of};
@@ -26,13 +26,14 @@ pub(crate) fn put_noted(
     within: &ExplainedRoutine,
     place: &Place,
 ) -> Result<(), AllocError>
-    requires { IsPlace (place_of place.now) }
+    requires place { IsPlace (place_of place.now) }
+    requires image { place.now.image.now ≡ within.now.explained.now.image.now }
     ensures { OnOk result (out.new.items
         ≡ out.old.items ++ noted (explained_of within.now.explained.now) within.now.r within.now.routine.now (place_of place.now)) }
 {
     put_note(out, place)?;
     out.extend_from_slice(b"\n")?;
-    put_refusal(out, within.explained.refused, place)?;
+    put_refusal(out, within.explained, place)?;
     put_over_budget(out, within, place.pc)
 }
 
@@ -126,6 +127,7 @@ pub fn explain(
         lines: &[],
         marks: &marks,
         refused,
+        untold: first_untold(refused, most_told(filled.len())),
     };
     let mut out = Vec::new(alloc);
     for r in 0..image.count() {

@@ -31,7 +31,6 @@ mod texts;
 mod trace;
 mod unset;
 mod uses;
-mod waits;
 mod ways;
 mod words;
 mod written;

@@ -1,10 +1,11 @@
 //! Which refusals are told at a place.
 
-ghost use Rattle.std.specs.Prelude.{◌≡◌, ◌<◌, ◌++◌, OnOk, count_by, take, length};
+ghost use Rattle.std.specs.Prelude.{◌≡◌, ◌<◌, ◌++◌, OnOk, Some, count_by, length};
 ghost use Rattle.geos_explain.specs.Places.{IsPlace, explained_of, place_of};
-ghost use Rattle.geos_explain.specs.Refusals.{is_of_budget, told_rule, is_told, rule_at, most_told, more_line, refused_text, refusal_text, is_last};
-ghost use Rattle.geos_explain.specs.Refusals.{over_line, over_from, over_text, ToldWhereRefused};
+ghost use Rattle.geos_explain.specs.Told.{is_of_budget, told_rule, is_told, rule_at, most_told, IsFirstUntold};
+ghost use Rattle.geos_explain.specs.Refusals.{more_line, refused_text, refusal_text, is_last, over_line, over_from, over_text, ToldWhereRefused};
 
+use crate::explained::Explained;
 use crate::place::Place;
 use crate::routines::{ExplainedRoutine, place_at};
 use crate::words::put_refusal_line;
@@ -50,17 +51,6 @@ fn rule_at(refused: &[Option<Rule>], pc: u16) -> Option<Rule>
     }
 }
 
-/// At how many of the first pcs a rule is told.
-fn count_before(refused: &[Option<Rule>], pc: usize) -> usize
-    ensures { result ≡ count_by is_told (take pc refused.now) }
-{
-    refused
-        .iter()
-        .take(pc)
-        .filter(|rule| is_told(*rule))
-        .count()
-}
-
 /// At how many pcs a rule is told.
 fn count_all(refused: &[Option<Rule>]) -> usize
     ensures { result ≡ count_by is_told refused.now }
@@ -70,10 +60,26 @@ fn count_all(refused: &[Option<Rule>]) -> usize
 
 /// How many refusals are told of an image of so many instructions, so that it takes no longer than the longest image may:
 /// what is said of one may take time in proportion to the square of the number.
-fn most_told(len: u16) -> usize
+pub(crate) fn most_told(len: u16) -> usize
     ensures { result ≡ most_told len }
 {
     32_768 / (usize::from(len) + 1)
+}
+
+/// The pc at which a rule would be told behind that at so many others; else how many pcs there are.
+pub(crate) fn first_untold(refused: &[Option<Rule>], most: usize) -> usize
+    ensures { IsFirstUntold refused.now most result }
+{
+    let mut before = 0;
+    for pc in 0..refused.len() {
+        if is_told(&refused[pc]) {
+            if before == most {
+                return pc;
+            }
+            before += 1;
+        }
+    }
+    refused.len()
 }
 
 /// How many more places are refused from here on.
@@ -93,19 +99,21 @@ fn put_more(out: &mut Vec<u8>, more: usize) -> Result<(), AllocError>
 /// What is told where the rule refuses the place: what is wrong, or that others are not told.
 fn put_refused(
     out: &mut Vec<u8>,
-    refused: &[Option<Rule>],
+    explained: &Explained,
     place: &Place,
     rule: Rule,
 ) -> Result<(), AllocError>
-    requires { IsPlace (place_of place.now) }
-    ensures { OnOk result (out.new.items ≡ out.old.items ++ refused_text refused.now (place_of place.now) rule) }
+    requires place { IsPlace (place_of place.now) }
+    requires image { place.now.image.now ≡ explained.now.image.now }
+    requires told { rule_at explained.now.refused.now place.now.pc ≡ Some rule }
+    ensures { OnOk result (out.new.items ≡ out.old.items ++ refused_text explained.now.refused.now (place_of place.now) rule) }
 {
-    let most = most_told(place.image.len());
-    let before = count_before(refused, usize::from(place.pc));
-    if before < most {
+    let pc = usize::from(place.pc);
+    if pc < explained.untold {
         put_refusal_line(out, place, rule)
-    } else if before == most {
-        put_more(out, count_all(refused).saturating_sub(before))
+    } else if pc == explained.untold {
+        let told = most_told(place.image.len());
+        put_more(out, count_all(explained.refused).saturating_sub(told))
     } else {
         Ok(())
     }
@@ -114,14 +122,15 @@ fn put_refused(
 /// The same, if a rule refuses the place.
 pub(crate) fn put_refusal(
     out: &mut Vec<u8>,
-    refused: &[Option<Rule>],
+    explained: &Explained,
     place: &Place,
 ) -> Result<(), AllocError>
-    requires { IsPlace (place_of place.now) }
-    ensures { OnOk result (out.new.items ≡ out.old.items ++ refusal_text refused.now (place_of place.now)) }
+    requires place { IsPlace (place_of place.now) }
+    requires image { place.now.image.now ≡ explained.now.image.now }
+    ensures { OnOk result (out.new.items ≡ out.old.items ++ refusal_text explained.now.refused.now (place_of place.now)) }
 {
-    match rule_at(refused, place.pc) {
-        Some(rule) => put_refused(out, refused, place, rule),
+    match rule_at(explained.refused, place.pc) {
+        Some(rule) => put_refused(out, explained, place, rule),
         None => Ok(()),
     }
 }

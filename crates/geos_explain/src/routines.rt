@@ -23,6 +23,7 @@ pub(crate) struct ExplainedRoutine<'a> {
 pub(crate) fn place_at<'a>(within: &ExplainedRoutine<'a>, pc: u16) -> Place<'a>
     requires { pc < length within.now.explained.now.image.now.points }
     ensures place { IsPlace (place_of result) }
+    ensures image { result.image.now ≡ within.now.explained.now.image.now }
     ensures known { IfSome (slice_get (places within.now.explained.now.image.now) pc)
         (λ known. place_of result ≡ place_at (explained_of within.now.explained.now) within.now.r within.now.routine.now pc known) }
 {

@@ -8,6 +8,7 @@ use crate::explained::Explained;
 use crate::explanation::put_noted;
 use crate::filled::Filled;
 use crate::led::reached;
+use crate::refusals::{first_untold, most_told};
 use crate::routines::{ExplainedRoutine, place_at};
 use geos_image::Image;
 use geos_text::{Part, first_line, put_parts};
@@ -135,6 +136,7 @@ pub fn explain_text(
         lines,
         marks: &marks,
         refused,
+        untold: first_untold(refused, most_told(filled.len())),
     };
     let mut out = Vec::new(alloc);
     let mut rest = text;

@@ -4,7 +4,7 @@ ghost use Rattle.std.specs.Prelude.{◌≡◌, ◌<◌, true, false, length, Som
 ghost use Rattle.geos_explain.specs.Places.{IsPlace, IsPcOf, place_of};
 ghost use Rattle.geos_explain.specs.Arrivals.{all_arrivals};
 ghost use Rattle.geos_explain.specs.Lost.{WhatIsSaidHolds};
-ghost use Rattle.geos_explain.specs.Spent.{IsBack, AreSpent, StaySpent};
+ghost use Rattle.geos_explain.specs.Spent.{FindsNoMore, AreSpent, StaySpent};
 ghost use Rattle.geos_explain.specs.Trace.{meeting_at, nowhere_or, end_at, passed, hint_at, lacks_on};
 ghost use Rattle.geos_explain.specs.Trace.{back_by, back_along, back_from, next_round, all_rounds, along_lost, traced};
 ghost use Rattle.geos_verify.specs.Places.{places};
@@ -13,9 +13,8 @@ use crate::arrivals::{Arrivals, all_arrivals, arrival};
 use crate::firsts::{bringing, losing};
 use crate::place::Place;
 use crate::routines::comes_alike;
-use crate::waits::take;
 use crate::ways::{Followed, Way, empty_on, is_stale, loses};
-use geos_flow::{Edge, Marks, end_of, is_marked, mark, no_marks};
+use geos_flow::{Edge, Marks, Pending, end_of, is_marked, mark, no_marks};
 use geos_image::Pointer;
 use geos_verify::{Place as KnownPlace, has_edge, pointer_at};
 
@@ -148,14 +147,14 @@ fn pass_at(trace: &mut Trace, tracing: &Tracing, at: u16)
 }
 
 /// The same, and where edges to the place begin waits.
-fn pass(trace: &mut Trace, tracing: &Tracing, waits: &mut Marks, at: u16)
+fn pass(trace: &mut Trace, tracing: &Tracing, waits: &mut Pending, at: u16)
     requires place { IsPlace (place_of tracing.now.place.now) }
     requires there { at < length tracing.now.place.now.image.now.points }
     ensures passes { trace.new ≡ passed (place_of tracing.now.place.now) tracing.now.p trace.old at }
-    ensures stay { StaySpent (IsBack (place_of tracing.now.place.now) tracing.now.p trace.old) waits.old
-        (IsBack (place_of tracing.now.place.now) tracing.now.p trace.new) waits.new }
+    ensures stay { StaySpent (FindsNoMore (place_of tracing.now.place.now) tracing.now.p trace.old) waits.old
+        (FindsNoMore (place_of tracing.now.place.now) tracing.now.p trace.new) waits.new }
 {
-    tracing.place.image.graph().mark_begins(waits, at);
+    tracing.place.image.graph().put_begins(waits, at);
     pass_at(trace, tracing, at);
 }
 
@@ -171,13 +170,19 @@ fn lacks_on(place: &Place, p: u8, edge: Edge, point: &KnownPlace) -> bool
 
 /// A step back along an edge, if it does not bring the pointer: it was lost there, or the instruction is passed, if it was not yet.
 #[tactic(auto, unfolding(crate::specs::Trace::back_by))]
-fn step_by(trace: &mut Trace, tracing: &Tracing, waits: &mut Marks, edge: Edge, point: &KnownPlace)
+fn step_by(
+    trace: &mut Trace,
+    tracing: &Tracing,
+    waits: &mut Pending,
+    edge: Edge,
+    point: &KnownPlace,
+)
     requires place { IsPlace (place_of tracing.now.place.now) }
     requires there { slice_get (places tracing.now.place.now.image.now) edge.from ≡ Some point.now }
     ensures steps { trace.new ≡ back_by (place_of tracing.now.place.now) tracing.now.p trace.old edge point.now }
-    ensures here { IsBack (place_of tracing.now.place.now) tracing.now.p trace.new edge }
-    ensures stay { StaySpent (IsBack (place_of tracing.now.place.now) tracing.now.p trace.old) waits.old
-        (IsBack (place_of tracing.now.place.now) tracing.now.p trace.new) waits.new }
+    ensures here { FindsNoMore (place_of tracing.now.place.now) tracing.now.p trace.new edge }
+    ensures stay { StaySpent (FindsNoMore (place_of tracing.now.place.now) tracing.now.p trace.old) waits.old
+        (FindsNoMore (place_of tracing.now.place.now) tracing.now.p trace.new) waits.new }
 {
     if !lacks_on(tracing.place, tracing.p, edge, point) {
         return;
@@ -199,36 +204,32 @@ fn step_by(trace: &mut Trace, tracing: &Tracing, waits: &mut Marks, edge: Edge, 
 fn step_along(
     trace: &mut Trace,
     tracing: &Tracing,
-    waits: &mut Marks,
+    waits: &mut Pending,
     edge: Edge,
     point: &KnownPlace,
 )
     requires place { IsPlace (place_of tracing.now.place.now) }
     requires there { slice_get (places tracing.now.place.now.image.now) edge.from ≡ Some point.now }
     ensures steps { trace.new ≡ back_along (place_of tracing.now.place.now) tracing.now.p trace.old edge point.now }
-    ensures here { IsBack (place_of tracing.now.place.now) tracing.now.p trace.new edge }
-    ensures stay { StaySpent (IsBack (place_of tracing.now.place.now) tracing.now.p trace.old) waits.old
-        (IsBack (place_of tracing.now.place.now) tracing.now.p trace.new) waits.new }
+    ensures here { FindsNoMore (place_of tracing.now.place.now) tracing.now.p trace.new edge }
+    ensures stay { StaySpent (FindsNoMore (place_of tracing.now.place.now) tracing.now.p trace.old) waits.old
+        (FindsNoMore (place_of tracing.now.place.now) tracing.now.p trace.new) waits.new }
 {
     if !trace.found && is_marked(&trace.passed, end_of(edge, &point.instr)) {
         step_by(trace, tracing, waits, edge, point);
     }
 }
 
-/// The same along both edges of the instruction at a pc, and whether it waited. If it did not, steps back along them come to nothing
-/// more.
+/// The same along both edges of the instruction at a pc, which no longer waits.
 #[tactic(auto, unfolding(crate::specs::Trace::back_from))]
-fn step_from(trace: &mut Trace, tracing: &Tracing, waits: &mut Marks, from: u16) -> bool
+fn step_from(trace: &mut Trace, tracing: &Tracing, waits: &mut Pending, from: u16)
     requires place { IsPlace (place_of tracing.now.place.now) }
     requires inside { IsPcOf (place_of tracing.now.place.now) from }
-    requires spent { AreSpent (place_of tracing.now.place.now) (IsBack (place_of tracing.now.place.now) tracing.now.p trace.old) waits.old }
+    requires spent { AreSpent (place_of tracing.now.place.now) (FindsNoMore (place_of tracing.now.place.now) tracing.now.p trace.old) waits.old }
     ensures steps { trace.new ≡ back_from (place_of tracing.now.place.now) tracing.now.p trace.old from }
-    ensures spent { AreSpent (place_of tracing.now.place.now) (IsBack (place_of tracing.now.place.now) tracing.now.p trace.new) waits.new }
-    ensures stays { result ≡ false → trace.new ≡ trace.old }
+    ensures spent { AreSpent (place_of tracing.now.place.now) (FindsNoMore (place_of tracing.now.place.now) tracing.now.p trace.new) waits.new }
 {
-    if !take(waits, from) {
-        return false;
-    }
+    waits.take(from);
     if let Some(point) = tracing.place.image.place(from) {
         let along = Edge {
             from,
@@ -238,18 +239,16 @@ fn step_from(trace: &mut Trace, tracing: &Tracing, waits: &mut Marks, from: u16)
         step_along(trace, tracing, waits, along, point);
         step_along(trace, tracing, waits, aside, point);
     }
-    true
 }
 
 /// The same of all of the routine's instructions, the last of them first, and whether one of them waited; unless none did the last
-/// time.
-#[tactic(auto, unfolding(crate::specs::Rounds::looked))]
-fn next_round(trace: &mut Trace, tracing: &Tracing, waits: &mut Marks, goes_on: bool) -> bool
+/// time. At those that do not wait, steps back come to nothing more.
+fn next_round(trace: &mut Trace, tracing: &Tracing, waits: &mut Pending, goes_on: bool) -> bool
     requires place { IsPlace (place_of tracing.now.place.now) }
-    requires spent { AreSpent (place_of tracing.now.place.now) (IsBack (place_of tracing.now.place.now) tracing.now.p trace.old) waits.old }
+    requires spent { AreSpent (place_of tracing.now.place.now) (FindsNoMore (place_of tracing.now.place.now) tracing.now.p trace.old) waits.old }
     requires ended { goes_on ≡ false → next_round (place_of tracing.now.place.now) tracing.now.p trace.old ≡ trace.old }
     ensures steps { trace.new ≡ next_round (place_of tracing.now.place.now) tracing.now.p trace.old }
-    ensures spent { AreSpent (place_of tracing.now.place.now) (IsBack (place_of tracing.now.place.now) tracing.now.p trace.new) waits.new }
+    ensures spent { AreSpent (place_of tracing.now.place.now) (FindsNoMore (place_of tracing.now.place.now) tracing.now.p trace.new) waits.new }
     ensures ended { result ≡ false → next_round (place_of tracing.now.place.now) tracing.now.p trace.new ≡ trace.new }
 {
     if !goes_on {
@@ -257,20 +256,22 @@ fn next_round(trace: &mut Trace, tracing: &Tracing, waits: &mut Marks, goes_on: 
     }
     let place = tracing.place;
     let start = place.image.start(place.r);
-    let count = place.routine.count;
+    let mut end = start + place.routine.count;
     let mut any = false;
-    for k in 0..count {
-        let waited = step_from(trace, tracing, waits, start + (count - 1 - k));
-        any = any || waited;
+    waits.settle();
+    while let Some(from) = waits.last_in(start, end) {
+        step_from(trace, tracing, waits, from);
+        end = from;
+        any = true;
     }
     any
 }
 
 /// As many rounds back as the routine has instructions.
 #[tactic(auto, unfolding(crate::specs::Rounds::rounds))]
-fn step_rounds(trace: &mut Trace, tracing: &Tracing, waits: &mut Marks)
+fn step_rounds(trace: &mut Trace, tracing: &Tracing, waits: &mut Pending)
     requires place { IsPlace (place_of tracing.now.place.now) }
-    requires spent { AreSpent (place_of tracing.now.place.now) (IsBack (place_of tracing.now.place.now) tracing.now.p trace.old) waits.old }
+    requires spent { AreSpent (place_of tracing.now.place.now) (FindsNoMore (place_of tracing.now.place.now) tracing.now.p trace.old) waits.old }
     ensures { trace.new ≡ all_rounds (place_of tracing.now.place.now) tracing.now.p trace.old }
 {
     let mut goes_on = true;
@@ -281,10 +282,10 @@ fn step_rounds(trace: &mut Trace, tracing: &Tracing, waits: &mut Marks)
 
 /// A step back along a way that does not bring the pointer, unless it is known why not; nothing else was passed before.
 #[tactic(auto, unfolding(crate::specs::Trace::aside))]
-fn step_along_lost(trace: &mut Trace, tracing: &Tracing, waits: &mut Marks, lost: Way)
+fn step_along_lost(trace: &mut Trace, tracing: &Tracing, waits: &mut Pending, lost: Way)
     requires { IsPlace (place_of tracing.now.place.now) }
     ensures steps { trace.new ≡ along_lost (place_of tracing.now.place.now) tracing.now.p trace.old lost }
-    ensures spent { AreSpent (place_of tracing.now.place.now) (IsBack (place_of tracing.now.place.now) tracing.now.p trace.new) waits.new }
+    ensures spent { AreSpent (place_of tracing.now.place.now) (FindsNoMore (place_of tracing.now.place.now) tracing.now.p trace.new) waits.new }
 {
     trace.passed = no_marks();
     trace.found = trace.end.is_some();
@@ -316,7 +317,7 @@ pub(crate) fn traced(place: &Place, p: u8) -> Trace
         p,
         arrivals: all_arrivals(place, p),
     };
-    let mut waits = no_marks();
+    let mut waits = Pending::none();
     pass(&mut trace, &tracing, &mut waits, place.pc);
     step_rounds(&mut trace, &tracing, &mut waits);
     if let Some(meeting) = trace.meeting {

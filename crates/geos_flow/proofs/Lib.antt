@@ -1,4 +1,5 @@
 pub mod Marked
+pub mod Blocks
 pub mod Firsts
 pub mod Into
 mod Kept

@@ -5,6 +5,12 @@ use Rattle.geos_image.specs.Parts.{Parts}
 use Rattle.geos_flow.specs.declared.edge.Edge.{Edge}
 use Rattle.geos_flow.specs.Edges.{end_in, number_of}
 
+-- an edge leads from one pc to another
+pub record LeadsTo (image : Parts) (from to : ℕ) : Type 0 where
+  pub edge : Edge
+  pub begins : edge.from ≡ from
+  pub ends : end_in image edge ≡ Some to
+
 -- the edge that stands behind another
 abbrev pub behind_of : List (Option Edge) → Edge → Option Edge
 behind_of behind edge = slice_index_or behind (number_of edge) None

@@ -3,3 +3,4 @@ pub mod Marks
 pub mod Flow
 pub mod Graphs
 pub mod Waiting
+pub mod Pending

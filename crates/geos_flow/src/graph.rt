@@ -1,11 +1,11 @@
 //! The edges into each pc of an image.
 
-ghost use Rattle.std.specs.Prelude.{◌≡◌, ◌<◌, ◌≤◌, ◌+◌, ◌*◌, length, None, slice_index_or};
+ghost use Rattle.std.specs.Prelude.{◌≡◌, ◌<◌, ◌≤◌, ◌+◌, ◌*◌, length};
 ghost use Rattle.geos_flow.specs.Edges.{number_of};
-ghost use Rattle.geos_flow.specs.Graphs.{AreInto, behind_of};
+ghost use Rattle.geos_flow.specs.Graphs.{AreInto};
 
 use crate::edge::{Edge, end_in, number_of};
-use crate::marks::{Marks, mark};
+use crate::pending::Pending;
 use crate::search::Counting;
 use geos_image::Image;
 
@@ -41,10 +41,10 @@ fn note(
 }
 
 impl<'a> Graph<'a> {
-    ghost use Rattle.std.specs.Prelude.{ℕ, Some, true};
+    ghost use Rattle.std.specs.Prelude.{◌⊎◌, ℕ, Some, true};
     ghost use Rattle.geos_flow.specs.declared.edge.Edge.{Edge};
     ghost use Rattle.geos_flow.specs.Edges.{end_in};
-    ghost use Rattle.geos_flow.specs.Graphs.{first_into};
+    ghost use Rattle.geos_flow.specs.Graphs.{IsLast, LeadsTo, first_into};
     ghost use Rattle.geos_flow.specs.Marks.{is_marked};
 
     /// The edges of the image.
@@ -71,7 +71,7 @@ impl<'a> Graph<'a> {
     /// The first edge to a pc.
     pub(crate) fn first(&self, to: u16) -> Option<Edge>
         requires { to < 4096 }
-        ensures { result ≡ slice_index_or self.now.first to None }
+        ensures { IsLast self.now.image.now (2 * length self.now.image.now.points) to result }
     {
         self.first[usize::from(to)]
     }
@@ -79,20 +79,21 @@ impl<'a> Graph<'a> {
     /// The next edge to where an edge leads.
     pub(crate) fn next(&self, edge: Edge) -> Option<Edge>
         requires { edge.from < 4096 }
-        ensures { result ≡ behind_of self.now.behind edge }
+        ensures { (to : ℕ) → end_in self.now.image.now edge ≡ Some to → IsLast self.now.image.now (number_of edge) to result }
     {
         self.behind[number_of(edge)]
     }
 
-    /// Marks the pcs from which edges lead to one.
-    pub fn mark_begins(&self, marks: &mut Marks, to: u16)
+    /// The pcs from which edges lead to one wait, and what waited.
+    pub fn put_begins(&self, waits: &mut Pending, to: u16)
         requires { to < 4096 }
-        ensures begins { (edge : Edge) → end_in self.now.image.now edge ≡ Some to → is_marked marks.new edge.from ≡ true }
-        ensures keeps { (pc : ℕ) → is_marked marks.old pc ≡ true → is_marked marks.new pc ≡ true }
+        ensures begins { (edge : Edge) → end_in self.now.image.now edge ≡ Some to → is_marked waits.new edge.from ≡ true }
+        ensures keeps { (pc : ℕ) → is_marked waits.old pc ≡ true → is_marked waits.new pc ≡ true }
+        ensures was { (pc : ℕ) → is_marked waits.new pc ≡ true → (is_marked waits.old pc ≡ true) ⊎ LeadsTo self.now.image.now pc to }
     {
         let mut at = self.first(to);
         while let Some(edge) = at {
-            mark(marks, usize::from(edge.from));
+            waits.put(edge.from);
             at = self.next(edge);
         }
     }

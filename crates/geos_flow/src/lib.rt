@@ -4,10 +4,12 @@
 mod edge;
 mod graph;
 mod marks;
+mod pending;
 mod search;
 mod waiting;
 
 pub use edge::{Edge, end_of};
 pub use graph::Graph;
 pub use marks::{Marks, is_marked, mark, no_marks};
+pub use pending::Pending;
 pub use search::{Counting, Heading, follow, marks_what_is_led};

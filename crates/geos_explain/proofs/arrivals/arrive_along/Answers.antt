@@ -1,7 +1,6 @@
-use Rattle.std.proofs.Common.{◌≡◌, ◌<◌, false, length, set, sym, ◌∙◌, subst, arith}
+use Rattle.std.proofs.Common.{◌≡◌, ◌<◌, false, length, sym, ◌∙◌, arith}
 use Rattle.geos_verify.specs.Rows.{is_stale}
 use Rattle.geos_explain.specs.Places.{place_of}
-use Rattle.geos_explain.specs.Spent.{HasCome, StaySpent}
 use Rattle.geos_explain.proofs.Spending.{come-stays}
 use Rattle.geos_explain.proofs.arrivals.arrive_along.Goals as goal
 
@@ -15,7 +14,5 @@ returns-then-not-is_stale-clause-stay c =
     let brought = c.behind-brought.result in
     let low : end < 4096 = omega arith in
     let long : length old ≡ 4096 = omega arith in
-    let full : length waits ≡ 4096 = omega arith in
     let known : is_stale brought ≡ false = sym c.is_stale-then-comes_alike.ensures ∙ c.if-not-is_stale.true in
-    subst (λ m. StaySpent (HasCome place p old) waits (HasCome place p (set old end brought)) m) (sym c.mark.ensures)
-    (come-stays place p old waits end brought low long full known)
+    come-stays place p old waits c.put.new.self end brought low long c.put.ensures known

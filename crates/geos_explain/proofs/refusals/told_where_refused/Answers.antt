@@ -1,7 +1,7 @@
 use Rattle.std.proofs.Common.{◌≡◌, Bool, true, false, cond, Option, Some, None, refl}
 use Rattle.std.specs.Prelude.{◌↔◌}
 use Rattle.geos_verify.specs.declared.rule.Rule.{Rule}
-use Rattle.geos_explain.specs.Refusals.{is_of_budget, told_rule}
+use Rattle.geos_explain.specs.Told.{is_of_budget, told_rule}
 use Rattle.geos_explain.proofs.refusals.told_where_refused.Goals as goal
 
 told-exactly : (found : Option Rule) (rule : Rule) → (told_rule found ≡ Some rule) ↔ ((found ≡ Some rule) × (is_of_budget rule ≡ false))

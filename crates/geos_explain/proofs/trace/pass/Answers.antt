@@ -9,8 +9,8 @@ use Rattle.geos_explain.proofs.trace.pass.Goals as goal
 pub returns-clause-stay : goal.returns-clause-stay
 returns-clause-stay c =
     let place = place_of c.args.tracing.now.place.now in
-    let more = c.mark_begins.new.marks in
+    let more = c.put_begins.new.waits in
     let begins : (edge : Edge) → end_in place.image edge ≡ Some c.args.at → is_marked more edge.from ≡ true =
-    subst (λ image. (edge : Edge) → end_in image edge ≡ Some c.args.at → is_marked more edge.from ≡ true) c.graph.ensures c.mark_begins.ensures.begins in
+    subst (λ image. (edge : Edge) → end_in image edge ≡ Some c.args.at → is_marked more edge.from ≡ true) c.graph.ensures c.put_begins.ensures.begins in
     pass-stays place c.args.tracing.now.p c.args.trace.now c.pass_at.new.trace c.args.at c.args.waits.now more
-    c.pass_at.ensures c.requires.there c.requires.place.short begins c.mark_begins.ensures.keeps
+    c.pass_at.ensures c.requires.there c.requires.place.short begins c.put_begins.ensures.keeps

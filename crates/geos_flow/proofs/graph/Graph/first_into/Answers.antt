@@ -2,26 +2,23 @@ use Rattle.std.proofs.Common.{◌≡◌, ◌<◌, ◌≤◌, ◌+◌, true, Some
 use Rattle.std.proofs.lemmas.Bool.{cases_eq, cases_lt}
 use Rattle.geos_flow.specs.declared.edge.Edge.{Edge}
 use Rattle.geos_flow.specs.Edges.{number_of}
-use Rattle.geos_flow.specs.Graphs.{above, IsLast}
+use Rattle.geos_flow.specs.Graphs.{above}
 use Rattle.geos_flow.proofs.Firsts.{IsInto, first-same}
-use Rattle.geos_flow.proofs.Into.{number-low, same-edge}
+use Rattle.geos_flow.proofs.Into.{same-edge}
 use Rattle.geos_flow.proofs.Taking.{end-inside}
 use Rattle.geos_flow.proofs.graph.Graph.first_into.Goals as goal
 use Rattle.geos_flow.proofs.graph.Graph.first_into.Goals.{then-counts, else-counts}
 
 pub loop-at-preserved : goal.loop-at-preserved
 loop-at-preserved g c =
-    let graph = c.args.self.now in
-    let image = graph.image.now in
+    let image = c.args.self.now.image.now in
     let counts = g.C.Counting.counted c.args.counting.now in
     let to = c.args.to in
     let edge = c.in-Some.edge in
     let so_far = c.loop-at.invariant in
     let ends = so_far.leads edge c.in-Some.is in
     let low = (end-inside image edge to ends).0 in
-    let into = graph.into in
-    let last : IsLast image (number_of edge) to c.next-at.result =
-    rw (c.next-at.ensures) (into.behind edge to (number-low edge (length image.points) low) ends) in
+    let last = c.next-at.ensures to ends in
     let number : above c.loop-at.at ≡ number_of edge + 1 = ap above c.in-Some.is in
     let behind : (other : Edge) → above c.next-at.result ≤ number_of other → IsInto image counts to other → number_of edge ≤ number_of other =
     λ other past is. elim (cases_lt (number_of other) (number_of edge)) [
