@@ -1,4 +1,5 @@
 mod Arriving
+mod Choices
 mod Comes
 mod Fits
 mod Forgetting
