@@ -15,7 +15,7 @@ use Rattle.geos_explain.specs.Ways.{entry_pointer, with_hint}
 use Rattle.geos_explain.specs.Arrivals.{no_arrivals, arrival, behind, brought, comes_along, arrived_along, arrived_from, nth_of, next_arrivals, arrivals_at_entry, all_arrivals}
 use Rattle.geos_explain.specs.Lost.{ComesTo, Brings, IsHint}
 use Rattle.geos_flow.proofs.Into.{replicate-at}
-use Rattle.geos_explain.proofs.Choices.{elim_both}
+use Rattle.geos_flow.proofs.Choices.{elim_both}
 use Rattle.geos_explain.proofs.Rounding.{looked-keep, rounds-keep}
 
 -- what stands in a list behind a change was there, or is the change

@@ -15,7 +15,7 @@ use Rattle.geos_explain.specs.Moved.{moves, moves_at, if_round, IsMovedRound, Wh
 use Rattle.geos_explain.specs.Places.{Place, IsPlace, comes_alike, last_of}
 use Rattle.geos_explain.specs.Since.{IsInside}
 use Rattle.geos_explain.specs.Ways.{forgets}
-use Rattle.geos_explain.proofs.Choices.{elim_both}
+use Rattle.geos_flow.proofs.Choices.{elim_both}
 use Rattle.geos_explain.proofs.Comes.{marked-lead}
 use Rattle.geos_explain.proofs.Holding.{inside-at}
 

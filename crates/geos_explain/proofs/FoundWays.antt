@@ -19,7 +19,7 @@ use Rattle.geos_explain.specs.Places.{Place, agrees, is_inside}
 use Rattle.geos_explain.specs.Ways.{is_as, is_as_sought, is_sought, way_along, entry_way, entry_pointer, way_to, bringing, losing}
 use Rattle.geos_explain.specs.Lost.{LeadsBy, IsWay, IsAlike}
 use Rattle.geos_explain.proofs.Arriving.{cond-some, some-same}
-use Rattle.geos_explain.proofs.Choices.{elim_both}
+use Rattle.geos_flow.proofs.Choices.{elim_both}
 use Rattle.geos_explain.proofs.Comes.{known-end}
 
 module _ (place : Place) (p : ℕ) where

@@ -13,7 +13,7 @@ use Rattle.geos_explain.specs.declared.since.Since.{Since}
 use Rattle.geos_explain.specs.declared.since.Since.TheVariants.{Unknown, Entry, EntryOrOther, Once, Often}
 use Rattle.geos_explain.specs.Places.{Place, IsPlace, comes_alike}
 use Rattle.geos_explain.specs.Since.{holds, keeps_along, leads_to_marked, leads_on, stays_held, held_from, fills_at, one_more, also, since_entry, since_below, held_since, IsInside, IsHeldFrom, IsSince, IsSinceEntry, IsSaidOf, IsAllOf, WhatIsSaidOfSlotsHolds}
-use Rattle.geos_explain.proofs.Choices.{elim_both}
+use Rattle.geos_flow.proofs.Choices.{elim_both}
 use Rattle.geos_explain.proofs.Comes.{marked-lead, lead-marked}
 
 module _ (place : Place) (a : ℕ) where

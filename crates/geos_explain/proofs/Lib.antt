@@ -1,5 +1,4 @@
 mod Arriving
-mod Choices
 mod Comes
 mod Fits
 mod Forgetting

@@ -26,7 +26,7 @@ use Rattle.geos_explain.specs.Lost.{ComesTo, LacksAlong, IsLost, LeadsBy, IsWay,
 use Rattle.geos_flow.specs.Waiting.{Has}
 use Rattle.geos_flow.proofs.Marked.{has-marked, mark-was, none-marked}
 use Rattle.geos_explain.proofs.Arriving.{hint-known, all-found, cond-some, some-same}
-use Rattle.geos_explain.proofs.Choices.{elim_both}
+use Rattle.geos_flow.proofs.Choices.{elim_both}
 use Rattle.geos_explain.proofs.FoundWays.{bringing-way, losing-way}
 use Rattle.geos_explain.proofs.Rounding.{looked-keep, rounds-keep}
 

@@ -25,7 +25,7 @@ use Rattle.geos_verify.proofs.Places.{item_at}
 use Rattle.geos_verify.specs.declared.place.Place.{Place as KnownPlace}
 use Rattle.geos_verify.specs.Places.{places}
 use Rattle.geos_verify.proofs.Places.{places-length, place-at, point-of}
-use Rattle.geos_explain.proofs.Choices.{elim_both}
+use Rattle.geos_flow.proofs.Choices.{elim_both}
 use Rattle.geos_explain.specs.Places.{Place, Explained, place_at}
 use Rattle.geos_explain.specs.Notes.{where_text, note_head, known_here, potential_text, note}
 use Rattle.geos_explain.specs.Words.{words, refusal_line}

@@ -1,3 +1,4 @@
+pub mod Choices
 pub mod Marked
 pub mod Firsts
 pub mod Into
