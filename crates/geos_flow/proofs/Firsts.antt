@@ -19,11 +19,11 @@ module _ (image : Parts) (counts : Edge → ℕ → Bool) (to : ℕ) where
   if-into : (edge other : Edge) → if_into image counts to edge ≡ Some other → (edge ≡ other) × IsInto edge
   if-into edge other = elim_both (end_in image edge) None (λ (end : ℕ). cond (end == to && counts edge to) (Some edge) None)
       (λ o. o ≡ Some other → (edge ≡ other) × IsInto edge) (λ none same. absurd cc) (λ end ends.
-          cond_both (end == to && counts edge to) (Some edge) None (λ o. o ≡ Some other → (edge ≡ other) × IsInto edge)
-          (λ is same. (
-              let tests = and_parts (end == to) (counts edge to) is in
-              (cc, record { ends = ends ∙ ap Some (eqb-true end to tests.0); is_counted = tests.1 })))
-          (λ not_so none. absurd cc))
+      cond_both (end == to && counts edge to) (Some edge) None (λ o. o ≡ Some other → (edge ≡ other) × IsInto edge)
+      (λ is same. (
+      let tests = and_parts (end == to) (counts edge to) is in
+      (cc, record { ends = ends ∙ ap Some (eqb-true end to tests.0); is_counted = tests.1 })))
+      (λ not_so none. absurd cc))
 
   into-if : (edge : Edge) → IsInto edge → if_into image counts to edge ≡ Some edge
   into-if edge is =

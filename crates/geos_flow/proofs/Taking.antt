@@ -1,5 +1,5 @@
 -- Steps along the edges of a pc, ahead or back.
-use Rattle.std.proofs.Common.{◌≡◌, ◌<◌, ◌≤◌, ◌+◌, ◌*◌, ℕ, Bool, true, false, cond, List, [], length, Option, Some, None, slice_get, refl, sym, ap, ◌∙◌, subst, arith, ◌⊎◌, inl, inr}
+use Rattle.std.proofs.Common.{◌≡◌, ◌<◌, ◌≤◌, ◌+◌, ◌*◌, ℕ, Bool, true, false, cond, List, [], length, Option, Some, None, slice_get, sym, ap, ◌∙◌, subst, arith, ◌⊎◌, inl, inr}
 use Rattle.std.specs.Prelude.{◌&&◌, nat_lt}
 use Rattle.std.proofs.lemmas.Bool.{and_parts, cases_lt, cases_eq, cond_both, lt-ltb, ltb-true}
 use Rattle.std.proofs.lemmas.Option.{slice_get_within}
@@ -41,15 +41,15 @@ pub end-is : (image : Parts) (edge : Edge) (to : ℕ) → end_in image edge ≡ 
 end-is image edge to =
     elim_both (slice_get image.points edge.from) None (λ (point : Point). end_below (length image.points) edge point.instr)
     (λ o. o ≡ Some to → HasEnd image edge to) (λ none is. absurd cc) (λ point there. (
-        let end = end_of edge point.instr in
-        let has = has_edge point.instr edge.branch in
-        cond_both (has && nat_lt end (length image.points)) (Some end) None (λ o. o ≡ Some to → HasEnd image edge to)
-        (λ so same. (
-            let tests = and_parts has (nat_lt end (length image.points)) so in
-            let is : end ≡ to = cc in
-            let low = ltb-true end (length image.points) tests.1 in
-            record { point = point; there = there; has = tests.0; is = is; low = omega arith }))
-        (λ not_so none. absurd cc)))
+    let end = end_of edge point.instr in
+    let has = has_edge point.instr edge.branch in
+    cond_both (has && nat_lt end (length image.points)) (Some end) None (λ o. o ≡ Some to → HasEnd image edge to)
+    (λ so same. (
+    let tests = and_parts has (nat_lt end (length image.points)) so in
+    let is : end ≡ to = cc in
+    let low = ltb-true end (length image.points) tests.1 in
+    record { point = point; there = there; has = tests.0; is = is; low = omega arith }))
+    (λ not_so none. absurd cc)))
 
 -- it begins and ends in the image
 pub end-inside : (image : Parts) (edge : Edge) (end : ℕ) → end_in image edge ≡ Some end
@@ -78,8 +78,8 @@ module _ (image : Parts) (heading : Heading) (counts : Edge → ℕ → Bool) wh
   pub step-is : (edge : Edge) (step : Step) → steps edge ≡ Some step → IsStep edge step
   step-is edge step = elim_both (end_in image edge) None (λ (end : ℕ). cond (counts edge end) (Some (step_along heading edge.from end)) None)
       (λ o. o ≡ Some step → IsStep edge step) (λ none same. absurd cc) (λ end ends.
-          cond_both (counts edge end) (Some (step_along heading edge.from end)) None (λ o. o ≡ Some step → IsStep edge step)
-          (λ is same. record { end = end; ends = ends; is_counted = is; is = cc }) (λ not_so none. absurd cc))
+      cond_both (counts edge end) (Some (step_along heading edge.from end)) None (λ o. o ≡ Some step → IsStep edge step)
+      (λ is same. record { end = end; ends = ends; is_counted = is; is = cc }) (λ not_so none. absurd cc))
 
   pub is-step : (edge : Edge) (end : ℕ) → end_in image edge ≡ Some end → counts edge end ≡ true
       → steps edge ≡ Some (step_along heading edge.from end)
