@@ -89,10 +89,12 @@ said-of-rounds place item w from is_place = by_last (last_of place moving place.
     moving : ℕ → Bool
     moving pc = moves_at place w (lacking_from place item place.pc) pc
 
-    by_last : (last : Option ℕ) → last_of place moving place.routine.count ≡ last → if_round place item last ≡ Some from → IsMovedRound place item w from
+    by_last : (last : Option ℕ) → last_of place moving place.routine.count ≡ last
+        → if_round place item last ≡ Some from → IsMovedRound place item w from
     by_last None e none = absurd cc
     by_last (Some found) e said =
         let is = last-of place moving found place.routine.count (omega arith) e in
         cond_both (is_marked (lacking_from place item found) place.pc) (Some found) None (λ o. o ≡ Some from → IsMovedRound place item w from)
-        (λ round same. (let is_from : found ≡ from = cc in subst (IsMovedRound place item w) is_from (moves-round place item is_place w found round is.0)))
+        (λ round same. (let is_from : found ≡ from = cc in
+        subst (IsMovedRound place item w) is_from (moves-round place item is_place w found round is.0)))
         (λ not_so none. absurd cc) said

@@ -149,7 +149,8 @@ module _ (place : Place) (a : ℕ) where
         (λ none is. absurd cc)
         (λ point there is. (let tests = and_parts (not (holds point.row a)) (leads_on place a marks from point) is in
         let since = edge-since from point inside there (not-true (holds point.row a) tests.0) in
-        elim (or_cases (leads_to_marked place a marks (edge_at from false) point) (leads_to_marked place a marks (edge_at from true) point) tests.1) [
+        elim (or_cases (leads_to_marked place a marks (edge_at from false) point)
+        (leads_to_marked place a marks (edge_at from true) point) tests.1) [
           | inl along ↦ since false along
           | inr aside ↦ since true aside
         ]))

@@ -221,7 +221,8 @@ module _ (place : Place) (p : ℕ) where
   from-sound trace from sound =
       let along : Edge = record { from = from; branch = false } in
       let aside : Edge = record { from = from; branch = true } in
-      elim_both (slice_get (places place.image) from) trace (λ (point : KnownPlace). back_along place p (back_along place p trace along point) aside point) Sound
+      elim_both (slice_get (places place.image) from) trace
+      (λ (point : KnownPlace). back_along place p (back_along place p trace along point) aside point) Sound
       (λ none. sound)
       (λ point e. along-sound (back_along place p trace along point) (along-sound trace sound along point e) aside point e)
 

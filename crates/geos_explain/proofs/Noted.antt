@@ -69,8 +69,10 @@ comment-told most before all place rule =
     (λ full. cond_both (before == most) more [] AreComments (λ here. one-told more (comment-more (all - before))) (λ past. none-told))
 
 comment-refusal : (refused : List (Option Rule)) (place : Place) → AreComments (refusal_text refused place)
-comment-refusal refused place = elim_both (rule_at refused place.pc) [] (λ (rule : Rule). refused_text refused place rule) AreComments (λ none. none-told)
-    (λ rule is. comment-told (most_told (length place.image.points)) (count_by is_told (take place.pc refused)) (count_by is_told refused) place rule)
+comment-refusal refused place =
+    elim_both (rule_at refused place.pc) [] (λ (rule : Rule). refused_text refused place rule) AreComments (λ none. none-told)
+    (λ rule is. comment-told (most_told (length place.image.points)) (count_by is_told (take place.pc refused))
+    (count_by is_told refused) place rule)
 
 comment-over_line : (first : Place) → AreComments (over_line first)
 comment-over_line first = cond_both (over_budget first.routine first.pc first.pc first.potential) (refusal_line first OverBudget) [] AreComments
@@ -80,7 +82,8 @@ comment-over : (explained : Explained) (r : ℕ) (routine : Routine) (pc : ℕ) 
 unfolding over_text
 comment-over explained r routine pc =
     let start = start_of explained.image.routines r in
-    cond_both (is_last start routine pc) (over_from explained r routine start) [] AreComments (λ last. by_first (slice_get (places explained.image) start))
+    cond_both (is_last start routine pc) (over_from explained r routine start) [] AreComments
+    (λ last. by_first (slice_get (places explained.image) start))
     (λ other. none-told)
   where
     by_first : (o : Option KnownPlace)

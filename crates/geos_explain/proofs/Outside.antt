@@ -100,7 +100,8 @@ both-slots slots others holds is =
     )
 
 -- a slot is not named exactly where it may be given
-slot-given : (i : ℕ) (state : SlotState) → ((slot_item i (own_only state) ≡ []) × (slot_item i (marked_only state) ≡ [])) ↔ (may_be_given state ≡ true)
+slot-given : (i : ℕ) (state : SlotState)
+    → ((slot_item i (own_only state) ≡ []) × (slot_item i (marked_only state) ≡ [])) ↔ (may_be_given state ≡ true)
 slot-given i Empty = (λ none. refl, λ given. (refl, refl))
 slot-given i Mem = (λ none. absurd cc, λ given. absurd cc)
 slot-given i (Vm true false) = (λ none. absurd cc, λ given. absurd cc)
@@ -135,7 +136,8 @@ slot-left i (Vm false true) (Db a) given = (λ none. absurd cc, λ left. absurd 
 
 slots-left : (entry exit : Row) → length entry.slots ≡ 4 → length exit.slots ≡ 4 → list_all may_be_given entry.slots ≡ true
     → ((row_items (missing_slots entry exit) ≡ []) × (row_items (kept_slots entry exit) ≡ [])) ↔ (all2 is_left entry.slots exit.slots ≡ true)
-slots-left entry exit four also_four given = both-slots (missing_slots entry exit).slots (kept_slots entry exit).slots (all2 is_left entry.slots exit.slots)
+slots-left entry exit four also_four given =
+    both-slots (missing_slots entry exit).slots (kept_slots entry exit).slots (all2 is_left entry.slots exit.slots)
     (each-tests (λ k. (slot_item k (get_or (missing_slots entry exit).slots k Empty) ≡ []) × (slot_item k (get_or (kept_slots entry exit).slots k Empty) ≡ []))
     is_left entry.slots exit.slots Empty Empty 4 four also_four (λ k lt. rw (
       zip2-get missing_only entry.slots exit.slots Empty k (omega arith) (omega arith),
@@ -208,7 +210,8 @@ enters entry whole =
     )
 
 -- and leave by an exit row, where it entered so
-leaves : (entry exit : Row) → HasLengths entry → HasLengths exit → may_enter entry ≡ true → (exit_faults entry exit ≡ []) ↔ (may_leave entry exit ≡ true)
+leaves : (entry exit : Row) → HasLengths entry → HasLengths exit → may_enter entry ≡ true
+    → (exit_faults entry exit ≡ []) ↔ (may_leave entry exit ≡ true)
 unfolding exit_faults missing_words
 leaves entry exit whole whole_exit enter =
     let given = and_parts (list_all may_be_given entry.slots && list_all is_stale entry.pointers)

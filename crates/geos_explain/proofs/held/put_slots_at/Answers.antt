@@ -6,4 +6,5 @@ use Rattle.geos_explain.proofs.held.put_slots_at.Goals as goal
 
 pub loop-a-preserved : goal.loop-a-preserved
 loop-a-preserved c =
-    texts_below-step _ _ _ _ (λ a. slot_at c.args.which (place_of c.args.place.now) a) c.loop-a.a c.loop-a.invariant c.in_ok-put_slot_at.ensures refl
+    texts_below-step _ _ _ _ (λ a. slot_at c.args.which (place_of c.args.place.now) a)
+    c.loop-a.a c.loop-a.invariant c.in_ok-put_slot_at.ensures refl

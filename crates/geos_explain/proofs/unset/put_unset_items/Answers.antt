@@ -6,4 +6,5 @@ use Rattle.geos_explain.proofs.unset.put_unset_items.Goals as goal
 
 pub loop-k-preserved : goal.loop-k-preserved
 loop-k-preserved c =
-    texts_below-step _ _ _ _ (λ k. unset_item (place_of c.args.place.now) k) c.loop-k.k c.loop-k.invariant c.in_ok-put_unset_item.ensures refl
+    texts_below-step _ _ _ _ (λ k. unset_item (place_of c.args.place.now) k)
+    c.loop-k.k c.loop-k.invariant c.in_ok-put_unset_item.ensures refl
