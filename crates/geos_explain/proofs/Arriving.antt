@@ -1,7 +1,7 @@
 -- What the search finds to come to a pc does come to it.
 use Rattle.std.proofs.Common.{◌≡◌, ℕ, Bool, true, false, not, cond, List, [], ◌∷◌, length, Option, Some, None, slice_get, get_or, set, refl, sym, ap, ◌∙◌, subst, ◌⊎◌, inl, inr}
 use Rattle.std.specs.Prelude.{◌&&◌, nat_lt}
-use Rattle.std.proofs.lemmas.Bool.{and_parts, cases_eq, cases_lt}
+use Rattle.std.proofs.lemmas.Bool.{and_parts, cases_eq, cases_lt, cond_both}
 use Rattle.std.proofs.lemmas.List.{get_or-set_same, get_or-set_other, set_past}
 use Rattle.geos_verify.specs.declared.place.Place.{Place as KnownPlace}
 use Rattle.geos_verify.specs.Places.{places}
@@ -15,6 +15,7 @@ use Rattle.geos_explain.specs.Ways.{entry_pointer, with_hint}
 use Rattle.geos_explain.specs.Arrivals.{no_arrivals, arrival, behind, brought, comes_along, arrived_along, arrived_from, nth_of, next_arrivals, arrivals_at_entry, all_arrivals}
 use Rattle.geos_explain.specs.Lost.{ComesTo, Brings, IsHint}
 use Rattle.geos_flow.proofs.Into.{replicate-at}
+use Rattle.geos_flow.proofs.Choices.{elim_both}
 use Rattle.geos_explain.proofs.Rounding.{looked-keep, rounds-keep}
 
 -- what stands in a list behind a change was there, or is the change
@@ -79,35 +80,30 @@ module _ (place : Place) (p : ℕ) where
 
   along-found : (arrivals : List (Option Pointer)) → Found arrivals → (edge : Edge) (point : KnownPlace)
       → slice_get (places place.image) edge.from ≡ Some point → Found (arrived_along place p arrivals edge point)
-  along-found arrivals found edge point there = by_test (comes_along place p arrivals edge point) refl
-    where
-      by_test : (b : Bool) → comes_along place p arrivals edge point ≡ b
-          → Found (cond b (set arrivals (end_of edge point.instr) (brought place p arrivals edge point)) arrivals)
-      by_test true is =
-          let free = nat_lt (end_of edge point.instr) 4096 && is_stale (get_or arrivals (end_of edge point.instr) None) in
-          let first = and_parts (free && comes_alike place edge.from) (not (is_stale (brought place p arrivals edge point))) is in
-          let alike = (and_parts free (comes_alike place edge.from) first.0).1 in
-          set-found arrivals found (end_of edge point.instr) (brought place p arrivals edge point)
-          (λ q e. behind-known edge point (arrival arrivals edge.from) there alike (hint-known arrivals found edge.from) q e)
-      by_test false is = found
+  along-found arrivals found edge point there =
+      let to = end_of edge point.instr in
+      cond_both (comes_along place p arrivals edge point) (set arrivals to (brought place p arrivals edge point)) arrivals Found
+      (λ is. (let free = nat_lt to 4096 && is_stale (get_or arrivals to None) in
+      let first = and_parts (free && comes_alike place edge.from) (not (is_stale (brought place p arrivals edge point))) is in
+      let alike = (and_parts free (comes_alike place edge.from) first.0).1 in
+      set-found arrivals found to (brought place p arrivals edge point)
+      (λ q e. behind-known edge point (arrival arrivals edge.from) there alike (hint-known arrivals found edge.from) q e)))
+      (λ is. found)
 
   from-found : (arrivals : List (Option Pointer)) (from : ℕ) → Found arrivals → Found (arrived_from place p arrivals from)
   unfolding arrived_from
-  from-found arrivals from found = by_point (slice_get (places place.image) from) refl
-    where
-      by_point : (o : Option KnownPlace) → slice_get (places place.image) from ≡ o → Found (elim o [
-        | None ↦ arrivals
-        | Some point ↦ arrived_along place p (arrived_along place p arrivals (record { from = from; branch = false }) point)
-            (record { from = from; branch = true }) point
-      ])
-      by_point None e = found
-      by_point (Some point) e =
-          let first = along-found arrivals found (record { from = from; branch = false }) point e in
-          along-found (arrived_along place p arrivals (record { from = from; branch = false }) point) first
-          (record { from = from; branch = true }) point e
+  from-found arrivals from found =
+      let along : Edge = record { from = from; branch = false } in
+      let aside : Edge = record { from = from; branch = true } in
+      elim_both (slice_get (places place.image) from) arrivals
+      (λ (point : KnownPlace). arrived_along place p (arrived_along place p arrivals along point) aside point) Found (λ none. found)
+      (λ point e. along-found (arrived_along place p arrivals along point) (along-found arrivals found along point e) aside point e)
 
   entry-found : Found (arrivals_at_entry place p)
-  entry-found = by_test (nat_lt (start_of place.image.routines place.r) 4096)
+  entry-found =
+      let start = start_of place.image.routines place.r in
+      cond_both (nat_lt start 4096) (set no_arrivals start (entry_pointer place.routine p)) no_arrivals Found
+      (λ low. set-found no_arrivals none start (entry_pointer place.routine p) (λ q e. ([], (refl, e)))) (λ high. none)
     where
       none : Found no_arrivals
       none = record {
@@ -116,10 +112,6 @@ module _ (place : Place) (p : ℕ) where
             let nothing = none-there pc in
             absurd cc);
       }
-
-      by_test : (b : Bool) → Found (cond b (set no_arrivals (start_of place.image.routines place.r) (entry_pointer place.routine p)) no_arrivals)
-      by_test true = set-found no_arrivals none (start_of place.image.routines place.r) (entry_pointer place.routine p) (λ q e. ([], (refl, e)))
-      by_test false = none
 
   pub all-found : Found (all_arrivals place p)
   unfolding all_arrivals

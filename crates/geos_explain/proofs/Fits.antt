@@ -1,7 +1,7 @@
 -- A row lacks nothing exactly where it fits.
-use Rattle.std.proofs.Common.{◌≡◌, ◌<◌, ◌≤◌, ℕ, zero, suc, Bool, true, false, ◌&&◌, List, [], ◌∷◌, ◌++◌, Option, Some, None, length, get_or, refl, ◌∙◌, ap, arith, ◌⊎◌, inl, inr}
-use Rattle.std.specs.Prelude.{nat_le, nat_lt, ◌==◌}
-use Rattle.std.proofs.lemmas.Bool.{and_parts, eqb-true}
+use Rattle.std.proofs.Common.{◌≡◌, ◌<◌, ◌≤◌, ℕ, zero, suc, Bool, true, false, cond, ◌&&◌, List, [], ◌∷◌, ◌++◌, Option, Some, None, length, get_or, refl, ◌∙◌, ap, arith, inl, inr}
+use Rattle.std.specs.Prelude.{◌↔◌, nat_le, ◌==◌}
+use Rattle.std.proofs.lemmas.Bool.{and_parts, cases_lt, eqb-true}
 use Rattle.std.proofs.lemmas.Bool.Decides.{nat_tests}
 use Rattle.geos_image.specs.declared.row.Row.{Row}
 use Rattle.geos_image.specs.declared.row.Pointer.{Pointer}
@@ -10,35 +10,69 @@ use Rattle.geos_image.specs.declared.row.SlotState.TheVariants.{Empty, Mem, Vm, 
 use Rattle.geos_listing.specs.Rows.{texts_below, bound_item, slot_item, pointer_item, pair_item, pair_slots, row_items}
 use Rattle.geos_verify.specs.Lists.{zip2, all2}
 use Rattle.geos_image.specs.Legal.{is_shaped}
-use Rattle.geos_verify.specs.Rows.{bound, slot_fits, pointer_fits, pair_fits, fits}
+use Rattle.geos_verify.specs.Rows.{slot_fits, pointer_fits, pair_fits}
 use Rattle.geos_explain.specs.Lacks.{lacking_bound, lacking_slot, lacking_pointer, lacking_pair, held_item, lacking_items, LacksNothingWhereItFits}
+
+-- ---- Texts and tests, by index
+
+-- something is so of each number below one
+abbrev pub Each : ℕ → (ℕ → Type 0) → Type 0
+Each n P = (k : ℕ) → k < n → P k
 
 -- two texts are none together where each is
 pub none-append : (xs ys : List ℕ) → xs ++ ys ≡ [] → (xs ≡ []) × (ys ≡ [])
 none-append [] ys e = (refl, e)
 none-append (x ∷ xs) ys e = absurd cc
 
--- a number below the next one is below this one, or is it
-below_next : (k n : ℕ) (below : Bool) → nat_lt k n ≡ below → k < suc n → (k < n) ⊎ (k ≡ n)
-below_next k n true is lt = inl (grind (arith, nat_tests))
-below_next k n false is lt = inr (grind (arith, nat_tests))
-
--- where texts are none, each is
-pub texts_below-none : (n : ℕ) (text : ℕ → List ℕ) → texts_below n text ≡ [] → (k : ℕ) → k < n → text k ≡ []
+-- texts are none together exactly where each is
+pub none-each : (n : ℕ) (text : ℕ → List ℕ) → (texts_below n text ≡ []) ↔ Each n (λ k. text k ≡ [])
 unfolding texts_below
-texts_below-none zero text e k lt = absurd (omega arith)
-texts_below-none (suc n) text e k lt =
-    let parts = none-append (texts_below n text) (text n) e in
-    elim (below_next k n (nat_lt k n) refl lt) [ inl below ↦ texts_below-none n text parts.0 k below | inr same ↦ ap text same ∙ parts.1 ]
+none-each zero text = (λ none k lt. absurd (omega arith), λ none. refl)
+none-each (suc n) text = (
+  λ none k lt. (let parts = none-append (texts_below n text) (text n) none in
+      elim (cases_lt k n) [
+        | inl below ↦ (none-each n text).0 parts.0 k below
+        | inr past ↦ (let same : k ≡ n = omega arith in ap text same ∙ parts.1)
+      ]),
+  λ none. (let before = (none-each n text).1 (λ k lt. none k (omega arith)) in
+      let here : text n ≡ [] = none n (omega arith) in
+      rw (before, here) refl),
+)
 
--- and where each is none, so are they together
-pub none-texts_below : (n : ℕ) (text : ℕ → List ℕ) → ((k : ℕ) → k < n → text k ≡ []) → texts_below n text ≡ []
-unfolding texts_below
-none-texts_below zero text none = refl
-none-texts_below (suc n) text none =
-    let before = none-texts_below n text (λ k lt. none k (omega arith)) in
-    let here : text n ≡ [] = none n (omega arith) in
-    rw (before, here) refl
+-- where a test holds of two lists, it does at an index
+test-at : {X Y : Type 0} (test : X → Y → Bool) (xs : List X) (ys : List Y) (d : X) (e : Y) (k : ℕ) → all2 test xs ys ≡ true
+    → k < length xs → test (get_or xs k d) (get_or ys k e) ≡ true
+test-at test [] ys d e k all lt = absurd (omega arith)
+test-at test (x ∷ xs) [] d e k all lt = absurd cc
+test-at test (x ∷ xs) (y ∷ ys) d e zero all lt = (and_parts (test x y) (all2 test xs ys) all).0
+test-at test (x ∷ xs) (y ∷ ys) d e (suc k) all lt = test-at test xs ys d e k ((and_parts (test x y) (all2 test xs ys) all).1) (omega arith)
+
+-- and where it does at each index, it holds of the lists
+test-of : {X Y : Type 0} (test : X → Y → Bool) (xs : List X) (ys : List Y) (d : X) (e : Y) → length xs ≡ length ys
+    → Each (length xs) (λ k. test (get_or xs k d) (get_or ys k e) ≡ true) → all2 test xs ys ≡ true
+test-of test [] [] d e same each = refl
+test-of test [] (y ∷ ys) d e same each = absurd (omega arith)
+test-of test (x ∷ xs) [] d e same each = absurd (omega arith)
+test-of test (x ∷ xs) (y ∷ ys) d e same each =
+    let first : test x y ≡ true = each zero (omega arith) in
+    let rest = test-of test xs ys d e (omega arith) (λ k lt. each (suc k) (omega arith)) in
+    rw (first, rest) refl
+
+-- what is so at each index exactly where a test is, is so of all exactly where it holds of the lists
+pub each-tests : {X Y : Type 0} (P : ℕ → Type 0) (test : X → Y → Bool) (xs : List X) (ys : List Y) (d : X) (e : Y) (n : ℕ) → length xs ≡ n
+    → length ys ≡ n → Each n (λ k. P k ↔ (test (get_or xs k d) (get_or ys k e) ≡ true)) → Each n P ↔ (all2 test xs ys ≡ true)
+each-tests P test xs ys d e n long same is = (
+  λ each. test-of test xs ys d e (omega arith) (λ k lt. (is k (omega arith)).0 (each k (omega arith))),
+  λ all k lt. (is k lt).1 (test-at test xs ys d e k all (omega arith)),
+)
+
+-- the same of texts
+pub none-tests : {X Y : Type 0} (text : ℕ → List ℕ) (test : X → Y → Bool) (xs : List X) (ys : List Y) (d : X) (e : Y) (n : ℕ) → length xs ≡ n
+    → length ys ≡ n → Each n (λ k. (text k ≡ []) ↔ (test (get_or xs k d) (get_or ys k e) ≡ true)) → (texts_below n text ≡ []) ↔ (all2 test xs ys ≡ true)
+none-tests text test xs ys d e n long same is =
+    let none = none-each n text in
+    let tests = each-tests (λ k. text k ≡ []) test xs ys d e n long same is in
+    (λ t. tests.0 (none.0 t), λ all. none.1 (tests.1 all))
 
 -- an operation on two lists, at an index
 pub zip2-get : {X : Type 0} (f : X → X → X) (xs ys : List X) (d : X) (k : ℕ) → length xs ≡ length ys → k < length xs
@@ -48,105 +82,62 @@ zip2-get f (x ∷ xs) [] d k same lt = absurd (omega arith)
 zip2-get f (x ∷ xs) (y ∷ ys) d zero same lt = refl
 zip2-get f (x ∷ xs) (y ∷ ys) d (suc k) same lt = zip2-get f xs ys d k (omega arith) (omega arith)
 
--- where a test holds of two lists, it does at an index
-pub all2-get : {X : Type 0} (test : X → X → Bool) (xs ys : List X) (d : X) (k : ℕ) → all2 test xs ys ≡ true
-    → k < length xs → test (get_or xs k d) (get_or ys k d) ≡ true
-all2-get test [] ys d k all lt = absurd (omega arith)
-all2-get test (x ∷ xs) [] d k all lt = absurd cc
-all2-get test (x ∷ xs) (y ∷ ys) d zero all lt = (and_parts (test x y) (all2 test xs ys) all).0
-all2-get test (x ∷ xs) (y ∷ ys) d (suc k) all lt = all2-get test xs ys d k ((and_parts (test x y) (all2 test xs ys) all).1) (omega arith)
+-- the same of the texts of what it gives
+zip-tests : {X : Type 0} (item : ℕ → X → List ℕ) (f : X → X → X) (test : X → X → Bool) (xs ys : List X) (d : X) (n : ℕ) → length xs ≡ n
+    → length ys ≡ n → Each n (λ k. (item k (f (get_or xs k d) (get_or ys k d)) ≡ []) ↔ (test (get_or xs k d) (get_or ys k d) ≡ true))
+    → (texts_below n (λ k. item k (get_or (zip2 f xs ys) k d)) ≡ []) ↔ (all2 test xs ys ≡ true)
+zip-tests item f test xs ys d n long same is = none-tests (λ k. item k (get_or (zip2 f xs ys) k d)) test xs ys d d n long same
+    (λ k lt. rw (zip2-get f xs ys d k (omega arith) (omega arith)) (is k lt))
 
--- and where it does at each index, it holds of the lists
-pub all2-of : {X : Type 0} (test : X → X → Bool) (xs ys : List X) (d : X) → length xs ≡ length ys
-    → ((k : ℕ) → k < length xs → test (get_or xs k d) (get_or ys k d) ≡ true) → all2 test xs ys ≡ true
-all2-of test [] [] d same each = refl
-all2-of test [] (y ∷ ys) d same each = absurd (omega arith)
-all2-of test (x ∷ xs) [] d same each = absurd (omega arith)
-all2-of test (x ∷ xs) (y ∷ ys) d same each =
-    let first : test x y ≡ true = each zero (omega arith) in
-    let rest = all2-of test xs ys d (omega arith) (λ k lt. each (suc k) (omega arith)) in
-    rw (first, rest) refl
+-- ---- What is lacking
+
+-- what is chosen where a test fails is named exactly there
+chosen : {X : Type 0} (item : X → List ℕ) (b : Bool) (none wanted : X) → item none ≡ [] → (b ≡ false → item wanted ≡ [] → ⊥)
+    → (item (cond b none wanted) ≡ []) ↔ (b ≡ true)
+chosen item true none wanted is named = (λ no. refl, λ so. is)
+chosen item false none wanted is named = (λ no. absurd (named refl no), λ so. absurd cc)
 
 -- a bound is kept exactly where no item is lacking
-bound-none : (i known wanted : ℕ) → nat_le known wanted ≡ true → bound_item i (lacking_bound known wanted) ≡ []
-bound-none i known wanted fit = rw fit refl
+bound-kept : (i known wanted : ℕ) → known ≤ 65535 → (bound_item i (lacking_bound known wanted) ≡ []) ↔ (nat_le known wanted ≡ true)
+bound-kept i known wanted most = chosen (bound_item i) (nat_le known wanted) 65535 wanted refl (named (nat_le known wanted) refl)
+  where
+    named : (kept : Bool) → nat_le known wanted ≡ kept → kept ≡ false → bound_item i wanted ≡ [] → ⊥
+    named true is not_so none = absurd cc
+    named false is not_so none =
+        let below : wanted < known = grind (arith, nat_tests) in
+        let less : (wanted == 65535) ≡ false = grind (arith, nat_tests) in
+        let item = rw less at none in
+        cc
 
-none-bound_by : (i known wanted : ℕ) (kept : Bool) → nat_le known wanted ≡ kept → known ≤ 65535
-    → bound_item i (lacking_bound known wanted) ≡ [] → nat_le known wanted ≡ true
-none-bound_by i known wanted true is most none = is
-none-bound_by i known wanted false is most none =
-    let below : wanted < known = grind (arith, nat_tests) in
-    let less : (wanted == 65535) ≡ false = grind (arith, nat_tests) in
-    let named : bound_item i wanted ≡ [] = rw is at none in
-    absurd (let item = rw less at named in let bad : ⊥ = cc in bad)
+-- so is a pair known as is wanted
+pair-met : (pair : ℕ × ℕ) (known wanted : Bool) → (pair_item pair (lacking_pair known wanted) ≡ []) ↔ (pair_fits known wanted ≡ true)
+pair-met pair true wanted = (λ none. refl, λ fit. refl)
+pair-met pair false false = (λ none. refl, λ fit. refl)
+pair-met pair false true = (λ none. absurd cc, λ fit. absurd cc)
 
-none-bound : (i known wanted : ℕ) → known ≤ 65535 → bound_item i (lacking_bound known wanted) ≡ [] → nat_le known wanted ≡ true
-none-bound i known wanted most none = none-bound_by i known wanted (nat_le known wanted) refl most none
+-- a pointer
+pointer-met : (i : ℕ) (known wanted : Option Pointer) → (pointer_item i (lacking_pointer known wanted) ≡ []) ↔ (pointer_fits known wanted ≡ true)
+pointer-met i known None = (λ none. refl, λ fit. refl)
+pointer-met i known (Some q) = chosen (pointer_item i) (pointer_fits known (Some q)) None (Some q) refl (λ not_so none. absurd cc)
 
--- a slot is in a wanted state exactly where no item is lacking
-slot-none : (i : ℕ) (known wanted : SlotState) → slot_fits known wanted ≡ true
-    → (slot_item i (lacking_slot known wanted) ≡ []) × (held_item i known wanted ≡ [])
-slot-none i Empty Empty fit = (refl, refl)
-slot-none i Mem Empty fit = absurd cc
-slot-none i (Vm a c) Empty fit = absurd cc
-slot-none i (Db a) Empty fit = absurd cc
-slot-none i known Mem fit = (rw fit refl, refl)
-slot-none i known (Vm b c) fit = (rw fit refl, refl)
-slot-none i known (Db b) fit = (rw fit refl, refl)
+-- and a slot
+abbrev IsMet : ℕ → SlotState → SlotState → Type 0
+IsMet i known wanted =
+    ((slot_item i (lacking_slot known wanted) ≡ []) × (held_item i known wanted ≡ [])) ↔ (slot_fits known wanted ≡ true)
 
-none-slot : (i : ℕ) (known wanted : SlotState) → slot_item i (lacking_slot known wanted) ≡ [] → held_item i known wanted ≡ []
-    → slot_fits known wanted ≡ true
-none-slot i Empty Empty none held = refl
-none-slot i Mem Empty none held = absurd cc
-none-slot i (Vm a c) Empty none held = absurd cc
-none-slot i (Db a) Empty none held = absurd cc
-none-slot i Mem Mem none held = refl
-none-slot i Empty Mem none held = absurd cc
-none-slot i (Vm a c) Mem none held = absurd cc
-none-slot i (Db a) Mem none held = absurd cc
-none-slot i (Vm true true) (Vm b true) none held = refl
-none-slot i (Vm true false) (Vm b false) none held = refl
-none-slot i (Vm true true) (Vm b false) none held = absurd cc
-none-slot i (Vm true false) (Vm b true) none held = absurd cc
-none-slot i (Vm false true) (Vm false true) none held = refl
-none-slot i (Vm false false) (Vm false false) none held = refl
-none-slot i (Vm false true) (Vm false false) none held = absurd cc
-none-slot i (Vm false false) (Vm false true) none held = absurd cc
-none-slot i (Vm false a) (Vm true b) none held = absurd cc
-none-slot i Empty (Vm a b) none held = absurd cc
-none-slot i Mem (Vm a b) none held = absurd cc
-none-slot i (Db a) (Vm b c) none held = absurd cc
-none-slot i (Db true) (Db b) none held = refl
-none-slot i (Db false) (Db false) none held = refl
-none-slot i (Db false) (Db true) none held = absurd cc
-none-slot i Empty (Db true) none held = absurd cc
-none-slot i Empty (Db false) none held = absurd cc
-none-slot i Mem (Db true) none held = absurd cc
-none-slot i Mem (Db false) none held = absurd cc
-none-slot i (Vm a c) (Db true) none held = absurd cc
-none-slot i (Vm a c) (Db false) none held = absurd cc
+held-met : (i : ℕ) (known wanted : SlotState) → held_item i known wanted ≡ [] → (slot_item i wanted ≡ [] → ⊥) → IsMet i known wanted
+held-met i known wanted held named =
+    let met = chosen (slot_item i) (slot_fits known wanted) Empty wanted refl (λ not_so none. named none) in
+    (λ none. met.0 none.0, λ fit. (met.1 fit, held))
 
--- a pointer is known as is wanted exactly where no item is lacking
-pointer-none : (i : ℕ) (known wanted : Option Pointer) → pointer_fits known wanted ≡ true → pointer_item i (lacking_pointer known wanted) ≡ []
-pointer-none i known wanted fit = rw fit refl
-
-none-pointer_by : (i : ℕ) (known : Option Pointer) (q : Pointer) (met : Bool) → pointer_fits known (Some q) ≡ met
-    → pointer_item i (lacking_pointer known (Some q)) ≡ [] → pointer_fits known (Some q) ≡ true
-none-pointer_by i known q true is none = is
-none-pointer_by i known q false is none = absurd (let item = rw is at none in let bad : ⊥ = cc in bad)
-
-none-pointer : (i : ℕ) (known wanted : Option Pointer) → pointer_item i (lacking_pointer known wanted) ≡ [] → pointer_fits known wanted ≡ true
-none-pointer i known None none = refl
-none-pointer i known (Some q) none = none-pointer_by i known q (pointer_fits known (Some q)) refl none
-
--- a pair is known as is wanted exactly where no item is lacking
-pair-none : (pair : ℕ × ℕ) (known wanted : Bool) → pair_fits known wanted ≡ true → pair_item pair (lacking_pair known wanted) ≡ []
-pair-none pair known wanted fit = rw fit refl
-
-none-pair : (pair : ℕ × ℕ) (known wanted : Bool) → pair_item pair (lacking_pair known wanted) ≡ [] → pair_fits known wanted ≡ true
-none-pair pair true wanted none = refl
-none-pair pair false false none = refl
-none-pair pair false true none = absurd cc
+slot-met : (i : ℕ) (known wanted : SlotState) → IsMet i known wanted
+slot-met i Empty Empty = (λ none. refl, λ fit. (refl, refl))
+slot-met i Mem Empty = (λ none. absurd cc, λ fit. absurd cc)
+slot-met i (Vm a c) Empty = (λ none. absurd cc, λ fit. absurd cc)
+slot-met i (Db a) Empty = (λ none. absurd cc, λ fit. absurd cc)
+slot-met i known Mem = held-met i known Mem refl (λ none. cc)
+slot-met i known (Vm b c) = held-met i known (Vm b c) refl (λ none. cc)
+slot-met i known (Db b) = held-met i known (Db b) refl (λ none. cc)
 
 -- how long the lists of a row are
 pub record HasLengths (row : Row) : Type 0 where
@@ -167,82 +158,68 @@ lengths row shaped =
       pairs = eqb-true _ _ pairs.1;
     }
 
--- what is said of each part that is lacking
-abbrev bound_text : Row → Row → ℕ → List ℕ
-bound_text r s i = bound_item i (get_or (zip2 lacking_bound r.bounds s.bounds) i 0)
-
-abbrev slot_text : Row → Row → ℕ → List ℕ
-slot_text r s i = slot_item i (get_or (zip2 lacking_slot r.slots s.slots) i Empty)
-
-abbrev pointer_text : Row → Row → ℕ → List ℕ
-pointer_text r s i = pointer_item i (get_or (zip2 lacking_pointer r.pointers s.pointers) i None)
-
-abbrev pair_text : Row → Row → ℕ → List ℕ
-pair_text r s i = pair_item (get_or pair_slots i (0, 0)) (get_or (zip2 lacking_pair r.pairs s.pairs) i false)
-
-abbrev held_text : Row → Row → ℕ → List ℕ
-held_text r s i = held_item i (get_or r.slots i Empty) (get_or s.slots i Empty)
-
--- where no item is lacking, the row fits
-none-fits : (r s : Row) → HasLengths r → HasLengths s → ((k : ℕ) → bound r k ≤ 65535) → lacking_items r s ≡ [] → fits r s ≡ true
-unfolding lacking_items row_items
-none-fits r s whole whole_s words none =
-    let bounds = texts_below 8 (bound_text r s) in
-    let slots = texts_below 4 (slot_text r s) in
-    let pointers = texts_below 4 (pointer_text r s) in
-    let held = none-append (bounds ++ slots ++ pointers ++ texts_below 6 (pair_text r s)) (texts_below 4 (held_text r s)) none in
-    let pairs = none-append (bounds ++ slots ++ pointers) (texts_below 6 (pair_text r s)) held.0 in
-    let third = none-append (bounds ++ slots) pointers pairs.0 in
-    let first = none-append bounds slots third.0 in
-    let b : all2 nat_le r.bounds s.bounds ≡ true = all2-of nat_le r.bounds s.bounds 0 (omega arith) (λ k lt.
-    let item = texts_below-none 8 (bound_text r s) first.0 k (omega arith) in
-    none-bound k (get_or r.bounds k 0) (get_or s.bounds k 0) (words k)
-    (rw (zip2-get lacking_bound r.bounds s.bounds 0 k (omega arith) lt) at item)) in
-    let t : all2 slot_fits r.slots s.slots ≡ true = all2-of slot_fits r.slots s.slots Empty (omega arith) (λ k lt.
-    let item = texts_below-none 4 (slot_text r s) first.1 k (omega arith) in
-    let other = texts_below-none 4 (held_text r s) held.1 k (omega arith) in
-    none-slot k (get_or r.slots k Empty) (get_or s.slots k Empty) (rw (zip2-get lacking_slot r.slots s.slots Empty k (omega arith) lt) at item)
-    other) in
-    let p : all2 pointer_fits r.pointers s.pointers ≡ true = all2-of pointer_fits r.pointers s.pointers None (omega arith) (λ k lt.
-    let item = texts_below-none 4 (pointer_text r s) third.1 k (omega arith) in
-    none-pointer k (get_or r.pointers k None) (get_or s.pointers k None)
-    (rw (zip2-get lacking_pointer r.pointers s.pointers None k (omega arith) lt) at item)) in
-    let q : all2 pair_fits r.pairs s.pairs ≡ true = all2-of pair_fits r.pairs s.pairs false (omega arith) (λ k lt.
-    let item = texts_below-none 6 (pair_text r s) pairs.1 k (omega arith) in
-    none-pair (get_or pair_slots k (0, 0)) (get_or r.pairs k false) (get_or s.pairs k false)
-    (rw (zip2-get lacking_pair r.pairs s.pairs false k (omega arith) lt) at item)) in
-    rw (b, t, p, q) refl
-
--- and where it fits, none is
-fits-none : (r s : Row) → HasLengths r → HasLengths s → fits r s ≡ true → lacking_items r s ≡ []
-unfolding lacking_items row_items
-fits-none r s whole whole_s fit =
-    let bounds = all2 nat_le r.bounds s.bounds in
-    let slots = all2 slot_fits r.slots s.slots in
-    let pointers = all2 pointer_fits r.pointers s.pointers in
-    let pairs = and_parts (bounds && slots && pointers) (all2 pair_fits r.pairs s.pairs) fit in
-    let third = and_parts (bounds && slots) pointers pairs.0 in
-    let first = and_parts bounds slots third.0 in
-    let b = none-texts_below 8 (bound_text r s) (λ k lt.
-    rw (zip2-get lacking_bound r.bounds s.bounds 0 k (omega arith) (omega arith))
-    (bound-none k (get_or r.bounds k 0) (get_or s.bounds k 0) (all2-get nat_le r.bounds s.bounds 0 k first.0 (omega arith)))) in
-    let t = none-texts_below 4 (slot_text r s) (λ k lt.
-    rw (zip2-get lacking_slot r.slots s.slots Empty k (omega arith) (omega arith))
-    ((slot-none k (get_or r.slots k Empty) (get_or s.slots k Empty) (all2-get slot_fits r.slots s.slots Empty k first.1 (omega arith))).0)) in
-    let h = none-texts_below 4 (held_text r s) (λ k lt.
-    (slot-none k (get_or r.slots k Empty) (get_or s.slots k Empty) (all2-get slot_fits r.slots s.slots Empty k first.1 (omega arith))).1) in
-    let p = none-texts_below 4 (pointer_text r s) (λ k lt.
-    rw (zip2-get lacking_pointer r.pointers s.pointers None k (omega arith) (omega arith))
-    (pointer-none k (get_or r.pointers k None) (get_or s.pointers k None)
-    (all2-get pointer_fits r.pointers s.pointers None k third.1 (omega arith)))) in
-    let q = none-texts_below 6 (pair_text r s) (λ k lt.
-    rw (zip2-get lacking_pair r.pairs s.pairs false k (omega arith) (omega arith))
-    (pair-none (get_or pair_slots k (0, 0)) (get_or r.pairs k false) (get_or s.pairs k false)
-    (all2-get pair_fits r.pairs s.pairs false k pairs.1 (omega arith)))) in
-    rw (b, t, p, q, h) refl
-
 pub lacks-nothing : LacksNothingWhereItFits
-lacks-nothing known wanted shaped shaped_wanted words =
-    let r = lengths known shaped in
-    let s = lengths wanted shaped_wanted in
-    (none-fits known wanted r s words, fits-none known wanted r s)
+unfolding lacking_items row_items
+lacks-nothing known wanted shaped shaped_wanted words = (
+  λ none. (let held = none-append (bounds ++ slots ++ pointers ++ pairs) held_slots none in
+      let fourth = none-append (bounds ++ slots ++ pointers) pairs held.0 in
+      let third = none-append (bounds ++ slots) pointers fourth.0 in
+      let first = none-append bounds slots third.0 in
+      rw (b.0 first.0, s.0 (λ k lt. ((none-each 4 slot).0 first.1 k lt, (none-each 4 held_slot).0 held.1 k lt)), p.0 third.1, q.0 fourth.1) refl),
+  λ fit. (let fourth = and_parts (all2 nat_le known.bounds wanted.bounds && all2 slot_fits known.slots wanted.slots
+      && all2 pointer_fits known.pointers wanted.pointers) (all2 pair_fits known.pairs wanted.pairs) fit in
+      let third = and_parts (all2 nat_le known.bounds wanted.bounds && all2 slot_fits known.slots wanted.slots)
+      (all2 pointer_fits known.pointers wanted.pointers) fourth.0 in
+      let first = and_parts (all2 nat_le known.bounds wanted.bounds) (all2 slot_fits known.slots wanted.slots) third.0 in
+      rw (
+        b.1 first.0,
+        (none-each 4 slot).1 (λ k lt. (s.1 first.1 k lt).0),
+        p.1 third.1,
+        q.1 fourth.1,
+        (none-each 4 held_slot).1 (λ k lt. (s.1 first.1 k lt).1),
+      ) refl),
+)
+  where
+    has : HasLengths known
+    has = lengths known shaped
+
+    wants : HasLengths wanted
+    wants = lengths wanted shaped_wanted
+
+    slot : ℕ → List ℕ
+    slot i = slot_item i (get_or (zip2 lacking_slot known.slots wanted.slots) i Empty)
+
+    held_slot : ℕ → List ℕ
+    held_slot i = held_item i (get_or known.slots i Empty) (get_or wanted.slots i Empty)
+
+    bounds : List ℕ
+    bounds = texts_below 8 (λ i. bound_item i (get_or (zip2 lacking_bound known.bounds wanted.bounds) i 0))
+
+    slots : List ℕ
+    slots = texts_below 4 slot
+
+    pointers : List ℕ
+    pointers = texts_below 4 (λ i. pointer_item i (get_or (zip2 lacking_pointer known.pointers wanted.pointers) i None))
+
+    pairs : List ℕ
+    pairs = texts_below 6 (λ i. pair_item (get_or pair_slots i (0, 0)) (get_or (zip2 lacking_pair known.pairs wanted.pairs) i false))
+
+    held_slots : List ℕ
+    held_slots = texts_below 4 held_slot
+
+    b : (bounds ≡ []) ↔ (all2 nat_le known.bounds wanted.bounds ≡ true)
+    b = zip-tests bound_item lacking_bound nat_le known.bounds wanted.bounds 0 8 has.bounds wants.bounds
+        (λ k lt. bound-kept k (get_or known.bounds k 0) (get_or wanted.bounds k 0) (words k))
+
+    s : Each 4 (λ k. (slot k ≡ []) × (held_slot k ≡ [])) ↔ (all2 slot_fits known.slots wanted.slots ≡ true)
+    s = each-tests (λ k. (slot k ≡ []) × (held_slot k ≡ [])) slot_fits known.slots wanted.slots Empty Empty 4 has.slots wants.slots
+        (λ k lt. rw (zip2-get lacking_slot known.slots wanted.slots Empty k (omega (arith, has.slots, wants.slots)) (omega (arith, has.slots)))
+        (slot-met k (get_or known.slots k Empty) (get_or wanted.slots k Empty)))
+
+    p : (pointers ≡ []) ↔ (all2 pointer_fits known.pointers wanted.pointers ≡ true)
+    p = zip-tests pointer_item lacking_pointer pointer_fits known.pointers wanted.pointers None 4 has.pointers wants.pointers
+        (λ k lt. pointer-met k (get_or known.pointers k None) (get_or wanted.pointers k None))
+
+    q : (pairs ≡ []) ↔ (all2 pair_fits known.pairs wanted.pairs ≡ true)
+    q = zip-tests (λ k. pair_item (get_or pair_slots k (0, 0))) lacking_pair pair_fits known.pairs wanted.pairs false 6 has.pairs wants.pairs
+        (λ k lt. pair-met (get_or pair_slots k (0, 0)) (get_or known.pairs k false) (get_or wanted.pairs k false))

@@ -19,6 +19,7 @@ use Rattle.geos_explain.specs.Places.{Place, agrees, is_inside}
 use Rattle.geos_explain.specs.Ways.{is_as, is_as_sought, is_sought, way_along, entry_way, entry_pointer, way_to, bringing, losing}
 use Rattle.geos_explain.specs.Lost.{LeadsBy, IsWay, IsAlike}
 use Rattle.geos_explain.proofs.Arriving.{cond-some, some-same}
+use Rattle.geos_flow.proofs.Choices.{elim_both}
 use Rattle.geos_explain.proofs.Comes.{known-end}
 
 module _ (place : Place) (p : ℕ) where
@@ -51,11 +52,10 @@ module _ (place : Place) (p : ℕ) where
   along-found known to reached =
       by_edge (first_into place.image (λ edge end. is_sought place (asked known reached) edge) to (length place.image.points)) refl
     where
-      by_point : (edge : Edge) → end_in place.image edge ≡ Some to → (o : Option KnownPlace) → slice_get (places place.image) edge.from ≡ o
-          → elim o [ None ↦ false | Some point ↦ is_inside place edge.from && is_as_sought place (asked known reached) edge point ] ≡ true
-          → IsFound known reached (Along edge) to
-      by_point edge ends None e is = absurd cc
-      by_point edge ends (Some point) e is =
+      sought : (edge : Edge) → end_in place.image edge ≡ Some to → is_sought place (asked known reached) edge ≡ true → IsFound known reached (Along edge) to
+      sought edge ends = elim_both (slice_get (places place.image) edge.from) false
+          (λ (point : KnownPlace). is_inside place edge.from && is_as_sought place (asked known reached) edge point)
+          (λ b. b ≡ true → IsFound known reached (Along edge) to) (λ none is. absurd cc) (λ point e is. (
           let comes = agrees reached (is_reached place.image edge.from) in
           let has = has_edge point.instr edge.branch in
           let known_there = is_as known (pointer_at (after place.image edge.from point.row edge.branch) p) in
@@ -63,10 +63,7 @@ module _ (place : Place) (p : ℕ) where
           let last = and_parts (comes && has) known_there first.1 in
           let second = and_parts comes has last.0 in
           let end = known-end place.image edge point to e ends in
-          (record { point = point; there = e; has = second.1; ends = end.1; is = last.1 }, second.0)
-
-      sought : (edge : Edge) → end_in place.image edge ≡ Some to → is_sought place (asked known reached) edge ≡ true → IsFound known reached (Along edge) to
-      sought edge ends is = by_point edge ends (slice_get (places place.image) edge.from) refl is
+          (record { point = point; there = e; has = second.1; ends = end.1; is = last.1 }, second.0)))
 
       by_edge : (o : Option Edge)
           → first_into place.image (λ edge end. is_sought place (asked known reached) edge) to (length place.image.points) ≡ o

@@ -1,8 +1,8 @@
 -- What the search for why a pointer is not known finds is so.
-use Rattle.std.proofs.Common.{◌≡◌, ℕ, Bool, true, false, not, cond, List, [], ◌∷◌, Option, Some, None, slice_get, get_or, refl, sym, ap, ◌∙◌, subst, ◌⊎◌, inl, inr}
-use Rattle.std.specs.Prelude.{◌&&◌, nat_lt, is_some, is_none, if◌then◌else◌}
+use Rattle.std.proofs.Common.{◌≡◌, ℕ, Bool, true, false, not, cond, List, [], ◌∷◌, Option, Some, None, slice_get, refl, sym, ap, ◌∙◌, subst, ◌⊎◌, inl, inr}
+use Rattle.std.specs.Prelude.{◌&&◌, is_some, is_none, if◌then◌else◌}
 use Rattle.std.specs.Option.{option_or}
-use Rattle.std.proofs.lemmas.Bool.{and_parts}
+use Rattle.std.proofs.lemmas.Bool.{and_parts, cond_both, not-false}
 use Rattle.geos_verify.specs.declared.place.Place.{Place as KnownPlace}
 use Rattle.geos_verify.specs.Places.{places}
 use Rattle.geos_image.specs.declared.row.Pointer.{Pointer}
@@ -24,8 +24,9 @@ use Rattle.geos_explain.specs.Arrivals.{all_arrivals}
 use Rattle.geos_explain.specs.Trace.{nowhere_or, without_way, meeting_at, end_at, passed, lacks_on, hint_at, back_by, back_along, back_from, nth_last, next_round, all_rounds, begun, aside, aside_by, along_lost, traced_by, traced}
 use Rattle.geos_explain.specs.Lost.{ComesTo, LacksAlong, IsLost, LeadsBy, IsWay, IsMeeting, IsUnset, BringsNowhere, IsNowhere, WhatIsSaidHolds}
 use Rattle.geos_flow.specs.Waiting.{Has}
-use Rattle.geos_flow.proofs.Marked.{mark-was, none-marked}
+use Rattle.geos_flow.proofs.Marked.{has-marked, mark-was, none-marked}
 use Rattle.geos_explain.proofs.Arriving.{hint-known, all-found, cond-some, some-same}
+use Rattle.geos_flow.proofs.Choices.{elim_both}
 use Rattle.geos_explain.proofs.FoundWays.{bringing-way, losing-way}
 use Rattle.geos_explain.proofs.Rounding.{looked-keep, rounds-keep}
 
@@ -96,11 +97,8 @@ module _ (place : Place) (p : ℕ) where
 
   or-end : (known : Bool) (at : ℕ) (way : Way) (end : End) → LacksFrom at → IsWay place p known way at
       → (empty_on place p way ≡ None → IsEnd end) → IsEnd (nowhere_or place p way end)
-  or-end known at way end from is other = by_slot (empty_on place p way) refl
-    where
-      by_slot : (o : Option ℕ) → empty_on place p way ≡ o → IsEnd (elim o [ None ↦ end | Some slot ↦ Nowhere way slot ])
-      by_slot None e = other e
-      by_slot (Some slot) e = record { to = at; comes = way-nowhere known at slot way is e; edges = from.0; lacks = from.1 }
+  or-end known at way end from is other = elim_both (empty_on place p way) end (λ (slot : ℕ). Nowhere way slot) IsEnd other
+      (λ slot e. record { to = at; comes = way-nowhere known at slot way is e; edges = from.0; lacks = from.1 })
 
   at-end : (at : ℕ) → LacksFrom at → (end : End) → ends_at at ≡ Some end → IsEnd end
   at-end at from end = by_lost (losing place p at) refl
@@ -123,11 +121,8 @@ module _ (place : Place) (p : ℕ) where
       by_lost : (lost : Option Way) → losing place p at ≡ lost → end_at place p (bringing place p at) at lost ≡ Some end → IsEnd end
       by_lost None is e = subst IsEnd (some-same _ _ e) (by_known (bringing place p at) refl)
       by_lost (Some Entry) is e = subst IsEnd (some-same _ _ e) (entry-end (losing-way place p at Entry is))
-      by_lost (Some (Along edge)) is e = by_alike (comes_alike place edge.from) e
-        where
-          by_alike : (b : Bool) → cond b None (Some (Unreached edge.from)) ≡ Some end → IsEnd end
-          by_alike true none = absurd cc
-          by_alike false same = subst IsEnd (some-same _ _ same) tt
+      by_lost (Some (Along edge)) is e = cond_both (comes_alike place edge.from) None (Some (Unreached edge.from)) (λ o. o ≡ Some end → IsEnd end)
+          (λ alike none. absurd cc) (λ other same. subst IsEnd (some-same _ _ same) tt) e
 
   or-some : (o other : Option End) (end : End) → option_or o other ≡ Some end → (o ≡ Some end) ⊎ (other ≡ Some end)
   or-some None other end e = inr e
@@ -182,76 +177,54 @@ module _ (place : Place) (p : ℕ) where
   by-sound : (trace : Trace) → Sound trace → (edge : Edge) (point : KnownPlace) → slice_get (places place.image) edge.from ≡ Some point
       → LacksFrom (end_of edge point.instr) → Sound (back_by place p trace edge point)
   unfolding back_by
-  by-sound trace sound edge point there from = by_lack (lacks_on place p edge point) refl
-    where
-      kept : Bool → Bool → Trace
-      kept lost is_passed =
-          cond lost (record trace { found = true; lost = Some (record { edge = edge; hint = (hint_at place p edge.from).hint }) })
-          (cond is_passed trace (passed place p trace edge.from))
-
-      by_loss : (comes : ComesTo place edge (end_of edge point.instr)) → comes.point ≡ point
-          → is_stale (pointer_at (after place.image edge.from comes.point.row edge.branch) p) ≡ true
-          → (b : Bool) → loses place.image (hint_at place p edge.from) edge point ≡ b → Sound (kept b (is_marked trace.passed edge.from))
-      by_loss comes same stale true is = record {
+  by-sound trace sound edge point there from =
+      let to = end_of edge point.instr in
+      let hint = hint_at place p edge.from in
+      let lost : Trace = record trace { found = true; lost = Some (record { edge = edge; hint = hint.hint }) } in
+      let on : Trace = cond (is_marked trace.passed edge.from) trace (passed place p trace edge.from) in
+      cond_both (not (lacks_on place p edge point)) trace (cond (loses place.image hint edge point) lost on) Sound (λ brings. sound) (λ lacks. (
+      let has = has_edge point.instr edge.branch in
+      let alike = comes_alike place edge.from in
+      let stale = is_stale (pointer_at (after place.image edge.from point.row edge.branch) p) in
+      let last = and_parts (alike && has) stale (not-false (lacks_on place p edge point) lacks) in
+      let first = and_parts alike has last.0 in
+      let comes : ComesTo place edge to = record { point = point; there = there; alike = first.0; has = first.1; ends = refl } in
+      cond_both (loses place.image hint edge point) lost on Sound
+      (λ is. record {
         passed = sound.passed;
-        lost = λ loss e.
-            (let lost : IsLost place p (record { edge = edge; hint = (hint_at place p edge.from).hint }) = record {
-              to = end_of edge point.instr;
-              comes = comes;
-              known = hint-known place p (all_arrivals place p) (all-found place p) edge.from;
-              loses = subst (λ q. loses place.image (hint_at place p edge.from) edge q ≡ true) (sym same) is;
-              edges = from.0;
-              way = from.1;
-            } in
-            subst (λ x. IsLost place p x) (some-same _ _ e) lost);
+        lost = λ loss e. subst (λ x. IsLost place p x) (some-same _ _ e) (record {
+          to = to;
+          comes = comes;
+          known = hint-known place p (all_arrivals place p) (all-found place p) edge.from;
+          loses = is;
+          edges = from.0;
+          way = from.1;
+        });
         meeting = sound.meeting;
         end = sound.end;
-      }
-      by_loss comes same stale false is = by_mark (is_marked trace.passed edge.from)
-        where
-          by_mark : (b : Bool) → Sound (cond b trace (passed place p trace edge.from))
-          by_mark true = sound
-          by_mark false = pass-sound trace sound edge.from
-              (edge ∷ from.0, (refl, (end_of edge point.instr, record { comes = comes; stale = stale }, from.1)))
-
-      by_lack : (b : Bool) → lacks_on place p edge point ≡ b
-          → Sound (cond (not b) trace (kept (loses place.image (hint_at place p edge.from) edge point) (is_marked trace.passed edge.from)))
-      by_lack true is =
-          let has = has_edge point.instr edge.branch in
-          let alike = comes_alike place edge.from in
-          let last = and_parts (alike && has) (is_stale (pointer_at (after place.image edge.from point.row edge.branch) p)) is in
-          let first = and_parts alike has last.0 in
-          by_loss (record { point = point; there = there; alike = first.0; has = first.1; ends = refl }) refl last.1
-          (loses place.image (hint_at place p edge.from) edge point) refl
-      by_lack false is = sound
+      })
+      (λ keeps. cond_both (is_marked trace.passed edge.from) trace (passed place p trace edge.from) Sound (λ was. sound)
+      (λ new. pass-sound trace sound edge.from (edge ∷ from.0, (refl, (to, record { comes = comes; stale = last.1 }, from.1)))))))
 
   along-sound : (trace : Trace) → Sound trace → (edge : Edge) (point : KnownPlace) → slice_get (places place.image) edge.from ≡ Some point
       → Sound (back_along place p trace edge point)
   unfolding back_along
-  along-sound trace sound edge point there = by_test (not trace.found && is_marked trace.passed (end_of edge point.instr)) refl
-    where
-      by_test : (b : Bool) → (not trace.found && is_marked trace.passed (end_of edge point.instr)) ≡ b
-          → Sound (cond b (back_by place p trace edge point) trace)
-      by_test true is =
-          let to = end_of edge point.instr in
-          let tests = and_parts (not trace.found) (is_marked trace.passed to) is in
-          let mark = and_parts (nat_lt to 4096) (get_or trace.passed to false) tests.1 in
-          by-sound trace sound edge point there (sound.passed to mark.1)
-      by_test false is = sound
+  along-sound trace sound edge point there =
+      let to = end_of edge point.instr in
+      cond_both (not trace.found && is_marked trace.passed to) (back_by place p trace edge point) trace Sound
+      (λ is. (let tests = and_parts (not trace.found) (is_marked trace.passed to) is in
+      by-sound trace sound edge point there (sound.passed to (has-marked trace.passed to tests.1))))
+      (λ is. sound)
 
   from-sound : (trace : Trace) (from : ℕ) → Sound trace → Sound (back_from place p trace from)
   unfolding back_from
-  from-sound trace from sound = by_point (slice_get (places place.image) from) refl
-    where
-      by_point : (o : Option KnownPlace) → slice_get (places place.image) from ≡ o → Sound (elim o [
-        | None ↦ trace
-        | Some point ↦ back_along place p (back_along place p trace (record { from = from; branch = false }) point)
-            (record { from = from; branch = true }) point
-      ])
-      by_point None e = sound
-      by_point (Some point) e =
-          let first = along-sound trace sound (record { from = from; branch = false }) point e in
-          along-sound (back_along place p trace (record { from = from; branch = false }) point) first (record { from = from; branch = true }) point e
+  from-sound trace from sound =
+      let along : Edge = record { from = from; branch = false } in
+      let aside : Edge = record { from = from; branch = true } in
+      elim_both (slice_get (places place.image) from) trace
+      (λ (point : KnownPlace). back_along place p (back_along place p trace along point) aside point) Sound
+      (λ none. sound)
+      (λ point e. along-sound (back_along place p trace along point) (along-sound trace sound along point e) aside point e)
 
   rounds-sound : (trace : Trace) → Sound trace → Sound (all_rounds place p trace)
   rounds-sound trace sound = rounds-keep Sound (next_round place p)

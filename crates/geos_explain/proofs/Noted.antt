@@ -1,11 +1,11 @@
 -- Explanations without their notes are the listing, or the author's text.
 use Rattle.std.proofs.Common.{◌≡◌, ◌<◌, ◌+◌, ◌-◌, inl, inr, ℕ, zero, suc, Bool, true, false, cond, List, [], ◌∷◌, ◌++◌, length, Option, Some, None, slice_get, refl, ap, arith, append_assoc, take, sym, ◌∙◌}
-use Rattle.std.specs.Prelude.{◌&&◌, nat_le, nat_lt, ◌==◌, codes, count_by, decimal, All}
+use Rattle.std.specs.Prelude.{◌&&◌, if◌then◌else◌, nat_le, nat_lt, ◌==◌, codes, count_by, decimal, All}
 use Rattle.std.specs.List.{concat}
 use Rattle.std.proofs.lemmas.List.{append-nil}
 use Rattle.std.proofs.lemmas.List.Folds.{concat-append}
 use Rattle.geos_verify.specs.Rules.{over_budget}
-use Rattle.std.proofs.lemmas.Bool.{and_parts}
+use Rattle.std.proofs.lemmas.Bool.{and_parts, cond_both, ltb-true}
 use Rattle.std.proofs.lemmas.List.Elements.{All-nil, All-cons, All-append}
 use Rattle.std.proofs.lemmas.Bool.Decides.{nat_tests}
 use Rattle.std.specs.Option.{option_map_or}
@@ -19,14 +19,16 @@ use Rattle.geos_image.proofs.Instrs.{image_parts}
 use Rattle.geos_listing.specs.Rows.{texts_below}
 use Rattle.geos_listing.specs.Instrs.{name_of, label_line, instr_code}
 use Rattle.geos_verify.specs.declared.rule.Rule.{Rule}
-use Rattle.geos_verify.specs.declared.rule.Rule.TheVariants.{LeavesRoutine, NamesEmptySlot, EntryMisfit, StalePointer, PassesEnd, ChangesUnmarked, LocksIntoHeld, WrongSlot, CommitsHeld, CallMisfit, ExitMisfit, EdgeMisfit, EdgeUnpaid, OverBudget}
+use Rattle.geos_verify.specs.declared.rule.Rule.TheVariants.{OverBudget}
+use Rattle.geos_verify.specs.RuleText.{rule_number}
 use Rattle.geos_verify.proofs.Places.{item_at}
 use Rattle.geos_verify.specs.declared.place.Place.{Place as KnownPlace}
 use Rattle.geos_verify.specs.Places.{places}
 use Rattle.geos_verify.proofs.Places.{places-length, place-at, point-of}
+use Rattle.geos_flow.proofs.Choices.{elim_both}
 use Rattle.geos_explain.specs.Places.{Place, Explained, place_at}
 use Rattle.geos_explain.specs.Notes.{where_text, note_head, known_here, potential_text, note}
-use Rattle.geos_explain.specs.Words.{words, refusal_head, refusal_line}
+use Rattle.geos_explain.specs.Words.{words, refusal_line}
 use Rattle.geos_explain.specs.Told.{is_told, rule_at, most_told}
 use Rattle.geos_explain.specs.Refusals.{more_line, told_text, refused_text, refusal_text, is_last, over_line, over_from, over_text}
 use Rattle.geos_explain.specs.Explanation.{noted, point_text, place_text, head_text, routine_text, numbered_routine, explanation}
@@ -42,27 +44,9 @@ texts_below-same (suc n) text other same = rw (texts_below-same n text other sam
 -- ---- Notes
 
 -- the line of a refusal begins with `;`
-comment-head : (rule : Rule) → (rest : List ℕ) × (refusal_head rule ≡ codes ";" ++ rest)
-comment-head LeavesRoutine = (codes " refused by V1:", refl)
-comment-head NamesEmptySlot = (codes " refused by V2:", refl)
-comment-head EntryMisfit = (codes " refused by V3:", refl)
-comment-head StalePointer = (codes " refused by V4:", refl)
-comment-head PassesEnd = (codes " refused by V5:", refl)
-comment-head ChangesUnmarked = (codes " refused by V6:", refl)
-comment-head LocksIntoHeld = (codes " refused by V7:", refl)
-comment-head WrongSlot = (codes " refused by V8:", refl)
-comment-head CommitsHeld = (codes " refused by V9:", refl)
-comment-head CallMisfit = (codes " refused by V10:", refl)
-comment-head ExitMisfit = (codes " refused by V11:", refl)
-comment-head EdgeMisfit = (codes " refused by V12:", refl)
-comment-head EdgeUnpaid = (codes " refused by V13:", refl)
-comment-head OverBudget = (codes " refused by V14:", refl)
-
 comment-line : (place : Place) (rule : Rule) → IsComment (refusal_line place rule)
 unfolding refusal_line
-comment-line place rule =
-    let head = comment-head rule in
-    (head.0 ++ words place rule, rw head.1 (ap (λ text. text ++ codes "\n") (append_assoc (codes ";") head.0 (words place rule))))
+comment-line place rule = (concat (codes " refused by V" ∷ decimal (rule_number rule) ∷ codes ":" ∷ []) ++ words place rule, refl)
 
 -- what is told at a place is a line or nothing
 abbrev AreComments : List ℕ → Type 0
@@ -79,40 +63,34 @@ unfolding more_line
 comment-more more = (codes " .. and " ++ decimal more ++ codes " more from here on", simp (append_assoc, append-nil))
 
 comment-told : (most before all : ℕ) (place : Place) (rule : Rule) → AreComments (told_text most before all place rule)
-comment-told most before all place rule = by_room (nat_lt before most) (before == most)
-  where
-    by_room : (room here : Bool) → AreComments (cond room (refusal_line place rule) (cond here (more_line (all - before)) []))
-    by_room true here = one-told (refusal_line place rule) (comment-line place rule)
-    by_room false true = one-told (more_line (all - before)) (comment-more (all - before))
-    by_room false false = none-told
+comment-told most before all place rule =
+    let more = more_line (all - before) in
+    cond_both (nat_lt before most) (refusal_line place rule) (if before == most then more else []) AreComments
+    (λ room. one-told (refusal_line place rule) (comment-line place rule))
+    (λ full. cond_both (before == most) more [] AreComments (λ here. one-told more (comment-more (all - before))) (λ past. none-told))
 
 comment-refusal : (refused : List (Option Rule)) (place : Place) → AreComments (refusal_text refused place)
-comment-refusal refused place = by_rule (rule_at refused place.pc)
-  where
-    by_rule : (rule : Option Rule) → AreComments (elim rule [ None ↦ [] | Some found ↦ refused_text refused place found ])
-    by_rule None = none-told
-    by_rule (Some rule) = comment-told (most_told (length place.image.points)) (count_by is_told (take place.pc refused))
-        (count_by is_told refused) place rule
+comment-refusal refused place =
+    elim_both (rule_at refused place.pc) [] (λ (rule : Rule). refused_text refused place rule) AreComments (λ none. none-told)
+    (λ rule is. comment-told (most_told (length place.image.points)) (count_by is_told (take place.pc refused))
+    (count_by is_told refused) place rule)
 
 comment-over_line : (first : Place) → AreComments (over_line first)
-comment-over_line first = by_test (over_budget first.routine first.pc first.pc first.potential)
-  where
-    by_test : (over : Bool) → AreComments (cond over (refusal_line first OverBudget) [])
-    by_test true = one-told (refusal_line first OverBudget) (comment-line first OverBudget)
-    by_test false = none-told
+comment-over_line first = cond_both (over_budget first.routine first.pc first.pc first.potential) (refusal_line first OverBudget) [] AreComments
+    (λ over. one-told (refusal_line first OverBudget) (comment-line first OverBudget)) (λ within. none-told)
 
 comment-over : (explained : Explained) (r : ℕ) (routine : Routine) (pc : ℕ) → AreComments (over_text explained r routine pc)
 unfolding over_text
-comment-over explained r routine pc = by_last (is_last (start_of explained.image.routines r) routine pc)
+comment-over explained r routine pc =
+    let start = start_of explained.image.routines r in
+    cond_both (is_last start routine pc) (over_from explained r routine start) [] AreComments
+    (λ last. by_first (slice_get (places explained.image) start))
+    (λ other. none-told)
   where
     by_first : (o : Option KnownPlace)
         → AreComments (option_map_or (λ known. over_line (place_at explained r routine (start_of explained.image.routines r) known)) o [])
     by_first None = none-told
     by_first (Some known) = comment-over_line (place_at explained r routine (start_of explained.image.routines r) known)
-
-    by_last : (last : Bool) → AreComments (cond last (over_from explained r routine (start_of explained.image.routines r)) [])
-    by_last true = by_first (slice_get (places explained.image) (start_of explained.image.routines r))
-    by_last false = none-told
 
 both-told : (text more : List ℕ) → AreComments text → AreComments more → AreComments (text ++ more)
 both-told text more one two = (one.0 ++ two.0, All-append IsComment one.0 two.0 one.1 two.1, rw (one.2, two.2) (sym (concat-append one.0 two.0)))
@@ -120,11 +98,9 @@ both-told text more one two = (one.0 ++ two.0, All-append IsComment one.0 two.0 
 -- a note begins with ` ;`
 note-head : (place : Place) → (rest : List ℕ) × (note_head place ≡ codes " ;" ++ rest)
 unfolding note_head where_text
-note-head place = by_line (slice_get place.lines place.pc)
-  where
-    by_line : (line : Option ℕ) → (rest : List ℕ) × (elim line [ None ↦ where_text place.routine place.pc | Some number ↦ codes " ;" ] ≡ codes " ;" ++ rest)
-    by_line None = (codes " " ++ name_of place.routine ++ codes " " ++ decimal place.pc ++ codes ":", simp append_assoc)
-    by_line (Some number) = ([], refl)
+note-head place = elim_both (slice_get place.lines place.pc) (where_text place.routine place.pc) (λ (number : ℕ). codes " ;")
+    (λ text. (rest : List ℕ) × (text ≡ codes " ;" ++ rest))
+    (λ none. (codes " " ++ name_of place.routine ++ codes " " ++ decimal place.pc ++ codes ":", simp append_assoc)) (λ number there. ([], refl))
 
 regroup : (semicolon rest known steps end refusal over all : List ℕ) → refusal ++ over ≡ all
     → semicolon ++ rest ++ known ++ steps ++ end ++ refusal ++ over ≡ semicolon ++ (rest ++ known ++ steps) ++ end ++ all
@@ -248,14 +224,12 @@ noted_at-note explained pc legal there =
 
 -- behind a line stand its end or a note
 line-behind : (explained : Explained) (pc number : ℕ) → is_image explained.image ≡ true → IsBehind (behind_line explained pc number)
-line-behind explained pc number legal = by_line (is_line_of explained.lines pc number && nat_lt pc (length explained.image.points)) refl
-  where
-    by_line : (here : Bool) → (is_line_of explained.lines pc number && nat_lt pc (length explained.image.points)) ≡ here → IsBehind (cond here (noted_at explained pc) (codes "\n"))
-    by_line true is =
-        let tests = and_parts (is_line_of explained.lines pc number) (nat_lt pc (length explained.image.points)) is in
-        let below = tests.1 in
-        inr (noted_at-note explained pc legal (grind (arith, nat_tests)))
-    by_line false is = inl refl
+line-behind explained pc number legal =
+    let is_line = is_line_of explained.lines pc number in
+    cond_both (is_line && nat_lt pc (length explained.image.points)) (noted_at explained pc) (codes "\n") IsBehind
+    (λ is. (let tests = and_parts is_line (nat_lt pc (length explained.image.points)) is in
+    inr (noted_at-note explained pc legal (ltb-true pc (length explained.image.points) tests.1))))
+    (λ other. inl refl)
 
 lines-behind : (explained : Explained) → is_image explained.image ≡ true → (pc number : ℕ) (texts : List (List ℕ))
     → (behind : List (List ℕ)) × All IsBehind behind × (length behind ≡ length texts)

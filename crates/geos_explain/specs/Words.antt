@@ -1,5 +1,5 @@
 -- What is wrong at a point that is refused, in a line of plain words, rule by rule.
-use Rattle.std.specs.Prelude.{ℕ, Bool, ◌+◌, true, false, ◌&&◌, not, nat_lt, if◌then◌else◌, ◌==◌, List, [], ◌∷◌, ◌++◌, Option, Some, None, length, slice_get, codes}
+use Rattle.std.specs.Prelude.{ℕ, Bool, ◌+◌, true, false, ◌&&◌, not, nat_lt, if◌then◌else◌, ◌==◌, List, [], ◌∷◌, ◌++◌, Option, Some, None, length, slice_get, codes, decimal}
 use Rattle.std.specs.List.{concat}
 use Rattle.geos_opcodes.specs.declared.opcode.Opcode.{Opcode}
 use Rattle.geos_opcodes.specs.declared.opcode.Opcode.TheVariants.{Call}
@@ -14,6 +14,7 @@ use Rattle.geos_opcodes.specs.Facts.{uses_of}
 use Rattle.geos_image.specs.Keys.{falls_through}
 use Rattle.geos_verify.specs.Rows.{has_edge, after, is_empty, marked_state, slot_state}
 use Rattle.geos_verify.specs.Rules.{has_place}
+use Rattle.geos_verify.specs.RuleText.{rule_number}
 use Rattle.geos_explain.specs.Places.{Place}
 use Rattle.geos_explain.specs.Unset.{over_words}
 use Rattle.geos_explain.specs.Lacks.{lacking, lacking_items}
@@ -155,20 +156,7 @@ words place OverBudget = over_words place
 
 -- how the line of a refusal by a rule begins
 abbrev pub refusal_head : Rule → List ℕ
-refusal_head LeavesRoutine = codes "; refused by V1:"
-refusal_head NamesEmptySlot = codes "; refused by V2:"
-refusal_head EntryMisfit = codes "; refused by V3:"
-refusal_head StalePointer = codes "; refused by V4:"
-refusal_head PassesEnd = codes "; refused by V5:"
-refusal_head ChangesUnmarked = codes "; refused by V6:"
-refusal_head LocksIntoHeld = codes "; refused by V7:"
-refusal_head WrongSlot = codes "; refused by V8:"
-refusal_head CommitsHeld = codes "; refused by V9:"
-refusal_head CallMisfit = codes "; refused by V10:"
-refusal_head ExitMisfit = codes "; refused by V11:"
-refusal_head EdgeMisfit = codes "; refused by V12:"
-refusal_head EdgeUnpaid = codes "; refused by V13:"
-refusal_head OverBudget = codes "; refused by V14:"
+refusal_head rule = concat (codes "; refused by V" ∷ decimal (rule_number rule) ∷ codes ":" ∷ [])
 
 -- the line of a refusal by a rule
 unfoldable pub refusal_line : Place → Rule → List ℕ

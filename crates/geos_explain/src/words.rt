@@ -7,6 +7,7 @@ ghost use Rattle.geos_explain.specs.Words.{leaves_words, entry_words, call_here,
 ghost use Rattle.geos_explain.specs.Words.{wanted_behind_items, branching_words, edge_words, why_past, past_here};
 ghost use Rattle.geos_explain.specs.Words.{mark_item, unmarked_here, slot_item, slot_here, call_wish, exit_here, words, refusal_head, refusal_line};
 ghost use Rattle.geos_opcodes.specs.Facts.{uses_of};
+ghost use Rattle.geos_verify.specs.RuleText.{rule_number};
 ghost use Rattle.geos_verify.specs.Rows.{marked_state};
 
 use crate::calls::{put_forgotten, put_forgotten_item, put_forgotten_items, put_lent_items};
@@ -313,26 +314,22 @@ fn put_words(out: &mut Vec<u8>, place: &Place, rule: Rule) -> Result<(), AllocEr
     }
 }
 
-/// How the line of a refusal by the rule begins.
-fn refusal_head(rule: Rule) -> &'static str
-    ensures { result.now ≡ refusal_head rule }
+/// The number of the rule.
+fn rule_number(rule: Rule) -> u64
+    ensures { result ≡ rule_number rule }
 {
-    match rule {
-        Rule::LeavesRoutine => "; refused by V1:",
-        Rule::NamesEmptySlot => "; refused by V2:",
-        Rule::EntryMisfit => "; refused by V3:",
-        Rule::StalePointer => "; refused by V4:",
-        Rule::PassesEnd => "; refused by V5:",
-        Rule::ChangesUnmarked => "; refused by V6:",
-        Rule::LocksIntoHeld => "; refused by V7:",
-        Rule::WrongSlot => "; refused by V8:",
-        Rule::CommitsHeld => "; refused by V9:",
-        Rule::CallMisfit => "; refused by V10:",
-        Rule::ExitMisfit => "; refused by V11:",
-        Rule::EdgeMisfit => "; refused by V12:",
-        Rule::EdgeUnpaid => "; refused by V13:",
-        Rule::OverBudget => "; refused by V14:",
-    }
+    rule as u64
+}
+
+/// How the line of the refusal by the rule begins.
+fn put_refusal_head(out: &mut Vec<u8>, rule: Rule) -> Result<(), AllocError>
+    ensures { OnOk result (out.new.items ≡ out.old.items ++ refusal_head rule) }
+{
+    let number = rule_number(rule);
+    put_parts(
+        out,
+        &[Part::Numbered("; refused by V", number), Part::Text(":")],
+    )
 }
 
 /// The line of the refusal by the rule.
@@ -345,7 +342,7 @@ pub(crate) fn put_refusal_line(
     requires { IsPlace (place_of place.now) }
     ensures { OnOk result (out.new.items ≡ out.old.items ++ refusal_line (place_of place.now) rule) }
 {
-    out.extend_from_slice(refusal_head(rule).as_bytes())?;
+    put_refusal_head(out, rule)?;
     put_words(out, place, rule)?;
     out.extend_from_slice(b"\n")
 }

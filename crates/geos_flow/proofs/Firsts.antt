@@ -2,11 +2,12 @@
 use Rattle.std.proofs.Common.{◌≡◌, ◌<◌, ◌≤◌, ◌+◌, ◌*◌, ℕ, zero, suc, Bool, true, false, cond, Option, Some, None, refl, sym, ap, ◌∙◌, subst, arith, inl, inr}
 use Rattle.std.specs.Prelude.{◌&&◌, ◌==◌}
 use Rattle.std.specs.Option.{option_or}
-use Rattle.std.proofs.lemmas.Bool.{and_parts, cases_lt, eq-eqb, eqb-true}
+use Rattle.std.proofs.lemmas.Bool.{and_parts, cases_lt, cond_both, eq-eqb, eqb-true}
 use Rattle.geos_image.specs.Parts.{Parts}
 use Rattle.geos_flow.specs.declared.edge.Edge.{Edge}
 use Rattle.geos_flow.specs.Edges.{end_in, number_of}
 use Rattle.geos_flow.specs.Graphs.{if_into, first_into}
+use Rattle.geos_flow.proofs.Choices.{elim_both}
 use Rattle.geos_flow.proofs.Into.{number-is, number-low, same-edge}
 
 module _ (image : Parts) (counts : Edge → ℕ → Bool) (to : ℕ) where
@@ -16,19 +17,13 @@ module _ (image : Parts) (counts : Edge → ℕ → Bool) (to : ℕ) where
     pub is_counted : counts edge to ≡ true
 
   if-into : (edge other : Edge) → if_into image counts to edge ≡ Some other → (edge ≡ other) × IsInto edge
-  if-into edge other = by_end (end_in image edge) refl
-    where
-      by_test : (end : ℕ) → end_in image edge ≡ Some end → (b : Bool) → (end == to && counts edge to) ≡ b → cond b (Some edge) None ≡ Some other
-          → (edge ≡ other) × IsInto edge
-      by_test end ends true is same =
-          let tests = and_parts (end == to) (counts edge to) is in
-          (cc, record { ends = ends ∙ ap Some (eqb-true end to tests.0); is_counted = tests.1 })
-      by_test end ends false is same = absurd cc
-
-      by_end : (o : Option ℕ) → end_in image edge ≡ o
-          → elim o [ None ↦ None | Some end ↦ cond (end == to && counts edge to) (Some edge) None ] ≡ Some other → (edge ≡ other) × IsInto edge
-      by_end None e same = absurd cc
-      by_end (Some end) e same = by_test end e (end == to && counts edge to) refl same
+  if-into edge other = elim_both (end_in image edge) None (λ (end : ℕ). cond (end == to && counts edge to) (Some edge) None)
+      (λ o. o ≡ Some other → (edge ≡ other) × IsInto edge) (λ none same. absurd cc) (λ end ends.
+      cond_both (end == to && counts edge to) (Some edge) None (λ o. o ≡ Some other → (edge ≡ other) × IsInto edge)
+      (λ is same. (
+      let tests = and_parts (end == to) (counts edge to) is in
+      (cc, record { ends = ends ∙ ap Some (eqb-true end to tests.0); is_counted = tests.1 })))
+      (λ not_so none. absurd cc))
 
   into-if : (edge : Edge) → IsInto edge → if_into image counts to edge ≡ Some edge
   into-if edge is =

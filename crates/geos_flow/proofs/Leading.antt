@@ -1,6 +1,6 @@
 -- The marks of all that steps lead to are those, and no other marks are.
 use Rattle.std.proofs.Common.{◌≡◌, ◌<◌, ◌≤◌, ℕ, zero, suc, Bool, true, false, cond, List, [], ◌∷◌, length, Option, Some, None, get_or, refl, sym, ap, ◌∙◌, subst, arith, ◌⊎◌, inl, inr}
-use Rattle.std.proofs.lemmas.Bool.{cases_lt}
+use Rattle.std.proofs.lemmas.Bool.{cases_lt, cond_both}
 use Rattle.std.proofs.lemmas.List.{ext_get_or}
 use Rattle.geos_image.specs.Parts.{Parts}
 use Rattle.geos_flow.specs.declared.edge.Edge.{Edge}
@@ -25,11 +25,8 @@ same-marks marks others len there back = ext_get_or false marks others len (λ k
 stepped-grows : (marks : List Bool) (o : Option Step) → Grows marks (stepped marks o)
 unfolding stepped
 stepped-grows marks None = grows-same marks
-stepped-grows marks (Some step) = by_test (is_marked marks step.from)
-  where
-    by_test : (b : Bool) → Grows marks (cond b (marked marks step.to) marks)
-    by_test true = mark-grows marks step.to
-    by_test false = grows-same marks
+stepped-grows marks (Some step) = cond_both (is_marked marks step.from) (marked marks step.to) marks (λ m. Grows marks m)
+    (λ is. mark-grows marks step.to) (λ not_so. grows-same marks)
 
 -- a step from what is marked leads there
 record Comes (marks : List Bool) (o : Option Step) (to : ℕ) : Type 0 where
@@ -40,14 +37,12 @@ record Comes (marks : List Bool) (o : Option Step) (to : ℕ) : Type 0 where
 stepped-was : (marks : List Bool) (o : Option Step) (k : ℕ) → Has (stepped marks o) k → Has marks k ⊎ Comes marks o k
 unfolding stepped
 stepped-was marks None k h = inl h
-stepped-was marks (Some step) k h = by_test (is_marked marks step.from) refl h
-  where
-    by_test : (b : Bool) → is_marked marks step.from ≡ b → Has (cond b (marked marks step.to) marks) k → Has marks k ⊎ Comes marks (Some step) k
-    by_test true is e = elim (mark-was marks step.to k e) [
+stepped-was marks (Some step) k h =
+    cond_both (is_marked marks step.from) (marked marks step.to) marks (λ m. Has m k → Has marks k ⊎ Comes marks (Some step) k)
+    (λ is e. elim (mark-was marks step.to k e) [
       | inl same ↦ inr (record { from = step.from; begins = has-marked marks step.from is; is = ap (λ t. Some (record { from = step.from; to = t })) (sym same) })
       | inr was ↦ inl was
-    ]
-    by_test false is e = inl e
+    ]) (λ not_so e. inl e) h
 
 stepped-there : (marks : List Bool) (o : Option Step) (from to : ℕ) → length marks ≡ 4096 → from < 4096 → to < 4096
     → o ≡ Some (record { from = from; to = to }) → Has marks from → Has (stepped marks o) to

@@ -1,3 +1,4 @@
+pub mod Choices
 pub mod Marked
 pub mod Blocks
 pub mod Firsts

@@ -1,7 +1,7 @@
 -- Steps along the edges of a pc, ahead or back.
-use Rattle.std.proofs.Common.{◌≡◌, ◌<◌, ◌≤◌, ◌+◌, ◌*◌, ℕ, Bool, true, false, cond, List, [], length, Option, Some, None, slice_get, refl, sym, ap, ◌∙◌, subst, arith, ◌⊎◌, inl, inr}
+use Rattle.std.proofs.Common.{◌≡◌, ◌<◌, ◌≤◌, ◌+◌, ◌*◌, ℕ, Bool, true, false, cond, List, [], length, Option, Some, None, slice_get, sym, ap, ◌∙◌, subst, arith, ◌⊎◌, inl, inr}
 use Rattle.std.specs.Prelude.{◌&&◌, nat_lt}
-use Rattle.std.proofs.lemmas.Bool.{cases_lt, cases_eq, lt-ltb, ltb-true}
+use Rattle.std.proofs.lemmas.Bool.{and_parts, cases_lt, cases_eq, cond_both, lt-ltb, ltb-true}
 use Rattle.std.proofs.lemmas.Option.{slice_get_within}
 use Rattle.geos_image.specs.declared.point.Point.{Point}
 use Rattle.geos_image.specs.Parts.{Parts}
@@ -14,31 +14,11 @@ use Rattle.geos_flow.specs.Edges.{end_of, end_below, end_in, number_of}
 use Rattle.geos_flow.specs.Flow.{Step, step_along, step_by, all_led}
 use Rattle.geos_flow.specs.Graphs.{above, IsLast}
 use Rattle.geos_flow.specs.Waiting.{Has, IsKept, Waits, Extends, Notes, TakesEdge, GoesOn, TakesNext}
+use Rattle.geos_flow.proofs.Choices.{elim_both}
 use Rattle.geos_flow.proofs.Kept.{extends-same, extends-on}
 use Rattle.geos_flow.proofs.Into.{same-edge, number-low}
 use Rattle.geos_flow.proofs.Leading.{led-on, led-first, AllLed, AreInside, led-all_led}
 use Rattle.geos_flow.proofs.Marked.{has-within, count-bound, is-marked}
-
--- an edge that leads anywhere begins and ends in the image
-pub end-inside : (image : Parts) (edge : Edge) (end : ℕ) → end_in image edge ≡ Some end
-    → (edge.from < length image.points) × (end < length image.points)
-end-inside image edge end = by_point (slice_get image.points edge.from) refl
-  where
-    by_test : (to : ℕ) (b : Bool) → nat_lt to (length image.points) ≡ b → (c : Bool) → cond (c && b) (Some to) None ≡ Some end
-        → end < length image.points
-    by_test to true is true same = let there : to ≡ end = cc in let low = ltb-true to (length image.points) is in omega arith
-    by_test to true is false same = absurd cc
-    by_test to false is true same = absurd cc
-    by_test to false is false same = absurd cc
-
-    by_point : (o : Option Point) → slice_get image.points edge.from ≡ o
-        → elim o [ None ↦ None | Some point ↦ end_below (length image.points) edge point.instr ] ≡ Some end
-        → (edge.from < length image.points) × (end < length image.points)
-    by_point None e is = absurd cc
-    by_point (Some point) e is = (
-      slice_get_within image.points edge.from point e,
-      by_test (end_of edge point.instr) (nat_lt (end_of edge point.instr) (length image.points)) refl (has_edge point.instr edge.branch) is,
-    )
 
 -- an edge that an instruction has leads to its end, if that is inside
 pub end-there : (image : Parts) (edge : Edge) (point : Point) (to : ℕ) → slice_get image.points edge.from ≡ Some point
@@ -58,27 +38,25 @@ pub record HasEnd (image : Parts) (edge : Edge) (to : ℕ) : Type 0 where
   pub low : to < length image.points
 
 pub end-is : (image : Parts) (edge : Edge) (to : ℕ) → end_in image edge ≡ Some to → HasEnd image edge to
-end-is image edge to ends = by_point (slice_get image.points edge.from) refl ends
-  where
-    by_test : (point : Point) → slice_get image.points edge.from ≡ Some point → (b : Bool) → has_edge point.instr edge.branch ≡ b
-        → cond (b && nat_lt (end_of edge point.instr) (length image.points)) (Some (end_of edge point.instr)) None ≡ Some to → HasEnd image edge to
-    by_test point there true has is = record {
-      point = point;
-      there = there;
-      has = has;
-      is = by_low (nat_lt (end_of edge point.instr) (length image.points)) is;
-      low = (end-inside image edge to ends).1;
-    }
-      where
-        by_low : (b : Bool) → cond b (Some (end_of edge point.instr)) None ≡ Some to → end_of edge point.instr ≡ to
-        by_low true same = cc
-        by_low false same = absurd cc
-    by_test point there false has is = absurd cc
+end-is image edge to =
+    elim_both (slice_get image.points edge.from) None (λ (point : Point). end_below (length image.points) edge point.instr)
+    (λ o. o ≡ Some to → HasEnd image edge to) (λ none is. absurd cc) (λ point there. (
+    let end = end_of edge point.instr in
+    let has = has_edge point.instr edge.branch in
+    cond_both (has && nat_lt end (length image.points)) (Some end) None (λ o. o ≡ Some to → HasEnd image edge to)
+    (λ so same. (
+    let tests = and_parts has (nat_lt end (length image.points)) so in
+    let is : end ≡ to = cc in
+    let low = ltb-true end (length image.points) tests.1 in
+    record { point = point; there = there; has = tests.0; is = is; low = omega arith }))
+    (λ not_so none. absurd cc)))
 
-    by_point : (o : Option Point) → slice_get image.points edge.from ≡ o
-        → elim o [ None ↦ None | Some point ↦ end_below (length image.points) edge point.instr ] ≡ Some to → HasEnd image edge to
-    by_point None e is = absurd cc
-    by_point (Some point) e is = by_test point e (has_edge point.instr edge.branch) refl is
+-- it begins and ends in the image
+pub end-inside : (image : Parts) (edge : Edge) (end : ℕ) → end_in image edge ≡ Some end
+    → (edge.from < length image.points) × (end < length image.points)
+end-inside image edge end ends =
+    let found = end-is image edge end ends in
+    (slice_get_within image.points edge.from found.point found.there, found.low)
 
 -- where a step leads is a pc
 pub step-low : (image : Parts) (heading : Heading) (edge : Edge) (end : ℕ) → length image.points ≤ 4096 → end_in image edge ≡ Some end
@@ -98,17 +76,10 @@ module _ (image : Parts) (heading : Heading) (counts : Edge → ℕ → Bool) wh
     pub is : step_along heading edge.from end ≡ step
 
   pub step-is : (edge : Edge) (step : Step) → steps edge ≡ Some step → IsStep edge step
-  step-is edge step = by_end (end_in image edge) refl
-    where
-      by_test : (end : ℕ) → end_in image edge ≡ Some end → (b : Bool) → counts edge end ≡ b
-          → cond b (Some (step_along heading edge.from end)) None ≡ Some step → IsStep edge step
-      by_test end ends true is same = record { end = end; ends = ends; is_counted = is; is = cc }
-      by_test end ends false is same = absurd cc
-
-      by_end : (o : Option ℕ) → end_in image edge ≡ o
-          → elim o [ None ↦ None | Some end ↦ cond (counts edge end) (Some (step_along heading edge.from end)) None ] ≡ Some step → IsStep edge step
-      by_end None e same = absurd cc
-      by_end (Some end) e same = by_test end e (counts edge end) refl same
+  step-is edge step = elim_both (end_in image edge) None (λ (end : ℕ). cond (counts edge end) (Some (step_along heading edge.from end)) None)
+      (λ o. o ≡ Some step → IsStep edge step) (λ none same. absurd cc) (λ end ends.
+      cond_both (counts edge end) (Some (step_along heading edge.from end)) None (λ o. o ≡ Some step → IsStep edge step)
+      (λ is same. record { end = end; ends = ends; is_counted = is; is = cc }) (λ not_so none. absurd cc))
 
   pub is-step : (edge : Edge) (end : ℕ) → end_in image edge ≡ Some end → counts edge end ≡ true
       → steps edge ≡ Some (step_along heading edge.from end)
