@@ -27,8 +27,8 @@ fn fail<F: Display + Drop>(rt: &HostRuntime, fault: F) -> ExitCode {
 }
 
 /// Prints what the words on the command line are answered.
-fn answered(rt: &HostRuntime, answer: &Answer) -> ExitCode {
-    match answer.print(rt) {
+fn answered(rt: &HostRuntime, words: &[String], answer: &Answer) -> ExitCode {
+    match answer.print(rt, words) {
         Ok(status) => status,
         Err(fault) => fail(rt, fault),
     }
@@ -52,7 +52,7 @@ fn run_request(rt: &HostRuntime, request: Request) -> ExitCode
 fn run(rt: &HostRuntime, words: &[String]) -> ExitCode {
     match requested(rt.alloc(), words) {
         Ok(request) => run_request(rt, request),
-        Err(answer) => answered(rt, &answer),
+        Err(answer) => answered(rt, words, &answer),
     }
 }
 
@@ -60,7 +60,7 @@ fn run(rt: &HostRuntime, words: &[String]) -> ExitCode {
 fn start(rt: &HostRuntime) -> ExitCode {
     match words(rt) {
         Ok(words) => run(rt, words.as_slice()),
-        Err(answer) => answered(rt, &answer),
+        Err(answer) => answered(rt, &[], &answer),
     }
 }
 

@@ -39,7 +39,7 @@ fn run_routines<'a>(rt: &HostRuntime, request: RoutineRequest<'a>) -> Result<(),
     requires { RunsWithinLimits request }
 {
     match request {
-        RoutineRequest::Session => Ok(session(rt)?),
+        RoutineRequest::Session => session(rt),
         RoutineRequest::Call {
             image,
             call,

@@ -8,13 +8,18 @@ use crate::manner::{Manner, output, run_script_on};
 use crate::request_fault::RequestFault;
 use geos_cli::{Counted, ScriptFault, run_session};
 use geos_kernel::Kernel;
-use geos_shell::{Sharing, read};
+use geos_shell::{STANDARD, Sharing, keep_from_output, read};
 use vm_file::{FileDevice, VmFile};
 
-/// Runs a session on the standard streams.
-pub(crate) fn session(rt: &HostRuntime) -> Result<(), ScriptFault> {
+/// Runs a session on the standard streams, unless it would print into what it reads.
+pub(crate) fn session<'a>(rt: &HostRuntime) -> Result<(), RequestFault<'a>> {
+    keep_from_output(rt, STANDARD)?;
     let mut out = output(rt)?;
-    run_session(rt.alloc(), &mut Counted::new(rt.stdin()), &mut out)
+    Ok(run_session(
+        rt.alloc(),
+        &mut Counted::new(rt.stdin()),
+        &mut out,
+    )?)
 }
 
 /// Runs a script with an image on an open VM file, with so many bytes for blocks in memory.

@@ -14,7 +14,7 @@ use Rattle.geos_input.specs.declared.fault.ScriptFault.{ScriptFault}
 use Rattle.geos_input.specs.declared.fault.ScriptFault.TheVariants.{TooLong, BadHex, BadImage, Rejected, BadScript, Read, Write, Memory}
 use Rattle.geos_cli.specs.declared.form.Form.{Form}
 use Rattle.geos_cli.specs.declared.named_lines.Line.{Line}
-use Rattle.geos_cli.specs.declared.names.Kept.{Kept}
+use Rattle.geos_cli.specs.declared.kept.Kept.{Kept}
 use Rattle.geos_cli.specs.declared.script.Command.{Command}
 use Rattle.geos_cli.specs.declared.script.Mode.{Mode}
 use Rattle.geos_cli.specs.declared.script.Mode.TheVariants.{Strict}

@@ -4,6 +4,7 @@ pub mod Calls
 pub mod Commits
 pub mod Forms
 pub mod InForm
+pub mod Marks
 pub mod Names
 pub mod Plain
 pub mod Reading

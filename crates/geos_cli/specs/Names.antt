@@ -7,7 +7,7 @@ use Rattle.std.specs.Str.Lines.{lines}
 use Rattle.geos_image.specs.Parts.{Parts}
 use Rattle.geos_text.specs.Words.{is_empty, words}
 use Rattle.geos_text.specs.Numbers.{number_of}
-use Rattle.geos_cli.specs.declared.names.Kept.{Kept}
+use Rattle.geos_cli.specs.declared.kept.Kept.{Kept}
 use Rattle.geos_cli.specs.declared.named_lines.Line.{Line}
 use Rattle.geos_cli.specs.declared.script.Command.{Command}
 use Rattle.geos_cli.specs.declared.script.Command.TheVariants as command

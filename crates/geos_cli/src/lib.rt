@@ -31,6 +31,7 @@ mod call_fault;
 mod form;
 mod in_form;
 mod law;
+mod kept;
 mod lending;
 mod lines;
 mod named_lines;

@@ -4,7 +4,8 @@ ghost use Rattle.std.specs.Prelude.{◌≡◌, [], map, IfOk, IfErr, None};
 ghost use Rattle.geos_text.specs.Words.{words};
 ghost use Rattle.geos_cli.specs.Names.{names_of, said_by, lines_said, is_bad_in, first_bad_in};
 
-use crate::names::{Kept, command_in, keep, kept_name};
+use crate::kept::Kept;
+use crate::names::{command_in, keep, kept_name};
 use geos_text::{first_line, first_word, without_comment};
 use geos_verify::Checked;
 use std::alloc::{AllocError, Global};

@@ -5,26 +5,21 @@ ghost use Rattle.geos_text.specs.Words.{words};
 ghost use Rattle.geos_cli.specs.Names.{names_of, word_of, number_in_place, word_in_place, is_arrow, in_place, behind_arrow, is_name_byte, is_name, one_name, kept_name};
 ghost use Rattle.geos_cli.specs.Names.{may_keep, command_in, names_behind};
 
+use crate::kept::{Kept, mark_of};
 use crate::lines::command_of;
 use crate::script::Command;
 use geos_text::{first_word, put_numbered};
 use geos_verify::Checked;
 use std::alloc::{AllocError, Global};
 
-/// A name, and the word that it stands for, if it has one.
-#[derive(Clone, Copy)]
-pub(crate) struct Kept<'a> {
-    pub(crate) name: &'a [u8],
-    pub(crate) word: Option<u16>,
-}
-
 /// The word that the name stands for, if it does: of two that are kept under it the later counts.
 fn word_of(name: &[u8], names: &[Kept]) -> Option<u16>
     ensures { result ≡ word_of name.now (names_of names.now) }
 {
+    let mark = mark_of(name);
     let mut found = None;
     for kept in names {
-        if kept.name == name {
+        if kept.is_under(name, mark) {
             found = kept.word;
         }
     }
@@ -181,7 +176,7 @@ pub(crate) fn keep<'a>(
     ensures { OnOk result (names_of names.new.items ≡ names_behind (names_of names.old.items) (words line.now) word) }
 {
     if let Some(name) = kept_name(line) {
-        names.push(Kept { name, word })?;
+        names.push(Kept::new(name, word))?;
     }
     Ok(())
 }

@@ -1,5 +1,6 @@
 //! What words are answered that ask for nothing to be done.
 
+use crate::faults::are_in_words;
 use crate::streams::{StreamFault, print};
 use clap::Error;
 use clap::error::ErrorKind;
@@ -36,16 +37,23 @@ impl Answer {
     }
 
     /// Prints it, on standard error where something is wrong with the words, and gives the program's
-    /// status. An error where the text that was asked for is not printed, and for `Answer::Memory`.
-    pub fn print<'a>(&self, rt: &HostRuntime) -> Result<ExitCode, StreamFault<'a>> {
+    /// status. Nothing is said where standard error goes into a file that they name, or into the standard input. An error where the text
+    /// that was asked for is not printed, and for `Answer::Memory`.
+    pub fn print<'a>(
+        &self,
+        rt: &HostRuntime,
+        words: &[String],
+    ) -> Result<ExitCode, StreamFault<'a>> {
         match self {
             Answer::Text(text) => match print(rt, text.as_bytes()) {
                 Ok(()) => Ok(ExitCode::SUCCESS),
                 Err(fault) => Err(fault),
             },
             Answer::Misuse(text) => {
-                // Where standard error fails, the status alone tells.
-                let _ = eprint!(rt; "{text}");
+                if !are_in_words(rt, words) {
+                    // Where standard error fails, the status alone tells.
+                    let _ = eprint!(rt; "{text}");
+                }
                 Ok(ExitCode::from(USAGE))
             }
             Answer::NotText => {

@@ -29,6 +29,18 @@ fn are_in_any(rt: &HostRuntime, file: Option<&str>) -> bool {
     }
 }
 
+/// Whether it goes into the standard input, or into a file that one of the words on the command line names, also behind an option's `=`.
+pub(crate) fn are_in_words(rt: &HostRuntime, words: &[String]) -> bool {
+    are_in_read(rt, STANDARD) || words.iter().any(|word| is_in_word(rt, word.as_str()))
+}
+
+fn is_in_word(rt: &HostRuntime, word: &str) -> bool {
+    match word.split_once('=') {
+        Some((_, path)) => are_in(rt, path) || are_in(rt, word),
+        None => are_in(rt, word),
+    }
+}
+
 impl RoutineRequest<'_> {
     fn has_faults(&self, rt: &HostRuntime) -> bool {
         match self {

@@ -31,8 +31,9 @@ pub use descriptors::keep_stream_numbers;
 pub use forms::{Digits, OutputForm};
 pub use locks::{FileLock, Lockable, Sharing};
 pub use new_file::NewFile;
+pub use output::keep_from_output;
 pub use printable::Named;
 pub use request::{
     CallWords, ChunkPath, FileRequest, Request, RoutineRequest, TextRequest, TraceWords, requested,
 };
-pub use streams::{StreamFault, print, print_lines, read, write};
+pub use streams::{STANDARD, StreamFault, print, print_lines, read, write};

@@ -22,7 +22,7 @@ pub(crate) fn faults_go_into(rt: &HostRuntime, file: FileId) -> bool {
 
 /// Sees to it that what is printed does not come into what is read of the file with the path, or of the standard input where it is `-`.
 /// `StreamFault::Write` of `-` where both are one file.
-pub(crate) fn keep_from_output<'a>(rt: &HostRuntime, path: &str) -> Result<(), StreamFault<'a>> {
+pub fn keep_from_output<'a>(rt: &HostRuntime, path: &str) -> Result<(), StreamFault<'a>> {
     match regular_at(rt, name_of(path)) {
         Some(file) if goes_into(rt, file) => Err(StreamFault::Write(STANDARD)),
         _ => Ok(()),

@@ -9,7 +9,7 @@ use std::{fs, io};
 use thiserror::Error;
 
 /// The path that names a standard stream.
-pub(crate) const STANDARD: &str = "-";
+pub const STANDARD: &str = "-";
 
 /// Whether the path names a standard stream.
 pub(crate) fn is_stream(path: &str) -> bool {

@@ -1,0 +1,11 @@
+-- Marks of names: two names with two marks are not the same.
+use Rattle.std.specs.Prelude.{ℕ, ◌+◌, ◌*◌, ◌%◌, List, [], ◌∷◌}
+
+-- the mark of bytes that stand behind others with this mark
+abbrev pub marked : ℕ → List ℕ → ℕ
+marked mark [] = mark
+marked mark (b ∷ bytes) = marked (((mark * 31) % 4294967296 + b) % 4294967296) bytes
+
+-- the mark of a name
+abbrev pub mark_of : List ℕ → ℕ
+mark_of name = marked 0 name
