@@ -14,3 +14,4 @@ pub mod Numbered
 pub mod Staying
 pub mod Growing
 pub mod Rounding
+pub mod Piled

@@ -16,3 +16,4 @@ pub mod Steps
 pub mod Touching
 pub mod Lacks
 pub mod Rounds
+pub mod Waits
