@@ -15,3 +15,4 @@ pub mod Staying
 pub mod Growing
 pub mod Rounding
 pub mod Piled
+pub mod Led

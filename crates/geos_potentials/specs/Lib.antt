@@ -17,3 +17,4 @@ pub mod Touching
 pub mod Lacks
 pub mod Rounds
 pub mod Waits
+pub mod Led
