@@ -16,3 +16,5 @@ pub mod Growing
 pub mod Rounding
 pub mod Piled
 pub mod Led
+pub mod Carrying
+pub mod Within

@@ -18,3 +18,5 @@ pub mod Lacks
 pub mod Rounds
 pub mod Waits
 pub mod Led
+pub mod Carried
+pub mod Within

@@ -29,4 +29,4 @@ pub returns : goal.returns
 returns c =
     let body = c.args.body.now in
     behind-come c.args.graph.now.arcs body.start (IsPcOf body.image.now body.r) SetsTo c.loop-pc.prices c.go_on.new.spread c.loop-pc.invariant
-    c.go_on.ensures
+    c.go_on.ensures.come
