@@ -18,3 +18,4 @@ pub mod Piled
 pub mod Led
 pub mod Carrying
 pub mod Within
+pub mod Untouched

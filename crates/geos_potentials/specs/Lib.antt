@@ -20,3 +20,4 @@ pub mod Waits
 pub mod Led
 pub mod Carried
 pub mod Within
+pub mod Untouched
