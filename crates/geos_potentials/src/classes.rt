@@ -74,7 +74,8 @@ fn sets_some(arc: &Arc) -> [u32; 4]
 
 /// Notes where control comes with counters as they are where a routine begins.
 fn note_unset(body: &Body, graph: &Graph, unset: &mut Spread, waits: &mut Pile)
-    ensures { ComeFrom graph.now.arcs body.now.start unset.new }
+    ensures come { ComeFrom graph.now.arcs body.now.start unset.new }
+    ensures on { AreSpread graph.now.arcs body.now.start unset.new }
 {
     unset.fill_from(body.start, [0; 4]);
     // For what its law says.
@@ -102,7 +103,8 @@ fn note_touched(body: &Body, graph: &Graph, touched: &mut Spread, waits: &mut Pi
 
 /// Notes the greatest number that the routine sets each to.
 fn note_prices(body: &Body, graph: &Graph, prices: &mut Spread, waits: &mut Pile)
-    ensures { ComeBehind graph.now.arcs body.now.start (IsPcOf body.now.image.now body.now.r) SetsTo prices.new }
+    ensures come { ComeBehind graph.now.arcs body.now.start (IsPcOf body.now.image.now body.now.r) SetsTo prices.new }
+    ensures on { AreSpread graph.now.arcs body.now.start prices.new }
 {
     prices.fill_from(body.start, [0; 4]);
     // For what its law says.
@@ -177,6 +179,8 @@ impl Classes {
     pub(crate) fn note(&mut self, body: &Body, graph: &Graph)
         ensures touched { ComeBehind graph.now.arcs body.now.start (IsPcOf body.now.image.now body.now.r) ForgetsIt self.new.touched }
         ensures on { AreSpread graph.now.arcs body.now.start self.new.touched }
+        ensures unset_on { AreSpread graph.now.arcs body.now.start self.new.unset }
+        ensures prices_on { AreSpread graph.now.arcs body.now.start self.new.prices }
         ensures behind { AreNotedBehind body.now.image.now body.now.r graph.now.arcs body.now.end self.new.touched }
         ensures unset { ComeFrom graph.now.arcs body.now.start self.new.unset }
         ensures prices { ComeBehind graph.now.arcs body.now.start (IsPcOf body.now.image.now body.now.r) SetsTo self.new.prices }
