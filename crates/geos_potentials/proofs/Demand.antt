@@ -142,7 +142,8 @@ back-wanted arcs old next p branch arc numbers read is = some-back-wanted arcs o
 
 -- At a LOOP
 
-only-some : (k j n : ℕ) → 0 < slice_index (slice_set zeros k n) j → (j ≡ k) × (slice_index (slice_set zeros k n) j ≡ n)
+-- one counter's number alone is not 0
+pub only-some : (k j n : ℕ) → 0 < slice_index (slice_set zeros k n) j → (j ≡ k) × (slice_index (slice_set zeros k n) j ≡ n)
 only-some k j n some = elim (cases_eq j k) [
   | inl same ↦ elim (cases_lt k 4) [
     | inl few ↦ (same, ap (λ (i : ℕ). slice_index (slice_set zeros k n) i) same ∙ get_or-set_same zeros k n 0 few)

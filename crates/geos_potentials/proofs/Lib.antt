@@ -14,3 +14,8 @@ pub mod Numbered
 pub mod Staying
 pub mod Growing
 pub mod Rounding
+pub mod Piled
+pub mod Led
+pub mod Carrying
+pub mod Within
+pub mod Untouched

@@ -5,6 +5,7 @@ use Rattle.std.proofs.lemmas.Bool.{cases_eq, cases_lt, and_parts, leb-true, le-l
 use Rattle.std.proofs.lemmas.List.{get_or-set_same, get_or-set_other, length-map}
 use Rattle.geos_opcodes.specs.declared.opcode.Opcode.{Opcode}
 use Rattle.geos_opcodes.specs.declared.opcode.Opcode.TheVariants.{Setk, Setkw, Loop, Call}
+use Rattle.geos_image.specs.declared.point.Point.{Point}
 use Rattle.geos_image.specs.declared.instr.Instr.{Instr}
 use Rattle.geos_image.specs.declared.row.Row.{Row}
 use Rattle.geos_image.specs.declared.potential.Potential.{Potential}
@@ -20,7 +21,7 @@ use Rattle.geos_rows.specs.Code.{is_loop, IsPcOf, TargetAhead}
 use Rattle.geos_rows.proofs.Ends.{code-at, leads-one}
 use Rattle.geos_rows.specs.Why.{LeadsTo}
 use Rattle.geos_potentials.specs.Count.{return_steps}
-use Rattle.geos_potentials.specs.Constants.{AreLeastWith, asked_over, PaysSteps, ConstantsPay, row_known, coefficients_at, AreLeastIn, GoesBack, IsLoopAt, potential_in, IsAsked, IsPaidOver, ArePaidIn}
+use Rattle.geos_potentials.specs.Constants.{AreLeastWith, asked_over, PaysSteps, ConstantsPay, row_known, coefficients_at, AreLeastIn, GoesBack, IsLoopAt, potential_in, IsAsked, PaidAt, ArePaidIn}
 use Rattle.geos_potentials.specs.Least.{SomePasses, steps_at, link_at, PaysLink, PayAll, PayEnds, AreLeast, IsLookedAt, AskNoMore, NoneOutside, ArePut}
 use Rattle.geos_potentials.specs.Halts.{NonePayWith}
 use Rattle.geos_potentials.specs.Numbers.{Numbers, numbers_of, steps_of, coefficients_of}
@@ -194,12 +195,6 @@ asked-one image r known numbers pc branch i end next asked there leads_on consta
     ∙ ap (asked_over image leads.point.instr (row_known known pc) branch) (potential-at numbers end next constant coefficients
     ∙ ap (potential_in numbers) ends)
 
--- what is at a pc is paid for
-pub record PaidAt (image : Parts) (r : ℕ) (known : List (Option Row)) (numbers : Numbers) (pc : ℕ) : Type 0 where
-  pub along : IsPaidOver image r known numbers pc false
-  pub branching : IsPaidOver image r known numbers pc true
-  pub returns : IfSome (slice_get image.points pc) (λ point. return_steps point.instr ≤ slice_index numbers.steps pc)
-
 pub all-paid-in : (image : Parts) (r : ℕ) (known : List (Option Row)) (numbers : Numbers)
     → ((pc : ℕ) → IsPcOf image r pc → PaidAt image r known numbers pc) → ArePaidIn image r known numbers
 all-paid-in image r known numbers paid = record {
@@ -212,6 +207,19 @@ all-paid-in image r known numbers paid = record {
         → is_paid (asked_over image leads.point.instr (row_known known pc) branch (potential_in numbers to)) (potential_in numbers pc) ≡ true
     over pc to true P leads inside = P.branching to leads inside
     over pc to false P leads inside = P.along to leads inside
+
+-- and where all is, so is that
+pub paid-at : (image : Parts) (r : ℕ) (known : List (Option Row)) (numbers : Numbers) → ArePaidIn image r known numbers
+    → (pc : ℕ) → IsPcOf image r pc → PaidAt image r known numbers pc
+paid-at image r known numbers paid pc within = record {
+  along = λ to leads inside. paid.edges pc to false within leads inside;
+  branching = λ to leads inside. paid.edges pc to true within leads inside;
+  returns = returns (slice_get image.points pc) refl;
+}
+  where
+    returns : (found : Option Point) → slice_get image.points pc ≡ found → IfSome found (λ point. return_steps point.instr ≤ slice_index numbers.steps pc)
+    returns None is = tt
+    returns (Some point) is = paid.returns pc point within is
 
 -- Numbers that are put
 

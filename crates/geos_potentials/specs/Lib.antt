@@ -16,3 +16,8 @@ pub mod Steps
 pub mod Touching
 pub mod Lacks
 pub mod Rounds
+pub mod Waits
+pub mod Led
+pub mod Carried
+pub mod Within
+pub mod Untouched

@@ -1,9 +1,13 @@
 //! Which LOOPs are to pay for ways round among the places of a component.
 
 ghost use Rattle.std.specs.Prelude.{◌≡◌, ◌<◌, ◌==◌, ◌+◌, ℕ, true, not, min, None, Some, IfNone, MatchOption, slice_index_or};
-ghost use Rattle.geos_potentials.specs.Arcs.{unit_at};
+ghost use Rattle.geos_potentials.specs.Arcs.{arc_at, unit_at};
+ghost use Rattle.geos_potentials.specs.Demands.{taken_from};
 ghost use Rattle.geos_potentials.specs.Pieces.{TakesWithin, ArePriced, NoneMayPay};
 ghost use Rattle.geos_potentials.specs.Ranks.{noted_idle};
+ghost use Rattle.geos_potentials.specs.Untouched.{untouched};
+ghost use Rattle.geos_potentials.specs.Within.{HoldsAt};
+ghost use Rattle.geos_potentials.specs.declared.arcs.Arc.{Arc};
 ghost use Rattle.geos_potentials.specs.declared.choice.Tier.TheVariants.{Tight};
 
 use crate::classes::Classes;
@@ -43,7 +47,8 @@ pub(crate) struct Chosen {
 /// The counter of the LOOP at a place, whose way to its target stays in a piece, is not left out and pays in no nest.
 fn counter_at(graph: &Graph, jumps: &Jumps, order: &Order, piece: &Piece, pc: u16) -> Option<u8>
     requires { pc < 4096 }
-    ensures { (k : ℕ) → TakesWithin graph.now.arcs jumps.now order.now piece.now pc k → result ≡ Some k }
+    ensures all { (k : ℕ) → TakesWithin graph.now.arcs jumps.now order.now piece.now pc k → result ≡ Some k }
+    ensures takes { (k : ℕ) → result ≡ Some k → (arc : Arc) × (arc_at graph.now.arcs pc true ≡ Some arc) × (taken_from arc.counting ≡ Some k) }
 {
     let counter = graph.arc(pc, true)?.takes()?;
     lead_within(graph, jumps, order, piece, pc, true)?;
@@ -80,6 +85,7 @@ impl Chosen {
         pc: u16,
     ) -> bool
         requires { pc < 4096 }
+        ensures { result ≡ true → HoldsAt graph.now.arcs (untouched classes.now.touched) pc }
     {
         let Choice {
             counter,

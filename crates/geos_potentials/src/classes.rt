@@ -2,10 +2,13 @@
 
 ghost use Rattle.std.specs.Prelude.{◌≡◌, ◌≤◌, ◌<◌, ◌==◌, ◌&&◌, ℕ, true, false, not, slice_index, slice_index_or};
 ghost use Rattle.geos_potentials.specs.Arcs.{unit_at};
+ghost use Rattle.geos_potentials.specs.Carried.{AreSpread};
+ghost use Rattle.geos_potentials.specs.Demands.{forgets};
 ghost use Rattle.geos_rows.specs.Code.{IsPcOf};
 ghost use Rattle.geos_potentials.specs.Ranks.{noted_idle};
 ghost use Rattle.geos_potentials.specs.Spreads.{ComeBehind, ComeFrom, ForgetsIt, SetsTo, SetsSome};
 ghost use Rattle.geos_potentials.specs.Stuck.{IsIn, StayNoted};
+ghost use Rattle.geos_potentials.specs.Untouched.{AreNotedBehind};
 
 use crate::arcs::{Arc, Counting};
 use crate::graph::Graph;
@@ -31,7 +34,8 @@ pub(crate) struct Classes {
 
 /// 1 of each of these counters.
 fn ones(counters: &[bool; 4]) -> [u32; 4]
-    ensures { (k : ℕ) → 0 < slice_index result k → slice_index_or counters.now k false ≡ true }
+    ensures only { (k : ℕ) → 0 < slice_index result k → slice_index_or counters.now k false ≡ true }
+    ensures all { (k : ℕ) → k < 4 → slice_index_or counters.now k false ≡ true → 0 < slice_index result k }
 {
     let [c0, c1, c2, c3] = *counters;
     [u32::from(c0), u32::from(c1), u32::from(c2), u32::from(c3)]
@@ -39,7 +43,8 @@ fn ones(counters: &[bool; 4]) -> [u32; 4]
 
 /// 1 of each counter of which an edge forgets what is known.
 fn forgets(arc: &Arc) -> [u32; 4]
-    ensures { (k : ℕ) → 0 < slice_index result k → ForgetsIt k (slice_index result k) arc.now.counting }
+    ensures only { (k : ℕ) → 0 < slice_index result k → ForgetsIt k (slice_index result k) arc.now.counting }
+    ensures all { (k : ℕ) → k < 4 → forgets arc.now.counting k ≡ true → 0 < slice_index result k }
 {
     match arc.counting {
         Counting::Forgets(counters) => ones(&counters),
@@ -69,7 +74,8 @@ fn sets_some(arc: &Arc) -> [u32; 4]
 
 /// Notes where control comes with counters as they are where a routine begins.
 fn note_unset(body: &Body, graph: &Graph, unset: &mut Spread, waits: &mut Pile)
-    ensures { ComeFrom graph.now.arcs body.now.start unset.new }
+    ensures come { ComeFrom graph.now.arcs body.now.start unset.new }
+    ensures on { AreSpread graph.now.arcs body.now.start unset.new }
 {
     unset.fill_from(body.start, [0; 4]);
     // For what its law says.
@@ -80,7 +86,9 @@ fn note_unset(body: &Body, graph: &Graph, unset: &mut Spread, waits: &mut Pile)
 
 /// Notes where it comes with them as calls in the routine leave them that touch them.
 fn note_touched(body: &Body, graph: &Graph, touched: &mut Spread, waits: &mut Pile)
-    ensures { ComeBehind graph.now.arcs body.now.start (IsPcOf body.now.image.now body.now.r) ForgetsIt touched.new }
+    ensures come { ComeBehind graph.now.arcs body.now.start (IsPcOf body.now.image.now body.now.r) ForgetsIt touched.new }
+    ensures on { AreSpread graph.now.arcs body.now.start touched.new }
+    ensures behind { AreNotedBehind body.now.image.now body.now.r graph.now.arcs body.now.end touched.new }
 {
     touched.fill_from(body.start, [0; 4]);
     // For what its law says.
@@ -95,7 +103,8 @@ fn note_touched(body: &Body, graph: &Graph, touched: &mut Spread, waits: &mut Pi
 
 /// Notes the greatest number that the routine sets each to.
 fn note_prices(body: &Body, graph: &Graph, prices: &mut Spread, waits: &mut Pile)
-    ensures { ComeBehind graph.now.arcs body.now.start (IsPcOf body.now.image.now body.now.r) SetsTo prices.new }
+    ensures come { ComeBehind graph.now.arcs body.now.start (IsPcOf body.now.image.now body.now.r) SetsTo prices.new }
+    ensures on { AreSpread graph.now.arcs body.now.start prices.new }
 {
     prices.fill_from(body.start, [0; 4]);
     // For what its law says.
@@ -169,6 +178,10 @@ impl Classes {
     /// Notes what is known of counters in a routine.
     pub(crate) fn note(&mut self, body: &Body, graph: &Graph)
         ensures touched { ComeBehind graph.now.arcs body.now.start (IsPcOf body.now.image.now body.now.r) ForgetsIt self.new.touched }
+        ensures on { AreSpread graph.now.arcs body.now.start self.new.touched }
+        ensures unset_on { AreSpread graph.now.arcs body.now.start self.new.unset }
+        ensures prices_on { AreSpread graph.now.arcs body.now.start self.new.prices }
+        ensures behind { AreNotedBehind body.now.image.now body.now.r graph.now.arcs body.now.end self.new.touched }
         ensures unset { ComeFrom graph.now.arcs body.now.start self.new.unset }
         ensures prices { ComeBehind graph.now.arcs body.now.start (IsPcOf body.now.image.now body.now.r) SetsTo self.new.prices }
     {

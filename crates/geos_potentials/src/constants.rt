@@ -8,6 +8,7 @@ ghost use Rattle.geos_potentials.specs.Demands.{HaveGrown, StayWanted};
 ghost use Rattle.geos_potentials.specs.Lacks.{AsksPast, FreePasses};
 ghost use Rattle.geos_potentials.specs.Least.{AreEnds, AreLeast, StayAtMost, is_free, IsLookedAt, AreLookedAt, StayAtLoops, NoneOutside, ArePut, SomePasses, steps_at};
 ghost use Rattle.geos_potentials.specs.Numbers.{numbers_of};
+ghost use Rattle.geos_potentials.specs.Within.{StayWithinAt, StayWithinLoops};
 ghost use Rattle.geos_potentials.specs.declared.jumps.Jump.TheVariants.{Plain};
 ghost use Rattle.geos_potentials.specs.declared.units.Lack.TheVariants.{Looks, Passes};
 
@@ -113,6 +114,7 @@ fn free_loop(graph: &Graph, units: &mut Units, pc: u16) -> Result<(), Lack>
     ensures wanted { StayWanted graph.now.arcs units.old.pay units.new.pay }
     ensures more { HaveGrown units.old.pay units.new.pay }
     ensures others { (at k : ℕ) → at ≢ pc → unit_at units.new.pay at k ≡ unit_at units.old.pay at k }
+    ensures within { StayWithinAt graph.now.arcs pc units.old.pay units.new.pay }
 {
     let Some(arc) = graph.arc(pc, true) else {
         return Ok(());
@@ -135,6 +137,7 @@ fn free_at(graph: &Graph, splitting: &Splitting, units: &mut Units, pc: u16) -> 
     ensures wanted { StayWanted graph.now.arcs units.old.pay units.new.pay }
     ensures more { HaveGrown units.old.pay units.new.pay }
     ensures stay { StayAtLoops graph.now.arcs splitting.now.jumps units.old.pay units.new.pay }
+    ensures within { StayWithinLoops graph.now.arcs splitting.now.jumps is_free units.old.pay units.new.pay }
 {
     if is_left_out(splitting, pc, true) {
         free_loop(graph, units, pc)
@@ -156,6 +159,7 @@ pub(crate) fn free_loops(
     ensures wanted { StayWanted graph.now.arcs units.old.pay units.new.pay }
     ensures more { HaveGrown units.old.pay units.new.pay }
     ensures stay { StayAtLoops graph.now.arcs splitting.now.jumps units.old.pay units.new.pay }
+    ensures within { StayWithinLoops graph.now.arcs splitting.now.jumps is_free units.old.pay units.new.pay }
 {
     for pc in body.start..body.end {
         free_at(graph, splitting, units, pc)?;

@@ -1,7 +1,8 @@
 //! The edges of a routine with what they cost, from each place and into it.
 
-ghost use Rattle.std.specs.Prelude.{◌≡◌, ◌<◌, [], if◌then◌else◌, None, slice_index_or};
+ghost use Rattle.std.specs.Prelude.{◌≡◌, ◌<◌, None, slice_index_or};
 ghost use Rattle.geos_potentials.specs.Arcs.{AreArcs, NoArcsOutside, arc_at};
+ghost use Rattle.geos_potentials.specs.Led.{AreLed, behind_at};
 
 use crate::arcs::Arc;
 use crate::counting::arc_of;
@@ -30,6 +31,7 @@ impl Graph {
     pub(crate) fn note(&mut self, body: &Body, known: &Known, touched: &Touched)
         ensures arcs { AreArcs body.now.image.now body.now.r known.now touched.now self.new.arcs }
         ensures outside { NoArcsOutside body.now.image.now body.now.r self.new.arcs }
+        ensures led { AreLed self.new }
     {
         self.arcs.fill_from(0, [None, None]);
         // For what its law says.
@@ -63,7 +65,7 @@ impl Graph {
 
     /// The next edge into where an edge leads.
     pub(crate) fn next_into(&self, lead: Lead) -> Option<Lead>
-        ensures { result ≡ slice_index_or (slice_index_or self.now.leads.behind lead.from []) (if lead.branch then 1 else 0) None }
+        ensures { result ≡ behind_at self.now.leads.behind lead.from lead.branch }
     {
         self.leads.next(lead)
     }

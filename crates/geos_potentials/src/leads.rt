@@ -1,6 +1,6 @@
 //! The edges that lead into each place of a routine.
 
-ghost use Rattle.std.specs.Prelude.{◌≡◌, ◌<◌, ◌≤◌, ℕ, [], if◌then◌else◌, None, MatchOption, slice_index_or};
+ghost use Rattle.std.specs.Prelude.{◌<◌};
 
 use crate::arcs::Arc;
 use geos_rows::{Table, two_tables};
@@ -23,6 +23,9 @@ pub(crate) struct Leads {
 }
 
 impl Leads {
+    ghost use Rattle.std.specs.Prelude.{◌≡◌, ◌<◌, ◌≤◌, ℕ, None, slice_index_or};
+    ghost use Rattle.geos_potentials.specs.Led.{behind_at, IsPutIf, AreAdded};
+
     /// There are no edges.
     pub(crate) fn new(alloc: Global) -> Result<Leads, AllocError> {
         let (first, behind) = two_tables(alloc, None, [None, None])?;
@@ -32,7 +35,8 @@ impl Leads {
     /// There are no edges into the places from a pc on.
     pub(crate) fn clear_from(&mut self, pc: u16)
         requires { pc < 4096 }
-        ensures { (to : ℕ) → pc ≤ to → to < 4096 → slice_index_or self.new.first to None ≡ None }
+        ensures first { (to : ℕ) → pc ≤ to → to < 4096 → slice_index_or self.new.first to None ≡ None }
+        ensures behind { self.new.behind ≡ self.old.behind }
     {
         self.first.fill_from(pc, None);
     }
@@ -40,12 +44,14 @@ impl Leads {
     /// An edge comes first among those into where it leads, if there is one; the edge that came first there before.
     fn put(&mut self, from: u16, branch: bool, arc: &Option<Arc>) -> Option<Lead>
         requires { from < 4096 }
-        ensures result { MatchOption arc.now (result ≡ None) (λ edge. result ≡ slice_index_or self.old.first edge.to None) }
+        ensures put { IsPutIf self.old.first self.new.first from branch arc.now result }
         ensures behind { self.new.behind ≡ self.old.behind }
     {
         let Some(arc) = arc else {
             return None;
         };
+        // For what its law says.
+        self.first.lengths();
         let behind = self.first.at(arc.to);
         self.first.set(arc.to, Some(Lead { from, branch }));
         behind
@@ -54,7 +60,10 @@ impl Leads {
     /// The edges of a place lead to others: that to the next instruction, and that to its target.
     pub(crate) fn add(&mut self, from: u16, arcs: &[Option<Arc>; 2])
         requires { from < 4096 }
+        ensures { AreAdded self.old self.new from (slice_index_or arcs.now 0 None) (slice_index_or arcs.now 1 None) }
     {
+        // For what its law says.
+        self.behind.lengths();
         let [along, branching] = arcs;
         let behind = [
             self.put(from, false, along),
@@ -73,7 +82,7 @@ impl Leads {
 
     /// The next edge into where an edge leads.
     pub(crate) fn next(&self, lead: Lead) -> Option<Lead>
-        ensures { result ≡ slice_index_or (slice_index_or self.now.behind lead.from []) (if lead.branch then 1 else 0) None }
+        ensures { result ≡ behind_at self.now.behind lead.from lead.branch }
     {
         let [along, branching] = self.behind.get(lead.from);
         if lead.branch { *branching } else { *along }

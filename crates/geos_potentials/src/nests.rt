@@ -1,8 +1,9 @@
 //! Nests: places among which control goes round, each with the LOOPs that pay for that.
 
-ghost use Rattle.std.specs.Prelude.{◌≡◌, ◌<◌, ◌≤◌, ◌+◌, None, IfErr, slice_index_or, slice_set};
+ghost use Rattle.std.specs.Prelude.{◌≡◌, ◌<◌, ◌≤◌, ◌+◌, ℕ, None, IfErr, slice_index_or, slice_set};
 ghost use Rattle.geos_potentials.specs.Pieces.{NoneMayPay};
 ghost use Rattle.geos_potentials.specs.Stuck.{StayNoted, GoesRoundIdle};
+ghost use Rattle.geos_potentials.specs.Untouched.{AreUntouched, StayUntouched};
 ghost use Rattle.geos_potentials.specs.declared.nests.Nest.{Nest};
 
 use crate::choice::{Choice, Chosen, Tier, choose};
@@ -212,7 +213,8 @@ impl Splitting {
 
     /// Splits a piece into its components; those in which control goes round are to be nests.
     fn split(&mut self, graph: &Graph, piece: &Piece, around: Option<u16>)
-        ensures { self.new.nests.count ≡ self.old.nests.count }
+        ensures count { self.new.nests.count ≡ self.old.nests.count }
+        ensures jumps { self.new.jumps ≡ self.old.jumps }
     {
         self.components
             .arrange(graph, &self.jumps, &mut self.order, piece);
@@ -236,7 +238,8 @@ impl Splitting {
         piece: &Piece,
         choice: &Chosen,
     )
-        ensures { self.new.nests.count ≡ self.old.nests.count }
+        ensures count { self.new.nests.count ≡ self.old.nests.count }
+        ensures untouched { (low : ℕ) → StayUntouched low graph.now.arcs self.old.jumps self.new.jumps classes.now.touched }
     {
         for x in piece.begin..piece.end {
             let pc = self.order.place(x);
@@ -265,6 +268,7 @@ impl Splitting {
         ensures none { IfErr result (NoneMayPay graph.now.arcs self.new.jumps self.new.order classes.new) }
         ensures round { IfErr result (λ _. GoesRoundIdle body.now.image.now body.now.r graph.now.arcs classes.new) }
         ensures count { self.new.nests.count ≤ self.old.nests.count + 1 }
+        ensures untouched { (low : ℕ) → StayUntouched low graph.now.arcs self.old.jumps self.new.jumps classes.old.touched }
     {
         let piece = &waiting.piece;
         classes.note_set_within(body.start, graph, &self.order, piece);
@@ -284,8 +288,12 @@ impl Splitting {
     }
 
     /// LOOPs to which control comes with their counters at 0 alone are left out.
-    fn free_loops(&mut self, body: &Body, graph: &Graph, classes: &Classes) {
+    fn free_loops(&mut self, body: &Body, graph: &Graph, classes: &Classes)
+        ensures { AreUntouched body.now.start graph.now.arcs self.new.jumps classes.now.touched }
+    {
         self.jumps.fill_from(body.start, Jump::Plain);
+        // For what its law says.
+        self.jumps.lengths();
         for pc in body.start..body.end {
             if let Some(arc) = graph.arc(pc, true) {
                 if let Some(counter) = arc.takes() {
@@ -308,6 +316,7 @@ impl Splitting {
         ensures noted { StayNoted classes.old classes.new }
         ensures none { IfErr result (NoneMayPay graph.now.arcs self.new.jumps self.new.order classes.new) }
         ensures round { IfErr result (λ _. GoesRoundIdle body.now.image.now body.now.r graph.now.arcs classes.new) }
+        ensures untouched { AreUntouched body.now.start graph.now.arcs self.new.jumps classes.old.touched }
     {
         self.free_loops(body, graph, classes);
         self.nests.count = 0;

@@ -1,7 +1,7 @@
 //! Whether edges are paid for.
 
 ghost use Rattle.std.specs.Prelude.{◌≡◌, ◌<◌, ◌≤◌, false, true, slice_get, slice_index, IfSome};
-ghost use Rattle.geos_potentials.specs.Constants.{IsPaidOver, ArePaidIn};
+ghost use Rattle.geos_potentials.specs.Constants.{IsPaidOver, PaidAt, ArePaidIn};
 ghost use Rattle.geos_potentials.specs.Count.{return_steps};
 ghost use Rattle.geos_potentials.specs.Numbers.{numbers_of};
 
@@ -12,7 +12,8 @@ use geos_rows::{Body, Known};
 fn is_paid(body: &Body, known: &Known, potentials: &Potentials, pc: u16, branch: bool) -> bool
     requires above { body.now.start ≤ pc }
     requires below { pc < body.now.end }
-    ensures { result ≡ true → IsPaidOver body.now.image.now body.now.r known.now (numbers_of potentials.now) pc branch }
+    ensures paid { result ≡ true → IsPaidOver body.now.image.now body.now.r known.now (numbers_of potentials.now) pc branch }
+    ensures passes { IsPaidOver body.now.image.now body.now.r known.now (numbers_of potentials.now) pc branch → result ≡ true }
 {
     match asked_over(body, known, potentials, pc, branch) {
         Some(asked) => asked.is_paid(&potentials.at(pc)),
@@ -28,6 +29,7 @@ fn is_paid_at(body: &Body, known: &Known, potentials: &Potentials, pc: u16) -> b
     ensures branching { result ≡ true → IsPaidOver body.now.image.now body.now.r known.now (numbers_of potentials.now) pc true }
     ensures returns { result ≡ true → IfSome (slice_get body.now.image.now.points pc) (λ point.
         return_steps point.instr ≤ slice_index (numbers_of potentials.now).steps pc) }
+    ensures passes { PaidAt body.now.image.now body.now.r known.now (numbers_of potentials.now) pc → result ≡ true }
 {
     if !is_paid(body, known, potentials, pc, false) {
         return false;
@@ -40,7 +42,8 @@ fn is_paid_at(body: &Body, known: &Known, potentials: &Potentials, pc: u16) -> b
 
 /// Whether each edge of a routine is paid for, and each return.
 pub(crate) fn are_paid(body: &Body, known: &Known, potentials: &Potentials) -> bool
-    ensures { result ≡ true → ArePaidIn body.now.image.now body.now.r known.now (numbers_of potentials.now) }
+    ensures paid { result ≡ true → ArePaidIn body.now.image.now body.now.r known.now (numbers_of potentials.now) }
+    ensures passes { ArePaidIn body.now.image.now body.now.r known.now (numbers_of potentials.now) → result ≡ true }
 {
     for pc in body.start..body.end {
         if !is_paid_at(body, known, potentials, pc) {

@@ -1,6 +1,6 @@
 //! The search for potentials of a routine with loops.
 
-ghost use Rattle.std.specs.Prelude.{◌≡◌, ◌+◌, List, Bool, Option, IfOk, IfErr};
+ghost use Rattle.std.specs.Prelude.{◌≡◌, ◌+◌, List, [], Bool, Option, IfOk, IfErr};
 ghost use Rattle.geos_image.specs.Parts.{start_of};
 ghost use Rattle.geos_image.specs.declared.row.Row.{Row};
 ghost use Rattle.geos_potentials.specs.Arcs.{AreArcs};
@@ -12,6 +12,8 @@ ghost use Rattle.geos_potentials.specs.Halts.{IsInTheWay};
 ghost use Rattle.geos_potentials.specs.Lacks.{IsLack};
 ghost use Rattle.geos_potentials.specs.Least.{steps_at};
 ghost use Rattle.geos_potentials.specs.Numbers.{numbers_of};
+ghost use Rattle.geos_potentials.specs.Untouched.{is_found, AreSpentIn};
+ghost use Rattle.geos_potentials.specs.Within.{StayWithinLoops};
 
 use crate::asked::Potentials;
 use crate::classes::Classes;
@@ -65,6 +67,7 @@ impl Search {
             → AreArcs body.now.image.now body.now.r known table self.old.graph.arcs
             → AreLeastWith body.now.image.now body.now.r known self.new.units.pay (steps_at self.new.units.lengths.ways)) }
         ensures wanted { IfOk result (λ _. AreWanted self.old.graph.arcs self.new.units.pay) }
+        ensures within { IfOk result (λ _. StayWithinLoops self.old.graph.arcs self.old.splitting.jumps is_found [] self.new.units.pay) }
         ensures lack { IfErr result (IsLack self.new.graph.arcs self.new.splitting self.new.units) }
         ensures graph { self.new.graph ≡ self.old.graph }
     {
@@ -86,6 +89,7 @@ impl Search {
     ) -> Result<(), Halt>
         ensures least { IfOk result (λ _. AreLeastIn body.now.image.now body.now.r known.now (numbers_of potentials.new)) }
         ensures wanted { IfOk result (λ _. AreForLoops body.now.image.now body.now.r (coefficients_at (numbers_of potentials.new).coefficients)) }
+        ensures spent { IfOk result (λ _. AreSpentIn body.now.image.now body.now.r touched.now (numbers_of potentials.new).coefficients) }
         ensures way { NotesTouched body.now.image.now touched.now
             → IfErr result (IsInTheWay body.now.image.now body.now.r known.now self.new) }
         ensures noted { AreArcs body.now.image.now body.now.r known.now touched.now self.new.graph.arcs }

@@ -1,10 +1,14 @@
 //! What a unit of each counter pays for, nest by nest: as much as ways round lack that go through its LOOPs.
 
-ghost use Rattle.std.specs.Prelude.{◌≡◌, ◌≢◌, ◌<◌, ◌≤◌, ℕ, true, false, IfErr};
+ghost use Rattle.std.specs.Prelude.{◌≡◌, ◌≢◌, ◌<◌, ◌≤◌, ℕ, true, false, [], IfErr};
 ghost use Rattle.geos_potentials.specs.Arcs.{IsLink, unit_at, price_of, paid_by};
+ghost use Rattle.geos_potentials.specs.Carried.{AreCarried, AreHeld, Carries, NoneHeld, StayCarried};
 ghost use Rattle.geos_potentials.specs.Demands.{AreWanted, HaveGrown, StayWanted};
 ghost use Rattle.geos_potentials.specs.Lacks.{IsLack, SomeIsDue, PricePasses};
 ghost use Rattle.geos_potentials.specs.Least.{StayAtLoops};
+ghost use Rattle.geos_potentials.specs.Led.{AreLed};
+ghost use Rattle.geos_potentials.specs.Waits.{HaveRisen};
+ghost use Rattle.geos_potentials.specs.Within.{StayWithin, StayWithinAt, StayWithinLoops, pays};
 
 use crate::arcs::{Arc, Counting};
 use crate::graph::Graph;
@@ -104,6 +108,8 @@ impl Units {
         ensures wanted { StayWanted graph.now.arcs self.old.pay self.new.pay }
         ensures more { HaveGrown self.old.pay self.new.pay }
         ensures others { (at k : ℕ) → at ≢ pc → unit_at self.new.pay at k ≡ unit_at self.old.pay at k }
+        ensures risen { HaveRisen self.old.pay self.new.pay self.old.waits self.new.waits }
+        ensures within { StayWithinAt graph.now.arcs pc self.old.pay self.new.pay }
     {
         let Some(arc) = graph.arc(pc, true) else {
             return;
@@ -120,6 +126,8 @@ impl Units {
         ensures wanted { StayWanted graph.now.arcs self.old.pay self.new.pay }
         ensures more { HaveGrown self.old.pay self.new.pay }
         ensures stay { StayAtLoops graph.now.arcs jumps.now self.old.pay self.new.pay }
+        ensures carried { Carries graph.now (AreHeld graph.now.arcs jumps.now) self.old.pay self.new.pay self.old.waits }
+        ensures within { StayWithin graph.now.arcs self.old.pay self.new.pay }
     {
         go_back_free(graph, jumps, &mut self.pay, &mut self.waits);
     }
@@ -184,6 +192,7 @@ impl Units {
     /// one that is left to the next round are left to that, too.
     fn note_due(&self, splitting: &mut Splitting, paying: &Paying, round: u16, pc: u16)
         requires { pc < 4096 }
+        ensures { splitting.new.jumps ≡ splitting.old.jumps }
     {
         let mut left = false;
         let mut inner = true;
@@ -220,7 +229,8 @@ impl Units {
         to: u16,
     ) -> bool
         requires { to < 4096 }
-        ensures { result ≡ false → PricePasses graph.now.arcs self.now.pay }
+        ensures past { result ≡ false → PricePasses graph.now.arcs self.now.pay }
+        ensures jumps { splitting.new.jumps ≡ splitting.old.jumps }
     {
         let mut lead = graph.first_into(to);
         for _ in 0..2 * u32::from(MOST_INSTRS) {
@@ -251,7 +261,10 @@ impl Units {
         round: u16,
     ) -> Result<(), Lack>
         ensures wanted { StayWanted graph.now.arcs self.old.pay self.new.pay }
+        ensures carried { Carries graph.now NoneHeld self.old.pay self.new.pay self.old.waits }
+        ensures within { StayWithin graph.now.arcs self.old.pay self.new.pay }
         ensures lack { IfErr result (IsLack graph.now.arcs splitting.new self.new) }
+        ensures jumps { splitting.new.jumps ≡ splitting.old.jumps }
     {
         let mut fits = true;
         while let Some(pc) = self.waits.take() {
@@ -270,7 +283,10 @@ impl Units {
         round: u16,
     ) -> Result<(), Lack>
         ensures wanted { StayWanted graph.now.arcs self.old.pay self.new.pay }
+        ensures carried { StayCarried graph.now self.old.pay self.new.pay }
+        ensures within { StayWithinLoops graph.now.arcs splitting.old.jumps pays self.old.pay self.new.pay }
         ensures lack { IfErr result (IsLack graph.now.arcs splitting.new self.new) }
+        ensures jumps { splitting.new.jumps ≡ splitting.old.jumps }
     {
         let piece = &paying.nest.piece;
         for x in piece.begin..piece.end {
@@ -292,7 +308,10 @@ impl Units {
     ) -> Result<(), Lack>
         requires { id < 4096 }
         ensures wanted { StayWanted graph.now.arcs self.old.pay self.new.pay }
+        ensures carried { StayCarried graph.now self.old.pay self.new.pay }
+        ensures within { StayWithinLoops graph.now.arcs splitting.old.jumps pays self.old.pay self.new.pay }
         ensures lack { IfErr result (IsLack graph.now.arcs splitting.new self.new) }
+        ensures jumps { splitting.new.jumps ≡ splitting.old.jumps }
     {
         let mut nest = splitting.nests.at(id);
         nest.due = false;
@@ -316,7 +335,10 @@ impl Units {
         round: u16,
     ) -> Result<bool, Lack>
         ensures wanted { StayWanted graph.now.arcs self.old.pay self.new.pay }
+        ensures carried { StayCarried graph.now self.old.pay self.new.pay }
+        ensures within { StayWithinLoops graph.now.arcs splitting.old.jumps pays self.old.pay self.new.pay }
         ensures lack { IfErr result (IsLack graph.now.arcs splitting.new self.new) }
+        ensures jumps { splitting.new.jumps ≡ splitting.old.jumps }
     {
         let mut some = false;
         for id in (0..splitting.nests.count().min(MOST_INSTRS)).rev() {
@@ -340,7 +362,10 @@ impl Units {
     ) -> Result<(), Lack>
         requires { start < 4096 }
         ensures wanted { AreWanted graph.now.arcs self.new.pay }
+        ensures carried { AreLed graph.now → AreCarried graph.now.arcs NoneHeld self.new.pay }
+        ensures within { StayWithinLoops graph.now.arcs splitting.old.jumps pays [] self.new.pay }
         ensures lack { IfErr result (IsLack graph.now.arcs splitting.new self.new) }
+        ensures jumps { splitting.new.jumps ≡ splitting.old.jumps }
     {
         self.looks = 0;
         self.pay.fill_from(0, [0; 4]);

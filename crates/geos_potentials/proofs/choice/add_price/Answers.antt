@@ -9,7 +9,7 @@ pub returns-in_default : goal.returns-in_default
 returns-in_default c = λ tight before.
     let prices = c.args.prices.now in
     priced-more c.args.graph.now.arcs c.args.jumps.now c.args.order.now c.args.classes.now c.args.piece.now c.args.x c.place-pc.result
-    prices prices c.place-pc.ensures.stands (λ k some. some) (λ k few takes busy. absurd (c.in_default.not-Some k (c.counter_at.ensures k takes)))
+    prices prices c.place-pc.ensures.stands (λ k some. some) (λ k few takes busy. absurd (c.in_default.not-Some k (c.counter_at.ensures.all k takes)))
     before
 
 pub returns-then-counter-ge4 : goal.returns-then-counter-ge4
@@ -18,7 +18,7 @@ returns-then-counter-ge4 c = λ tight before.
     priced-more c.args.graph.now.arcs c.args.jumps.now c.args.order.now c.args.classes.now c.args.piece.now c.args.x c.place-pc.result
     prices prices c.place-pc.ensures.stands (λ k some. some)
     (λ k few takes busy.
-    (let same = same_Some c.in-Some.counter k (sym c.in-Some.is ∙ c.counter_at.ensures k takes) in
+    (let same = same_Some c.in-Some.counter k (sym c.in-Some.is ∙ c.counter_at.ensures.all k takes) in
     let many = c.if-counter-ge4.true in
     absurd (omega (arith, few, same, many))))
     before
@@ -30,7 +30,7 @@ returns-then-not-may_pay c = λ tight before.
     priced-more c.args.graph.now.arcs c.args.jumps.now c.args.order.now c.args.classes.now c.args.piece.now c.args.x pc
     prices prices c.place-pc.ensures.stands (λ k some. some)
     (λ k few takes busy.
-    (let same = same_Some c.in-Some.counter k (sym c.in-Some.is ∙ c.counter_at.ensures k takes) in
+    (let same = same_Some c.in-Some.counter k (sym c.in-Some.is ∙ c.counter_at.ensures.all k takes) in
     let here = subst (λ (n : ℕ). noted_idle c.args.classes.now pc n ≡ false) (sym same) busy in
     absurd (false≢true (sym c.if-not-may_pay.true ∙ c.may_pay.ensures.tight tight ∙ ap not here))))
     before
@@ -47,5 +47,5 @@ returns c = λ tight before.
     prices _ c.place-pc.ensures.stands (set-stays prices c.from-at.result c.least.result room some)
     (λ k few takes busy.
     set-new prices c.from-at.result c.least.result room some k
-    (sym (at ∙ same_Some c.in-Some.counter k (sym c.in-Some.is ∙ c.counter_at.ensures k takes))))
+    (sym (at ∙ same_Some c.in-Some.counter k (sym c.in-Some.is ∙ c.counter_at.ensures.all k takes))))
     before

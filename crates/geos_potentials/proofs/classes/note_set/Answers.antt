@@ -14,4 +14,4 @@ loop-x-preserved c = c.raise_set.ensures c.args.start c.loop-x.invariant
 pub returns : goal.returns
 returns c =
     behind-come c.args.graph.now.arcs c.args.start (IsIn c.args.order.now c.args.piece.now) SetsSome c.loop-x.set c.go_on.new.spread
-    c.loop-x.invariant c.go_on.ensures
+    c.loop-x.invariant c.go_on.ensures.come

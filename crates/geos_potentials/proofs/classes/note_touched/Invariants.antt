@@ -1,7 +1,6 @@
-use Rattle.geos_rows.specs.Code.{IsPcOf}
-use Rattle.geos_potentials.specs.Spreads.{ComeBehind, ForgetsIt}
+use Rattle.geos_potentials.proofs.Untouched.{AreTouchedSoFar}
 use Rattle.geos_potentials.proofs.classes.note_touched.Given as goal
 
--- nothing is known of counters but behind calls that touch them
+-- what calls before pc touch is noted, and nothing else
 abbrev pub invariant-loop-pc : goal.invariant-loop-pc
-invariant-loop-pc l = ComeBehind l.graph.arcs l.body.start (IsPcOf l.body.image.now l.body.r) ForgetsIt l.touched
+invariant-loop-pc l = AreTouchedSoFar l.body.image.now l.body.r l.graph.arcs l.body.start l.pc l.touched l.waits

@@ -1,7 +1,7 @@
 use Rattle.std.proofs.Common.{◌<◌, ℕ}
 use Rattle.geos_rows.specs.Code.{IsPcOf}
 use Rattle.geos_potentials.specs.Numbers.{numbers_of}
-use Rattle.geos_potentials.proofs.Priced.{PaidAt}
+use Rattle.geos_potentials.specs.Constants.{PaidAt}
 use Rattle.geos_potentials.proofs.paid.are_paid.Given as goal
 
 -- what is before pc is paid for

@@ -1,4 +1,5 @@
-use Rattle.std.proofs.Common.{◌≡◌, ◌<◌, [], length, refl, arith, rules}
+use Rattle.std.proofs.Common.{◌≡◌, ◌<◌, [], length, refl, arith, rules, inr}
+use Rattle.geos_potentials.proofs.Carrying.{raised-risen}
 use Rattle.geos_potentials.proofs.Demand.{raised-set, raised-same}
 use Rattle.geos_potentials.proofs.Growing.{less-work, differ}
 use Rattle.geos_potentials.proofs.spread.raise.Goals as goal
@@ -15,10 +16,15 @@ returns-then-ne-clause-work c =
     less-work c.args.spread.now c.set.new.self c.args.pc c.get.result.now c.args.numbers.now c.greatest-next.result
     c.args.waits.now.count c.put.new.self.count (c.get.ensures []) c.greatest-next.ensures.value c.greatest-next.ensures.four room
     (λ k. (let fits = c.fits-numbers k in omega arith))
-    (differ c.greatest-next.result c.get.result.now c.ne.result c.ne.ensures c.if-ne.true) c.set.ensures c.put.ensures
+    (differ c.greatest-next.result c.get.result.now c.ne.result c.ne.ensures c.if-ne.true) c.set.ensures c.put.ensures.count
 
 pub returns-else-ne-clause-raised : goal.returns-else-ne-clause-raised
 returns-else-ne-clause-raised c =
     let equal : c.greatest-next.result ≡ c.get.result.now = search rules in
     raised-same c.args.spread.now c.args.spread.now c.args.pc c.get.result.now c.args.numbers.now c.greatest-next.result
     (c.get.ensures []) c.greatest-next.ensures.value c.greatest-next.ensures.four equal refl
+
+pub returns-then-ne-clause-risen : goal.returns-then-ne-clause-risen
+returns-then-ne-clause-risen c =
+    raised-risen c.args.spread.now c.set.new.self c.args.pc c.args.numbers.now c.args.waits.now c.put.new.self (returns-then-ne-clause-raised c)
+    c.put.ensures.others (inr c.put.ensures.waits)

@@ -1,4 +1,4 @@
-use Rattle.std.proofs.Common.{◌≡◌, ◌<◌, ℕ, Bool, true, false, List, [], ◌∷◌, length, Option, None, get_or, inl, inr, refl, sym, ap, ◌∙◌, subst, arith}
+use Rattle.std.proofs.Common.{◌≡◌, ◌≤◌, ◌<◌, ℕ, Bool, true, false, List, [], ◌∷◌, length, Option, Some, None, get_or, inl, inr, refl, sym, ap, ◌∙◌, subst, arith}
 use Rattle.std.specs.Prelude.{if◌then◌else◌}
 use Rattle.std.proofs.lemmas.Bool.{cases_lt}
 use Rattle.std.proofs.lemmas.List.{length-set, get_or_past}
@@ -7,6 +7,7 @@ use Rattle.geos_rows.specs.Code.{IsPcOf}
 use Rattle.geos_rows.proofs.Bodies.{in-body}
 use Rattle.geos_potentials.specs.declared.arcs.Arc.{Arc}
 use Rattle.geos_potentials.proofs.Costs.{arc-other, arc-same}
+use Rattle.geos_potentials.proofs.Led.{led-more, all-led}
 use Rattle.geos_potentials.proofs.graph.Graph.note.Goals as goal
 
 abbrev no_arcs : List (Option Arc)
@@ -22,13 +23,21 @@ loop-pc-init c =
     record {
       long = c.lengths.ensures;
       noted = λ pc branch within lt. absurd (omega (arith, within.above, body.begins));
-      outside = λ pc branch out. elim (cases_lt pc 4096) [
-        | inl lt ↦ ap (λ (x : List (Option Arc)). get_or x (if branch then 1 else 0) None) (c.fill_from.ensures.same pc [] (omega arith) lt)
-            ∙ neither branch
-        | inr past ↦ ap (λ (x : List (Option Arc)). get_or x (if branch then 1 else 0) None)
-            (get_or_past c.fill_from.new.self pc [] (omega (arith, past, c.lengths.ensures)))
-      ];
+      outside = λ pc branch out. empty pc branch;
+      led = record {
+        firsts = λ to up down edge is. (let none = c.clear_from.ensures.first to up down in absurd (cc));
+        nexts = λ from branch up below. absurd (omega arith);
+        each = λ pc branch arc read. (let none = empty pc branch in absurd (cc));
+      };
     }
+  where
+    empty : (pc : ℕ) (branch : Bool) → arc_at c.fill_from.new.self pc branch ≡ None
+    empty pc branch = elim (cases_lt pc 4096) [
+      | inl lt ↦ ap (λ (x : List (Option Arc)). get_or x (if branch then 1 else 0) None) (c.fill_from.ensures.same pc [] (omega arith) lt)
+          ∙ neither branch
+      | inr past ↦ ap (λ (x : List (Option Arc)). get_or x (if branch then 1 else 0) None)
+          (get_or_past c.fill_from.new.self pc [] (omega (arith, past, c.lengths.ensures)))
+    ]
 
 pub loop-pc-preserved : goal.loop-pc-preserved
 loop-pc-preserved c =
@@ -40,6 +49,10 @@ loop-pc-preserved c =
       outside = λ pc branch out. ap (λ (arcs : List (List (Option Arc))). arc_at arcs pc branch) c.set.ensures
           ∙ arc-other c.loop-pc.self.arcs p pc both branch (λ same. out (subst (IsPcOf body.image.now body.r) (sym same) inside))
           ∙ c.loop-pc.invariant.outside pc branch out;
+      led = led-more body.start p c.loop-pc.self.arcs c.set.new.self c.loop-pc.self.leads c.add.new.self c.arc_of-along.result
+          c.arc_of-branching.result c.add.ensures c.set.ensures (omega (arith, c.loop-pc.invariant.long, c.loop-pc-test.true, body.room, body.short))
+          (omega arith) (goes false c.arc_of-along.result c.arc_of-along.ensures) (goes true c.arc_of-branching.result c.arc_of-branching.ensures)
+          c.loop-pc.invariant.led;
       noted = λ pc branch within lt. elim (cases_lt pc p) [
         | inl earlier ↦
             let ne : pc ≡ p → ⊥ = (λ same. omega arith) in
@@ -55,6 +68,16 @@ loop-pc-preserved c =
       ];
     }
   where
+    goes : (branch : Bool) (found : Option Arc)
+        → IsArcIf c.args.body.now.image.now c.args.body.now.r c.args.known.now c.args.touched.now c.loop-pc.pc branch found
+        → (arc : Arc) → found ≡ Some arc → c.args.body.now.start ≤ arc.to
+    goes branch None is arc e = absurd (cc)
+    goes branch (Some other) is arc e =
+        let same : other ≡ arc = cc in
+        let above = is.stays.above in
+        let body = c.args.body.now in
+        subst (λ (a : Arc). body.start ≤ a.to) same (omega (arith, above, body.begins))
+
     here : (branch : Bool) → IsArcIf c.args.body.now.image.now c.args.body.now.r c.args.known.now c.args.touched.now
         c.loop-pc.pc branch (arc_at c.set.new.self c.loop-pc.pc branch)
     here branch = subst (IsArcIf c.args.body.now.image.now c.args.body.now.r c.args.known.now c.args.touched.now c.loop-pc.pc branch)
@@ -71,3 +94,7 @@ loop-pc-preserved c =
             c.loop-pc.pc b (arc_at ((c.arc_of-along.result ∷ c.arc_of-branching.result ∷ []) ∷ []) 0 b)
         by_branch true = c.arc_of-branching.ensures
         by_branch false = c.arc_of-along.ensures
+
+pub returns-clause-led : goal.returns-clause-led
+returns-clause-led c = (let body = c.args.body.now in
+    all-led c.loop-pc.self body.start c.loop-pc.pc (omega (arith, c.loop-pc.auto.pc-end, body.some, body.room, body.short)) c.loop-pc.invariant.led)

@@ -1,7 +1,13 @@
 use Rattle.std.proofs.Common.{◌≤◌}
 use Rattle.geos_potentials.specs.Stuck.{StayNoted}
+use Rattle.geos_potentials.specs.Untouched.{AreUntouched}
 use Rattle.geos_potentials.proofs.nests.Splitting.find.Given as goal
 
--- as much is known of counters as at first, and there is at most one nest for each piece so far
+-- as much is known of counters as at first, there is at most one nest for each piece so far, and no call has touched the counters of LOOPs of
+-- which something is found
 abbrev pub invariant-loop : goal.invariant-loop
-invariant-loop l = StayNoted l.fn.classes l.classes × (l.self.nests.count ≤ l.counter)
+invariant-loop l = record {
+  noted : StayNoted l.fn.classes l.classes;
+  count : l.self.nests.count ≤ l.counter;
+  untouched : AreUntouched l.body.start l.graph.arcs l.self.jumps l.fn.classes.touched;
+}

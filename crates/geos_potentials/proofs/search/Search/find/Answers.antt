@@ -10,6 +10,7 @@ use Rattle.geos_potentials.specs.Numbers.{numbers_of}
 use Rattle.geos_potentials.proofs.Demand.{for-loops}
 use Rattle.geos_potentials.proofs.Unpayable.{none-accepted-round}
 use Rattle.geos_potentials.proofs.Priced.{found-least, none-pay}
+use Rattle.geos_potentials.proofs.Untouched.{spent-in}
 use Rattle.geos_potentials.proofs.search.Search.find.Goals as goal
 
 pub returns-in-Err-clause-way : goal.returns-in-Err-clause-way
@@ -62,3 +63,11 @@ returns-else-put_potentials-clause-way c = λ notes.
     let units = c.pay.new.self.units in
     none-pay body.image.now body.r c.args.known.now units.pay units.lengths.ways
     (c.in-Ok.ensures.least c.args.known.now c.args.touched.now c.note.ensures.arcs) (c.put_potentials.ensures.passes c.if-put_potentials.false)
+
+pub returns-then-put_potentials-clause-spent : goal.returns-then-put_potentials-clause-spent
+returns-then-put_potentials-clause-spent c =
+    let body = c.args.body.now in
+    spent-in body.image.now body.r c.args.known.now c.args.touched.now c.note.new.self.arcs c.note.ensures.arcs c.note.ensures.outside body.start
+    body.end body.begins body.ends c.note-2.new.self.touched c.note-2.ensures.on c.note-2.ensures.behind c.find.new.self.jumps
+    c.find.ensures.untouched c.pay.new.self.units.pay c.in-Ok.ensures.within (numbers_of c.put_potentials.new.potentials).coefficients
+    (λ pc within. (c.put_potentials.ensures.put c.if-put_potentials.true pc within).1)

@@ -1,9 +1,12 @@
-use Rattle.std.proofs.Common.{sym, subst}
+use Rattle.std.proofs.Common.{List, sym, subst}
 use Rattle.geos_potentials.specs.Demands.{AreWanted}
-use Rattle.geos_potentials.specs.Least.{AreLeast, NoneOutside, AskNoMore}
+use Rattle.geos_potentials.specs.Least.{is_free, AreLeast, NoneOutside, AskNoMore}
+use Rattle.geos_potentials.specs.Within.{HoldsAtLoops, ExceedWithin}
+use Rattle.geos_potentials.specs.declared.jumps.Jump.{Jump}
 use Rattle.geos_potentials.specs.declared.lengths.Lengths.{Lengths}
 use Rattle.geos_potentials.proofs.Growing.{none-asks-more}
 use Rattle.geos_potentials.proofs.Priced.{found-ways}
+use Rattle.geos_potentials.proofs.Untouched.{found-pays, found-free}
 use Rattle.geos_potentials.proofs.search.Search.pay.Goals as goal
 
 pub returns-clause-least : goal.returns-clause-least
@@ -25,3 +28,11 @@ pub returns-clause-wanted : goal.returns-clause-wanted
 returns-clause-wanted c =
     let before = subst (AreWanted c.args.self.now.graph.arcs) (sym c.find_constants.ensures.pay) c.pay_all.ensures.wanted in
     c.free_loops.ensures.wanted before
+
+pub returns-clause-within : goal.returns-clause-within
+returns-clause-within c = λ law base passes carried holds before.
+    let arcs = c.args.self.now.graph.arcs in
+    let paid = c.pay_all.ensures.within law base passes carried (λ pc is. holds pc (found-pays _ is)) before in
+    c.free_loops.ensures.within law base passes carried
+    (subst (λ (jumps : List Jump). HoldsAtLoops arcs jumps is_free law) (sym c.pay_all.ensures.jumps) (λ pc is. holds pc (found-free _ is)))
+    (subst (ExceedWithin law base) (sym c.find_constants.ensures.pay) paid)

@@ -1,5 +1,7 @@
 use Rattle.std.proofs.Common.{◌≡◌, sym, ap, ◌∙◌, subst}
+use Rattle.geos_potentials.specs.Carried.{AreCarried, NoneHeld}
 use Rattle.geos_potentials.specs.Demands.{AreWanted}
+use Rattle.geos_potentials.specs.Within.{ExceedWithin}
 use Rattle.geos_potentials.specs.declared.units.Units.{Units}
 use Rattle.geos_potentials.proofs.units.Units.pay.Goals.{then-nest, else-nest}
 use Rattle.geos_potentials.proofs.units.Units.pay.Goals as goal
@@ -11,6 +13,23 @@ returns-clause-wanted c = λ before.
       | else-nest w ↦ ap (λ (u : Units). u.pay) w.self-is
     ] in
     c.set_unit.ensures.wanted (subst (AreWanted c.args.graph.now.arcs) (sym (c.find_unit.ensures.pay ∙ noted)) before)
+
+pub returns-clause-carried : goal.returns-clause-carried
+returns-clause-carried c = λ led before.
+    let noted : c.if-nest.self.pay ≡ c.args.self.now.pay = elim c.if-nest.branch [
+      | then-nest w ↦ ap (λ (u : Units). u.pay) w.self-is ∙ w.note_before.ensures
+      | else-nest w ↦ ap (λ (u : Units). u.pay) w.self-is
+    ] in
+    c.set_unit.ensures.carried led (subst (AreCarried c.args.graph.now.arcs NoneHeld) (sym (c.find_unit.ensures.pay ∙ noted)) before)
+
+pub returns-clause-within : goal.returns-clause-within
+returns-clause-within c = λ law base passes carried holds before.
+    let noted : c.if-nest.self.pay ≡ c.args.self.now.pay = elim c.if-nest.branch [
+      | then-nest w ↦ ap (λ (u : Units). u.pay) w.self-is ∙ w.note_before.ensures
+      | else-nest w ↦ ap (λ (u : Units). u.pay) w.self-is
+    ] in
+    c.set_unit.ensures.within law base passes carried holds
+    (subst (ExceedWithin law base) (sym (c.find_unit.ensures.pay ∙ noted)) before)
 
 pub returns-in-Err-clause-lack : goal.returns-in-Err-clause-lack
 returns-in-Err-clause-lack c = c.in-Err.ensures.lack

@@ -1,6 +1,15 @@
+use Rattle.std.proofs.Common.{◌≡◌, []}
+use Rattle.geos_potentials.specs.Carried.{AreCarried, NoneHeld}
 use Rattle.geos_potentials.specs.Demands.{AreWanted}
+use Rattle.geos_potentials.specs.Led.{AreLed}
+use Rattle.geos_potentials.specs.Within.{StayWithinLoops, pays}
 use Rattle.geos_potentials.proofs.units.Units.pay_all.Given as goal
 
--- what units pay for is wanted
+-- what units pay for is wanted, and carried
 abbrev pub invariant-loop-round : goal.invariant-loop-round
-invariant-loop-round l = AreWanted l.graph.arcs l.self.pay
+invariant-loop-round l = record {
+  wanted : AreWanted l.graph.arcs l.self.pay;
+  carried : AreLed l.graph → AreCarried l.graph.arcs NoneHeld l.self.pay;
+  within : StayWithinLoops l.graph.arcs l.fn.splitting.jumps pays [] l.self.pay;
+  jumps : l.splitting.jumps ≡ l.fn.splitting.jumps;
+}

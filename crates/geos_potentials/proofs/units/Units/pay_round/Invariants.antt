@@ -1,6 +1,6 @@
-use Rattle.geos_potentials.specs.Demands.{StayWanted}
+use Rattle.geos_potentials.proofs.Within.{PayOn}
 use Rattle.geos_potentials.proofs.units.Units.pay_round.Given as goal
 
--- what was wanted at first still is
+-- what was wanted at first still is, and what was carried
 abbrev pub invariant-loop-id : goal.invariant-loop-id
-invariant-loop-id l = StayWanted l.graph.arcs l.fn.self.pay l.self.pay
+invariant-loop-id l = PayOn l.graph l.fn.splitting.jumps l.splitting.jumps l.fn.self.pay l.self.pay

@@ -1,6 +1,6 @@
-use Rattle.geos_potentials.specs.Demands.{StayWanted}
+use Rattle.geos_potentials.proofs.Within.{RiseAtLoops}
 use Rattle.geos_potentials.proofs.units.Units.set_unit.Given as goal
 
--- what was wanted at first still is
+-- units rise at LOOPs that pay
 abbrev pub invariant-loop-x : goal.invariant-loop-x
-invariant-loop-x l = StayWanted l.graph.arcs l.fn.self.pay l.self.pay
+invariant-loop-x l = RiseAtLoops l.graph.arcs l.splitting.jumps l.fn.self.pay l.self.pay l.fn.self.waits l.self.waits
