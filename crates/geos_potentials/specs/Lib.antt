@@ -14,5 +14,6 @@ pub mod Accepted
 pub mod Idle
 pub mod Steps
 pub mod Touching
+pub mod Rings
 pub mod Lacks
 pub mod Rounds
