@@ -14,6 +14,7 @@ ghost use Rattle.geos_rows.specs.Why.{MeetAlike};
 use crate::ahead::may_pass;
 use crate::cause::{Cause, Within};
 use crate::in_turn::find_in_turn;
+use crate::ring::find_in_ring;
 use crate::setting::find_dear;
 use crate::trails::Trails;
 use crate::turns::steps_pass;
@@ -145,8 +146,13 @@ fn cause_in_turn(
     requires { KnowsTouched body.now.image.now touching.now }
     ensures { IfSome result (Holds body.now.image.now body.now.r) }
 {
-    match find_in_turn(body, touching, &search.graph, &search.splitting, trails) {
-        Some(pair) => Some(Cause::InTurn(pair)),
+    let graph = &search.graph;
+    let splitting = &search.splitting;
+    if let Some(pair) = find_in_turn(body, touching, graph, splitting, trails) {
+        return Some(Cause::InTurn(pair));
+    }
+    match find_in_ring(body, touching, graph, splitting, trails) {
+        Some(ring) => Some(Cause::InRing(ring)),
         None => None,
     }
 }
