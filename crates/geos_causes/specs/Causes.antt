@@ -16,7 +16,7 @@ use Rattle.geos_infer.specs.declared.cause.LoopRing.{LoopRing}
 use Rattle.geos_infer.specs.declared.cause.ByWord.{ByWord}
 use Rattle.geos_infer.specs.declared.cause.ByNumber.{ByNumber}
 use Rattle.geos_infer.specs.declared.cause.Cause.{Cause}
-use Rattle.geos_infer.specs.declared.cause.Cause.TheVariants.{SlotsDiffer, NoLoop, SetWithin, TouchedWithin, TouchedBefore, InTurn, InRing, StepsPass, WordUnbounded, NumberHigh, GivenUp, StepsMayPass, NoSteps, Unknown}
+use Rattle.geos_infer.specs.declared.cause.Cause.TheVariants.{SlotsDiffer, NoLoop, SetWithin, TouchedWithin, TouchedBefore, InTurn, InRing, StepsPass, WordUnbounded, NumberHigh, GivenUp, StepsMayPass, NoSteps, Unfound, Unknown}
 use Rattle.geos_explain.specs.Numbers.{pc_text}
 use Rattle.geos_causes.specs.Emptied.{emptied_items}
 
@@ -157,7 +157,11 @@ steps_may_pass_text = codes "the steps may pass 4,294,967,295 on a way that lead
 abbrev pub no_steps_text : List ℕ → BackWay → List ℕ
 no_steps_text lines back = codes "no steps were found for the loop:" ++ back_text lines back
 
--- the same where there is no loop
+-- none were found, and it is not known that a LOOP may pay on each way round
+abbrev pub unfound_text : List ℕ → BackWay → List ℕ
+unfound_text lines back = codes "no steps were found; the first loop:" ++ back_text lines back
+
+-- none were found where there is no loop
 abbrev pub unknown_text : List ℕ
 unknown_text = codes "no steps were found"
 
@@ -176,6 +180,7 @@ cause_words lines (NumberHigh by_number) = by_number_text lines by_number
 cause_words lines (GivenUp back) = given_up_text lines back
 cause_words lines StepsMayPass = steps_may_pass_text
 cause_words lines (NoSteps back) = no_steps_text lines back
+cause_words lines (Unfound back) = unfound_text lines back
 cause_words lines Unknown = unknown_text
 
 -- the same as a line

@@ -340,6 +340,7 @@ fn put_cause(out: &mut Vec<u8>, lines: &[usize], cause: &Cause) -> Result<(), Al
             out.extend_from_slice(b"the steps may pass 4,294,967,295 on a way that leads ahead")
         }
         Cause::NoSteps(back) => put_back(out, "no steps were found for the loop:", lines, back),
+        Cause::Unfound(back) => put_back(out, "no steps were found; the first loop:", lines, back),
         Cause::Unknown => out.extend_from_slice(b"no steps were found"),
     }
 }

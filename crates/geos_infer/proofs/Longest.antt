@@ -15,7 +15,7 @@ use Rattle.geos_infer.specs.Taken.{Place, Takes}
 use Rattle.geos_potentials.specs.Trails.{IsTrail}
 use Rattle.geos_rows.specs.Why.{LeadsTo}
 use Rattle.geos_potentials.specs.declared.unpaid.BackWay.{BackWay}
-use Rattle.geos_infer.specs.declared.cause.Cause.TheVariants.{SlotsDiffer, NoLoop, SetWithin, TouchedWithin, TouchedBefore, InTurn, InRing, StepsPass, WordUnbounded, NumberHigh, GivenUp, StepsMayPass, NoSteps, Unknown}
+use Rattle.geos_infer.specs.declared.cause.Cause.TheVariants.{SlotsDiffer, NoLoop, SetWithin, TouchedWithin, TouchedBefore, InTurn, InRing, StepsPass, WordUnbounded, NumberHigh, GivenUp, StepsMayPass, NoSteps, Unfound, Unknown}
 use Rattle.geos_rows.proofs.Came.{comes-to}
 use Rattle.geos_rows.proofs.Ends.{code-at, leads-one}
 
@@ -131,6 +131,10 @@ none-other image r StepsMayPass none other holds =
 none-other image r (NoSteps back) none other holds =
     let less = leads-ahead image r none.steps.ahead back.from back.to true holds.0.from holds.0.to holds.0.leads in
     let order = holds.0.order in
+    omega arith
+none-other image r (Unfound back) none other holds =
+    let less = leads-ahead image r none.steps.ahead back.from back.to true holds.from holds.to holds.leads in
+    let order = holds.order in
     omega arith
 none-other image r Unknown none other holds = other refl
 

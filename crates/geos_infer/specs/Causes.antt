@@ -21,7 +21,7 @@ use Rattle.geos_infer.specs.declared.cause.LoopRing.{LoopRing}
 use Rattle.geos_infer.specs.declared.cause.ByWord.{ByWord}
 use Rattle.geos_infer.specs.declared.cause.ByNumber.{ByNumber}
 use Rattle.geos_infer.specs.declared.cause.Cause.{Cause}
-use Rattle.geos_infer.specs.declared.cause.Cause.TheVariants.{SlotsDiffer, NoLoop, SetWithin, TouchedWithin, TouchedBefore, InTurn, InRing, StepsPass, WordUnbounded, NumberHigh, GivenUp, StepsMayPass, NoSteps, Unknown}
+use Rattle.geos_infer.specs.declared.cause.Cause.TheVariants.{SlotsDiffer, NoLoop, SetWithin, TouchedWithin, TouchedBefore, InTurn, InRing, StepsPass, WordUnbounded, NumberHigh, GivenUp, StepsMayPass, NoSteps, Unfound, Unknown}
 use Rattle.geos_potentials.specs.Idle.{GoesRound, PassesAt, calls_touching, IsKept, IsNeverPaid}
 
 -- an instruction of routine r leads back within it by its target
@@ -173,6 +173,7 @@ Holds image r (NumberHigh by_number) = SetsByNumber image r by_number × taken.W
 Holds image r (GivenUp back) = LeadsBack image r back
 Holds image r StepsMayPass = MayPass image r
 Holds image r (NoSteps back) = LeadsBack image r back × (IsNeverPaid image r → ⊥)
+Holds image r (Unfound back) = LeadsBack image r back
 Holds image r Unknown = IsUnexplained image r
 
 -- the cause is that slots differ

@@ -101,6 +101,8 @@ pub enum Cause {
     /// None of these was found; a way leads back, and whichever way control goes round, it takes the way to its target of a LOOP that may
     /// pay: on each way to it the counter is set.
     NoSteps(BackWay),
+    /// None of these was found, and a way leads back.
+    Unfound(BackWay),
     /// None of these holds.
     Unknown,
 }

@@ -376,14 +376,14 @@ fn cause_of_loops(
         Ok(Cause::NoSteps(back))
     } else {
         // Else a way round would have been found before: that it would be is not proved.
-        Ok(Cause::GivenUp(back))
+        Ok(Cause::Unfound(back))
     }
 }
 
 /// Why `infer` finds no rows or no numbers of steps for routine r, which it names in `NoRows`: of what may be the
 /// cause, the first that is found. What the cause says holds of that routine; where ways of control meet with slots that
-/// differ in more than marks, it is that. `GivenUp`, `NoSteps` and `Unknown` say that no reason was found, and what is not
-/// one. `AllocError` where the allocator refuses memory.
+/// differ in more than marks, it is that. `GivenUp`, `NoSteps`, `Unfound` and `Unknown` say that no reason was found, and
+/// what is not one. `AllocError` where the allocator refuses memory.
 pub fn find_cause(alloc: Global, image: &Image, routine: u16) -> Result<Cause, AllocError>
     requires { routine < length image.now.routines }
     ensures holds { IfOk result (Holds image.now routine) }
