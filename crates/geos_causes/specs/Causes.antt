@@ -12,10 +12,11 @@ use Rattle.geos_rows.specs.declared.apart.Coming.{Coming}
 use Rattle.geos_potentials.specs.declared.unpaid.BackWay.{BackWay}
 use Rattle.geos_infer.specs.declared.cause.Within.{Within}
 use Rattle.geos_infer.specs.declared.cause.LoopPair.{LoopPair}
+use Rattle.geos_infer.specs.declared.cause.LoopRing.{LoopRing}
 use Rattle.geos_infer.specs.declared.cause.ByWord.{ByWord}
 use Rattle.geos_infer.specs.declared.cause.ByNumber.{ByNumber}
 use Rattle.geos_infer.specs.declared.cause.Cause.{Cause}
-use Rattle.geos_infer.specs.declared.cause.Cause.TheVariants.{SlotsDiffer, NoLoop, SetWithin, TouchedWithin, TouchedBefore, InTurn, StepsPass, WordUnbounded, NumberHigh, GivenUp, StepsMayPass, NoSteps, Unknown}
+use Rattle.geos_infer.specs.declared.cause.Cause.TheVariants.{SlotsDiffer, NoLoop, SetWithin, TouchedWithin, TouchedBefore, InTurn, InRing, StepsPass, WordUnbounded, NumberHigh, GivenUp, StepsMayPass, NoSteps, Unfound, Unknown}
 use Rattle.geos_explain.specs.Numbers.{pc_text}
 use Rattle.geos_causes.specs.Emptied.{emptied_items}
 
@@ -120,6 +121,10 @@ set_in_text lines counter at back = set_at_text lines counter at ++ in_loop_text
 unfoldable pub in_turn_text : List ℕ → LoopPair → List ℕ
 in_turn_text lines both = codes "two loops set the counters of each other: " ++ set_in_text lines both.other_counter both.at both.back ++ codes ", and " ++ set_in_text lines both.counter both.other_at both.other
 
+-- loops set the counters of each other in a ring, two of them being these
+unfoldable pub in_ring_text : List ℕ → LoopRing → List ℕ
+in_ring_text lines ring = codes "loops set the counters of each other in a ring: " ++ set_in_text lines ring.next_counter ring.at ring.back ++ codes ", " ++ set_in_text lines ring.third_counter ring.next_at ring.next ++ codes ", and so on"
+
 -- the steps pass the limit where a word is so large as it may be
 unfoldable pub by_word_text : List ℕ → ByWord → List ℕ
 by_word_text lines by_word = concat (codes "the steps may pass 4,294,967,295, since w" ∷ decimal by_word.word ∷ codes " may be " ∷ decimal by_word.most ∷ codes " at" ∷ pc_text lines by_word.at ∷ codes ": CHK it" ∷ [])
@@ -152,7 +157,11 @@ steps_may_pass_text = codes "the steps may pass 4,294,967,295 on a way that lead
 abbrev pub no_steps_text : List ℕ → BackWay → List ℕ
 no_steps_text lines back = codes "no steps were found for the loop:" ++ back_text lines back
 
--- the same where there is no loop
+-- none were found, and it is not known that a LOOP may pay on each way round
+abbrev pub unfound_text : List ℕ → BackWay → List ℕ
+unfound_text lines back = codes "no steps were found; the first loop:" ++ back_text lines back
+
+-- none were found where there is no loop
 abbrev pub unknown_text : List ℕ
 unknown_text = codes "no steps were found"
 
@@ -164,12 +173,14 @@ cause_words lines (SetWithin within) = within_text lines within
 cause_words lines (TouchedWithin within) = touched_text lines within
 cause_words lines (TouchedBefore within) = touched_before_text lines within
 cause_words lines (InTurn both) = in_turn_text lines both
+cause_words lines (InRing ring) = in_ring_text lines ring
 cause_words lines StepsPass = steps_pass_text
 cause_words lines (WordUnbounded by_word) = by_word_text lines by_word
 cause_words lines (NumberHigh by_number) = by_number_text lines by_number
 cause_words lines (GivenUp back) = given_up_text lines back
 cause_words lines StepsMayPass = steps_may_pass_text
 cause_words lines (NoSteps back) = no_steps_text lines back
+cause_words lines (Unfound back) = unfound_text lines back
 cause_words lines Unknown = unknown_text
 
 -- the same as a line

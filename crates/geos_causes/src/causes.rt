@@ -2,14 +2,16 @@
 
 ghost use Rattle.std.specs.Prelude.{◌≡◌, ◌++◌, OnOk, IfOk};
 ghost use Rattle.geos_causes.specs.Causes.{differing_item, differing_items, is_from, edge_text, coming_from};
-ghost use Rattle.geos_causes.specs.Causes.{coming_text, call_text, touched_text, touched_before_text, set_in_text, in_turn_text};
+ghost use Rattle.geos_causes.specs.Causes.{coming_text, call_text, touched_text, touched_before_text, set_in_text, in_turn_text, in_ring_text};
 ghost use Rattle.geos_causes.specs.Causes.{by_word_text, set_to_text, ways_text, calls_text, apart_text};
 ghost use Rattle.geos_causes.specs.Causes.{back_text, within_text, cause_words, cause_text};
 
 use crate::emptied::{put_emptied_items, slots_agree};
 use geos_explain::pc_part;
 use geos_image::SlotState;
-use geos_infer::{Apart, BackWay, ByNumber, ByWord, Cause, Coming, Edge, LoopPair, Within};
+use geos_infer::{
+    Apart, BackWay, ByNumber, ByWord, Cause, Coming, Edge, LoopPair, LoopRing, Within,
+};
 use geos_listing::state_word;
 use geos_text::{Part, put_parts};
 use geos_verify::is_empty;
@@ -254,6 +256,18 @@ fn put_in_turn(out: &mut Vec<u8>, lines: &[usize], both: &LoopPair) -> Result<()
     put_set_in(out, lines, both.counter, both.other_at, &both.other)
 }
 
+/// Loops set the counters of each other in a ring.
+#[tactic(auto, unfolding(crate::specs::Causes::in_ring_text))]
+fn put_in_ring(out: &mut Vec<u8>, lines: &[usize], ring: &LoopRing) -> Result<(), AllocError>
+    ensures { OnOk result (out.new.items ≡ out.old.items ++ in_ring_text lines.now ring.now) }
+{
+    out.extend_from_slice(b"loops set the counters of each other in a ring: ")?;
+    put_set_in(out, lines, ring.next_counter, ring.at, &ring.back)?;
+    out.extend_from_slice(b", ")?;
+    put_set_in(out, lines, ring.third_counter, ring.next_at, &ring.next)?;
+    out.extend_from_slice(b", and so on")
+}
+
 /// The steps pass the limit where a word is so large as it may be.
 #[tactic(auto, unfolding(crate::specs::Causes::by_word_text))]
 fn put_by_word(out: &mut Vec<u8>, lines: &[usize], by_word: &ByWord) -> Result<(), AllocError>
@@ -307,6 +321,7 @@ fn put_cause(out: &mut Vec<u8>, lines: &[usize], cause: &Cause) -> Result<(), Al
         Cause::TouchedWithin(within) => put_touched(out, lines, within),
         Cause::TouchedBefore(within) => put_touched_before(out, lines, within),
         Cause::InTurn(both) => put_in_turn(out, lines, both),
+        Cause::InRing(ring) => put_in_ring(out, lines, ring),
         Cause::WordUnbounded(by_word) => put_by_word(out, lines, by_word),
         Cause::NumberHigh(by_number) => put_set_to(
             out,
@@ -325,6 +340,7 @@ fn put_cause(out: &mut Vec<u8>, lines: &[usize], cause: &Cause) -> Result<(), Al
             out.extend_from_slice(b"the steps may pass 4,294,967,295 on a way that leads ahead")
         }
         Cause::NoSteps(back) => put_back(out, "no steps were found for the loop:", lines, back),
+        Cause::Unfound(back) => put_back(out, "no steps were found; the first loop:", lines, back),
         Cause::Unknown => out.extend_from_slice(b"no steps were found"),
     }
 }

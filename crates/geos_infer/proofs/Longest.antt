@@ -15,7 +15,7 @@ use Rattle.geos_infer.specs.Taken.{Place, Takes}
 use Rattle.geos_potentials.specs.Trails.{IsTrail}
 use Rattle.geos_rows.specs.Why.{LeadsTo}
 use Rattle.geos_potentials.specs.declared.unpaid.BackWay.{BackWay}
-use Rattle.geos_infer.specs.declared.cause.Cause.TheVariants.{SlotsDiffer, NoLoop, SetWithin, TouchedWithin, TouchedBefore, InTurn, StepsPass, WordUnbounded, NumberHigh, GivenUp, StepsMayPass, NoSteps, Unknown}
+use Rattle.geos_infer.specs.declared.cause.Cause.TheVariants.{SlotsDiffer, NoLoop, SetWithin, TouchedWithin, TouchedBefore, InTurn, InRing, StepsPass, WordUnbounded, NumberHigh, GivenUp, StepsMayPass, NoSteps, Unfound, Unknown}
 use Rattle.geos_rows.proofs.Came.{comes-to}
 use Rattle.geos_rows.proofs.Ends.{code-at, leads-one}
 
@@ -104,6 +104,11 @@ none-other image r (InTurn both) none other holds =
     let round = round-ahead image r none.steps.ahead both.back.to both.at holds.loops.to holds.sets.round in
     let again = round-ahead image r none.steps.ahead both.at both.back.from holds.sets.here holds.sets.again in
     omega arith
+none-other image r (InRing ring) none other holds =
+    let less = loop-ahead image r none.steps.ahead ring.back ring.counter holds.loops in
+    let round = round-ahead image r none.steps.ahead ring.back.to ring.at holds.loops.to holds.sets.round in
+    let again = round-ahead image r none.steps.ahead ring.at ring.back.from holds.sets.here holds.sets.again in
+    omega arith
 none-other image r StepsPass none other holds =
     let past_way = holds.2 in
     let way = along holds.0 image r (record { pc = past_way.from; counters = zeros }) past_way.places past_way.end past_way.before []
@@ -126,6 +131,10 @@ none-other image r StepsMayPass none other holds =
 none-other image r (NoSteps back) none other holds =
     let less = leads-ahead image r none.steps.ahead back.from back.to true holds.0.from holds.0.to holds.0.leads in
     let order = holds.0.order in
+    omega arith
+none-other image r (Unfound back) none other holds =
+    let less = leads-ahead image r none.steps.ahead back.from back.to true holds.from holds.to holds.leads in
+    let order = holds.order in
     omega arith
 none-other image r Unknown none other holds = other refl
 

@@ -1,5 +1,5 @@
 -- Causes for which no rows or no numbers of steps are found for a routine, and what each says.
-use Rattle.std.specs.Prelude.{◌≡◌, ◌≢◌, ◌≤◌, ◌<◌, ℕ, Bool, ◌&&◌, List, true, false, ◌==◌, Option, None, length}
+use Rattle.std.specs.Prelude.{◌≡◌, ◌≢◌, ◌≤◌, ◌<◌, ℕ, Bool, ◌&&◌, List, [], ◌∷◌, true, false, ◌==◌, Option, None, length}
 use Rattle.geos_opcodes.specs.declared.opcode.Opcode.{Opcode}
 use Rattle.geos_opcodes.specs.declared.opcode.Opcode.TheVariants.{Setk, Setkw, Loop}
 use Rattle.geos_image.specs.declared.instr.Instr.{Instr}
@@ -17,10 +17,11 @@ use Rattle.geos_infer.specs.Ahead.{MayPass, NonePasses}
 use Rattle.geos_potentials.specs.declared.unpaid.BackWay.{BackWay}
 use Rattle.geos_infer.specs.declared.cause.Within.{Within}
 use Rattle.geos_infer.specs.declared.cause.LoopPair.{LoopPair}
+use Rattle.geos_infer.specs.declared.cause.LoopRing.{LoopRing}
 use Rattle.geos_infer.specs.declared.cause.ByWord.{ByWord}
 use Rattle.geos_infer.specs.declared.cause.ByNumber.{ByNumber}
 use Rattle.geos_infer.specs.declared.cause.Cause.{Cause}
-use Rattle.geos_infer.specs.declared.cause.Cause.TheVariants.{SlotsDiffer, NoLoop, SetWithin, TouchedWithin, TouchedBefore, InTurn, StepsPass, WordUnbounded, NumberHigh, GivenUp, StepsMayPass, NoSteps, Unknown}
+use Rattle.geos_infer.specs.declared.cause.Cause.TheVariants.{SlotsDiffer, NoLoop, SetWithin, TouchedWithin, TouchedBefore, InTurn, InRing, StepsPass, WordUnbounded, NumberHigh, GivenUp, StepsMayPass, NoSteps, Unfound, Unknown}
 use Rattle.geos_potentials.specs.Idle.{GoesRound, PassesAt, calls_touching, IsKept, IsNeverPaid}
 
 -- an instruction of routine r leads back within it by its target
@@ -99,6 +100,29 @@ pub record WaitInTurn (image : Parts) (r : ℕ) (both : LoopPair) : Type 0 where
   pub sets : SetsFor image r both.back both.other both.other_counter both.at
   pub other_sets : SetsFor image r both.other both.back both.counter both.other_at
 
+-- in the loop that a LOOP closes, the counter of another is set for it
+pub record WaitsFor (image : Parts) (r : ℕ) (back other : BackWay) : Type 0 where
+  pub counter : ℕ
+  pub at : ℕ
+  pub loops : LoopsTo image r other counter
+  pub sets : SetsFor image r back other counter at
+
+-- LOOPs from one on up to another wait so each for the next; of those between, the last one stands first
+abbrev pub WaitOn : Parts → ℕ → BackWay → List BackWay → BackWay → Type 0
+WaitOn image r from [] to = from ≡ to
+WaitOn image r from (back ∷ before) to = WaitsFor image r back to × WaitOn image r from before back
+
+-- a LOOP waits so for the next, this for a third, and others from there on each for the next, up to the first
+pub record WaitInRing (image : Parts) (r : ℕ) (ring : LoopRing) : Type 0 where
+  pub loops : LoopsTo image r ring.back ring.counter
+  pub sets : SetsFor image r ring.back ring.next ring.next_counter ring.at
+  pub next_loops : LoopsTo image r ring.next ring.next_counter
+  pub third : BackWay
+  pub next_sets : SetsFor image r ring.next third ring.third_counter ring.next_at
+  pub third_loops : LoopsTo image r third ring.third_counter
+  pub others : List BackWay
+  pub rest : WaitOn image r third others ring.back
+
 -- the instruction sets this counter to a word
 abbrev pub sets_to_word : ℕ → ℕ → Instr → Opcode → Bool
 sets_to_word k w i Setkw = (i.a == k) && (i.b == w)
@@ -142,12 +166,14 @@ Holds image r (SetWithin within) = SetsWithin image r within
 Holds image r (TouchedWithin within) = TouchesWithin image r within × IsNeverPaid image r
 Holds image r (TouchedBefore within) = TouchesBefore image r within × IsNeverPaid image r
 Holds image r (InTurn both) = WaitInTurn image r both
+Holds image r (InRing ring) = WaitInRing image r ring
 Holds image r StepsPass = taken.StepsPass image r
 Holds image r (WordUnbounded by_word) = SetsByWord image r by_word × taken.WordsPass image r
 Holds image r (NumberHigh by_number) = SetsByNumber image r by_number × taken.WordsPass image r
 Holds image r (GivenUp back) = LeadsBack image r back
 Holds image r StepsMayPass = MayPass image r
 Holds image r (NoSteps back) = LeadsBack image r back × (IsNeverPaid image r → ⊥)
+Holds image r (Unfound back) = LeadsBack image r back
 Holds image r Unknown = IsUnexplained image r
 
 -- the cause is that slots differ

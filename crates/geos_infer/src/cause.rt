@@ -31,6 +31,25 @@ pub struct LoopPair {
     pub other_at: u16,
 }
 
+/// Two of the loops in a ring that wait each on the next, one behind the other.
+#[derive(Clone, Copy)]
+pub struct LoopRing {
+    /// The way of the first LOOP to its target.
+    pub back: BackWay,
+    /// The counter that it takes from.
+    pub counter: u8,
+    /// The pc in its loop where the next one's counter is set.
+    pub at: u16,
+    /// The way of the next LOOP to its target.
+    pub next: BackWay,
+    /// The counter that it takes from.
+    pub next_counter: u8,
+    /// The pc in its loop where the counter of the one behind it is set.
+    pub next_at: u16,
+    /// The counter that this one takes from.
+    pub third_counter: u8,
+}
+
 /// Where a counter is set to a word.
 #[derive(Clone, Copy)]
 pub struct ByWord {
@@ -66,6 +85,8 @@ pub enum Cause {
     TouchedBefore(Within),
     /// Two loops set the counters of each other.
     InTurn(LoopPair),
+    /// Loops set the counters of each other in a ring.
+    InRing(LoopRing),
     /// On some way more steps are taken than a potential can say.
     StepsPass,
     /// On some way more steps are taken than a potential can say, if words are as much as they may be; and a counter is set for a loop to a
@@ -80,6 +101,8 @@ pub enum Cause {
     /// None of these was found; a way leads back, and whichever way control goes round, it takes the way to its target of a LOOP that may
     /// pay: on each way to it the counter is set.
     NoSteps(BackWay),
+    /// None of these was found, and a way leads back.
+    Unfound(BackWay),
     /// None of these holds.
     Unknown,
 }

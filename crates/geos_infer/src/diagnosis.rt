@@ -14,6 +14,7 @@ ghost use Rattle.geos_rows.specs.Why.{MeetAlike};
 use crate::ahead::may_pass;
 use crate::cause::{Cause, Within};
 use crate::in_turn::find_in_turn;
+use crate::ring::find_in_ring;
 use crate::setting::find_dear;
 use crate::trails::Trails;
 use crate::turns::steps_pass;
@@ -145,8 +146,13 @@ fn cause_in_turn(
     requires { KnowsTouched body.now.image.now touching.now }
     ensures { IfSome result (Holds body.now.image.now body.now.r) }
 {
-    match find_in_turn(body, touching, &search.graph, &search.splitting, trails) {
-        Some(pair) => Some(Cause::InTurn(pair)),
+    let graph = &search.graph;
+    let splitting = &search.splitting;
+    if let Some(pair) = find_in_turn(body, touching, graph, splitting, trails) {
+        return Some(Cause::InTurn(pair));
+    }
+    match find_in_ring(body, touching, graph, splitting, trails) {
+        Some(ring) => Some(Cause::InRing(ring)),
         None => None,
     }
 }
@@ -208,7 +214,7 @@ fn cause_of_lack(
         Lack::Passes => {
             cause_of_passing(alloc, body, touching, known, search, trails, strongest)
         }
-        Lack::InTurn | Lack::NoShare => Ok(cause_in_turn(body, touching, search, trails)),
+        Lack::InTurn(_) | Lack::NoShare => Ok(cause_in_turn(body, touching, search, trails)),
         Lack::Looks => Ok(cause_of_looks(body)),
     }
 }
@@ -370,14 +376,14 @@ fn cause_of_loops(
         Ok(Cause::NoSteps(back))
     } else {
         // Else a way round would have been found before: that it would be is not proved.
-        Ok(Cause::GivenUp(back))
+        Ok(Cause::Unfound(back))
     }
 }
 
 /// Why `infer` finds no rows or no numbers of steps for routine r, which it names in `NoRows`: of what may be the
 /// cause, the first that is found. What the cause says holds of that routine; where ways of control meet with slots that
-/// differ in more than marks, it is that. `GivenUp`, `NoSteps` and `Unknown` say that no reason was found, and what is not
-/// one. `AllocError` where the allocator refuses memory.
+/// differ in more than marks, it is that. `GivenUp`, `NoSteps`, `Unfound` and `Unknown` say that no reason was found, and
+/// what is not one. `AllocError` where the allocator refuses memory.
 pub fn find_cause(alloc: Global, image: &Image, routine: u16) -> Result<Cause, AllocError>
     requires { routine < length image.now.routines }
     ensures holds { IfOk result (Holds image.now routine) }

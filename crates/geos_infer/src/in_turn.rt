@@ -16,7 +16,7 @@ use geos_rows::Body;
 const PAIRS: u16 = 256;
 
 /// The place of a piece, in the loop that a LOOP closes, where the counter of another is set and kept from there to it.
-fn set_for(
+pub(crate) fn set_for(
     body: &Body,
     touching: &Touching,
     graph: &Graph,
@@ -46,7 +46,7 @@ fn set_for(
 }
 
 /// The nest that the LOOP at a pc pays in.
-fn nest_of(splitting: &Splitting, pc: u16) -> Option<u16>
+pub(crate) fn nest_of(splitting: &Splitting, pc: u16) -> Option<u16>
     requires { pc < 4096 }
     ensures { IfSome result (λ nest. nest < 4096) }
 {

@@ -11,12 +11,13 @@ mod error;
 mod in_turn;
 mod inference;
 mod reach;
+mod ring;
 mod setting;
 mod trails;
 mod turns;
 mod within;
 
-pub use cause::{ByNumber, ByWord, Cause, LoopPair, Within};
+pub use cause::{ByNumber, ByWord, Cause, LoopPair, LoopRing, Within};
 pub use diagnosis::{find_cause, no_other_cause_holds, none_is_accepted_for};
 pub use error::InferError;
 pub use geos_potentials::BackWay;

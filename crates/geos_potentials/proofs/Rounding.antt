@@ -251,7 +251,7 @@ pub lack-in : (arcs : List (List (Option Arc))) (splitting : Splitting) (units :
 lack-in arcs splitting units id nest (SetWithin piece) there is = record { id = id; nest = nest; there = there; is = is.0; sets = is.1 }
 lack-in arcs splitting units id nest NoShare there is = is
 lack-in arcs splitting units id nest Looks there is = is
-lack-in arcs splitting units id nest InTurn there is = absurd is
+lack-in arcs splitting units id nest (InTurn ring) there is = absurd is
 lack-in arcs splitting units id nest Passes there is = inr (inl (record { id = id; nest = nest; there = there; costs = is }))
 
 -- Where a way round costs more than is paid

@@ -7,7 +7,7 @@ use Rattle.geos_potentials.specs.declared.arcs.Arc.{Arc}
 use Rattle.geos_potentials.specs.Arcs.{arc_at, unit_at}
 use Rattle.geos_potentials.specs.Demands.{kept_over, AreRaised, IsKeptOver}
 use Rattle.geos_potentials.specs.Numbers.{zeros}
-use Rattle.geos_potentials.specs.Spreads.{HasCome, HaveCome, StayCome, ComesBehind, Does, ComeBehind, ComeFrom}
+use Rattle.geos_potentials.specs.Spreads.{HasCome, HaveCome, StayCome, ComesBehind, Does, ComeBehind}
 use Rattle.geos_potentials.proofs.Asks.{zero-at}
 use Rattle.geos_potentials.proofs.Demand.{kept-some}
 
@@ -95,12 +95,13 @@ behind-come arcs low place does old next before come pc k above some =
     }
 
 -- numbers that have come from those that were raised at one pc alone
-pub from-come : (arcs : List (List (Option Arc))) (low : ℕ) (old mid next : List (List ℕ)) (numbers : List ℕ)
-    → ((pc k : ℕ) → low ≤ pc → unit_at old pc k ≡ 0) → AreRaised old mid low numbers → HaveCome arcs low mid next → ComeFrom arcs low next
-from-come arcs low old mid next numbers none R come pc k above some =
+pub from-come : (arcs : List (List (Option Arc))) (low p : ℕ) (old mid next : List (List ℕ)) (numbers : List ℕ)
+    → ((pc k : ℕ) → low ≤ pc → unit_at old pc k ≡ 0) → AreRaised old mid p numbers → HaveCome arcs low mid next
+    → (pc k : ℕ) → low ≤ pc → 0 < unit_at next pc k → (branches : List Bool) × IsKeptOver arcs k p branches pc
+from-come arcs low p old mid next numbers none R come pc k above some =
     let H = come pc k above some in (
       H.branches,
-      elim (cases_eq H.from low) [
+      elim (cases_eq H.from p) [
         | inl same ↦ subst (λ (n : ℕ). IsKeptOver arcs k n H.branches pc) same H.way
         | inr ne ↦
             let other = R.others H.from k ne in

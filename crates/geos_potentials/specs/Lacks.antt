@@ -3,6 +3,7 @@ use Rattle.std.specs.Prelude.{◌≡◌, ◌≤◌, ◌<◌, ◌+◌, ◌⊎◌,
 use Rattle.geos_potentials.specs.Arcs.{arc_at, price_of}
 use Rattle.geos_potentials.specs.Least.{is_free, steps_at}
 use Rattle.geos_potentials.specs.Rounds.{CostsMore, CostsPast, SetsEnough}
+use Rattle.geos_potentials.specs.Rings.{IsRing}
 use Rattle.geos_potentials.specs.declared.arcs.Arc.{Arc}
 use Rattle.geos_potentials.specs.declared.jumps.Jump.{Jump}
 use Rattle.geos_potentials.specs.declared.jumps.Jump.TheVariants.{Plain}
@@ -22,7 +23,7 @@ abbrev pub IsLackIn : List (List (Option Arc)) → List Jump → ℕ → Nest �
 IsLackIn arcs jumps id nest units (SetWithin piece) = (piece ≡ nest.piece) × SetsEnough arcs jumps id nest.counter
 IsLackIn arcs jumps id nest units NoShare = CostsMore arcs units.pay
 IsLackIn arcs jumps id nest units Looks = 134217728 ≤ units.looks
-IsLackIn arcs jumps id nest units InTurn = ⊥
+IsLackIn arcs jumps id nest units (InTurn ring) = ⊥
 IsLackIn arcs jumps id nest units Passes = CostsPast arcs jumps units.pay id nest.counter
 
 -- so it is of a nest of a routine
@@ -36,6 +37,7 @@ pub record SetsInNest (arcs : List (List (Option Arc))) (splitting : Splitting) 
 -- some nest is to be paid for
 pub record SomeIsDue (nests : Nests) : Type 0 where
   pub id : ℕ
+  pub few : id < nests.count
   pub nest : Nest
   pub there : (other : Nest) → slice_index_or nests.list id other ≡ nest
   pub due : nest.due ≡ true
@@ -67,12 +69,12 @@ pub record FreePasses (arcs : List (List (Option Arc))) (jumps : List Jump) (way
   pub free : is_free (slice_index_or jumps pc Plain) ≡ true
   pub asks : AsksPast arcs ways pc
 
--- the same of what the search has come to: also, what it costs to set a counter passes, or what a LOOP asks for that is left out; or, where
--- nests wait on each other, one is still to be paid for
+-- the same of what the search has come to: also, what it costs to set a counter passes, or what a LOOP asks for that is left out; or
+-- nests wait on each other in a ring, and some nest is still to be paid for
 abbrev pub IsLack : List (List (Option Arc)) → Splitting → Units → Lack → Type 0
 IsLack arcs splitting units (SetWithin piece) = SetsInNest arcs splitting piece
 IsLack arcs splitting units NoShare = CostsMore arcs units.pay
 IsLack arcs splitting units Looks = 134217728 ≤ units.looks
-IsLack arcs splitting units InTurn = SomeIsDue splitting.nests
+IsLack arcs splitting units (InTurn ring) = SomeIsDue splitting.nests × IsRing arcs splitting ring
 IsLack arcs splitting units Passes = PricePasses arcs units.pay ⊎ (NestPasses arcs splitting units.pay
     ⊎ FreePasses arcs splitting.jumps units.lengths.ways)

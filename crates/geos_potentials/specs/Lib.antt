@@ -14,6 +14,7 @@ pub mod Accepted
 pub mod Idle
 pub mod Steps
 pub mod Touching
+pub mod Rings
 pub mod Lacks
 pub mod Rounds
 pub mod Waits

@@ -17,12 +17,23 @@ use geos_image::MOST_INSTRS;
 use geos_rows::{Body, Table, two_tables};
 use std::alloc::{AllocError, Global};
 
+/// Why a nest is to be paid for again: the counter of another is set in it, for LOOPs that pay in that one, and a unit of it pays for more.
+#[derive(Clone, Copy)]
+pub struct Wait {
+    /// The other nest.
+    pub on: u16,
+    /// The place from which an edge sets its counter.
+    pub at: u16,
+    /// The round over the nests in which this was noted.
+    pub(crate) round: u32,
+}
+
 /// Places among which control goes round.
 #[derive(Clone, Copy)]
 pub struct Nest {
     pub piece: Piece,
     /// The counter whose LOOPs pay.
-    pub(crate) counter: u8,
+    pub counter: u8,
     /// The nest around it.
     pub(crate) around: Option<u16>,
     /// How many are around it.
@@ -32,7 +43,9 @@ pub struct Nest {
     /// Whether it is to be paid for.
     pub(crate) due: bool,
     /// The last round over the nests in which one in it was left to the next.
-    pub(crate) put_off: u16,
+    pub(crate) put_off: u32,
+    /// For which other one it was last to be paid for again.
+    pub due_by: Option<Wait>,
     /// How often it was paid for.
     pub paid: u16,
 }
@@ -46,8 +59,17 @@ impl Nest {
         tight: false,
         due: false,
         put_off: 0,
+        due_by: None,
         paid: 0,
     };
+
+    /// Whether it was last to be paid for again for another nest, as that is paid for in a round.
+    pub(crate) fn is_due_by(&self, on: u16, round: u32) -> bool {
+        match self.due_by {
+            Some(wait) => wait.on == on && wait.round == round,
+            None => false,
+        }
+    }
 }
 
 /// A component that is to be a nest.

@@ -8,44 +8,75 @@ ghost use Rattle.geos_potentials.specs.Ranks.{AllRise, AreIdleNoted};
 use crate::classes::Classes;
 use crate::graph::Graph;
 use crate::idle::{are_noted, lead_idle};
+use crate::pile::Pile;
 use crate::spent::Touching;
-use geos_rows::{Body, Known, Table};
+use geos_rows::{Body, Known, Table, two_tables};
 use std::alloc::{AllocError, Global};
 
 /// The rank of each place.
 type Ranks = Table<u16>;
 
-/// Where an edge leads has a higher rank than where it begins; whether it had none.
-fn rank_behind(body: &Body, classes: &Classes, ranks: &mut Ranks, pc: u16, branch: bool) -> bool
+/// One more edge leads to where one does.
+fn count_edge(body: &Body, classes: &Classes, into: &mut Table<u16>, pc: u16, branch: bool)
     requires above { body.now.start ≤ pc }
     requires below { pc < body.now.end }
 {
-    let Some(to) = lead_idle(body, classes, pc, branch) else {
-        return false;
-    };
-    let rank = ranks.at(pc).saturating_add(1);
-    if rank <= ranks.at(to) {
-        return false;
+    if let Some(to) = lead_idle(body, classes, pc, branch) {
+        into.set(to, into.at(to).saturating_add(1));
     }
-    ranks.set(to, rank);
-    true
 }
 
-/// Ranks rise along each edge once; whether some did not before.
-fn rank_once(body: &Body, classes: &Classes, ranks: &mut Ranks) -> bool {
-    let mut further = false;
+/// One edge less leads to where one does; that place waits where none is left.
+fn pass_edge(
+    body: &Body,
+    classes: &Classes,
+    into: &mut Table<u16>,
+    waits: &mut Pile,
+    pc: u16,
+    branch: bool,
+)
+    requires above { body.now.start ≤ pc }
+    requires below { pc < body.now.end }
+{
+    if let Some(to) = lead_idle(body, classes, pc, branch) {
+        let left = into.at(to).saturating_sub(1);
+        into.set(to, left);
+        if left == 0 {
+            waits.put(to);
+        }
+    }
+}
+
+/// Counts the edges into each place; those that none leads to wait.
+fn count_edges(body: &Body, classes: &Classes, into: &mut Table<u16>, waits: &mut Pile) {
     for pc in body.start..body.end {
-        further |= rank_behind(body, classes, ranks, pc, false);
-        further |= rank_behind(body, classes, ranks, pc, true);
+        count_edge(body, classes, into, pc, false);
+        count_edge(body, classes, into, pc, true);
     }
-    further
+    for pc in body.start..body.end {
+        if into.at(pc) == 0 {
+            waits.put(pc);
+        }
+    }
 }
 
-/// The same until none changes. Where control can't go round along these edges, a rank is at most how many places there are.
-fn rank_all(body: &Body, classes: &Classes, ranks: &mut Ranks) {
-    for _ in body.start..body.end {
-        if !rank_once(body, classes, ranks) {
+/// Each place has a higher rank than those that lead to it, if control can't go round along these edges: it is ranked when all of them are.
+fn rank_all(
+    body: &Body,
+    classes: &Classes,
+    ranks: &mut Ranks,
+    into: &mut Table<u16>,
+    waits: &mut Pile,
+) {
+    count_edges(body, classes, into, waits);
+    for rank in body.start..body.end {
+        let Some(pc) = waits.take() else {
             return;
+        };
+        ranks.set(pc, rank);
+        if body.start <= pc && pc < body.end {
+            pass_edge(body, classes, into, waits, pc, false);
+            pass_edge(body, classes, into, waits, pc, true);
         }
     }
 }
@@ -82,8 +113,9 @@ fn some_may_pay(alloc: Global, body: &Body, classes: &Classes) -> Result<bool, A
     requires { AreIdleNoted body.now.image.now body.now.r classes.now }
     ensures { IfOk result (λ some. some ≡ true → IsNeverPaid body.now.image.now body.now.r → ⊥) }
 {
-    let mut ranks = Ranks::new(alloc, 0)?;
-    rank_all(body, classes, &mut ranks);
+    let (mut ranks, mut into) = two_tables(alloc, 0, 0)?;
+    let mut waits = Pile::new(alloc)?;
+    rank_all(body, classes, &mut ranks, &mut into, &mut waits);
     Ok(all_rise(body, classes, &ranks))
 }
 

@@ -4,7 +4,7 @@ ghost use Rattle.std.specs.Prelude.{◌≡◌, ◌≢◌, ◌<◌, ◌≤◌, �
 ghost use Rattle.geos_potentials.specs.Arcs.{IsLink, unit_at, price_of, paid_by};
 ghost use Rattle.geos_potentials.specs.Carried.{AreCarried, AreHeld, Carries, NoneHeld, StayCarried};
 ghost use Rattle.geos_potentials.specs.Demands.{AreWanted, HaveGrown, StayWanted};
-ghost use Rattle.geos_potentials.specs.Lacks.{IsLack, SomeIsDue, PricePasses};
+ghost use Rattle.geos_potentials.specs.Lacks.{IsLack, PricePasses};
 ghost use Rattle.geos_potentials.specs.Least.{StayAtLoops};
 ghost use Rattle.geos_potentials.specs.Led.{AreLed};
 ghost use Rattle.geos_potentials.specs.Waits.{HaveRisen};
@@ -14,17 +14,18 @@ use crate::arcs::{Arc, Counting};
 use crate::graph::Graph;
 use crate::jumps::Jumps;
 use crate::lengths::{Lengths, Link, Share};
-use crate::nests::{Nests, Splitting};
+use crate::nests::{Splitting, Wait};
 use crate::paying::Paying;
 use crate::pieces::Piece;
 use crate::pile::Pile;
+use crate::ring::find_ring;
 use crate::spread::{Spread, go_back, go_back_free, go_back_from, number_of, only, raise};
 use geos_image::MOST_INSTRS;
 use geos_rows::two_tables;
 use std::alloc::{AllocError, Global};
 
-/// How often the nests are gone over.
-const ROUNDS: u16 = 64;
+/// After so many rounds over the nests it is first looked for some that wait on each other in a ring, and then each time after twice as many.
+const ROUNDS: u32 = 64;
 
 /// How many edges are looked at in all: some 2 s. Of the texts that were made to hurt none took a third of that.
 pub(crate) const LOOKS: u32 = 1 << 27;
@@ -36,8 +37,8 @@ pub enum Lack {
     SetWithin(Piece),
     /// What a unit pays for, or what it costs to set its counter, is past what a potential can say.
     Passes,
-    /// A nest is still to be paid for after 64 rounds over all.
-    InTurn,
+    /// Nests wait on each other in a ring, this one among them.
+    InTurn(u16),
     /// A way round in a nest lacks something, and takes no unit of a LOOP that could be raised.
     NoShare,
     /// Too many edges were looked at.
@@ -54,18 +55,6 @@ pub struct Units {
     pub(crate) before: Spread,
     waits: Pile,
     looks: u32,
-}
-
-/// Whether some nest is to be paid for.
-fn some_due(nests: &Nests) -> bool
-    ensures { result ≡ true → SomeIsDue nests.now }
-{
-    for id in 0..nests.count().min(MOST_INSTRS) {
-        if nests.at(id).due {
-            return true;
-        }
-    }
-    false
 }
 
 impl Units {
@@ -87,10 +76,21 @@ impl Units {
         ensures lengths { self.new.lengths ≡ self.old.lengths }
         ensures pay { self.new.pay ≡ self.old.pay }
         ensures more { result ≡ true → self.old.looks < self.new.looks }
+        ensures few { result ≡ true → self.new.looks ≤ LOOKS }
         ensures past { result ≡ false → LOOKS < self.new.looks }
     {
         self.looks = self.looks.saturating_add(edges.max(1));
         self.looks <= LOOKS
+    }
+
+    /// Whether one more round over so many nests may be begun: as many edges were looked at as rounds were begun, at least.
+    fn begins(&mut self, round: u32, nests: u16) -> bool
+        ensures pay { self.new.pay ≡ self.old.pay }
+        ensures few { result ≡ true → round ≤ LOOKS }
+        ensures past { result ≡ false → LOOKS < self.new.looks }
+    {
+        self.looks = self.looks.max(round);
+        self.look(u32::from(nests))
     }
 
     /// The unit of a counter at a place.
@@ -176,6 +176,8 @@ impl Units {
     fn note_before(&mut self, graph: &Graph, splitting: &Splitting, paying: &Paying)
         ensures { self.new.pay ≡ self.old.pay }
     {
+        // It may go back over all edges.
+        self.looks = self.looks.saturating_add(u32::from(MOST_INSTRS));
         self.before.fill_from(0, [0; 4]);
         let piece = &paying.nest.piece;
         for x in piece.begin..piece.end {
@@ -189,8 +191,8 @@ impl Units {
     }
 
     /// Nests around a place where a counter is set are to be paid for, where that has grown dearer while a nest was paid for; those around
-    /// one that is left to the next round are left to that, too.
-    fn note_due(&self, splitting: &mut Splitting, paying: &Paying, round: u16, pc: u16)
+    /// one that is left to the next round are left to that, too. It ends at one of which both are noted already, and so of those around it.
+    fn note_due(&self, splitting: &mut Splitting, paying: &Paying, round: u32, pc: u16)
         requires { pc < 4096 }
         ensures { splitting.new.jumps ≡ splitting.old.jumps }
     {
@@ -205,11 +207,22 @@ impl Units {
                 return;
             }
             let mut nest = splitting.nests.at(id);
+            if nest.is_due_by(paying.id, round) && (!left || nest.put_off == round) {
+                return;
+            }
             if left {
                 nest.put_off = round;
             }
             if !(inner && nest.tight && id == paying.id) {
                 nest.due = true;
+            }
+            if id != paying.id {
+                let wait = Wait {
+                    on: paying.id,
+                    at: pc,
+                    round,
+                };
+                nest.due_by = Some(wait);
             }
             splitting.nests.set(id, nest);
             left |= paying.id < id;
@@ -225,7 +238,7 @@ impl Units {
         graph: &Graph,
         splitting: &mut Splitting,
         paying: &Paying,
-        round: u16,
+        round: u32,
         to: u16,
     ) -> bool
         requires { to < 4096 }
@@ -258,7 +271,7 @@ impl Units {
         graph: &Graph,
         splitting: &mut Splitting,
         paying: &Paying,
-        round: u16,
+        round: u32,
     ) -> Result<(), Lack>
         ensures wanted { StayWanted graph.now.arcs self.old.pay self.new.pay }
         ensures carried { Carries graph.now NoneHeld self.old.pay self.new.pay self.old.waits }
@@ -268,6 +281,7 @@ impl Units {
     {
         let mut fits = true;
         while let Some(pc) = self.waits.take() {
+            self.looks = self.looks.saturating_add(1);
             fits &= self.note_dearer(graph, splitting, paying, round, pc);
             go_back_from(graph, &mut self.pay, &mut self.waits, pc);
         }
@@ -280,7 +294,7 @@ impl Units {
         graph: &Graph,
         splitting: &mut Splitting,
         paying: &Paying,
-        round: u16,
+        round: u32,
     ) -> Result<(), Lack>
         ensures wanted { StayWanted graph.now.arcs self.old.pay self.new.pay }
         ensures carried { StayCarried graph.now self.old.pay self.new.pay }
@@ -304,7 +318,7 @@ impl Units {
         graph: &Graph,
         splitting: &mut Splitting,
         id: u16,
-        round: u16,
+        round: u32,
     ) -> Result<(), Lack>
         requires { id < 4096 }
         ensures wanted { StayWanted graph.now.arcs self.old.pay self.new.pay }
@@ -332,7 +346,7 @@ impl Units {
         &mut self,
         graph: &Graph,
         splitting: &mut Splitting,
-        round: u16,
+        round: u32,
     ) -> Result<bool, Lack>
         ensures wanted { StayWanted graph.now.arcs self.old.pay self.new.pay }
         ensures carried { StayCarried graph.now self.old.pay self.new.pay }
@@ -353,7 +367,8 @@ impl Units {
         Ok(some)
     }
 
-    /// Pays for all nests of a routine. Whatever a unit pays for at a place is wanted by a LOOP.
+    /// Pays for all nests of a routine, round by round, until none is to be paid for, or nests that still are wait on each other in a ring.
+    /// Whatever a unit pays for at a place is wanted by a LOOP.
     pub(crate) fn pay_all(
         &mut self,
         start: u16,
@@ -372,15 +387,21 @@ impl Units {
         // For what its law says.
         self.pay.lengths();
         self.lengths.clear(start);
-        for round in 1..ROUNDS + 1 {
+        let mut round = 1;
+        let mut look_at = ROUNDS;
+        while self.begins(round, splitting.nests.count()) {
             if !self.pay_round(graph, splitting, round)? {
                 return Ok(());
             }
+            if round == look_at {
+                let ring = find_ring(graph, splitting, round, &mut self.before, &mut self.waits);
+                if let Some(id) = ring {
+                    return Err(Lack::InTurn(id));
+                }
+                look_at = look_at.saturating_mul(2);
+            }
+            round += 1;
         }
-        if some_due(&splitting.nests) {
-            Err(Lack::InTurn)
-        } else {
-            Ok(())
-        }
+        Err(Lack::Looks)
     }
 }

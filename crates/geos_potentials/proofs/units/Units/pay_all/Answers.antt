@@ -1,10 +1,15 @@
-use Rattle.std.proofs.Common.{refl, ◌∙◌}
+use Rattle.std.proofs.Common.{◌≡◌, [], refl, sym, ap, subst, ◌∙◌}
+use Rattle.geos_potentials.specs.Carried.{AreCarried, NoneHeld}
+use Rattle.geos_potentials.specs.Demands.{AreWanted}
+use Rattle.geos_potentials.specs.Within.{StayWithinLoops, pays}
+use Rattle.geos_potentials.specs.declared.units.Units.{Units}
 use Rattle.geos_potentials.proofs.Demand.{filled-wanted}
 use Rattle.geos_potentials.proofs.Within.{filled-carried, filled-within, paid-more}
+use Rattle.geos_potentials.proofs.units.Units.pay_all.Goals.{then-round-look_at+in_default, else-round-look_at}
 use Rattle.geos_potentials.proofs.units.Units.pay_all.Goals as goal
 
-pub loop-round-init : goal.loop-round-init
-loop-round-init c =
+pub loop-self-init : goal.loop-self-init
+loop-self-init c =
     let arcs = c.args.graph.now.arcs in
     let pay = c.fill_from.new.self in record {
       wanted = filled-wanted arcs pay c.lengths.ensures c.fill_from.ensures.same;
@@ -13,19 +18,43 @@ loop-round-init c =
       jumps = refl;
     }
 
+pub returns-clause-within : goal.returns-clause-within
+returns-clause-within c = subst (StayWithinLoops c.args.graph.now.arcs c.args.splitting.now.jumps pays []) (sym c.begins.ensures.pay)
+    c.loop-self.invariant.within
+
 pub returns-in_err-pay_round-clause-within : goal.returns-in_err-pay_round-clause-within
-returns-in_err-pay_round-clause-within c = paid-more c.args.graph.now c.args.splitting.now.jumps c.loop-round.splitting.jumps c.loop-round.self.pay
-    c.pay_round.new.self.pay c.loop-round.invariant.jumps c.loop-round.invariant.within c.pay_round.ensures.within
+returns-in_err-pay_round-clause-within c = paid-more c.args.graph.now c.args.splitting.now.jumps c.loop-self.splitting.jumps c.begins.new.self.pay c.pay_round.new.self.pay
+    c.loop-self.invariant.jumps
+    (subst (StayWithinLoops c.args.graph.now.arcs c.args.splitting.now.jumps pays []) (sym c.begins.ensures.pay) c.loop-self.invariant.within)
+    c.pay_round.ensures.within
 
 pub returns-then-not-branch-clause-within : goal.returns-then-not-branch-clause-within
-returns-then-not-branch-clause-within c = paid-more c.args.graph.now c.args.splitting.now.jumps c.loop-round.splitting.jumps c.loop-round.self.pay
-    c.pay_round.new.self.pay c.loop-round.invariant.jumps c.loop-round.invariant.within c.pay_round.ensures.within
+returns-then-not-branch-clause-within c = paid-more c.args.graph.now c.args.splitting.now.jumps c.loop-self.splitting.jumps c.begins.new.self.pay c.pay_round.new.self.pay
+    c.loop-self.invariant.jumps
+    (subst (StayWithinLoops c.args.graph.now.arcs c.args.splitting.now.jumps pays []) (sym c.begins.ensures.pay) c.loop-self.invariant.within)
+    c.pay_round.ensures.within
 
-pub loop-round-preserved : goal.loop-round-preserved
-loop-round-preserved c = record {
-  wanted = c.pay_round.ensures.wanted c.loop-round.invariant.wanted;
-  carried = λ led. c.pay_round.ensures.carried led (c.loop-round.invariant.carried led);
-  within = paid-more c.args.graph.now c.args.splitting.now.jumps c.loop-round.splitting.jumps c.loop-round.self.pay
-      c.pay_round.new.self.pay c.loop-round.invariant.jumps c.loop-round.invariant.within c.pay_round.ensures.within;
-  jumps = c.pay_round.ensures.jumps ∙ c.loop-round.invariant.jumps;
-}
+pub returns-in-Some-clause-within : goal.returns-in-Some-clause-within
+returns-in-Some-clause-within c = paid-more c.args.graph.now c.args.splitting.now.jumps c.loop-self.splitting.jumps c.begins.new.self.pay c.pay_round.new.self.pay
+    c.loop-self.invariant.jumps
+    (subst (StayWithinLoops c.args.graph.now.arcs c.args.splitting.now.jumps pays []) (sym c.begins.ensures.pay) c.loop-self.invariant.within)
+    c.pay_round.ensures.within
+
+pub loop-self-preserved : goal.loop-self-preserved
+loop-self-preserved c =
+    let arcs = c.args.graph.now.arcs in
+    let jumps = c.args.splitting.now.jumps in
+    let began = sym c.begins.ensures.pay in
+    let inv = c.loop-self.invariant in
+    let paid : c.pay_round.new.self.pay ≡ c.if-round-look_at.self.pay = elim c.if-round-look_at.branch [
+      | then-round-look_at+in_default w ↦ sym (ap (λ (u : Units). u.pay) w.self-is)
+      | else-round-look_at w ↦ sym (ap (λ (u : Units). u.pay) w.self-is)
+    ] in record {
+      wanted = subst (AreWanted arcs) paid (c.pay_round.ensures.wanted (subst (AreWanted arcs) began inv.wanted));
+      carried = λ led. subst (AreCarried arcs NoneHeld) paid
+          (c.pay_round.ensures.carried led (subst (AreCarried arcs NoneHeld) began (inv.carried led)));
+      within = subst (StayWithinLoops arcs jumps pays []) paid
+          (paid-more c.args.graph.now jumps c.loop-self.splitting.jumps c.begins.new.self.pay c.pay_round.new.self.pay inv.jumps
+          (subst (StayWithinLoops arcs jumps pays []) began inv.within) c.pay_round.ensures.within);
+      jumps = c.pay_round.ensures.jumps ∙ inv.jumps;
+    }

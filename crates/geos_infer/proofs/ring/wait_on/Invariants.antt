@@ -1,0 +1,13 @@
+use Rattle.std.proofs.Common.{◌<◌, List}
+use Rattle.geos_infer.specs.Causes.{WaitOn}
+use Rattle.geos_potentials.specs.declared.unpaid.BackWay.{BackWay}
+use Rattle.geos_infer.proofs.ring.wait_on.Given as goal
+
+-- loops from the first one on wait each for the next
+abbrev pub invariant-loop : goal.invariant-loop
+invariant-loop l = record {
+  from : l.back.from < 4096;
+  to : l.back.to < 4096;
+  others : List BackWay;
+  rest : WaitOn l.body.image.now l.body.r l.from others l.back;
+}

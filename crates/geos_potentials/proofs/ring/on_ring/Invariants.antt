@@ -1,0 +1,5 @@
+use Rattle.std.proofs.Common.{◌<◌}
+use Rattle.geos_potentials.proofs.ring.on_ring.Given as goal
+
+abbrev pub invariant-loop : goal.invariant-loop
+invariant-loop l = l.id < 4096
