@@ -15,11 +15,7 @@ use vm_file::{FileDevice, VmFile};
 pub(crate) fn session<'a>(rt: &HostRuntime) -> Result<(), RequestFault<'a>> {
     keep_from_output(rt, STANDARD)?;
     let mut out = output(rt)?;
-    Ok(run_session(
-        rt.alloc(),
-        &mut Counted::new(rt.stdin()),
-        &mut out,
-    )?)
+    Ok(run_session(rt.alloc(), &mut Counted::new(rt.stdin()), &mut out)?)
 }
 
 /// Runs a script with an image on an open VM file, with so many bytes for blocks in memory.

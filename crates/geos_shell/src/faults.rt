@@ -1,7 +1,7 @@
 //! Requests on files that standard error goes into.
 
-use crate::kept::begins_as_vm_file;
 use crate::file_id::regular_at;
+use crate::kept::begins_as_vm_file;
 use crate::output::faults_go_into;
 use crate::request::{ChunkPath, FileRequest, Request, RoutineRequest, TextRequest};
 use crate::streams::{STANDARD, is_stream, name_of};
@@ -46,7 +46,10 @@ impl RoutineRequest<'_> {
         match self {
             RoutineRequest::Session => are_in_read(rt, STANDARD),
             RoutineRequest::Call {
-                image, call, file, ..
+                image,
+                call,
+                file,
+                ..
             } => {
                 are_in_any(rt, *file)
                     || are_in_read(rt, image)
