@@ -48,6 +48,12 @@ silent /dev/null wrong budget wrong
 for command in list check explain; do silent /dev/null wrong $command wrong; done
 silent /dev/null script explain text --script script
 
+silent /dev/null book.vm dump book.vm --bogus
+silent /dev/null book.vm get book.vm x 16
+silent /dev/null book.vm call text nope --file=book.vm --region=1
+silent /dev/null text asm text text
+silent text text call -
+
 # Any other file takes faults.
 "$program" call text nope --file book.vm 2>>log
 "$program" asm wrong log 2>>log

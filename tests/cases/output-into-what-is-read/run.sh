@@ -41,6 +41,7 @@ refused /dev/null book.vm run kept.image book.vm script
 refused /dev/null kept.image run kept.image book.vm script
 refused /dev/null script run kept.image book.vm script
 refused script script run kept.image book.vm -
+refused script script
 
 # Any other file is printed into, and so is a device.
 "$program" asm text image
