@@ -22,5 +22,6 @@ pub mod Sessions
 pub mod SpacedWords
 pub mod StepsKeep
 pub mod TracedRuns
+pub mod KeptNames
 pub mod LentLocks
 pub mod LentRuns

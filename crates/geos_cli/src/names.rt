@@ -17,13 +17,12 @@ fn word_of(name: &[u8], names: &[Kept]) -> Option<u16>
     ensures { result ≡ word_of name.now (names_of names.now) }
 {
     let mark = mark_of(name);
-    let mut found = None;
-    for kept in names {
-        if kept.is_under(name, mark) {
-            found = kept.word;
+    for at in (0..names.len()).rev() {
+        if names[at].is_under(name, mark) {
+            return names[at].word;
         }
     }
-    found
+    None
 }
 
 /// Writes the number that stands in the place of `$name`, and any other word as it is. `false` where the name has none.
