@@ -224,6 +224,42 @@ def run_scripts(program, folder):
         before = min(times)
 
 
+MOST_SCRIPT = 1_048_576
+# Control goes round at `a` with a counter that nothing sets, and what a unit of k1 costs passes 32 bits.
+UNFOUND = ["a: LOOP k0 a", "SETKW k1 w2", "b: SETK k3 60000", "LOOP k1 b", "c: OUT w0 d", "LOOP k3 c", *[ADD] * 4080, "d: RET"]
+
+
+def filled(keeps, use):
+    """A script as long as one may be: lines that keep names, and then one line again and again."""
+    lines = list(keeps)
+    lines += [use] * ((MOST_SCRIPT - sum(len(line) + 1 for line in lines)) // (len(use) + 1))
+    return "".join(line + "\n" for line in lines).encode()
+
+
+def look_at_texts(program, folder):
+    """A line for a text that has no steps, and for scripts of as many names as there may be."""
+    text = folder / "text.asm"
+    text.write_text("\n".join([HEAD, *UNFOUND]) + "\n")
+    base = least([program, "asm", text, folder / "image"])
+    print(f"`explain` of 4,087 instructions for which no steps are found: {shown(least([program, 'explain', text]), base)} of `asm`")
+    text.write_text("routine a public budget 2\nOUT w0 x\nx: RET\n")
+    before = None
+    for name, script in {
+        "1 MiB of calls without names": filled([], "call a 1"),
+        "1,024 words under one name": filled(["call a 1 -> x"] * 1024, "call a " + " ".join(["$x"] * 8)),
+        "1,024 names of eight letters": filled(
+            [f"call a 1 -> aaaa{i:04}" for i in range(1024)], "call a " + " ".join(["$aaaa0000"] * 8)
+        ),
+    }.items():
+        times = []
+        for _ in range(RUNS):
+            start = time.perf_counter()
+            subprocess.run([program, "call", text], input=script, stdout=subprocess.PIPE, check=True)
+            times.append(time.perf_counter() - start)
+        print(f"{name}: {shown(min(times), before or min(times))}")
+        before = before or min(times)
+
+
 HANDLES = range(1, 1025)
 # Lines for a kernel whose region has the blocks of all handles, of 8,192 or of 16,384 bytes, each locked once; and for one of which every
 # second block is gone, so that there are as many gaps.
@@ -265,6 +301,7 @@ def main():
     program, trials = sys.argv[1:]
     with tempfile.TemporaryDirectory() as folder:
         past = look_at_images(program, Path(folder))
+        look_at_texts(program, Path(folder))
         run_scripts(program, Path(folder))
         run_on_kernel(program, trials, Path(folder))
     if past:
