@@ -6,7 +6,7 @@ use Rattle.geos_image.specs.declared.row.SlotState.TheVariants.{Empty}
 use Rattle.geos_listing.specs.Rows.{texts_below, state_word}
 use Rattle.geos_verify.specs.Rows.{is_empty}
 use Rattle.geos_rows.specs.Joins.{slots_agree}
-use Rattle.geos_rows.specs.declared.edges.Edge.{Edge}
+use Rattle.geos_flow.specs.declared.edge.Edge.{Edge}
 use Rattle.geos_rows.specs.declared.apart.Apart.{Apart}
 use Rattle.geos_rows.specs.declared.apart.Coming.{Coming}
 use Rattle.geos_potentials.specs.declared.unpaid.BackWay.{BackWay}
@@ -35,7 +35,7 @@ differing_items n slots others = texts_below n (λ i. differing_item i (slice_in
 -- control comes from the instruction at a pc
 abbrev pub is_from : Option Edge → ℕ → Bool
 is_from None pc = false
-is_from (Some edge) pc = edge.pc == pc
+is_from (Some edge) pc = edge.from == pc
 
 -- where an instruction is refused
 unfoldable pub refusal_text : List ℕ → ℕ → List ℕ
@@ -43,7 +43,7 @@ refusal_text lines pc = codes " where" ++ pc_text lines pc ++ codes " is refused
 
 -- where an edge comes from; where another comes from the same instruction, which of the two is that of its refusal
 abbrev pub edge_text : List ℕ → Edge → Option Edge → List ℕ
-edge_text lines edge other = if edge.branch && is_from other edge.pc then refusal_text lines edge.pc else pc_text lines edge.pc ++ codes ":"
+edge_text lines edge other = if edge.branch && is_from other edge.from then refusal_text lines edge.from else pc_text lines edge.from ++ codes ":"
 
 -- where control comes from, beside another way
 unfoldable pub coming_from : List ℕ → Coming → Coming → List ℕ

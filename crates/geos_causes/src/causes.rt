@@ -8,10 +8,9 @@ ghost use Rattle.geos_causes.specs.Causes.{back_text, within_text, cause_words, 
 
 use crate::emptied::{put_emptied_items, slots_agree};
 use geos_explain::pc_part;
+use geos_flow::Edge;
 use geos_image::SlotState;
-use geos_infer::{
-    Apart, BackWay, ByNumber, ByWord, Cause, Coming, Edge, LoopPair, LoopRing, Within,
-};
+use geos_infer::{Apart, BackWay, ByNumber, ByWord, Cause, Coming, LoopPair, LoopRing, Within};
 use geos_listing::state_word;
 use geos_text::{Part, put_parts};
 use geos_verify::is_empty;
@@ -56,7 +55,7 @@ fn is_from(edge: Option<Edge>, pc: u16) -> bool
     ensures { result ≡ is_from edge pc }
 {
     match edge {
-        Some(edge) => edge.pc == pc,
+        Some(edge) => edge.from == pc,
         None => false,
     }
 }
@@ -71,8 +70,8 @@ fn put_edge(
 ) -> Result<(), AllocError>
     ensures { OnOk result (out.new.items ≡ out.old.items ++ edge_text lines.now edge other) }
 {
-    let place = pc_part(lines, edge.pc);
-    if edge.branch && is_from(other, edge.pc) {
+    let place = pc_part(lines, edge.from);
+    if edge.branch && is_from(other, edge.from) {
         put_parts(
             out,
             &[Part::Text(" where"), place, Part::Text(" is refused:")],

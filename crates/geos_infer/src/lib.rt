@@ -21,6 +21,6 @@ pub use cause::{ByNumber, ByWord, Cause, LoopPair, LoopRing, Within};
 pub use diagnosis::{find_cause, no_other_cause_holds, none_is_accepted_for};
 pub use error::InferError;
 pub use geos_potentials::BackWay;
-pub use geos_rows::{Apart, Coming, Edge, Emptied, clean, join};
+pub use geos_rows::{Apart, Coming, Emptied, clean, join};
 pub use inference::{infer, kept_rows_hold, rows_that_hold_pass};
 pub use turns::none_is_accepted_past;

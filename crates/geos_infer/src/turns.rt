@@ -10,7 +10,7 @@ use crate::counters::{
 };
 use crate::reach::{Reach, Reached, note};
 use geos_potentials::{taken_at, touched_by};
-use geos_rows::{Body, Edge, Known, edge_in, is_loop, two_tables};
+use geos_rows::{Body, Known, Lead, edge_in, is_loop, two_tables};
 use geos_verify::Touched;
 use std::alloc::{AllocError, Global};
 
@@ -112,13 +112,13 @@ fn go_along(loops: &Loops, pc: u16, branch: bool, reach: &Reach) -> Option<Reach
 
 /// Whether ways go along an edge from a pc: one that leads ahead, no further than to another; or of far ways each that is no LOOP's way to its
 /// target.
-fn is_followed(loops: &Loops, pc: u16, edge: Edge, high: u16) -> bool
+fn is_followed(loops: &Loops, pc: u16, lead: Lead, high: u16) -> bool
     requires { pc < loops.now.body.end }
 {
     if loops.far {
-        !edge.branch || !is_loop(loops.body.image.instr(pc).opcode)
+        !lead.edge.branch || !is_loop(loops.body.image.instr(pc).opcode)
     } else {
-        pc < edge.to && edge.to <= high
+        pc < lead.to && lead.to <= high
     }
 }
 
@@ -133,14 +133,14 @@ fn go(loops: &Loops, reached: &mut Reached, pc: u16, branch: bool, high: u16)
     let Some(reach) = reached.at(pc) else {
         return;
     };
-    let Some(edge) = edge_in(&loops.body, pc, branch) else {
+    let Some(lead) = edge_in(&loops.body, pc, branch) else {
         return;
     };
-    if !is_followed(loops, pc, edge, high) {
+    if !is_followed(loops, pc, lead, high) {
         return;
     }
     if let Some(next) = go_along(loops, pc, branch, &reach) {
-        note(reached, &loops.longest, edge.to, &next);
+        note(reached, &loops.longest, lead.to, &next);
     }
 }
 

@@ -16,7 +16,7 @@ use Rattle.geos_verify.specs.Rows.{bound, has_edge}
 use Rattle.geos_verify.specs.Touched.{calls}
 use Rattle.geos_verify.specs.Potentials.{asks, asks_setting, asked_along, asked_branching, budget_of}
 use Rattle.geos_verify.proofs.Places.{item_at, if_some}
-use Rattle.geos_rows.specs.declared.edges.Edge.{Edge}
+use Rattle.geos_rows.specs.declared.edges.Lead.{Lead}
 use Rattle.geos_rows.specs.Edges.{leads_ahead, edge_ahead}
 use Rattle.geos_potentials.specs.Numbers.{Numbers, zeros}
 use Rattle.geos_potentials.specs.Count.{edge_steps, return_steps, steps_at, ZerosFrom, asked_steps, asked_coefficients, AsksFor, HasSteps}
@@ -79,21 +79,21 @@ module _ (image : Parts) (limit pc : ℕ) (branch : Bool) (lt : pc < length imag
       let P : Option Point → Type 0 = λ o. IfSome o (λ point. AsksFor (edge_steps image limit pc point.instr branch steps) None) in
       subst P (sym found.1) (record { steps = nothing; zero = refl })
 
-  pub asks-some : (edge : Edge) (asked : Asked) (i : Instr) (row : Row) (q : Potential) (numbers : Numbers)
-      → ZerosFrom image limit (pc + 1) numbers.coefficients → edge.to < limit
-      → IfSome (slice_get image.points pc) (λ point. Some edge ≡ edge_ahead limit pc point.instr branch)
+  pub asks-some : (lead : Lead) (asked : Asked) (i : Instr) (row : Row) (q : Potential) (numbers : Numbers)
+      → ZerosFrom image limit (pc + 1) numbers.coefficients → lead.to < limit
+      → IfSome (slice_get image.points pc) (λ point. Some lead ≡ edge_ahead limit pc point.instr branch)
       → IfSome (slice_get image.points pc) (λ point. i ≡ point.instr)
-      → q.constant ≡ get_or numbers.steps edge.to 0 → q.coefficients ≡ get_or numbers.coefficients edge.to []
+      → q.constant ≡ get_or numbers.steps lead.to 0 → q.coefficients ≡ get_or numbers.coefficients lead.to []
       → asked ≡ (if branch then asked_branching i i.opcode q else asked_along image i i.opcode row q)
       → IfSome (slice_get image.points pc) (λ point. AsksFor (edge_steps image limit pc point.instr branch numbers.steps) (Some asked))
-  asks-some edge asked i row q numbers none within h there constant coefficients is =
-      let found = read-ahead image limit pc branch lt edge h in
+  asks-some lead asked i row q numbers none within h there constant coefficients is =
+      let found = read-ahead image limit pc branch lt lead h in
       let same : i ≡ found.0.instr = if_some (λ point. i ≡ point.instr) (slice_get image.points pc) found.0 found.1 there in
-      let free : q.coefficients ≡ zeros = coefficients ∙ none.each edge.to (let later = found.4 in omega arith) within in
+      let free : q.coefficients ≡ zeros = coefficients ∙ none.each lead.to (let later = found.4 in omega arith) within in
       let has : has_edge i branch ≡ true = ap (λ x. has_edge x branch) same ∙ found.5 in
       let asked_is : AsksFor (q.constant + 1 + call_steps image i) (Some asked) =
       subst (λ (a : Asked). AsksFor (q.constant + 1 + call_steps image i) (Some a)) (sym is) (by_branch branch has free) in
-      let steps : edge_steps image limit pc found.0.instr branch numbers.steps ≡ get_or numbers.steps edge.to
+      let steps : edge_steps image limit pc found.0.instr branch numbers.steps ≡ get_or numbers.steps lead.to
       0 + 1 + call_steps image found.0.instr = rw (found.2, found.3) refl in
       let calls_it : call_steps image i ≡ call_steps image found.0.instr = ap (call_steps image) same in
       let number : q.constant + 1 + call_steps image i ≡ edge_steps image limit pc found.0.instr branch numbers.steps =

@@ -8,38 +8,39 @@ use Rattle.geos_image.specs.Parts.{Parts}
 use Rattle.geos_verify.specs.Rows.{after}
 use Rattle.geos_rows.specs.Code.{IsPcOf}
 use Rattle.geos_rows.specs.declared.apart.Coming.{Coming}
-use Rattle.geos_rows.specs.declared.edges.Edge.{Edge}
+use Rattle.geos_flow.specs.declared.edge.Edge.{Edge}
+use Rattle.geos_rows.specs.declared.edges.Lead.{Lead}
 use Rattle.geos_rows.specs.Why.{LeadsTo, ComesFromStart, ComesBy, Comes, IsComing}
 use Rattle.geos_rows.specs.Meeting.{coming_at, AllCome}
 
 -- what comes along an edge comes to where it leads
-comes-by : (image : Parts) (r : ℕ) (edge : Edge) (row : Row) → ComesBy image r edge row → ComesFromStart image r edge.to row
-comes-by image r edge row by = record {
+comes-by : (image : Parts) (r : ℕ) (lead : Lead) (row : Row) → ComesBy image r lead row → ComesFromStart image r lead.to row
+comes-by image r lead row by = record {
   routine = by.comes.routine;
   there = by.comes.there;
-  edges = (edge.pc, edge.branch) ∷ by.comes.edges;
+  edges = (lead.edge.from, lead.edge.branch) ∷ by.comes.edges;
   way = (by.before, by.comes.way, by.leads, by.stays, by.row_is);
 }
 
 comes-from : (image : Parts) (r to : ℕ) (from : Option Edge) (row : Row) → Comes image r to from row
     → ComesFromStart image r to row
 comes-from image r to None row begins = record { routine = begins.routine; there = begins.there; edges = []; way = (begins.start, begins.row_is) }
-comes-from image r to (Some edge) row by = subst (λ (n : ℕ). ComesFromStart image r n row) by.0 (comes-by image r edge row by.1)
+comes-from image r to (Some edge) row by = comes-by image r (record { edge = edge; to = to }) row by
 
 -- what comes to a place comes from where the routine begins
 pub comes-to : (image : Parts) (r to : ℕ) (coming : Coming) → IsComing image r to coming → ComesFromStart image r to coming.row
 comes-to image r to coming comes = comes-from image r to coming.from coming.row comes.comes
 
 -- a row comes along the edge of the instruction at a pc
-pub comes-along : (image : Parts) (r pc : ℕ) (branch : Bool) (edge : Edge) (before row : Row) → edge.pc ≡ pc
-    → edge.branch ≡ branch → ComesFromStart image r pc before → LeadsTo image pc branch edge.to → IsPcOf image r edge.to
-    → row ≡ after image pc before branch → ComesBy image r edge row
-comes-along image r pc branch edge before row pc_is branch_is comes leads stays row_is = record {
+pub comes-along : (image : Parts) (r pc : ℕ) (branch : Bool) (lead : Lead) (before row : Row) → lead.edge.from ≡ pc
+    → lead.edge.branch ≡ branch → ComesFromStart image r pc before → LeadsTo image pc branch lead.to → IsPcOf image r lead.to
+    → row ≡ after image pc before branch → ComesBy image r lead row
+comes-along image r pc branch lead before row pc_is branch_is comes leads stays row_is = record {
   before = before;
   comes = subst (λ (n : ℕ). ComesFromStart image r n before) (sym pc_is) comes;
-  leads = subst (λ (n : ℕ). LeadsTo image n edge.branch edge.to) (sym pc_is) (subst (λ (b : Bool). LeadsTo image pc b edge.to) (sym branch_is) leads);
+  leads = subst (λ (n : ℕ). LeadsTo image n lead.edge.branch lead.to) (sym pc_is) (subst (λ (b : Bool). LeadsTo image pc b lead.to) (sym branch_is) leads);
   stays = stays;
-  row_is = row_is ∙ ap (λ (n : ℕ). after image n before branch) (sym pc_is) ∙ ap (after image edge.pc before) (sym branch_is);
+  row_is = row_is ∙ ap (λ (n : ℕ). after image n before branch) (sym pc_is) ∙ ap (after image lead.edge.from before) (sym branch_is);
 }
 
 all_come-within : (image : Parts) (r : ℕ) (known : List (Option Coming)) (to : ℕ) (coming : Coming) → to < length known

@@ -17,7 +17,7 @@ use Rattle.geos_rows.specs.Code.{Edge, IsPcOf, ForwardIn, instrs_of, edge_end, e
 use Rattle.geos_rows.specs.Solutions.{RowsHoldIn}
 use Rattle.geos_rows.specs.declared.flow.Arrival.{Arrival}
 use Rattle.geos_rows.specs.declared.flow.Arrival.TheVariants.{Same, Weaker, Apart}
-use Rattle.geos_rows.specs.declared.edges.Edge.{Edge as Edge_}
+use Rattle.geos_rows.specs.declared.edges.Lead.{Lead}
 use Rattle.geos_rows.specs.Flow.{known_at, KnownAt, edge_number, FitAhead, AllBelow, Flowing, AllKnown, IsJoin, HaveNoJoin, Joins, Arrives, has_joined, GoesAhead, Spreads, StaysBefore, FlowsAnew, HaveFlowed}
 use Rattle.geos_rows.specs.Why.{LeadsTo}
 use Rattle.geos_rows.proofs.Bodies.{lies}
@@ -204,21 +204,21 @@ module _ (image : Parts) (r : ℕ) (small : start_of image.routines (r + 1) ≤ 
         (λ old is. B goes.to old w.0 goes.stays is w.1) (comes goes w.0 w.1))
 
 -- what a row brings to a place goes on from there
-pub spreads-on : (image : Parts) (r pc : ℕ) (branch : Bool) (edge : Edge_) (row : Row) (known next : List (Option Row)) (arrival : Arrival)
-    → known_at known pc ≡ Some row → edge.pc ≡ pc → edge.branch ≡ branch
-    → LeadsTo image pc branch edge.to → IsPcOf image r edge.to → pc < edge.to
-    → Arrives arrival known edge.to (after image edge.pc (clean row) edge.branch) next
+pub spreads-on : (image : Parts) (r pc : ℕ) (branch : Bool) (lead : Lead) (row : Row) (known next : List (Option Row)) (arrival : Arrival)
+    → known_at known pc ≡ Some row → lead.edge.from ≡ pc → lead.edge.branch ≡ branch
+    → LeadsTo image pc branch lead.to → IsPcOf image r lead.to → pc < lead.to
+    → Arrives arrival known lead.to (after image lead.edge.from (clean row) lead.edge.branch) next
     → Spreads image r pc branch known next (has_joined arrival)
-spreads-on image r pc branch edge row known next arrival here pc_is branch_is leads inside ahead came =
-    let is : Edge (instrs_of image) pc branch edge.to leads.point.instr =
+spreads-on image r pc branch lead row known next arrival here pc_is branch_is leads inside ahead came =
+    let is : Edge (instrs_of image) pc branch lead.to leads.point.instr =
     record { read = code-at image pc leads.point leads.there; has = leads.has; leads = leads.leads } in
-    let over : after image edge.pc (clean row) edge.branch ≡ edge_row image leads.point.instr branch (clean row) =
-    ap (λ k. after image k (clean row) edge.branch) pc_is ∙ ap (λ b. after image pc (clean row) b) branch_is
+    let over : after image lead.edge.from (clean row) lead.edge.branch ≡ edge_row image leads.point.instr branch (clean row) =
+    ap (λ k. after image k (clean row) lead.edge.branch) pc_is ∙ ap (λ b. after image pc (clean row) b) branch_is
     ∙ after-edge image pc branch leads.point (clean row) leads.there in
     let goes : GoesAhead image r pc branch known = record {
       row = row;
       here = here;
-      to = edge.to;
+      to = lead.to;
       i = leads.point.instr;
       edge =
           is;
@@ -228,11 +228,11 @@ spreads-on image r pc branch edge row known next arrival here pc_is branch_is le
     inr (
       goes,
       by_arrival arrival (edge_row image leads.point.instr branch (clean row))
-          (subst (λ (x : Row). Arrives arrival known edge.to x next) over came),
+          (subst (λ (x : Row). Arrives arrival known lead.to x next) over came),
     )
   where
-    by_arrival : (a : Arrival) (row : Row) → Arrives a known edge.to row next
-        → MatchBool (has_joined a) (Joins known edge.to row next) (HaveNoJoin (known_at known edge.to) row)
+    by_arrival : (a : Arrival) (row : Row) → Arrives a known lead.to row next
+        → MatchBool (has_joined a) (Joins known lead.to row next) (HaveNoJoin (known_at known lead.to) row)
     by_arrival Same row came = came
     by_arrival Weaker row came = came
     by_arrival Apart row came = came

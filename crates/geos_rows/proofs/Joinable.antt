@@ -12,7 +12,7 @@ use Rattle.geos_verify.specs.Rows.{fits, after}
 use Rattle.geos_verify.proofs.RowsFit.{fits-refl}
 use Rattle.geos_rows.specs.declared.flow.Arrival.{Arrival}
 use Rattle.geos_rows.specs.declared.flow.Arrival.TheVariants.{Same, Weaker, Apart}
-use Rattle.geos_rows.specs.declared.edges.Edge.{Edge}
+use Rattle.geos_rows.specs.declared.edges.Lead.{Lead}
 use Rattle.geos_rows.specs.Alike.{ComesAlike, AllComeAlike, StaysAlike, GoesAlike}
 use Rattle.geos_rows.specs.Code.{IsPcOf}
 use Rattle.geos_rows.specs.Flow.{known_at, HaveNoJoin, Joins, Arrives, has_joined, Seeded}
@@ -118,18 +118,18 @@ module _ (image : Parts) (r : ℕ) where
 -- Along an edge
 
 -- the edge of an instruction is one within its routine
-pub goes-alike : (image : Parts) (r pc : ℕ) (branch : Bool) (edge : Edge) (row : Row) → edge.pc ≡ pc → edge.branch ≡ branch
-    → LeadsTo image pc branch edge.to → IsPcOf image r edge.to → ComesAlike image r pc row → GoesAlike image r edge row
-goes-alike image r pc branch edge row pc_is branch_is leads stays C = record {
+pub goes-alike : (image : Parts) (r pc : ℕ) (branch : Bool) (lead : Lead) (row : Row) → lead.edge.from ≡ pc → lead.edge.branch ≡ branch
+    → LeadsTo image pc branch lead.to → IsPcOf image r lead.to → ComesAlike image r pc row → GoesAlike image r lead row
+goes-alike image r pc branch lead row pc_is branch_is leads stays C = record {
   comes = subst (λ (n : ℕ). ComesAlike image r n row) (sym pc_is) C;
-  leads = subst (λ (n : ℕ). LeadsTo image n edge.branch edge.to) (sym pc_is) (subst (λ (b : Bool). LeadsTo image pc b edge.to) (sym branch_is) leads);
+  leads = subst (λ (n : ℕ). LeadsTo image n lead.edge.branch lead.to) (sym pc_is) (subst (λ (b : Bool). LeadsTo image pc b lead.to) (sym branch_is) leads);
   stays = stays;
 }
 
 -- what goes along it has a join with what is known where it leads
-pub brings-alike : (image : Parts) (r : ℕ) (edge : Edge) (row : Row) (known next : List (Option Row)) (arrival : Arrival)
-    → GoesAlike image r edge row → Arrives arrival known edge.to (after image edge.pc (clean row) edge.branch) next
+pub brings-alike : (image : Parts) (r : ℕ) (lead : Lead) (row : Row) (known next : List (Option Row)) (arrival : Arrival)
+    → GoesAlike image r lead row → Arrives arrival known lead.to (after image lead.edge.from (clean row) lead.edge.branch) next
     → StaysAlike image r known next (has_joined arrival)
-brings-alike image r edge row known next arrival G came meet all =
-    let behind = after image edge.pc (clean row) edge.branch in
-    arrives-alike image r meet known all edge.to G.stays behind (comes-on image r edge.pc edge.branch edge.to row G.comes G.leads G.stays) arrival next came
+brings-alike image r lead row known next arrival G came meet all =
+    let behind = after image lead.edge.from (clean row) lead.edge.branch in
+    arrives-alike image r meet known all lead.to G.stays behind (comes-on image r lead.edge.from lead.edge.branch lead.to row G.comes G.leads G.stays) arrival next came

@@ -14,7 +14,7 @@ use Rattle.geos_rows.specs.Joins.{clean}
 use Rattle.geos_rows.specs.Code.{Edge, IsPcOf, instrs_of, edge_row}
 use Rattle.geos_rows.specs.declared.flow.Arrival.{Arrival}
 use Rattle.geos_rows.specs.declared.flow.Arrival.TheVariants.{Same, Weaker, Apart}
-use Rattle.geos_rows.specs.declared.edges.Edge.{Edge as Edge_}
+use Rattle.geos_rows.specs.declared.edges.Lead.{Lead}
 use Rattle.geos_rows.specs.Flow.{row_of, known_at, KnownAt, Joins, Arrives, Seeded}
 use Rattle.geos_rows.specs.Reached.{IsReached, FitWhereReached, AreAtMostAny}
 use Rattle.geos_rows.specs.Why.{LeadsTo}
@@ -36,35 +36,35 @@ at-first image r routine there least S = λ known F pc row within e. elim (cases
 ]
 
 -- and so it stays along an edge
-module _ (image : Parts) (r pc : ℕ) (branch : Bool) (edge : Edge_) (row : Row) (least next : List (Option Row))
-    (within : IsPcOf image r pc) (here : known_at least pc ≡ Some row) (pc_is : edge.pc ≡ pc) (branch_is : edge.branch ≡ branch)
-    (leads : LeadsTo image pc branch edge.to) (inside : IsPcOf image r edge.to) (room : edge.to < length least)
+module _ (image : Parts) (r pc : ℕ) (branch : Bool) (lead : Lead) (row : Row) (least next : List (Option Row))
+    (within : IsPcOf image r pc) (here : known_at least pc ≡ Some row) (pc_is : lead.edge.from ≡ pc) (branch_is : lead.edge.branch ≡ branch)
+    (leads : LeadsTo image pc branch lead.to) (inside : IsPcOf image r lead.to) (room : lead.to < length least)
     (before : AreAtMostAny image r least) where
   abbrev comes : Row
-  comes = after image edge.pc (clean row) edge.branch
+  comes = after image lead.edge.from (clean row) lead.edge.branch
 
-  is-edge : Edge (instrs_of image) pc branch edge.to leads.point.instr
+  is-edge : Edge (instrs_of image) pc branch lead.to leads.point.instr
   is-edge = record { read = code-at image pc leads.point leads.there; has = leads.has; leads = leads.leads }
 
   over : comes ≡ edge_row image leads.point.instr branch (clean row)
-  over = ap (λ k. after image k (clean row) edge.branch) pc_is ∙ ap (λ b. after image pc (clean row) b) branch_is
+  over = ap (λ k. after image k (clean row) lead.edge.branch) pc_is ∙ ap (λ b. after image pc (clean row) b) branch_is
       ∙ after-edge image pc branch leads.point (clean row) leads.there
 
   module _ (known : List (Option Row)) (F : FitWhereReached image r known) where
     -- control reaches where it leads
-    reaches : IsReached image r edge.to
+    reaches : IsReached image r lead.to
     reaches =
         let from = (before known F pc row within here).0 in
         record { edges = (pc, branch) ∷ from.edges; lead = (from.lead, inside, (leads.point.instr, is-edge)) }
 
     -- and no rows that hold say more there than the row that comes
-    brings : KnownAt known edge.to comes
+    brings : KnownAt known lead.to comes
     brings =
         let from = before known F pc row within here in
         let weaker = from.1.known_row in
         let cleaned = (clean-least row).least (clean weaker) (fits-trans row weaker (clean weaker) from.1.fits (clean-least weaker).weaker)
         (clean-least weaker).clean in
-        let there = F.edges pc branch from.0 edge.to leads.point.instr weaker is-edge inside from.1.read in
+        let there = F.edges pc branch from.0 lead.to leads.point.instr weaker is-edge inside from.1.read in
         record {
           known_row = there.known_row;
           read = there.read;
@@ -74,36 +74,36 @@ module _ (image : Parts) (r pc : ℕ) (branch : Bool) (edge : Edge_) (row : Row)
         }
 
     -- what is known there fits what they say
-    fits-there : (old : Row) → known_at least edge.to ≡ Some old → fits old brings.known_row ≡ true
+    fits-there : (old : Row) → known_at least lead.to ≡ Some old → fits old brings.known_row ≡ true
     fits-there old e =
-        let there = (before known F edge.to old inside e).1 in
+        let there = (before known F lead.to old inside e).1 in
         let is : there.known_row ≡ brings.known_row = some-is there.known_row brings.known_row (sym there.read ∙ brings.read) in
         subst (λ (x : Row). fits old x ≡ true) is there.fits
 
-    joined-there : (J : Joins least edge.to comes next) → (at : ℕ) (now : Row) → IsPcOf image r at
-        → known_at (set least edge.to (Some J.joined)) at ≡ Some now → IsReached image r at × KnownAt known at now
-    joined-there J at now at_in e = elim (cases_eq at edge.to) [
+    joined-there : (J : Joins least lead.to comes next) → (at : ℕ) (now : Row) → IsPcOf image r at
+        → known_at (set least lead.to (Some J.joined)) at ≡ Some now → IsReached image r at × KnownAt known at now
+    joined-there J at now at_in e = elim (cases_eq at lead.to) [
       | inl same ↦
-          let is : J.joined ≡ now = some-is J.joined now (sym (get_or-set_same least edge.to (Some J.joined) None room)
-          ∙ ap (known_at (set least edge.to (Some J.joined))) (sym same) ∙ e) in
-          let below : KnownAt known edge.to J.joined = record {
+          let is : J.joined ≡ now = some-is J.joined now (sym (get_or-set_same least lead.to (Some J.joined) None room)
+          ∙ ap (known_at (set least lead.to (Some J.joined))) (sym same) ∙ e) in
+          let below : KnownAt known lead.to J.joined = record {
             known_row = brings.known_row;
             read = brings.read;
             fits =
-                join-least (known_at least edge.to) comes J.joined brings.known_row J.join fits-there brings.fits;
+                join-least (known_at least lead.to) comes J.joined brings.known_row J.join fits-there brings.fits;
           } in
           subst (λ (x : Row). IsReached image r at × KnownAt known at x) is
           (subst (λ (n : ℕ). IsReached image r n × KnownAt known n J.joined) (sym same) (reaches, below))
-      | inr ne ↦ before known F at now at_in (sym (get_or-set_other least edge.to at (Some J.joined) None ne) ∙ e)
+      | inr ne ↦ before known F at now at_in (sym (get_or-set_other least lead.to at (Some J.joined) None ne) ∙ e)
     ]
 
   -- whichever way the row comes
-  pub comes-on : (arrival : Arrival) → Arrives arrival least edge.to comes next → AreAtMostAny image r next
+  pub comes-on : (arrival : Arrival) → Arrives arrival least lead.to comes next → AreAtMostAny image r next
   comes-on Same J = λ known F at now at_in e. joined-there known F J at now at_in (ap (λ (x : List (Option Row)). known_at x at) (sym J.is) ∙ e)
   comes-on Weaker J = λ known F at now at_in e. joined-there known F J at now at_in (ap (λ (x : List (Option Row)). known_at x at) (sym J.is) ∙ e)
   comes-on Apart none = λ known F at now at_in e.
       let there = brings known F in
-      absurd (no-join (known_at least edge.to) comes there.known_row none (fits-there known F) there.fits)
+      absurd (no-join (known_at least lead.to) comes there.known_row none (fits-there known F) there.fits)
 
 -- Bounds
 

@@ -6,7 +6,7 @@ use Rattle.geos_rows.specs.Code.{IsPcOf}
 use Rattle.geos_rows.specs.Flow.{known_at}
 use Rattle.geos_rows.specs.Joins.{agree}
 use Rattle.geos_rows.specs.Why.{LeadsTo, ComesFromStart, MeetAlike}
-use Rattle.geos_rows.specs.declared.edges.Edge.{Edge}
+use Rattle.geos_rows.specs.declared.edges.Lead.{Lead}
 
 -- control comes to a pc of routine r with slots that differ from those of a row in marks at most
 pub record ComesAlike (image : Parts) (r pc : ℕ) (row : Row) : Type 0 where
@@ -23,7 +23,7 @@ abbrev pub StaysAlike : Parts → ℕ → List (Option Row) → List (Option Row
 StaysAlike image r known next done = MeetAlike image r → AllComeAlike image r known → (done ≡ true) × AllComeAlike image r next
 
 -- a row goes along an edge within routine r, from where control comes with slots that differ from its own in marks at most
-pub record GoesAlike (image : Parts) (r : ℕ) (edge : Edge) (row : Row) : Type 0 where
-  pub comes : ComesAlike image r edge.pc row
-  pub leads : LeadsTo image edge.pc edge.branch edge.to
-  pub stays : IsPcOf image r edge.to
+pub record GoesAlike (image : Parts) (r : ℕ) (lead : Lead) (row : Row) : Type 0 where
+  pub comes : ComesAlike image r lead.edge.from row
+  pub leads : LeadsTo image lead.edge.from lead.edge.branch lead.to
+  pub stays : IsPcOf image r lead.to

@@ -8,7 +8,8 @@ use Rattle.geos_verify.specs.Rows.{after, has_edge, is_empty, slot_state}
 use Rattle.geos_verify.specs.Touched.{calls}
 use Rattle.geos_rows.specs.Code.{IsPcOf, edge_end}
 use Rattle.geos_rows.specs.Joins.{agree}
-use Rattle.geos_rows.specs.declared.edges.Edge.{Edge}
+use Rattle.geos_flow.specs.declared.edge.Edge.{Edge}
+use Rattle.geos_rows.specs.declared.edges.Lead.{Lead}
 use Rattle.geos_rows.specs.declared.emptied.Emptied.{Emptied}
 use Rattle.geos_rows.specs.declared.apart.Coming.{Coming}
 use Rattle.geos_rows.specs.declared.apart.Apart.{Apart}
@@ -35,12 +36,12 @@ pub record ComesFromStart (image : Parts) (r pc : ℕ) (row : Row) : Type 0 wher
   pub way : IsWay image r routine.entry edges pc row
 
 -- it comes along an edge
-pub record ComesBy (image : Parts) (r : ℕ) (edge : Edge) (row : Row) : Type 0 where
+pub record ComesBy (image : Parts) (r : ℕ) (lead : Lead) (row : Row) : Type 0 where
   pub before : Row
-  pub comes : ComesFromStart image r edge.pc before
-  pub leads : LeadsTo image edge.pc edge.branch edge.to
-  pub stays : IsPcOf image r edge.to
-  pub row_is : row ≡ after image edge.pc before edge.branch
+  pub comes : ComesFromStart image r lead.edge.from before
+  pub leads : LeadsTo image lead.edge.from lead.edge.branch lead.to
+  pub stays : IsPcOf image r lead.to
+  pub row_is : row ≡ after image lead.edge.from before lead.edge.branch
 
 -- the routine begins at a pc with a row
 pub record BeginsWith (image : Parts) (r pc : ℕ) (row : Row) : Type 0 where
@@ -51,7 +52,7 @@ pub record BeginsWith (image : Parts) (r pc : ℕ) (row : Row) : Type 0 where
 
 -- control comes to a pc along an edge, or there the routine begins
 abbrev pub Comes : Parts → ℕ → ℕ → Option Edge → Row → Type 0
-Comes image r to from row = elim from [ None ↦ BeginsWith image r to row | Some edge ↦ (edge.to ≡ to) × ComesBy image r edge row ]
+Comes image r to from row = elim from [ None ↦ BeginsWith image r to row | Some edge ↦ ComesBy image r (record { edge = edge; to = to }) row ]
 
 -- Slots that a CALL leaves empty
 

@@ -6,9 +6,10 @@ ghost use Rattle.geos_rows.specs.Why.{ComesBy, AllEmptied, AreApart, MeetAlike};
 
 use crate::body::Body;
 use crate::common::agree;
-use crate::edges::{Edge, edge_in};
+use crate::edges::{Lead, edge_in};
 use crate::emptied::{Emptied, emptied_along};
 use crate::table::{Table, two_tables};
+use geos_flow::Edge;
 use geos_image::Row;
 use geos_verify::after;
 use std::alloc::{AllocError, Global};
@@ -39,7 +40,7 @@ pub(crate) type Comings = Table<Option<Coming>>;
 /// An edge, and the row that control brings along it.
 #[derive(Clone, Copy)]
 struct Brought {
-    edge: Edge,
+    lead: Lead,
     row: Row,
     emptied: [Option<Emptied>; 4],
 }
@@ -48,19 +49,19 @@ struct Brought {
 fn bring(body: &Body, known: &Comings, pc: u16, branch: bool) -> Option<Brought>
     requires here { pc < body.now.end }
     requires come { AllCome body.now.image.now body.now.r known.now }
-    ensures by { IfSome result (λ brought. ComesBy body.now.image.now body.now.r brought.edge brought.row) }
-    ensures emptied { IfSome result (λ brought. AllEmptied body.now.image.now body.now.r brought.edge.to brought.row brought.emptied) }
-    ensures inside { IfSome result (λ brought. brought.edge.to < body.now.end) }
-    ensures some { IfSome result (λ brought. BringsAlong body.now.image.now known.now pc branch brought.edge.to brought.row) }
+    ensures by { IfSome result (λ brought. ComesBy body.now.image.now body.now.r brought.lead brought.row) }
+    ensures emptied { IfSome result (λ brought. AllEmptied body.now.image.now body.now.r brought.lead.to brought.row brought.emptied) }
+    ensures inside { IfSome result (λ brought. brought.lead.to < body.now.end) }
+    ensures some { IfSome result (λ brought. BringsAlong body.now.image.now known.now pc branch brought.lead.to brought.row) }
     ensures none { IfNone result (HasGone body.now.image.now body.now.r known.now pc branch) }
 {
     let before = known.at(pc)?;
-    let edge = edge_in(body, pc, branch)?;
+    let lead = edge_in(body, pc, branch)?;
     let row = after(body.image, pc, &before.row, branch);
     Some(Brought {
-        edge,
+        lead,
         row,
-        emptied: emptied_along(body, &before, edge, &row),
+        emptied: emptied_along(body, &before, lead, &row),
     })
 }
 
@@ -83,10 +84,10 @@ fn go(
     let Some(brought) = bring(body, known, pc, branch) else {
         return Ok(false);
     };
-    let to = brought.edge.to;
+    let to = brought.lead.to;
     let emptied = brought.emptied;
     let coming = Coming {
-        from: Some(brought.edge),
+        from: Some(brought.lead.edge),
         row: brought.row,
         emptied,
     };

@@ -24,10 +24,10 @@ fn seed(body: &Body, known: &Known, from: &mut Known) -> bool
         let Some(row) = known.at(pc) else {
             continue;
         };
-        let Some(edge) = edge_in(body, pc, true) else {
+        let Some(lead) = edge_in(body, pc, true) else {
             continue;
         };
-        if edge.to <= pc && !spread(body, edge, &row, from).has_joined() {
+        if lead.to <= pc && !spread(body, lead, &row, from).has_joined() {
             return false;
         }
     }

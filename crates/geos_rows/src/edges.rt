@@ -6,16 +6,14 @@ ghost use Rattle.geos_rows.specs.Edges.{edge_within, IsInside};
 ghost use Rattle.geos_rows.specs.Why.{LeadsTo};
 
 use crate::body::Body;
+use geos_flow::Edge;
 use geos_image::{Instr, Opcode};
 use geos_verify::has_edge;
 
-/// An edge of the instruction at a pc: to its target where `branch` says so, else to the next
-/// instruction.
+/// An edge, and the pc that it leads to.
 #[derive(Clone, Copy)]
-pub struct Edge {
-    pub pc: u16,
-    pub branch: bool,
-    /// Where it leads.
+pub struct Lead {
+    pub edge: Edge,
     pub to: u16,
 }
 
@@ -38,18 +36,19 @@ pub(crate) fn edge_end(pc: u16, i: &Instr, branch: bool) -> u16
 }
 
 /// The edge of the instruction at a pc, if it has it and it stays in the routine.
-pub fn edge_in(body: &Body, pc: u16, branch: bool) -> Option<Edge>
+pub fn edge_in(body: &Body, pc: u16, branch: bool) -> Option<Lead>
     requires { pc < body.now.end }
     ensures value { IfSome (slice_get body.now.image.now.points pc)
         (λ point. result ≡ edge_within body.now.start body.now.end pc point.instr branch) }
     ensures inside { IfSome result (IsInside body.now.image.now body.now.end pc branch) }
-    ensures leads { IfSome result (λ edge. LeadsTo body.now.image.now pc branch edge.to) }
-    ensures stays { IfSome result (λ edge. IsPcOf body.now.image.now body.now.r edge.to) }
+    ensures leads { IfSome result (λ lead. LeadsTo body.now.image.now pc branch lead.to) }
+    ensures stays { IfSome result (λ lead. IsPcOf body.now.image.now body.now.r lead.to) }
 {
     let i = body.image.instr(pc);
     let to = edge_end(pc, i, branch);
     if has_edge(i, branch) && body.start <= to && to < body.end {
-        Some(Edge { pc, branch, to })
+        let edge = Edge { from: pc, branch };
+        Some(Lead { edge, to })
     } else {
         None
     }
@@ -63,7 +62,7 @@ pub fn leads_back(body: &Body, pc: u16) -> bool
     ensures ahead { result ≡ false → TargetAhead body.now.image.now body.now.r pc }
 {
     match edge_in(body, pc, true) {
-        Some(edge) => edge.to <= pc,
+        Some(lead) => lead.to <= pc,
         None => false,
     }
 }

@@ -8,7 +8,7 @@ ghost use Rattle.geos_rows.specs.Why.{LeadsTo, CallsBeside, IsEmptied, AllEmptie
 
 use crate::apart::Coming;
 use crate::body::Body;
-use crate::edges::Edge;
+use crate::edges::Lead;
 use geos_image::{Opcode, Row, SlotState};
 use geos_verify::{is_empty, slot_state};
 
@@ -48,14 +48,14 @@ fn call_beside(body: &Body, pc: u16, before: &Row, a: u8) -> Option<Emptied>
 
 /// By which CALL a slot was left empty, where control came to the beginning of an edge and goes along it, and the row is known then:
 /// by that at the beginning, or, where it was empty there, by the one that left it so.
-fn emptied_by(body: &Body, before: &Coming, edge: Edge, row: &Row, a: u8) -> Option<Emptied>
-    requires here { edge.pc < body.now.end }
+fn emptied_by(body: &Body, before: &Coming, lead: Lead, row: &Row, a: u8) -> Option<Emptied>
+    requires here { lead.edge.from < body.now.end }
     requires few { a < 4 }
-    requires came { IsComing body.now.image.now body.now.r edge.pc before.now }
-    requires leads { LeadsTo body.now.image.now edge.pc edge.branch edge.to }
-    requires stays { IsPcOf body.now.image.now body.now.r edge.to }
-    requires row { row.now ≡ after body.now.image.now edge.pc before.now.row edge.branch }
-    ensures { IfSome result (IsEmptied body.now.image.now body.now.r a edge.to row.now) }
+    requires came { IsComing body.now.image.now body.now.r lead.edge.from before.now }
+    requires leads { LeadsTo body.now.image.now lead.edge.from lead.edge.branch lead.to }
+    requires stays { IsPcOf body.now.image.now body.now.r lead.to }
+    requires row { row.now ≡ after body.now.image.now lead.edge.from before.now.row lead.edge.branch }
+    ensures { IfSome result (IsEmptied body.now.image.now body.now.r a lead.to row.now) }
 {
     if !is_empty(slot_state(row, a)) {
         return None;
@@ -63,30 +63,30 @@ fn emptied_by(body: &Body, before: &Coming, edge: Edge, row: &Row, a: u8) -> Opt
     if is_empty(slot_state(&before.row, a)) {
         return before.emptied[usize::from(a)];
     }
-    if edge.branch {
+    if lead.edge.branch {
         return None;
     }
-    call_beside(body, edge.pc, &before.row, a)
+    call_beside(body, lead.edge.from, &before.row, a)
 }
 
 /// The same of each slot.
 pub(crate) fn emptied_along(
     body: &Body,
     before: &Coming,
-    edge: Edge,
+    lead: Lead,
     row: &Row,
 ) -> [Option<Emptied>; 4]
-    requires here { edge.pc < body.now.end }
-    requires came { IsComing body.now.image.now body.now.r edge.pc before.now }
-    requires leads { LeadsTo body.now.image.now edge.pc edge.branch edge.to }
-    requires stays { IsPcOf body.now.image.now body.now.r edge.to }
-    requires row { row.now ≡ after body.now.image.now edge.pc before.now.row edge.branch }
-    ensures { AllEmptied body.now.image.now body.now.r edge.to row.now result }
+    requires here { lead.edge.from < body.now.end }
+    requires came { IsComing body.now.image.now body.now.r lead.edge.from before.now }
+    requires leads { LeadsTo body.now.image.now lead.edge.from lead.edge.branch lead.to }
+    requires stays { IsPcOf body.now.image.now body.now.r lead.to }
+    requires row { row.now ≡ after body.now.image.now lead.edge.from before.now.row lead.edge.branch }
+    ensures { AllEmptied body.now.image.now body.now.r lead.to row.now result }
 {
     [
-        emptied_by(body, before, edge, row, 0),
-        emptied_by(body, before, edge, row, 1),
-        emptied_by(body, before, edge, row, 2),
-        emptied_by(body, before, edge, row, 3),
+        emptied_by(body, before, lead, row, 0),
+        emptied_by(body, before, lead, row, 1),
+        emptied_by(body, before, lead, row, 2),
+        emptied_by(body, before, lead, row, 3),
     ]
 }

@@ -11,7 +11,7 @@ ghost use Rattle.geos_rows.specs.Joins.{clean};
 
 use crate::body::Body;
 use crate::common::{clean, join};
-use crate::edges::{Edge, edge_in};
+use crate::edges::{Lead, edge_in};
 use crate::table::Known;
 use geos_image::{Row, SlotState};
 use geos_verify::after;
@@ -98,13 +98,13 @@ fn arrive(known: &mut Known, to: u16, row: &Row) -> Arrival
 
 /// A row goes along an edge: what is known behind the instruction comes to the place where the edge
 /// leads.
-pub(crate) fn spread(body: &Body, edge: Edge, row: &Row, known: &mut Known) -> Arrival
-    requires { IsInside body.now.image.now body.now.end edge.pc edge.branch edge }
-    ensures arrives { Arrives result known.old edge.to (after body.now.image.now edge.pc (clean row.now) edge.branch) known.new }
-    ensures stays { StaysBefore edge.to known.old known.new }
+pub(crate) fn spread(body: &Body, lead: Lead, row: &Row, known: &mut Known) -> Arrival
+    requires { IsInside body.now.image.now body.now.end lead.edge.from lead.edge.branch lead }
+    ensures arrives { Arrives result known.old lead.to (after body.now.image.now lead.edge.from (clean row.now) lead.edge.branch) known.new }
+    ensures stays { StaysBefore lead.to known.old known.new }
 {
-    let next = after(body.image, edge.pc, &clean(row), edge.branch);
-    arrive(known, edge.to, &next)
+    let next = after(body.image, lead.edge.from, &clean(row), lead.edge.branch);
+    arrive(known, lead.to, &next)
 }
 
 /// The row that is known at the pc goes along the edge, if that leads ahead; `false` where it has no
@@ -119,13 +119,13 @@ fn spread_ahead(body: &Body, pc: u16, branch: bool, known: &mut Known) -> bool
     let Some(row) = known.at(pc) else {
         return true;
     };
-    let Some(edge) = edge_in(body, pc, branch) else {
+    let Some(lead) = edge_in(body, pc, branch) else {
         return true;
     };
-    if edge.to <= pc {
+    if lead.to <= pc {
         return true;
     }
-    spread(body, edge, &row, known).has_joined()
+    spread(body, lead, &row, known).has_joined()
 }
 
 /// From what is known at first, rows flow along the edges of a routine that lead ahead; `false`

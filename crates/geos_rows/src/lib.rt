@@ -26,7 +26,7 @@ mod widening;
 pub use apart::{Apart, Coming, find_apart};
 pub use body::{Body, body_of};
 pub use common::{clean, join};
-pub use edges::{Edge, edge_in, is_loop, leads_back};
+pub use edges::{Lead, edge_in, is_loop, leads_back};
 pub use emptied::Emptied;
 pub use flow::{bound_of, row_of};
 pub use rows::find_rows;

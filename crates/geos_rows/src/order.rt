@@ -3,7 +3,7 @@
 ghost use Rattle.std.specs.Prelude.{◌<◌, IfSome};
 
 use crate::body::Body;
-use crate::edges::{Edge, edge_in};
+use crate::edges::{Lead, edge_in};
 use crate::table::{Table, two_tables};
 use geos_image::MOST_INSTRS;
 use std::alloc::{AllocError, Global};
@@ -56,7 +56,7 @@ fn end_at(body: &Body, pc: u16, followed: u8) -> Option<u16>
     let target_first = pc < body.image.instr(pc).target;
     let branch = target_first == (followed == 0);
     match edge_in(body, pc, branch) {
-        Some(edge) => Some(edge.to),
+        Some(lead) => Some(lead.to),
         None => None,
     }
 }
@@ -94,11 +94,11 @@ impl Order {
     }
 
     /// Whether the edge leads back in the order.
-    pub(crate) fn leads_back(&self, edge: Edge) -> bool
-        requires from { edge.pc < 4096 }
-        requires to { edge.to < 4096 }
+    pub(crate) fn leads_back(&self, lead: Lead) -> bool
+        requires from { lead.edge.from < 4096 }
+        requires to { lead.to < 4096 }
     {
-        self.turn(edge.to) <= self.turn(edge.pc)
+        self.turn(lead.to) <= self.turn(lead.edge.from)
     }
 
     /// A way comes to a place, unless one did before.

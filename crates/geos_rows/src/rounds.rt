@@ -6,7 +6,7 @@ ghost use Rattle.geos_rows.specs.Edges.{IsInside};
 ghost use Rattle.geos_rows.specs.Flow.{has_joined};
 
 use crate::body::Body;
-use crate::edges::{Edge, edge_in};
+use crate::edges::{Lead, edge_in};
 use crate::flow::{Arrival, spread};
 use crate::table::Known;
 use crate::waiting::Waiting;
@@ -30,23 +30,23 @@ fn widen(body: &Body, kept: Kept, old: &Option<Row>, to: u16, known: &mut Known)
 /// A row goes along an edge; what is weaker behind it waits.
 pub(crate) fn pass(
     body: &Body,
-    edge: Edge,
+    lead: Lead,
     row: &Row,
     waiting: &mut Waiting,
     known: &mut Known,
 ) -> Arrival
-    requires { IsInside body.now.image.now body.now.end edge.pc edge.branch edge }
-    ensures { GoesAlike body.now.image.now body.now.r edge row.now
+    requires { IsInside body.now.image.now body.now.end lead.edge.from lead.edge.branch lead }
+    ensures { GoesAlike body.now.image.now body.now.r lead row.now
         → StaysAlike body.now.image.now body.now.r known.old known.new (has_joined result) }
 {
-    let old = known.at(edge.to);
-    let arrival = spread(body, edge, row, known);
+    let old = known.at(lead.to);
+    let arrival = spread(body, lead, row, known);
     if let Arrival::Weaker = arrival {
-        let kept = waiting.weaken(edge);
+        let kept = waiting.weaken(lead);
         if !kept.is_join() {
-            widen(body, kept, &old, edge.to, known);
+            widen(body, kept, &old, lead.to, known);
         }
-        waiting.wait(edge.to);
+        waiting.wait(lead.to);
     }
     arrival
 }
@@ -62,10 +62,10 @@ fn pass_from(body: &Body, pc: u16, branch: bool, waiting: &mut Waiting, known: &
     let Some(row) = known.at(pc) else {
         return true;
     };
-    let Some(edge) = edge_in(body, pc, branch) else {
+    let Some(lead) = edge_in(body, pc, branch) else {
         return true;
     };
-    pass(body, edge, &row, waiting, known).has_joined()
+    pass(body, lead, &row, waiting, known).has_joined()
 }
 
 /// Rows of a routine flow on from the places that wait, along all its edges until nothing new comes to any place; `false` where two

@@ -35,11 +35,11 @@ fn go(body: &Body, rows: &mut Known, waiting: &mut Waiting, pc: u16, branch: boo
     let Some(row) = rows.at(pc) else {
         return;
     };
-    let Some(edge) = edge_in(body, pc, branch) else {
+    let Some(lead) = edge_in(body, pc, branch) else {
         return;
     };
-    if let Arrival::Weaker = spread(body, edge, &row, rows) {
-        waiting.wait(edge.to);
+    if let Arrival::Weaker = spread(body, lead, &row, rows) {
+        waiting.wait(lead.to);
     }
 }
 

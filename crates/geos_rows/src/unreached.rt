@@ -102,8 +102,8 @@ fn wanted_behind(body: &Body, pc: u16, from: &Known) -> Row
         return body.image.routine(i.imm).entry;
     }
     for branch in [false, true] {
-        if let Some(edge) = edge_in(body, pc, branch) {
-            if let Some(row) = from.at(edge.to) {
+        if let Some(lead) = edge_in(body, pc, branch) {
+            if let Some(row) = from.at(lead.to) {
                 return Row {
                     bounds: row.bounds,
                     slots: slots_before(i, &row.slots),
@@ -136,9 +136,9 @@ fn pass_lone(body: &Body, pc: u16, known: &Known, waiting: &mut Waiting, others:
         return;
     };
     for branch in [false, true] {
-        if let Some(edge) = edge_in(body, pc, branch) {
-            if known.at(edge.to).is_none() {
-                pass(body, edge, &row, waiting, others);
+        if let Some(lead) = edge_in(body, pc, branch) {
+            if known.at(lead.to).is_none() {
+                pass(body, lead, &row, waiting, others);
             }
         }
     }

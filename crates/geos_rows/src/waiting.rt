@@ -3,7 +3,7 @@
 ghost use Rattle.std.specs.Prelude.{◌<◌, IfSome};
 
 use crate::body::Body;
-use crate::edges::Edge;
+use crate::edges::Lead;
 use crate::order::Order;
 use crate::table::{Table, two_tables};
 use crate::widening::Kept;
@@ -131,14 +131,14 @@ impl Waiting {
     }
 
     /// The edge has weakened the place where it leads; how much is to be kept of the row there.
-    pub(crate) fn weaken(&mut self, edge: Edge) -> Kept
-        requires from { edge.pc < 4096 }
-        requires to { edge.to < 4096 }
+    pub(crate) fn weaken(&mut self, lead: Lead) -> Kept
+        requires from { lead.edge.from < 4096 }
+        requires to { lead.to < 4096 }
     {
-        let leads_back = self.order.leads_back(edge);
-        let Times { gone, back } = self.times.at(edge.to);
+        let leads_back = self.order.leads_back(lead);
+        let Times { gone, back } = self.times.at(lead.to);
         let back = back.saturating_add(u8::from(leads_back));
-        self.times.set(edge.to, Times { gone, back });
+        self.times.set(lead.to, Times { gone, back });
         let kept = Kept::after(gone, leads_back, back);
         self.widened = self.widened || !kept.is_join();
         kept

@@ -7,7 +7,7 @@ pub returns-in-Some-go_along : goal.returns-in-Some-go_along
 returns-in-Some-go_along c = λ low above below begin all.
     let image = c.args.loops.now.body.image.now in
     let r = c.args.loops.now.body.r in
-    let to = c.in-Some-edge_in.edge.to in
+    let to = c.in-Some-edge_in.lead.to in
     let next = c.in-Some-go_along.next in
     let comes = c.in-Some-go_along.ensures to c.in-Some-edge_in.ensures.leads begin
     (all c.args.pc c.in-Some.reach above below (sym (c.in-Some.ensures None))) in

@@ -11,9 +11,9 @@ pub returns-in-None-clause-come : goal.returns-in-None-clause-come
 returns-in-None-clause-come c =
     let body = c.args.body.now in
     let brought = c.in-Some.brought in
-    let coming : Coming = record { from = Some brought.edge; row = brought.row; emptied = brought.emptied } in
-    rw c.set.ensures (all_come-set body.image.now body.r c.args.known.now brought.edge.to coming c.requires.come (record {
-      comes = (refl, c.in-Some.ensures.by);
+    let coming : Coming = record { from = Some brought.lead.edge; row = brought.row; emptied = brought.emptied } in
+    rw c.set.ensures (all_come-set body.image.now body.r c.args.known.now brought.lead.to coming c.requires.come (record {
+      comes = c.in-Some.ensures.by;
       emptied = c.in-Some.ensures.emptied;
     }))
 
@@ -21,22 +21,22 @@ pub returns-in-None-clause-ok : goal.returns-in-None-clause-ok
 returns-in-None-clause-ok c =
     let body = c.args.body.now in
     let brought = c.in-Some.brought in
-    let coming : Coming = record { from = Some brought.edge; row = brought.row; emptied = brought.emptied } in
-    let in_known : brought.edge.to < length c.args.known.now = omega (arith, c.in-Some.ensures.inside, c.lengths.ensures, body.room, body.short) in
-    let in_waits : brought.edge.to < length c.args.waits.now = omega (arith, c.in-Some.ensures.inside, c.lengths-2.ensures, body.room, body.short) in
-    rw (c.set.ensures, c.set-in-None.ensures) (goes-new c.args.known.now c.args.waits.now brought.edge.to coming
+    let coming : Coming = record { from = Some brought.lead.edge; row = brought.row; emptied = brought.emptied } in
+    let in_known : brought.lead.to < length c.args.known.now = omega (arith, c.in-Some.ensures.inside, c.lengths.ensures, body.room, body.short) in
+    let in_waits : brought.lead.to < length c.args.waits.now = omega (arith, c.in-Some.ensures.inside, c.lengths-2.ensures, body.room, body.short) in
+    rw (c.set.ensures, c.set-in-None.ensures) (goes-new c.args.known.now c.args.waits.now brought.lead.to coming
     in_known in_waits (sym (c.in-None.ensures None)))
 
 pub returns-in-None-clause-gone : goal.returns-in-None-clause-gone
 returns-in-None-clause-gone c =
     let body = c.args.body.now in
     let brought = c.in-Some.brought in
-    let coming : Coming = record { from = Some brought.edge; row = brought.row; emptied = brought.emptied } in
-    let in_known : brought.edge.to < length c.args.known.now = omega (arith, c.in-Some.ensures.inside, c.lengths.ensures, body.room, body.short) in
-    let in_waits : brought.edge.to < length c.args.waits.now = omega (arith, c.in-Some.ensures.inside, c.lengths-2.ensures, body.room, body.short) in
+    let coming : Coming = record { from = Some brought.lead.edge; row = brought.row; emptied = brought.emptied } in
+    let in_known : brought.lead.to < length c.args.known.now = omega (arith, c.in-Some.ensures.inside, c.lengths.ensures, body.room, body.short) in
+    let in_waits : brought.lead.to < length c.args.waits.now = omega (arith, c.in-Some.ensures.inside, c.lengths-2.ensures, body.room, body.short) in
     let known = c.args.known.now in
     let waits = c.args.waits.now in
-    let to = brought.edge.to in
+    let to = brought.lead.to in
     let further = goes-new known waits to coming in_known in_waits (sym (c.in-None.ensures None)) in
     let met : IsMet (set known to (Some coming)) to brought.row =
     record { first = coming; read = get_or-set_same known to (Some coming) None in_known; alike = alike-refl brought.row } in
@@ -45,7 +45,7 @@ returns-in-None-clause-gone c =
 
 pub returns-in-Some-2-clause-err : goal.returns-in-Some-2-clause-err
 returns-in-Some-2-clause-err c = record {
-  first = c.requires.come c.in-Some.brought.edge.to c.in-Some-at.first (sym (c.in-Some-at.ensures None));
-  second = record { comes = (refl, c.in-Some.ensures.by); emptied = c.in-Some.ensures.emptied };
+  first = c.requires.come c.in-Some.brought.lead.to c.in-Some-at.first (sym (c.in-Some-at.ensures None));
+  second = record { comes = c.in-Some.ensures.by; emptied = c.in-Some.ensures.emptied };
   differ = sym c.agree.ensures ∙ c.if-agree.false;
 }

@@ -6,7 +6,7 @@ use Rattle.geos_rows.proofs.edges.leads_back.Goals as goal
 pub returns-in-Some-clause-none : goal.returns-in-Some-clause-none
 returns-in-Some-clause-none c = λ forward.
     let body = c.args.body.now in
-    let edge = c.in-Some.edge in
-    let found = read-ahead body.image.now body.end c.args.pc true (omega (arith, body.room)) edge
-    (ahead-alone body forward c.args.pc true (Some edge) c.requires.above c.requires.below c.in-Some.ensures.value) in
-    lt-leb edge.to c.args.pc found.4
+    let lead = c.in-Some.lead in
+    let found = read-ahead body.image.now body.end c.args.pc true (omega (arith, body.room)) lead
+    (ahead-alone body forward c.args.pc true (Some lead) c.requires.above c.requires.below c.in-Some.ensures.value) in
+    lt-leb lead.to c.args.pc found.4

@@ -10,7 +10,7 @@ returns-after-not-is_join c = λ goes meet all.
     let body = c.args.body.now in
     let image = body.image.now in
     let spread = c.spread-arrival.new.known in
-    let came = brings-alike image body.r c.args.edge c.args.row.now c.args.known.now spread c.spread-arrival.result goes
+    let came = brings-alike image body.r c.args.lead c.args.row.now c.args.known.now spread c.spread-arrival.result goes
     c.spread-arrival.ensures.arrives meet all in (
       came.0,
       elim c.if-not-is_join.branch [
@@ -22,5 +22,5 @@ returns-after-not-is_join c = λ goes meet all.
 pub returns-in_default : goal.returns-in_default
 returns-in_default c = λ goes meet all.
     let body = c.args.body.now in
-    brings-alike body.image.now body.r c.args.edge c.args.row.now c.args.known.now c.spread-arrival.new.known c.spread-arrival.result goes
+    brings-alike body.image.now body.r c.args.lead c.args.row.now c.args.known.now c.spread-arrival.new.known c.spread-arrival.result goes
     c.spread-arrival.ensures.arrives meet all
