@@ -16,7 +16,7 @@ use Rattle.geos_infer.specs.declared.cause.LoopRing.{LoopRing}
 use Rattle.geos_infer.specs.declared.cause.ByWord.{ByWord}
 use Rattle.geos_infer.specs.declared.cause.ByNumber.{ByNumber}
 use Rattle.geos_infer.specs.declared.cause.Cause.{Cause}
-use Rattle.geos_infer.specs.declared.cause.Cause.TheVariants.{SlotsDiffer, NoLoop, SetWithin, TouchedWithin, TouchedBefore, InTurn, InRing, StepsPass, WordUnbounded, NumberHigh, GivenUp, StepsMayPass, NoSteps, Unfound, Unknown}
+use Rattle.geos_infer.specs.declared.cause.Cause.TheVariants.{SlotsDiffer, NoLoop, SetWithin, TouchedWithin, TouchedBefore, InTurn, InRing, StepsPass, WordUnbounded, NumberHigh, WordDear, NumberDear, GivenUp, StepsMayPass, NoSteps, Unfound, Unknown}
 use Rattle.geos_explain.specs.Numbers.{pc_text}
 use Rattle.geos_causes.specs.Emptied.{emptied_items}
 
@@ -137,6 +137,14 @@ set_to_text lines by_number = concat (codes "k" ∷ decimal by_number.counter �
 abbrev pub by_number_text : List ℕ → ByNumber → List ℕ
 by_number_text lines by_number = codes "the steps may pass 4,294,967,295, since " ++ set_to_text lines by_number
 
+-- none were found that fit, where a word is so large as it may be
+unfoldable pub dear_word_text : List ℕ → ByWord → List ℕ
+dear_word_text lines by_word = concat (codes "no steps up to 4,294,967,295 were found; w" ∷ decimal by_word.word ∷ codes " may be " ∷ decimal by_word.most ∷ codes " at" ∷ pc_text lines by_word.at ∷ codes ", which sets k" ∷ decimal by_word.counter ∷ codes ": CHK it" ∷ [])
+
+-- none were found that fit, where a counter is set to a number
+abbrev pub dear_number_text : List ℕ → ByNumber → List ℕ
+dear_number_text lines by_number = codes "no steps up to 4,294,967,295 were found; " ++ set_to_text lines by_number
+
 -- the search was given up
 abbrev pub given_up_text : List ℕ → BackWay → List ℕ
 given_up_text lines back = codes "the search for steps takes too long and was given up; the first loop:" ++ back_text lines back
@@ -177,6 +185,8 @@ cause_words lines (InRing ring) = in_ring_text lines ring
 cause_words lines StepsPass = steps_pass_text
 cause_words lines (WordUnbounded by_word) = by_word_text lines by_word
 cause_words lines (NumberHigh by_number) = by_number_text lines by_number
+cause_words lines (WordDear by_word) = dear_word_text lines by_word
+cause_words lines (NumberDear by_number) = dear_number_text lines by_number
 cause_words lines (GivenUp back) = given_up_text lines back
 cause_words lines StepsMayPass = steps_may_pass_text
 cause_words lines (NoSteps back) = no_steps_text lines back

@@ -3,7 +3,7 @@
 ghost use Rattle.std.specs.Prelude.{◌≡◌, ◌++◌, OnOk, IfOk};
 ghost use Rattle.geos_causes.specs.Causes.{differing_item, differing_items, is_from, edge_text, coming_from};
 ghost use Rattle.geos_causes.specs.Causes.{coming_text, call_text, touched_text, touched_before_text, set_in_text, in_turn_text, in_ring_text};
-ghost use Rattle.geos_causes.specs.Causes.{by_word_text, set_to_text, ways_text, calls_text, apart_text};
+ghost use Rattle.geos_causes.specs.Causes.{by_word_text, dear_word_text, set_to_text, ways_text, calls_text, apart_text};
 ghost use Rattle.geos_causes.specs.Causes.{back_text, within_text, cause_words, cause_text};
 
 use crate::emptied::{put_emptied_items, slots_agree};
@@ -287,6 +287,27 @@ fn put_by_word(out: &mut Vec<u8>, lines: &[usize], by_word: &ByWord) -> Result<(
     )
 }
 
+/// No steps that fit were found where a word is so large as it may be.
+#[tactic(auto, unfolding(crate::specs::Causes::dear_word_text))]
+fn put_dear_word(out: &mut Vec<u8>, lines: &[usize], by_word: &ByWord) -> Result<(), AllocError>
+    ensures { OnOk result (out.new.items ≡ out.old.items ++ dear_word_text lines.now by_word.now) }
+{
+    put_parts(
+        out,
+        &[
+            Part::Numbered(
+                "no steps up to 4,294,967,295 were found; w",
+                by_word.word as u64,
+            ),
+            Part::Numbered(" may be ", by_word.most as u64),
+            Part::Text(" at"),
+            pc_part(lines, by_word.at),
+            Part::Numbered(", which sets k", by_word.counter as u64),
+            Part::Text(": CHK it"),
+        ],
+    )
+}
+
 /// A text, and that a counter is set to a number.
 #[tactic(auto, unfolding(crate::specs::Causes::set_to_text))]
 fn put_set_to(
@@ -325,6 +346,13 @@ fn put_cause(out: &mut Vec<u8>, lines: &[usize], cause: &Cause) -> Result<(), Al
         Cause::NumberHigh(by_number) => put_set_to(
             out,
             "the steps may pass 4,294,967,295, since ",
+            lines,
+            by_number,
+        ),
+        Cause::WordDear(by_word) => put_dear_word(out, lines, by_word),
+        Cause::NumberDear(by_number) => put_set_to(
+            out,
+            "no steps up to 4,294,967,295 were found; ",
             lines,
             by_number,
         ),

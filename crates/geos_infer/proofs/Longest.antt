@@ -120,6 +120,10 @@ none-other image r (WordUnbounded by_word) none other holds = none-round image r
     by_word.counter holds.0.for_loop.loops holds.0.for_loop.round
 none-other image r (NumberHigh by_number) none other holds = none-round image r none.steps.ahead holds.0.for_loop.back
     by_number.counter holds.0.for_loop.loops holds.0.for_loop.round
+none-other image r (WordDear by_word) none other holds = none-round image r none.steps.ahead holds.for_loop.back
+    by_word.counter holds.for_loop.loops holds.for_loop.round
+none-other image r (NumberDear by_number) none other holds = none-round image r none.steps.ahead holds.for_loop.back
+    by_number.counter holds.for_loop.loops holds.for_loop.round
 none-other image r (GivenUp back) none other holds =
     let less = leads-ahead image r none.steps.ahead back.from back.to true holds.from holds.to holds.leads in
     let order = holds.order in

@@ -21,7 +21,7 @@ use Rattle.geos_infer.specs.declared.cause.LoopRing.{LoopRing}
 use Rattle.geos_infer.specs.declared.cause.ByWord.{ByWord}
 use Rattle.geos_infer.specs.declared.cause.ByNumber.{ByNumber}
 use Rattle.geos_infer.specs.declared.cause.Cause.{Cause}
-use Rattle.geos_infer.specs.declared.cause.Cause.TheVariants.{SlotsDiffer, NoLoop, SetWithin, TouchedWithin, TouchedBefore, InTurn, InRing, StepsPass, WordUnbounded, NumberHigh, GivenUp, StepsMayPass, NoSteps, Unfound, Unknown}
+use Rattle.geos_infer.specs.declared.cause.Cause.TheVariants.{SlotsDiffer, NoLoop, SetWithin, TouchedWithin, TouchedBefore, InTurn, InRing, StepsPass, WordUnbounded, NumberHigh, WordDear, NumberDear, GivenUp, StepsMayPass, NoSteps, Unfound, Unknown}
 use Rattle.geos_potentials.specs.Idle.{GoesRound, PassesAt, calls_touching, IsKept, IsNeverPaid}
 
 -- an instruction of routine r leads back within it by its target
@@ -170,6 +170,8 @@ Holds image r (InRing ring) = WaitInRing image r ring
 Holds image r StepsPass = taken.StepsPass image r
 Holds image r (WordUnbounded by_word) = SetsByWord image r by_word × taken.WordsPass image r
 Holds image r (NumberHigh by_number) = SetsByNumber image r by_number × taken.WordsPass image r
+Holds image r (WordDear by_word) = SetsByWord image r by_word
+Holds image r (NumberDear by_number) = SetsByNumber image r by_number
 Holds image r (GivenUp back) = LeadsBack image r back
 Holds image r StepsMayPass = MayPass image r
 Holds image r (NoSteps back) = LeadsBack image r back × (IsNeverPaid image r → ⊥)

@@ -94,6 +94,10 @@ pub enum Cause {
     WordUnbounded(ByWord),
     /// The same, and a counter is set to a number for a loop.
     NumberHigh(ByNumber),
+    /// No steps that a potential can say were found, and a counter is set for a loop to a word of which too little is known.
+    WordDear(ByWord),
+    /// The same, and a counter is set to a number for a loop.
+    NumberDear(ByNumber),
     /// The search for numbers of steps was given up, as it took too long.
     GivenUp(BackWay),
     /// No way leads back, and on some way more steps are taken than a potential can say, if LOOPs may go either way.

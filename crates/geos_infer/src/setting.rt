@@ -113,38 +113,51 @@ fn most_at(body: &Body, known: &Known, strongest: &Strongest, word: u8, at: u16)
     }
 }
 
-/// How the instruction at a pc sets a counter, which pays for a loop.
+/// How the instruction at a pc sets a counter, which pays for a loop; and whether more steps are taken than a potential can say.
 fn setting_at(
     body: &Body,
     known: &Known,
     strongest: &Strongest,
     counter: u8,
     at: u16,
+    passes: bool,
 ) -> Option<Cause>
     requires above { body.now.start ≤ at }
     requires below { at < body.now.end }
     requires rows { FitWhereReached body.now.image.now body.now.r known.now }
     requires least { AreAtMostAny body.now.image.now body.now.r strongest.now.rows }
     requires pays { PaysForLoop body.now.image.now body.now.r counter at }
-    requires passes { WordsPass body.now.image.now body.now.r }
+    requires passes { passes ≡ true → WordsPass body.now.image.now body.now.r }
     ensures { IfSome result (Holds body.now.image.now body.now.r) }
 {
     let i = body.image.instr(at);
     match i.opcode {
         Opcode::Setkw if i.a == counter => {
             let most = most_at(body, known, strongest, i.b, at)?;
-            Some(Cause::WordUnbounded(ByWord {
+            let by_word = ByWord {
                 at,
                 counter,
                 word: i.b,
                 most,
-            }))
+            };
+            Some(if passes {
+                Cause::WordUnbounded(by_word)
+            } else {
+                Cause::WordDear(by_word)
+            })
         }
-        Opcode::Setk if i.a == counter => Some(Cause::NumberHigh(ByNumber {
-            at,
-            counter,
-            number: i.imm,
-        })),
+        Opcode::Setk if i.a == counter => {
+            let by_number = ByNumber {
+                at,
+                counter,
+                number: i.imm,
+            };
+            Some(if passes {
+                Cause::NumberHigh(by_number)
+            } else {
+                Cause::NumberDear(by_number)
+            })
+        }
         _ => None,
     }
 }
@@ -186,8 +199,8 @@ fn words_pass(
     Ok(passes)
 }
 
-/// How a counter is set for a loop at the greatest price, where more steps are taken than a potential can say if words are as much as they
-/// may be.
+/// How a counter is set for a loop at the greatest price, and whether more steps are taken than a potential can say if words are as much as
+/// they may be.
 pub(crate) fn find_dear(
     alloc: Global,
     body: &Body,
@@ -213,9 +226,6 @@ pub(crate) fn find_dear(
     if at < body.start || !pays_for_loop(body, touching, graph, splitting, counter, at, trails) {
         return Ok(None);
     }
-    if words_pass(alloc, body, touching, strongest)? {
-        Ok(setting_at(body, known, strongest, counter, at))
-    } else {
-        Ok(None)
-    }
+    let passes = words_pass(alloc, body, touching, strongest)?;
+    Ok(setting_at(body, known, strongest, counter, at, passes))
 }
