@@ -162,8 +162,9 @@ LOOP, its counter is set or touched within it, or the steps pass 4,294,967,295. 
 const BUDGETED: &str = "\
 Each number behind `budget`, or a `?` in its place, becomes the least one that is found, so that a caller
 pays for what its callees take now; all other bytes stay. Faults are those of `asm`, whose help has them.
-OUT is not TEXT. Where a LOOP takes from a counter that its routine does not set, no budget is enough:
-`geos check` says so of the image (V14). `geos explain` says why no steps are found; it wants numbers for `?`.
+OUT is not TEXT. Where a LOOP takes from a counter that its routine does not set, or calls lead round, no budget
+is enough: `geos check` says so of the image (V14, V10). `geos explain` says why no steps are found; it wants
+numbers for `?`.
 
 Example:
   geos budget draft.asm add.asm && geos call add.asm add 2 3";
@@ -190,7 +191,8 @@ written to it. `refused N` is said as by `put`.";
 /// What is said of an image or a text.
 const EXPLAINED: &str = "\
 IMAGE may be a text too: what does not begin as an image does is read as one. Its own lines are printed,
-each behind its number; behind an instruction stands what is known there, and how many steps are owed.
+each behind its number; behind an instruction stands what is known before it runs, and how many steps are
+left then at most.
 Where lines of it have faults, these are printed alone, each with the word that is wrong and what is wanted.
 Of an image each instruction is printed, with the routine and the pc in front of that.
 Where a rule refuses, a line says why, and what to do; of a stale pointer from where it is known, from
