@@ -1,5 +1,5 @@
 -- Why no rows or no numbers of steps are found, in an author's words.
-use Rattle.std.specs.Prelude.{ℕ, ◌==◌, Bool, false, ◌&&◌, if◌then◌else◌, List, [], ◌∷◌, ◌++◌, Option, Some, None, slice_index_or, codes, decimal}
+use Rattle.std.specs.Prelude.{ℕ, ◌==◌, Bool, false, ◌&&◌, nat_lt, if◌then◌else◌, List, [], ◌∷◌, ◌++◌, Option, Some, None, slice_index_or, codes, decimal}
 use Rattle.std.specs.List.{concat}
 use Rattle.geos_image.specs.declared.row.SlotState.{SlotState}
 use Rattle.geos_image.specs.declared.row.SlotState.TheVariants.{Empty}
@@ -73,9 +73,13 @@ calls_text lines coming other = emptied_items 4 lines coming.emptied other.row.s
 abbrev pub apart_text : List ℕ → Apart → List ℕ
 apart_text lines apart = ways_text lines apart ++ calls_text lines apart.first apart.second ++ calls_text lines apart.second apart.first
 
+-- what the way of a LOOP to its target does, which may lie ahead
+abbrev pub leads_text : BackWay → List ℕ
+leads_text back = if nat_lt back.from back.to then codes " leads on to" else codes " goes back to"
+
 -- a way leads back
 unfoldable pub back_text : List ℕ → BackWay → List ℕ
-back_text lines back = concat (pc_text lines back.from ∷ codes " goes back to" ∷ pc_text lines back.to ∷ [])
+back_text lines back = concat (pc_text lines back.from ∷ leads_text back ∷ pc_text lines back.to ∷ [])
 
 -- that this is within the loop of a way that leads back
 abbrev pub own_loop_text : List ℕ → BackWay → List ℕ

@@ -4,7 +4,7 @@ ghost use Rattle.std.specs.Prelude.{◌≡◌, ◌++◌, OnOk, IfOk};
 ghost use Rattle.geos_causes.specs.Causes.{differing_item, differing_items, is_from, edge_text, coming_from};
 ghost use Rattle.geos_causes.specs.Causes.{coming_text, call_text, touched_text, touched_before_text, set_in_text, in_turn_text, in_ring_text};
 ghost use Rattle.geos_causes.specs.Causes.{by_word_text, dear_word_text, set_to_text, ways_text, calls_text, apart_text};
-ghost use Rattle.geos_causes.specs.Causes.{back_text, within_text, cause_words, cause_text};
+ghost use Rattle.geos_causes.specs.Causes.{back_text, leads_text, within_text, cause_words, cause_text};
 
 use crate::emptied::{put_emptied_items, slots_agree};
 use geos_explain::pc_part;
@@ -147,6 +147,17 @@ fn put_apart(out: &mut Vec<u8>, lines: &[usize], apart: &Apart) -> Result<(), Al
     put_calls(out, lines, &apart.second, &apart.first)
 }
 
+/// What the way of a LOOP to its target does, which may lie ahead.
+fn leads_text(back: &BackWay) -> &'static str
+    ensures { result.now ≡ leads_text back.now }
+{
+    if back.from < back.to {
+        " leads on to"
+    } else {
+        " goes back to"
+    }
+}
+
 /// A text, and a way that leads back.
 #[tactic(auto, unfolding(crate::specs::Causes::back_text))]
 fn put_back(
@@ -162,7 +173,7 @@ fn put_back(
         &[
             Part::Text(text),
             pc_part(lines, back.from),
-            Part::Text(" goes back to"),
+            Part::Text(leads_text(back)),
             pc_part(lines, back.to),
         ],
     )

@@ -241,7 +241,9 @@ fn put_other(out: &mut Vec<u8>, word: &[u8], behind: Option<Word>) -> Result<(),
         return put_text(out, ": a comment begins with ;");
     }
     match behind {
-        Some(next) if is_behind_label(next.bytes) => put_label(out, word),
+        Some(next) if is_behind_label(next.bytes) && name_of(word).is_some() => {
+            put_label(out, word)
+        }
         _ => put_text(out, ", and none of routine, in and out"),
     }
 }

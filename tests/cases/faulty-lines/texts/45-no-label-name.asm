@@ -1,0 +1,4 @@
+routine a public budget 1
+8 RET
+= RET
+        RET
