@@ -2,7 +2,7 @@
 use Rattle.std.specs.Prelude.{◌≡◌, ◌≢◌, ◌<◌, ℕ, Bool, true, false, List, [], ◌∷◌, Option, Some, slice_index_or}
 use Rattle.geos_potentials.specs.Arcs.{arc_at, unit_at}
 use Rattle.geos_potentials.specs.Demands.{taken_from, IsKeptOver}
-use Rattle.geos_potentials.specs.Pieces.{HasPlace}
+use Rattle.geos_potentials.specs.Stuck.{HasPlace}
 use Rattle.geos_potentials.specs.Rounds.{pays_in}
 use Rattle.geos_potentials.specs.declared.arcs.Arc.{Arc}
 use Rattle.geos_potentials.specs.declared.arcs.Counting.TheVariants.{Sets}

@@ -1,5 +1,5 @@
 -- Where a search for nests stops: pieces in which no LOOP may pay.
-use Rattle.std.specs.Prelude.{◌≡◌, ◌≤◌, ◌<◌, ℕ, Bool, true, List, [], ◌∷◌, Option, Some, slice_index_or}
+use Rattle.std.specs.Prelude.{◌≡◌, ◌≤◌, ◌<◌, ℕ, Bool, true, List, [], ◌∷◌, Option, Some, slice_index, slice_index_or}
 use Rattle.geos_image.specs.Parts.{Parts}
 use Rattle.geos_potentials.specs.Arcs.{arc_at}
 use Rattle.geos_potentials.specs.Idle.{MayNotPay}
@@ -17,6 +17,10 @@ use Rattle.geos_potentials.specs.declared.place.Place.{Place}
 -- this place stands somewhere in an order
 abbrev pub StandsAt : Order → ℕ → ℕ → Type 0
 StandsAt order x pc = (other : Place) → (slice_index_or order.places x other).pc ≡ pc
+
+-- a piece has a place
+abbrev pub HasPlace : Order → Piece → ℕ → Type 0
+HasPlace order piece pc = (piece.begin ≤ slice_index order.at pc) × (slice_index order.at pc < piece.end)
 
 -- a place stands in a piece
 abbrev pub IsIn : Order → Piece → ℕ → Type 0

@@ -194,7 +194,8 @@ impl Units {
     /// one that is left to the next round are left to that, too. It ends at one of which both are noted already, and so of those around it.
     fn note_due(&self, splitting: &mut Splitting, paying: &Paying, round: u32, pc: u16)
         requires { pc < 4096 }
-        ensures { splitting.new.jumps ≡ splitting.old.jumps }
+        ensures jumps { splitting.new.jumps ≡ splitting.old.jumps }
+        ensures count { splitting.new.nests.count ≡ splitting.old.nests.count }
     {
         let mut left = false;
         let mut inner = true;
@@ -244,6 +245,7 @@ impl Units {
         requires { to < 4096 }
         ensures past { result ≡ false → PricePasses graph.now.arcs self.now.pay }
         ensures jumps { splitting.new.jumps ≡ splitting.old.jumps }
+        ensures count { splitting.new.nests.count ≡ splitting.old.nests.count }
     {
         let mut lead = graph.first_into(to);
         for _ in 0..2 * u32::from(MOST_INSTRS) {
@@ -278,6 +280,7 @@ impl Units {
         ensures within { StayWithin graph.now.arcs self.old.pay self.new.pay }
         ensures lack { IfErr result (IsLack graph.now.arcs splitting.new self.new) }
         ensures jumps { splitting.new.jumps ≡ splitting.old.jumps }
+        ensures count { splitting.new.nests.count ≡ splitting.old.nests.count }
     {
         let mut fits = true;
         while let Some(pc) = self.waits.take() {
@@ -301,6 +304,7 @@ impl Units {
         ensures within { StayWithinLoops graph.now.arcs splitting.old.jumps pays self.old.pay self.new.pay }
         ensures lack { IfErr result (IsLack graph.now.arcs splitting.new self.new) }
         ensures jumps { splitting.new.jumps ≡ splitting.old.jumps }
+        ensures count { splitting.new.nests.count ≡ splitting.old.nests.count }
     {
         let piece = &paying.nest.piece;
         for x in piece.begin..piece.end {
@@ -320,12 +324,14 @@ impl Units {
         id: u16,
         round: u32,
     ) -> Result<(), Lack>
-        requires { id < 4096 }
+        requires room { id < 4096 }
+        requires few { id < splitting.old.nests.count }
         ensures wanted { StayWanted graph.now.arcs self.old.pay self.new.pay }
         ensures carried { StayCarried graph.now self.old.pay self.new.pay }
         ensures within { StayWithinLoops graph.now.arcs splitting.old.jumps pays self.old.pay self.new.pay }
         ensures lack { IfErr result (IsLack graph.now.arcs splitting.new self.new) }
         ensures jumps { splitting.new.jumps ≡ splitting.old.jumps }
+        ensures count { splitting.new.nests.count ≡ splitting.old.nests.count }
     {
         let mut nest = splitting.nests.at(id);
         nest.due = false;

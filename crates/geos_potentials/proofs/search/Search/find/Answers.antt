@@ -38,7 +38,7 @@ returns-in-Err-pay-clause-way c = λ notes.
     let noted = subst (λ (g : Graph). AreArcs image body.r c.args.known.now c.args.touched.now g.arcs) (sym c.pay.ensures.graph) c.note.ensures.arcs in
     let outside = subst (λ (g : Graph). NoArcsOutside image body.r g.arcs) (sym c.pay.ensures.graph) c.note.ensures.outside in (
       c.in-Err-pay.ensures.lack,
-      λ is. never-pay image body.r c.args.known.now c.args.touched.now arcs noted outside search.units.pay
+      λ is. never-pay image body.r c.args.known.now c.args.touched.now arcs noted outside search.units.pay search.splitting
           (subst (IsLack arcs search.splitting search.units) is c.in-Err-pay.ensures.lack),
     )
 

@@ -34,3 +34,4 @@ returns-clause-within c = λ law base passes carried holds before.
 pub returns-in-Err-clause-lack : goal.returns-in-Err-clause-lack
 returns-in-Err-clause-lack c = c.in-Err.ensures.lack
     (λ other. rw c.begin-paying.ensures.id (c.set.ensures.there other ∙ sym c.begin-paying.ensures.nest))
+    (rw (c.begin-paying.ensures.id, c.set.ensures.count) c.requires.few)
