@@ -38,25 +38,28 @@ pub record StayNoted (old next : Classes) : Type 0 where
 abbrev pub NotesIdle : Parts → ℕ → Classes → Type 0
 NotesIdle image r classes = (pc k : ℕ) → IsPcOf image r pc → noted_idle classes pc k ≡ true → MayNotPay image r k pc
 
--- the edge of a pc leads to another, and it is noted of the counter that it takes from, if there is one, that this may not pay
-pub record LeadsNotedIdle (arcs : List (List (Option Arc))) (classes : Classes) (pc : ℕ) (branch : Bool) (to : ℕ) : Type 0 where
+-- the edge of a place of a piece leads to another, and it is noted of the counter that it takes from, if there is one, that this may not pay
+pub record LeadsNotedIdle (arcs : List (List (Option Arc))) (classes : Classes) (order : Order) (piece : Piece) (pc : ℕ) (branch : Bool)
+    (to : ℕ) : Type 0 where
+  pub here : HasPlace order piece pc
   pub arc : Arc
   pub read : arc_at arcs pc branch ≡ Some arc
   pub leads : arc.to ≡ to
   pub idle : (k : ℕ) → taken_from arc.counting ≡ Some k → noted_idle classes pc k ≡ true
 
 -- such edges lead from a pc to another; each says whether it is the one to a target
-abbrev pub IsNotedIdleWay : List (List (Option Arc)) → Classes → ℕ → List Bool → ℕ → Type 0
-IsNotedIdleWay arcs classes from [] to = from ≡ to
-IsNotedIdleWay arcs classes from (branch ∷ branches) to = (next : ℕ) × LeadsNotedIdle arcs classes from branch next
-    × IsNotedIdleWay arcs classes next branches to
+abbrev pub IsNotedIdleWay : List (List (Option Arc)) → Classes → Order → Piece → ℕ → List Bool → ℕ → Type 0
+IsNotedIdleWay arcs classes order piece from [] to = from ≡ to
+IsNotedIdleWay arcs classes order piece from (branch ∷ branches) to = (next : ℕ)
+    × LeadsNotedIdle arcs classes order piece from branch next × IsNotedIdleWay arcs classes order piece next branches to
 
--- control goes round by such edges
-pub record GoesRoundIdle (image : Parts) (r : ℕ) (arcs : List (List (Option Arc))) (classes : Classes) : Type 0 where
+-- control goes round by such edges in a piece
+pub record GoesRoundIdle (image : Parts) (r : ℕ) (arcs : List (List (Option Arc))) (classes : Classes) (order : Order) (piece : Piece)
+    : Type 0 where
   pub from : ℕ
   pub begins : IsPcOf image r from
   pub branch : Bool
   pub next : ℕ
-  pub first : LeadsNotedIdle arcs classes from branch next
+  pub first : LeadsNotedIdle arcs classes order piece from branch next
   pub branches : List Bool
-  pub way : IsNotedIdleWay arcs classes next branches from
+  pub way : IsNotedIdleWay arcs classes order piece next branches from
