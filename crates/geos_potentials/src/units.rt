@@ -1,6 +1,6 @@
 //! What a unit of each counter pays for, nest by nest: as much as ways round lack that go through its LOOPs.
 
-ghost use Rattle.std.specs.Prelude.{◌≡◌, ◌≢◌, ◌<◌, ◌≤◌, ℕ, true, false, [], IfErr};
+ghost use Rattle.std.specs.Prelude.{◌≡◌, ◌≢◌, ◌<◌, ◌≤◌, ◌+◌, ℕ, max, true, false, [], IfErr};
 ghost use Rattle.geos_potentials.specs.Arcs.{IsLink, unit_at, price_of, paid_by};
 ghost use Rattle.geos_potentials.specs.Carried.{AreCarried, AreHeld, Carries, NoneHeld, StayCarried};
 ghost use Rattle.geos_potentials.specs.Demands.{AreWanted, HaveGrown, StayWanted};
@@ -78,6 +78,7 @@ impl Units {
         ensures more { result ≡ true → self.old.looks < self.new.looks }
         ensures few { result ≡ true → self.new.looks ≤ LOOKS }
         ensures past { result ≡ false → LOOKS < self.new.looks }
+        ensures most { self.new.looks ≤ self.old.looks + max edges 1 }
     {
         self.looks = self.looks.saturating_add(edges.max(1));
         self.looks <= LOOKS
@@ -88,6 +89,7 @@ impl Units {
         ensures pay { self.new.pay ≡ self.old.pay }
         ensures few { result ≡ true → round ≤ LOOKS }
         ensures past { result ≡ false → LOOKS < self.new.looks }
+        ensures most { self.new.looks ≤ max self.old.looks round + max nests 1 }
     {
         self.looks = self.looks.max(round);
         self.look(u32::from(nests))
@@ -174,7 +176,8 @@ impl Units {
 
     /// Notes from where the counter of a nest is kept up to its LOOPs.
     fn note_before(&mut self, graph: &Graph, splitting: &Splitting, paying: &Paying)
-        ensures { self.new.pay ≡ self.old.pay }
+        ensures pay { self.new.pay ≡ self.old.pay }
+        ensures looks { self.new.looks ≤ self.old.looks + 4096 }
     {
         // It may go back over all edges.
         self.looks = self.looks.saturating_add(u32::from(MOST_INSTRS));
