@@ -8,6 +8,7 @@ pub mod Unpayable
 pub mod Demand
 pub mod Spreading
 pub mod Idling
+pub mod Coming
 pub mod Choosing
 pub mod Accepted
 pub mod Numbered
