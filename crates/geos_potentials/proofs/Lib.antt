@@ -20,3 +20,4 @@ pub mod Led
 pub mod Carrying
 pub mod Within
 pub mod Untouched
+pub mod Setting
