@@ -13,3 +13,4 @@ pub mod Answering
 pub mod Final
 pub mod Holding
 pub mod Tests
+pub mod Kept

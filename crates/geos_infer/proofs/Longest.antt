@@ -16,6 +16,7 @@ use Rattle.geos_potentials.specs.Trails.{IsTrail}
 use Rattle.geos_rows.specs.Why.{LeadsTo}
 use Rattle.geos_potentials.specs.declared.unpaid.BackWay.{BackWay}
 use Rattle.geos_infer.specs.declared.cause.Cause.TheVariants.{SlotsDiffer, NoLoop, SetWithin, TouchedWithin, TouchedBefore, InTurn, InRing, StepsPass, WordUnbounded, NumberHigh, GivenUp, StepsMayPass, NoSteps, Unfound, Unknown}
+use Rattle.geos_infer.proofs.Kept.{kept-any}
 use Rattle.geos_rows.proofs.Came.{comes-to}
 use Rattle.geos_rows.proofs.Ends.{code-at, leads-one}
 
@@ -60,8 +61,8 @@ module _ (image : Parts) (r : ℕ) (ahead : OnlyAhead image r) where
       let rest = trail-ahead counter trail.0 branches to trail.1.stays trail.2 in
       omega arith
 
-  round-ahead : (from to : ℕ) → IsPcOf image r from → ComesRound image r from to → from ≤ to
-  round-ahead from to here round = trail-ahead None from round.0 to here round.1
+  round-ahead : (counter : Option ℕ) (from to : ℕ) → IsPcOf image r from → ComesRound image r counter from to → from ≤ to
+  round-ahead counter from to here round = trail-ahead counter from round.0 to here round.1
 
   kept-ahead : (counter at to : ℕ) → IsKept image r counter at to → at < to
   kept-ahead counter at to kept = let further = trail-ahead (Some counter) (at + 1) kept.branches to kept.behind kept.trail in omega arith
@@ -70,10 +71,10 @@ module _ (image : Parts) (r : ℕ) (ahead : OnlyAhead image r) where
   loop-ahead back counter loops = leads-ahead back.from back.to true loops.from loops.to loops.leads
 
   -- by no LOOP control goes round
-  none-round : (back : BackWay) (counter : ℕ) → LoopsTo image r back counter → ComesRound image r back.to back.from → ⊥
+  none-round : (back : BackWay) (counter : ℕ) → LoopsTo image r back counter → ComesRound image r None back.to back.from → ⊥
   none-round back counter loops round =
       let less = loop-ahead back counter loops in
-      let again = round-ahead back.to back.from loops.to round in
+      let again = round-ahead None back.to back.from loops.to round in
       omega arith
 
 -- Causes
@@ -89,25 +90,26 @@ none-other image r (NoLoop back) none other holds =
     omega arith
 none-other image r (SetWithin within) none other holds =
     let less = loop-ahead image r none.steps.ahead within.back within.counter holds.loops in
-    let round = round-ahead image r none.steps.ahead within.back.to within.at holds.loops.to holds.round in
-    let kept = kept-ahead image r none.steps.ahead within.counter within.at within.back.from holds.kept in
+    let round = round-ahead image r none.steps.ahead (Some within.counter) within.back.to within.at holds.loops.to holds.round in
+    let kept = kept-ahead image r none.steps.ahead within.counter within.at within.back.from
+    (kept-any image r within.counter within.at (Some within.back.to) within.back.from holds.kept) in
     omega arith
 none-other image r (TouchedWithin within) none other holds =
     let less = loop-ahead image r none.steps.ahead within.back within.counter holds.0.left.loops in
-    let round = round-ahead image r none.steps.ahead within.back.to within.at holds.0.left.loops.to holds.0.round in
+    let round = round-ahead image r none.steps.ahead None within.back.to within.at holds.0.left.loops.to holds.0.round in
     let kept = kept-ahead image r none.steps.ahead within.counter within.at within.back.from holds.0.left.kept in
     omega arith
 none-other image r (TouchedBefore within) none other holds = none-round image r none.steps.ahead within.back
     within.counter holds.0.left.loops holds.0.round
 none-other image r (InTurn both) none other holds =
     let less = loop-ahead image r none.steps.ahead both.back both.counter holds.loops in
-    let round = round-ahead image r none.steps.ahead both.back.to both.at holds.loops.to holds.sets.round in
-    let again = round-ahead image r none.steps.ahead both.at both.back.from holds.sets.here holds.sets.again in
+    let round = round-ahead image r none.steps.ahead (Some both.counter) both.back.to both.at holds.loops.to holds.sets.round in
+    let again = round-ahead image r none.steps.ahead (Some both.counter) both.at both.back.from holds.sets.here holds.sets.again in
     omega arith
 none-other image r (InRing ring) none other holds =
     let less = loop-ahead image r none.steps.ahead ring.back ring.counter holds.loops in
-    let round = round-ahead image r none.steps.ahead ring.back.to ring.at holds.loops.to holds.sets.round in
-    let again = round-ahead image r none.steps.ahead ring.at ring.back.from holds.sets.here holds.sets.again in
+    let round = round-ahead image r none.steps.ahead (Some ring.counter) ring.back.to ring.at holds.loops.to holds.sets.round in
+    let again = round-ahead image r none.steps.ahead (Some ring.counter) ring.at ring.back.from holds.sets.here holds.sets.again in
     omega arith
 none-other image r StepsPass none other holds =
     let past_way = holds.2 in

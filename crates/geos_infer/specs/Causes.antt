@@ -1,5 +1,5 @@
 -- Causes for which no rows or no numbers of steps are found for a routine, and what each says.
-use Rattle.std.specs.Prelude.{◌≡◌, ◌≢◌, ◌≤◌, ◌<◌, ℕ, Bool, ◌&&◌, List, [], ◌∷◌, true, false, ◌==◌, Option, None, length}
+use Rattle.std.specs.Prelude.{◌≡◌, ◌≢◌, ◌≤◌, ◌<◌, ◌+◌, ℕ, Bool, ◌&&◌, List, [], ◌∷◌, true, false, ◌==◌, Option, None, Some, length}
 use Rattle.geos_opcodes.specs.declared.opcode.Opcode.{Opcode}
 use Rattle.geos_opcodes.specs.declared.opcode.Opcode.TheVariants.{Setk, Setkw, Loop}
 use Rattle.geos_image.specs.declared.instr.Instr.{Instr}
@@ -11,7 +11,7 @@ use Rattle.geos_rows.specs.Flow.{row_of, known_at}
 use Rattle.geos_rows.specs.Reached.{FitWhereReached}
 use Rattle.geos_potentials.specs.Accepted.{HasAccepted}
 use Rattle.geos_rows.specs.Why.{LeadsTo, AreApart, MeetAlike}
-use Rattle.geos_potentials.specs.Trails.{IsTrail}
+use Rattle.geos_potentials.specs.Trails.{IsTrail, LeadsKeeping}
 use Rattle.geos_infer.specs.Taken as taken
 use Rattle.geos_infer.specs.Ahead.{MayPass, NonePasses}
 use Rattle.geos_potentials.specs.declared.unpaid.BackWay.{BackWay}
@@ -49,17 +49,29 @@ pub record LoopsTo (image : Parts) (r : ℕ) (back : BackWay) (counter : ℕ) : 
   pub to : IsPcOf image r back.to
   pub loops : PassesAt image back.from (λ i. loops_on counter i i.opcode)
 
--- control can come from one pc of routine r to another
-abbrev pub ComesRound : Parts → ℕ → ℕ → ℕ → Type 0
-ComesRound image r from to = (branches : List Bool) × IsTrail image r None from branches to
+-- control can come from one pc of routine r to another, and keep the counter, if one is asked for
+abbrev pub ComesRound : Parts → ℕ → Option ℕ → ℕ → ℕ → Type 0
+ComesRound image r counter from to = (branches : List Bool) × IsTrail image r counter from branches to
 
--- from a LOOP's target control comes to where its counter is set, and from there with the counter to the LOOP
+-- such edges lead from a pc to another, none of them from a third; each says whether it is the one to a target
+abbrev pub IsTrailBut : Parts → ℕ → Option ℕ → Option ℕ → ℕ → List Bool → ℕ → Type 0
+IsTrailBut image r counter but from [] to = from ≡ to
+IsTrailBut image r counter but from (branch ∷ branches) to = (next : ℕ) × (but ≢ Some from) × LeadsKeeping image r counter from branch next
+    × IsTrailBut image r counter but next branches to
+
+-- behind a pc the counter is kept up to another, by edges of which none is from a third
+pub record IsKeptBut (image : Parts) (r counter at : ℕ) (but : Option ℕ) (to : ℕ) : Type 0 where
+  pub behind : IsPcOf image r (at + 1)
+  pub branches : List Bool
+  pub trail : IsTrailBut image r (Some counter) but (at + 1) branches to
+
+-- within one turn of a loop, from a LOOP's target on, control comes with its counter to where that is set, and from there to the LOOP
 pub record SetsWithin (image : Parts) (r : ℕ) (within : Within) : Type 0 where
   pub loops : LoopsTo image r within.back within.counter
   pub here : IsPcOf image r within.at
   pub sets : PassesAt image within.at (λ i. sets_counter within.counter i i.opcode)
-  pub kept : IsKept image r within.counter within.at within.back.from
-  pub round : ComesRound image r within.back.to within.at
+  pub kept : IsKeptBut image r within.counter within.at (Some within.back.to) within.back.from
+  pub round : ComesRound image r (Some within.counter) within.back.to within.at
 
 -- a routine is called that touches the counter of a LOOP, and it is not set from there to the LOOP
 pub record LeavesTouched (image : Parts) (r : ℕ) (within : Within) : Type 0 where
@@ -71,41 +83,44 @@ pub record LeavesTouched (image : Parts) (r : ℕ) (within : Within) : Type 0 wh
 -- the same, and control comes from the LOOP's target to the LOOP
 pub record TouchesBefore (image : Parts) (r : ℕ) (within : Within) : Type 0 where
   pub left : LeavesTouched image r within
-  pub round : ComesRound image r within.back.to within.back.from
+  pub round : ComesRound image r None within.back.to within.back.from
 
 -- the same, and control comes from the LOOP's target to the call
 pub record TouchesWithin (image : Parts) (r : ℕ) (within : Within) : Type 0 where
   pub left : LeavesTouched image r within
-  pub round : ComesRound image r within.back.to within.at
+  pub round : ComesRound image r None within.back.to within.at
 
--- in the loop that a LOOP closes, the counter of another LOOP is set, and kept from there to that
-pub record SetsFor (image : Parts) (r : ℕ) (back other : BackWay) (counter at : ℕ) : Type 0 where
+-- in the loop that a LOOP closes, which goes round with its own counter, that of another LOOP is set, and kept from there to that
+pub record SetsFor (image : Parts) (r : ℕ) (back : BackWay) (own : ℕ) (other : BackWay) (counter at : ℕ) : Type 0 where
+  pub differ : back.from ≢ other.from
   pub here : IsPcOf image r at
   pub sets : PassesAt image at (λ i. sets_counter counter i i.opcode)
   pub kept : IsKept image r counter at other.from
-  pub round : ComesRound image r back.to at
-  pub again : ComesRound image r at back.from
+  pub round : ComesRound image r (Some own) back.to at
+  pub again : ComesRound image r (Some own) at back.from
 
 -- behind a pc the counter is kept up to a LOOP that takes from it, and control goes round by that
 pub record PaysForLoop (image : Parts) (r counter at : ℕ) : Type 0 where
   pub back : BackWay
   pub loops : LoopsTo image r back counter
   pub kept : IsKept image r counter at back.from
-  pub round : ComesRound image r back.to back.from
+  pub round : ComesRound image r None back.to back.from
 
 -- two LOOPs close loops in each of which the counter of the other is set for it
 pub record WaitInTurn (image : Parts) (r : ℕ) (both : LoopPair) : Type 0 where
   pub loops : LoopsTo image r both.back both.counter
   pub other_loops : LoopsTo image r both.other both.other_counter
-  pub sets : SetsFor image r both.back both.other both.other_counter both.at
-  pub other_sets : SetsFor image r both.other both.back both.counter both.other_at
+  pub sets : SetsFor image r both.back both.counter both.other both.other_counter both.at
+  pub other_sets : SetsFor image r both.other both.other_counter both.back both.counter both.other_at
 
 -- in the loop that a LOOP closes, the counter of another is set for it
 pub record WaitsFor (image : Parts) (r : ℕ) (back other : BackWay) : Type 0 where
+  pub own : ℕ
   pub counter : ℕ
   pub at : ℕ
+  pub own_loops : LoopsTo image r back own
   pub loops : LoopsTo image r other counter
-  pub sets : SetsFor image r back other counter at
+  pub sets : SetsFor image r back own other counter at
 
 -- LOOPs from one on up to another wait so each for the next; of those between, the last one stands first
 abbrev pub WaitOn : Parts → ℕ → BackWay → List BackWay → BackWay → Type 0
@@ -115,10 +130,10 @@ WaitOn image r from (back ∷ before) to = WaitsFor image r back to × WaitOn im
 -- a LOOP waits so for the next, this for a third, and others from there on each for the next, up to the first
 pub record WaitInRing (image : Parts) (r : ℕ) (ring : LoopRing) : Type 0 where
   pub loops : LoopsTo image r ring.back ring.counter
-  pub sets : SetsFor image r ring.back ring.next ring.next_counter ring.at
+  pub sets : SetsFor image r ring.back ring.counter ring.next ring.next_counter ring.at
   pub next_loops : LoopsTo image r ring.next ring.next_counter
   pub third : BackWay
-  pub next_sets : SetsFor image r ring.next third ring.third_counter ring.next_at
+  pub next_sets : SetsFor image r ring.next ring.next_counter third ring.third_counter ring.next_at
   pub third_loops : LoopsTo image r third ring.third_counter
   pub others : List BackWay
   pub rest : WaitOn image r third others ring.back

@@ -15,7 +15,8 @@ use geos_rows::Body;
 /// How many pairs of LOOPs are looked at.
 const PAIRS: u16 = 256;
 
-/// The place of a piece, in the loop that a LOOP closes, where the counter of another is set and kept from there to it.
+/// The place of a piece, in the loop that a LOOP closes, which goes round with its own counter, where that of another is set and kept from
+/// there to it.
 pub(crate) fn set_for(
     body: &Body,
     touching: &Touching,
@@ -23,6 +24,7 @@ pub(crate) fn set_for(
     splitting: &Splitting,
     piece: &Piece,
     back: &BackWay,
+    own: u8,
     other: &BackWay,
     counter: u8,
     trails: &mut Trails,
@@ -31,13 +33,14 @@ pub(crate) fn set_for(
     requires to { back.now.to < 4096 }
     requires other { other.now.from < 4096 }
     requires touched { KnowsTouched body.now.image.now touching.now }
-    ensures { IfSome result (SetsFor body.now.image.now body.now.r back.now other.now counter) }
+    ensures { IfSome result (SetsFor body.now.image.now body.now.r back.now own other.now counter) }
 {
-    note_set(body, graph, &splitting.order, piece, counter, trails);
-    let at = kept_from(body, touching, trails, counter, other.from)?;
-    if sets_at(body, counter, at)
-        && comes_round(body, touching, graph, trails, back.to, at)
-        && comes_round(body, touching, graph, trails, at, back.from)
+    note_set(body, graph, &splitting.order, piece, counter, None, trails);
+    let at = kept_from(body, touching, trails, counter, None, other.from)?;
+    if back.from != other.from
+        && sets_at(body, counter, at)
+        && comes_round(body, touching, graph, trails, Some(own), back.to, at)
+        && comes_round(body, touching, graph, trails, Some(own), at, back.from)
     {
         Some(at)
     } else {
@@ -82,6 +85,7 @@ fn find_pair(
         splitting,
         &piece,
         &back,
+        counter,
         &other,
         other_counter,
         trails,
@@ -93,6 +97,7 @@ fn find_pair(
         splitting,
         &other_piece,
         &other,
+        other_counter,
         &back,
         counter,
         trails,

@@ -40,7 +40,15 @@ fn set_in(
     ensures { IfSome result (λ pc. pc < body.now.end) }
 {
     let counter = splitting.nests.at(on).counter;
-    note_set(body, graph, &splitting.order, &nest.piece, counter, trails);
+    note_set(
+        body,
+        graph,
+        &splitting.order,
+        &nest.piece,
+        counter,
+        None,
+        trails,
+    );
     for pc in body.start..body.end {
         if nest_of(splitting, pc) == Some(on) && trails.comes(pc) {
             return Some(pc);
@@ -49,20 +57,21 @@ fn set_in(
     None
 }
 
-/// The loop for which that of a LOOP waits, by what was noted of their nests.
+/// The loop for which that of a LOOP, which takes from a counter, waits, by what was noted of their nests.
 fn awaited_by(
     body: &Body,
     touching: &Touching,
     graph: &Graph,
     splitting: &Splitting,
     back: &BackWay,
+    own: u8,
     trails: &mut Trails,
 ) -> Option<Awaited>
     requires from { back.now.from < 4096 }
     requires to { back.now.to < 4096 }
     requires touched { KnowsTouched body.now.image.now touching.now }
     ensures loops { IfSome result (λ other. LoopsTo body.now.image.now body.now.r other.back other.counter) }
-    ensures sets { IfSome result (λ other. SetsFor body.now.image.now body.now.r back.now other.back other.counter other.at) }
+    ensures sets { IfSome result (λ other. SetsFor body.now.image.now body.now.r back.now own other.back other.counter other.at) }
     ensures from { IfSome result (λ other. other.back.from < 4096) }
     ensures to { IfSome result (λ other. other.back.to < 4096) }
 {
@@ -75,7 +84,7 @@ fn awaited_by(
     let (other, counter) = loop_at(body, pc)?;
     let piece = &nest.piece;
     let at = set_for(
-        body, touching, graph, splitting, piece, back, &other, counter, trails,
+        body, touching, graph, splitting, piece, back, own, &other, counter, trails,
     )?;
     Some(Awaited {
         back: other,
@@ -84,30 +93,34 @@ fn awaited_by(
     })
 }
 
-/// Whether loops from one on wait each for the next, up to another.
+/// Whether loops from one on, that of a LOOP which takes from a counter, wait each for the next, up to another.
 fn wait_on(
     body: &Body,
     touching: &Touching,
     graph: &Graph,
     splitting: &Splitting,
     from: &BackWay,
+    own: u8,
     to: &BackWay,
     trails: &mut Trails,
 ) -> bool
     requires first_from { from.now.from < 4096 }
     requires first_to { from.now.to < 4096 }
+    requires loops { LoopsTo body.now.image.now body.now.r from.now own }
     requires touched { KnowsTouched body.now.image.now touching.now }
     ensures { result ≡ true → (others : List BackWay) × WaitOn body.now.image.now body.now.r from.now others to.now }
 {
     let mut back = *from;
+    let mut taken = own;
     for _ in 0..LOOPS {
         if back.from == to.from && back.to == to.to {
             return true;
         }
-        let Some(other) = awaited_by(body, touching, graph, splitting, &back, trails) else {
+        let Some(other) = awaited_by(body, touching, graph, splitting, &back, taken, trails) else {
             return false;
         };
         back = other.back;
+        taken = other.counter;
     }
     false
 }
@@ -129,7 +142,7 @@ fn last_awaited(
 {
     let (mut back, mut taken) = loop_at(body, from)?;
     for _ in 0..LOOPS {
-        let other = awaited_by(body, touching, graph, splitting, &back, trails)?;
+        let other = awaited_by(body, touching, graph, splitting, &back, taken, trails)?;
         back = other.back;
         taken = other.counter;
     }
@@ -167,9 +180,26 @@ pub(crate) fn find_in_ring(
 {
     let from = most_paid(body, splitting)?;
     let (back, counter) = last_awaited(body, touching, graph, splitting, from, trails)?;
-    let next = awaited_by(body, touching, graph, splitting, &back, trails)?;
-    let third = awaited_by(body, touching, graph, splitting, &next.back, trails)?;
-    if wait_on(body, touching, graph, splitting, &third.back, &back, trails) {
+    let next = awaited_by(body, touching, graph, splitting, &back, counter, trails)?;
+    let third = awaited_by(
+        body,
+        touching,
+        graph,
+        splitting,
+        &next.back,
+        next.counter,
+        trails,
+    )?;
+    if wait_on(
+        body,
+        touching,
+        graph,
+        splitting,
+        &third.back,
+        third.counter,
+        &back,
+        trails,
+    ) {
         Some(LoopRing {
             back,
             counter,

@@ -35,7 +35,7 @@ fn kept_at(
     ensures ends { IfSome result (λ back. back.to < 4096) }
 {
     let (back, other) = loop_at(body, from)?;
-    if other == counter && is_kept(body, touching, trails, counter, at, from) {
+    if other == counter && is_kept(body, touching, trails, counter, at, None, from) {
         Some(back)
     } else {
         None
@@ -63,7 +63,7 @@ fn find_kept(
     let behind = graph.arc(at, false)?.to;
     trails.clear(body);
     trails.note(behind, None);
-    trails.go(graph, Some(counter));
+    trails.go(graph, Some(counter), None);
     for from in body.start..body.end {
         if let Jump::Pays(_) = splitting.jumps.at(from) {
             if let Some(back) = kept_at(body, touching, trails, counter, at, from) {
@@ -90,7 +90,7 @@ fn pays_for_loop(
     ensures { result ≡ true → PaysForLoop body.now.image.now body.now.r counter at }
 {
     match find_kept(body, touching, graph, splitting, counter, at, trails) {
-        Some(back) => comes_round(body, touching, graph, trails, back.to, back.from),
+        Some(back) => comes_round(body, touching, graph, trails, None, back.to, back.from),
         None => false,
     }
 }

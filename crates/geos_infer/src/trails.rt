@@ -1,9 +1,10 @@
 //! Ways of control within a routine: noted by an edge into each place, and followed back.
 
-ghost use Rattle.std.specs.Prelude.{◌≡◌, ◌<◌, true, List, Bool, Option, IfSome};
+ghost use Rattle.std.specs.Prelude.{◌≡◌, ◌≢◌, ◌<◌, true, false, Some, List, Bool, IfSome};
 ghost use Rattle.geos_image.specs.Parts.{Parts};
 ghost use Rattle.geos_potentials.specs.Touching.{KnowsTouched, NotesAllTouched};
-ghost use Rattle.geos_potentials.specs.Trails.{LeadsKeeping, IsTrail, keeps};
+ghost use Rattle.geos_infer.specs.Causes.{IsTrailBut};
+ghost use Rattle.geos_potentials.specs.Trails.{LeadsKeeping, keeps};
 
 use geos_image::{Instr, MOST_INSTRS, Opcode};
 use geos_potentials::{Graph, Pile, Touching, touches};
@@ -79,6 +80,16 @@ fn came_to(body: &Body, touching: &Touching, counter: Option<u8>, came: Came, to
     }
 }
 
+/// Whether a place is the one that is given, if one is.
+fn is_at(given: Option<u16>, pc: u16) -> bool
+    ensures { result ≡ false → given ≢ Some pc }
+{
+    match given {
+        Some(there) => there == pc,
+        None => false,
+    }
+}
+
 impl Trails {
     pub(crate) fn new(alloc: Global) -> Result<Trails, AllocError> {
         let (seen, came) = two_tables(alloc, false, None)?;
@@ -123,14 +134,16 @@ impl Trails {
         }
     }
 
-    /// It goes on from the places that are noted along edges that keep the counter, if one is asked for.
-    pub(crate) fn go(&mut self, graph: &Graph, counter: Option<u8>) {
+    /// It goes on from the places that are noted, but one, along edges that keep the counter, if one is asked for.
+    pub(crate) fn go(&mut self, graph: &Graph, counter: Option<u8>, but: Option<u16>) {
         for _ in 0..MOST_INSTRS {
             let Some(pc) = self.waits.take() else {
                 return;
             };
-            self.go_along(graph, counter, pc, false);
-            self.go_along(graph, counter, pc, true);
+            if !is_at(but, pc) {
+                self.go_along(graph, counter, pc, false);
+                self.go_along(graph, counter, pc, true);
+            }
         }
     }
 
@@ -160,18 +173,19 @@ impl Trails {
         None
     }
 
-    /// Whether the edges that are noted lead from one place to another, and each keeps the counter.
+    /// Whether the edges that are noted lead from one place to another, each keeps the counter, and none is from a third place.
     pub(crate) fn lead(
         &self,
         body: &Body,
         touching: &Touching,
         counter: Option<u8>,
+        but: Option<u16>,
         from: u16,
         to: u16,
     ) -> bool
         requires inside { to < 4096 }
         requires touched { KnowsTouched body.now.image.now touching.now }
-        ensures { result ≡ true → (branches : List Bool) × IsTrail body.now.image.now body.now.r counter from branches to }
+        ensures { result ≡ true → (branches : List Bool) × IsTrailBut body.now.image.now body.now.r counter but from branches to }
     {
         let mut at = to;
         for _ in body.start..body.end {
@@ -181,6 +195,9 @@ impl Trails {
             let Some(edge) = self.came.at(at) else {
                 return false;
             };
+            if is_at(but, edge.from) {
+                return false;
+            }
             if !came_to(body, touching, counter, edge, at) {
                 return false;
             }

@@ -1,11 +1,10 @@
 //! Counters that are set, or that a call touches, where their own loops go round.
 
-ghost use Rattle.std.specs.Prelude.{◌≡◌, ◌<◌, ◌≤◌, true, List, Bool, None, IfSome};
+ghost use Rattle.std.specs.Prelude.{◌≡◌, ◌<◌, ◌≤◌, true, IfSome};
 ghost use Rattle.geos_potentials.specs.Touching.{KnowsTouched};
-ghost use Rattle.geos_infer.specs.Causes.{LoopsTo, SetsWithin, TouchesWithin, TouchesBefore, sets_counter};
+ghost use Rattle.geos_infer.specs.Causes.{LoopsTo, ComesRound, IsKeptBut, SetsWithin, TouchesWithin, TouchesBefore, sets_counter};
 ghost use Rattle.geos_potentials.specs.Idle.{IsKept, PassesAt, calls_touching};
 ghost use Rattle.geos_rows.specs.Code.{IsPcOf};
-ghost use Rattle.geos_potentials.specs.Trails.{IsTrail};
 
 use crate::cause::Within;
 use crate::trails::{Came, Trails};
@@ -62,50 +61,54 @@ fn calls_touching(body: &Body, touching: &Touching, counter: u8, pc: u16) -> boo
     }
 }
 
-/// Whether control can come from one place to another.
+/// Whether control can come from one place to another, and keep the counter, if one is asked for.
 pub(crate) fn comes_round(
     body: &Body,
     touching: &Touching,
     graph: &Graph,
     trails: &mut Trails,
+    counter: Option<u8>,
     from: u16,
     to: u16,
 ) -> bool
     requires first { from < 4096 }
     requires second { to < 4096 }
     requires touched { KnowsTouched body.now.image.now touching.now }
-    ensures { result ≡ true → (branches : List Bool) × IsTrail body.now.image.now body.now.r None from branches to }
+    ensures { result ≡ true → ComesRound body.now.image.now body.now.r counter from to }
 {
     trails.clear(body);
     trails.note(from, None);
-    trails.go(graph, None);
-    trails.lead(body, touching, None, from, to)
+    trails.go(graph, counter, None);
+    trails.lead(body, touching, counter, None, from, to)
 }
 
-/// Whether the counter is kept behind a place on the way to another that is noted.
+/// Whether the counter is kept behind a place on the way to another that is noted, and no edge of that is from a third.
 pub(crate) fn is_kept(
     body: &Body,
     touching: &Touching,
     trails: &Trails,
     counter: u8,
     at: u16,
+    but: Option<u16>,
     to: u16,
 ) -> bool
     requires above { body.now.start ≤ at }
     requires below { at < body.now.end }
     requires inside { to < 4096 }
     requires touched { KnowsTouched body.now.image.now touching.now }
-    ensures { result ≡ true → IsKept body.now.image.now body.now.r counter at to }
+    ensures kept { result ≡ true → IsKept body.now.image.now body.now.r counter at to }
+    ensures but { result ≡ true → IsKeptBut body.now.image.now body.now.r counter at but to }
 {
-    at + 1 < body.end && trails.lead(body, touching, Some(counter), at + 1, to)
+    at + 1 < body.end && trails.lead(body, touching, Some(counter), but, at + 1, to)
 }
 
-/// A place that the way to another comes from that is noted, on which the counter is kept behind that place.
+/// A place that the way to another comes from that is noted, on which the counter is kept behind that place, and no edge is from a third.
 pub(crate) fn kept_from(
     body: &Body,
     touching: &Touching,
     trails: &Trails,
     counter: u8,
+    but: Option<u16>,
     to: u16,
 ) -> Option<u16>
     requires here { to < 4096 }
@@ -113,22 +116,24 @@ pub(crate) fn kept_from(
     ensures inside { IfSome result (λ at. at < body.now.end) }
     ensures within { IfSome result (λ at. IsPcOf body.now.image.now body.now.r at) }
     ensures kept { IfSome result (λ at. IsKept body.now.image.now body.now.r counter at to) }
+    ensures but { IfSome result (λ at. IsKeptBut body.now.image.now body.now.r counter at but to) }
 {
     let at = trails.origin(body, to)?;
-    if body.start <= at && is_kept(body, touching, trails, counter, at, to) {
+    if body.start <= at && is_kept(body, touching, trails, counter, at, but, to) {
         Some(at)
     } else {
         None
     }
 }
 
-/// Notes where control comes with a counter as it is set in a piece.
+/// Notes where control comes with a counter as it is set in a piece, on ways that end where they come to a place.
 pub(crate) fn note_set(
     body: &Body,
     graph: &Graph,
     order: &Order,
     piece: &Piece,
     counter: u8,
+    but: Option<u16>,
     trails: &mut Trails,
 ) {
     trails.clear(body);
@@ -148,7 +153,7 @@ pub(crate) fn note_set(
             }
         }
     }
-    trails.go(graph, Some(counter));
+    trails.go(graph, Some(counter), but);
 }
 
 /// Notes where control comes with a counter as calls leave it that touch it: those in a piece, or all where there is none.
@@ -176,10 +181,10 @@ fn note_touched(
             }
         }
     }
-    trails.go(graph, Some(counter));
+    trails.go(graph, Some(counter), None);
 }
 
-/// A place of a piece where the counter of a LOOP is set, and kept from there to the LOOP, and control comes from the LOOP's target.
+/// A place of a piece where, within a turn of the loop that a LOOP closes, its counter is set, and kept from there to the LOOP.
 pub(crate) fn find_set_within(
     body: &Body,
     touching: &Touching,
@@ -194,9 +199,12 @@ pub(crate) fn find_set_within(
     ensures { IfSome result (SetsWithin body.now.image.now body.now.r) }
 {
     let (back, counter) = loop_at(body, from)?;
-    note_set(body, graph, order, piece, counter, trails);
-    let at = kept_from(body, touching, trails, counter, from)?;
-    if sets_at(body, counter, at) && comes_round(body, touching, graph, trails, back.to, at) {
+    let target = Some(back.to);
+    note_set(body, graph, order, piece, counter, target, trails);
+    let at = kept_from(body, touching, trails, counter, target, from)?;
+    if sets_at(body, counter, at)
+        && comes_round(body, touching, graph, trails, Some(counter), back.to, at)
+    {
         Some(Within { back, counter, at })
     } else {
         None
@@ -220,9 +228,9 @@ pub(crate) fn find_touched_within(
 {
     let (back, counter) = loop_at(body, from)?;
     note_touched(body, graph, Some((order, *piece)), counter, trails);
-    let at = kept_from(body, touching, trails, counter, from)?;
+    let at = kept_from(body, touching, trails, counter, None, from)?;
     if calls_touching(body, touching, counter, at)
-        && comes_round(body, touching, graph, trails, back.to, at)
+        && comes_round(body, touching, graph, trails, None, back.to, at)
     {
         Some(Within { back, counter, at })
     } else {
@@ -244,9 +252,9 @@ pub(crate) fn find_touched_before(
 {
     let (back, counter) = loop_at(body, from)?;
     note_touched(body, graph, None, counter, trails);
-    let at = kept_from(body, touching, trails, counter, from)?;
+    let at = kept_from(body, touching, trails, counter, None, from)?;
     if calls_touching(body, touching, counter, at)
-        && comes_round(body, touching, graph, trails, back.to, from)
+        && comes_round(body, touching, graph, trails, None, back.to, from)
     {
         Some(Within { back, counter, at })
     } else {

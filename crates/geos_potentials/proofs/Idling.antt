@@ -15,14 +15,16 @@ use Rattle.geos_verify.specs.Touched.{touches, noted}
 use Rattle.geos_potentials.specs.declared.arcs.Arc.{Arc}
 use Rattle.geos_potentials.specs.declared.arcs.Counting.{Counting}
 use Rattle.geos_potentials.specs.declared.classes.Classes.{Classes}
+use Rattle.geos_potentials.specs.declared.pieces.Order.{Order}
+use Rattle.geos_potentials.specs.declared.pieces.Piece.{Piece}
 use Rattle.geos_potentials.specs.Arcs.{arc_at, unit_at, counting_of, touched_by, AreArcs}
 use Rattle.geos_rows.specs.Code.{is_loop, IsPcOf}
-use Rattle.geos_potentials.specs.Idle.{calls_touching, MayNotPay, LeadsIdle, IsIdleWay, IsNeverPaid}
+use Rattle.geos_potentials.specs.Idle.{calls_touching, MayNotPay, LeadsIdle, IsIdleWay, IsIdleWayBy, IsNeverPaid, IsNeverPaidBy}
 use Rattle.geos_potentials.specs.Touching.{NotesTouched}
 use Rattle.geos_potentials.specs.Demands.{keeps, forgets, taken_from, IsKeptOver}
 use Rattle.geos_rows.specs.Flow.{row_of, known_at}
 use Rattle.geos_potentials.specs.Spreads.{ComeBehind, ComeFrom, ForgetsIt}
-use Rattle.geos_potentials.specs.Stuck.{NotesIdle, LeadsNotedIdle, IsNotedIdleWay, GoesRoundIdle}
+use Rattle.geos_potentials.specs.Stuck.{HasPlace, NotesIdle, LeadsNotedIdle, IsNotedIdleWay, GoesRoundIdle}
 use Rattle.geos_potentials.specs.Trails.{IsTrail, LeadsKeeping, keeps_counter}
 use Rattle.geos_rows.specs.Why.{LeadsTo}
 use Rattle.geos_potentials.proofs.Demand.{is-arc}
@@ -182,37 +184,58 @@ module _ (image : Parts) (r : ℕ) (known : List (Option Row)) (table : List (Li
     loop-takes row i opcode false e = absurd (false≢true e)
     loop-takes row i _ true e = absurd (false≢true e)
 
-    leads-idle : (pc to : ℕ) (branch : Bool) → IsPcOf image r pc → LeadsNotedIdle arcs classes pc branch to → LeadsIdle image r pc branch to
-    leads-idle pc to branch within lead =
-        let A = is-arc image r known table arcs are pc branch lead.arc within lead.read in
-        let leads = subst (LeadsTo image pc branch) lead.leads A.leads in
-        let same : A.leads.point ≡ leads.point = same_Some A.leads.point leads.point (sym A.leads.there ∙ leads.there) in
-        let i = A.leads.point.instr in record {
-          leads = leads;
-          stays = subst (IsPcOf image r) lead.leads A.stays;
-          idle = λ loops.
-              let here : (branch && is_loop i.opcode) ≡ true =
-              ap (λ (p : Point). branch && is_loop p.instr.opcode) same ∙ loops in
-              let takes : taken_from lead.arc.counting ≡ Some i.a = ap taken_from A.counting
-              ∙ loop-takes (row_of (known_at known pc)) i i.opcode branch here in
-              subst (λ (p : Point). MayNotPay image r p.instr.a pc) same (idle pc i.a within (lead.idle i.a takes));
-        }
+    module _ (order : Order) (piece : Piece) where
+      leads-idle : (pc to : ℕ) (branch : Bool) → IsPcOf image r pc → LeadsNotedIdle arcs classes order piece pc branch to
+          → LeadsIdle image r pc branch to
+      leads-idle pc to branch within lead =
+          let A = is-arc image r known table arcs are pc branch lead.arc within lead.read in
+          let leads = subst (LeadsTo image pc branch) lead.leads A.leads in
+          let same : A.leads.point ≡ leads.point = same_Some A.leads.point leads.point (sym A.leads.there ∙ leads.there) in
+          let i = A.leads.point.instr in record {
+            leads = leads;
+            stays = subst (IsPcOf image r) lead.leads A.stays;
+            idle = λ loops.
+                let here : (branch && is_loop i.opcode) ≡ true =
+                ap (λ (p : Point). branch && is_loop p.instr.opcode) same ∙ loops in
+                let takes : taken_from lead.arc.counting ≡ Some i.a = ap taken_from A.counting
+                ∙ loop-takes (row_of (known_at known pc)) i i.opcode branch here in
+                subst (λ (p : Point). MayNotPay image r p.instr.a pc) same (idle pc i.a within (lead.idle i.a takes));
+          }
 
-    way-idle : (branches : List Bool) (from to : ℕ) → IsPcOf image r from → IsNotedIdleWay arcs classes from branches to
-        → IsIdleWay image r from branches to
-    way-idle [] from to within way = way
-    way-idle (branch ∷ branches) from to within way =
-        let lead = leads-idle from way.0 branch within way.1 in
-        (way.0, lead, way-idle branches way.0 to lead.stays way.2)
+      way-idle : (branches : List Bool) (from to : ℕ) → IsPcOf image r from → IsNotedIdleWay arcs classes order piece from branches to
+          → IsIdleWayBy image r (HasPlace order piece) from branches to
+      way-idle [] from to within way = way
+      way-idle (branch ∷ branches) from to within way =
+          let lead = leads-idle from way.0 branch within way.1 in
+          (way.0, way.1.here, lead, way-idle branches way.0 to lead.stays way.2)
 
-    pub round-never-paid : GoesRoundIdle image r arcs classes → IsNeverPaid image r
-    round-never-paid G =
-        let lead = leads-idle G.from G.next G.branch G.begins G.first in record {
-          from = G.from;
-          begins = G.begins;
-          branch = G.branch;
-          next = G.next;
-          first = lead;
-          branches = G.branches;
-          way = way-idle G.branches G.next G.from lead.stays G.way;
-        }
+      pub round-never-paid : GoesRoundIdle image r arcs classes order piece → IsNeverPaidBy image r (HasPlace order piece)
+      round-never-paid G =
+          let lead = leads-idle G.from G.next G.branch G.begins G.first in record {
+            from = G.from;
+            begins = G.begins;
+            here = G.first.here;
+            branch = G.branch;
+            next = G.next;
+            first = lead;
+            branches = G.branches;
+            way = way-idle G.branches G.next G.from lead.stays G.way;
+          }
+
+-- by some places control goes round in the routine
+
+way-by : (image : Parts) (r : ℕ) (place : ℕ → Type 0) (branches : List Bool) (from to : ℕ) → IsIdleWayBy image r place from branches to
+    → IsIdleWay image r from branches to
+way-by image r place [] from to way = way
+way-by image r place (branch ∷ branches) from to way = (way.0, way.2, way-by image r place branches way.0 to way.3)
+
+pub never-by : (image : Parts) (r : ℕ) (place : ℕ → Type 0) → IsNeverPaidBy image r place → IsNeverPaid image r
+never-by image r place N = record {
+  from = N.from;
+  begins = N.begins;
+  branch = N.branch;
+  next = N.next;
+  first = N.first;
+  branches = N.branches;
+  way = way-by image r place N.branches N.next N.from N.way;
+}

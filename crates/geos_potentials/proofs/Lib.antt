@@ -8,6 +8,7 @@ pub mod Unpayable
 pub mod Demand
 pub mod Spreading
 pub mod Idling
+pub mod Coming
 pub mod Choosing
 pub mod Accepted
 pub mod Numbered
@@ -19,3 +20,4 @@ pub mod Led
 pub mod Carrying
 pub mod Within
 pub mod Untouched
+pub mod Setting

@@ -1,15 +1,15 @@
 -- What is noted in a table of touched counters is touched, wherever calls go.
-use Rattle.std.proofs.Common.{◌≡◌, ◌<◌, ℕ, zero, suc, Bool, true, false, List, [], ◌∷◌, length, take, drop, Option, None, Some, slice_get, set, refl, sym, ap, ◌∙◌, inl, inr, arith, ◌≤◌}
-use Rattle.std.specs.Prelude.{◌&&◌, ◌||◌, ◌==◌, slice_index_or}
+use Rattle.std.proofs.Common.{◌≡◌, ◌<◌, ℕ, zero, suc, Bool, true, false, List, [], ◌∷◌, length, take, drop, Option, None, Some, slice_get, set, refl, sym, ap, subst, ◌∙◌, inl, inr, arith, ◌≤◌}
+use Rattle.std.specs.Prelude.{◌&&◌, ◌||◌, ◌==◌, nat_lt, slice_index_or}
 use Rattle.std.specs.List.{list_any}
 use Rattle.std.proofs.lemmas.List.{get_or-set_other, get_or-set_same}
-use Rattle.std.proofs.lemmas.Bool.{cases_eq, cases_lt, false≢true}
+use Rattle.std.proofs.lemmas.Bool.{cases_eq, cases_lt, and_parts, ltb-true, false≢true}
 use Rattle.std.proofs.lemmas.Option.{slice_get_past}
 use Rattle.geos_image.specs.declared.instr.Instr.{Instr}
 use Rattle.geos_image.specs.declared.routine.Routine.{Routine}
 use Rattle.geos_image.specs.Parts.{Parts, start_of}
 use Rattle.geos_verify.specs.Touched.{calls, counts, points_of, touches_here, touches_within, noted, touches, touches_by, noted_by}
-use Rattle.geos_potentials.specs.Touching.{NotesAllTouched}
+use Rattle.geos_potentials.specs.Touching.{NotesAllTouched, touches_by_those_before}
 
 or-implied : (a b c : Bool) → (b ≡ true → c ≡ true) → (a || b) ≡ true → (a || c) ≡ true
 or-implied true b c h e = refl
@@ -66,6 +66,48 @@ notes-step image table r touched within is notes k c e = elim (cases_eq c r) [
     own (suc (suc (suc zero))) e = e
     own (suc (suc (suc (suc k)))) e = absurd cc
 
+noted-own : (image : Parts) (table : List (List Bool)) (r k : ℕ) → k < 4 → touches_by image table k r ≡ true
+    → slice_index_or (noted_by image table r) k false ≡ true
+noted-own image table r zero few e = e
+noted-own image table r (suc zero) few e = e
+noted-own image table r (suc (suc zero)) few e = e
+noted-own image table r (suc (suc (suc zero))) few e = e
+noted-own image table r (suc (suc (suc (suc k)))) few e = absurd (omega (arith, few))
+
+-- so it is of those before a routine
+abbrev pub NotesOwnBelow : Parts → List (List Bool) → ℕ → Type 0
+NotesOwnBelow image table low = (k r : ℕ) → k < 4 → r < low → touches_by_those_before image table k r ≡ true → noted table k r ≡ true
+
+-- also once that one's counters are noted by the table
+pub own-step : (image : Parts) (table : List (List Bool)) (r : ℕ) (touched : List Bool) → r < length table
+    → touched ≡ noted_by image table r → NotesOwnBelow image table r → NotesOwnBelow image (set table r touched) (suc r)
+own-step image table r touched within is own k c few lt e = elim (cases_lt c r) [
+  | inl earlier ↦ other k c (omega (arith, earlier)) ∙ own k c few earlier
+      (list_any-implied (λ point. touches_here (λ d. nat_lt d c && noted (set table r touched) k d) k point.instr)
+      (λ point. touches_here (λ d. nat_lt d c && noted table k d) k point.instr) (points_of image c)
+      (λ point. here-implied (λ d. nat_lt d c && noted (set table r touched) k d) (λ d. nat_lt d c && noted table k d) k point.instr
+      (λ d. before d c (omega (arith, earlier)))) e)
+  | inr late ↦
+      let same : c ≡ r = omega (arith, late, lt) in
+      let by : touches_by image table k r ≡ true =
+      list_any-implied (λ point. touches_here (λ d. nat_lt d r && noted (set table r touched) k d) k point.instr)
+      (λ point. touches_here (noted table k) k point.instr) (points_of image r)
+      (λ point. here-implied (λ d. nat_lt d r && noted (set table r touched) k d) (noted table k) k point.instr
+      (λ d both. (and_parts (nat_lt d r) (noted table k d) (before d r (omega arith) both)).1))
+      (subst (λ (n : ℕ). touches_by_those_before image (set table r touched) k n ≡ true) same e) in
+      subst (λ (n : ℕ). noted (set table r touched) k n ≡ true) (sym same)
+      (ap (λ (l : List Bool). slice_index_or l k false) (get_or-set_same table r touched [] within ∙ is) ∙ noted-own image table r k few by)
+]
+  where
+    other : (k d : ℕ) → (d ≡ r → ⊥) → noted (set table r touched) k d ≡ noted table k d
+    other k d ne = ap (λ (l : List Bool). slice_index_or l k false) (get_or-set_other table r d touched [] ne)
+
+    before : (d c : ℕ) → c ≤ r → (nat_lt d c && noted (set table r touched) k d) ≡ true → (nat_lt d c && noted table k d) ≡ true
+    before d c le e =
+        let parts = and_parts (nat_lt d c) (noted (set table r touched) k d) e in
+        let less = ltb-true d c parts.0 in
+        rw (parts.0, sym (other k d (omega (arith, less, le))) ∙ parts.1) refl
+
 -- a table in which no counter is noted, of so many routines
 abbrev pub blank_rows : ℕ → List (List Bool)
 blank_rows zero = []
@@ -106,14 +148,6 @@ touching-there image k r e = elim (cases_lt r (length image.routines)) [
   | inl lt ↦ lt
   | inr le ↦ absurd (false≢true (sym (no-routine image (length image.routines) k r (slice_get_past image.routines r le)) ∙ e))
 ]
-
-noted-own : (image : Parts) (table : List (List Bool)) (r k : ℕ) → k < 4 → touches_by image table k r ≡ true
-    → slice_index_or (noted_by image table r) k false ≡ true
-noted-own image table r zero few e = e
-noted-own image table r (suc zero) few e = e
-noted-own image table r (suc (suc zero)) few e = e
-noted-own image table r (suc (suc (suc zero))) few e = e
-noted-own image table r (suc (suc (suc (suc k)))) few e = absurd (omega (arith, few))
 
 module _ (image : Parts) (table : List (List Bool)) (whole : IsWhole image table (length image.routines)) (k : ℕ) (few : k < 4) where
   whole-within : (depth r : ℕ) → touches_within depth image k r ≡ true → noted table k r ≡ true

@@ -18,6 +18,7 @@ use Rattle.geos_potentials.specs.declared.lengths.Share.TheVariants.{Nothing, Pa
 use Rattle.geos_potentials.specs.declared.nests.Nest.{Nest}
 use Rattle.geos_potentials.specs.declared.nests.Splitting.{Splitting}
 use Rattle.geos_potentials.specs.declared.paying.Round.{Round}
+use Rattle.geos_potentials.specs.declared.pieces.Piece.{Piece}
 use Rattle.geos_potentials.specs.declared.units.Lack.{Lack}
 use Rattle.geos_potentials.specs.declared.units.Lack.TheVariants.{SetWithin, Passes, InTurn, NoShare, Looks}
 use Rattle.geos_potentials.specs.declared.units.Units.{Units}
@@ -25,7 +26,7 @@ use Rattle.geos_potentials.specs.Arcs.{arc_at, AreArcs, NoArcsOutside, unit_at, 
 use Rattle.geos_rows.specs.Code.{IsPcOf}
 use Rattle.geos_potentials.specs.Constants.{ConstantsPay, row_known, coefficients_at}
 use Rattle.geos_potentials.specs.Halts.{NeverPay}
-use Rattle.geos_potentials.specs.Lacks.{IsLackIn, IsLack}
+use Rattle.geos_potentials.specs.Lacks.{IsLackIn, IsLack, OfSomeNest}
 use Rattle.geos_potentials.specs.Rounds.{Step, AreSteps, total, cost_of, paid_of, set_by, set_of, pays_in, taken_of, CostsMore, SetsEnough, dearest_price, most_paid_of, CostsPast, HasShare, LinksIn, SetsLow, Adds, AddsUp, AddsUpTo, IsRound, LacksPast}
 use Rattle.geos_potentials.proofs.Demand.{is-arc}
 use Rattle.geos_potentials.proofs.Priced.{arc-paid}
@@ -168,13 +169,14 @@ module _ (jumps : List Jump) (pay : List (List ℕ)) (nest k unit pc : ℕ) (bra
       }
 
 -- from a pc on
-pub up-more : (arcs : List (List (Option Arc))) (jumps : List Jump) (pay : List (List ℕ)) (nest k unit from at : ℕ) (branch : Bool) (link : Link)
-    (round next : Round) → unit ≤ 4294967295 → LinksIn arcs jumps pay nest k unit at branch link → Adds pay k unit round link next link.share
-    → AddsUpTo arcs jumps pay nest k unit from at round → AddsUpTo arcs jumps pay nest k unit from link.to next
-up-more arcs jumps pay nest k unit from at branch link round next few L adds U = record {
-  steps = record { pc = at; branch = branch; arc = L.0 } ∷ U.steps;
-  lead = (sym L.2, L.1, U.lead);
-  adds = adds-more jumps pay nest k unit at branch L.0 link round next U.steps few L.2 U.adds link.share L.3 adds;
+pub up-more : (arcs : List (List (Option Arc))) (splitting : Splitting) (pay : List (List ℕ)) (id : ℕ) (nest : Nest) (unit from at : ℕ)
+    (branch : Bool) (link : Link) (round next : Round) → unit ≤ 4294967295 → LinksIn arcs splitting pay id nest unit at branch link
+    → Adds pay nest.counter unit round link next link.share → AddsUpTo arcs splitting pay id nest unit from at round
+    → AddsUpTo arcs splitting pay id nest unit from link.to next
+up-more arcs splitting pay id nest unit from at branch link round next few L adds U = record {
+  steps = record { pc = at; branch = branch; arc = L.arc } ∷ U.steps;
+  lead = (sym L.to, L.read, L.stays, U.lead);
+  adds = adds-more splitting.jumps pay id nest.counter unit at branch L.arc link round next U.steps few L.to U.adds link.share L.share adds;
 }
 
 -- What a way round lacks
@@ -195,14 +197,15 @@ past-by unit lacks takes q few some is past =
     omega (arith, bound, same, less, apart)
 
 -- even where a unit pays for as much as one can
-pub costs-past : (arcs : List (List (Option Arc))) (jumps : List Jump) (pay : List (List ℕ)) (nest k unit : ℕ) (round : Round)
-    → IsRound arcs jumps pay nest k unit round → LacksPast unit round → CostsPast arcs jumps pay nest k
-costs-past arcs jumps pay nest k unit round R L = record {
+pub costs-past : (arcs : List (List (Option Arc))) (splitting : Splitting) (pay : List (List ℕ)) (id : ℕ) (nest : Nest) (unit : ℕ) (round : Round)
+    → IsRound arcs splitting pay id nest unit round → LacksPast unit round → CostsPast arcs splitting pay id nest
+costs-past arcs splitting pay id nest unit round R L = record {
   from = R.from;
   steps = R.up.steps;
   round = R.up.lead;
+  takes = (let takes = R.up.adds.takes in let some = R.up.adds.least L.0 in omega (arith, takes, some));
   past =
-      (let lacks = R.lacks in let some = L.0 in let all = L.1 in let past = L.2 in let dear = R.up.adds.dear in let paid = R.up.adds.paid in
+      (let lacks = R.lacks in let some = L.1 in let all = L.2 in let past = L.3 in let dear = R.up.adds.dear in let paid = R.up.adds.paid in
       let most = mul-le (4294967295 - unit) round.all_takes (4294967295 - unit) round.takes (omega arith) all in
       let whole : round.takes - round.sets + round.sets ≡ round.takes = omega (arith, some) in
       let apart : (4294967295 - unit) * (round.takes - round.sets + round.sets)
@@ -211,9 +214,9 @@ costs-past arcs jumps pay nest k unit round R L = record {
       omega (arith, lacks, past, dear, paid, most, apart, same));
 }
 
-module _ (arcs : List (List (Option Arc))) (jumps : List Jump) (id unit : ℕ) (nest : Nest) (units : Units) (round : Round)
-    (unpaid : (round.least ≡ None) ⊎ (round.all_takes ≤ round.all_sets)) (R : IsRound arcs jumps units.pay id nest.counter unit round) where
-  sets-enough : 0 < total (set_of nest.counter) R.up.steps → SetsEnough arcs jumps id nest.counter
+module _ (arcs : List (List (Option Arc))) (splitting : Splitting) (id unit : ℕ) (nest : Nest) (units : Units) (round : Round)
+    (unpaid : (round.least ≡ None) ⊎ (round.all_takes ≤ round.all_sets)) (R : IsRound arcs splitting units.pay id nest unit round) where
+  sets-enough : 0 < total (set_of nest.counter) R.up.steps → SetsEnough arcs splitting id nest
   sets-enough some = record {
     from = R.from;
     steps = R.up.steps;
@@ -223,10 +226,10 @@ module _ (arcs : List (List (Option Arc))) (jumps : List Jump) (id unit : ℕ) (
         R.up.adds.none R.up.adds.sets unpaid in omega (arith, is, less));
   }
 
-  pub lacks-set : round.is_set ≡ true → SetsEnough arcs jumps id nest.counter
+  pub lacks-set : round.is_set ≡ true → SetsEnough arcs splitting id nest
   lacks-set is = sets-enough (R.up.adds.some is)
 
-  pub lacks-takes : (least : ℕ) → round.least ≡ Some least → SetsEnough arcs jumps id nest.counter
+  pub lacks-takes : (least : ℕ) → round.least ≡ Some least → SetsEnough arcs splitting id nest
   lacks-takes least is = sets-enough (by_lack unpaid)
     where
       by_lack : (round.least ≡ None) ⊎ (round.all_takes ≤ round.all_sets) → 0 < total (set_of nest.counter) R.up.steps
@@ -234,11 +237,12 @@ module _ (arcs : List (List (Option Arc))) (jumps : List Jump) (id unit : ℕ) (
       by_lack (inr most) = (let some = R.up.adds.least (λ none. none-some least (sym none ∙ is)) in let less = R.up.adds.sets in
           omega (arith, most, some, less))
 
-  pub lacks-share : round.is_set ≡ false → round.least ≡ None → CostsMore arcs units.pay
+  pub lacks-share : round.is_set ≡ false → round.least ≡ None → CostsMore arcs splitting units.pay id nest
   lacks-share unset none = record {
     from = R.from;
     steps = R.up.steps;
     round = R.up.lead;
+    none = sym R.up.adds.takes ∙ R.up.adds.none none;
     more =
         (let plain = R.up.adds.plain none unset in let costs = plain.0 in let paid = plain.1 in let lacks = R.lacks in
         omega (arith, costs, paid, lacks));
@@ -246,13 +250,13 @@ module _ (arcs : List (List (Option Arc))) (jumps : List Jump) (id unit : ℕ) (
 
 -- what a nest lacks is so of a nest
 pub lack-in : (arcs : List (List (Option Arc))) (splitting : Splitting) (units : Units) (id : ℕ) (nest : Nest) (lack : Lack)
-    → ((other : Nest) → slice_index_or splitting.nests.list id other ≡ nest) → IsLackIn arcs splitting.jumps id nest units lack
-    → IsLack arcs splitting units lack
-lack-in arcs splitting units id nest (SetWithin piece) there is = record { id = id; nest = nest; there = there; is = is.0; sets = is.1 }
-lack-in arcs splitting units id nest NoShare there is = is
-lack-in arcs splitting units id nest Looks there is = is
-lack-in arcs splitting units id nest (InTurn ring) there is = absurd is
-lack-in arcs splitting units id nest Passes there is = inr (inl (record { id = id; nest = nest; there = there; costs = is }))
+    → ((other : Nest) → slice_index_or splitting.nests.list id other ≡ nest) → id < splitting.nests.count
+    → IsLackIn arcs splitting id nest units lack → IsLack arcs splitting units lack
+lack-in arcs splitting units id nest (SetWithin piece) there few is = record { id = id; few = few; nest = nest; there = there; so = is }
+lack-in arcs splitting units id nest NoShare there few is = record { id = id; few = few; nest = nest; there = there; so = is }
+lack-in arcs splitting units id nest Looks there few is = is
+lack-in arcs splitting units id nest (InTurn ring) there few is = absurd is
+lack-in arcs splitting units id nest Passes there few is = inr (inl (record { id = id; few = few; nest = nest; there = there; so = is }))
 
 -- Where a way round costs more than is paid
 
@@ -271,12 +275,13 @@ arc-within image r arcs outside pc branch arc read =
     by_place (inr above) (inr high) = absurd (none (λ within. (let below = within.below in omega (arith, below, high))))
 
 module _ (image : Parts) (r : ℕ) (known : List (Option Row)) (table : List (List Bool)) (arcs : List (List (Option Arc)))
-    (noted : AreArcs image r known table arcs) (outside : NoArcsOutside image r arcs) (pay : List (List ℕ)) where
-  steps-paid : (steps : ℕ → ℕ) → ConstantsPay image r (row_known known) (coefficients_at pay) steps → (way : List Step) (from to : ℕ)
-      → AreSteps arcs from way to → steps to + total (cost_of pay) way ≤ steps from + total (paid_of pay) way
-  steps-paid steps P [] from to lead = (let same = ap steps lead in omega (arith, same))
-  steps-paid steps P (step ∷ way) from to lead =
-      let rest = steps-paid steps P way from step.pc lead.2 in
+    (noted : AreArcs image r known table arcs) (outside : NoArcsOutside image r arcs) (pay : List (List ℕ)) (splitting : Splitting) where
+  steps-paid : (steps : ℕ → ℕ) → ConstantsPay image r (row_known known) (coefficients_at pay) steps → (id : ℕ) (piece : Piece)
+      (way : List Step) (from to : ℕ) → AreSteps arcs splitting id piece from way to
+      → steps to + total (cost_of pay) way ≤ steps from + total (paid_of pay) way
+  steps-paid steps P id piece [] from to lead = (let same = ap steps lead in omega (arith, same))
+  steps-paid steps P id piece (step ∷ way) from to lead =
+      let rest = steps-paid steps P id piece way from step.pc lead.3 in
       let within = arc-within image r arcs outside step.pc step.branch step.arc lead.1 in
       let one = arc-paid image r known table pay steps P step.pc step.branch step.arc within
       (is-arc image r known table arcs noted step.pc step.branch step.arc within lead.1) in
@@ -284,5 +289,9 @@ module _ (image : Parts) (r : ℕ) (known : List (Option Row)) (table : List (Li
       omega (arith, rest, one, same)
 
   -- no steps pay
-  pub never-pay : CostsMore arcs pay → NeverPay image r known pay
-  never-pay C steps P = (let all = steps-paid steps P C.steps C.from C.from C.round in let more = C.more in omega (arith, all, more))
+  pub never-pay : OfSomeNest splitting.nests (CostsMore arcs splitting pay) → NeverPay image r known pay
+  never-pay N steps P =
+      let C = N.so in
+      let all = steps-paid steps P N.id N.nest.piece C.steps C.from C.from C.round in
+      let more = C.more in
+      omega (arith, all, more)

@@ -71,6 +71,23 @@ abbrev pub IsIdleWay : Parts → ℕ → ℕ → List Bool → ℕ → Type 0
 IsIdleWay image r from [] to = from ≡ to
 IsIdleWay image r from (branch ∷ branches) to = (next : ℕ) × LeadsIdle image r from branch next × IsIdleWay image r next branches to
 
+-- the same by places of which something is so
+abbrev pub IsIdleWayBy : Parts → ℕ → (ℕ → Type 0) → ℕ → List Bool → ℕ → Type 0
+IsIdleWayBy image r place from [] to = from ≡ to
+IsIdleWayBy image r place from (branch ∷ branches) to = (next : ℕ) × place from × LeadsIdle image r from branch next
+    × IsIdleWayBy image r place next branches to
+
+-- control can go round in routine r by such places, and no LOOP on the way may pay
+pub record IsNeverPaidBy (image : Parts) (r : ℕ) (place : ℕ → Type 0) : Type 0 where
+  pub from : ℕ
+  pub begins : IsPcOf image r from
+  pub here : place from
+  pub branch : Bool
+  pub next : ℕ
+  pub first : LeadsIdle image r from branch next
+  pub branches : List Bool
+  pub way : IsIdleWayBy image r place next branches from
+
 -- control can go round in routine r, and no LOOP on the way may pay
 pub record IsNeverPaid (image : Parts) (r : ℕ) : Type 0 where
   pub from : ℕ

@@ -11,36 +11,31 @@ use Rattle.geos_potentials.specs.declared.lengths.Way.{Way}
 use Rattle.geos_potentials.specs.declared.nests.Nest.{Nest}
 use Rattle.geos_potentials.specs.declared.nests.Nests.{Nests}
 use Rattle.geos_potentials.specs.declared.nests.Splitting.{Splitting}
-use Rattle.geos_potentials.specs.declared.pieces.Piece.{Piece}
 use Rattle.geos_potentials.specs.declared.units.Lack.{Lack}
 use Rattle.geos_potentials.specs.declared.units.Lack.TheVariants.{SetWithin, Passes, InTurn, NoShare, Looks}
 use Rattle.geos_potentials.specs.declared.units.Units.{Units}
 
--- control goes round in the piece of a nest on a way on which its counter is set to as much, at least, as its LOOPs take; or on one that costs
--- more than units pay for, and no LOOP of the nest takes from its counter there; or on one that costs more, even where a unit of the counter
--- pays for as much as one can; or at least 2 ^ 27 edges were looked at
-abbrev pub IsLackIn : List (List (Option Arc)) → List Jump → ℕ → Nest → Units → Lack → Type 0
-IsLackIn arcs jumps id nest units (SetWithin piece) = (piece ≡ nest.piece) × SetsEnough arcs jumps id nest.counter
-IsLackIn arcs jumps id nest units NoShare = CostsMore arcs units.pay
-IsLackIn arcs jumps id nest units Looks = 134217728 ≤ units.looks
-IsLackIn arcs jumps id nest units (InTurn ring) = ⊥
-IsLackIn arcs jumps id nest units Passes = CostsPast arcs jumps units.pay id nest.counter
-
--- so it is of a nest of a routine
-pub record SetsInNest (arcs : List (List (Option Arc))) (splitting : Splitting) (piece : Piece) : Type 0 where
-  pub id : ℕ
-  pub nest : Nest
-  pub there : (other : Nest) → slice_index_or splitting.nests.list id other ≡ nest
-  pub is : piece ≡ nest.piece
-  pub sets : SetsEnough arcs splitting.jumps id nest.counter
-
--- some nest is to be paid for
-pub record SomeIsDue (nests : Nests) : Type 0 where
+-- something is so of one of the nests and its number
+pub record OfSomeNest (nests : Nests) (is : ℕ → Nest → Type 0) : Type 0 where
   pub id : ℕ
   pub few : id < nests.count
   pub nest : Nest
   pub there : (other : Nest) → slice_index_or nests.list id other ≡ nest
-  pub due : nest.due ≡ true
+  pub so : is id nest
+
+-- some nest is to be paid for
+abbrev pub SomeIsDue : Nests → Type 0
+SomeIsDue nests = OfSomeNest nests (λ id nest. nest.due ≡ true)
+
+-- control goes round in a nest on a way on which its counter is set to as much, at least, as its LOOPs take; or on one that costs more than
+-- units pay for, and no LOOP of the nest takes there; or on one that costs more, even where a unit of the counter pays for as much as one
+-- can; or at least 2 ^ 27 edges were looked at
+abbrev pub IsLackIn : List (List (Option Arc)) → Splitting → ℕ → Nest → Units → Lack → Type 0
+IsLackIn arcs splitting id nest units (SetWithin piece) = (piece ≡ nest.piece) × SetsEnough arcs splitting id nest
+IsLackIn arcs splitting id nest units NoShare = CostsMore arcs splitting units.pay id nest
+IsLackIn arcs splitting id nest units Looks = 134217728 ≤ units.looks
+IsLackIn arcs splitting id nest units (InTurn ring) = ⊥
+IsLackIn arcs splitting id nest units Passes = CostsPast arcs splitting units.pay id nest
 
 -- what it costs to set a counter by some edge is past what a potential can say
 pub record PricePasses (arcs : List (List (Option Arc))) (pay : List (List ℕ)) : Type 0 where
@@ -49,13 +44,6 @@ pub record PricePasses (arcs : List (List (Option Arc))) (pay : List (List ℕ))
   pub arc : Arc
   pub read : arc_at arcs pc branch ≡ Some arc
   pub past : 4294967295 < price_of pay arc.to arc.counting
-
--- a way round in a nest costs more than is paid, even where a unit of its counter pays for as much as one can
-pub record NestPasses (arcs : List (List (Option Arc))) (splitting : Splitting) (pay : List (List ℕ)) : Type 0 where
-  pub id : ℕ
-  pub nest : Nest
-  pub there : (other : Nest) → slice_index_or splitting.nests.list id other ≡ nest
-  pub costs : CostsPast arcs splitting.jumps pay id nest.counter
 
 -- the LOOP at a pc asks for more than a unit can pay for, where ways take so many steps
 pub record AsksPast (arcs : List (List (Option Arc))) (ways : List Way) (pc : ℕ) : Type 0 where
@@ -69,12 +57,12 @@ pub record FreePasses (arcs : List (List (Option Arc))) (jumps : List Jump) (way
   pub free : is_free (slice_index_or jumps pc Plain) ≡ true
   pub asks : AsksPast arcs ways pc
 
--- the same of what the search has come to: also, what it costs to set a counter passes, or what a LOOP asks for that is left out; or
--- nests wait on each other in a ring, and some nest is still to be paid for
+-- the same of some nest, when the search has come to an end: also, what it costs to set a counter passes, or what a LOOP asks for that is
+-- left out; or nests wait on each other in a ring, and some nest is still to be paid for
 abbrev pub IsLack : List (List (Option Arc)) → Splitting → Units → Lack → Type 0
-IsLack arcs splitting units (SetWithin piece) = SetsInNest arcs splitting piece
-IsLack arcs splitting units NoShare = CostsMore arcs units.pay
+IsLack arcs splitting units (SetWithin piece) = OfSomeNest splitting.nests (λ id nest. (piece ≡ nest.piece) × SetsEnough arcs splitting id nest)
+IsLack arcs splitting units NoShare = OfSomeNest splitting.nests (CostsMore arcs splitting units.pay)
 IsLack arcs splitting units Looks = 134217728 ≤ units.looks
 IsLack arcs splitting units (InTurn ring) = SomeIsDue splitting.nests × IsRing arcs splitting ring
-IsLack arcs splitting units Passes = PricePasses arcs units.pay ⊎ (NestPasses arcs splitting units.pay
+IsLack arcs splitting units Passes = PricePasses arcs units.pay ⊎ (OfSomeNest splitting.nests (CostsPast arcs splitting units.pay)
     ⊎ FreePasses arcs splitting.jumps units.lengths.ways)

@@ -1,19 +1,15 @@
 -- Edges that stay in a piece, and LOOPs of it that may not pay.
-use Rattle.std.specs.Prelude.{◌≡◌, ◌≢◌, ◌≤◌, ◌<◌, ℕ, Bool, true, false, List, Option, None, Some, slice_index, slice_index_or}
+use Rattle.std.specs.Prelude.{◌≡◌, ◌≢◌, ◌≤◌, ◌<◌, ℕ, Bool, true, false, List, Option, None, Some, slice_index_or}
 use Rattle.geos_potentials.specs.Arcs.{arc_at}
 use Rattle.geos_potentials.specs.Demands.{taken_from}
 use Rattle.geos_potentials.specs.Ranks.{noted_idle}
-use Rattle.geos_potentials.specs.Stuck.{StandsAt, IsIn}
+use Rattle.geos_potentials.specs.Stuck.{StandsAt, HasPlace, IsIn}
 use Rattle.geos_potentials.specs.declared.arcs.Arc.{Arc}
 use Rattle.geos_potentials.specs.declared.classes.Classes.{Classes}
 use Rattle.geos_potentials.specs.declared.jumps.Jump.{Jump}
 use Rattle.geos_potentials.specs.declared.jumps.Jump.TheVariants.{Plain}
 use Rattle.geos_potentials.specs.declared.pieces.Order.{Order}
 use Rattle.geos_potentials.specs.declared.pieces.Piece.{Piece}
-
--- a piece has a place
-abbrev pub HasPlace : Order → Piece → ℕ → Type 0
-HasPlace order piece pc = (piece.begin ≤ slice_index order.at pc) × (slice_index order.at pc < piece.end)
 
 -- the edge of a pc leads to a place of a piece, and is no LOOP's that is left out or pays
 pub record LeadsWithin (arcs : List (List (Option Arc))) (jumps : List Jump) (order : Order) (piece : Piece) (pc : ℕ) (branch : Bool)

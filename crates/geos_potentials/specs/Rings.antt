@@ -2,8 +2,8 @@
 use Rattle.std.specs.Prelude.{◌≡◌, ◌≢◌, ◌<◌, ℕ, Bool, true, false, List, [], ◌∷◌, Option, Some, slice_index_or}
 use Rattle.geos_potentials.specs.Arcs.{arc_at, unit_at}
 use Rattle.geos_potentials.specs.Demands.{taken_from, IsKeptOver}
-use Rattle.geos_potentials.specs.Pieces.{HasPlace}
-use Rattle.geos_potentials.specs.Rounds.{pays_in}
+use Rattle.geos_potentials.specs.Stuck.{HasPlace}
+use Rattle.geos_potentials.specs.Rounds.{Step, AreSteps, pays_in}
 use Rattle.geos_potentials.specs.declared.arcs.Arc.{Arc}
 use Rattle.geos_potentials.specs.declared.arcs.Counting.TheVariants.{Sets}
 use Rattle.geos_potentials.specs.declared.jumps.Jump.{Jump}
@@ -40,7 +40,8 @@ pub record LeadsToPaying (arcs : List (List (Option Arc))) (jumps : List Jump) (
   pub way : IsKeptOver arcs k from branches at
   pub pays : PaysAt arcs jumps nest k at
 
--- a nest waits on another: the counter of that one is set within it, and kept from there to a LOOP that pays in that one
+-- a nest waits on another: the counter of that one is set within it, where control goes round in it, and kept from there to a LOOP that pays
+-- in that one
 pub record WaitsOn (arcs : List (List (Option Arc))) (splitting : Splitting) (id on : ℕ) : Type 0 where
   pub few : id < splitting.nests.count
   pub another : id ≢ on
@@ -51,6 +52,8 @@ pub record WaitsOn (arcs : List (List (Option Arc))) (splitting : Splitting) (id
   pub at : ℕ
   pub arc : Arc
   pub sets : SetsInPiece arcs splitting.order nest.piece other.counter at arc
+  pub steps : List Step
+  pub round : AreSteps arcs splitting id nest.piece arc.to steps at
   pub leads : LeadsToPaying arcs splitting.jumps on other.counter arc.to
 
 -- nests from one on up to another wait each on the next; of those between, the last one stands first

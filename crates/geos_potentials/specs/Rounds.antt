@@ -1,5 +1,5 @@
--- Ways round along edges that are noted, and what is paid for on them.
-use Rattle.std.specs.Prelude.{◌≡◌, ◌≢◌, ◌≤◌, ◌<◌, ◌+◌, ◌-◌, ◌*◌, ◌⊎◌, max, ◌==◌, ◌&&◌, ℕ, Bool, true, false, if◌then◌else◌, List, [], ◌∷◌, Option, None, Some, slice_index_or}
+-- Ways round in nests, along edges that are noted, and what is paid for on them.
+use Rattle.std.specs.Prelude.{◌≡◌, ◌≢◌, ◌≤◌, ◌<◌, ◌+◌, ◌-◌, ◌*◌, ◌⊎◌, max, ◌==◌, ◌&&◌, nat_lt, ℕ, Bool, true, false, if◌then◌else◌, List, [], ◌∷◌, Option, None, Some, slice_index_or}
 use Rattle.geos_potentials.specs.declared.arcs.Arc.{Arc}
 use Rattle.geos_potentials.specs.declared.arcs.Counting.{Counting}
 use Rattle.geos_potentials.specs.declared.arcs.Counting.TheVariants.{Sets}
@@ -8,8 +8,23 @@ use Rattle.geos_potentials.specs.declared.lengths.Share.{Share}
 use Rattle.geos_potentials.specs.declared.lengths.Share.TheVariants.{Nothing, Pays as PaysFor, Costs}
 use Rattle.geos_potentials.specs.declared.paying.Round.{Round}
 use Rattle.geos_potentials.specs.declared.jumps.Jump.{Jump}
-use Rattle.geos_potentials.specs.declared.jumps.Jump.TheVariants.{Plain, Pays}
+use Rattle.geos_potentials.specs.declared.jumps.Jump.TheVariants.{Plain, Free, Pays}
+use Rattle.geos_potentials.specs.declared.nests.Nest.{Nest}
+use Rattle.geos_potentials.specs.declared.nests.Splitting.{Splitting}
+use Rattle.geos_potentials.specs.declared.pieces.Piece.{Piece}
 use Rattle.geos_potentials.specs.Arcs.{arc_at, unit_at, price_of, paid_by}
+use Rattle.geos_potentials.specs.Stuck.{HasPlace}
+
+-- the way of a LOOP to its target is left out in a nest: its counter is 0, or it pays in a nest before that
+abbrev pub is_left_out_in : ℕ → Jump → Bool
+is_left_out_in nest Plain = false
+is_left_out_in nest Free = true
+is_left_out_in nest (Pays other) = nat_lt other nest
+
+-- an edge of a pc leads to a place of a nest's piece, and is no LOOP's way to its target that is left out there
+pub record StaysInNest (splitting : Splitting) (id : ℕ) (piece : Piece) (pc : ℕ) (branch : Bool) (to : ℕ) : Type 0 where
+  pub stays : HasPlace splitting.order piece to
+  pub kept : branch ≡ true → is_left_out_in id (slice_index_or splitting.jumps pc Plain) ≡ false
 
 -- an edge that is followed
 pub record Step : Type 0 where
@@ -17,10 +32,16 @@ pub record Step : Type 0 where
   pub branch : Bool
   pub arc : Arc
 
--- steps along noted edges lead from a pc to another; the last one stands first
-abbrev pub AreSteps : List (List (Option Arc)) → ℕ → List Step → ℕ → Type 0
-AreSteps arcs from [] to = from ≡ to
-AreSteps arcs from (step ∷ before) to = (step.arc.to ≡ to) × (arc_at arcs step.pc step.branch ≡ Some step.arc) × AreSteps arcs from before step.pc
+-- steps along noted edges that stay in a nest lead from a pc to another; the last one stands first
+abbrev pub AreSteps : List (List (Option Arc)) → Splitting → ℕ → Piece → ℕ → List Step → ℕ → Type 0
+AreSteps arcs splitting id piece from [] to = from ≡ to
+AreSteps arcs splitting id piece from (step ∷ before) to = (step.arc.to ≡ to) × (arc_at arcs step.pc step.branch ≡ Some step.arc)
+    × StaysInNest splitting id piece step.pc step.branch step.arc.to × AreSteps arcs splitting id piece from before step.pc
+
+-- control comes so, within a nest, from a pc to each at which some number is not 0
+abbrev pub AreCameTo : List (List (Option Arc)) → Splitting → ℕ → Piece → ℕ → List (List ℕ) → Type 0
+AreCameTo arcs splitting id piece from seen = (pc k : ℕ) → 0 < unit_at seen pc k
+    → (steps : List Step) × AreSteps arcs splitting id piece from steps pc
 
 -- the sum of a number of each
 abbrev pub total : (Step → ℕ) → List Step → ℕ
@@ -34,13 +55,6 @@ cost_of pay step = 1 + step.arc.called + price_of pay step.arc.to step.arc.count
 -- what units pay of it
 abbrev pub paid_of : List (List ℕ) → Step → ℕ
 paid_of pay step = paid_by pay step.pc step.arc.counting
-
--- control goes round on a way that costs more than units pay for
-pub record CostsMore (arcs : List (List (Option Arc))) (pay : List (List ℕ)) : Type 0 where
-  pub from : ℕ
-  pub steps : List Step
-  pub round : AreSteps arcs from steps from
-  pub more : total (paid_of pay) steps < total (cost_of pay) steps
 
 -- to how much a counter is set by an edge
 abbrev pub set_by : ℕ → Counting → ℕ
@@ -58,13 +72,21 @@ pays_in nest _ = false
 abbrev pub taken_of : List Jump → ℕ → Step → ℕ
 taken_of jumps nest step = if step.branch && pays_in nest (slice_index_or jumps step.pc Plain) then 1 else 0
 
--- control goes round on a way on which a counter is set to as much, at least, as the LOOPs of a nest take from it there
-pub record SetsEnough (arcs : List (List (Option Arc))) (jumps : List Jump) (nest k : ℕ) : Type 0 where
+-- control goes round in a nest on a way that costs more than units pay for, and no LOOP of the nest takes there
+pub record CostsMore (arcs : List (List (Option Arc))) (splitting : Splitting) (pay : List (List ℕ)) (id : ℕ) (nest : Nest) : Type 0 where
   pub from : ℕ
   pub steps : List Step
-  pub round : AreSteps arcs from steps from
-  pub some : 0 < total (set_of k) steps
-  pub enough : total (taken_of jumps nest) steps ≤ total (set_of k) steps
+  pub round : AreSteps arcs splitting id nest.piece from steps from
+  pub none : total (taken_of splitting.jumps id) steps ≡ 0
+  pub more : total (paid_of pay) steps < total (cost_of pay) steps
+
+-- control goes round in a nest on a way on which its counter is set to as much, at least, as its LOOPs take there
+pub record SetsEnough (arcs : List (List (Option Arc))) (splitting : Splitting) (id : ℕ) (nest : Nest) : Type 0 where
+  pub from : ℕ
+  pub steps : List Step
+  pub round : AreSteps arcs splitting id nest.piece from steps from
+  pub some : 0 < total (set_of nest.counter) steps
+  pub enough : total (taken_of splitting.jumps id) steps ≤ total (set_of nest.counter) steps
 
 -- Where a unit of a counter pays for as much as one can
 
@@ -80,12 +102,14 @@ dearest_of pay k step = 1 + step.arc.called + dearest_price pay k step.arc.to st
 abbrev pub most_paid_of : List Jump → List (List ℕ) → ℕ → Step → ℕ
 most_paid_of jumps pay nest step = if step.branch && pays_in nest (slice_index_or jumps step.pc Plain) then 4294967295 else paid_of pay step
 
--- control goes round on a way that costs more than is paid, even if a unit of a nest's counter pays for as much as one can
-pub record CostsPast (arcs : List (List (Option Arc))) (jumps : List Jump) (pay : List (List ℕ)) (nest k : ℕ) : Type 0 where
+-- control goes round in a nest on a way on which its LOOPs take, and which costs more than is paid, even if a unit of its counter pays for
+-- as much as one can
+pub record CostsPast (arcs : List (List (Option Arc))) (splitting : Splitting) (pay : List (List ℕ)) (id : ℕ) (nest : Nest) : Type 0 where
   pub from : ℕ
   pub steps : List Step
-  pub round : AreSteps arcs from steps from
-  pub past : total (most_paid_of jumps pay nest) steps < total (dearest_of pay k) steps
+  pub round : AreSteps arcs splitting id nest.piece from steps from
+  pub takes : 0 < total (taken_of splitting.jumps id) steps
+  pub past : total (most_paid_of splitting.jumps pay id) steps < total (dearest_of pay nest.counter) steps
 
 -- What is known of a way round that is added up
 
@@ -98,10 +122,14 @@ HasShare pay k unit pc arc pays link PaysFor = (pays ≡ true) × (link.costs �
 HasShare pay k unit pc arc pays link (Costs most) = (pays ≡ false) × (arc.counting ≡ Sets k most) × (0 < most)
     × (link.costs ≡ 1 + arc.called + max (unit_at pay arc.to k) unit * most)
 
--- a link is one of a pc's edges, with its share
-abbrev pub LinksIn : List (List (Option Arc)) → List Jump → List (List ℕ) → ℕ → ℕ → ℕ → ℕ → Bool → Link → Type 0
-LinksIn arcs jumps pay nest k unit pc branch link = (arc : Arc) × (arc_at arcs pc branch ≡ Some arc) × (link.to ≡ arc.to)
-    × HasShare pay k unit pc arc (branch && pays_in nest (slice_index_or jumps pc Plain)) link link.share
+-- a link is one of a pc's edges that stays in a nest, with its share
+pub record LinksIn (arcs : List (List (Option Arc))) (splitting : Splitting) (pay : List (List ℕ)) (id : ℕ) (nest : Nest) (unit pc : ℕ)
+    (branch : Bool) (link : Link) : Type 0 where
+  pub arc : Arc
+  pub read : arc_at arcs pc branch ≡ Some arc
+  pub to : link.to ≡ arc.to
+  pub stays : StaysInNest splitting id nest.piece pc branch arc.to
+  pub share : HasShare pay nest.counter unit pc arc (branch && pays_in id (slice_index_or splitting.jumps pc Plain)) link link.share
 
 -- it is set for so many units more, or for none that are less than another
 abbrev pub SetsLow : ℕ → ℕ → ℕ → ℕ → Type 0
@@ -131,20 +159,21 @@ pub record AddsUp (jumps : List Jump) (pay : List (List ℕ)) (nest k unit : ℕ
   pub dear : round.costs + (4294967295 - unit) * round.sets ≤ total (dearest_of pay k) steps
   pub paid : total (most_paid_of jumps pay nest) steps ≤ round.paid + (4294967295 - unit) * round.all_takes
 
--- those from a pc to another are
-pub record AddsUpTo (arcs : List (List (Option Arc))) (jumps : List Jump) (pay : List (List ℕ)) (nest k unit from at : ℕ) (round : Round)
-    : Type 0 where
+-- those from a pc to another in a nest are
+pub record AddsUpTo (arcs : List (List (Option Arc))) (splitting : Splitting) (pay : List (List ℕ)) (id : ℕ) (nest : Nest) (unit from at : ℕ)
+    (round : Round) : Type 0 where
   pub steps : List Step
-  pub lead : AreSteps arcs from steps at
-  pub adds : AddsUp jumps pay nest k unit steps round
+  pub lead : AreSteps arcs splitting id nest.piece from steps at
+  pub adds : AddsUp splitting.jumps pay id nest.counter unit steps round
 
--- those of a way round are, and it lacks something
-pub record IsRound (arcs : List (List (Option Arc))) (jumps : List Jump) (pay : List (List ℕ)) (nest k unit : ℕ) (round : Round) : Type 0 where
+-- those of a way round in a nest are, and it lacks something
+pub record IsRound (arcs : List (List (Option Arc))) (splitting : Splitting) (pay : List (List ℕ)) (id : ℕ) (nest : Nest) (unit : ℕ)
+    (round : Round) : Type 0 where
   pub from : ℕ
-  pub up : AddsUpTo arcs jumps pay nest k unit from from round
+  pub up : AddsUpTo arcs splitting pay id nest unit from from round
   pub lacks : round.paid < round.costs
 
 -- what it lacks is more than units that fit 32 bits pay for: so many take and are set
 abbrev pub LacksPast : ℕ → Round → Type 0
-LacksPast unit round = (round.sets < round.takes) × (round.all_takes ≤ round.takes)
+LacksPast unit round = (round.least ≢ None) × (round.sets < round.takes) × (round.all_takes ≤ round.takes)
     × ((4294967295 - unit) * (round.takes - round.sets) < round.costs - round.paid)

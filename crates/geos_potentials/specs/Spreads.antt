@@ -5,6 +5,8 @@ use Rattle.geos_potentials.specs.declared.arcs.Counting.{Counting}
 use Rattle.geos_potentials.specs.declared.arcs.Counting.TheVariants.{Sets}
 use Rattle.geos_potentials.specs.Arcs.{arc_at, unit_at}
 use Rattle.geos_potentials.specs.Demands.{forgets, IsKeptOver}
+use Rattle.geos_image.specs.Parts.{Parts}
+use Rattle.geos_rows.specs.Code.{IsPcOf}
 
 -- a number of a counter at a pc stood at another one, from one on, and comes from there by edges that keep the counter
 pub record HasCome (arcs : List (List (Option Arc))) (low : ℕ) (old : List (List ℕ)) (pc k n : ℕ) : Type 0 where
@@ -56,3 +58,14 @@ SetsSome k n counting = (most : ℕ) × (counting ≡ Sets k most) × (0 < most)
 -- wherever it is not 0, at pcs from one on, a counter may be as it was there
 abbrev pub ComeFrom : List (List (Option Arc)) → ℕ → List (List ℕ) → Type 0
 ComeFrom arcs low spread = (pc k : ℕ) → low ≤ pc → 0 < unit_at spread pc k → (branches : List Bool) × IsKeptOver arcs k low branches pc
+
+-- What is noted at least
+
+-- each of the four counters has a number at a pc that is not 0
+abbrev pub AllStandAt : ℕ → List (List ℕ) → Type 0
+AllStandAt pc spread = (k : ℕ) → k < 4 → 0 < unit_at spread pc k
+
+-- behind each edge of routine r, before a pc, the number of the counter that it sets is as much, at least, as that is set to
+abbrev pub AreSetBehind : Parts → ℕ → List (List (Option Arc)) → ℕ → List (List ℕ) → Type 0
+AreSetBehind image r arcs end spread = (pc k n : ℕ) (arc : Arc) → IsPcOf image r pc → pc < end → k < 4 → arc_at arcs pc false ≡ Some arc
+    → arc.counting ≡ Sets k n → n ≤ unit_at spread arc.to k

@@ -1,5 +1,5 @@
 -- Where a search for nests stops: pieces in which no LOOP may pay.
-use Rattle.std.specs.Prelude.{◌≡◌, ◌≤◌, ◌<◌, ℕ, Bool, true, List, [], ◌∷◌, Option, Some, slice_index_or}
+use Rattle.std.specs.Prelude.{◌≡◌, ◌≤◌, ◌<◌, ℕ, Bool, true, List, [], ◌∷◌, Option, Some, slice_index, slice_index_or}
 use Rattle.geos_image.specs.Parts.{Parts}
 use Rattle.geos_potentials.specs.Arcs.{arc_at}
 use Rattle.geos_potentials.specs.Idle.{MayNotPay}
@@ -18,6 +18,10 @@ use Rattle.geos_potentials.specs.declared.place.Place.{Place}
 abbrev pub StandsAt : Order → ℕ → ℕ → Type 0
 StandsAt order x pc = (other : Place) → (slice_index_or order.places x other).pc ≡ pc
 
+-- a piece has a place
+abbrev pub HasPlace : Order → Piece → ℕ → Type 0
+HasPlace order piece pc = (piece.begin ≤ slice_index order.at pc) × (slice_index order.at pc < piece.end)
+
 -- a place stands in a piece
 abbrev pub IsIn : Order → Piece → ℕ → Type 0
 IsIn order piece pc = (x : ℕ) × (piece.begin ≤ x) × (x < piece.end) × StandsAt order x pc
@@ -34,25 +38,28 @@ pub record StayNoted (old next : Classes) : Type 0 where
 abbrev pub NotesIdle : Parts → ℕ → Classes → Type 0
 NotesIdle image r classes = (pc k : ℕ) → IsPcOf image r pc → noted_idle classes pc k ≡ true → MayNotPay image r k pc
 
--- the edge of a pc leads to another, and it is noted of the counter that it takes from, if there is one, that this may not pay
-pub record LeadsNotedIdle (arcs : List (List (Option Arc))) (classes : Classes) (pc : ℕ) (branch : Bool) (to : ℕ) : Type 0 where
+-- the edge of a place of a piece leads to another, and it is noted of the counter that it takes from, if there is one, that this may not pay
+pub record LeadsNotedIdle (arcs : List (List (Option Arc))) (classes : Classes) (order : Order) (piece : Piece) (pc : ℕ) (branch : Bool)
+    (to : ℕ) : Type 0 where
+  pub here : HasPlace order piece pc
   pub arc : Arc
   pub read : arc_at arcs pc branch ≡ Some arc
   pub leads : arc.to ≡ to
   pub idle : (k : ℕ) → taken_from arc.counting ≡ Some k → noted_idle classes pc k ≡ true
 
 -- such edges lead from a pc to another; each says whether it is the one to a target
-abbrev pub IsNotedIdleWay : List (List (Option Arc)) → Classes → ℕ → List Bool → ℕ → Type 0
-IsNotedIdleWay arcs classes from [] to = from ≡ to
-IsNotedIdleWay arcs classes from (branch ∷ branches) to = (next : ℕ) × LeadsNotedIdle arcs classes from branch next
-    × IsNotedIdleWay arcs classes next branches to
+abbrev pub IsNotedIdleWay : List (List (Option Arc)) → Classes → Order → Piece → ℕ → List Bool → ℕ → Type 0
+IsNotedIdleWay arcs classes order piece from [] to = from ≡ to
+IsNotedIdleWay arcs classes order piece from (branch ∷ branches) to = (next : ℕ)
+    × LeadsNotedIdle arcs classes order piece from branch next × IsNotedIdleWay arcs classes order piece next branches to
 
--- control goes round by such edges
-pub record GoesRoundIdle (image : Parts) (r : ℕ) (arcs : List (List (Option Arc))) (classes : Classes) : Type 0 where
+-- control goes round by such edges in a piece
+pub record GoesRoundIdle (image : Parts) (r : ℕ) (arcs : List (List (Option Arc))) (classes : Classes) (order : Order) (piece : Piece)
+    : Type 0 where
   pub from : ℕ
   pub begins : IsPcOf image r from
   pub branch : Bool
   pub next : ℕ
-  pub first : LeadsNotedIdle arcs classes from branch next
+  pub first : LeadsNotedIdle arcs classes order piece from branch next
   pub branches : List Bool
-  pub way : IsNotedIdleWay arcs classes next branches from
+  pub way : IsNotedIdleWay arcs classes order piece next branches from

@@ -6,9 +6,10 @@ ghost use Rattle.geos_potentials.specs.Carried.{AreSpread};
 ghost use Rattle.geos_potentials.specs.Demands.{forgets};
 ghost use Rattle.geos_rows.specs.Code.{IsPcOf};
 ghost use Rattle.geos_potentials.specs.Ranks.{noted_idle};
-ghost use Rattle.geos_potentials.specs.Spreads.{ComeBehind, ComeFrom, ForgetsIt, SetsTo, SetsSome};
+ghost use Rattle.geos_potentials.specs.Spreads.{ComeBehind, ComeFrom, ForgetsIt, SetsTo, SetsSome, AllStandAt, AreSetBehind};
 ghost use Rattle.geos_potentials.specs.Stuck.{IsIn, StayNoted};
 ghost use Rattle.geos_potentials.specs.Untouched.{AreNotedBehind};
+ghost use Rattle.geos_potentials.specs.declared.arcs.Counting.TheVariants.{Sets};
 
 use crate::arcs::{Arc, Counting};
 use crate::graph::Graph;
@@ -54,11 +55,12 @@ fn forgets(arc: &Arc) -> [u32; 4]
 
 /// What an edge sets its counter to.
 fn sets(arc: &Arc) -> [u32; 4]
-    ensures { (k : ℕ) → 0 < slice_index result k → SetsTo k (slice_index result k) arc.now.counting }
+    ensures only { (k : ℕ) → 0 < slice_index result k → SetsTo k (slice_index result k) arc.now.counting }
+    ensures all { (k n : ℕ) → k < 4 → arc.now.counting ≡ Sets k n → n ≤ slice_index result k }
 {
-    match arc.sets() {
-        Some((counter, most)) => only(counter, u32::from(most)),
-        None => [0; 4],
+    match arc.counting {
+        Counting::Sets(counter, most) => only(counter, u32::from(most)),
+        _ => [0; 4],
     }
 }
 
@@ -76,6 +78,7 @@ fn sets_some(arc: &Arc) -> [u32; 4]
 fn note_unset(body: &Body, graph: &Graph, unset: &mut Spread, waits: &mut Pile)
     ensures come { ComeFrom graph.now.arcs body.now.start unset.new }
     ensures on { AreSpread graph.now.arcs body.now.start unset.new }
+    ensures begins { AllStandAt body.now.start unset.new }
 {
     unset.fill_from(body.start, [0; 4]);
     // For what its law says.
@@ -105,6 +108,7 @@ fn note_touched(body: &Body, graph: &Graph, touched: &mut Spread, waits: &mut Pi
 fn note_prices(body: &Body, graph: &Graph, prices: &mut Spread, waits: &mut Pile)
     ensures come { ComeBehind graph.now.arcs body.now.start (IsPcOf body.now.image.now body.now.r) SetsTo prices.new }
     ensures on { AreSpread graph.now.arcs body.now.start prices.new }
+    ensures behind { AreSetBehind body.now.image.now body.now.r graph.now.arcs body.now.end prices.new }
 {
     prices.fill_from(body.start, [0; 4]);
     // For what its law says.
@@ -183,6 +187,8 @@ impl Classes {
         ensures prices_on { AreSpread graph.now.arcs body.now.start self.new.prices }
         ensures behind { AreNotedBehind body.now.image.now body.now.r graph.now.arcs body.now.end self.new.touched }
         ensures unset { ComeFrom graph.now.arcs body.now.start self.new.unset }
+        ensures begins { AllStandAt body.now.start self.new.unset }
+        ensures set_behind { AreSetBehind body.now.image.now body.now.r graph.now.arcs body.now.end self.new.prices }
         ensures prices { ComeBehind graph.now.arcs body.now.start (IsPcOf body.now.image.now body.now.r) SetsTo self.new.prices }
     {
         note_unset(body, graph, &mut self.unset, &mut self.waits);

@@ -5,10 +5,12 @@ ghost use Rattle.geos_potentials.specs.Touching.{KnowsTouched, NotesTouched, Not
 ghost use Rattle.geos_potentials.specs.Idle.{calls_touching, LeadsIdle};
 ghost use Rattle.geos_rows.specs.Code.{IsPcOf};
 ghost use Rattle.geos_potentials.specs.Ranks.{noted_idle, GoesOn, IsNotedBehind, AreNotedFrom, AreIdleNoted};
-ghost use Rattle.geos_potentials.specs.Stuck.{LeadsNotedIdle, GoesRoundIdle};
+ghost use Rattle.geos_potentials.specs.Stuck.{HasPlace, LeadsNotedIdle, GoesRoundIdle};
 ghost use Rattle.geos_potentials.specs.Trails.{keeps_counter};
 ghost use Rattle.geos_rows.specs.Why.{LeadsTo};
 ghost use Rattle.geos_image.specs.Parts.{Parts};
+ghost use Rattle.geos_potentials.specs.declared.pieces.Order.{Order};
+ghost use Rattle.geos_potentials.specs.declared.pieces.Piece.{Piece};
 
 use crate::classes::Classes;
 use crate::graph::Graph;
@@ -175,7 +177,8 @@ pub(crate) fn lead_idle(body: &Body, classes: &Classes, pc: u16, branch: bool) -
 
 /// Whether an edge leads to a place, and is no LOOP's way to its target on which the counter may pay, by what is noted.
 fn leads_idle(graph: &Graph, classes: &Classes, edge: Lead, to: u16) -> bool
-    ensures { result ≡ true → LeadsNotedIdle graph.now.arcs classes.now edge.from edge.branch to }
+    ensures { (order : Order) (piece : Piece) → HasPlace order piece edge.from → result ≡ true
+        → LeadsNotedIdle graph.now.arcs classes.now order piece edge.from edge.branch to }
 {
     let Some(arc) = graph.arc(edge.from, edge.branch) else {
         return false;
@@ -192,6 +195,7 @@ fn leads_idle(graph: &Graph, classes: &Classes, edge: Lead, to: u16) -> bool
 /// An edge among the places of a piece to one of them, that is no LOOP's which is left out or pays in a nest.
 fn lead_to(graph: &Graph, splitting: &Splitting, piece: &Piece, to: u16) -> Option<Lead>
     requires { to < 4096 }
+    ensures { IfSome result (λ edge. HasPlace splitting.now.order piece.now edge.from) }
 {
     let mut lead = graph.first_into(to);
     for _ in 0..2 * u32::from(MOST_INSTRS) {
@@ -238,7 +242,7 @@ fn goes_round_from(
     place: u16,
 ) -> bool
     requires { place < 4096 }
-    ensures { result ≡ true → GoesRoundIdle body.now.image.now body.now.r graph.now.arcs classes.now }
+    ensures { result ≡ true → GoesRoundIdle body.now.image.now body.now.r graph.now.arcs classes.now splitting.now.order piece.now }
 {
     let mut at = place;
     for _ in body.start..body.end {
@@ -267,7 +271,7 @@ pub(crate) fn goes_round_idle(
     splitting: &Splitting,
     piece: &Piece,
 ) -> bool
-    ensures { result ≡ true → GoesRoundIdle body.now.image.now body.now.r graph.now.arcs classes.now }
+    ensures { result ≡ true → GoesRoundIdle body.now.image.now body.now.r graph.now.arcs classes.now splitting.now.order piece.now }
 {
     match place_on_round(graph, splitting, piece) {
         Some(place) => goes_round_from(body, graph, classes, splitting, piece, place),

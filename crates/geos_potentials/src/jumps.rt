@@ -20,7 +20,7 @@ pub enum Jump {
 
 impl Jump {
     ghost use Rattle.std.specs.Prelude.{◌≡◌};
-    ghost use Rattle.geos_potentials.specs.Rounds.{pays_in};
+    ghost use Rattle.geos_potentials.specs.Rounds.{pays_in, is_left_out_in};
 
     /// Whether it is a LOOP's that pays in a nest.
     pub(crate) fn pays_in(self, nest: u16) -> bool
@@ -33,7 +33,9 @@ impl Jump {
     }
 
     /// Whether it is a LOOP's that is left out, or pays in a nest around one.
-    pub(crate) fn is_left_out_in(self, nest: u16) -> bool {
+    pub(crate) fn is_left_out_in(self, nest: u16) -> bool
+        ensures { result ≡ is_left_out_in nest self }
+    {
         match self {
             Jump::Plain => false,
             Jump::Free => true,

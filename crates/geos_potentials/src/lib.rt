@@ -16,6 +16,7 @@ mod dearest;
 mod depth;
 mod graph;
 mod idle;
+mod inside;
 mod jumps;
 mod leads;
 mod lengths;

@@ -288,7 +288,7 @@ impl Splitting {
         requires { self.old.nests.count < 4096 }
         ensures noted { StayNoted classes.old classes.new }
         ensures none { IfErr result (NoneMayPay graph.now.arcs self.new.jumps self.new.order classes.new) }
-        ensures round { IfErr result (λ _. GoesRoundIdle body.now.image.now body.now.r graph.now.arcs classes.new) }
+        ensures round { IfErr result (GoesRoundIdle body.now.image.now body.now.r graph.now.arcs classes.new self.new.order) }
         ensures count { self.new.nests.count ≤ self.old.nests.count + 1 }
         ensures untouched { (low : ℕ) → StayUntouched low graph.now.arcs self.old.jumps self.new.jumps classes.old.touched }
     {
@@ -337,7 +337,7 @@ impl Splitting {
     ) -> Result<(), Piece>
         ensures noted { StayNoted classes.old classes.new }
         ensures none { IfErr result (NoneMayPay graph.now.arcs self.new.jumps self.new.order classes.new) }
-        ensures round { IfErr result (λ _. GoesRoundIdle body.now.image.now body.now.r graph.now.arcs classes.new) }
+        ensures round { IfErr result (GoesRoundIdle body.now.image.now body.now.r graph.now.arcs classes.new self.new.order) }
         ensures untouched { AreUntouched body.now.start graph.now.arcs self.new.jumps classes.old.touched }
     {
         self.free_loops(body, graph, classes);

@@ -1,16 +1,17 @@
 //! A nest that is paid for: the least unit with which no way round in it lacks something.
 
-ghost use Rattle.std.specs.Prelude.{◌≡◌, ◌<◌, ◌≤◌, ◌-◌, ◌⊎◌, List, Option, None, IfSome, IfErr, slice_index_or};
+ghost use Rattle.std.specs.Prelude.{◌≡◌, ◌≢◌, ◌<◌, ◌≤◌, ◌-◌, ◌⊎◌, List, Option, None, IfSome, IfErr, slice_index_or};
 ghost use Rattle.geos_potentials.specs.Lacks.{IsLackIn, IsLack};
 ghost use Rattle.geos_potentials.specs.Rounds.{HasShare, LinksIn, SetsLow, Adds, IsRound, LacksPast};
 ghost use Rattle.geos_potentials.specs.declared.arcs.Arc.{Arc};
 ghost use Rattle.geos_potentials.specs.declared.arcs.Counting.TheVariants.{Sets};
-ghost use Rattle.geos_potentials.specs.declared.jumps.Jump.{Jump};
 ghost use Rattle.geos_potentials.specs.declared.nests.Nest.{Nest};
+ghost use Rattle.geos_potentials.specs.declared.nests.Splitting.{Splitting};
 ghost use Rattle.geos_potentials.specs.declared.units.Units.{Units};
 
 use crate::arcs::Arc;
 use crate::graph::Graph;
+use crate::inside::arc_in;
 use crate::lengths::{Link, Share};
 use crate::nests::{Nest, Splitting};
 use crate::spread::number_of;
@@ -140,6 +141,7 @@ const MOST: u64 = u32::MAX as u64;
 fn paying_unit(unit: u32, round: &Round, takes: u64, raises: u32) -> u64
     requires some { 0 < takes }
     requires takes { takes ≡ round.now.takes - round.now.sets }
+    requires least { round.now.least ≢ None }
     ensures { 4294967295 < result → LacksPast unit round.now }
 {
     let lacks = round.costs.saturating_sub(round.paid);
@@ -259,17 +261,10 @@ impl Paying {
         branch: bool,
     ) -> Option<Link>
         requires { pc < 4096 }
-        ensures { IfSome result (LinksIn graph.now.arcs splitting.now.jumps units.now.pay self.now.id self.now.nest.counter self.now.unit pc branch) }
+        ensures { IfSome result (LinksIn graph.now.arcs splitting.now units.now.pay self.now.id self.now.nest self.now.unit pc branch) }
     {
-        let arc = graph.arc(pc, branch)?;
-        if !splitting.order.has(&self.nest.piece, arc.to) {
-            return None;
-        }
-        let jump = splitting.jumps.at(pc);
-        if branch && jump.is_left_out_in(self.id) {
-            return None;
-        }
-        let pays = branch && jump.pays_in(self.id);
+        let arc = arc_in(graph, splitting, self.id, &self.nest.piece, pc, branch)?;
+        let pays = branch && splitting.jumps.at(pc).pays_in(self.id);
         Some(self.link(units, pc, &arc, pays))
     }
 
@@ -311,7 +306,7 @@ impl Paying {
         from: u16,
     ) -> Option<Round>
         requires { from < 4096 }
-        ensures { IfSome result (IsRound graph.now.arcs splitting.now.jumps units.now.pay self.now.id self.now.nest.counter self.now.unit) }
+        ensures { IfSome result (IsRound graph.now.arcs splitting.now units.now.pay self.now.id self.now.nest self.now.unit) }
     {
         let mut round = Round::NOTHING;
         let mut at = from;
@@ -334,9 +329,9 @@ impl Paying {
     /// Why a way round is not paid for, whatever the unit is.
     fn lack_of(&self, round: &Round) -> Lack
         requires { (round.now.least ≡ None) ⊎ (round.now.all_takes ≤ round.now.all_sets) }
-        ensures { (arcs : List (List (Option Arc))) (jumps : List Jump) (units : Units)
-            → IsRound arcs jumps units.pay self.now.id self.now.nest.counter self.now.unit round.now
-            → IsLackIn arcs jumps self.now.id self.now.nest units result }
+        ensures { (arcs : List (List (Option Arc))) (splitting : Splitting) (units : Units)
+            → IsRound arcs splitting units.pay self.now.id self.now.nest self.now.unit round.now
+            → IsLackIn arcs splitting self.now.id self.now.nest units result }
     {
         if round.is_set {
             return Lack::SetWithin(self.nest.piece);
@@ -349,9 +344,9 @@ impl Paying {
 
     /// The unit, where a way round is paid for, too.
     fn raised(&self, round: &Round, raises: u32) -> Result<u32, Lack>
-        ensures { (arcs : List (List (Option Arc))) (jumps : List Jump) (units : Units)
-            → IsRound arcs jumps units.pay self.now.id self.now.nest.counter self.now.unit round.now
-            → IfErr result (IsLackIn arcs jumps self.now.id self.now.nest units) }
+        ensures { (arcs : List (List (Option Arc))) (splitting : Splitting) (units : Units)
+            → IsRound arcs splitting units.pay self.now.id self.now.nest self.now.unit round.now
+            → IfErr result (IsLackIn arcs splitting self.now.id self.now.nest units) }
     {
         let Some(unit) = next_unit(self.unit, round, raises) else {
             return Err(self.lack_of(round));
@@ -366,7 +361,7 @@ impl Paying {
     fn find_round(&self, graph: &Graph, splitting: &Splitting, units: &mut Units) -> Option<Round>
         ensures pay { units.new.pay ≡ units.old.pay }
         ensures looks { units.new.looks ≡ units.old.looks }
-        ensures round { IfSome result (IsRound graph.now.arcs splitting.now.jumps units.new.pay self.now.id self.now.nest.counter self.now.unit) }
+        ensures round { IfSome result (IsRound graph.now.arcs splitting.now units.new.pay self.now.id self.now.nest self.now.unit) }
     {
         let at = units
             .lengths
@@ -383,7 +378,7 @@ impl Paying {
     ) -> Result<(), Lack>
         ensures pay { units.new.pay ≡ units.old.pay }
         ensures lack { ((other : Nest) → slice_index_or splitting.now.nests.list self.old.id other ≡ self.old.nest)
-            → IfErr result (IsLack graph.now.arcs splitting.now units.new) }
+            → self.old.id < splitting.now.nests.count → IfErr result (IsLack graph.now.arcs splitting.now units.new) }
     {
         let piece = self.nest.piece;
         let mut raises = 0;

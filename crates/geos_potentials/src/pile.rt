@@ -23,11 +23,13 @@ pub struct Pile {
 }
 
 impl Pile {
-    ghost use Rattle.std.specs.Prelude.{◌≡◌, ◌≢◌, ◌≤◌, ◌<◌, ◌+◌, ℕ, IfSome, IfNone};
+    ghost use Rattle.std.specs.Prelude.{◌≡◌, ◌≢◌, ◌≤◌, ◌<◌, ◌+◌, ℕ, IfSome, IfNone, IfOk};
     ghost use Rattle.geos_potentials.specs.Waits.{Waits};
 
     /// No place waits.
-    pub fn new(alloc: Global) -> Result<Pile, AllocError> {
+    pub fn new(alloc: Global) -> Result<Pile, AllocError>
+        ensures { IfOk result (λ pile. (at : ℕ) → Waits pile at → ⊥) }
+    {
         let (places, has) = two_tables(alloc, Place { pc: 0 }, false)?;
         // For what its law says.
         has.lengths();

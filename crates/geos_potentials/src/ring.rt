@@ -6,6 +6,7 @@ ghost use Rattle.geos_potentials.specs.Rings.{SetsInPiece, AreKeptFrom, PaysAt, 
 
 use crate::arcs::Arc;
 use crate::graph::Graph;
+use crate::inside::comes_in;
 use crate::nests::{Nests, Splitting};
 use crate::pieces::{Order, Piece};
 use crate::pile::Pile;
@@ -96,6 +97,18 @@ fn waited_on(
     }
     let other = splitting.nests.at(on);
     let arc = set_in(graph, &splitting.order, &nest.piece, other.counter, wait.at)?;
+    if !comes_in(
+        graph,
+        splitting,
+        id,
+        &nest.piece,
+        arc.to,
+        wait.at,
+        kept,
+        waits,
+    ) {
+        return None;
+    }
     note_kept(graph, arc.to, other.counter, kept, waits);
     if leads_to_paying(graph, splitting, on, &other.piece, other.counter, kept) {
         Some(on)

@@ -6,7 +6,7 @@ ghost use Rattle.geos_verify.specs.Touched.{noted};
 ghost use Rattle.geos_potentials.specs.Arcs.{touched_by};
 ghost use Rattle.geos_potentials.specs.Numbers.{numbers_of};
 ghost use Rattle.geos_potentials.specs.Untouched.{AreSpentIn};
-ghost use Rattle.geos_potentials.specs.Touching.{NotesTouched, NotesAllTouched, KnowsTouched};
+ghost use Rattle.geos_potentials.specs.Touching.{NotesTouched, NotesOwn, NotesAllTouched, KnowsTouched};
 
 use crate::asked::Potentials;
 use geos_image::{Image, Opcode, Potential};
@@ -15,7 +15,8 @@ use geos_verify::{Touched, are_spent, touched_in};
 
 /// Which counters each routine touches; a routine may call those before it.
 pub(crate) fn find_touched(image: &Image) -> Touched
-    ensures { NotesTouched image.now result }
+    ensures only { NotesTouched image.now result }
+    ensures own { NotesOwn image.now result }
 {
     let mut table = [[false; 4]; 32];
     for r in 0..image.count() {
@@ -48,7 +49,8 @@ pub struct Touching {
 
 /// Which counters the routines of an image touch.
 pub fn find_touching(image: &Image) -> Touching
-    ensures { KnowsTouched image.now result }
+    ensures knows { KnowsTouched image.now result }
+    ensures own { NotesOwn image.now result.certain }
 {
     let certain = find_touched(image);
     let possible = may_touch(image, &certain);

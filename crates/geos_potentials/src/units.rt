@@ -1,6 +1,6 @@
 //! What a unit of each counter pays for, nest by nest: as much as ways round lack that go through its LOOPs.
 
-ghost use Rattle.std.specs.Prelude.{◌≡◌, ◌≢◌, ◌<◌, ◌≤◌, ℕ, true, false, [], IfErr};
+ghost use Rattle.std.specs.Prelude.{◌≡◌, ◌≢◌, ◌<◌, ◌≤◌, ◌+◌, ℕ, max, true, false, [], IfErr};
 ghost use Rattle.geos_potentials.specs.Arcs.{IsLink, unit_at, price_of, paid_by};
 ghost use Rattle.geos_potentials.specs.Carried.{AreCarried, AreHeld, Carries, NoneHeld, StayCarried};
 ghost use Rattle.geos_potentials.specs.Demands.{AreWanted, HaveGrown, StayWanted};
@@ -78,6 +78,7 @@ impl Units {
         ensures more { result ≡ true → self.old.looks < self.new.looks }
         ensures few { result ≡ true → self.new.looks ≤ LOOKS }
         ensures past { result ≡ false → LOOKS < self.new.looks }
+        ensures most { self.new.looks ≤ self.old.looks + max edges 1 }
     {
         self.looks = self.looks.saturating_add(edges.max(1));
         self.looks <= LOOKS
@@ -88,6 +89,7 @@ impl Units {
         ensures pay { self.new.pay ≡ self.old.pay }
         ensures few { result ≡ true → round ≤ LOOKS }
         ensures past { result ≡ false → LOOKS < self.new.looks }
+        ensures most { self.new.looks ≤ max self.old.looks round + max nests 1 }
     {
         self.looks = self.looks.max(round);
         self.look(u32::from(nests))
@@ -174,7 +176,8 @@ impl Units {
 
     /// Notes from where the counter of a nest is kept up to its LOOPs.
     fn note_before(&mut self, graph: &Graph, splitting: &Splitting, paying: &Paying)
-        ensures { self.new.pay ≡ self.old.pay }
+        ensures pay { self.new.pay ≡ self.old.pay }
+        ensures looks { self.new.looks ≤ self.old.looks + 4096 }
     {
         // It may go back over all edges.
         self.looks = self.looks.saturating_add(u32::from(MOST_INSTRS));
@@ -194,7 +197,8 @@ impl Units {
     /// one that is left to the next round are left to that, too. It ends at one of which both are noted already, and so of those around it.
     fn note_due(&self, splitting: &mut Splitting, paying: &Paying, round: u32, pc: u16)
         requires { pc < 4096 }
-        ensures { splitting.new.jumps ≡ splitting.old.jumps }
+        ensures jumps { splitting.new.jumps ≡ splitting.old.jumps }
+        ensures count { splitting.new.nests.count ≡ splitting.old.nests.count }
     {
         let mut left = false;
         let mut inner = true;
@@ -244,6 +248,7 @@ impl Units {
         requires { to < 4096 }
         ensures past { result ≡ false → PricePasses graph.now.arcs self.now.pay }
         ensures jumps { splitting.new.jumps ≡ splitting.old.jumps }
+        ensures count { splitting.new.nests.count ≡ splitting.old.nests.count }
     {
         let mut lead = graph.first_into(to);
         for _ in 0..2 * u32::from(MOST_INSTRS) {
@@ -278,6 +283,7 @@ impl Units {
         ensures within { StayWithin graph.now.arcs self.old.pay self.new.pay }
         ensures lack { IfErr result (IsLack graph.now.arcs splitting.new self.new) }
         ensures jumps { splitting.new.jumps ≡ splitting.old.jumps }
+        ensures count { splitting.new.nests.count ≡ splitting.old.nests.count }
     {
         let mut fits = true;
         while let Some(pc) = self.waits.take() {
@@ -301,6 +307,7 @@ impl Units {
         ensures within { StayWithinLoops graph.now.arcs splitting.old.jumps pays self.old.pay self.new.pay }
         ensures lack { IfErr result (IsLack graph.now.arcs splitting.new self.new) }
         ensures jumps { splitting.new.jumps ≡ splitting.old.jumps }
+        ensures count { splitting.new.nests.count ≡ splitting.old.nests.count }
     {
         let piece = &paying.nest.piece;
         for x in piece.begin..piece.end {
@@ -320,12 +327,14 @@ impl Units {
         id: u16,
         round: u32,
     ) -> Result<(), Lack>
-        requires { id < 4096 }
+        requires room { id < 4096 }
+        requires few { id < splitting.old.nests.count }
         ensures wanted { StayWanted graph.now.arcs self.old.pay self.new.pay }
         ensures carried { StayCarried graph.now self.old.pay self.new.pay }
         ensures within { StayWithinLoops graph.now.arcs splitting.old.jumps pays self.old.pay self.new.pay }
         ensures lack { IfErr result (IsLack graph.now.arcs splitting.new self.new) }
         ensures jumps { splitting.new.jumps ≡ splitting.old.jumps }
+        ensures count { splitting.new.nests.count ≡ splitting.old.nests.count }
     {
         let mut nest = splitting.nests.at(id);
         nest.due = false;

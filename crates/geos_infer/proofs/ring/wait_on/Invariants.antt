@@ -1,5 +1,5 @@
 use Rattle.std.proofs.Common.{◌<◌, List}
-use Rattle.geos_infer.specs.Causes.{WaitOn}
+use Rattle.geos_infer.specs.Causes.{LoopsTo, WaitOn}
 use Rattle.geos_potentials.specs.declared.unpaid.BackWay.{BackWay}
 use Rattle.geos_infer.proofs.ring.wait_on.Given as goal
 
@@ -8,6 +8,7 @@ abbrev pub invariant-loop : goal.invariant-loop
 invariant-loop l = record {
   from : l.back.from < 4096;
   to : l.back.to < 4096;
+  loops : LoopsTo l.body.image.now l.body.r l.back l.taken;
   others : List BackWay;
   rest : WaitOn l.body.image.now l.body.r l.from others l.back;
 }

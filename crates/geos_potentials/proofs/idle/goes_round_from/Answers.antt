@@ -21,7 +21,9 @@ returns-then-lead-place c = λ is.
       begins = subst (IsPcOf image body.r) same within;
       branch = edge.branch;
       next = c.loop.at;
-      first = subst (λ (n : ℕ). LeadsNotedIdle c.args.graph.now.arcs c.args.classes.now n edge.branch c.loop.at) same (c.leads_idle.ensures c.if-not-leads_idle.false);
+      first =
+          subst (λ (n : ℕ). LeadsNotedIdle c.args.graph.now.arcs c.args.classes.now c.args.splitting.now.order c.args.piece.now n edge.branch c.loop.at)
+          same (c.leads_idle.ensures c.args.splitting.now.order c.args.piece.now c.in-Some.ensures c.if-not-leads_idle.false);
       branches = further.0;
       way = further.1;
     }
@@ -29,4 +31,5 @@ returns-then-lead-place c = λ is.
 pub loop-preserved : goal.loop-preserved
 loop-preserved c =
     let further = c.loop.invariant.1 in
-    (c.in-Some.lead.inside, (c.in-Some.lead.branch ∷ further.0, (c.loop.at, c.leads_idle.ensures c.if-not-leads_idle.false, further.1)))
+    let lead = c.leads_idle.ensures c.args.splitting.now.order c.args.piece.now c.in-Some.ensures c.if-not-leads_idle.false in
+    (c.in-Some.lead.inside, (c.in-Some.lead.branch ∷ further.0, (c.loop.at, lead, further.1)))

@@ -4,7 +4,8 @@ use Rattle.geos_potentials.specs.Ranks.{noted_idle}
 use Rattle.geos_potentials.proofs.idle.leads_idle.Goals as goal
 
 pub returns-in-Some-takes : goal.returns-in-Some-takes
-returns-in-Some-takes c = λ is. record {
+returns-in-Some-takes c = λ order piece here is. record {
+  here = here;
   arc = c.in-Some.arc;
   read = sym c.arc.ensures ∙ c.in-Some.is;
   leads = (let same : c.in-Some.arc.to ≡ c.args.to = first_of (omega arith, search rules) in same);
@@ -14,7 +15,8 @@ returns-in-Some-takes c = λ is. record {
 }
 
 pub returns-in-None : goal.returns-in-None
-returns-in-None c = λ is. record {
+returns-in-None c = λ order piece here is. record {
+  here = here;
   arc = c.in-Some.arc;
   read = sym c.arc.ensures ∙ c.in-Some.is;
   leads = (let same : c.in-Some.arc.to ≡ c.args.to = first_of (omega arith, search rules) in same);

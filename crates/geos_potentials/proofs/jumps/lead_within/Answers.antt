@@ -1,6 +1,6 @@
 use Rattle.std.proofs.Common.{sym, ◌∙◌, rules}
 use Rattle.std.proofs.lemmas.Bool.{false≢true}
-use Rattle.geos_potentials.specs.Pieces.{HasPlace}
+use Rattle.geos_potentials.specs.Stuck.{HasPlace}
 use Rattle.geos_potentials.specs.declared.jumps.Jump.TheVariants.{Plain}
 use Rattle.geos_potentials.proofs.jumps.lead_within.Goals.{then-branch+in-Plain, else-branch}
 use Rattle.geos_potentials.proofs.jumps.lead_within.Goals as goal

@@ -12,4 +12,4 @@ returns-else-round c = λ past.
     let less = past-by c.args.unit c.saturating_sub-lacks.result c.args.takes c.div_ceil.result (omega arith) some c.div_ceil.ensures
     (omega (arith, past, c.saturating_add-next.ensures)) in
     let same = ap (λ (n : ℕ). (4294967295 - c.args.unit) * n) takes in
-    (omega (arith, some, takes), omega (arith, all), omega (arith, less, same, lacks))
+    (c.requires.least, omega (arith, some, takes), omega (arith, all), omega (arith, less, same, lacks))

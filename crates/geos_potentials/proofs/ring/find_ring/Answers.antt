@@ -7,5 +7,5 @@ returns-then-is_ring-clause-due c = record {
   few = omega (arith, c.count.ensures, c.min-id-end.ensures, c.loop-id-test.true);
   nest = c.at.result;
   there = λ other. sym (c.at.ensures other);
-  due = c.if-at.true;
+  so = c.if-at.true;
 }

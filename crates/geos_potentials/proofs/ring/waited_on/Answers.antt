@@ -12,5 +12,7 @@ returns-then-leads_to_paying-clause-waits c = record {
   at = c.in_ok-wait.wait.at;
   arc = c.in_ok-arc.arc;
   sets = c.in_ok-arc.ensures;
+  steps = (c.comes_in.ensures c.if-not-comes_in.false).0;
+  round = (c.comes_in.ensures c.if-not-comes_in.false).1;
   leads = c.leads_to_paying.ensures c.in_ok-arc.arc.to c.note_kept.ensures c.if-leads_to_paying.true;
 }

@@ -1,5 +1,5 @@
 use Rattle.std.proofs.Common.{ℕ, List, Bool, [], ◌∷◌, refl, subst, arith}
-use Rattle.geos_potentials.specs.Trails.{IsTrail}
+use Rattle.geos_infer.specs.Causes.{IsTrailBut}
 use Rattle.geos_infer.proofs.trails.Trails.lead.Goals as goal
 
 pub loop-init : goal.loop-init
@@ -7,9 +7,9 @@ loop-init c = (omega arith, ([], refl))
 
 pub returns-then-at-from : goal.returns-then-at-from
 returns-then-at-from c = λ is. subst (λ (n : ℕ). (branches : List Bool)
-    × IsTrail c.args.body.now.image.now c.args.body.now.r c.args.counter n branches c.args.to) c.if-at-from.true c.loop.invariant.1
+    × IsTrailBut c.args.body.now.image.now c.args.body.now.r c.args.counter c.args.but n branches c.args.to) c.if-at-from.true c.loop.invariant.1
 
 pub loop-preserved : goal.loop-preserved
 loop-preserved c =
     let further = c.loop.invariant.1 in
-    (c.in-Some.edge.inside, (c.in-Some.edge.branch ∷ further.0, (c.loop.at, c.came_to.ensures c.if-not-came_to.false, further.1)))
+    (c.in-Some.edge.inside, (c.in-Some.edge.branch ∷ further.0, (c.loop.at, c.is_at.ensures c.if-is_at.false, c.came_to.ensures c.if-not-came_to.false, further.1)))

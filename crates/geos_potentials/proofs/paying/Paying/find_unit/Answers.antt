@@ -2,8 +2,8 @@ use Rattle.geos_potentials.proofs.Rounding.{lack-in}
 use Rattle.geos_potentials.proofs.paying.Paying.find_unit.Goals as goal
 
 pub returns-in-Err-clause-lack : goal.returns-in-Err-clause-lack
-returns-in-Err-clause-lack c = λ there.
+returns-in-Err-clause-lack c = λ there few.
     let inv = c.loop-sweep.invariant in
-    lack-in c.args.graph.now.arcs c.args.splitting.now c.find_round.new.units c.args.self.now.id c.args.self.now.nest c.in-Err.lack there
+    lack-in c.args.graph.now.arcs c.args.splitting.now c.find_round.new.units c.args.self.now.id c.args.self.now.nest c.in-Err.lack there few
     (rw (← inv.nest, ← inv.id)
-    (c.in-Err.ensures c.args.graph.now.arcs c.args.splitting.now.jumps c.find_round.new.units c.in-Some.ensures.round))
+    (c.in-Err.ensures c.args.graph.now.arcs c.args.splitting.now c.find_round.new.units c.in-Some.ensures.round))

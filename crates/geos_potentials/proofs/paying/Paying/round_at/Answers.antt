@@ -26,7 +26,7 @@ loop-init c = record {
 pub loop-preserved : goal.loop-preserved
 loop-preserved c = record {
   inside = c.in_ok-link.link.inside;
-  up = up-more c.args.graph.now.arcs c.args.splitting.now.jumps c.args.units.now.pay c.args.self.now.id c.args.self.now.nest.counter
+  up = up-more c.args.graph.now.arcs c.args.splitting.now c.args.units.now.pay c.args.self.now.id c.args.self.now.nest
       c.args.self.now.unit c.args.from c.loop.at c.in_ok-branch.branch c.in_ok-link.link c.loop.round c.in_ok-round.round (omega arith) c.in_ok-link.ensures c.in_ok-round.ensures
       c.loop.invariant.up;
 }
@@ -36,9 +36,9 @@ returns-then-round c =
     let same : c.in_ok-link.link.to ≡ c.args.from = c.if-at-from.true in record {
       from = c.args.from;
       up =
-          subst (λ (n : ℕ). AddsUpTo c.args.graph.now.arcs c.args.splitting.now.jumps c.args.units.now.pay c.args.self.now.id
-          c.args.self.now.nest.counter c.args.self.now.unit c.args.from n c.in_ok-round.round) same
-          (up-more c.args.graph.now.arcs c.args.splitting.now.jumps c.args.units.now.pay c.args.self.now.id c.args.self.now.nest.counter
+          subst (λ (n : ℕ). AddsUpTo c.args.graph.now.arcs c.args.splitting.now c.args.units.now.pay c.args.self.now.id
+          c.args.self.now.nest c.args.self.now.unit c.args.from n c.in_ok-round.round) same
+          (up-more c.args.graph.now.arcs c.args.splitting.now c.args.units.now.pay c.args.self.now.id c.args.self.now.nest
           c.args.self.now.unit c.args.from c.loop.at c.in_ok-branch.branch c.in_ok-link.link c.loop.round c.in_ok-round.round (omega arith)
           c.in_ok-link.ensures c.in_ok-round.ensures c.loop.invariant.up);
       lacks = c.if-round.true;

@@ -6,5 +6,5 @@ use Rattle.geos_potentials.proofs.paying.Paying.round_at.Given as goal
 abbrev pub invariant-loop : goal.invariant-loop
 invariant-loop l = record {
   inside : l.at < 4096;
-  up : AddsUpTo l.graph.arcs l.splitting.jumps l.units.pay l.self.id l.self.nest.counter l.self.unit l.from l.at l.round;
+  up : AddsUpTo l.graph.arcs l.splitting l.units.pay l.self.id l.self.nest l.self.unit l.from l.at l.round;
 }

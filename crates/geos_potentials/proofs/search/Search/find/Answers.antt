@@ -3,9 +3,10 @@ use Rattle.geos_potentials.specs.Arcs.{AreArcs, NoArcsOutside}
 use Rattle.geos_rows.specs.Code.{IsPcOf}
 use Rattle.geos_potentials.specs.Lacks.{IsLack}
 use Rattle.geos_potentials.specs.Spreads.{ComeBehind, ComeFrom, ForgetsIt}
+use Rattle.geos_potentials.specs.Stuck.{HasPlace}
 use Rattle.geos_potentials.specs.declared.graph.Graph.{Graph}
 use Rattle.geos_potentials.proofs.Rounding.{never-pay}
-use Rattle.geos_potentials.proofs.Idling.{notes-idle, round-never-paid}
+use Rattle.geos_potentials.proofs.Idling.{notes-idle, round-never-paid, never-by}
 use Rattle.geos_potentials.specs.Numbers.{numbers_of}
 use Rattle.geos_potentials.proofs.Demand.{for-loops}
 use Rattle.geos_potentials.proofs.Unpayable.{none-accepted-round}
@@ -25,9 +26,10 @@ returns-in-Err-clause-way c = λ notes.
     let idle = notes-idle image body.r c.args.known.now c.args.touched.now arcs c.note.ensures.arcs notes c.find.new.classes
     (subst (λ n. ComeBehind arcs n (IsPcOf image body.r) ForgetsIt c.find.new.classes.touched) begins touched)
     (subst (λ n. ComeFrom arcs n c.find.new.classes.unset) begins unset) in
-    let never = round-never-paid image body.r c.args.known.now c.args.touched.now arcs c.note.ensures.arcs notes c.find.new.classes idle
-    c.in-Err.ensures.round in
-    (never, none-accepted-round image body.r body.there never)
+    let order = c.find.new.self.order in
+    let never = round-never-paid image body.r c.args.known.now c.args.touched.now arcs c.note.ensures.arcs notes c.find.new.classes idle order
+    c.in-Err.piece c.in-Err.ensures.round in
+    (never, none-accepted-round image body.r body.there (never-by image body.r (HasPlace order c.in-Err.piece) never))
 
 pub returns-in-Err-pay-clause-way : goal.returns-in-Err-pay-clause-way
 returns-in-Err-pay-clause-way c = λ notes.
@@ -38,7 +40,7 @@ returns-in-Err-pay-clause-way c = λ notes.
     let noted = subst (λ (g : Graph). AreArcs image body.r c.args.known.now c.args.touched.now g.arcs) (sym c.pay.ensures.graph) c.note.ensures.arcs in
     let outside = subst (λ (g : Graph). NoArcsOutside image body.r g.arcs) (sym c.pay.ensures.graph) c.note.ensures.outside in (
       c.in-Err-pay.ensures.lack,
-      λ is. never-pay image body.r c.args.known.now c.args.touched.now arcs noted outside search.units.pay
+      λ is. never-pay image body.r c.args.known.now c.args.touched.now arcs noted outside search.units.pay search.splitting
           (subst (IsLack arcs search.splitting search.units) is c.in-Err-pay.ensures.lack),
     )
 

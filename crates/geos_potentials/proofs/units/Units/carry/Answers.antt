@@ -19,6 +19,7 @@ loop-pc-preserved c =
       passes = λ is. price-passes-on arcs pay c.go_back_from.new.spread c.go_back_from.ensures.more
           (either-false c.loop-pc.fits c.note_dearer-fits.result (PricePasses arcs pay) c.loop-pc.invariant.passes c.note_dearer-fits.ensures.past is);
       jumps = c.note_dearer-fits.ensures.jumps ∙ c.loop-pc.invariant.jumps;
+      count = c.note_dearer-fits.ensures.count ∙ c.loop-pc.invariant.count;
     }
 
 pub returns-else-fits-clause-lack : goal.returns-else-fits-clause-lack

@@ -16,6 +16,7 @@ invariant-loop-pc l = record {
   within : StayWithin l.graph.arcs l.fn.self.pay l.self.pay;
   passes : l.fits ≡ false → PricePasses l.graph.arcs l.self.pay;
   jumps : l.splitting.jumps ≡ l.fn.splitting.jumps;
+  count : l.splitting.nests.count ≡ l.fn.splitting.nests.count;
 }
 
 abbrev pub decreases-loop-pc : goal.decreases-loop-pc

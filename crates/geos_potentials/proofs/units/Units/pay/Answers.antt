@@ -9,7 +9,7 @@ use Rattle.geos_potentials.proofs.units.Units.pay.Goals as goal
 pub returns-clause-wanted : goal.returns-clause-wanted
 returns-clause-wanted c = λ before.
     let noted : c.if-nest.self.pay ≡ c.args.self.now.pay = elim c.if-nest.branch [
-      | then-nest w ↦ ap (λ (u : Units). u.pay) w.self-is ∙ w.note_before.ensures
+      | then-nest w ↦ ap (λ (u : Units). u.pay) w.self-is ∙ w.note_before.ensures.pay
       | else-nest w ↦ ap (λ (u : Units). u.pay) w.self-is
     ] in
     c.set_unit.ensures.wanted (subst (AreWanted c.args.graph.now.arcs) (sym (c.find_unit.ensures.pay ∙ noted)) before)
@@ -17,7 +17,7 @@ returns-clause-wanted c = λ before.
 pub returns-clause-carried : goal.returns-clause-carried
 returns-clause-carried c = λ led before.
     let noted : c.if-nest.self.pay ≡ c.args.self.now.pay = elim c.if-nest.branch [
-      | then-nest w ↦ ap (λ (u : Units). u.pay) w.self-is ∙ w.note_before.ensures
+      | then-nest w ↦ ap (λ (u : Units). u.pay) w.self-is ∙ w.note_before.ensures.pay
       | else-nest w ↦ ap (λ (u : Units). u.pay) w.self-is
     ] in
     c.set_unit.ensures.carried led (subst (AreCarried c.args.graph.now.arcs NoneHeld) (sym (c.find_unit.ensures.pay ∙ noted)) before)
@@ -25,7 +25,7 @@ returns-clause-carried c = λ led before.
 pub returns-clause-within : goal.returns-clause-within
 returns-clause-within c = λ law base passes carried holds before.
     let noted : c.if-nest.self.pay ≡ c.args.self.now.pay = elim c.if-nest.branch [
-      | then-nest w ↦ ap (λ (u : Units). u.pay) w.self-is ∙ w.note_before.ensures
+      | then-nest w ↦ ap (λ (u : Units). u.pay) w.self-is ∙ w.note_before.ensures.pay
       | else-nest w ↦ ap (λ (u : Units). u.pay) w.self-is
     ] in
     c.set_unit.ensures.within law base passes carried holds
@@ -34,3 +34,4 @@ returns-clause-within c = λ law base passes carried holds before.
 pub returns-in-Err-clause-lack : goal.returns-in-Err-clause-lack
 returns-in-Err-clause-lack c = c.in-Err.ensures.lack
     (λ other. rw c.begin-paying.ensures.id (c.set.ensures.there other ∙ sym c.begin-paying.ensures.nest))
+    (rw (c.begin-paying.ensures.id, c.set.ensures.count) c.requires.few)

@@ -1,21 +1,25 @@
+use Rattle.std.proofs.Common.{refl, ◌∙◌}
 use Rattle.geos_potentials.proofs.Within.{pay-none, pay-more}
 use Rattle.geos_potentials.proofs.units.Units.pay_round.Goals as goal
 
 pub loop-id-init : goal.loop-id-init
-loop-id-init c = pay-none c.args.graph.now c.args.splitting.now.jumps c.args.self.now.pay
+loop-id-init c = record { on = pay-none c.args.graph.now c.args.splitting.now.jumps c.args.self.now.pay; count = refl }
 
 pub loop-id-preserved-in-Continue-1 : goal.loop-id-preserved-in-Continue-1
-loop-id-preserved-in-Continue-1 c =
-    pay-more c.args.graph.now c.args.splitting.now.jumps c.loop-id.splitting.jumps c.pay.new.splitting.jumps c.args.self.now.pay c.loop-id.self.pay
-    c.pay.new.self.pay c.loop-id.invariant c.pay.ensures.wanted c.pay.ensures.carried c.pay.ensures.within c.pay.ensures.jumps
+loop-id-preserved-in-Continue-1 c = record {
+  on = pay-more c.args.graph.now c.args.splitting.now.jumps c.loop-id.splitting.jumps c.pay.new.splitting.jumps c.args.self.now.pay
+      c.loop-id.self.pay c.pay.new.self.pay c.loop-id.invariant.on c.pay.ensures.wanted c.pay.ensures.carried c.pay.ensures.within
+      c.pay.ensures.jumps;
+  count = c.pay.ensures.count ∙ c.loop-id.invariant.count;
+}
 
 pub returns-in_err-pay-clause-wanted : goal.returns-in_err-pay-clause-wanted
-returns-in_err-pay-clause-wanted c = λ before. c.pay.ensures.wanted (c.loop-id.invariant.wanted before)
+returns-in_err-pay-clause-wanted c = λ before. c.pay.ensures.wanted (c.loop-id.invariant.on.wanted before)
 
 pub returns-in_err-pay-clause-carried : goal.returns-in_err-pay-clause-carried
-returns-in_err-pay-clause-carried c = λ led before. c.pay.ensures.carried led (c.loop-id.invariant.carried led before)
+returns-in_err-pay-clause-carried c = λ led before. c.pay.ensures.carried led (c.loop-id.invariant.on.carried led before)
 
 pub returns-in_err-pay-clause-within : goal.returns-in_err-pay-clause-within
 returns-in_err-pay-clause-within c =
     (pay-more c.args.graph.now c.args.splitting.now.jumps c.loop-id.splitting.jumps c.pay.new.splitting.jumps c.args.self.now.pay c.loop-id.self.pay
-    c.pay.new.self.pay c.loop-id.invariant c.pay.ensures.wanted c.pay.ensures.carried c.pay.ensures.within c.pay.ensures.jumps).within
+    c.pay.new.self.pay c.loop-id.invariant.on c.pay.ensures.wanted c.pay.ensures.carried c.pay.ensures.within c.pay.ensures.jumps).within

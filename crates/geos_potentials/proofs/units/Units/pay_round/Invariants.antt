@@ -1,6 +1,10 @@
+use Rattle.std.proofs.Common.{◌≡◌}
 use Rattle.geos_potentials.proofs.Within.{PayOn}
 use Rattle.geos_potentials.proofs.units.Units.pay_round.Given as goal
 
--- what was wanted at first still is, and what was carried
+-- what was wanted at first still is, and what was carried, and there are as many nests
 abbrev pub invariant-loop-id : goal.invariant-loop-id
-invariant-loop-id l = PayOn l.graph l.fn.splitting.jumps l.splitting.jumps l.fn.self.pay l.self.pay
+invariant-loop-id l = record {
+  on : PayOn l.graph l.fn.splitting.jumps l.splitting.jumps l.fn.self.pay l.self.pay;
+  count : l.splitting.nests.count ≡ l.fn.splitting.nests.count;
+}

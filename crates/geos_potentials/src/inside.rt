@@ -1,0 +1,101 @@
+//! To which places control comes within a nest.
+
+ghost use Rattle.std.specs.Prelude.{◌≡◌, ◌≤◌, ◌<◌, ◌+◌, ◌*◌, ℕ, true, Some, List, IfSome};
+ghost use Rattle.geos_potentials.specs.Arcs.{arc_at};
+ghost use Rattle.geos_potentials.specs.Demands.{left_in};
+ghost use Rattle.geos_potentials.specs.Rounds.{Step, StaysInNest, AreSteps, AreCameTo};
+
+use crate::arcs::Arc;
+use crate::graph::Graph;
+use crate::nests::Splitting;
+use crate::pieces::Piece;
+use crate::pile::Pile;
+use crate::spread::{Spread, number_of, only, raise};
+
+/// The edge of a place, if it leads to a place of a nest's piece, and is no LOOP's way to its target that is left out there.
+pub(crate) fn arc_in(
+    graph: &Graph,
+    splitting: &Splitting,
+    id: u16,
+    piece: &Piece,
+    pc: u16,
+    branch: bool,
+) -> Option<Arc>
+    requires { pc < 4096 }
+    ensures read { IfSome result (λ arc. arc_at graph.now.arcs pc branch ≡ Some arc) }
+    ensures stays { IfSome result (λ arc. StaysInNest splitting.now id piece.now pc branch arc.to) }
+{
+    let arc = graph.arc(pc, branch)?;
+    if branch && splitting.jumps.at(pc).is_left_out_in(id) {
+        return None;
+    }
+    if splitting.order.has(piece, arc.to) {
+        Some(arc)
+    } else {
+        None
+    }
+}
+
+/// Control comes along an edge within a nest, if it comes to the place.
+fn come_along(
+    graph: &Graph,
+    splitting: &Splitting,
+    id: u16,
+    piece: &Piece,
+    seen: &mut Spread,
+    waits: &mut Pile,
+    pc: u16,
+    branch: bool,
+)
+    requires { pc < 4096 }
+    ensures come { (from : ℕ) → AreCameTo graph.now.arcs splitting.now id piece.now from seen.old
+        → AreCameTo graph.now.arcs splitting.now id piece.now from seen.new }
+    ensures work { 2 * left_in seen.new + waits.new.count ≤ 2 * left_in seen.old + waits.old.count }
+{
+    if let Some(arc) = arc_in(graph, splitting, id, piece, pc, branch) {
+        let here = *seen.get(pc);
+        raise(seen, waits, arc.to, &here);
+    }
+}
+
+/// Control goes on within a nest from the places that wait.
+fn come_on(
+    graph: &Graph,
+    splitting: &Splitting,
+    id: u16,
+    piece: &Piece,
+    seen: &mut Spread,
+    waits: &mut Pile,
+)
+    ensures { (from : ℕ) → AreCameTo graph.now.arcs splitting.now id piece.now from seen.old
+        → AreCameTo graph.now.arcs splitting.now id piece.now from seen.new }
+{
+    while let Some(pc) = waits.take() {
+        come_along(graph, splitting, id, piece, seen, waits, pc, false);
+        come_along(graph, splitting, id, piece, seen, waits, pc, true);
+    }
+}
+
+/// Whether control comes from one place to another within a nest; `seen` is only written.
+pub(crate) fn comes_in(
+    graph: &Graph,
+    splitting: &Splitting,
+    id: u16,
+    piece: &Piece,
+    from: u16,
+    to: u16,
+    seen: &mut Spread,
+    waits: &mut Pile,
+) -> bool
+    requires begins { from < 4096 }
+    requires ends { to < 4096 }
+    ensures { result ≡ true → (steps : List Step) × AreSteps graph.now.arcs splitting.now id piece.now from steps to }
+{
+    seen.fill_from(0, [0; 4]);
+    // For what its law says.
+    seen.lengths();
+    let one = only(0, 1);
+    raise(seen, waits, from, &one);
+    come_on(graph, splitting, id, piece, seen, waits);
+    0 < number_of(seen.get(to), 0)
+}
