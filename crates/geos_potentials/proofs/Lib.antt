@@ -19,3 +19,6 @@ pub mod Led
 pub mod Carrying
 pub mod Within
 pub mod Untouched
+pub mod Covering
+pub mod Spending
+pub mod Freeing

@@ -34,7 +34,7 @@ use Rattle.geos_potentials.specs.declared.lengths.Way.{Way}
 use Rattle.geos_potentials.proofs.Asks.{called}
 
 -- so many steps with the units at a pc
-abbrev with_units : List (List ℕ) → ℕ → ℕ → Potential
+abbrev pub with_units : List (List ℕ) → ℕ → ℕ → Potential
 with_units pay pc n = record { constant = n; coefficients = coefficients_at pay pc }
 
 along-costs : (image : Parts) (table : List (List Bool)) (i : Instr) (opcode : Opcode) (row : Row) (pay : List (List ℕ)) (pc to n m : ℕ)

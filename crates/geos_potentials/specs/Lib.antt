@@ -22,3 +22,5 @@ pub mod Led
 pub mod Carried
 pub mod Within
 pub mod Untouched
+pub mod Spent
+pub mod Paid
