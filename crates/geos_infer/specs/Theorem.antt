@@ -1,5 +1,5 @@
 -- The rows and potentials that are found are enough wherever some are.
-use Rattle.std.specs.Prelude.{◌<◌, ℕ, false, List, length}
+use Rattle.std.specs.Prelude.{◌<◌, ℕ, false, List, Option, length}
 use Rattle.geos_image.specs.declared.row.Row.{Row}
 use Rattle.geos_image.specs.declared.point.Point.{Point}
 use Rattle.geos_image.specs.Parts.{Parts}
@@ -8,7 +8,10 @@ use Rattle.geos_infer.specs.declared.error.InferError.{InferError}
 use Rattle.geos_infer.specs.declared.error.InferError.TheVariants.{NoRows, Memory}
 use Rattle.geos_rows.specs.Code.{Forward, ForwardIn}
 use Rattle.geos_rows.specs.Solutions.{RowsHoldIn}
+use Rattle.geos_potentials.specs.Reasons.{IsReason}
 use Rattle.geos_potentials.specs.Steps.{StepsHoldIn}
+use Rattle.geos_potentials.specs.declared.reason.Reason.{Reason}
+use Rattle.geos_rows.specs.Reached.{FitWhereReached}
 use Rattle.geos_potentials.specs.Accepted.{HasAccepted}
 
 -- the routines of the image with these points, and all rows
@@ -31,3 +34,11 @@ NothingHoldsIn image r = ForwardIn image r → (rows : List Row) (steps : List �
 abbrev pub NamesRoutine : Parts → InferError → Type 0
 NamesRoutine image (NoRows r) = r < length image.routines
 NamesRoutine image Memory = Unit {0}
+
+-- with these rows there is a reason for which no potentials are found for routine r
+abbrev pub HasReasonWith : Parts → ℕ → List (Option Row) → Type 0
+HasReasonWith image r known = (reason : Reason) × IsReason image r known reason
+
+-- there is one with rows that hold wherever control reaches in it
+abbrev pub HasReason : Parts → ℕ → Type 0
+HasReason image r = (known : List (Option Row)) × FitWhereReached image r known × HasReasonWith image r known

@@ -9,7 +9,7 @@ ghost use Rattle.geos_potentials.specs.Numbers.{numbers_of};
 ghost use Rattle.geos_infer.specs.Points.{PointsOf, RoutinesOf};
 ghost use Rattle.geos_rows.specs.Reached.{AllHoldWhereReached, KeptRowsHold, RowsThatHoldPass};
 ghost use Rattle.geos_potentials.specs.Steps.{NoStepsHoldIn};
-ghost use Rattle.geos_infer.specs.Theorem.{FindsWhatThereIs, NoneIsAccepted, NothingHoldsIn, NamesRoutine};
+ghost use Rattle.geos_infer.specs.Theorem.{FindsWhatThereIs, NoneIsAccepted, NothingHoldsIn, NamesRoutine, HasReasonWith, HasReason};
 ghost use Rattle.geos_rows.specs.Why.{MeetAlike};
 
 use crate::error::InferError;
@@ -63,6 +63,8 @@ fn count(
     ensures least { IfOk result (λ potentials. AreLeastFrom image.now 0 routines known.now (numbers_of potentials)) }
     ensures within { IfErr result (NamesRoutine image.now) }
     ensures none { IfErr result (λ error. (r : ℕ) → error ≡ NoRows r → (r ≡ routines) ⊎ NoStepsHoldIn image.now r) }
+    ensures reason { IfErr result (λ error. (r : ℕ) → error ≡ NoRows r
+        → (r ≡ routines) ⊎ ((r < routines) × HasReasonWith image.now r known.now)) }
 {
     let nothing = Potential {
         constant: 0,
@@ -71,7 +73,7 @@ fn count(
     let mut potentials = Potentials::new(alloc, nothing)?;
     let left = find_potentials(alloc, image, routines, known, &mut potentials)?;
     match left {
-        Some(r) => Err(InferError::NoRows(r)),
+        Some(unfound) => Err(InferError::NoRows(unfound.routine)),
         None if routines < image.count() => Err(InferError::NoRows(routines)),
         None => Ok(potentials),
     }
@@ -93,7 +95,8 @@ fn count(
 /// routine for which no rows or no potentials were found; that it is the first such one is not
 /// proved. If it has no LOOP, no edge that leads back, and an edge of its own into each instruction
 /// but the first, no rows and numbers of steps hold in it, whatever the others are. For want of rows it comes only at the first routine
-/// where ways of control meet with slots that differ in more than marks; where they do in one, no image is answered.
+/// where ways of control meet with slots that differ in more than marks; where they do in one, no image is answered. Where they do not, it
+/// comes only with a reason that is so (`reason`): what that reason is, `find_potentials` answers.
 pub fn infer(alloc: Global, skeleton: &Image) -> Result<Whole, InferError>
     ensures code { IfOk result (λ whole. SameCode skeleton.now whole) }
     ensures all { IfOk result (λ whole. whole.keyed ≡ false) }
@@ -106,6 +109,7 @@ pub fn infer(alloc: Global, skeleton: &Image) -> Result<Whole, InferError>
     ensures none { IfErr result (λ error. (r : ℕ) → error ≡ NoRows r → NoneIsAccepted skeleton.now) }
     ensures stuck { IfErr result (λ error. (r : ℕ) → error ≡ NoRows r → NothingHoldsIn skeleton.now r) }
     ensures steps { IfErr result (λ error. (r : ℕ) → error ≡ NoRows r → MeetAlike skeleton.now r → NoStepsHoldIn skeleton.now r) }
+    ensures reason { IfErr result (λ error. (r : ℕ) → error ≡ NoRows r → MeetAlike skeleton.now r → HasReason skeleton.now r) }
     ensures within { IfErr result (NamesRoutine skeleton.now) }
 {
     // For what `len` says of the skeleton: it is one that the format allows.

@@ -21,3 +21,6 @@ pub mod Carrying
 pub mod Within
 pub mod Untouched
 pub mod Setting
+pub mod Covering
+pub mod Spending
+pub mod Freeing

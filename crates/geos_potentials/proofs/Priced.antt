@@ -5,7 +5,6 @@ use Rattle.std.proofs.lemmas.Bool.{cases_eq, cases_lt, and_parts, leb-true, le-l
 use Rattle.std.proofs.lemmas.List.{get_or-set_same, get_or-set_other, length-map}
 use Rattle.geos_opcodes.specs.declared.opcode.Opcode.{Opcode}
 use Rattle.geos_opcodes.specs.declared.opcode.Opcode.TheVariants.{Setk, Setkw, Loop, Call}
-use Rattle.geos_image.specs.declared.point.Point.{Point}
 use Rattle.geos_image.specs.declared.instr.Instr.{Instr}
 use Rattle.geos_image.specs.declared.row.Row.{Row}
 use Rattle.geos_image.specs.declared.potential.Potential.{Potential}
@@ -13,15 +12,14 @@ use Rattle.geos_image.specs.Keys.{branches}
 use Rattle.geos_verify.specs.Rows.{has_edge}
 use Rattle.geos_image.specs.Parts.{Parts, start_of}
 use Rattle.geos_verify.specs.declared.asked.Asked.{Asked}
-use Rattle.geos_verify.specs.Potentials.{asked_along, asked_branching, is_paid}
+use Rattle.geos_verify.specs.Potentials.{asked_along, asked_branching}
 use Rattle.geos_verify.proofs.Places.{item_at, if_some}
 use Rattle.std.proofs.lemmas.Option.{same_Some}
 use Rattle.geos_potentials.specs.Arcs.{counting_of, IsArc, IsArcIf, AreArcs, price_of, paid_by}
 use Rattle.geos_rows.specs.Code.{is_loop, IsPcOf, TargetAhead}
 use Rattle.geos_rows.proofs.Ends.{code-at, leads-one}
 use Rattle.geos_rows.specs.Why.{LeadsTo}
-use Rattle.geos_potentials.specs.Count.{return_steps}
-use Rattle.geos_potentials.specs.Constants.{AreLeastWith, asked_over, PaysSteps, ConstantsPay, row_known, coefficients_at, AreLeastIn, GoesBack, IsLoopAt, potential_in, IsAsked, PaidAt, ArePaidIn}
+use Rattle.geos_potentials.specs.Constants.{AreLeastWith, asked_over, PaysSteps, ConstantsPay, row_known, coefficients_at, AreLeastIn, GoesBack, IsLoopAt, potential_in, IsAsked}
 use Rattle.geos_potentials.specs.Least.{SomePasses, steps_at, link_at, PaysLink, PayAll, PayEnds, AreLeast, IsLookedAt, AskNoMore, NoneOutside, ArePut}
 use Rattle.geos_potentials.specs.Halts.{NonePayWith}
 use Rattle.geos_potentials.specs.Numbers.{Numbers, numbers_of, steps_of, coefficients_of}
@@ -34,7 +32,7 @@ use Rattle.geos_potentials.specs.declared.lengths.Way.{Way}
 use Rattle.geos_potentials.proofs.Asks.{called}
 
 -- so many steps with the units at a pc
-abbrev with_units : List (List ℕ) → ℕ → ℕ → Potential
+abbrev pub with_units : List (List ℕ) → ℕ → ℕ → Potential
 with_units pay pc n = record { constant = n; coefficients = coefficients_at pay pc }
 
 along-costs : (image : Parts) (table : List (List Bool)) (i : Instr) (opcode : Opcode) (row : Row) (pay : List (List ℕ)) (pc to n m : ℕ)
@@ -194,32 +192,6 @@ asked-one image r known numbers pc branch i end next asked there leads_on consta
     is ∙ ap (λ (x : Instr). asked_over image x (row_known known pc) branch next) same
     ∙ ap (asked_over image leads.point.instr (row_known known pc) branch) (potential-at numbers end next constant coefficients
     ∙ ap (potential_in numbers) ends)
-
-pub all-paid-in : (image : Parts) (r : ℕ) (known : List (Option Row)) (numbers : Numbers)
-    → ((pc : ℕ) → IsPcOf image r pc → PaidAt image r known numbers pc) → ArePaidIn image r known numbers
-all-paid-in image r known numbers paid = record {
-  edges = λ pc to branch within leads inside. over pc to branch (paid pc within) leads inside;
-  returns = λ pc point within there. if_some (λ point. return_steps point.instr ≤ slice_index numbers.steps pc)
-      (slice_get image.points pc) point there (paid pc within).returns;
-}
-  where
-    over : (pc to : ℕ) (branch : Bool) → PaidAt image r known numbers pc → (leads : LeadsTo image pc branch to) → IsPcOf image r to
-        → is_paid (asked_over image leads.point.instr (row_known known pc) branch (potential_in numbers to)) (potential_in numbers pc) ≡ true
-    over pc to true P leads inside = P.branching to leads inside
-    over pc to false P leads inside = P.along to leads inside
-
--- and where all is, so is that
-pub paid-at : (image : Parts) (r : ℕ) (known : List (Option Row)) (numbers : Numbers) → ArePaidIn image r known numbers
-    → (pc : ℕ) → IsPcOf image r pc → PaidAt image r known numbers pc
-paid-at image r known numbers paid pc within = record {
-  along = λ to leads inside. paid.edges pc to false within leads inside;
-  branching = λ to leads inside. paid.edges pc to true within leads inside;
-  returns = returns (slice_get image.points pc) refl;
-}
-  where
-    returns : (found : Option Point) → slice_get image.points pc ≡ found → IfSome found (λ point. return_steps point.instr ≤ slice_index numbers.steps pc)
-    returns None is = tt
-    returns (Some point) is = paid.returns pc point within is
 
 -- Numbers that are put
 

@@ -1,5 +1,5 @@
 -- In routines with loops the numbers that are found are still the least, pay, and are wanted for LOOPs, where those of further routines are.
-use Rattle.std.proofs.Common.{◌≡◌, ◌<◌, ℕ, ◌+◌, true, List, Option, sym, ap, subst, arith, inl, inr}
+use Rattle.std.proofs.Common.{◌≡◌, ◌<◌, ℕ, ◌+◌, true, List, Option, Some, None, refl, sym, ap, subst, arith, inl, inr}
 use Rattle.std.specs.Prelude.{slice_index}
 use Rattle.std.proofs.lemmas.Bool.{cases_eq}
 use Rattle.geos_image.specs.declared.row.Row.{Row}
@@ -11,6 +11,8 @@ use Rattle.geos_rows.specs.Code.{IsPcOf}
 use Rattle.geos_potentials.specs.Count.{StaysFrom}
 use Rattle.geos_potentials.specs.Constants.{asked_over, PaysSteps, ConstantsPay, row_known, coefficients_at, HasLoops, AreLeastIn, AreLeastFrom, AreForLoops, potential_in, ArePaidIn, PayLeastIn}
 use Rattle.geos_potentials.specs.Numbers.{Numbers}
+use Rattle.geos_potentials.specs.Reasons.{IsReason}
+use Rattle.geos_potentials.specs.declared.reason.Reason.{Reason}
 use Rattle.geos_potentials.proofs.Priced.{potential-at}
 
 -- they are where the numbers of a routine stay
@@ -101,3 +103,13 @@ pub least-in : (image here : Parts) (number r : ℕ) (known : List (Option Row))
 least-in image here number r known new same_image same_number least =
     subst (λ (x : Parts). HasLoops x r → PayLeastIn x r known new) same_image
     (subst (λ (n : ℕ). HasLoops here n → PayLeastIn here n known new) same_number least)
+
+pub reason-in : (image here : Parts) (number r : ℕ) (known : List (Option Row)) (reason : Reason) → here ≡ image → number ≡ r
+    → IsReason here number known reason → IsReason image r known reason
+reason-in image here number r known reason same_image same_number is = subst (λ (x : Parts). IsReason x r known reason) same_image
+    (subst (λ (n : ℕ). IsReason here n known reason) same_number is)
+
+-- what is no Some is None
+pub not-some : {X : Type 0} (o : Option X) → ((x : X) → o ≡ Some x → ⊥) → o ≡ None
+not-some None none = refl
+not-some (Some x) none = absurd (none x refl)

@@ -1,7 +1,7 @@
 -- Where it is noted that calls have touched counters.
-use Rattle.std.proofs.Common.{◌≡◌, ◌≤◌, ◌<◌, ◌⊎◌, ℕ, zero, suc, ◌+◌, Bool, true, false, not, List, [], ◌∷◌, length, Option, Some, None, refl, sym, ap, ◌∙◌, subst, arith, inl, inr}
-use Rattle.std.specs.Prelude.{◌||◌, ◌==◌, slice_index, slice_index_or, slice_set}
-use Rattle.std.proofs.lemmas.Bool.{cases_eq, cases_lt, eqb-true, eq-eqb, and_parts, false≢true}
+use Rattle.std.proofs.Common.{◌≡◌, ◌≤◌, ◌<◌, ◌⊎◌, ℕ, ◌+◌, Bool, true, false, List, [], length, Option, Some, None, refl, sym, ap, ◌∙◌, subst, arith, inl, inr}
+use Rattle.std.specs.Prelude.{slice_index, slice_index_or, slice_set}
+use Rattle.std.proofs.lemmas.Bool.{cases_eq, cases_lt, eqb-true, eq-eqb, false≢true}
 use Rattle.std.proofs.lemmas.List.{get_or-set_other, get_or_past}
 use Rattle.std.proofs.lemmas.Option.{same_Some, none-some}
 use Rattle.geos_opcodes.specs.declared.opcode.Opcode.{Opcode}
@@ -11,7 +11,6 @@ use Rattle.geos_image.specs.declared.point.Point.{Point}
 use Rattle.geos_image.specs.declared.row.Row.{Row}
 use Rattle.geos_image.specs.Keys.{falls_through}
 use Rattle.geos_image.specs.Parts.{Parts, start_of}
-use Rattle.geos_verify.specs.Lists.{all2}
 use Rattle.geos_rows.specs.Code.{IsPcOf}
 use Rattle.geos_rows.specs.Flow.{row_of, known_at}
 use Rattle.geos_potentials.specs.declared.arcs.Arc.{Arc}
@@ -192,30 +191,3 @@ spent-in image r known table arcs noted outside low end begins ends touched on b
         ∙ call-forgets (row_of (known_at known pc)) table A.leads.point.instr A.leads.point.instr.opcode k opcode imm in
         let some = behind pc k arc inside (let below = inside.below in omega (arith, below, ends)) few read forgotten in
         ap (λ (xs : List ℕ). slice_index xs k) (same (pc + 1) next) ∙ ap (λ (n : ℕ). unit_at pay n k) A.leads.leads ∙ nothing arc some
-
--- What a test says of these
-
-either-zero : (touched : Bool) (n : ℕ) → (not touched || n == 0) ≡ true → touched ≡ true → n ≡ 0
-either-zero true n is touches = eqb-true n 0 is
-either-zero false n is touches = absurd (false≢true touches)
-
-zero-either : (touched : Bool) (n : ℕ) → (touched ≡ true → n ≡ 0) → (not touched || n == 0) ≡ true
-zero-either true n is = eq-eqb n 0 (is refl)
-zero-either false n is = refl
-
-pub all-spent : (touched : List Bool) (numbers : List ℕ) → all2 (λ is_touched n. not is_touched || n == 0) touched numbers ≡ true → (k : ℕ)
-    → slice_index_or touched k false ≡ true → slice_index numbers k ≡ 0
-all-spent [] [] is k touches = absurd (false≢true touches)
-all-spent [] (n ∷ numbers) is k touches = absurd (false≢true is)
-all-spent (t ∷ touched) [] is k touches = absurd (false≢true is)
-all-spent (t ∷ touched) (n ∷ numbers) is zero touches = either-zero t n (and_parts _ _ is).0 touches
-all-spent (t ∷ touched) (n ∷ numbers) is (suc k) touches = all-spent touched numbers (and_parts _ _ is).1 k touches
-
-pub spent-all : (touched : List Bool) (numbers : List ℕ) → length touched ≡ length numbers
-    → ((k : ℕ) → k < length touched → slice_index_or touched k false ≡ true → slice_index numbers k ≡ 0)
-    → all2 (λ is_touched n. not is_touched || n == 0) touched numbers ≡ true
-spent-all [] [] same spent = refl
-spent-all [] (n ∷ numbers) same spent = absurd (omega arith)
-spent-all (t ∷ touched) [] same spent = absurd (omega arith)
-spent-all (t ∷ touched) (n ∷ numbers) same spent =
-    rw (zero-either t n (spent 0 (omega arith))) (spent-all touched numbers (omega arith) (λ k lt. spent (suc k) (omega (arith, lt))))

@@ -2,7 +2,7 @@
 use Rattle.std.proofs.Common.{◌≡◌, ◌≤◌, ◌<◌, ◌⊎◌, ℕ, Bool, true, List, [], length, Option, Some, refl, sym, ap, ◌∙◌, subst, arith, inl, inr}
 use Rattle.std.specs.Prelude.{slice_index, slice_index_or, slice_set}
 use Rattle.std.proofs.lemmas.Bool.{cases_eq, cases_lt}
-use Rattle.std.proofs.lemmas.List.{get_or_past}
+use Rattle.std.proofs.lemmas.List.{get_or-set_same, get_or_past}
 use Rattle.geos_potentials.specs.declared.arcs.Arc.{Arc}
 use Rattle.geos_potentials.specs.declared.graph.Graph.{Graph}
 use Rattle.geos_potentials.specs.declared.jumps.Jump.{Jump}
@@ -66,6 +66,11 @@ pub loop-within : (arcs : List (List (Option Arc))) (old next : List (List ℕ))
 loop-within arcs old next p k n arc read takes raised law base holds = raised-within law base old next p (slice_set zeros k n) raised
     (λ j few more. (let parts = only-some k j n (omega (arith, more)) in
     subst (λ (i : ℕ). law p i ≡ true) (sym parts.0) (holds k arc read takes)))
+
+-- one counter's number
+pub raised-number : (k counter n : ℕ) (numbers : List ℕ) → k < 4 → counter ≡ k → numbers ≡ slice_set zeros counter n → slice_index numbers k ≡ n
+raised-number k counter n numbers few same is = ap (λ (xs : List ℕ). slice_index xs k) is
+    ∙ ap (λ (j : ℕ). slice_index (slice_set zeros j n) k) same ∙ get_or-set_same zeros k n 0 few
 
 -- At the LOOPs of a nest
 

@@ -1,5 +1,5 @@
 -- The edges of a routine, with what they cost and what they do to counters.
-use Rattle.std.specs.Prelude.{◌≡◌, ℕ, ◌+◌, ◌*◌, Bool, true, false, if◌then◌else◌, List, [], ◌∷◌, Option, Some, None, slice_index, slice_index_or}
+use Rattle.std.specs.Prelude.{◌≡◌, ◌≤◌, ℕ, ◌+◌, ◌*◌, Bool, true, false, if◌then◌else◌, List, [], ◌∷◌, Option, Some, None, slice_index, slice_index_or}
 use Rattle.geos_opcodes.specs.declared.opcode.Opcode.{Opcode}
 use Rattle.geos_opcodes.specs.declared.opcode.Opcode.TheVariants.{Setk, Setkw, Loop, Call}
 use Rattle.geos_image.specs.declared.instr.Instr.{Instr}
@@ -74,3 +74,4 @@ pub record IsLink (pay : List (List ℕ)) (pc : ℕ) (arc : Arc) (link : Link) :
   pub to : link.to ≡ arc.to
   pub costs : link.costs ≡ 1 + arc.called + price_of pay arc.to arc.counting
   pub paid : link.paid ≡ paid_by pay pc arc.counting
+  pub small : link.paid ≤ 4294967295

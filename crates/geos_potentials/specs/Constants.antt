@@ -1,5 +1,5 @@
 -- Constants that pay where the coefficients are given, and the least of them.
-use Rattle.std.specs.Prelude.{◌≡◌, ◌≤◌, ◌<◌, ◌⊎◌, ℕ, Bool, true, false, ◌||◌, ◌==◌, not, List, [], ◌∷◌, length, Option, Some, None, slice_get, slice_index, slice_index_or, IfSome}
+use Rattle.std.specs.Prelude.{◌≡◌, ◌≤◌, ◌<◌, ◌⊎◌, ℕ, Bool, true, false, ◌||◌, ◌==◌, not, List, [], ◌∷◌, length, Option, Some, None, slice_get, slice_index, slice_index_or}
 use Rattle.geos_opcodes.specs.declared.opcode.Opcode.{Opcode}
 use Rattle.geos_opcodes.specs.declared.opcode.Opcode.TheVariants.{Setk, Setkw, Loop}
 use Rattle.geos_image.specs.declared.instr.Instr.{Instr}
@@ -154,17 +154,6 @@ IsAsked image r known numbers pc branch (Some asked) = (to : ℕ) → (leads : L
 -- one stays there
 abbrev pub StaysIn : Parts → ℕ → ℕ → Bool → Type 0
 StaysIn image r pc branch = (to : ℕ) × LeadsTo image pc branch to × IsPcOf image r to
-
--- the edge of a pc is paid for, if one stays in routine r
-abbrev pub IsPaidOver : Parts → ℕ → List (Option Row) → Numbers → ℕ → Bool → Type 0
-IsPaidOver image r known numbers pc branch = (to : ℕ) → (leads : LeadsTo image pc branch to) → IsPcOf image r to
-    → is_paid (asked_over image leads.point.instr (row_known known pc) branch (potential_in numbers to)) (potential_in numbers pc) ≡ true
-
--- what is at a pc is paid for: the edges from there, and what a return takes
-pub record PaidAt (image : Parts) (r : ℕ) (known : List (Option Row)) (numbers : Numbers) (pc : ℕ) : Type 0 where
-  pub along : IsPaidOver image r known numbers pc false
-  pub branching : IsPaidOver image r known numbers pc true
-  pub returns : IfSome (slice_get image.points pc) (λ point. return_steps point.instr ≤ slice_index numbers.steps pc)
 
 -- the numbers of routine r pay, with the rows that are known
 abbrev pub ArePaidIn : Parts → ℕ → List (Option Row) → Numbers → Type 0

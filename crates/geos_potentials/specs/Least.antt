@@ -106,3 +106,23 @@ NoneOutside image r links = (pc : ℕ) (branch : Bool) → (IsPcOf image r pc �
 abbrev pub ArePut : Parts → ℕ → List (List ℕ) → List Way → Numbers → Type 0
 ArePut image r pay ways numbers = (pc : ℕ) → IsPcOf image r pc → (slice_index numbers.steps pc ≡ steps_at ways pc)
     × (slice_index_or numbers.coefficients pc [] ≡ slice_index_or pay pc [])
+
+-- What covers edges
+
+-- a way of so many steps covers an edge that is looked at, if there is one, with what a unit pays of it; or both are past what 64 bits hold
+abbrev pub Covers : List Way → ℕ → Option Link → Type 0
+Covers ways n None = Unit {0}
+Covers ways n (Some link) = (steps_at ways link.to + link.costs ≤ n + link.paid) ⊎ (18446744073709551615 ≤ n + link.paid)
+
+-- the ways from places from one on up to another cover each edge from there that is looked at
+abbrev pub AreCovered : List (List (Option Link)) → List Way → ℕ → ℕ → Type 0
+AreCovered links ways from end = (pc : ℕ) (branch : Bool) → from ≤ pc → pc < end → Covers ways (steps_at ways pc) (link_at links pc branch)
+
+-- no way takes fewer steps next
+abbrev pub AreLonger : List Way → List Way → Type 0
+AreLonger old next = (pc : ℕ) → steps_at old pc ≤ steps_at next pc
+
+-- the ways of routine r take as much as its returns do, at least
+abbrev pub CoverReturns : Parts → ℕ → List Way → Type 0
+CoverReturns image r ways = (pc : ℕ) (point : Point) → IsPcOf image r pc → slice_get image.points pc ≡ Some point
+    → return_steps point.instr ≤ steps_at ways pc

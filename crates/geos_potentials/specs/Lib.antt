@@ -22,3 +22,6 @@ pub mod Led
 pub mod Carried
 pub mod Within
 pub mod Untouched
+pub mod Reasons
+pub mod Spent
+pub mod Paid

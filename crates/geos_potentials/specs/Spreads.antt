@@ -64,8 +64,3 @@ ComeFrom arcs low spread = (pc k : ℕ) → low ≤ pc → 0 < unit_at spread pc
 -- each of the four counters has a number at a pc that is not 0
 abbrev pub AllStandAt : ℕ → List (List ℕ) → Type 0
 AllStandAt pc spread = (k : ℕ) → k < 4 → 0 < unit_at spread pc k
-
--- behind each edge of routine r, before a pc, the number of the counter that it sets is as much, at least, as that is set to
-abbrev pub AreSetBehind : Parts → ℕ → List (List (Option Arc)) → ℕ → List (List ℕ) → Type 0
-AreSetBehind image r arcs end spread = (pc k n : ℕ) (arc : Arc) → IsPcOf image r pc → pc < end → k < 4 → arc_at arcs pc false ≡ Some arc
-    → arc.counting ≡ Sets k n → n ≤ unit_at spread arc.to k

@@ -1,14 +1,16 @@
 //! Which LOOPs are to pay for ways round among the places of a component.
 
-ghost use Rattle.std.specs.Prelude.{◌≡◌, ◌<◌, ◌==◌, ◌+◌, ℕ, true, not, min, None, Some, IfNone, MatchOption, slice_index_or};
+ghost use Rattle.std.specs.Prelude.{◌≡◌, ◌<◌, ◌==◌, ◌+◌, ℕ, true, false, not, min, None, Some, IfNone, MatchOption, slice_index_or};
 ghost use Rattle.geos_potentials.specs.Arcs.{arc_at, unit_at};
 ghost use Rattle.geos_potentials.specs.Demands.{taken_from};
+ghost use Rattle.geos_potentials.specs.Least.{is_free};
 ghost use Rattle.geos_potentials.specs.Pieces.{TakesWithin, ArePriced, NoneMayPay};
 ghost use Rattle.geos_potentials.specs.Ranks.{noted_idle};
 ghost use Rattle.geos_potentials.specs.Untouched.{untouched};
 ghost use Rattle.geos_potentials.specs.Within.{HoldsAt};
 ghost use Rattle.geos_potentials.specs.declared.arcs.Arc.{Arc};
 ghost use Rattle.geos_potentials.specs.declared.choice.Tier.TheVariants.{Tight};
+ghost use Rattle.geos_potentials.specs.declared.jumps.Jump.TheVariants.{Plain};
 
 use crate::classes::Classes;
 use crate::graph::Graph;
@@ -49,6 +51,7 @@ fn counter_at(graph: &Graph, jumps: &Jumps, order: &Order, piece: &Piece, pc: u1
     requires { pc < 4096 }
     ensures all { (k : ℕ) → TakesWithin graph.now.arcs jumps.now order.now piece.now pc k → result ≡ Some k }
     ensures takes { (k : ℕ) → result ≡ Some k → (arc : Arc) × (arc_at graph.now.arcs pc true ≡ Some arc) × (taken_from arc.counting ≡ Some k) }
+    ensures plain { (k : ℕ) → result ≡ Some k → is_free (slice_index_or jumps.now pc Plain) ≡ false }
 {
     let counter = graph.arc(pc, true)?.takes()?;
     lead_within(graph, jumps, order, piece, pc, true)?;
@@ -85,7 +88,8 @@ impl Chosen {
         pc: u16,
     ) -> bool
         requires { pc < 4096 }
-        ensures { result ≡ true → HoldsAt graph.now.arcs (untouched classes.now.touched) pc }
+        ensures untouched { result ≡ true → HoldsAt graph.now.arcs (untouched classes.now.touched) pc }
+        ensures plain { result ≡ true → is_free (slice_index_or jumps.now pc Plain) ≡ false }
     {
         let Choice {
             counter,

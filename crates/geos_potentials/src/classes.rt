@@ -6,7 +6,8 @@ ghost use Rattle.geos_potentials.specs.Carried.{AreSpread};
 ghost use Rattle.geos_potentials.specs.Demands.{forgets};
 ghost use Rattle.geos_rows.specs.Code.{IsPcOf};
 ghost use Rattle.geos_potentials.specs.Ranks.{noted_idle};
-ghost use Rattle.geos_potentials.specs.Spreads.{ComeBehind, ComeFrom, ForgetsIt, SetsTo, SetsSome, AllStandAt, AreSetBehind};
+ghost use Rattle.geos_potentials.specs.Spreads.{ComeBehind, ComeFrom, ForgetsIt, SetsTo, SetsSome, AllStandAt};
+ghost use Rattle.geos_potentials.specs.Spent.{spent_at, AreNotedSet};
 ghost use Rattle.geos_potentials.specs.Stuck.{IsIn, StayNoted};
 ghost use Rattle.geos_potentials.specs.Untouched.{AreNotedBehind};
 ghost use Rattle.geos_potentials.specs.declared.arcs.Counting.TheVariants.{Sets};
@@ -108,7 +109,7 @@ fn note_touched(body: &Body, graph: &Graph, touched: &mut Spread, waits: &mut Pi
 fn note_prices(body: &Body, graph: &Graph, prices: &mut Spread, waits: &mut Pile)
     ensures come { ComeBehind graph.now.arcs body.now.start (IsPcOf body.now.image.now body.now.r) SetsTo prices.new }
     ensures on { AreSpread graph.now.arcs body.now.start prices.new }
-    ensures behind { AreSetBehind body.now.image.now body.now.r graph.now.arcs body.now.end prices.new }
+    ensures set { AreNotedSet graph.now.arcs body.now.start body.now.end prices.new }
 {
     prices.fill_from(body.start, [0; 4]);
     // For what its law says.
@@ -188,8 +189,8 @@ impl Classes {
         ensures behind { AreNotedBehind body.now.image.now body.now.r graph.now.arcs body.now.end self.new.touched }
         ensures unset { ComeFrom graph.now.arcs body.now.start self.new.unset }
         ensures begins { AllStandAt body.now.start self.new.unset }
-        ensures set_behind { AreSetBehind body.now.image.now body.now.r graph.now.arcs body.now.end self.new.prices }
         ensures prices { ComeBehind graph.now.arcs body.now.start (IsPcOf body.now.image.now body.now.r) SetsTo self.new.prices }
+        ensures set { AreNotedSet graph.now.arcs body.now.start body.now.end self.new.prices }
     {
         note_unset(body, graph, &mut self.unset, &mut self.waits);
         note_touched(body, graph, &mut self.touched, &mut self.waits);
@@ -261,7 +262,7 @@ impl Classes {
     /// Whether a counter is 0 at a place.
     pub(crate) fn is_spent(&self, pc: u16, counter: u8) -> bool
         requires { pc < 4096 }
-        ensures { result ≡ not (noted_idle self.now pc counter) && (unit_at self.now.prices pc counter == 0) }
+        ensures { result ≡ spent_at self.now pc counter }
     {
         !self.is_idle(pc, counter) && self.price(pc, counter) == 0
     }

@@ -1,13 +1,17 @@
 //! Constants: the longest ways from each place, where units of counters pay for so much.
 
-ghost use Rattle.std.specs.Prelude.{◌≡◌, ◌≢◌, ◌<◌, ◌≤◌, ◌+◌, ◌&&◌, ℕ, true, false, IfErr, slice_index_or};
+ghost use Rattle.std.specs.Prelude.{◌≡◌, ◌≢◌, ◌<◌, ◌≤◌, ◌+◌, ◌&&◌, ℕ, true, false, IfErr, IfOk, slice_index_or};
 ghost use Rattle.geos_image.specs.Parts.{start_of};
 ghost use Rattle.geos_potentials.specs.Arcs.{unit_at};
+ghost use Rattle.geos_potentials.specs.Carried.{AreCarried, AreHeld, NoneHeld};
 ghost use Rattle.geos_potentials.specs.Count.{StaysFrom};
 ghost use Rattle.geos_potentials.specs.Demands.{HaveGrown, StayWanted};
 ghost use Rattle.geos_potentials.specs.Lacks.{AsksPast, FreePasses};
-ghost use Rattle.geos_potentials.specs.Least.{AreEnds, AreLeast, StayAtMost, is_free, IsLookedAt, AreLookedAt, StayAtLoops, NoneOutside, ArePut, SomePasses, steps_at};
+ghost use Rattle.geos_potentials.specs.Least.{AreEnds, AreLeast, StayAtMost, is_free, IsLookedAt, AreLookedAt, StayAtLoops, NoneOutside, ArePut, SomePasses, steps_at, AreCovered, AreLonger, CoverReturns};
+ghost use Rattle.geos_potentials.specs.Led.{AreLed};
 ghost use Rattle.geos_potentials.specs.Numbers.{numbers_of};
+ghost use Rattle.geos_potentials.specs.Paid.{LoopPays, FreePay, AreSayable};
+ghost use Rattle.geos_potentials.specs.Waits.{HaveRisen};
 ghost use Rattle.geos_potentials.specs.Within.{StayWithinAt, StayWithinLoops};
 ghost use Rattle.geos_potentials.specs.declared.jumps.Jump.TheVariants.{Plain};
 ghost use Rattle.geos_potentials.specs.declared.units.Lack.TheVariants.{Looks, Passes};
@@ -53,6 +57,7 @@ fn begin(body: &Body, graph: &Graph, splitting: &Splitting, units: &mut Units)
     ensures ends { AreEnds body.now.image.now body.now.r units.old.lengths.ways units.new.lengths.ways }
     ensures outside { NoneOutside body.now.image.now body.now.r units.new.lengths.links }
     ensures looked { AreLookedAt body.now.image.now body.now.r graph.now.arcs splitting.now.jumps units.new.pay units.new.lengths.links }
+    ensures returns { CoverReturns body.now.image.now body.now.r units.new.lengths.ways }
     ensures pay { units.new.pay ≡ units.old.pay }
 {
     units.lengths.clear_links();
@@ -65,10 +70,12 @@ fn begin(body: &Body, graph: &Graph, splitting: &Splitting, units: &mut Units)
     }
 }
 
-/// Makes ways longer until none grows.
+/// Makes ways longer until none grows: the last sweep goes by pc, and so over each of them.
 fn lengthen(order: &Order, all: &Piece, units: &mut Units) -> Result<(), Lack>
     ensures links { units.new.lengths.links ≡ units.old.lengths.links }
     ensures below { StayAtMost units.old.lengths.links units.old.lengths.ways units.new.lengths.ways }
+    ensures longer { AreLonger units.old.lengths.ways units.new.lengths.ways }
+    ensures covered { IfOk result (λ _. AreCovered units.new.lengths.links units.new.lengths.ways all.now.begin all.now.end) }
     ensures pay { units.new.pay ≡ units.old.pay }
     ensures looks { IfErr result (λ lack. (lack ≡ Looks) × (LOOKS ≤ units.new.looks)) }
 {
@@ -78,7 +85,7 @@ fn lengthen(order: &Order, all: &Piece, units: &mut Units) -> Result<(), Lack>
         if !units.look(2 * all.length()) {
             return Err(Lack::Looks);
         }
-        if !units.lengths.sweep(order, all) {
+        if !units.lengths.sweep_all(order, all) {
             return Ok(());
         }
     }
@@ -95,6 +102,8 @@ pub(crate) fn find_constants(
     ensures least { AreLeast body.now.image.now body.now.r units.new.lengths.links units.old.lengths.ways units.new.lengths.ways }
     ensures outside { NoneOutside body.now.image.now body.now.r units.new.lengths.links }
     ensures looked { AreLookedAt body.now.image.now body.now.r graph.now.arcs splitting.now.jumps units.new.pay units.new.lengths.links }
+    ensures covered { IfOk result (λ _. AreCovered units.new.lengths.links units.new.lengths.ways body.now.start body.now.end) }
+    ensures returns { CoverReturns body.now.image.now body.now.r units.new.lengths.ways }
     ensures pay { units.new.pay ≡ units.old.pay }
     ensures looks { IfErr result (λ lack. (lack ≡ Looks) × (LOOKS ≤ units.new.looks)) }
 {
@@ -115,6 +124,8 @@ fn free_loop(graph: &Graph, units: &mut Units, pc: u16) -> Result<(), Lack>
     ensures more { HaveGrown units.old.pay units.new.pay }
     ensures others { (at k : ℕ) → at ≢ pc → unit_at units.new.pay at k ≡ unit_at units.old.pay at k }
     ensures within { StayWithinAt graph.now.arcs pc units.old.pay units.new.pay }
+    ensures risen { HaveRisen units.old.pay units.new.pay units.old.waits units.new.waits }
+    ensures paid { IfOk result (λ _. LoopPays graph.now.arcs units.new.pay units.new.lengths.ways pc) }
 {
     let Some(arc) = graph.arc(pc, true) else {
         return Ok(());
@@ -138,6 +149,9 @@ fn free_at(graph: &Graph, splitting: &Splitting, units: &mut Units, pc: u16) -> 
     ensures more { HaveGrown units.old.pay units.new.pay }
     ensures stay { StayAtLoops graph.now.arcs splitting.now.jumps units.old.pay units.new.pay }
     ensures within { StayWithinLoops graph.now.arcs splitting.now.jumps is_free units.old.pay units.new.pay }
+    ensures risen { HaveRisen units.old.pay units.new.pay units.old.waits units.new.waits }
+    ensures paid { IfOk result (λ _. is_free (slice_index_or splitting.now.jumps pc Plain) ≡ true
+        → LoopPays graph.now.arcs units.new.pay units.new.lengths.ways pc) }
 {
     if is_left_out(splitting, pc, true) {
         free_loop(graph, units, pc)
@@ -160,6 +174,10 @@ pub(crate) fn free_loops(
     ensures more { HaveGrown units.old.pay units.new.pay }
     ensures stay { StayAtLoops graph.now.arcs splitting.now.jumps units.old.pay units.new.pay }
     ensures within { StayWithinLoops graph.now.arcs splitting.now.jumps is_free units.old.pay units.new.pay }
+    ensures held { IfOk result (λ _. AreLed graph.now → AreCarried graph.now.arcs NoneHeld units.old.pay
+        → AreCarried graph.now.arcs (AreHeld graph.now.arcs splitting.now.jumps) units.new.pay) }
+    ensures paid { IfOk result (λ _.
+        FreePay graph.now.arcs splitting.now.jumps units.new.pay units.new.lengths.ways body.now.start body.now.end) }
 {
     for pc in body.start..body.end {
         free_at(graph, splitting, units, pc)?;
@@ -171,6 +189,7 @@ pub(crate) fn free_loops(
 /// The potentials of a routine are what was found; `false` where a constant is past what a potential can say.
 pub(crate) fn put_potentials(body: &Body, units: &Units, potentials: &mut Potentials) -> bool
     ensures put { result ≡ true → ArePut body.now.image.now body.now.r units.now.pay units.now.lengths.ways (numbers_of potentials.new) }
+    ensures says { result ≡ true → AreSayable body.now.image.now body.now.r units.now.pay units.now.lengths.ways }
     ensures passes { result ≡ false → SomePasses body.now.image.now body.now.r (steps_at units.now.lengths.ways) }
     ensures stays { StaysFrom (start_of body.now.image.now.routines (body.now.r + 1)) (numbers_of potentials.old) (numbers_of potentials.new) }
 {

@@ -1,19 +1,20 @@
 //! How many steps are left at most, and what units of counters pay for, routine by routine.
 
-ghost use Rattle.std.specs.Prelude.{◌≡◌, ◌<◌, ◌≤◌, ◌+◌, ℕ, None, true, false, is_some, length, IfOk, IfSome};
+ghost use Rattle.std.specs.Prelude.{◌≡◌, ◌<◌, ◌≤◌, ◌+◌, ℕ, None, false, is_none, is_some, length, IfOk, IfErr, IfSome};
 ghost use Rattle.geos_image.specs.Parts.{start_of};
 ghost use Rattle.geos_rows.specs.Code.{ForwardIn};
 ghost use Rattle.geos_potentials.specs.Constants.{HasLoops, PayLeastIn, AreLeastFrom};
 ghost use Rattle.geos_potentials.specs.Steps.{NoStepsHoldIn};
 ghost use Rattle.geos_potentials.specs.Count.{CountsOn, AreCounted, StaysFrom};
 ghost use Rattle.geos_potentials.specs.Numbers.{numbers_of};
+ghost use Rattle.geos_potentials.specs.Reasons.{IsReason};
+ghost use Rattle.geos_potentials.specs.Touching.{NotesTouched};
 
 use crate::asked::{Potentials, potential_at};
-use crate::cycles::has_unpaid_cycle;
-use crate::paid::are_paid;
+use crate::reason::{Reason, Unfound};
 use crate::search::Search;
-use crate::spent::{calls_are_spent, find_touched};
-use crate::unpaid::WaysIn;
+use crate::spent::find_touched;
+use crate::unpaid::{WaysIn, round_by};
 use geos_image::Image;
 use geos_rows::{Body, Known, Table, body_of, is_loop, leads_back, two_tables};
 use geos_verify::Touched;
@@ -57,7 +58,9 @@ struct Tables {
 }
 
 impl Tables {
-    fn new(alloc: Global, image: &Image) -> Result<Tables, AllocError> {
+    fn new(alloc: Global, image: &Image) -> Result<Tables, AllocError>
+        ensures { IfOk result (λ tables. NotesTouched image.now tables.touched) }
+    {
         let (into, listed) = two_tables(alloc, WaysIn::with_left(0), 0)?;
         let search = Search::new(alloc)?;
         Ok(Tables {
@@ -69,24 +72,40 @@ impl Tables {
     }
 }
 
-/// Counts the steps of a routine with loops; `false` where no number of them is found to be enough, or a
-/// counter is wanted behind a call that touches it.
-fn count_loops(body: &Body, known: &Known, tables: &mut Tables, potentials: &mut Potentials) -> bool
-    ensures least { result ≡ true → PayLeastIn body.now.image.now body.now.r known.now (numbers_of potentials.new) }
+/// Counts the steps of a routine with loops, or says why no number of them is found to be enough.
+fn count_loops(
+    body: &Body,
+    known: &Known,
+    tables: &mut Tables,
+    potentials: &mut Potentials,
+) -> Result<(), Reason>
+    requires { NotesTouched body.now.image.now tables.old.touched }
+    ensures least { IfOk result (λ _. PayLeastIn body.now.image.now body.now.r known.now (numbers_of potentials.new)) }
+    ensures reason { IfErr result (IsReason body.now.image.now body.now.r known.now) }
+    ensures touched { tables.new.touched ≡ tables.old.touched }
     ensures stays { StaysFrom (start_of body.now.image.now.routines (body.now.r + 1)) (numbers_of potentials.old) (numbers_of potentials.new) }
 {
-    if has_unpaid_cycle(body, &mut tables.into, &mut tables.listed) {
-        return false;
+    if let Some(back) = round_by(body, &mut tables.into, &mut tables.listed) {
+        return Err(Reason::NoLoop(back));
     }
-    tables
-        .search
-        .find(body, known, &tables.touched, potentials)
-        .is_ok()
-        && are_paid(body, known, potentials)
-        && calls_are_spent(body, &tables.touched, potentials)
+    match tables.search.find(body, known, &tables.touched, potentials) {
+        Ok(()) => Ok(()),
+        Err(halt) => Err(Reason::InTheWay(halt)),
+    }
 }
 
-/// Counts the steps of a routine; `false` where no number of them is found to be enough. The tables are made for the first routine with
+/// The tables, which are made if there are none yet.
+fn tables_of(alloc: Global, image: &Image, made: Option<Tables>) -> Result<Tables, AllocError>
+    requires { IfSome made (λ tables. NotesTouched image.now tables.touched) }
+    ensures { IfOk result (λ tables. NotesTouched image.now tables.touched) }
+{
+    match made {
+        Some(tables) => Ok(tables),
+        None => Tables::new(alloc, image),
+    }
+}
+
+/// Counts the steps of a routine, or says why no number of them is found to be enough. The tables are made for the first routine with
 /// loops: an image without them needs none.
 fn count_in(
     alloc: Global,
@@ -94,26 +113,33 @@ fn count_in(
     known: &Known,
     made: &mut Option<Tables>,
     potentials: &mut Potentials,
-) -> Result<bool, AllocError>
-    ensures counts { IfOk result (CountsOn body.now.image.now body.now.r (numbers_of potentials.old) (numbers_of potentials.new)) }
-    ensures least { IfOk result (λ counted. counted ≡ true → HasLoops body.now.image.now body.now.r
+) -> Result<Option<Reason>, AllocError>
+    requires { IfSome made.old (λ tables. NotesTouched body.now.image.now tables.touched) }
+    ensures counts { IfOk result (λ reason. CountsOn body.now.image.now body.now.r (numbers_of potentials.old) (numbers_of potentials.new)
+        (is_none reason)) }
+    ensures least { IfOk result (λ reason. reason ≡ None → HasLoops body.now.image.now body.now.r
         → PayLeastIn body.now.image.now body.now.r known.now (numbers_of potentials.new)) }
+    ensures reason { IfOk result (λ reason. IfSome reason (IsReason body.now.image.now body.now.r known.now)) }
+    ensures touched { IfOk result (λ _. IfSome made.new (λ tables. NotesTouched body.now.image.now tables.touched)) }
     ensures stays { IfOk result (λ _. StaysFrom (start_of body.now.image.now.routines (body.now.r + 1))
         (numbers_of potentials.old) (numbers_of potentials.new)) }
 {
     if !has_loops(body) {
-        return Ok(sweep(body, known, potentials).is_some());
+        return match sweep(body, known, potentials) {
+            Some(()) => Ok(None),
+            None => Ok(Some(Reason::TooMany)),
+        };
     }
-    let mut tables = match made.take() {
-        Some(tables) => tables,
-        None => Tables::new(alloc, body.image)?,
-    };
+    let mut tables = tables_of(alloc, body.image, made.take())?;
     let counted = count_loops(body, known, &mut tables, potentials);
     if let Some(old) = made.replace(tables) {
         // By a call, so that the check does not go over each table here.
         drop(old);
     }
-    Ok(counted)
+    match counted {
+        Ok(()) => Ok(None),
+        Err(reason) => Ok(Some(reason)),
+    }
 }
 
 /// Counts the steps of so many routines, from the last to the first, with tables once there are any; the first routine for which no
@@ -125,25 +151,27 @@ fn count_each(
     known: &Known,
     tables: &mut Option<Tables>,
     potentials: &mut Potentials,
-) -> Result<Option<u16>, AllocError>
-    requires { routines ≤ length image.now.routines }
+) -> Result<Option<Unfound>, AllocError>
+    requires few { routines ≤ length image.now.routines }
+    requires none { tables.old ≡ None }
     ensures counted { IfOk result (λ _. AreCounted image.now 0 routines (numbers_of potentials.new)) }
     ensures least { IfOk result (λ left. left ≡ None → AreLeastFrom image.now 0 routines known.now (numbers_of potentials.new)) }
-    ensures within { IfOk result (λ left. IfSome left (λ r. r < routines)) }
-    ensures none { IfOk result (λ left. IfSome left (NoStepsHoldIn image.now)) }
+    ensures within { IfOk result (λ left. IfSome left (λ unfound. unfound.routine < routines)) }
+    ensures none { IfOk result (λ left. IfSome left (λ unfound. NoStepsHoldIn image.now unfound.routine)) }
+    ensures reason { IfOk result (λ left. IfSome left (λ unfound. IsReason image.now unfound.routine known.now unfound.reason)) }
 {
     let mut left = None;
     for r in (0..routines).rev() {
-        let counted = count_in(alloc, &body_of(image, r), known, tables, potentials)?;
-        if !counted {
-            left = Some(r);
+        let found = count_in(alloc, &body_of(image, r), known, tables, potentials)?;
+        if let Some(reason) = found {
+            left = Some(Unfound { routine: r, reason });
         }
     }
     Ok(left)
 }
 
 /// Finds how many steps are left at most at each instruction of so many routines, and what units of counters pay for, with the rows that
-/// are known. A routine is answered for which none are found, if there is one: where it has no loops, no numbers of steps hold in it.
+/// are known. A routine is answered for which none are found, if there is one, and why: where it has no loops, no numbers of steps hold in it.
 /// Else the potentials of each routine with loops pay for its edges and returns, each constant is at most any that does with these rows
 /// and coefficients, and each coefficient is wanted for a LOOP. Where none of them has loops, and some numbers of steps hold in all,
 /// those that are found do, and are at most any that do.
@@ -153,12 +181,13 @@ pub fn find_potentials(
     routines: u16,
     known: &Known,
     potentials: &mut Potentials,
-) -> Result<Option<u16>, AllocError>
+) -> Result<Option<Unfound>, AllocError>
     requires { routines ≤ length image.now.routines }
     ensures counted { IfOk result (λ _. AreCounted image.now 0 routines (numbers_of potentials.new)) }
     ensures least { IfOk result (λ left. left ≡ None → AreLeastFrom image.now 0 routines known.now (numbers_of potentials.new)) }
-    ensures within { IfOk result (λ left. IfSome left (λ r. r < routines)) }
-    ensures none { IfOk result (λ left. IfSome left (NoStepsHoldIn image.now)) }
+    ensures within { IfOk result (λ left. IfSome left (λ unfound. unfound.routine < routines)) }
+    ensures none { IfOk result (λ left. IfSome left (λ unfound. NoStepsHoldIn image.now unfound.routine)) }
+    ensures reason { IfOk result (λ left. IfSome left (λ unfound. IsReason image.now unfound.routine known.now unfound.reason)) }
 {
     let mut tables = None;
     let left = count_each(alloc, image, routines, known, &mut tables, potentials);

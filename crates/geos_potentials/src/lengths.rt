@@ -57,8 +57,8 @@ pub(crate) struct Lengths {
 }
 
 impl Lengths {
-    ghost use Rattle.std.specs.Prelude.{◌≡◌, ◌<◌, ◌≤◌, ℕ, Bool, None, length, slice_set};
-    ghost use Rattle.geos_potentials.specs.Least.{steps_at, link_at, PaysLink, AtMost, StayAtMost};
+    ghost use Rattle.std.specs.Prelude.{◌≡◌, ◌<◌, ◌≤◌, ℕ, Bool, None, false, length, slice_set};
+    ghost use Rattle.geos_potentials.specs.Least.{steps_at, link_at, PaysLink, AtMost, StayAtMost, Covers, AreCovered, AreLonger};
 
     pub(crate) fn new(alloc: Global) -> Result<Lengths, AllocError> {
         let (links, ways) = two_tables(alloc, [None, None], Way::NOTHING)?;
@@ -113,7 +113,10 @@ impl Lengths {
         requires { pc < 4096 }
         ensures links { self.new.links ≡ self.old.links }
         ensures ways { self.new.ways ≡ slice_set self.old.ways pc (record { steps = steps; first = None; passed = 0 }) }
+        ensures room { pc < length self.old.ways }
     {
+        // For what its law says.
+        self.ways.lengths();
         let way = Way {
             steps,
             ..Way::NOTHING
@@ -148,7 +151,8 @@ impl Lengths {
     /// How many steps a way takes that begins with an edge; 0 where there is none.
     #[inline(always)]
     fn over(&self, link: &Option<Link>) -> u64
-        ensures { (want : ℕ → ℕ) (pc : ℕ) → AtMost self.now.ways want → PaysLink want pc link.now → result ≤ want pc }
+        ensures below { (want : ℕ → ℕ) (pc : ℕ) → AtMost self.now.ways want → PaysLink want pc link.now → result ≤ want pc }
+        ensures covers { Covers self.now.ways result link.now }
     {
         match link {
             Some(link) => self
@@ -167,6 +171,10 @@ impl Lengths {
         requires { pc < 4096 }
         ensures links { self.new.links ≡ self.old.links }
         ensures below { StayAtMost self.old.links self.old.ways self.new.ways }
+        ensures longer { AreLonger self.old.ways self.new.ways }
+        ensures same { result ≡ false → self.new ≡ self.old }
+        ensures covered { result ≡ false → (branch : Bool)
+            → Covers self.old.ways (steps_at self.old.ways pc) (link_at self.old.links pc branch) }
     {
         let [along, branching] = self.links.get(pc);
         let by_along = self.over(along);
@@ -188,12 +196,43 @@ impl Lengths {
     pub(crate) fn sweep(&mut self, order: &Order, piece: &Piece) -> bool
         ensures links { self.new.links ≡ self.old.links }
         ensures below { StayAtMost self.old.links self.old.ways self.new.ways }
+        ensures longer { AreLonger self.old.ways self.new.ways }
     {
         let mut longer = false;
         for x in piece.begin..piece.end {
             longer |= self.lengthen(order.place(x));
         }
         longer
+    }
+
+    /// Of the places from one on up to another, the first gets a longer way whose way is not as long as edges ask; whether there is one.
+    pub(crate) fn lengthen_first(&mut self, begin: u16, end: u16) -> bool
+        requires { end ≤ 4096 }
+        ensures links { self.new.links ≡ self.old.links }
+        ensures below { StayAtMost self.old.links self.old.ways self.new.ways }
+        ensures longer { AreLonger self.old.ways self.new.ways }
+        ensures covered { result ≡ false → AreCovered self.new.links self.new.ways begin end }
+    {
+        for pc in begin..end {
+            if self.lengthen(pc) {
+                return true;
+            }
+        }
+        false
+    }
+
+    /// The same from each place of a piece in their order; if none grows, at each pc from its begin on up to its end, so that all of
+    /// these are looked at whatever the order is.
+    pub(crate) fn sweep_all(&mut self, order: &Order, piece: &Piece) -> bool
+        ensures links { self.new.links ≡ self.old.links }
+        ensures below { StayAtMost self.old.links self.old.ways self.new.ways }
+        ensures longer { AreLonger self.old.ways self.new.ways }
+        ensures covered { result ≡ false → AreCovered self.new.links self.new.ways piece.now.begin piece.now.end }
+    {
+        if self.sweep(order, piece) {
+            return true;
+        }
+        self.lengthen_first(piece.begin, piece.end)
     }
 
     /// Follows the way from a place up to where one was followed since a mark; the place where it comes to what it has itself passed.

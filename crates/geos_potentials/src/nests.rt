@@ -1,7 +1,8 @@
 //! Nests: places among which control goes round, each with the LOOPs that pay for that.
 
-ghost use Rattle.std.specs.Prelude.{◌≡◌, ◌<◌, ◌≤◌, ◌+◌, ℕ, None, IfErr, slice_index_or, slice_set};
+ghost use Rattle.std.specs.Prelude.{◌≡◌, ◌<◌, ◌≤◌, ◌+◌, ℕ, None, true, IfErr, slice_index_or, slice_set};
 ghost use Rattle.geos_potentials.specs.Pieces.{NoneMayPay};
+ghost use Rattle.geos_potentials.specs.Spent.{AreFree, LoopsSpent, StayFree};
 ghost use Rattle.geos_potentials.specs.Stuck.{StayNoted, GoesRoundIdle};
 ghost use Rattle.geos_potentials.specs.Untouched.{AreUntouched, StayUntouched};
 ghost use Rattle.geos_potentials.specs.declared.nests.Nest.{Nest};
@@ -198,6 +199,21 @@ impl Nests {
     }
 }
 
+/// Whether the LOOP at a pc takes from a counter that is 0 there.
+fn loops_spent(graph: &Graph, classes: &Classes, pc: u16) -> bool
+    requires { pc < 4096 }
+    ensures only { result ≡ true → LoopsSpent graph.now.arcs classes.now pc }
+    ensures all { LoopsSpent graph.now.arcs classes.now pc → result ≡ true }
+{
+    let Some(arc) = graph.arc(pc, true) else {
+        return false;
+    };
+    match arc.takes() {
+        Some(counter) if counter < 4 => classes.is_spent(pc, counter),
+        _ => false,
+    }
+}
+
 /// What a search for nests goes by.
 #[derive(Drop)]
 pub struct Splitting {
@@ -262,6 +278,7 @@ impl Splitting {
     )
         ensures count { self.new.nests.count ≡ self.old.nests.count }
         ensures untouched { (low : ℕ) → StayUntouched low graph.now.arcs self.old.jumps self.new.jumps classes.now.touched }
+        ensures free { StayFree self.old.jumps self.new.jumps }
     {
         for x in piece.begin..piece.end {
             let pc = self.order.place(x);
@@ -291,6 +308,7 @@ impl Splitting {
         ensures round { IfErr result (GoesRoundIdle body.now.image.now body.now.r graph.now.arcs classes.new self.new.order) }
         ensures count { self.new.nests.count ≤ self.old.nests.count + 1 }
         ensures untouched { (low : ℕ) → StayUntouched low graph.now.arcs self.old.jumps self.new.jumps classes.old.touched }
+        ensures free { StayFree self.old.jumps self.new.jumps }
     {
         let piece = &waiting.piece;
         classes.note_set_within(body.start, graph, &self.order, piece);
@@ -311,18 +329,15 @@ impl Splitting {
 
     /// LOOPs to which control comes with their counters at 0 alone are left out.
     fn free_loops(&mut self, body: &Body, graph: &Graph, classes: &Classes)
-        ensures { AreUntouched body.now.start graph.now.arcs self.new.jumps classes.now.touched }
+        ensures untouched { AreUntouched body.now.start graph.now.arcs self.new.jumps classes.now.touched }
+        ensures free { AreFree graph.now.arcs self.new.jumps classes.now body.now.start body.now.end }
     {
         self.jumps.fill_from(body.start, Jump::Plain);
         // For what its law says.
         self.jumps.lengths();
         for pc in body.start..body.end {
-            if let Some(arc) = graph.arc(pc, true) {
-                if let Some(counter) = arc.takes() {
-                    if classes.is_spent(pc, counter) {
-                        self.jumps.set(pc, Jump::Free);
-                    }
-                }
+            if loops_spent(graph, classes, pc) {
+                self.jumps.set(pc, Jump::Free);
             }
         }
     }
@@ -339,6 +354,7 @@ impl Splitting {
         ensures none { IfErr result (NoneMayPay graph.now.arcs self.new.jumps self.new.order classes.new) }
         ensures round { IfErr result (GoesRoundIdle body.now.image.now body.now.r graph.now.arcs classes.new self.new.order) }
         ensures untouched { AreUntouched body.now.start graph.now.arcs self.new.jumps classes.old.touched }
+        ensures free { AreFree graph.now.arcs self.new.jumps classes.old body.now.start body.now.end }
     {
         self.free_loops(body, graph, classes);
         self.nests.count = 0;

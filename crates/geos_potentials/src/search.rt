@@ -5,13 +5,14 @@ ghost use Rattle.geos_image.specs.Parts.{start_of};
 ghost use Rattle.geos_image.specs.declared.row.Row.{Row};
 ghost use Rattle.geos_potentials.specs.Arcs.{AreArcs};
 ghost use Rattle.geos_potentials.specs.Touching.{NotesTouched};
-ghost use Rattle.geos_potentials.specs.Constants.{AreLeastIn, AreLeastWith, AreForLoops, coefficients_at};
+ghost use Rattle.geos_potentials.specs.Constants.{ArePaidIn, AreLeastIn, AreLeastWith, AreForLoops, coefficients_at};
 ghost use Rattle.geos_potentials.specs.Count.{StaysFrom};
 ghost use Rattle.geos_potentials.specs.Demands.{AreWanted};
 ghost use Rattle.geos_potentials.specs.Halts.{IsInTheWay};
 ghost use Rattle.geos_potentials.specs.Lacks.{IsLack};
 ghost use Rattle.geos_potentials.specs.Least.{steps_at};
 ghost use Rattle.geos_potentials.specs.Numbers.{numbers_of};
+ghost use Rattle.geos_potentials.specs.Paid.{HavePaid};
 ghost use Rattle.geos_potentials.specs.Untouched.{is_found, AreSpentIn};
 ghost use Rattle.geos_potentials.specs.Within.{StayWithinLoops};
 
@@ -68,6 +69,8 @@ impl Search {
             → AreLeastWith body.now.image.now body.now.r known self.new.units.pay (steps_at self.new.units.lengths.ways)) }
         ensures wanted { IfOk result (λ _. AreWanted self.old.graph.arcs self.new.units.pay) }
         ensures within { IfOk result (λ _. StayWithinLoops self.old.graph.arcs self.old.splitting.jumps is_found [] self.new.units.pay) }
+        ensures paid { IfOk result (λ _. HavePaid body.now.image.now body.now.r self.old.graph self.old.splitting.jumps self.new.units.pay
+            self.new.units.lengths.ways) }
         ensures lack { IfErr result (IsLack self.new.graph.arcs self.new.splitting self.new.units) }
         ensures graph { self.new.graph ≡ self.old.graph }
     {
@@ -78,8 +81,8 @@ impl Search {
         Ok(())
     }
 
-    /// Finds potentials of a routine, or what is in the way. The constants are the least that pay with the coefficients, and each of these is
-    /// wanted for a LOOP.
+    /// Finds potentials of a routine, or what is in the way. They pay for its edges and returns; the constants are the least that do with the
+    /// coefficients, and each of these is wanted for a LOOP.
     pub fn find(
         &mut self,
         body: &Body,
@@ -88,6 +91,7 @@ impl Search {
         potentials: &mut Potentials,
     ) -> Result<(), Halt>
         ensures least { IfOk result (λ _. AreLeastIn body.now.image.now body.now.r known.now (numbers_of potentials.new)) }
+        ensures paid { IfOk result (λ _. ArePaidIn body.now.image.now body.now.r known.now (numbers_of potentials.new)) }
         ensures wanted { IfOk result (λ _. AreForLoops body.now.image.now body.now.r (coefficients_at (numbers_of potentials.new).coefficients)) }
         ensures spent { IfOk result (λ _. AreSpentIn body.now.image.now body.now.r touched.now (numbers_of potentials.new).coefficients) }
         ensures way { NotesTouched body.now.image.now touched.now

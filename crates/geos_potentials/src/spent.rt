@@ -1,17 +1,12 @@
-//! Behind a call nothing is known of the counters that the routine touches, so that no coefficient
-//! may be left on them.
+//! Which counters routines touch: behind a call nothing is known of those that the called routine does.
 
-ghost use Rattle.std.specs.Prelude.{◌≡◌, ◌<◌, ℕ, true, false, slice_index, slice_index_or};
+ghost use Rattle.std.specs.Prelude.{◌≡◌};
 ghost use Rattle.geos_verify.specs.Touched.{noted};
 ghost use Rattle.geos_potentials.specs.Arcs.{touched_by};
-ghost use Rattle.geos_potentials.specs.Numbers.{numbers_of};
-ghost use Rattle.geos_potentials.specs.Untouched.{AreSpentIn};
 ghost use Rattle.geos_potentials.specs.Touching.{NotesTouched, NotesOwn, NotesAllTouched, KnowsTouched};
 
-use crate::asked::Potentials;
-use geos_image::{Image, Opcode, Potential};
-use geos_rows::Body;
-use geos_verify::{Touched, are_spent, touched_in};
+use geos_image::Image;
+use geos_verify::{Touched, touched_in};
 
 /// Which counters each routine touches; a routine may call those before it.
 pub(crate) fn find_touched(image: &Image) -> Touched
@@ -78,33 +73,4 @@ pub fn touches(table: &Touched, r: u16, counter: u8) -> bool
         },
         None => false,
     }
-}
-
-/// Whether none of these coefficients is left on a counter that is touched.
-fn none_left(touched: &[bool; 4], coefficients: &[u32; 4]) -> bool
-    ensures spent { result ≡ true → (k : ℕ) → slice_index_or touched.now k false ≡ true → slice_index coefficients.now k ≡ 0 }
-    ensures passes { ((k : ℕ) → k < 4 → slice_index_or touched.now k false ≡ true → slice_index coefficients.now k ≡ 0) → result ≡ true }
-{
-    let potential = Potential {
-        constant: 0,
-        coefficients: *coefficients,
-    };
-    are_spent(touched, &potential)
-}
-
-/// Whether no coefficient is left behind the calls of a routine, on counters that the routines touch that are called.
-pub(crate) fn calls_are_spent(body: &Body, touched: &Touched, potentials: &Potentials) -> bool
-    ensures spent { result ≡ true → AreSpentIn body.now.image.now body.now.r touched.now (numbers_of potentials.now).coefficients }
-    ensures passes { AreSpentIn body.now.image.now body.now.r touched.now (numbers_of potentials.now).coefficients → result ≡ true }
-{
-    for pc in body.start..body.end - 1 {
-        let i = body.image.instr(pc);
-        if let Opcode::Call = i.opcode {
-            let next = potentials.at(pc + 1);
-            if !none_left(&touched_by(touched, i.imm), &next.coefficients) {
-                return false;
-            }
-        }
-    }
-    true
 }

@@ -1,14 +1,15 @@
 //! What a unit of each counter pays for, nest by nest: as much as ways round lack that go through its LOOPs.
 
-ghost use Rattle.std.specs.Prelude.{◌≡◌, ◌≢◌, ◌<◌, ◌≤◌, ◌+◌, ℕ, max, true, false, [], IfErr};
-ghost use Rattle.geos_potentials.specs.Arcs.{IsLink, unit_at, price_of, paid_by};
+ghost use Rattle.std.specs.Prelude.{◌≡◌, ◌≢◌, ◌<◌, ◌≤◌, ◌+◌, ℕ, max, true, false, [], Some, IfErr};
+ghost use Rattle.geos_potentials.specs.Arcs.{IsLink, arc_at, unit_at, price_of, paid_by};
 ghost use Rattle.geos_potentials.specs.Carried.{AreCarried, AreHeld, Carries, NoneHeld, StayCarried};
-ghost use Rattle.geos_potentials.specs.Demands.{AreWanted, HaveGrown, StayWanted};
+ghost use Rattle.geos_potentials.specs.Demands.{AreWanted, HaveGrown, StayWanted, taken_from};
 ghost use Rattle.geos_potentials.specs.Lacks.{IsLack, PricePasses};
 ghost use Rattle.geos_potentials.specs.Least.{StayAtLoops};
 ghost use Rattle.geos_potentials.specs.Led.{AreLed};
 ghost use Rattle.geos_potentials.specs.Waits.{HaveRisen};
 ghost use Rattle.geos_potentials.specs.Within.{StayWithin, StayWithinAt, StayWithinLoops, pays};
+ghost use Rattle.geos_potentials.specs.declared.arcs.Arc.{Arc};
 
 use crate::arcs::{Arc, Counting};
 use crate::graph::Graph;
@@ -111,6 +112,8 @@ impl Units {
         ensures more { HaveGrown self.old.pay self.new.pay }
         ensures others { (at k : ℕ) → at ≢ pc → unit_at self.new.pay at k ≡ unit_at self.old.pay at k }
         ensures risen { HaveRisen self.old.pay self.new.pay self.old.waits self.new.waits }
+        ensures raised { (arc : Arc) (k : ℕ) → arc_at graph.now.arcs pc true ≡ Some arc → taken_from arc.counting ≡ Some k → k < 4
+            → unit ≤ unit_at self.new.pay pc k }
         ensures within { StayWithinAt graph.now.arcs pc self.old.pay self.new.pay }
     {
         let Some(arc) = graph.arc(pc, true) else {
@@ -151,7 +154,8 @@ impl Units {
     /// What is paid where a unit is taken from a counter at a place.
     fn paid(&self, pc: u16, counting: &Counting) -> u64
         requires { pc < 4096 }
-        ensures { result ≡ paid_by self.now.pay pc counting.now }
+        ensures value { result ≡ paid_by self.now.pay pc counting.now }
+        ensures small { result ≤ 4294967295 }
     {
         match counting {
             Counting::Takes(counter) => u64::from(self.unit(pc, *counter)),

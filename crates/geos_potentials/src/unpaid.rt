@@ -155,7 +155,11 @@ fn back_on_round(body: &Body, into: &Table<WaysIn>, place: u16) -> Option<BackWa
 }
 
 /// A way back on a way round that no counter pays for, by tables that are only written.
-fn round_by(body: &Body, into: &mut Table<WaysIn>, listed: &mut Table<u16>) -> Option<BackWay>
+pub(crate) fn round_by(
+    body: &Body,
+    into: &mut Table<WaysIn>,
+    listed: &mut Table<u16>,
+) -> Option<BackWay>
     ensures { IfSome result (λ back. GoesRound body.now.image.now body.now.r back.from back.to) }
 {
     if !has_unpaid_cycle(body, into, listed) {

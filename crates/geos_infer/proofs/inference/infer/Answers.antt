@@ -106,3 +106,14 @@ returns-in-Err-clause-steps c = λ r e meet.
       | inl same ↦ absurd (c.in_ok-known.ensures.alike (omega (arith, same, lt)) (subst (MeetAlike image) same meet))
       | inr none ↦ none
     ]
+
+pub returns-in-Err-clause-reason : goal.returns-in-Err-clause-reason
+returns-in-Err-clause-reason c = λ r e meet.
+    let image = c.args.skeleton.now in
+    let routines = c.in_ok-known.routines in
+    let known = c.in_ok-known.known in
+    let lt : r < length image.routines = subst (NamesRoutine image) e c.in-Err.ensures.within in
+    elim (c.in-Err.ensures.reason r e) [
+      | inl same ↦ absurd (c.in_ok-known.ensures.alike (omega (arith, same, lt)) (subst (MeetAlike image) same meet))
+      | inr found ↦ (known, c.in_ok-known.ensures.fit r found.0, found.1)
+    ]

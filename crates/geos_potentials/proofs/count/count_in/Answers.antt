@@ -1,7 +1,16 @@
-use Rattle.std.proofs.Common.{◌∙◌}
+use Rattle.std.proofs.Common.{sym, ap, ◌∙◌}
+use Rattle.std.specs.Prelude.{is_some}
+use Rattle.std.proofs.lemmas.Bool.{false≢true}
 use Rattle.geos_potentials.proofs.count.count_in.Goals as goal
 
-pub returns-then-not-has_loops-clause-counts : goal.returns-then-not-has_loops-clause-counts
-returns-then-not-has_loops-clause-counts c = λ want forward holds.
-    let F = c.sweep.ensures.counts want forward holds in
-    (c.is_some.ensures ∙ F.0, F.1, F.2)
+pub returns-in-None-clause-reason : goal.returns-in-None-clause-reason
+returns-in-None-clause-reason c = (
+  c.has_loops.ensures.none c.if-not-has_loops.true,
+  λ want forward holds. false≢true (sym (ap is_some c.in-None.is) ∙ (c.sweep.ensures.counts want forward holds).0),
+)
+
+pub returns-in-Ok-clause-touched : goal.returns-in-Ok-clause-touched
+returns-in-Ok-clause-touched c = rw (c.replace.ensures.after, c.count_loops-counted.ensures.touched) c.in_ok-tables.ensures
+
+pub returns-in-Err-clause-touched : goal.returns-in-Err-clause-touched
+returns-in-Err-clause-touched c = rw (c.replace.ensures.after, c.count_loops-counted.ensures.touched) c.in_ok-tables.ensures

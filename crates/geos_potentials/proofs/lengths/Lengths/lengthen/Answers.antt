@@ -17,7 +17,7 @@ returns-clause-below c = λ want pays most.
     ap (λ (x : List (Option Link)). get_or x 0 None) (sym read) ∙ first in
     let two : link_at c.args.self.now.links pc true ≡ get_or c.get.result.now 1 c.index-get-1.result =
     ap (λ (x : List (Option Link)). get_or x 1 None) (sym read) ∙ second in
-    let along = c.over-by_along.ensures want pc most (subst (PaysLink want pc) one (pays pc false)) in
-    let branching = c.over-by_branching.ensures want pc most (subst (PaysLink want pc) two (pays pc true)) in
+    let along = c.over-by_along.ensures.below want pc most (subst (PaysLink want pc) one (pays pc false)) in
+    let branching = c.over-by_branching.ensures.below want pc most (subst (PaysLink want pc) two (pays pc true)) in
     let less : c.max-2.result ≤ want pc = omega (arith, c.max-2.ensures) in
     rw c.set.ensures (at_most-set c.args.self.now.ways pc _ want most less)

@@ -8,6 +8,7 @@ use Rattle.geos_potentials.specs.declared.graph.Graph.{Graph}
 use Rattle.geos_potentials.proofs.Rounding.{never-pay}
 use Rattle.geos_potentials.proofs.Idling.{notes-idle, round-never-paid, never-by}
 use Rattle.geos_potentials.specs.Numbers.{numbers_of}
+use Rattle.geos_potentials.proofs.Covering.{all-paid}
 use Rattle.geos_potentials.proofs.Demand.{for-loops}
 use Rattle.geos_potentials.proofs.Unpayable.{none-accepted-round}
 use Rattle.geos_potentials.proofs.Priced.{found-least, none-pay}
@@ -73,3 +74,18 @@ returns-then-put_potentials-clause-spent c =
     body.end body.begins body.ends c.note-2.new.self.touched c.note-2.ensures.on c.note-2.ensures.behind c.find.new.self.jumps
     c.find.ensures.untouched c.pay.new.self.units.pay c.in-Ok.ensures.within (numbers_of c.put_potentials.new.potentials).coefficients
     (λ pc within. (c.put_potentials.ensures.put c.if-put_potentials.true pc within).1)
+
+pub returns-then-put_potentials-clause-paid : goal.returns-then-put_potentials-clause-paid
+returns-then-put_potentials-clause-paid c =
+    let body = c.args.body.now in
+    let image = body.image.now in
+    let known = c.args.known.now in
+    let touched = c.args.touched.now in
+    let graph = c.note.new.self in
+    let classes = c.note-2.new.self in
+    let units = c.pay.new.self.units in
+    let notes = c.note-2.ensures in
+    all-paid image body.r known touched graph c.note.ensures.arcs c.note.ensures.outside c.note.ensures.led classes body.start body.end body.begins
+    body.ends notes.on notes.unset_on notes.prices_on notes.set c.find.new.self.jumps c.find.ensures.free units.pay units.lengths.ways
+    c.in-Ok.ensures.paid (c.put_potentials.ensures.says c.if-put_potentials.true) (numbers_of c.put_potentials.new.potentials)
+    (c.put_potentials.ensures.put c.if-put_potentials.true) (returns-then-put_potentials-clause-spent c)

@@ -12,5 +12,6 @@ returns c = record {
     c.price.ensures.value,
     c.price.ensures.small,
   );
-  paid = c.paid.ensures;
+  paid = c.paid.ensures.value;
+  small = c.paid.ensures.small;
 }
