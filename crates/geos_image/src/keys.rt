@@ -16,6 +16,7 @@ use geos_opcodes::{Flow, Opcode, Operand};
 pub type Flags = [bool; 4096];
 
 /// Whether control may go on to the next instruction.
+#[inline(always)]
 pub fn falls_through(opcode: Opcode) -> bool
     ensures { result ≡ falls_through opcode }
 {
@@ -26,10 +27,11 @@ pub fn falls_through(opcode: Opcode) -> bool
 }
 
 /// Whether control may go to the target.
+#[inline(always)]
 pub fn branches(opcode: Opcode) -> bool
     ensures { result ≡ branches opcode }
 {
-    match opcode.operands().target {
+    match opcode.facts().operands.target {
         Operand::Label => true,
         _ => false,
     }

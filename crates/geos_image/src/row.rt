@@ -48,6 +48,7 @@ impl SlotState {
 
     /// The state that the byte spells, if it spells one. `borrows` says whether a slot may be borrowed.
     #[tactic(auto, using(crate::proofs::SlotLaws::slot_is_named))]
+    #[inline(always)]
     pub(crate) fn from_code(borrows: bool, code: u8) -> Option<SlotState>
         ensures { result ≡ slot_of borrows code }
     {

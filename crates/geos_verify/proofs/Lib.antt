@@ -3,6 +3,7 @@ pub mod Along
 pub mod Four
 pub mod Noted
 pub mod Touching
+pub mod Untouched
 pub mod Passed
 pub mod Places
 pub mod Within

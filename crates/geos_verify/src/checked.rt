@@ -5,7 +5,7 @@ ghost use Rattle.geos_image.specs.Legal.{is_image};
 ghost use Rattle.geos_verify.specs.Rules.{RefusesNone, Refuses, Accepted, IsChecked, FirstRefusal};
 
 use crate::body::Body;
-use crate::place::row_next;
+use crate::place::go_on;
 use crate::refusal::refusal;
 use crate::rule::Reject;
 use crate::touched::touched_in;
@@ -52,7 +52,7 @@ fn refusal_in(body: &Body) -> Option<Reject>
         if let Some(rule) = refusal(body, pc, &row) {
             return Some(Reject { pc, rule });
         }
-        row = row_next(body.image, pc, &row);
+        go_on(body.image, pc, &mut row);
     }
     None
 }

@@ -43,10 +43,15 @@ fn apply_uses(i: &Instr, uses: Uses, row: &mut Row)
     requires { UsesFit uses i.now }
     ensures { row.new ≡ used i.now uses row.old }
 {
-    drop_pointers(i, uses.slot, row);
-    set_pointer(i, uses.pointer, row);
-    set_pairs(i, uses.slot, row);
-    set_slots(i, uses.slot, row);
+    match uses.slot {
+        SlotUse::NoSlot => set_pointer(i, uses.pointer, row),
+        slot => {
+            drop_pointers(i, slot, row);
+            set_pointer(i, uses.pointer, row);
+            set_pairs(i, slot, row);
+            set_slots(i, slot, row);
+        }
+    }
 }
 
 /// Makes the row what is known where control goes on to the next instruction; after a call it
@@ -73,7 +78,7 @@ pub(crate) fn go_to_target(i: &Instr, uses: Uses, row: &mut Row)
     requires { uses ≡ uses_of i.now.opcode }
     ensures { row.new ≡ row_branching i.now i.now.opcode row.old }
 {
-    if i.opcode.operands().refusable {
+    if i.opcode.facts().operands.refusable {
         drop_pointers(i, uses.slot, row);
         set_bound(row, 7, 15);
     }

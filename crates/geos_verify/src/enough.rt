@@ -43,12 +43,18 @@ pub fn slot_fits(state: SlotState, wanted_state: SlotState) -> bool
     }
 }
 
+/// The same, where slots are mostly in the wanted state itself.
+#[inline(always)]
+fn suits(state: &SlotState, wanted_state: &SlotState) -> bool
+    ensures { result ≡ slot_fits state.now wanted_state.now }
+{
+    *state == *wanted_state || slot_fits(*state, *wanted_state)
+}
+
 fn slots_fit(r: &[SlotState; 4], s: &[SlotState; 4]) -> bool
     ensures { result ≡ all2 slot_fits r.now s.now }
 {
-    let [r0, r1, r2, r3] = *r;
-    let [s0, s1, s2, s3] = *s;
-    slot_fits(r0, s0) & slot_fits(r1, s1) & slot_fits(r2, s2) & slot_fits(r3, s3)
+    suits(&r[0], &s[0]) && suits(&r[1], &s[1]) && suits(&r[2], &s[2]) && suits(&r[3], &s[3])
 }
 
 /// Whether a pointer of which this is known is as wanted: nothing is, or it leads into the same

@@ -16,43 +16,42 @@ pub struct Place {
     pub potential: Potential,
 }
 
-/// The row that is given, or else another.
-fn given_or(given: &Option<Row>, other: Row) -> Row
-    ensures { result ≡ or_row given.now other }
-{
-    match given {
-        Some(row) => *row,
-        None => other,
-    }
-}
-
-/// What is known behind the instruction at `pc`, where `row` is known before it and no row is given behind it. Where one
-/// is, nothing is computed, and the answer may be any row.
-fn row_computed(image: &Image, pc: u16, row: &Row, given: &Option<Row>) -> Row
+/// Makes the row, which is known at `pc`, the one that is given behind it, or else what is known there.
+fn take_given(image: &Image, pc: u16, given: &Option<Row>, row: &mut Row)
     requires there { pc < length image.now.points }
     requires edge { given.now ≡ None → HasEdge image.now pc false }
-    ensures { given.now ≡ None → result ≡ after image.now pc row.now false }
+    ensures { row.new ≡ or_row given.now (after image.now pc row.old false) }
 {
     match given {
-        Some(_) => *row,
-        None => after(image, pc, row, false),
+        Some(known) => *row = *known,
+        None => *row = after(image, pc, row, false),
     }
 }
 
-/// What is known at the place behind `pc`, where `row` is known at `pc`: the row that the image gives there, or else what
-/// is known behind the instruction. Behind the last place it may be any row.
+/// Makes the row, which is known at `pc`, the one that is known at the place behind it: the row that the image gives
+/// there, or else what is known behind the instruction. Behind the last place it may be any row.
+pub(crate) fn go_on(image: &Image, pc: u16, row: &mut Row)
+    requires there { pc < length image.now.points }
+    requires here { RowAt image.now pc row.old }
+    ensures { RowAt image.now (pc + 1) row.new }
+{
+    let len = image.len();
+    let next = pc + 1;
+    if next == len {
+        return;
+    }
+    take_given(image, pc, image.given(next), row);
+}
+
+/// What is known at the place behind `pc`, where `row` is known at `pc`.
 pub fn row_next(image: &Image, pc: u16, row: &Row) -> Row
     requires there { pc < length image.now.points }
     requires here { RowAt image.now pc row.now }
     ensures { RowAt image.now (pc + 1) result }
 {
-    let len = image.len();
-    let next = pc + 1;
-    if next == len {
-        return *row;
-    }
-    let given = image.given(next);
-    given_or(given, row_computed(image, pc, row, given))
+    let mut next = *row;
+    go_on(image, pc, &mut next);
+    next
 }
 
 /// The places of an image, by pc.

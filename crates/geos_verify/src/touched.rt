@@ -1,6 +1,6 @@
 //! Which counters routines touch, by a table that is filled from the lowest routine up.
 
-ghost use Rattle.std.specs.Prelude.{◌≡◌, ◌<◌, length};
+ghost use Rattle.std.specs.Prelude.{◌≡◌, ◌<◌, ◌||◌, length};
 ghost use Rattle.std.specs.List.{list_any};
 ghost use Rattle.geos_verify.specs.Touched.{counts, calls, points_of, touches_here, touched_by, noted, noted_by};
 
@@ -74,6 +74,13 @@ fn touches(table: &Touched, k: u8, points: &[Point]) -> bool
         .any(|point| touches_here(table, k, &point.instr))
 }
 
+/// Whether one of these instructions names a counter, or calls a routine.
+fn may_touch(points: &[Point]) -> bool
+    ensures { result ≡ list_any (λ point. counts point.instr.opcode || calls point.instr.opcode) points.now }
+{
+    points.iter().any(|point| counts(point.instr.opcode) || calls(point.instr.opcode))
+}
+
 /// The points of a routine.
 fn points_of(image: &Image, r: u16) -> &[Point]
     requires { r < length image.now.routines }
@@ -90,6 +97,9 @@ pub fn touched_in(image: &Image, routine: u16, table: &Touched) -> [bool; 4]
     ensures { result ≡ noted_by image.now table.now routine }
 {
     let points = points_of(image, routine);
+    if !may_touch(points) {
+        return [false; 4];
+    }
     [
         touches(table, 0, points),
         touches(table, 1, points),

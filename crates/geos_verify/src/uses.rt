@@ -9,10 +9,11 @@ use geos_image::Instr;
 use geos_opcodes::Uses;
 
 /// What an instruction does with slots and pointers: it names ones that there are.
+#[inline(always)]
 pub fn uses_at(instr: &Instr) -> Uses
     requires { FieldsFit instr.now.opcode instr.now }
     ensures value { result ≡ uses_of instr.now.opcode }
     ensures fit { UsesFit result instr.now }
 {
-    instr.opcode.uses()
+    instr.opcode.facts().uses
 }

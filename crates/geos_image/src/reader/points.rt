@@ -17,7 +17,32 @@ use crate::row::Row;
 use geos_opcodes::{Opcode, Operand};
 use std::alloc::Global;
 
+/// The limit of the operand in an image with one routine and one instruction: LLVM makes a table of it.
+fn least_limit(operand: Operand) -> u32
+    ensures { result ≡ limit 1 1 operand }
+{
+    match operand {
+        Operand::Unused | Operand::Routine | Operand::Label => 1,
+        Operand::Word => 8,
+        Operand::Counter | Operand::Slot | Operand::Pointer => 4,
+        Operand::Number => 65_536,
+        Operand::Shift => 16,
+    }
+}
+
+/// The operand is a number below this limit, in an image with so many routines and instructions.
+fn limit_of(operand: Operand, routines: u32, instrs: u32) -> u32
+    ensures { result ≡ limit routines instrs operand }
+{
+    match operand {
+        Operand::Routine => routines,
+        Operand::Label => instrs,
+        _ => least_limit(operand),
+    }
+}
+
 /// A byte that the operand may have.
+#[inline(always)]
 fn byte_of(
     operand: Operand,
     routines: u32,
@@ -28,10 +53,11 @@ fn byte_of(
     ensures exact { result ≡ byte_below (limit routines instrs operand) bytes.now at }
     ensures legal { IfOk result (λ n. n < limit routines instrs operand) }
 {
-    byte_below(operand.limit(routines, instrs), bytes, at)
+    byte_below(limit_of(operand, routines, instrs), bytes, at)
 }
 
 /// A word that the operand may have.
+#[inline(always)]
 fn word_of(
     operand: Operand,
     routines: u32,
@@ -43,11 +69,12 @@ fn word_of(
     ensures exact { result ≡ word_below (limit routines instrs operand) bytes.now at }
     ensures legal { IfOk result (λ n. n < limit routines instrs operand) }
 {
-    word_below(operand.limit(routines, instrs), bytes, at)
+    word_below(limit_of(operand, routines, instrs), bytes, at)
 }
 
 /// The instruction with the opcode, whose fields follow.
 #[tactic(auto, unfolding(crate::specs::Reading::fields_at))]
+#[inline(always)]
 fn fields_at(
     opcode: Opcode,
     routines: u32,
@@ -59,7 +86,7 @@ fn fields_at(
     ensures exact { result ≡ fields_at routines instrs opcode bytes.now at }
     ensures legal { IfOk result (λ i. is_instr routines instrs i ≡ true) }
 {
-    let fields = opcode.operands();
+    let fields = opcode.facts().operands;
     let a = byte_of(fields.a, routines, instrs, bytes, at + 1)?;
     let b = byte_of(fields.b, routines, instrs, bytes, at + 2)?;
     let c = byte_of(fields.c, routines, instrs, bytes, at + 3)?;
@@ -79,13 +106,38 @@ fn fields_at(
 }
 
 #[tactic(auto, unfolding(crate::specs::Reading::instr_at))]
-fn instr_at(routines: u32, instrs: u32, bytes: &[u8], at: usize) -> Result<Instr, Fault>
+#[inline(always)]
+fn coded_at(routines: u32, instrs: u32, bytes: &[u8], at: usize) -> Result<Instr, Fault>
     requires { at < 2 ^ 31 }
     ensures exact { result ≡ instr_at routines instrs bytes.now at }
     ensures legal { IfOk result (λ i. is_instr routines instrs i ≡ true) }
 {
     let opcode = Opcode::from_code(byte_at(bytes, at)?).ok_or(at)?;
     fields_at(opcode, routines, instrs, bytes, at)
+}
+
+/// The instruction at an offset, which may be cut.
+#[cold]
+#[inline(never)]
+fn instr_at_end(routines: u32, instrs: u32, bytes: &[u8], at: usize) -> Result<Instr, Fault>
+    requires { at < 2 ^ 31 }
+    ensures exact { result ≡ instr_at routines instrs bytes.now at }
+    ensures legal { IfOk result (λ i. is_instr routines instrs i ≡ true) }
+{
+    coded_at(routines, instrs, bytes, at)
+}
+
+/// The instruction at an offset. The length is tested once: a number of 32 bits is one of which LLVM knows that no sum wraps.
+fn instr_at(routines: u32, instrs: u32, bytes: &[u8], at: usize) -> Result<Instr, Fault>
+    requires { at < 2 ^ 31 }
+    ensures exact { result ≡ instr_at routines instrs bytes.now at }
+    ensures legal { IfOk result (λ i. is_instr routines instrs i ≡ true) }
+{
+    let at = at as u32 as usize;
+    if bytes.len() < at + 10 {
+        return instr_at_end(routines, instrs, bytes, at);
+    }
+    coded_at(routines, instrs, bytes, at)
 }
 
 pub(crate) fn instrs_at(

@@ -10,6 +10,7 @@ use crate::reader::numbers::{Fault, byte_at, byte_below, long_at, word_at, word_
 use crate::row::{Pointer, Row, SlotState};
 
 #[tactic(auto, unfolding(crate::specs::Reading::slot_at))]
+#[inline(always)]
 fn slot_at(borrows: bool, bytes: &[u8], at: usize) -> Result<SlotState, Fault>
     ensures exact { result ≡ slot_at borrows bytes.now at }
     ensures legal { IfOk result (λ s. (borrows || is_own s) ≡ true) }
@@ -21,6 +22,7 @@ fn slot_at(borrows: bool, bytes: &[u8], at: usize) -> Result<SlotState, Fault>
 const STALE: u8 = 0xff;
 
 #[tactic(auto, unfolding(crate::specs::Reading::pointer_at))]
+#[inline(always)]
 fn pointer_at(bytes: &[u8], at: usize) -> Result<Option<Pointer>, Fault>
     requires { at < 2 ^ 31 }
     ensures exact { result ≡ pointer_at bytes.now at }
@@ -53,6 +55,7 @@ fn pairs_of(byte: u8) -> [bool; 6]
     ]
 }
 
+#[inline(always)]
 fn bounds_at(bytes: &[u8], at: usize) -> Result<[u16; 8], Fault>
     requires { at < 2 ^ 31 }
     ensures { result ≡ items_at (word_at bytes.now) 2 8 at }
@@ -69,6 +72,7 @@ fn bounds_at(bytes: &[u8], at: usize) -> Result<[u16; 8], Fault>
     ])
 }
 
+#[inline(always)]
 fn slots_at(borrows: bool, bytes: &[u8], at: usize) -> Result<[SlotState; 4], Fault>
     requires { at < 2 ^ 31 }
     ensures exact { result ≡ items_at (slot_at borrows bytes.now) 1 4 at }
@@ -82,6 +86,7 @@ fn slots_at(borrows: bool, bytes: &[u8], at: usize) -> Result<[SlotState; 4], Fa
     ])
 }
 
+#[inline(always)]
 fn pointers_at(bytes: &[u8], at: usize) -> Result<[Option<Pointer>; 4], Fault>
     requires { at < 2 ^ 30 }
     ensures exact { result ≡ items_at (pointer_at bytes.now) 4 4 at }
@@ -95,9 +100,9 @@ fn pointers_at(bytes: &[u8], at: usize) -> Result<[Option<Pointer>; 4], Fault>
     ])
 }
 
-/// A row. `borrows` says whether its slots may be borrowed.
 #[tactic(auto, unfolding(crate::specs::Reading::row_at))]
-pub(crate) fn row_at(borrows: bool, bytes: &[u8], at: usize) -> Result<Row, Fault>
+#[inline(always)]
+fn fields_at(borrows: bool, bytes: &[u8], at: usize) -> Result<Row, Fault>
     requires { at < 2 ^ 29 }
     ensures exact { result ≡ row_at borrows bytes.now at }
     ensures legal { IfOk result (λ r. is_row borrows r ≡ true) }
@@ -113,6 +118,31 @@ pub(crate) fn row_at(borrows: bool, bytes: &[u8], at: usize) -> Result<Row, Faul
         pointers,
         pairs,
     })
+}
+
+/// A row, which may be cut.
+#[cold]
+#[inline(never)]
+fn row_at_end(borrows: bool, bytes: &[u8], at: usize) -> Result<Row, Fault>
+    requires { at < 2 ^ 29 }
+    ensures exact { result ≡ row_at borrows bytes.now at }
+    ensures legal { IfOk result (λ r. is_row borrows r ≡ true) }
+{
+    fields_at(borrows, bytes, at)
+}
+
+/// A row. `borrows` says whether its slots may be borrowed. The length is tested once: a number of 32 bits is one of which
+/// LLVM knows that no sum wraps.
+pub(crate) fn row_at(borrows: bool, bytes: &[u8], at: usize) -> Result<Row, Fault>
+    requires { at < 2 ^ 29 }
+    ensures exact { result ≡ row_at borrows bytes.now at }
+    ensures legal { IfOk result (λ r. is_row borrows r ≡ true) }
+{
+    let at = at as u32 as usize;
+    if bytes.len() < at + 38 {
+        return row_at_end(borrows, bytes, at);
+    }
+    fields_at(borrows, bytes, at)
 }
 
 fn coefficients_at(bytes: &[u8], at: usize) -> Result<[u32; 4], Fault>

@@ -7,7 +7,7 @@ pub loop-pc-preserved : goal.loop-pc-preserved
 loop-pc-preserved c =
     let body = c.args.body.now in (
       refuses_none-next body.image.now body.r body.start c.loop-pc.pc body.routine.now c.loop-pc.invariant.0 c.in_default.ensures,
-      c.row_next-row.ensures,
+      c.go_on.ensures,
     )
 
 pub loop-pc-init : goal.loop-pc-init

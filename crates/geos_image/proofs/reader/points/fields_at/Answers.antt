@@ -6,7 +6,7 @@ pub returns-clause-exact : goal.returns-clause-exact
 unfolding fields_at
 returns-clause-exact c =
     rw (
-      ← c.operands-fields.ensures,
+      ← c.facts.ensures,
       ← c.in_ok-a.ensures.exact,
       ← c.in_ok-b.ensures.exact,
       ← c.in_ok-c.ensures.exact,
