@@ -10,7 +10,7 @@ use crate::machine::Machine;
 use crate::step::{Goes, refuse, to_if};
 use geos_image::{Instr, Opcode};
 use geos_kernel::Kernel;
-use geos_terms::Name;
+use geos_terms::{Name, Refusal};
 use vm_file::Device;
 
 /// Makes a block, and locks it into a slot.
@@ -56,6 +56,8 @@ pub(crate) fn mlock<D: Device + Drop>(
             m.slots[a] = Name::mem(h);
             Goes::Further
         }
+        // by itself, or the compiler sets the number before each test
+        Err(Refusal::BadHandle) => refuse(m, i, Refusal::BadHandle),
         Err(refusal) => refuse(m, i, refusal),
     }
 }

@@ -11,6 +11,7 @@ use crate::machine::Machine;
 use crate::step::{Goes, refuse};
 use geos_image::{Instr, Opcode};
 use geos_kernel::{Ask, Change, Kernel, Span};
+use geos_terms::Refusal;
 use vm_file::Device;
 
 /// The change that an instruction makes of chunks, or of items.
@@ -216,11 +217,15 @@ pub(crate) fn deref<D: Device + Drop>(
         index_c(i, operands),
     );
     match kernel.deref(m.slots[a], m.words[c], i.imm) {
-        // field by field, or the compiler makes one number of a span, and takes it apart again
+        // field by field into the register, or the compiler makes one number of a span
         Ok(Span { at, len }) => {
-            m.pointers[b] = Span { at, len };
+            let pointer = &mut m.pointers[b];
+            pointer.at = at;
+            pointer.len = len;
             Goes::Further
         }
+        // by itself, or the compiler sets the number before each test
+        Err(Refusal::BadChunk) => refuse(m, i, Refusal::BadChunk),
         Err(refusal) => refuse(m, i, refusal),
     }
 }

@@ -26,12 +26,23 @@ returns-in-Ok g c =
     (λ image choice beside pc. rw c.requires.instr.is refl) c.in-Ok.field-0
     (rw (c.index_a-a.ensures, c.index_c-c.ensures) at c.in-Ok.ensures.gives) refl))
 
-pub returns-in-Err : goal.returns-in-Err
-returns-in-Err g c =
+pub returns-in-Err-BadChunk : goal.returns-in-Err-BadChunk
+returns-in-Err-BadChunk g c =
     let i = c.args.i.now in
     let honest : Type 0 = g.D.Device.medium.honest c.args.kernel.now.device in
     rw c.refuse.ensures.goes (pointer-refused honest i c.args.kernel.now.core c.args.m.now _ (mem 0)
     (λ name. deref name (get_or c.args.m.now.words i.c 0) i.imm) (λ name choice memory. refl)
     (λ beside pc safe. looks-held i _ (uses_of Deref) (rw c.requires.instr.is refl) (λ t. refl) safe)
+    (λ image choice beside pc. rw c.requires.instr.is refl) c.in-Err-BadChunk.field-0
+    (rw (c.index_a-a.ensures, c.index_c-c.ensures) at c.in-Err-BadChunk.ensures.gives)
+    (rw c.in-Err-BadChunk.field-0-is c.refuse.ensures.registers))
+
+pub returns-in-Err : goal.returns-in-Err
+returns-in-Err g c =
+    let i = c.args.i.now in
+    let honest : Type 0 = g.D.Device.medium.honest c.args.kernel.now.device in
+    rw c.refuse-in-Err.ensures.goes (pointer-refused honest i c.args.kernel.now.core c.args.m.now _ (mem 0)
+    (λ name. deref name (get_or c.args.m.now.words i.c 0) i.imm) (λ name choice memory. refl)
+    (λ beside pc safe. looks-held i _ (uses_of Deref) (rw c.requires.instr.is refl) (λ t. refl) safe)
     (λ image choice beside pc. rw c.requires.instr.is refl) c.in-Err.refusal
-    (rw (c.index_a-a.ensures, c.index_c-c.ensures) at c.in-Err.ensures.gives) c.refuse.ensures.registers)
+    (rw (c.index_a-a.ensures, c.index_c-c.ensures) at c.in-Err.ensures.gives) c.refuse-in-Err.ensures.registers)
