@@ -11,6 +11,7 @@ pub mod InFormRun
 pub mod MayCommit
 pub mod NamedRun
 pub mod Parts
+pub mod PlacedHandles
 pub mod PlainLines
 pub mod Prints
 pub mod CommandsRun

@@ -71,3 +71,28 @@ pub returns-clause-there : goal.returns-clause-there
 returns-clause-there g c =
     let past : length c.args.handles.now ≤ c.loop-k.k = omega (arith, c.loop-k-test.false) in
     subst (All (λ h. has_block c.loop-k.kernel.core h ≡ true)) (take_all c.loop-k.k c.args.handles.now past) c.loop-k.invariant.2
+
+pub returns-in-Err-clause-honest : goal.returns-in-Err-clause-honest
+returns-in-Err-clause-honest g c =
+    let so_far = c.loop-k.invariant in
+    let next = c.lock.ensures.honest in
+    ((λ h. so_far.3.0 (next.0 h)), (λ h. next.1 (so_far.3.1 h)))
+
+pub returns-in-Err-clause-sees : goal.returns-in-Err-clause-sees
+returns-in-Err-clause-sees g c = (c.memory_is_legal.ensures.sees, c.lock.ensures.sees.1)
+
+pub returns-in-Err-clause-steadily : goal.returns-in-Err-clause-steadily
+returns-in-Err-clause-steadily g c = steadily_then g.D.Device.medium (vm_file_of c.args.kernel.now) (vm_file_of c.loop-k.kernel)
+    (vm_file_of c.lock.new.kernel) c.loop-k.invariant.5 c.lock.ensures.steadily
+
+pub returns-in-Err-clause-fewer : goal.returns-in-Err-clause-fewer
+returns-in-Err-clause-fewer g c = λ n. c.in-Err.ensures.same n ∙ c.loop-k.invariant.1 n
+
+pub returns-clause-honest : goal.returns-clause-honest
+returns-clause-honest g c = c.loop-k.invariant.3
+
+pub returns-clause-sees : goal.returns-clause-sees
+returns-clause-sees g c = (c.memory_is_legal.ensures.sees, c.loop-k.invariant.4)
+
+pub returns-clause-steadily : goal.returns-clause-steadily
+returns-clause-steadily g c = c.loop-k.invariant.5

@@ -97,3 +97,18 @@ pub returns-in-Some-clause-steadily : goal.returns-in-Some-clause-steadily
 returns-in-Some-clause-steadily g c =
     steadily_then g.D.Device.medium (vm_file_of c.args.kernel.now) (vm_file_of c.loop-numbered.kernel)
     (vm_file_of c.carry_out.new.kernel) c.loop-numbered.invariant.5 c.carry_out.ensures.steadily
+
+pub returns-in-Some-clause-honest : goal.returns-in-Some-clause-honest
+returns-in-Some-clause-honest g c =
+    let alike = c.loop-numbered.invariant.2 in
+    let next = c.carry_out.ensures.honest in
+    ((λ h. alike.0 (next.0 h)), (λ h. next.1 (alike.1 h)))
+
+pub returns-in_err-done-clause-honest : goal.returns-in_err-done-clause-honest
+returns-in_err-done-clause-honest g c =
+    let alike = c.loop-numbered.invariant.2 in
+    let next = c.carry_out.ensures.honest in
+    ((λ h. alike.0 (next.0 h)), (λ h. next.1 (alike.1 h)))
+
+pub returns-in-Some-clause-kept : goal.returns-in-Some-clause-kept
+returns-in-Some-clause-kept g c = c.in_ok-done.ensures.kept ∙ c.in_ok-give_before.ensures.kept ∙ c.loop-numbered.invariant.1

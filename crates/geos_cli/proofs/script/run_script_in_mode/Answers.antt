@@ -1,11 +1,13 @@
 use Rattle.std.proofs.Common.{◌∙◌, sym, subst, arith}
 use Rattle.std.specs.Prelude.{All}
 use Rattle.std.specs.Str.Lines.{lines}
+use Rattle.std.proofs.lemmas.Result.{IfErr-weaker}
 use Rattle.geos_input.specs.declared.fault.ScriptFault.TheVariants.{Write}
 use Rattle.geos_cli.specs.declared.script.Numbered.{Numbered}
 use Rattle.geos_cli.specs.Script.{IsAdmitted, Loads}
 use Rattle.geos_cli.proofs.Commands.{commands-admitted}
 use Rattle.geos_cli.proofs.CommandsRun.{if_ok-map, if_err-map, script-ran, script-stopped}
+use Rattle.geos_cli.proofs.Parts.{only-write}
 use Rattle.geos_cli.proofs.script.run_script_in_mode.Goals as goal
 
 pub carry_out_all-requires-clause-admitted : goal.carry_out_all-requires-clause-admitted
@@ -31,3 +33,15 @@ returns-clause-stopped g c =
     (script-stopped c.args.mode (g.D.Device.medium.honest c.args.kernel.now.device) _ c.args.image.now c.args.script.now
     c.in_ok-checked.checked c.args.kernel.now.core c.carry_out_all.new.kernel.core _ _ (omega (arith, c.if-script-gt-MOST_BYTES.false)) loads
     c.deref.result.now (c.deref.ensures.value ∙ c.in_ok-commands.ensures.commands.1)) c.carry_out_all.ensures.stopped
+
+pub returns-clause-kernel_kept : goal.returns-clause-kernel_kept
+returns-clause-kernel_kept g c = only-write _ _ c.carry_out_all.result c.carry_out_all.ensures.failed
+
+pub returns-clause-nothing_written : goal.returns-clause-nothing_written
+returns-clause-nothing_written g c = only-write _ _ c.carry_out_all.result c.carry_out_all.ensures.failed
+
+pub returns-clause-not_asked : goal.returns-clause-not_asked
+returns-clause-not_asked g c = only-write _ _ c.carry_out_all.result c.carry_out_all.ensures.failed
+
+pub returns-clause-writer_failed : goal.returns-clause-writer_failed
+returns-clause-writer_failed g c = IfErr-weaker c.carry_out_all.result _ _ (λ fault is write. is.1) c.carry_out_all.ensures.failed

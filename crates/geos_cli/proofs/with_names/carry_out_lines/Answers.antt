@@ -83,3 +83,54 @@ returns-clause-ran g c = all-ran g.D.Device.medium c.args.form c.args.mode c.arg
     c.loop-line.line-index (names_of c.loop-line.names.items) c.args.kernel.now c.loop-line.kernel
     (g.W.Write.contents c.args.out.now.stream) (g.W.Write.contents c.loop-line.out.stream) c.loop-line.invariant.0
     (omega (arith, c.loop-line-test.false))
+
+pub returns-in_err-done-clause-honest : goal.returns-in_err-done-clause-honest
+returns-in_err-done-clause-honest g c =
+    let alike = c.loop-line.invariant.2 in
+    let next = c.carry_out_next.ensures.honest in
+    ((λ h. alike.0 (next.0 h)), (λ h. next.1 (alike.1 h)))
+
+pub returns-in_err-done-clause-sees : goal.returns-in_err-done-clause-sees
+returns-in_err-done-clause-sees g c = (c.memory_is_legal.ensures.sees, c.carry_out_next.ensures.sees.1)
+
+pub returns-in_err-done-clause-steadily : goal.returns-in_err-done-clause-steadily
+returns-in_err-done-clause-steadily g c = steadily_then g.D.Device.medium (vm_file_of c.args.kernel.now) (vm_file_of c.loop-line.kernel)
+    (vm_file_of c.carry_out_next.new.kernel) c.loop-line.invariant.5 c.carry_out_next.ensures.steadily
+
+pub returns-in-Some-ended_by-clause-honest : goal.returns-in-Some-ended_by-clause-honest
+returns-in-Some-ended_by-clause-honest g c =
+    let alike = c.loop-line.invariant.2 in
+    let next = c.carry_out_next.ensures.honest in
+    ((λ h. alike.0 (next.0 h)), (λ h. next.1 (alike.1 h)))
+
+pub returns-in-Some-ended_by-clause-sees : goal.returns-in-Some-ended_by-clause-sees
+returns-in-Some-ended_by-clause-sees g c = (c.memory_is_legal.ensures.sees, c.carry_out_next.ensures.sees.1)
+
+pub returns-in-Some-ended_by-clause-steadily : goal.returns-in-Some-ended_by-clause-steadily
+returns-in-Some-ended_by-clause-steadily g c = steadily_then g.D.Device.medium (vm_file_of c.args.kernel.now) (vm_file_of c.loop-line.kernel)
+    (vm_file_of c.carry_out_next.new.kernel) c.loop-line.invariant.5 c.carry_out_next.ensures.steadily
+
+pub returns-in_err-keep-clause-honest : goal.returns-in_err-keep-clause-honest
+returns-in_err-keep-clause-honest g c =
+    let alike = c.loop-line.invariant.2 in
+    let next = c.carry_out_next.ensures.honest in
+    ((λ h. alike.0 (next.0 h)), (λ h. next.1 (alike.1 h)))
+
+pub returns-in_err-keep-clause-sees : goal.returns-in_err-keep-clause-sees
+returns-in_err-keep-clause-sees g c = (c.memory_is_legal.ensures.sees, c.carry_out_next.ensures.sees.1)
+
+pub returns-in_err-keep-clause-steadily : goal.returns-in_err-keep-clause-steadily
+returns-in_err-keep-clause-steadily g c = steadily_then g.D.Device.medium (vm_file_of c.args.kernel.now) (vm_file_of c.loop-line.kernel)
+    (vm_file_of c.carry_out_next.new.kernel) c.loop-line.invariant.5 c.carry_out_next.ensures.steadily
+
+pub returns-in-Some-ended_by-clause-kept : goal.returns-in-Some-ended_by-clause-kept
+returns-in-Some-ended_by-clause-kept g c = c.in_ok-done.ensures.kept ∙ c.loop-line.invariant.1
+
+pub returns-in_err-command-clause-sees : goal.returns-in_err-command-clause-sees
+returns-in_err-command-clause-sees g c = (c.memory_is_legal.ensures.sees, c.loop-line.invariant.4)
+
+pub returns-in_default-clause-sees : goal.returns-in_default-clause-sees
+returns-in_default-clause-sees g c = (c.memory_is_legal.ensures.sees, c.loop-line.invariant.4)
+
+pub returns-clause-sees : goal.returns-clause-sees
+returns-clause-sees g c = (c.memory_is_legal.ensures.sees, c.loop-line.invariant.4)
