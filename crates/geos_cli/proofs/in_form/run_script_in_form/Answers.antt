@@ -1,8 +1,10 @@
-use Rattle.std.proofs.Common.{◌∙◌, sym, subst, arith}
+use Rattle.std.proofs.Common.{◌∙◌, inl, inr, sym, subst, arith}
 use Rattle.std.specs.Prelude.{All}
 use Rattle.std.specs.Str.Lines.{lines}
+use Rattle.std.proofs.lemmas.Result.{IfErr-weaker}
+use Rattle.geos_input.specs.declared.fault.ScriptFault.{ScriptFault}
 use Rattle.geos_cli.specs.declared.script.Numbered.{Numbered}
-use Rattle.geos_cli.specs.Script.{IsAdmitted, Loads}
+use Rattle.geos_cli.specs.Script.{IsAdmitted, Loads, ScriptEndsBy}
 use Rattle.geos_cli.proofs.Commands.{commands-admitted}
 use Rattle.geos_cli.proofs.CommandsRun.{if_ok-map}
 use Rattle.geos_cli.proofs.InFormRun.{fault-leaves, script-ran, script-stopped}
@@ -37,3 +39,18 @@ returns-clause-left g c =
     (g.W.Write.contents c.args.out.now.stream) (g.W.Write.contents c.carry_out_all_in_form.new.out.stream)
     (omega (arith, c.if-script-gt-MOST_BYTES.false)) loads c.deref.result.now same)
     c.carry_out_all_in_form.ensures.fault c.carry_out_all_in_form.ensures.stopped
+
+pub returns-clause-due : goal.returns-clause-due
+returns-clause-due g c =
+    let image = c.args.image.now in
+    let script = c.args.script.now in
+    let checked = c.in_ok-checked in
+    let loads : Loads image (lines script) checked.checked =
+    record { read = checked.ensures.image.0; accepted = checked.ensures.image.1; good = c.in_ok-commands.ensures.commands.0 } in
+    let E : ScriptFault → Type 0 = λ f. ScriptEndsBy image script f in
+    IfErr-weaker c.carry_out_all_in_form.result _ (ScriptEndsBy image script)
+    (λ fault is. (elim is [
+      | inl write ↦ subst E (sym write) (omega (arith, c.if-script-gt-MOST_BYTES.false), (checked.checked, loads))
+      | inr memory ↦ subst E (sym memory) (omega (arith, c.if-script-gt-MOST_BYTES.false), tt)
+    ]))
+    c.carry_out_all_in_form.ensures.fault

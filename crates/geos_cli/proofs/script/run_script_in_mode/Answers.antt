@@ -2,9 +2,10 @@ use Rattle.std.proofs.Common.{◌∙◌, sym, subst, arith}
 use Rattle.std.specs.Prelude.{All}
 use Rattle.std.specs.Str.Lines.{lines}
 use Rattle.std.proofs.lemmas.Result.{IfErr-weaker}
+use Rattle.geos_input.specs.declared.fault.ScriptFault.{ScriptFault}
 use Rattle.geos_input.specs.declared.fault.ScriptFault.TheVariants.{Write}
 use Rattle.geos_cli.specs.declared.script.Numbered.{Numbered}
-use Rattle.geos_cli.specs.Script.{IsAdmitted, Loads}
+use Rattle.geos_cli.specs.Script.{IsAdmitted, Loads, ScriptEndsBy}
 use Rattle.geos_cli.proofs.Commands.{commands-admitted}
 use Rattle.geos_cli.proofs.CommandsRun.{if_ok-map, if_err-map, script-ran, script-stopped}
 use Rattle.geos_cli.proofs.Parts.{only-write}
@@ -45,3 +46,15 @@ returns-clause-not_asked g c = only-write _ _ c.carry_out_all.result c.carry_out
 
 pub returns-clause-writer_failed : goal.returns-clause-writer_failed
 returns-clause-writer_failed g c = IfErr-weaker c.carry_out_all.result _ _ (λ fault is write. is.1) c.carry_out_all.ensures.failed
+
+pub returns-clause-due : goal.returns-clause-due
+returns-clause-due g c =
+    let image = c.args.image.now in
+    let script = c.args.script.now in
+    let checked = c.in_ok-checked in
+    let loads : Loads image (lines script) checked.checked =
+    record { read = checked.ensures.image.0; accepted = checked.ensures.image.1; good = c.in_ok-commands.ensures.commands.0 } in
+    IfErr-weaker c.carry_out_all.result _ (ScriptEndsBy image script)
+    (λ fault is. subst (λ (f : ScriptFault). ScriptEndsBy image script f) (sym is.0)
+    (omega (arith, c.if-script-gt-MOST_BYTES.false), (checked.checked, loads)))
+    c.carry_out_all.ensures.failed

@@ -1,6 +1,8 @@
-use Rattle.std.proofs.Common.{◌∙◌, ap, map, arith}
+use Rattle.std.proofs.Common.{◌∙◌, inl, inr, ap, map, subst, sym, arith}
+use Rattle.std.proofs.lemmas.Result.{IfErr-weaker}
+use Rattle.geos_input.specs.declared.fault.ScriptFault.{ScriptFault}
 use Rattle.geos_cli.specs.Names.{said_by}
-use Rattle.geos_cli.specs.WithNames.{LoadsNamed}
+use Rattle.geos_cli.specs.WithNames.{LoadsNamed, NamedScriptEndsBy}
 use Rattle.geos_cli.proofs.CommandsRun.{if_ok-map}
 use Rattle.geos_cli.proofs.InFormRun.{fault-leaves}
 use Rattle.geos_cli.proofs.NamedRun.{script-ran, script-stopped}
@@ -41,3 +43,24 @@ returns-clause-left g c =
     (g.W.Write.contents c.args.out.now.stream) (g.W.Write.contents c.carry_out_lines.new.out.stream) loads
     (map said_by c.deref.result.now) same)
     c.carry_out_lines.ensures.fault c.carry_out_lines.ensures.stopped
+
+pub returns-clause-due : goal.returns-clause-due
+returns-clause-due g c =
+    let image = c.args.image.now in
+    let script = c.args.script.now in
+    let checked = c.in_ok-checked in
+    let loads : LoadsNamed image script checked.checked =
+    record {
+      short = omega (arith, c.if-script-gt-MOST_BYTES.false);
+      read = checked.ensures.image.0;
+      accepted =
+          checked.ensures.image.1;
+      good = c.in_ok-lines.ensures.lines.1;
+    } in
+    let E : ScriptFault → Type 0 = λ f. NamedScriptEndsBy image script f in
+    IfErr-weaker c.carry_out_lines.result _ (NamedScriptEndsBy image script)
+    (λ fault is. (elim is [
+      | inl write ↦ subst E (sym write) (checked.checked, loads)
+      | inr memory ↦ subst E (sym memory) (omega (arith, c.if-script-gt-MOST_BYTES.false))
+    ]))
+    c.carry_out_lines.ensures.fault
