@@ -16,7 +16,7 @@ use Rattle.geos_verify.specs.Rows.{has_edge, after, is_empty, marked_state, slot
 use Rattle.geos_verify.specs.Rules.{has_place}
 use Rattle.geos_verify.specs.RuleText.{rule_number}
 use Rattle.geos_explain.specs.Places.{Place}
-use Rattle.geos_explain.specs.Unset.{over_words}
+use Rattle.geos_explain.specs.Budgets.{over_words}
 use Rattle.geos_explain.specs.Lacks.{lacking, lacking_items}
 use Rattle.geos_explain.specs.Numbers.{is_or_are, are_text, label_text, pc_text}
 use Rattle.geos_explain.specs.Held.{exit_words}

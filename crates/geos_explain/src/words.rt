@@ -10,6 +10,7 @@ ghost use Rattle.geos_opcodes.specs.Facts.{uses_of};
 ghost use Rattle.geos_verify.specs.RuleText.{rule_number};
 ghost use Rattle.geos_verify.specs.Rows.{marked_state};
 
+use crate::budgets::put_over;
 use crate::calls::{put_forgotten, put_forgotten_item, put_forgotten_items, put_lent_items};
 use crate::forgotten::Item;
 use crate::held::put_exit;
@@ -21,7 +22,6 @@ use crate::place::Place;
 use crate::public::put_public;
 use crate::stale::put_stale;
 use crate::steps::put_unpaid;
-use crate::unset::put_over;
 use crate::uses::{changed_slot, put_held, put_nowhere, put_past, put_slot, put_unmarked};
 use crate::written::put_written;
 use geos_image::{Instr, Opcode, Routine, Row, SlotState};
