@@ -10,6 +10,7 @@ mod Outside
 mod Places
 mod Reached
 mod Rounding
+mod Serving
 mod Spending
 mod Told
 mod Untold

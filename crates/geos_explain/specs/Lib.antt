@@ -21,6 +21,7 @@ pub mod Calls
 pub mod Moved
 pub mod Steps
 pub mod Unset
+pub mod Budgets
 pub mod Written
 pub mod Words
 pub mod Told

@@ -36,19 +36,19 @@ if_round place item (Some from) = if is_marked (lacking_from place item from) pl
 abbrev pub moving : Place → Item → ℕ → Option ℕ
 moving place item w = if_round place item (last_of place (moves_at place w (lacking_from place item place.pc)) place.routine.count)
 
--- an instruction moves a word going round
-unfoldable pub moved_words : Place → ℕ → ℕ → Instr → List ℕ
-moved_words place w from i =
+-- an instruction moves a word going round, and it is not known then to be at most so much
+unfoldable pub moved_words : Place → ℕ → ℕ → ℕ → Instr → List ℕ
+moved_words place w most from i =
     concat (codes "; " ∷ word_of i.opcode ∷ codes " at" ∷ pc_text place.lines from ∷ codes " moves w" ∷ decimal w
-    ∷ codes " going round, and no bound is known of it then" ∷ [])
+    ∷ codes " going round, and w" ∷ decimal w ∷ codes "<=" ∷ decimal most ∷ codes " is not known then" ∷ [])
 
 -- the same, if there is an instruction at a pc
-abbrev pub moved_from : Place → ℕ → ℕ → List ℕ
-moved_from place w from = elim (slice_get (places place.image) from) [ None ↦ [] | Some point ↦ moved_words place w from point.instr ]
+abbrev pub moved_from : Place → ℕ → ℕ → ℕ → List ℕ
+moved_from place w most from = elim (slice_get (places place.image) from) [ None ↦ [] | Some point ↦ moved_words place w most from point.instr ]
 
 -- which instruction moves an index going round, where a bound of it is wanted, if one does
 unfoldable pub moved_text : Place → Item → List ℕ
-moved_text place (Bound w most) = elim (moving place (Bound w most) w) [ None ↦ [] | Some from ↦ moved_from place w from ]
+moved_text place (Bound w most) = elim (moving place (Bound w most) w) [ None ↦ [] | Some from ↦ moved_from place w most from ]
 moved_text place _ = []
 
 -- What is said, as a relation on ways

@@ -81,6 +81,17 @@ last_of place is zero = None
 last_of place is (suc n) =
     if is (start_of place.image.routines place.r + n) then Some (start_of place.image.routines place.r + n) else last_of place is n
 
+-- the pc that was found before, or else this one where something is so
+abbrev pub first_or : Option ℕ → ℕ → Bool → Option ℕ
+first_or (Some first) pc here = Some first
+first_or None pc here = if here then Some pc else None
+
+-- of the first n of them, the first of which something is so
+unfoldable pub first_of : Place → (ℕ → Bool) → ℕ → Option ℕ
+first_of place is zero = None
+first_of place is (suc n) =
+    first_or (first_of place is n) (start_of place.image.routines place.r + n) (is (start_of place.image.routines place.r + n))
+
 -- a pc is that of one of them, by its bounds
 pub record IsPcOf (place : Place) (pc : ℕ) : Type 0 where
   pub begins : start_of place.image.routines place.r ≤ pc

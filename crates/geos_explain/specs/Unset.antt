@@ -1,18 +1,20 @@
 -- Which counters are still to pay at a routine's beginning, and which LOOP takes from them though nothing sets them.
-use Rattle.std.specs.Prelude.{ℕ, zero, suc, ◌+◌, Bool, false, ◌&&◌, not, nat_lt, if◌then◌else◌, ◌==◌, List, [], ◌∷◌, ◌++◌, Some, None, length, slice_get, slice_index, codes, decimal}
+use Rattle.std.specs.Prelude.{◌≡◌, ℕ, Bool, true, false, ◌&&◌, not, if◌then◌else◌, ◌==◌, List, [], ◌∷◌, Option, Some, None, slice_get, slice_index, codes, decimal}
 use Rattle.std.specs.List.{concat}
 use Rattle.geos_opcodes.specs.declared.facts.CounterUse.{CounterUse}
 use Rattle.geos_opcodes.specs.declared.facts.CounterUse.TheVariants.{SetTo, SetToWord, CountsDown}
 use Rattle.geos_opcodes.specs.Facts.{facts}
 use Rattle.geos_image.specs.declared.instr.Instr.{Instr}
+use Rattle.geos_image.specs.declared.point.Point.{Point}
 use Rattle.geos_image.specs.Parts.{Parts}
+use Rattle.geos_flow.specs.declared.edge.Edge.{Edge}
+use Rattle.geos_flow.specs.declared.search.Heading.TheVariants.{Ahead}
+use Rattle.geos_flow.specs.Flow.{Lead, step_by, followed}
+use Rattle.geos_flow.specs.Marks.{no_marks, marked, is_marked}
 use Rattle.geos_listing.specs.Rows.{texts_below}
-use Rattle.geos_image.specs.Keys.{falls_through, branches}
 use Rattle.geos_explain.specs.Numbers.{pc_text}
-use Rattle.geos_explain.specs.Notes.{budget_words, budget_wish}
-use Rattle.geos_explain.specs.Places.{Place}
-use Rattle.geos_explain.specs.declared.unset.Search.{Search}
-use Rattle.geos_explain.specs.declared.unset.Search.TheVariants.{At, Found, Ended}
+use Rattle.geos_explain.specs.Places.{Place, IsPlace, is_inside, first_of}
+use Rattle.geos_explain.specs.Since.{IsInside}
 
 -- the instruction takes from the counter
 abbrev pub takes : CounterUse → Instr → ℕ → Bool
@@ -29,51 +31,58 @@ gives _ i k = false
 unfoldable pub pays_at : Parts → ℕ → ℕ → Bool
 pays_at image k pc = elim (slice_get image.points pc) [ None ↦ false | Some point ↦ not (slice_index point.potential.coefficients k == 0) ]
 
--- from an instruction that neither takes from the counter nor sets it, on to where it still pays: the next instruction first
-abbrev pub next_search : Parts → ℕ → ℕ → Instr → Search
-next_search image k pc i =
-    if falls_through i.opcode && nat_lt pc 4096 && pays_at image k (pc + 1) then At (pc + 1)
-    else if branches i.opcode && pays_at image k i.target then At i.target
-    else Ended
+-- an instruction neither takes from the counter nor sets it
+abbrev pub leaves_alone : Instr → ℕ → Bool
+leaves_alone i k = not (takes (facts i.opcode).counter i k) && not (gives (facts i.opcode).counter i k)
 
--- one step on from an instruction: it takes from the counter, or sets it, or the way goes on
-abbrev pub search_from : Parts → ℕ → ℕ → Instr → Search
-search_from image k pc i =
-    if takes (facts i.opcode).counter i k then Found pc
-    else if gives (facts i.opcode).counter i k then Ended
-    else next_search image k pc i
+-- an edge is one of the place's routine, its instruction leaves the counter alone, and behind it the counter still pays
+unfoldable pub stays_unset : Place → ℕ → Edge → ℕ → Bool
+stays_unset place k edge end = elim (slice_get place.image.points edge.from) [
+  | None ↦ false
+  | Some point ↦ is_inside place edge.from && leaves_alone point.instr k && pays_at place.image k end
+]
 
--- the same of the instruction at a pc
-unfoldable pub search_at : Parts → ℕ → ℕ → Search
-search_at image k pc = elim (slice_get image.points pc) [ None ↦ Ended | Some point ↦ search_from image k pc point.instr ]
+-- where ways along such edges lead from the place
+abbrev pub unset_from : Place → ℕ → List Bool
+unset_from place k = followed place.image Ahead (stays_unset place k) (marked no_marks place.pc)
 
--- one step on, unless the search has ended
-abbrev pub search_on : Parts → ℕ → Search → Search
-search_on image k (At pc) = search_at image k pc
-search_on image k search = search
+-- the instruction at a pc that is marked takes from the counter
+unfoldable pub takes_at : Place → ℕ → List Bool → ℕ → Bool
+takes_at place k marks from = elim (slice_get place.image.points from) [
+  | None ↦ false
+  | Some point ↦ is_marked marks from && takes (facts point.instr.opcode).counter point.instr k
+]
 
--- so many steps on from a pc
-unfoldable pub searched : Parts → ℕ → ℕ → ℕ → Search
-searched image k pc zero = At pc
-searched image k pc (suc n) = search_on image k (searched image k pc n)
+-- the first instruction of the routine that takes from the counter, to which such a way leads
+abbrev pub unset_loop : Place → ℕ → Option ℕ
+unset_loop place k = first_of place (takes_at place k (unset_from place k)) place.routine.count
 
 -- the counter is not set on the way to an instruction that takes from it, where there is such an instruction
-abbrev pub found_text : List ℕ → ℕ → Search → List ℕ
-found_text lines k (Found pc) =
+abbrev pub found_text : List ℕ → ℕ → Option ℕ → List ℕ
+found_text lines k None = []
+found_text lines k (Some pc) =
     concat (codes "; k" ∷ decimal k ∷ codes " is not set on the way to LOOP at" ∷ pc_text lines pc ∷ codes ": set it first by SETK or SETKW" ∷ [])
-found_text lines k _ = []
 
 -- the same of a counter that still pays at a place
 unfoldable pub unset_item : Place → ℕ → List ℕ
-unset_item place k =
-    if pays_at place.image k place.pc
-    then found_text place.lines k (searched place.image k place.pc (length place.image.points))
-    else []
+unset_item place k = if pays_at place.image k place.pc then found_text place.lines k (unset_loop place k) else []
 
 -- the same of each counter
 abbrev pub unset_items : Place → List ℕ
 unset_items place = texts_below 4 (λ k. unset_item place k)
 
--- a potential is above the budget, which budget serves, and which counters are never set
-unfoldable pub over_words : Place → List ℕ
-over_words place = budget_words place.routine place.potential ++ budget_wish place.potential ++ unset_items place
+-- What is said, as a relation on ways
+
+-- a way leads from the place to an instruction of its routine that takes from the counter, on which no instruction sets the
+-- counter or takes from it, and on which the counter pays all along
+pub record IsTakenUnset (place : Place) (k from : ℕ) : Type 0 where
+  pub inside : IsInside place from
+  pub point : Point
+  pub there : slice_get place.image.points from ≡ Some point
+  pub does : takes (facts point.instr.opcode).counter point.instr k ≡ true
+  pub edges : List Edge
+  pub lead : Lead (step_by place.image Ahead (stays_unset place k)) place.pc edges from
+
+-- an instruction that is named takes from a counter that nothing sets on a way there
+abbrev pub WhatIsSaidOfCountersHolds : Type 0
+WhatIsSaidOfCountersHolds = (place : Place) (k from : ℕ) → IsPlace place → unset_loop place k ≡ Some from → IsTakenUnset place k from

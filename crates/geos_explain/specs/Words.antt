@@ -16,7 +16,8 @@ use Rattle.geos_verify.specs.Rows.{has_edge, after, is_empty, marked_state, slot
 use Rattle.geos_verify.specs.Rules.{has_place}
 use Rattle.geos_verify.specs.RuleText.{rule_number}
 use Rattle.geos_explain.specs.Places.{Place}
-use Rattle.geos_explain.specs.Unset.{over_words}
+use Rattle.geos_explain.specs.Budgets.{over_words}
+use Rattle.geos_explain.specs.Led.{is_reached}
 use Rattle.geos_explain.specs.Lacks.{lacking, lacking_items}
 use Rattle.geos_explain.specs.Numbers.{is_or_are, are_text, label_text, pc_text}
 use Rattle.geos_explain.specs.Held.{exit_words}
@@ -91,6 +92,14 @@ edge_words place =
     then branching_words place
     else wanted_words (wanted_behind place false (place.pc + 1)) (codes " wanted at") (pc_text place.lines (place.pc + 1))
 
+-- where nothing leads to the instruction, it is to be taken out
+abbrev pub dead_wish : Place → List ℕ
+dead_wish place = if is_reached place.image place.pc then [] else codes "; nothing leads here: take it out"
+
+-- a row does not fit that at the end of an edge, and what helps
+unfoldable pub edge_here : Place → List ℕ
+edge_here place = edge_words place ++ dead_wish place
+
 -- why what is wanted is not known: an instruction moves the index going round, or a call forgets it
 unfoldable pub why_past : Place → Item → List ℕ
 why_past place item = moved_text place item ++ forgotten_text place item
@@ -150,7 +159,7 @@ words place WrongSlot = slot_here place
 words place CommitsHeld = written_words place
 words place CallMisfit = call_here place ++ call_wish place
 words place ExitMisfit = exit_here place
-words place EdgeMisfit = edge_words place
+words place EdgeMisfit = edge_here place
 words place EdgeUnpaid = unpaid_words place
 words place OverBudget = over_words place
 

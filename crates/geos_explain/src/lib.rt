@@ -5,6 +5,7 @@
 #![tactic(auto)]
 
 mod arrivals;
+mod budgets;
 mod calls;
 mod edges;
 mod explained;
@@ -35,6 +36,7 @@ mod ways;
 mod words;
 mod written;
 
+pub use budgets::what_is_said_of_budgets_holds;
 pub use explanation::explain;
 pub use forgotten::what_is_said_of_calls_holds;
 pub use lacks::rows_that_fit_lack_nothing;
@@ -47,3 +49,4 @@ pub use refusals::told_where_refused;
 pub use since::what_is_said_of_a_held_slot_holds;
 pub use texts::explain_text;
 pub use trace::what_is_said_of_a_pointer_holds;
+pub use unset::what_is_said_of_counters_holds;

@@ -75,16 +75,17 @@ fn moving(place: &Place, item: Item, w: u8) -> Option<u16>
     if_round(place, item, last_moving(place, w, &marks))
 }
 
-/// The instruction moves the word going round.
+/// The instruction moves the word going round, and it is not known then to be at most so much.
 #[tactic(auto, unfolding(crate::specs::Moved::moved_words))]
 fn put_moved_words(
     out: &mut Vec<u8>,
     place: &Place,
     w: u8,
+    most: u16,
     from: u16,
     i: &Instr,
 ) -> Result<(), AllocError>
-    ensures { OnOk result (out.new.items ≡ out.old.items ++ moved_words (place_of place.now) w from i.now) }
+    ensures { OnOk result (out.new.items ≡ out.old.items ++ moved_words (place_of place.now) w most from i.now) }
 {
     put_parts(
         out,
@@ -94,7 +95,9 @@ fn put_moved_words(
             Part::Text(" at"),
             pc_part(place.lines, from),
             Part::Numbered(" moves w", w as u64),
-            Part::Text(" going round, and no bound is known of it then"),
+            Part::Numbered(" going round, and w", w as u64),
+            Part::Numbered("<=", most as u64),
+            Part::Text(" is not known then"),
         ],
     )
 }
@@ -109,12 +112,12 @@ pub(crate) fn put_moved_round(
     requires { IsPlace (place_of place.now) }
     ensures { OnOk result (out.new.items ≡ out.old.items ++ moved_text (place_of place.now) item) }
 {
-    let Item::Bound(w, _) = item else {
+    let Item::Bound(w, most) = item else {
         return Ok(());
     };
     match moving(place, item, w) {
         Some(from) => match place.image.place(from) {
-            Some(point) => put_moved_words(out, place, w, from, &point.instr),
+            Some(point) => put_moved_words(out, place, w, most, from, &point.instr),
             None => Ok(()),
         },
         None => Ok(()),

@@ -1,7 +1,7 @@
 //! A routine of an image that is explained, and its places.
 
 ghost use Rattle.std.specs.Prelude.{◌≡◌, ◌<◌, length, slice_get, IfSome};
-ghost use Rattle.geos_explain.specs.Places.{HasRoutine, IsPlace, agrees, comes_alike, explained_of, is_inside, place_at, place_of};
+ghost use Rattle.geos_explain.specs.Places.{HasRoutine, IsPlace, agrees, comes_alike, explained_of, first_or, is_inside, place_at, place_of};
 ghost use Rattle.geos_verify.specs.Places.{places};
 
 use crate::explained::Explained;
@@ -69,4 +69,15 @@ pub(crate) fn is_inside(place: &Place, pc: u16) -> bool
         place.routine,
         u32::from(pc),
     )
+}
+
+/// The pc that was found before, or else this one where something is so.
+pub(crate) fn first_or(first: Option<u16>, pc: u16, here: bool) -> Option<u16>
+    ensures { result ≡ first_or first pc here }
+{
+    match first {
+        Some(_) => first,
+        None if here => Some(pc),
+        None => None,
+    }
 }

@@ -1,29 +1,19 @@
 //! Which counters are still to pay at a routine's beginning, and which LOOP takes from them though nothing sets them.
 
 ghost use Rattle.std.specs.Prelude.{◌≡◌, ◌<◌, ◌++◌, OnOk, length};
-ghost use Rattle.geos_explain.specs.Places.{place_of};
-ghost use Rattle.geos_explain.specs.Unset.{takes, gives, pays_at, next_search, search_on, searched, unset_item, unset_items, over_words};
+ghost use Rattle.geos_explain.specs.Places.{IsPlace, place_of, first_of};
+ghost use Rattle.geos_explain.specs.Unset.{takes, gives, pays_at, leaves_alone, unset_from, takes_at, unset_loop};
+ghost use Rattle.geos_explain.specs.Unset.{unset_item, unset_items, WhatIsSaidOfCountersHolds};
 
 use crate::filled::Filled;
-use crate::notes::{put_budget, put_budget_wish};
 use crate::numbers::pc_part;
 use crate::place::Place;
+use crate::routines::{first_or, is_inside};
+use geos_flow::{Counting, Edge, Heading, Marks, follow, is_marked, mark, no_marks};
 use geos_image::Instr;
 use geos_opcodes::CounterUse;
 use geos_text::{Part, put_parts};
-use geos_verify::{branches, falls_through};
 use std::alloc::AllocError;
-
-/// How far a way was followed on which a counter still pays.
-#[derive(Clone, Copy)]
-pub(crate) enum Search {
-    /// To this pc.
-    At(u16),
-    /// To an instruction that takes from the counter.
-    Found(u16),
-    /// To where it is set, or pays no more.
-    Ended,
-}
 
 /// Whether the instruction takes from the counter.
 fn takes(counter: CounterUse, i: &Instr, k: u8) -> bool
@@ -57,69 +47,99 @@ fn pays_at(image: &Filled, k: u8, pc: u16) -> bool
     }
 }
 
-/// From an instruction that neither takes from the counter nor sets it, on to where it still pays: the next instruction
-/// first.
-fn next_search(image: &Filled, k: u8, pc: u16, i: &Instr) -> Search
-    requires { k < 4 }
-    ensures { result ≡ next_search image.now k pc i.now }
+/// Whether the instruction neither takes from the counter nor sets it.
+fn leaves_alone(i: &Instr, k: u8) -> bool
+    ensures { result ≡ leaves_alone i.now k }
 {
-    if falls_through(i.opcode) && pc < 4096 && pays_at(image, k, pc + 1) {
-        Search::At(pc + 1)
-    } else if branches(i.opcode) && pays_at(image, k, i.target) {
-        Search::At(i.target)
-    } else {
-        Search::Ended
-    }
-}
-
-/// One step on, unless the search has ended: the instruction takes from the counter, or sets it, or the way goes on.
-#[tactic(auto, unfolding(crate::specs::Unset::search_at))]
-fn search_on(image: &Filled, k: u8, search: Search) -> Search
-    requires { k < 4 }
-    ensures { result ≡ search_on image.now k search }
-{
-    let Search::At(pc) = search else {
-        return search;
-    };
-    let Some(point) = image.point(pc) else {
-        return Search::Ended;
-    };
-    let i = &point.instr;
     let counter = i.opcode.facts().counter;
-    if takes(counter, i, k) {
-        Search::Found(pc)
-    } else if gives(counter, i, k) {
-        Search::Ended
-    } else {
-        next_search(image, k, pc, i)
+    !takes(counter, i, k) && !gives(counter, i, k)
+}
+
+/// The edges of the place's routine that leave a counter alone, and behind which it still pays.
+#[derive(Clone, Copy)]
+struct Unset<'a> {
+    place: &'a Place<'a>,
+    k: u8,
+    ghost within: { place.now.r < length place.now.image.now.routines },
+    ghost counter: { k < 4 },
+}
+
+impl<'a> Counting for Unset<'a> {
+    ghost use Rattle.geos_explain.specs.Places.{place_of};
+    ghost use Rattle.geos_explain.specs.Unset.{stays_unset};
+
+    ghost counted = { λ s edge end. stays_unset (place_of s.place.now) s.k edge end };
+
+    #[tactic(auto, unfolding(crate::specs::Unset::stays_unset))]
+    fn counts(&self, edge: Edge, end: u16) -> bool {
+        match self.place.image.point(edge.from) {
+            Some(point) => {
+                is_inside(self.place, edge.from)
+                    && leaves_alone(&point.instr, self.k)
+                    && pays_at(self.place.image, self.k, end)
+            }
+            None => false,
+        }
     }
 }
 
-/// As many steps on from a pc as there are instructions.
-#[tactic(auto, unfolding(crate::specs::Unset::searched))]
-fn searched(image: &Filled, k: u8, pc: u16) -> Search
-    requires { k < 4 }
-    ensures { result ≡ searched image.now k pc (length image.now.points) }
+/// The pcs to which a way leads from the place that leaves the counter alone, and on which it still pays.
+fn unset_from(place: &Place, k: u8) -> Marks
+    requires place { IsPlace (place_of place.now) }
+    requires counter { k < 4 }
+    ensures { result ≡ unset_from (place_of place.now) k }
 {
-    let mut search = Search::At(pc);
-    for n in 0..image.len() {
-        search = search_on(image, k, search);
+    let mut marks = no_marks();
+    mark(&mut marks, usize::from(place.pc));
+    let unset = Unset { place, k };
+    follow(place.image.graph(), Heading::Ahead, &unset, &mut marks);
+    marks
+}
+
+/// Whether the instruction at a pc that is marked takes from the counter.
+#[tactic(auto, unfolding(crate::specs::Unset::takes_at))]
+fn takes_at(place: &Place, k: u8, marks: &Marks, from: u16) -> bool
+    ensures { result ≡ takes_at (place_of place.now) k marks.now from }
+{
+    match place.image.point(from) {
+        Some(point) => {
+            is_marked(marks, usize::from(from))
+                && takes(point.instr.opcode.facts().counter, &point.instr, k)
+        }
+        None => false,
     }
-    search
+}
+
+/// The first instruction of the routine that takes from the counter, to which such a way leads.
+#[tactic(auto, unfolding(crate::specs::Places::first_of))]
+fn unset_loop(place: &Place, k: u8) -> Option<u16>
+    requires place { IsPlace (place_of place.now) }
+    requires counter { k < 4 }
+    ensures { result ≡ unset_loop (place_of place.now) k }
+{
+    let marks = unset_from(place, k);
+    let start = place.image.start(place.r);
+    let mut first = None;
+    for n in 0..place.routine.count {
+        let from = start + n;
+        first = first_or(first, from, takes_at(place, k, &marks, from));
+    }
+    first
 }
 
 /// A counter that still pays at a place is not set on the way to an instruction that takes from it, where there is such an
 /// instruction.
 #[tactic(auto, unfolding(crate::specs::Unset::unset_item))]
 fn put_unset_item(out: &mut Vec<u8>, place: &Place, k: u8) -> Result<(), AllocError>
-    requires { k < 4 }
+    requires place { IsPlace (place_of place.now) }
+    requires counter { k < 4 }
     ensures { OnOk result (out.new.items ≡ out.old.items ++ unset_item (place_of place.now) k) }
 {
     if !pays_at(place.image, k, place.pc) {
         return Ok(());
     }
-    match searched(place.image, k, place.pc) {
-        Search::Found(pc) => put_parts(
+    match unset_loop(place, k) {
+        Some(pc) => put_parts(
             out,
             &[
                 Part::Numbered("; k", k as u64),
@@ -128,13 +148,14 @@ fn put_unset_item(out: &mut Vec<u8>, place: &Place, k: u8) -> Result<(), AllocEr
                 Part::Text(": set it first by SETK or SETKW"),
             ],
         ),
-        _ => Ok(()),
+        None => Ok(()),
     }
 }
 
 /// The same of each counter.
 #[tactic(auto, unfolding(geos_listing::specs::Rows::texts_below))]
-fn put_unset_items(out: &mut Vec<u8>, place: &Place) -> Result<(), AllocError>
+pub(crate) fn put_unset_items(out: &mut Vec<u8>, place: &Place) -> Result<(), AllocError>
+    requires { IsPlace (place_of place.now) }
     ensures { OnOk result (out.new.items ≡ out.old.items ++ unset_items (place_of place.now)) }
 {
     for k in 0..4 {
@@ -143,12 +164,8 @@ fn put_unset_items(out: &mut Vec<u8>, place: &Place) -> Result<(), AllocError>
     Ok(())
 }
 
-/// The potential is above the budget, and which counters are never set.
-#[tactic(auto, unfolding(crate::specs::Unset::over_words))]
-pub(crate) fn put_over(out: &mut Vec<u8>, place: &Place) -> Result<(), AllocError>
-    ensures { OnOk result (out.new.items ≡ out.old.items ++ over_words (place_of place.now)) }
-{
-    put_budget(out, place.routine, place.potential)?;
-    put_budget_wish(out, place.potential)?;
-    put_unset_items(out, place)
-}
+/// A law: an instruction that is named takes from the counter, and a way leads to it from the place on which no instruction
+/// sets the counter or takes from it, and on which the counter pays all along.
+pub fn what_is_said_of_counters_holds()
+    ensures { WhatIsSaidOfCountersHolds }
+{}

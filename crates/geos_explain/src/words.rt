@@ -4,16 +4,18 @@ ghost use Rattle.std.specs.Prelude.{◌≡◌, ◌≤◌, ◌+◌, ◌++◌, dro
 ghost use Rattle.geos_text.specs.Parts.{part_text};
 ghost use Rattle.geos_explain.specs.Places.{IsPlace, place_of};
 ghost use Rattle.geos_explain.specs.Words.{leaves_words, entry_words, call_here, wanted_behind};
-ghost use Rattle.geos_explain.specs.Words.{wanted_behind_items, branching_words, edge_words, why_past, past_here};
+ghost use Rattle.geos_explain.specs.Words.{wanted_behind_items, branching_words, edge_words, dead_wish, edge_here, why_past, past_here};
 ghost use Rattle.geos_explain.specs.Words.{mark_item, unmarked_here, slot_item, slot_here, call_wish, exit_here, words, refusal_head, refusal_line};
 ghost use Rattle.geos_opcodes.specs.Facts.{uses_of};
 ghost use Rattle.geos_verify.specs.RuleText.{rule_number};
 ghost use Rattle.geos_verify.specs.Rows.{marked_state};
 
+use crate::budgets::put_over;
 use crate::calls::{put_forgotten, put_forgotten_item, put_forgotten_items, put_lent_items};
 use crate::forgotten::Item;
 use crate::held::put_exit;
 use crate::lacks::{lacking, put_lacking};
+use crate::led::is_reached;
 use crate::moved::put_moved_round;
 use crate::numbers::{is_or_are, label_part, pc_part, put_are, written_from};
 use crate::past::{past_item, put_past_wish};
@@ -21,7 +23,6 @@ use crate::place::Place;
 use crate::public::put_public;
 use crate::stale::put_stale;
 use crate::steps::put_unpaid;
-use crate::unset::put_over;
 use crate::uses::{changed_slot, put_held, put_nowhere, put_past, put_slot, put_unmarked};
 use crate::written::put_written;
 use geos_image::{Instr, Opcode, Routine, Row, SlotState};
@@ -176,6 +177,27 @@ fn put_edge(out: &mut Vec<u8>, place: &Place) -> Result<(), AllocError>
     }
 }
 
+/// Where nothing leads to the instruction, it is to be taken out.
+fn put_dead_wish(out: &mut Vec<u8>, place: &Place) -> Result<(), AllocError>
+    ensures { OnOk result (out.new.items ≡ out.old.items ++ dead_wish (place_of place.now)) }
+{
+    if is_reached(place.image, place.marks, place.pc) {
+        Ok(())
+    } else {
+        out.extend_from_slice(b"; nothing leads here: take it out")
+    }
+}
+
+/// A row does not fit that at the end of an edge, and what helps.
+#[tactic(auto, unfolding(crate::specs::Words::edge_here))]
+fn put_edge_here(out: &mut Vec<u8>, place: &Place) -> Result<(), AllocError>
+    requires { IsPlace (place_of place.now) }
+    ensures { OnOk result (out.new.items ≡ out.old.items ++ edge_here (place_of place.now)) }
+{
+    put_edge(out, place)?;
+    put_dead_wish(out, place)
+}
+
 /// Why what is wanted is not known: an instruction moves the index going round, or a call forgets it.
 #[tactic(auto, unfolding(crate::specs::Words::why_past))]
 fn put_why_past(out: &mut Vec<u8>, place: &Place, item: Item) -> Result<(), AllocError>
@@ -308,7 +330,7 @@ fn put_words(out: &mut Vec<u8>, place: &Place, rule: Rule) -> Result<(), AllocEr
         Rule::CommitsHeld => put_written(out, place),
         Rule::CallMisfit => put_call_here(out, place),
         Rule::ExitMisfit => put_exit_here(out, place),
-        Rule::EdgeMisfit => put_edge(out, place),
+        Rule::EdgeMisfit => put_edge_here(out, place),
         Rule::EdgeUnpaid => put_unpaid(out, place),
         Rule::OverBudget => put_over(out, place),
     }

@@ -1,0 +1,3 @@
+routine a public budget 4
+        CALL a
+        RET
