@@ -2,6 +2,7 @@ mod Arriving
 mod Comes
 mod Fits
 mod Forgetting
+mod Found
 mod FoundWays
 mod Holding
 mod Losing
@@ -9,7 +10,5 @@ mod Noted
 mod Outside
 mod Places
 mod Reached
-mod Rounding
-mod Spending
 mod Told
 mod Untold
