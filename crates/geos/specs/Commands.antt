@@ -7,8 +7,8 @@ use Rattle.geos_image.specs.Reading.{image_at}
 use Rattle.geos_verify.specs.declared.rule.Reject.{Reject}
 use Rattle.geos_verify.specs.declared.rule.Rule.{Rule}
 use Rattle.geos_listing.specs.Listing.{listing}
-use Rattle.geos_explain.specs.Explanation.{AreItsRefusals, explanation, IsVerdict}
-use Rattle.geos_explain.specs.Texts.{text_explanation}
+use Rattle.geos_explain.specs.Explanation.{AreItsRefusals, IsExplanationOf, IsVerdict}
+use Rattle.geos_explain.specs.Texts.{IsTextExplanationOf}
 use Rattle.geos_source.specs.InstrLines.{instr_lines}
 use Rattle.geos_causes.specs.Causes.{cause_text}
 use Rattle.geos_infer.specs.declared.cause.Cause.{Cause}
@@ -31,14 +31,14 @@ IsListed bytes text = (image : Parts) × (image_at bytes ≡ Ok image) × (text 
 -- the bytes spell an image, the refusal is its first, if there is one, and the text is its explanation with all refusals
 abbrev pub IsExplained : List ℕ → List ℕ → Option Reject → Type 0
 IsExplained bytes text reject =
-    (image : Parts) × (image_at bytes ≡ Ok image) × ((refused : List (Option Rule)) × AreItsRefusals image reject refused × (text ≡ explanation image refused))
+    (image : Parts) × (image_at bytes ≡ Ok image) × ((refused : List (Option Rule)) × AreItsRefusals image reject refused × IsExplanationOf image refused text)
 
 -- the text has an image, the refusal is its first, if there is one, and what is told is the text with what is known at
 -- each instruction, and with all refusals
 abbrev pub IsExplainedText : List ℕ → List ℕ → Option Reject → Type 0
 IsExplainedText text told reject =
     (image : Parts) × IsAssembled text image
-    × ((refused : List (Option Rule)) × AreItsRefusals image reject refused × (told ≡ text_explanation text (instr_lines text) image refused))
+    × ((refused : List (Option Rule)) × AreItsRefusals image reject refused × IsTextExplanationOf text (instr_lines text) image refused told)
 
 -- what is told is nothing, where no routine of the text begins at the line, or a cause that holds of one that does
 abbrev pub IsCauseTold : List ℕ → ℕ → List ℕ → Type 0

@@ -2,6 +2,7 @@ mod Arriving
 mod Comes
 mod Fits
 mod Forgetting
+mod Found
 mod FoundWays
 mod Holding
 mod Losing
@@ -9,8 +10,6 @@ mod Noted
 mod Outside
 mod Places
 mod Reached
-mod Rounding
 mod Serving
-mod Spending
 mod Told
 mod Untold

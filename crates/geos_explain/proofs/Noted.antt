@@ -179,9 +179,9 @@ routine-with explained r = by_routine (slice_get explained.image.routines r) ref
 
 pub explanation-listed : ExplanationIsListingWithNotes
 unfolding head_text
-explanation-listed image refused =
-    let explained : Explained = record { image = image; lines = []; refused = refused } in
-    let listed : IsListingWithNotes image (explanation image refused) = record {
+explanation-listed image refused findings =
+    let explained : Explained = record { image = image; lines = []; refused = refused; findings = findings } in
+    let listed : IsListingWithNotes image (explanation image refused findings) = record {
       note = note_at explained;
       notes = λ r pc within there. note_at-note explained r pc within there;
       whole = texts_below-same (length image.routines) (λ r. numbered_routine explained r)
@@ -242,6 +242,6 @@ lines-behind explained legal pc number (line ∷ texts) =
     (here ∷ rest.0, All-cons IsBehind here rest.0 (line-behind explained pc number legal) rest.1, omega (arith, rest.2), rw rest.3 refl)
 
 pub text-listed : ExplanationIsTextWithNotes
-text-listed text table image refused legal =
-    let told = lines-behind (record { image = image; lines = table; refused = refused }) legal 0 1 (lines text) in
+text-listed text table image refused findings legal =
+    let told = lines-behind (record { image = image; lines = table; refused = refused; findings = findings }) legal 0 1 (lines text) in
     record { behind = told.0; each = told.1; many = told.2; is = told.3 }

@@ -9,7 +9,7 @@ use Rattle.geos_verify.specs.declared.rule.Rule.{Rule}
 use Rattle.geos_explain.specs.Places.{Place}
 use Rattle.geos_explain.specs.Told.{is_told, rule_at, IsFirstUntold}
 use Rattle.geos_explain.specs.Words.{refusal_line}
-use Rattle.geos_explain.specs.Refusals.{more_line, told_text}
+use Rattle.geos_explain.specs.Refusals.{told_text}
 
 one-more : {X : Type 0} (p : X → Bool) (xs : List X) (n : ℕ) (d : X) → count_by p (take n xs) ≤ count_by p (take (n + 1) xs)
 one-more p xs n d = elim (cases_lt n (length xs)) [
@@ -60,11 +60,15 @@ module _ (refused : List (Option Rule)) (most untold pc : ℕ) (rule : Rule) (fi
       let more = count_by_more_yes is_told refused untold None (omega (arith, within)) there.1 in
       omega (arith, there.0, more, count-on refused (untold + 1) pc (omega arith))
 
+  -- from the first that is not told on so many are told before
+  pub past : untold ≤ pc → most ≤ count_by is_told (take pc refused)
+  past from = elim (cases_lt untold pc) [
+    | inl less ↦ omega (arith, above less)
+    | inr less ↦ let same : pc ≡ untold = omega arith in omega (arith, here same)
+  ]
+
 pub text-below : (most before all : ℕ) (place : Place) (rule : Rule) → before < most → told_text most before all place rule ≡ refusal_line place rule
 text-below most before all place rule less = rw (lt-ltb before most less) refl
-
-pub text-here : (most before all : ℕ) (place : Place) (rule : Rule) → before ≡ most → told_text most before all place rule ≡ more_line (all - most)
-text-here most before all place rule same = grind (arith, nat_tests)
 
 pub text-above : (most before all : ℕ) (place : Place) (rule : Rule) → most < before → told_text most before all place rule ≡ []
 text-above most before all place rule more = grind (arith, nat_tests)

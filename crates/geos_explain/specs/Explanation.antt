@@ -11,6 +11,8 @@ use Rattle.geos_verify.specs.declared.rule.Reject.{Reject}
 use Rattle.geos_verify.specs.declared.rule.Rule.{Rule}
 use Rattle.geos_verify.specs.Refused.{AreRefusals}
 use Rattle.geos_verify.specs.Rules.{Accepted, FirstRefusal}
+use Rattle.geos_explain.specs.declared.finding.Findings.{Findings}
+use Rattle.geos_explain.specs.Findings.{FindingsHold}
 use Rattle.geos_explain.specs.Places.{Place, Explained, place_at}
 use Rattle.geos_explain.specs.Notes.{note}
 use Rattle.geos_explain.specs.Refusals.{refusal_text, over_text}
@@ -42,9 +44,17 @@ abbrev pub numbered_routine : Explained → ℕ → List ℕ
 numbered_routine explained r =
     option_map_or (routine_text explained r (start_of explained.image.routines r)) (slice_get explained.image.routines r) []
 
--- the routines one after another, where for each pc the lowest rule is given that refuses there
-abbrev pub explanation : Parts → List (Option Rule) → List ℕ
-explanation image refused = texts_below (length image.routines) (λ r. numbered_routine (record { image = image; lines = []; refused = refused }) r)
+-- the routines one after another, where for each pc the lowest rule is given that refuses there, and what is found of pointers
+abbrev pub explanation : Parts → List (Option Rule) → List Findings → List ℕ
+explanation image refused findings =
+    texts_below (length image.routines)
+    (λ r. numbered_routine (record { image = image; lines = []; refused = refused; findings = findings }) r)
+
+-- a text is an explanation of an image by the rules that refuse: what is found of pointers holds, and is told
+pub record IsExplanationOf (image : Parts) (refused : List (Option Rule)) (text : List ℕ) : Type 0 where
+  pub findings : List Findings
+  pub hold : FindingsHold image refused findings
+  pub is : text ≡ explanation image refused findings
 
 -- the refusal is the image's first, or there is none
 abbrev pub IsVerdict : Parts → Option Reject → Type 0

@@ -8,11 +8,8 @@ pub mod Lacks
 pub mod Uses
 pub mod Past
 pub mod Ways
-pub mod Rounds
-pub mod Arrivals
-pub mod Trace
-pub mod Spent
 pub mod Lost
+pub mod Trace
 pub mod Since
 pub mod Held
 pub mod Stale
@@ -25,6 +22,7 @@ pub mod Budgets
 pub mod Written
 pub mod Words
 pub mod Told
+pub mod Findings
 pub mod Refusals
 pub mod Explanation
 pub mod Texts

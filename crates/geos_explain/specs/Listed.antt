@@ -10,6 +10,7 @@ use Rattle.geos_listing.specs.Rows.{texts_below}
 use Rattle.geos_listing.specs.Instrs.{label_line, instr_code}
 use Rattle.geos_listing.specs.Listing.{listing}
 use Rattle.geos_verify.specs.declared.rule.Rule.{Rule}
+use Rattle.geos_explain.specs.declared.finding.Findings.{Findings}
 use Rattle.geos_explain.specs.Explanation.{head_text, explanation}
 use Rattle.geos_explain.specs.Texts.{numbered, text_explanation}
 
@@ -50,7 +51,8 @@ pub record IsListingWithNotes (image : Parts) (text : List ℕ) : Type 0 where
 -- the explanation of an image is its listing with notes, and without them, where each line just ends, it is the listing
 abbrev pub ExplanationIsListingWithNotes : Type 0
 ExplanationIsListingWithNotes =
-    (image : Parts) (refused : List (Option Rule)) → IsListingWithNotes image (explanation image refused) × (listing_with (λ r pc. codes "\n") image ≡ listing image)
+    (image : Parts) (refused : List (Option Rule)) (findings : List Findings) → IsListingWithNotes image (explanation image refused findings)
+    × (listing_with (λ r pc. codes "\n") image ≡ listing image)
 
 -- lines from a number on, each behind its number, and behind each what stands there
 abbrev pub lines_with : List (List ℕ) → ℕ → List (List ℕ) → List ℕ
@@ -73,5 +75,5 @@ pub record IsTextWithNotes (text whole : List ℕ) : Type 0 where
 -- a note
 abbrev pub ExplanationIsTextWithNotes : Type 0
 ExplanationIsTextWithNotes =
-    (text table : List ℕ) (image : Parts) (refused : List (Option Rule)) → is_image image ≡ true
-    → IsTextWithNotes text (text_explanation text table image refused)
+    (text table : List ℕ) (image : Parts) (refused : List (Option Rule)) (findings : List Findings) → is_image image ≡ true
+    → IsTextWithNotes text (text_explanation text table image refused findings)

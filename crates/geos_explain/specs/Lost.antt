@@ -1,23 +1,24 @@
 -- What is said of a pointer that is not known: where it was lost, where ways meet, that it is not set, and that it comes into an
 -- empty slot.
-use Rattle.std.specs.Prelude.{◌≡◌, ◌⊎◌, ℕ, Bool, true, false, List, [], ◌∷◌, Option, Some, None, slice_get}
+use Rattle.std.specs.Prelude.{◌≡◌, ◌⊎◌, ℕ, Bool, true, false, if◌then◌else◌, nat_lt, List, [], ◌∷◌, Option, Some, None, IfSome, MatchOption, slice_get, slice_index_or}
 use Rattle.geos_verify.specs.declared.place.Place.{Place as KnownPlace}
 use Rattle.geos_verify.specs.Places.{places}
 use Rattle.geos_image.specs.declared.row.Pointer.{Pointer}
 use Rattle.geos_image.specs.Parts.{start_of}
 use Rattle.geos_verify.specs.Rows.{pointer_at, is_stale, after, has_edge}
 use Rattle.geos_flow.specs.declared.edge.Edge.{Edge}
+use Rattle.geos_explain.specs.declared.ways.Sought.{Sought}
 use Rattle.geos_explain.specs.declared.ways.Way.{Way}
 use Rattle.geos_explain.specs.declared.ways.Way.TheVariants.{Entry, Along}
-use Rattle.geos_explain.specs.declared.trace.End.TheVariants.{Unset, Nowhere}
-use Rattle.geos_explain.specs.declared.trace.Loss.{Loss}
-use Rattle.geos_explain.specs.declared.trace.Meeting.{Meeting}
-use Rattle.geos_explain.specs.declared.trace.Trace.{Trace}
+use Rattle.geos_explain.specs.declared.finding.End.{End}
+use Rattle.geos_explain.specs.declared.finding.End.TheVariants.{Unset, Unreached, Merged, Nowhere}
+use Rattle.geos_explain.specs.declared.finding.Finding.{Finding}
+use Rattle.geos_explain.specs.declared.finding.Loss.{Loss}
+use Rattle.geos_explain.specs.declared.finding.Meeting.{Meeting}
 use Rattle.geos_flow.specs.Edges.{end_of}
-use Rattle.geos_explain.specs.Places.{Place, comes_alike}
-use Rattle.geos_explain.specs.Ways.{is_as, entry_pointer, empty_slot, loses}
-use Rattle.geos_explain.specs.Arrivals.{behind}
-use Rattle.geos_explain.specs.Trace.{traced}
+use Rattle.geos_explain.specs.Led.{is_reached}
+use Rattle.geos_explain.specs.Places.{Place, agrees, comes_alike, is_inside}
+use Rattle.geos_explain.specs.Ways.{is_as, entry_pointer, empty_slot, behind, loses}
 
 -- control comes along an edge to a pc, as it comes to the place
 pub record ComesTo (place : Place) (edge : Edge) (to : ℕ) : Type 0 where
@@ -37,6 +38,10 @@ abbrev pub LacksAlong : Place → ℕ → ℕ → List Edge → Type 0
 LacksAlong place p pc [] = pc ≡ place.pc
 LacksAlong place p pc (edge ∷ edges) = (edge.from ≡ pc) × ((to : ℕ) × LacksBehind place p edge to × LacksAlong place p to edges)
 
+-- from a pc such edges lead to the place
+abbrev pub LacksFrom : Place → ℕ → ℕ → Type 0
+LacksFrom place p pc = (edges : List Edge) × LacksAlong place p pc edges
+
 -- edges, the last first, bring a pointer to a pc: from the caller, or from where a row knows it or an instruction sets it
 abbrev pub Brings : Place → ℕ → List Edge → ℕ → Pointer → Type 0
 Brings place p [] pc pointer = (pc ≡ start_of place.image.routines place.r) × (entry_pointer place.routine p ≡ Some pointer)
@@ -49,6 +54,14 @@ Brings place p (edge ∷ edges) pc pointer =
 abbrev pub IsHint : Place → ℕ → ℕ → Option Pointer → Type 0
 IsHint place p pc hint = (hint ≡ None) ⊎ ((pointer : Pointer) × (hint ≡ Some pointer) × ((edges : List Edge) × Brings place p edges pc pointer))
 
+-- what is said of a pointer at a pc
+abbrev pub arrival : List (Option Pointer) → ℕ → Option Pointer
+arrival arrivals pc = if nat_lt pc 4096 then slice_index_or arrivals pc None else None
+
+-- what is said of the pointer at each pc is known of it on some way
+abbrev pub AreHints : Place → ℕ → List (Option Pointer) → Type 0
+AreHints place p arrivals = (pc : ℕ) → IsHint place p pc (arrival arrivals pc)
+
 -- an edge loses the pointer, of which this is known on some way there, and from its end a way leads to the place that does not
 -- bring it
 pub record IsLost (place : Place) (p : ℕ) (loss : Loss) : Type 0 where
@@ -56,8 +69,7 @@ pub record IsLost (place : Place) (p : ℕ) (loss : Loss) : Type 0 where
   pub comes : ComesTo place loss.edge to
   pub known : IsHint place p loss.edge.from loss.hint
   pub loses : loses place.image (record { p = p; hint = loss.hint }) loss.edge comes.point ≡ true
-  pub edges : List Edge
-  pub way : LacksAlong place p to edges
+  pub way : LacksFrom place p to
 
 -- an edge leads to a pc, and behind it the row knows the pointer, or does not, as is said
 pub record LeadsBy (place : Place) (p : ℕ) (known : Bool) (edge : Edge) (to : ℕ) : Type 0 where
@@ -77,19 +89,39 @@ abbrev pub IsAlike : Place → Way → Type 0
 IsAlike place Entry = Unit {0}
 IsAlike place (Along edge) = comes_alike place edge.from ≡ true
 
+-- a way that is sought leads to a pc: it brings the pointer or does not, and control reaches where it comes from or does not
+abbrev pub IsSought : Place → Sought → ℕ → Way → Type 0
+IsSought place sought to Entry = IsWay place sought.p sought.known Entry to
+IsSought place sought to (Along edge) =
+    LeadsBy place sought.p sought.known edge to × (agrees sought.reached (is_reached place.image edge.from) ≡ true)
+
+-- a way brings the pointer to a pc, and control comes along it as it comes to the place
+abbrev pub IsBringing : Place → ℕ → ℕ → Way → Type 0
+IsBringing place p to way = IsWay place p true way to × IsAlike place way
+
+-- a way is the caller's, or comes from an instruction of the place's routine
+abbrev pub IsOwn : Place → Way → Type 0
+IsOwn place Entry = Unit {0}
+IsOwn place (Along edge) = is_inside place edge.from ≡ true
+
+-- of no such way something is so
+abbrev pub NoWay : Place → (Way → Type 0) → Type 0
+NoWay place is = (way : Way) → IsOwn place way → is way → ⊥
+
+-- of a way it is so, or of none
+abbrev pub FindsWay : Place → (Way → Type 0) → Option Way → Type 0
+FindsWay place is found = MatchOption found (NoWay place is) is
+
 -- ways meet from where the pointer can be lacking at the place: one that control takes brings it, and another does not
 pub record IsMeeting (place : Place) (p : ℕ) (m : Meeting) : Type 0 where
-  pub edges : List Edge
-  pub way : LacksAlong place p m.to edges
-  pub known : IsWay place p true m.known m.to
-  pub taken : IsAlike place m.known
+  pub way : LacksFrom place p m.to
+  pub known : IsBringing place p m.to m.known
   pub lost : IsWay place p false m.lost m.to
 
 -- the caller does not bring the pointer, and from the routine's beginning a way leads to the place that does not bring it
 pub record IsUnset (place : Place) (p : ℕ) : Type 0 where
   pub entry : is_stale (pointer_at place.routine.entry p) ≡ true
-  pub edges : List Edge
-  pub way : LacksAlong place p (start_of place.image.routines place.r) edges
+  pub way : LacksFrom place p (start_of place.image.routines place.r)
 
 -- an edge leads to a pc, and behind it the pointer leads into this slot, which is empty
 pub record LeadsNowhere (place : Place) (p slot : ℕ) (edge : Edge) (to : ℕ) : Type 0 where
@@ -108,17 +140,29 @@ BringsNowhere place p (Along edge) slot to = LeadsNowhere place p slot edge to
 pub record IsNowhere (place : Place) (p : ℕ) (way : Way) (slot : ℕ) : Type 0 where
   pub to : ℕ
   pub comes : BringsNowhere place p way slot to
-  pub edges : List Edge
-  pub lacks : LacksAlong place p to edges
+  pub lacks : LacksFrom place p to
 
--- what is said of a pointer holds: where an instruction is named that lost it, it did; where ways are named that meet, they do;
--- where it is said that it is not set, it is not; and where a way is named that brings it into an empty slot, it does
-pub record Holds (place : Place) (p : ℕ) (trace : Trace) : Type 0 where
-  pub lost : (loss : Loss) → trace.lost ≡ Some loss → IsLost place p loss
-  pub meeting : (m : Meeting) → trace.meeting ≡ Some m → IsMeeting place p m
-  pub unset : trace.end ≡ Some Unset → IsUnset place p
-  pub nowhere : (way : Way) (slot : ℕ) → trace.end ≡ Some (Nowhere way slot) → IsNowhere place p way slot
+-- control does not come to a pc as it comes to the place, or comes there along no way
+abbrev pub IsUnreached : Place → ℕ → ℕ → Type 0
+IsUnreached place p to = (comes_alike place to ≡ false) ⊎ NoWay place (λ way. IsAlike place way × ((known : Bool) × IsWay place p known way to))
 
--- what is said of a pointer holds, at each place
-abbrev pub WhatIsSaidHolds : Type 0
-WhatIsSaidHolds = (place : Place) (p : ℕ) → Holds place p (traced place p)
+-- a way brings the pointer to a pc, and none does not; from there a way leads to the place that does not bring it
+pub record IsMerged (place : Place) (p to : ℕ) : Type 0 where
+  pub known : Way
+  pub brings : IsBringing place p to known
+  pub all : NoWay place (λ way. IsWay place p false way to)
+  pub way : LacksFrom place p to
+
+-- why a pointer is not known, where no instruction lost it
+abbrev pub IsEnd : Place → ℕ → End → Type 0
+IsEnd place p Unset = IsUnset place p
+IsEnd place p (Unreached to) = IsUnreached place p to
+IsEnd place p (Merged to) = IsMerged place p to
+IsEnd place p (Nowhere way slot) = IsNowhere place p way slot
+
+-- what is found of a pointer holds: where an instruction is named that lost it, it did; where ways are named that meet, they do;
+-- and the reason that is named for why no instruction did is so
+pub record Holds (place : Place) (p : ℕ) (found : Finding) : Type 0 where
+  pub lost : IfSome found.lost (λ loss. IsLost place p loss)
+  pub meeting : IfSome found.meeting (λ m. IsMeeting place p m)
+  pub end : IfSome found.end (λ end. IsEnd place p end)

@@ -11,12 +11,13 @@ use Rattle.geos_listing.specs.Instrs.{KeepsLimits}
 use Rattle.geos_verify.specs.declared.place.Place.{Place as KnownPlace}
 use Rattle.geos_verify.specs.declared.rule.Rule.{Rule}
 use Rattle.geos_verify.specs.Rules.{has_place}
+use Rattle.geos_explain.specs.declared.finding.Findings.{Findings}
 use Rattle.geos_explain.specs.Led.{is_reached}
 use Rattle.geos_explain.specs.declared.place.Place as code
 use Rattle.geos_explain.specs.declared.explained.Explained as told
 
 -- the instruction at a pc of routine r, its row and its potential; and the line of each instruction in an author's text, or
--- nothing
+-- nothing, and what is found of the pointers that each uses, or nothing
 pub record Place : Type 0 where
   pub image : Parts
   pub lines : List ℕ
@@ -26,12 +27,15 @@ pub record Place : Type 0 where
   pub i : Instr
   pub row : Row
   pub potential : Potential
+  pub findings : List Findings
 
--- an image that is explained, with the line of each instruction in an author's text, or nothing, and for each pc the lowest rule that refuses there, if one does
+-- an image that is explained, with the line of each instruction in an author's text, or nothing, and for each pc the lowest rule
+-- that refuses there, if one does, and what is found of the pointers that the instruction uses
 pub record Explained : Type 0 where
   pub image : Parts
   pub lines : List ℕ
   pub refused : List (Option Rule)
+  pub findings : List Findings
 
 -- an instruction with what is known there, as a place that is explained
 abbrev pub place_at : Explained → ℕ → Routine → ℕ → KnownPlace → Place
@@ -44,11 +48,17 @@ place_at explained r routine pc known = record {
   i = known.instr;
   row = known.row;
   potential = known.potential;
+  findings = explained.findings;
 }
 
 -- what the code explains
 abbrev pub explained_of : told.Explained → Explained
-explained_of explained = record { image = explained.image.now; lines = explained.lines.now; refused = explained.refused.now }
+explained_of explained = record {
+  image = explained.image.now;
+  lines = explained.lines.now;
+  refused = explained.refused.now;
+  findings = explained.findings.now;
+}
 
 -- the place that the code has
 abbrev pub place_of : code.Place → Place
@@ -61,6 +71,7 @@ place_of place = record {
   i = place.i.now;
   row = place.row.now;
   potential = place.potential.now;
+  findings = place.findings.now;
 }
 
 -- something is so where it is wanted, and is not so where it is not

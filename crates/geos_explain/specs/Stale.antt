@@ -1,5 +1,5 @@
 -- Which pointers may be stale where they are used, and where and by what they became so.
-use Rattle.std.specs.Prelude.{ℕ, ◌==◌, Bool, false, ◌&&◌, if◌then◌else◌, List, [], ◌∷◌, ◌++◌, Option, Some, None, slice_get, codes, decimal}
+use Rattle.std.specs.Prelude.{ℕ, ◌==◌, Bool, false, ◌&&◌, if◌then◌else◌, List, [], ◌∷◌, ◌++◌, Option, Some, None, slice_get, slice_index_or, codes, decimal}
 use Rattle.std.specs.List.{concat}
 use Rattle.std.specs.Option.{option_map_or}
 use Rattle.geos_image.specs.declared.instr.Instr.{Instr}
@@ -22,12 +22,12 @@ use Rattle.geos_flow.specs.declared.edge.Edge.{Edge}
 use Rattle.geos_explain.specs.declared.ways.Followed.{Followed}
 use Rattle.geos_explain.specs.declared.ways.Way.{Way}
 use Rattle.geos_explain.specs.declared.ways.Way.TheVariants.{Entry, Along}
-use Rattle.geos_explain.specs.declared.trace.End.{End}
-use Rattle.geos_explain.specs.declared.trace.End.TheVariants.{Unset, Unreached, Merged, Nowhere}
-use Rattle.geos_explain.specs.declared.trace.Meeting.{Meeting}
-use Rattle.geos_explain.specs.declared.trace.Trace.{Trace}
+use Rattle.geos_explain.specs.declared.finding.End.{End}
+use Rattle.geos_explain.specs.declared.finding.End.TheVariants.{Unset, Unreached, Merged, Nowhere}
+use Rattle.geos_explain.specs.declared.finding.Finding.{Finding}
+use Rattle.geos_explain.specs.declared.finding.Findings.{Findings}
+use Rattle.geos_explain.specs.declared.finding.Meeting.{Meeting}
 use Rattle.geos_explain.specs.Ways.{with_hint, forgets, sets}
-use Rattle.geos_explain.specs.Trace.{traced}
 
 -- a pointer, where the row knows nothing of it
 abbrev pub if_stale : Row → ℕ → Option ℕ
@@ -181,20 +181,34 @@ end_words place p meeting (Some (Merged to)) = merged_words place p to
 end_words place p meeting (Some (Nowhere way slot)) = into_empty_words place p way slot
 
 -- by what a pointer was lost, or else why it is not known
-abbrev pub loss_words : Place → ℕ → Trace → List ℕ
-loss_words place p t = elim t.lost [ None ↦ end_words place p t.meeting t.end | Some loss ↦ lost_by place (record { p = p; hint = loss.hint }) loss.edge ]
+abbrev pub loss_words : Place → ℕ → Finding → List ℕ
+loss_words place p found = elim found.lost [
+  | None ↦ end_words place p found.meeting found.end
+  | Some loss ↦ lost_by place (record { p = p; hint = loss.hint }) loss.edge
+]
 
 -- where a pointer was lost, and by what
-unfoldable pub trace_words : Place → ℕ → Trace → List ℕ
-trace_words place p t = meeting_item place p t.meeting ++ loss_words place p t
+unfoldable pub finding_words : Place → ℕ → Finding → List ℕ
+finding_words place p found = meeting_item place p found.meeting ++ loss_words place p found
 
--- the same, if there is a pointer
-abbrev pub trace_item : Place → Option ℕ → List ℕ
-trace_item place None = []
-trace_item place (Some p) = trace_words place p (traced place p)
+-- the same, if there is a pointer, and something is found of it
+abbrev pub finding_item : Place → Option ℕ → Option Finding → List ℕ
+finding_item place None found = []
+finding_item place (Some p) None = []
+finding_item place (Some p) (Some found) = finding_words place p found
+
+-- nothing is found of the pointers that an instruction uses
+abbrev pub none_found : Findings
+none_found = record { first = None; second = None }
+
+-- what a table has for the instruction at a pc
+abbrev pub findings_at : List Findings → ℕ → Findings
+findings_at findings pc = slice_index_or findings pc none_found
 
 -- a pointer that is used may be stale, and where and by what it became so
 unfoldable pub stale_words : Place → List ℕ
 stale_words place =
     let stale = stale_used place.i (uses_of place.i.opcode).pointer place.row in
-    pointer_item stale.0 ++ pointer_item stale.1 ++ codes " may be stale here" ++ trace_item place stale.0 ++ trace_item place stale.1
+    let found = findings_at place.findings place.pc in
+    pointer_item stale.0 ++ pointer_item stale.1 ++ codes " may be stale here" ++ finding_item place stale.0 found.first
+    ++ finding_item place stale.1 found.second

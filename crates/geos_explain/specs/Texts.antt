@@ -1,11 +1,13 @@
 -- An author's text with what is known at each instruction, and what is wrong where a rule refuses.
-use Rattle.std.specs.Prelude.{ℕ, zero, suc, ◌+◌, Bool, false, ◌&&◌, nat_le, nat_lt, ◌==◌, if◌then◌else◌, List, [], ◌∷◌, ◌++◌, Option, Some, None, length, slice_get, codes, decimal}
+use Rattle.std.specs.Prelude.{◌≡◌, ℕ, zero, suc, ◌+◌, Bool, false, ◌&&◌, nat_le, nat_lt, ◌==◌, if◌then◌else◌, List, [], ◌∷◌, ◌++◌, Option, Some, None, length, slice_get, codes, decimal}
 use Rattle.std.specs.Option.{option_map_or}
 use Rattle.std.specs.Str.Lines.{lines}
 use Rattle.geos_image.specs.declared.routine.Routine.{Routine}
 use Rattle.geos_image.specs.Parts.{Parts, start_of}
 use Rattle.geos_verify.specs.Places.{places}
 use Rattle.geos_verify.specs.declared.rule.Rule.{Rule}
+use Rattle.geos_explain.specs.declared.finding.Findings.{Findings}
+use Rattle.geos_explain.specs.Findings.{FindingsHold}
 use Rattle.geos_explain.specs.Places.{Explained, place_at}
 use Rattle.geos_explain.specs.Explanation.{noted}
 
@@ -55,6 +57,13 @@ lines_text explained pc number (line ∷ rest) =
     line_text explained pc number line ++ lines_text explained (next_pc explained.lines pc number) (number + 1) rest
 
 -- a text with what is known at each instruction, whose lines the table has, where for each pc the lowest rule is given that
--- refuses there
-abbrev pub text_explanation : List ℕ → List ℕ → Parts → List (Option Rule) → List ℕ
-text_explanation text table image refused = lines_text (record { image = image; lines = table; refused = refused }) 0 1 (lines text)
+-- refuses there, and what is found of pointers
+abbrev pub text_explanation : List ℕ → List ℕ → Parts → List (Option Rule) → List Findings → List ℕ
+text_explanation text table image refused findings =
+    lines_text (record { image = image; lines = table; refused = refused; findings = findings }) 0 1 (lines text)
+
+-- a text is an explanation of another one, whose image this is: what is found of pointers holds, and is told
+pub record IsTextExplanationOf (text table : List ℕ) (image : Parts) (refused : List (Option Rule)) (explained : List ℕ) : Type 0 where
+  pub findings : List Findings
+  pub hold : FindingsHold image refused findings
+  pub is : explained ≡ text_explanation text table image refused findings

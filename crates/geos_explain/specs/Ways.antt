@@ -1,6 +1,5 @@
 -- Which ways lead to a pc, which of them bring a pointer, and which instructions lose one.
-use Rattle.std.specs.Prelude.{ℕ, Bool, true, false, ◌&&◌, ◌||◌, not, nat_lt, ◌==◌, if◌then◌else◌, List, Option, Some, None, length, slice_get, slice_set}
-use Rattle.std.specs.Option.{option_or}
+use Rattle.std.specs.Prelude.{ℕ, Bool, true, false, ◌&&◌, ◌||◌, not, nat_lt, ◌==◌, if◌then◌else◌, List, Option, Some, None, slice_get, slice_set}
 use Rattle.geos_opcodes.specs.declared.opcode.Opcode.{Opcode}
 use Rattle.geos_opcodes.specs.declared.opcode.Opcode.TheVariants.{Call}
 use Rattle.geos_opcodes.specs.declared.uses.PointerUse.{PointerUse}
@@ -13,14 +12,13 @@ use Rattle.geos_image.specs.declared.row.Row.{Row}
 use Rattle.geos_image.specs.declared.row.Pointer.{Pointer}
 use Rattle.geos_image.specs.declared.routine.Routine.{Routine}
 use Rattle.geos_image.specs.declared.row.SlotState.{SlotState}
-use Rattle.geos_image.specs.Parts.{Parts, start_of}
+use Rattle.geos_image.specs.Parts.{Parts}
 use Rattle.geos_verify.specs.Rows.{pointer_at, is_stale, after, has_edge, leads_nowhere}
 use Rattle.geos_flow.specs.declared.edge.Edge.{Edge}
 use Rattle.geos_explain.specs.declared.ways.Way.{Way}
 use Rattle.geos_explain.specs.declared.ways.Way.TheVariants.{Entry, Along}
 use Rattle.geos_explain.specs.declared.ways.Sought.{Sought}
 use Rattle.geos_explain.specs.declared.ways.Followed.{Followed}
-use Rattle.geos_flow.specs.Graphs.{first_into}
 use Rattle.geos_explain.specs.Led.{is_reached}
 use Rattle.geos_explain.specs.Places.{Place, agrees, is_inside}
 
@@ -70,46 +68,19 @@ is_sought place sought edge = elim (slice_get (places place.image) edge.from) [
   | Some point ↦ is_inside place edge.from && is_as_sought place sought edge point
 ]
 
--- the way along an edge, if there is one
-abbrev pub way_along : Option Edge → Option Way
-way_along None = None
-way_along (Some edge) = Some (Along edge)
-
--- the way from the caller, where the pc is the routine's first, and the caller brings the pointer, or does not
-abbrev pub entry_way : Place → Sought → ℕ → Option Way
-entry_way place sought to =
-    if to == start_of place.image.routines place.r && is_as sought.known (entry_pointer place.routine sought.p)
-    then Some Entry
-    else None
-
--- the first way to a pc that is sought
-unfoldable pub way_to : Place → Sought → ℕ → Option Way
-way_to place sought to =
-    option_or (entry_way place sought to)
-    (way_along (first_into place.image (λ edge end. is_sought place sought edge) to (length place.image.points)))
-
--- which ways are sought of a pointer, from where control comes as it comes to the place: those that bring it, or those that do not
-abbrev pub sought_of : Place → ℕ → Bool → Sought
-sought_of place p known = record { p = p; known = known; reached = is_reached place.image place.pc }
-
--- the same from where control does not come so
-abbrev pub elsewhere : Sought → Sought
-elsewhere sought = record sought { reached = not sought.reached }
-
--- the first way to a pc that brings a pointer
-unfoldable pub bringing : Place → ℕ → ℕ → Option Way
-bringing place p to = way_to place (sought_of place p true) to
-
--- the first way to a pc that does not; where there is none, the first from where control never is
-unfoldable pub losing : Place → ℕ → ℕ → Option Way
-losing place p to = option_or (way_to place (sought_of place p false) to) (way_to place (elsewhere (sought_of place p false)) to)
-
 -- a row; where it knows nothing of the pointer, with what is known of it on some way
 abbrev pub with_hint : Row → Followed → Row
 with_hint row followed =
     if nat_lt followed.p 4 && is_stale (pointer_at row followed.p)
     then record row { pointers = slice_set row.pointers followed.p followed.hint }
     else row
+
+-- what is known of a pointer behind an instruction, on an edge that it has
+abbrev pub behind : Parts → Followed → Edge → KnownPlace → Option Pointer
+behind image followed edge point =
+    if has_edge point.instr edge.branch
+    then pointer_at (after image edge.from (with_hint point.row followed) edge.branch) followed.p
+    else None
 
 -- the instruction sets a pointer
 abbrev pub sets : Instr → PointerUse → ℕ → Bool

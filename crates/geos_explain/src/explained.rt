@@ -5,6 +5,7 @@ ghost use Rattle.geos_explain.specs.Led.{reached};
 ghost use Rattle.geos_explain.specs.Told.{most_told, IsFirstUntold};
 
 use crate::filled::Filled;
+use crate::finding::Findings;
 use geos_flow::Marks;
 use geos_verify::Rule;
 
@@ -18,6 +19,8 @@ pub(crate) struct Explained<'a> {
     pub marks: &'a Marks,
     /// For each pc the lowest rule that refuses there, if one does.
     pub refused: &'a [Option<Rule>],
+    /// For each pc what is found of the pointers that the instruction uses; else nothing.
+    pub findings: &'a [Findings],
     /// The first pc whose refusal is not told, since so many before it are.
     pub untold: usize,
     ghost marked: { marks.now ≡ reached image.now },

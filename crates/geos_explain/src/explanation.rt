@@ -5,10 +5,11 @@ ghost use Rattle.geos_image.specs.Legal.{is_image};
 ghost use Rattle.geos_listing.specs.Rows.{texts_below};
 ghost use Rattle.geos_listing.specs.Instrs.{MarksTargets};
 ghost use Rattle.geos_explain.specs.Places.{IsPlace, explained_of, place_of};
-ghost use Rattle.geos_explain.specs.Explanation.{noted, place_text, head_text, numbered_routine, explanation};
+ghost use Rattle.geos_explain.specs.Explanation.{noted, place_text, head_text, numbered_routine, IsExplanationOf};
 
 use crate::explained::Explained;
 use crate::filled::Filled;
+use crate::findings::all_found;
 use crate::led::reached;
 use crate::notes::put_note;
 use crate::place::Place;
@@ -107,31 +108,55 @@ fn put_routine(
     put_places(out, targets, &within, start)
 }
 
+/// The same of all routines.
+#[tactic(auto, unfolding(geos_listing::specs::Rows::texts_below))]
+fn all_routines(
+    alloc: Global,
+    targets: &Targets,
+    explained: &Explained,
+) -> Result<Vec<u8>, AllocError>
+    requires { MarksTargets explained.now.image.now.points targets.now }
+    ensures { IfOk result (λ text. text.items
+        ≡ texts_below (length explained.now.image.now.routines) (λ r. numbered_routine (explained_of explained.now) r)) }
+{
+    let mut out = Vec::new(alloc);
+    for r in 0..explained.image.count() {
+        put_routine(&mut out, targets, explained, r)?;
+    }
+    Ok(out)
+}
+
 /// The listing of the image, behind each instruction what is known there, and a line for its refusal in front of the next
 /// instruction; behind the last of a routine one for that by the rule on the budget. `refused` has for each pc the lowest
 /// rule that refuses there, or nothing where none does. At most it takes time in proportion to the square of the number of
 /// instructions, some 30,000 times divided by that number.
-#[tactic(auto, unfolding(geos_listing::specs::Rows::texts_below))]
 pub fn explain(
     alloc: Global,
     image: &Image,
     refused: &[Option<Rule>],
 ) -> Result<Vec<u8>, AllocError>
-    ensures { IfOk result (λ text. text.items ≡ explanation image.now refused.now) }
+    ensures { IfOk result (λ text. IsExplanationOf image.now refused.now text.items) }
 {
-    let targets = targets_of(image);
     let filled = Filled::of(alloc, image)?;
     let marks = reached(&filled);
+    let untold = first_untold(refused, most_told(filled.len()));
+    let bare = Explained {
+        image: &filled,
+        lines: &[],
+        marks: &marks,
+        refused,
+        findings: &[],
+        untold,
+    };
+    let findings = all_found(alloc, &bare)?;
     let explained = Explained {
         image: &filled,
         lines: &[],
         marks: &marks,
         refused,
-        untold: first_untold(refused, most_told(filled.len())),
+        findings: findings.as_slice(),
+        untold,
     };
-    let mut out = Vec::new(alloc);
-    for r in 0..image.count() {
-        put_routine(&mut out, &targets, &explained, r)?;
-    }
+    let out = all_routines(alloc, &targets_of(image), &explained)?;
     Ok(out)
 }

@@ -1,8 +1,8 @@
 //! The first way to an instruction that brings a pointer, and the first that does not.
 
-ghost use Rattle.std.specs.Prelude.{◌≡◌, ◌<◌, length};
+ghost use Rattle.std.specs.Prelude.{◌≡◌, ◌<◌, false, length};
 ghost use Rattle.geos_explain.specs.Places.{IsPlace, place_of};
-ghost use Rattle.geos_explain.specs.Ways.{sought_of, elsewhere, way_to, bringing, losing};
+ghost use Rattle.geos_explain.specs.Lost.{FindsWay, IsBringing, IsSought, IsWay};
 
 use crate::led::is_reached;
 use crate::place::Place;
@@ -36,34 +36,12 @@ impl<'a> Counting for Seeking<'a> {
     }
 }
 
-/// Which ways are sought of a pointer that is followed back: those that bring it, or those that do not.
-fn sought_of(place: &Place, p: u8, known: bool) -> Sought
-    ensures { result ≡ sought_of (place_of place.now) p known }
-{
-    Sought {
-        p,
-        known,
-        reached: is_reached(place.image, place.marks, place.pc),
-    }
-}
-
-/// The same from where control does not come as it comes to the place.
-fn elsewhere(sought: Sought) -> Sought
-    ensures { result ≡ elsewhere sought }
-{
-    Sought {
-        reached: !sought.reached,
-        ..sought
-    }
-}
-
 /// The first way that is sought: from the caller, where the pc is the routine's first, and the caller brings the pointer as is
 /// asked, or else from an instruction of the routine.
-#[tactic(auto, unfolding(crate::specs::Ways::way_to))]
 fn way_to(place: &Place, sought: Sought, to: u16) -> Option<Way>
     requires place { IsPlace (place_of place.now) }
-    requires there { to < 4096 }
-    ensures { result ≡ way_to (place_of place.now) sought to }
+    requires there { to < length place.now.image.now.points }
+    ensures { FindsWay (place_of place.now) (λ way. IsSought (place_of place.now) sought to way) result }
 {
     if to == place.image.start(place.r)
         && is_as(sought.known, entry_pointer(place.routine, sought.p))
@@ -80,26 +58,39 @@ fn way_to(place: &Place, sought: Sought, to: u16) -> Option<Way>
     }
 }
 
-/// The first way to a pc that brings the pointer.
-#[tactic(auto, unfolding(crate::specs::Ways::bringing))]
+/// The first way to a pc that brings the pointer, from where control comes as it comes to the place.
 pub(crate) fn bringing(place: &Place, p: u8, to: u16) -> Option<Way>
     requires place { IsPlace (place_of place.now) }
-    requires there { to < 4096 }
-    ensures { result ≡ bringing (place_of place.now) p to }
+    requires there { to < length place.now.image.now.points }
+    ensures { FindsWay (place_of place.now) (λ way. IsBringing (place_of place.now) p to way) result }
 {
-    way_to(place, sought_of(place, p, true), to)
+    let sought = Sought {
+        p,
+        known: true,
+        reached: is_reached(place.image, place.marks, place.pc),
+    };
+    way_to(place, sought, to)
 }
 
-/// The first way to a pc that does not; where there is none, the first from where control never is.
-#[tactic(auto, unfolding(crate::specs::Ways::losing))]
+/// The first way to a pc that does not; where there is none, the first from where control does not come so.
 pub(crate) fn losing(place: &Place, p: u8, to: u16) -> Option<Way>
     requires place { IsPlace (place_of place.now) }
-    requires there { to < 4096 }
-    ensures { result ≡ losing (place_of place.now) p to }
+    requires there { to < length place.now.image.now.points }
+    ensures { FindsWay (place_of place.now) (λ way. IsWay (place_of place.now) p false way to) result }
 {
-    let sought = sought_of(place, p, false);
+    let sought = Sought {
+        p,
+        known: false,
+        reached: is_reached(place.image, place.marks, place.pc),
+    };
     match way_to(place, sought, to) {
         Some(way) => Some(way),
-        None => way_to(place, elsewhere(sought), to),
+        None => {
+            let elsewhere = Sought {
+                reached: !sought.reached,
+                ..sought
+            };
+            way_to(place, elsewhere, to)
+        }
     }
 }

@@ -4,6 +4,7 @@ ghost use Rattle.std.specs.Prelude.{◌≡◌};
 ghost use Rattle.geos_explain.specs.Led.{reached};
 
 use crate::filled::Filled;
+use crate::finding::Findings;
 use geos_flow::Marks;
 use geos_image::{Instr, Potential, Routine, Row};
 
@@ -19,6 +20,8 @@ pub(crate) struct Place<'a> {
     pub i: &'a Instr,
     pub row: &'a Row,
     pub potential: &'a Potential,
+    /// What is found of the pointers that each instruction uses; else nothing.
+    pub findings: &'a [Findings],
     /// What control reaches.
     pub marks: &'a Marks,
     ghost marked: { marks.now ≡ reached image.now },

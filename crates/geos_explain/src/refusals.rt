@@ -42,7 +42,7 @@ fn is_told(rule: &Option<Rule>) -> bool
 }
 
 /// The rule that is told at a pc.
-fn rule_at(refused: &[Option<Rule>], pc: u16) -> Option<Rule>
+pub(crate) fn rule_at(refused: &[Option<Rule>], pc: u16) -> Option<Rule>
     ensures { result ≡ rule_at refused.now pc }
 {
     match refused.get(usize::from(pc)) {

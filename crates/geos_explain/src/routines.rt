@@ -37,6 +37,7 @@ pub(crate) fn place_at<'a>(within: &ExplainedRoutine<'a>, pc: u16) -> Place<'a>
         i: image.instr(pc),
         row: image.row(pc),
         potential: image.potential(pc),
+        findings: within.explained.findings,
         marks: within.explained.marks,
     }
 }

@@ -4,12 +4,12 @@ ghost use Rattle.std.specs.Prelude.{◌≡◌, ◌++◌, OnOk};
 ghost use Rattle.geos_explain.specs.Places.{IsPlace, place_of};
 ghost use Rattle.geos_explain.specs.Stale.{if_stale, stale_used, pointer_item, refused_on, way_text, meeting_head, meeting_item, named};
 ghost use Rattle.geos_explain.specs.Stale.{name_at, call_loss, moved_words, use_loss, how_lost, lost_by, label_wish, refused_at, unset_words};
-ghost use Rattle.geos_explain.specs.Stale.{unreached_words, merged_words, into_empty_wish, into_empty_words, loss_words, trace_item, stale_words};
+ghost use Rattle.geos_explain.specs.Stale.{unreached_words, merged_words, into_empty_wish, into_empty_words, loss_words, finding_item, stale_words};
 
 use crate::filled::Filled;
+use crate::finding::{End, Finding, Meeting, findings_at};
 use crate::numbers::pc_part;
 use crate::place::Place;
-use crate::trace::{End, Meeting, Trace, traced};
 use crate::uses::slot_behind;
 use crate::ways::{Followed, Way, forgets, is_stale, sets, with_hint};
 use geos_flow::Edge;
@@ -31,7 +31,7 @@ fn if_stale(row: &Row, p: u8) -> Option<u8>
 }
 
 /// The pointers that the instruction uses, where the row knows nothing of them.
-fn stale_used(i: &Instr, pointer: PointerUse, row: &Row) -> (Option<u8>, Option<u8>)
+pub(crate) fn stale_used(i: &Instr, pointer: PointerUse, row: &Row) -> (Option<u8>, Option<u8>)
     ensures { result ≡ stale_used i.now pointer row.now }
 {
     match pointer {
@@ -399,14 +399,14 @@ fn put_into_empty(
 }
 
 /// By what the pointer was lost, or else why it is not known.
-fn put_loss(out: &mut Vec<u8>, place: &Place, p: u8, t: &Trace) -> Result<(), AllocError>
-    ensures { OnOk result (out.new.items ≡ out.old.items ++ loss_words (place_of place.now) p t.now) }
+fn put_loss(out: &mut Vec<u8>, place: &Place, p: u8, found: Finding) -> Result<(), AllocError>
+    ensures { OnOk result (out.new.items ≡ out.old.items ++ loss_words (place_of place.now) p found) }
 {
-    match t.lost {
+    match found.lost {
         Some(loss) => put_lost_by(out, place, Followed { p, hint: loss.hint }, loss.edge),
-        None => match t.end {
+        None => match found.end {
             None => out.extend_from_slice(b": fetch it again"),
-            Some(End::Unset) => put_unset(out, place, p, t.meeting),
+            Some(End::Unset) => put_unset(out, place, p, found.meeting),
             Some(End::Unreached(to)) => put_unreached(out, place, to),
             Some(End::Merged(to)) => put_merged(out, place, p, to),
             Some(End::Nowhere(way, slot)) => put_into_empty(out, place, p, way, slot),
@@ -414,17 +414,23 @@ fn put_loss(out: &mut Vec<u8>, place: &Place, p: u8, t: &Trace) -> Result<(), Al
     }
 }
 
-/// Where the pointer was lost, and by what, if there is a pointer.
-#[tactic(auto, unfolding(crate::specs::Stale::trace_words))]
-fn put_trace_item(out: &mut Vec<u8>, place: &Place, pointer: Option<u8>) -> Result<(), AllocError>
-    requires { IsPlace (place_of place.now) }
-    ensures { OnOk result (out.new.items ≡ out.old.items ++ trace_item (place_of place.now) pointer) }
+/// Where the pointer was lost, and by what, if there is a pointer, and something is found of it.
+#[tactic(auto, unfolding(crate::specs::Stale::finding_words))]
+fn put_finding_item(
+    out: &mut Vec<u8>,
+    place: &Place,
+    pointer: Option<u8>,
+    finding: Option<Finding>,
+) -> Result<(), AllocError>
+    ensures { OnOk result (out.new.items ≡ out.old.items ++ finding_item (place_of place.now) pointer finding) }
 {
-    match pointer {
-        Some(p) => {
-            let trace = traced(place, p);
-            put_meeting_item(out, place, p, trace.meeting)?;
-            put_loss(out, place, p, &trace)
+    let Some(p) = pointer else {
+        return Ok(());
+    };
+    match finding {
+        Some(found) => {
+            put_meeting_item(out, place, p, found.meeting)?;
+            put_loss(out, place, p, found)
         }
         None => Ok(()),
     }
@@ -437,9 +443,10 @@ pub(crate) fn put_stale(out: &mut Vec<u8>, place: &Place) -> Result<(), AllocErr
     ensures { OnOk result (out.new.items ≡ out.old.items ++ stale_words (place_of place.now)) }
 {
     let (first, second) = stale_used(place.i, uses_at(place.i).pointer, place.row);
+    let found = findings_at(place.findings, place.pc);
     put_pointer(out, first)?;
     put_pointer(out, second)?;
     out.extend_from_slice(b" may be stale here")?;
-    put_trace_item(out, place, first)?;
-    put_trace_item(out, place, second)
+    put_finding_item(out, place, first, found.first)?;
+    put_finding_item(out, place, second, found.second)
 }

@@ -1,12 +1,14 @@
 //! An author's text with what is known at each instruction.
 
 ghost use Rattle.std.specs.Prelude.{◌≡◌, ◌<◌, ◌++◌, OnOk, IfOk, length};
+ghost use Rattle.std.specs.Str.Lines.{lines};
 ghost use Rattle.geos_explain.specs.Places.{explained_of};
-ghost use Rattle.geos_explain.specs.Texts.{last_begun, noted_at, is_line_of, numbered, line_text, next_pc, text_explanation};
+ghost use Rattle.geos_explain.specs.Texts.{last_begun, noted_at, is_line_of, numbered, line_text, lines_text, next_pc, IsTextExplanationOf};
 
 use crate::explained::Explained;
 use crate::explanation::put_noted;
 use crate::filled::Filled;
+use crate::findings::all_found;
 use crate::led::reached;
 use crate::refusals::{first_untold, most_told};
 use crate::routines::{ExplainedRoutine, place_at};
@@ -116,6 +118,24 @@ fn next_pc(lines: &[usize], pc: u16, number: usize) -> u16
     }
 }
 
+/// All lines of a text.
+fn all_lines(alloc: Global, text: &[u8], explained: &Explained) -> Result<Vec<u8>, AllocError>
+    ensures { IfOk result (λ told. told.items ≡ lines_text (explained_of explained.now) 0 1 (lines text.now)) }
+{
+    let mut out = Vec::new(alloc);
+    let mut rest = text;
+    let mut number: usize = 0;
+    let mut pc: u16 = 0;
+    while !rest.is_empty() {
+        let (text, behind) = first_line(rest);
+        rest = behind;
+        number += 1;
+        put_line(&mut out, explained, pc, &Line { number, text })?;
+        pc = next_pc(explained.lines, pc, number);
+    }
+    Ok(out)
+}
+
 /// The author's text, each line behind its number, and behind each instruction what is known there and a line for its
 /// refusal, as `explain` has them. `lines` has the number of each instruction's line, as `geos_source::lines_of_instrs` gives
 /// them, and the image is one of the text. At most it takes time in proportion to the text, and to the square of the
@@ -127,27 +147,28 @@ pub fn explain_text(
     image: &Image,
     refused: &[Option<Rule>],
 ) -> Result<Vec<u8>, AllocError>
-    ensures { IfOk result (λ explained. explained.items ≡ text_explanation text.now lines.now image.now refused.now) }
+    ensures { IfOk result (λ explained. IsTextExplanationOf text.now lines.now image.now refused.now explained.items) }
 {
     let filled = Filled::of(alloc, image)?;
     let marks = reached(&filled);
+    let untold = first_untold(refused, most_told(filled.len()));
+    let bare = Explained {
+        image: &filled,
+        lines: &[],
+        marks: &marks,
+        refused,
+        findings: &[],
+        untold,
+    };
+    let findings = all_found(alloc, &bare)?;
     let explained = Explained {
         image: &filled,
         lines,
         marks: &marks,
         refused,
-        untold: first_untold(refused, most_told(filled.len())),
+        findings: findings.as_slice(),
+        untold,
     };
-    let mut out = Vec::new(alloc);
-    let mut rest = text;
-    let mut number: usize = 0;
-    let mut pc: u16 = 0;
-    while !rest.is_empty() {
-        let (text, behind) = first_line(rest);
-        rest = behind;
-        number += 1;
-        put_line(&mut out, &explained, pc, &Line { number, text })?;
-        pc = next_pc(lines, pc, number);
-    }
+    let out = all_lines(alloc, text, &explained)?;
     Ok(out)
 }

@@ -1,6 +1,5 @@
 -- The edges to each pc, each behind the next one.
-use Rattle.std.specs.Prelude.{◌≡◌, ◌<◌, ◌≤◌, ◌+◌, ℕ, zero, suc, Bool, ◌&&◌, ◌==◌, true, false, if◌then◌else◌, List, Option, Some, None, slice_index_or}
-use Rattle.std.specs.Option.{option_or}
+use Rattle.std.specs.Prelude.{◌≡◌, ◌<◌, ◌≤◌, ◌+◌, ℕ, Bool, true, List, Option, Some, None, slice_index_or}
 use Rattle.geos_image.specs.Parts.{Parts}
 use Rattle.geos_flow.specs.declared.edge.Edge.{Edge}
 use Rattle.geos_flow.specs.Edges.{end_in, number_of}
@@ -30,13 +29,16 @@ pub record AreInto (image : Parts) (limit : ℕ) (firsts behinds : List (Option 
   pub first : (to : ℕ) → to < 4096 → IsLast image limit to (slice_index_or firsts to None)
   pub behind : (edge : Edge) (to : ℕ) → number_of edge < limit → end_in image edge ≡ Some to → IsLast image (number_of edge) to (behind_of behinds edge)
 
--- an edge, if it leads to a pc and counts
-abbrev pub if_into : Parts → (Edge → ℕ → Bool) → ℕ → Edge → Option Edge
-if_into image counts to edge = elim (end_in image edge) [ None ↦ None | Some end ↦ if end == to && counts edge to then Some edge else None ]
+-- an edge leads to a pc and counts
+pub record IsInto (image : Parts) (counts : Edge → ℕ → Bool) (to : ℕ) (edge : Edge) : Type 0 where
+  pub ends : end_in image edge ≡ Some to
+  pub is_counted : counts edge to ≡ true
 
--- of the edges of the first n pcs, the first that does: of those of one pc that to the next instruction
-unfoldable pub first_into : Parts → (Edge → ℕ → Bool) → ℕ → ℕ → Option Edge
-first_into image counts to zero = None
-first_into image counts to (suc n) =
-    option_or (first_into image counts to n)
-    (option_or (if_into image counts to (record { from = n; branch = false })) (if_into image counts to (record { from = n; branch = true })))
+-- an edge stands there that comes no later than another
+abbrev pub Stands : Option Edge → Edge → Type 0
+Stands at edge = (first : Edge) × (at ≡ Some first) × (number_of first ≤ number_of edge)
+
+-- of the edges that lead to a pc and count it is the first, or there are none
+pub record IsFirstInto (image : Parts) (counts : Edge → ℕ → Bool) (to : ℕ) (at : Option Edge) : Type 0 where
+  pub into : (edge : Edge) → at ≡ Some edge → IsInto image counts to edge
+  pub first : (edge : Edge) → IsInto image counts to edge → Stands at edge

@@ -44,7 +44,7 @@ impl<'a> Graph<'a> {
     ghost use Rattle.std.specs.Prelude.{◌⊎◌, ℕ, Some, true};
     ghost use Rattle.geos_flow.specs.declared.edge.Edge.{Edge};
     ghost use Rattle.geos_flow.specs.Edges.{end_in};
-    ghost use Rattle.geos_flow.specs.Graphs.{IsLast, LeadsTo, first_into};
+    ghost use Rattle.geos_flow.specs.Graphs.{IsFirstInto, IsLast, LeadsTo};
     ghost use Rattle.geos_flow.specs.Marks.{is_marked};
 
     /// The edges of the image.
@@ -101,7 +101,7 @@ impl<'a> Graph<'a> {
     /// The first edge to a pc that counts: that of the first instruction, and of one instruction that to the next.
     pub fn first_into<C: Counting>(&self, counting: &C, to: u16) -> Option<Edge>
         requires { to < 4096 }
-        ensures { result ≡ first_into self.now.image.now (C.counted counting.now) to (length self.now.image.now.points) }
+        ensures { IsFirstInto self.now.image.now (C.counted counting.now) to result }
     {
         let mut found = None;
         let mut at = self.first(to);

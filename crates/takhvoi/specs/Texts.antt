@@ -5,7 +5,7 @@ use Rattle.geos_image.specs.Reading.{image_at}
 use Rattle.geos_verify.specs.declared.rule.Reject.{Reject}
 use Rattle.geos_verify.specs.declared.rule.Rule.{Rule}
 use Rattle.geos_listing.specs.Listing.{listing}
-use Rattle.geos_explain.specs.Explanation.{AreItsRefusals, explanation}
+use Rattle.geos_explain.specs.Explanation.{AreItsRefusals, IsExplanationOf}
 use Rattle.geos_source.specs.declared.fault.BadLine as fault
 use Rattle.geos_asm.specs.Assembling.{IsAssembled, IsWhyNoImage}
 use Rattle.geos_asm.specs.declared.error.AssembleError.TheVariants.{BadLine}
@@ -24,7 +24,7 @@ IsListedAs bytes text = (image : Parts) × (image_at bytes ≡ Ok image) × (tex
 
 -- the text is the image's explanation with all its refusals, of which this is the first; or there is none
 abbrev pub IsExplanation : Parts → List ℕ → Option Reject → Type 0
-IsExplanation image text reject = (refused : List (Option Rule)) × AreItsRefusals image reject refused × (text ≡ explanation image refused)
+IsExplanation image text reject = (refused : List (Option Rule)) × AreItsRefusals image reject refused × IsExplanationOf image refused text
 
 -- the bytes spell an image, and this is its explanation
 abbrev pub IsExplainedAs : List ℕ → List ℕ → Type 0

@@ -1,11 +1,13 @@
-use Rattle.std.proofs.Common.{◌≡◌, ◌<◌, false, length, sym, ap, ◌∙◌, arith}
+use Rattle.std.proofs.Common.{◌≡◌, ℕ, ◌∷◌, Some, true, refl, sym, ap, ◌∙◌, subst, arith}
+use Rattle.geos_verify.specs.declared.place.Place.{Place as KnownPlace}
 use Rattle.geos_verify.specs.Places.{places}
+use Rattle.geos_verify.specs.Rows.{has_edge}
 use Rattle.geos_verify.proofs.Places.{found-within, places-length}
+use Rattle.geos_flow.specs.Edges.{end_of}
 use Rattle.geos_explain.specs.declared.ways.Followed.{Followed}
+use Rattle.geos_explain.specs.Lost.{ComesTo}
 use Rattle.geos_explain.specs.Places.{place_of}
 use Rattle.geos_explain.specs.Ways.{loses}
-use Rattle.geos_explain.specs.Trace.{hint_at}
-use Rattle.geos_explain.proofs.Spending.{back-passed, passed-there}
 use Rattle.geos_explain.proofs.trace.step_by.Goals as goal
 
 pub pass-requires-clause-there : goal.pass-requires-clause-there
@@ -14,16 +16,39 @@ pass-requires-clause-there c =
     let within = found-within (places image) c.args.edge.from _ c.requires.there in
     omega (arith, within, places-length image)
 
-pub returns-then-not-is_marked-clause-here : goal.returns-then-not-is_marked-clause-here
-returns-then-not-is_marked-clause-here c =
+pub pass-requires-clause-lacks : goal.pass-requires-clause-lacks
+pass-requires-clause-lacks c =
+    let from = c.requires.lacks in
+    (c.args.edge ∷ from.0, (refl, (end_of c.args.edge c.args.point.now.instr, c.lacks_on.ensures c.if-not-lacks_on.false, from.1)))
+
+pub returns-then-loses : goal.returns-then-loses
+returns-then-loses c =
     let place = place_of c.args.tracing.now.place.now in
-    let p = c.args.tracing.now.p in
     let edge = c.args.edge in
     let point = c.args.point.now in
-    let within = found-within (places place.image) edge.from _ c.requires.there in
-    let low : edge.from < 4096 = omega (arith, within, places-length place.image, c.requires.place.short) in
-    let full : length c.args.trace.now.passed ≡ 4096 = omega arith in
-    let keeps : loses place.image (hint_at place p edge.from) edge point ≡ false =
-    ap (λ (f : Followed). loses place.image f edge point) (sym c.hint_at-followed.ensures) ∙ sym c.loses.ensures ∙ c.if-loses.false in
-    back-passed place p c.pass.new.trace edge point c.requires.there keeps
-    (passed-there place p c.args.trace.now c.pass.new.trace edge.from c.pass.ensures.passes low full)
+    let sound = c.requires.sound in
+    let lacks = c.lacks_on.ensures c.if-not-lacks_on.false in
+    let both : Some lacks.comes.point ≡ Some point = sym lacks.comes.there ∙ c.requires.there in
+    let same : lacks.comes.point ≡ point = cc in
+    let comes : ComesTo place edge (end_of edge point.instr) = record {
+      point = point;
+      there = c.requires.there;
+      alike = lacks.comes.alike;
+      has = subst (λ (q : KnownPlace). has_edge q.instr edge.branch ≡ true) same lacks.comes.has;
+      ends = refl;
+    } in
+    let followed : ℕ → Followed = λ n. record { p = n; hint = c.hint_at-followed.result.hint } in
+    record {
+      passed = sound.passed;
+      finds = record {
+        lost = record {
+          to = end_of edge point.instr;
+          comes = comes;
+          known = c.hint_at-followed.ensures.hint;
+          loses = ap (λ n. loses place.image (followed n) edge point) (sym c.hint_at-followed.ensures.pointer) ∙ sym c.loses.ensures ∙ c.if-loses.true;
+          way = c.requires.lacks;
+        };
+        meeting = sound.finds.meeting;
+        end = sound.finds.end;
+      };
+    }

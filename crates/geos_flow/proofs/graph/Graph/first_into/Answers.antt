@@ -1,11 +1,9 @@
-use Rattle.std.proofs.Common.{◌≡◌, ◌<◌, ◌≤◌, ◌+◌, true, Some, length, ap, ◌∙◌, subst, sym, arith, inl, inr}
+use Rattle.std.proofs.Common.{◌≡◌, ◌≤◌, ◌+◌, true, Some, ap, ◌∙◌, subst, sym, arith, inl, inr}
 use Rattle.std.proofs.lemmas.Bool.{cases_eq, cases_lt}
 use Rattle.geos_flow.specs.declared.edge.Edge.{Edge}
 use Rattle.geos_flow.specs.Edges.{number_of}
-use Rattle.geos_flow.specs.Graphs.{above}
-use Rattle.geos_flow.proofs.Firsts.{IsInto, first-same}
+use Rattle.geos_flow.specs.Graphs.{above, IsInto}
 use Rattle.geos_flow.proofs.Into.{same-edge}
-use Rattle.geos_flow.proofs.Taking.{end-inside}
 use Rattle.geos_flow.proofs.graph.Graph.first_into.Goals as goal
 use Rattle.geos_flow.proofs.graph.Graph.first_into.Goals.{then-counts, else-counts}
 
@@ -17,7 +15,6 @@ loop-at-preserved g c =
     let edge = c.in-Some.edge in
     let so_far = c.loop-at.invariant in
     let ends = so_far.leads edge c.in-Some.is in
-    let low = (end-inside image edge to ends).0 in
     let last = c.next-at.ensures to ends in
     let number : above c.loop-at.at ≡ number_of edge + 1 = ap above c.in-Some.is in
     let behind : (other : Edge) → above c.next-at.result ≤ number_of other → IsInto image counts to other → number_of edge ≤ number_of other =
@@ -31,8 +28,7 @@ loop-at-preserved g c =
         into = λ other same. (
             let found : Some edge ≡ Some other = sym w.found-is ∙ same in
             let is : edge ≡ other = cc in
-            subst (λ (e : Edge). IsInto image counts to e × (e.from < length image.points)) is
-            (record { ends = ends; is_counted = sym c.counts.ensures ∙ w.if-counts.true }, low));
+            subst (λ (e : Edge). IsInto image counts to e) is (record { ends = ends; is_counted = sym c.counts.ensures ∙ w.if-counts.true }));
         first = λ other past is. (edge, w.found-is, behind other past is);
       }
       | else-counts w ↦ record {
@@ -53,8 +49,7 @@ loop-at-preserved g c =
     ]
 
 pub returns : goal.returns
-returns g c =
-    let image = c.args.self.now.image.now in
-    let so_far = c.loop-at.invariant in
-    first-same image (g.C.Counting.counted c.args.counting.now) c.args.to (length image.points) c.loop-at.found
-    (record { into = so_far.into; first = λ edge less is. so_far.first edge (let none = ap above c.in_default.is in omega (arith, none)) is })
+returns g c = record {
+  into = c.loop-at.invariant.into;
+  first = λ edge is. c.loop-at.invariant.first edge (let none = ap above c.in_default.is in omega (arith, none)) is;
+}

@@ -1,0 +1,98 @@
+//! What is found of the pointers that may be stale, for each place where that is told.
+
+ghost use Rattle.std.specs.Prelude.{◌≡◌, ◌<◌, true, false, suc, length, IfOk, OnOk};
+ghost use Rattle.geos_image.specs.Legal.{is_image};
+ghost use Rattle.geos_image.specs.Parts.{start_of};
+ghost use Rattle.geos_explain.specs.Findings.{AreFound, AllFound, AllFoundSoFar, FoundAt, IsFound, IsToldStale};
+ghost use Rattle.geos_explain.specs.Places.{IsPlace, explained_of, place_of};
+
+use crate::explained::Explained;
+use crate::finding::{Finding, Findings};
+use crate::place::Place;
+use crate::refusals::rule_at;
+use crate::routines::{ExplainedRoutine, place_at};
+use crate::stale::stale_used;
+use crate::trace::traced;
+use geos_verify::{Rule, uses_at};
+use std::alloc::{AllocError, Global};
+
+/// Whether the rule on stale pointers is told at the pc.
+fn is_told_stale(explained: &Explained, pc: u16) -> bool
+    ensures { result ≡ false → IsToldStale explained.now.image.now explained.now.refused.now pc → ⊥ }
+{
+    match rule_at(explained.refused, pc) {
+        Some(Rule::StalePointer) => usize::from(pc) < explained.untold,
+        _ => false,
+    }
+}
+
+/// What is found of the pointer, if there is one.
+fn finding_of(place: &Place, pointer: Option<u8>) -> Option<Finding>
+    requires { IsPlace (place_of place.now) }
+    ensures { IsFound (place_of place.now) pointer result }
+{
+    match pointer {
+        Some(p) => Some(traced(place, p)),
+        None => None,
+    }
+}
+
+/// What is found of the pointers that the instruction uses, where its row knows nothing of them.
+fn findings_of(place: &Place) -> Findings
+    requires { IsPlace (place_of place.now) }
+    ensures { AreFound (place_of place.now) result }
+{
+    let (first, second) = stale_used(place.i, uses_at(place.i).pointer, place.row);
+    Findings {
+        first: finding_of(place, first),
+        second: finding_of(place, second),
+    }
+}
+
+/// The same of the instruction at a pc, if the rule is told there.
+fn found_at(within: &ExplainedRoutine, pc: u16) -> Findings
+    requires { pc < length within.now.explained.now.image.now.points }
+    ensures { FoundAt (explained_of within.now.explained.now) within.now.r within.now.routine.now pc result }
+{
+    if is_told_stale(within.explained, pc) {
+        findings_of(&place_at(within, pc))
+    } else {
+        Findings {
+            first: None,
+            second: None,
+        }
+    }
+}
+
+/// The same of each of the routine's instructions.
+fn put_found(all: &mut Vec<Findings>, explained: &Explained, r: u16) -> Result<(), AllocError>
+    requires within { r < length explained.now.image.now.routines }
+    requires legal { is_image explained.now.image.now ≡ true }
+    requires long { length all.old.items ≡ start_of explained.now.image.now.routines r }
+    requires found { AllFoundSoFar (explained_of explained.now) all.old.items }
+    ensures long { OnOk result (length all.new.items ≡ start_of explained.now.image.now.routines (suc r)) }
+    ensures found { OnOk result (AllFoundSoFar (explained_of explained.now) all.new.items) }
+{
+    let routine = explained.image.routine(r);
+    let start = explained.image.start(r);
+    let within = ExplainedRoutine {
+        explained,
+        r,
+        routine,
+    };
+    for k in 0..routine.count {
+        all.push(found_at(&within, start + k))?;
+    }
+    Ok(())
+}
+
+/// The same of all routines.
+pub(crate) fn all_found(alloc: Global, explained: &Explained) -> Result<Vec<Findings>, AllocError>
+    ensures { IfOk result (λ findings. AllFound (explained_of explained.now) findings.items) }
+{
+    let mut all = Vec::with_capacity(alloc, usize::from(explained.image.len()))?;
+    for r in 0..explained.image.count() {
+        put_found(&mut all, explained, r)?;
+    }
+    Ok(all)
+}
