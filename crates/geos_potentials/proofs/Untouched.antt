@@ -22,7 +22,7 @@ use Rattle.geos_potentials.specs.Arcs.{arc_at, unit_at, touched_by, counting_of,
 use Rattle.geos_potentials.specs.Carried.{AreSpreadBut, AreSpread}
 use Rattle.geos_potentials.specs.Demands.{forgets, taken_from, AreRaised, HaveGrown}
 use Rattle.geos_potentials.specs.Least.{is_free}
-use Rattle.geos_potentials.specs.Spreads.{ComeBehind, ForgetsIt}
+use Rattle.geos_potentials.specs.Spreads.{Does, ComeBehind, ForgetsIt}
 use Rattle.geos_potentials.specs.Untouched.{untouched, is_found, AreNotedBehind, AreUntouched, AreSpentIn}
 use Rattle.geos_potentials.specs.Waits.{Waits, HaveRisen}
 use Rattle.geos_potentials.specs.Within.{PassesBack, ExceedWithin, HoldsAt, HoldsAtLoops, StayWithinLoops, pays}
@@ -39,6 +39,11 @@ risen-spread arcs low old next before after risen spread pc k branch arc few abo
     whole (inr w) one = inr w
     whole (inl same) (inr w) = inr (risen.still pc w)
     whole (inl same) (inl le) = (let is = same k in let grown = risen.grown arc.to k in inl (omega (arith, is, grown, le)))
+
+-- numbers come from behind such edges, and are spread, but for edges from places that wait
+pub record AreSpreadSoFar (arcs : List (List (Option Arc))) (low : ℕ) (place : ℕ → Type 0) (does : Does) (spread : List (List ℕ)) (waits : Pile) : Type 0 where
+  pub come : ComeBehind arcs low place does spread
+  pub on : AreSpreadBut arcs low spread (Waits waits)
 
 -- as far as the edges of a routine before a pc were noted
 pub record AreTouchedSoFar (image : Parts) (r : ℕ) (arcs : List (List (Option Arc))) (low pc : ℕ) (touched : List (List ℕ)) (waits : Pile) : Type 0 where

@@ -23,8 +23,8 @@ loop-pc-init c =
 pub loop-pc-preserved : goal.loop-pc-preserved
 loop-pc-preserved c =
     let body = c.args.body.now in
-    let image = body.image.now in
     let arcs = c.args.graph.now.arcs in
+    let place = IsPcOf body.image.now body.r in
     let p = c.loop-pc.pc in elim c.match-arc.branch [
       | in-Some w ↦ (
         subst (λ (t : List (List ℕ)). AreSpreadSoFar arcs body.start place SetsTo t c.match-arc.waits) (sym w.prices-is)
