@@ -17,6 +17,9 @@ use crate::row::Row;
 use geos_opcodes::{Opcode, Operand};
 use std::alloc::Global;
 
+/// The bytes of an instruction.
+const INSTR_LEN: usize = 10;
+
 /// The limit of the operand in an image with one routine and one instruction: LLVM makes a table of it.
 fn least_limit(operand: Operand) -> u32
     ensures { result ≡ limit 1 1 operand }
@@ -134,7 +137,7 @@ fn instr_at(routines: u32, instrs: u32, bytes: &[u8], at: usize) -> Result<Instr
     ensures legal { IfOk result (λ i. is_instr routines instrs i ≡ true) }
 {
     let at = at as u32 as usize;
-    if bytes.len() < at + 10 {
+    if bytes.len() < at + INSTR_LEN {
         return instr_at_end(routines, instrs, bytes, at);
     }
     coded_at(routines, instrs, bytes, at)

@@ -18,6 +18,12 @@ fn slot_at(borrows: bool, bytes: &[u8], at: usize) -> Result<SlotState, Fault>
     SlotState::from_code(borrows, byte_at(bytes, at)?).ok_or(at)
 }
 
+/// The bytes of a row.
+const ROW_LEN: usize = 38;
+
+/// The bytes of a potential.
+const POTENTIAL_LEN: usize = 20;
+
 /// The slot byte of a pointer that is stale.
 const STALE: u8 = 0xff;
 
@@ -133,13 +139,15 @@ fn row_at_end(borrows: bool, bytes: &[u8], at: usize) -> Result<Row, Fault>
 
 /// A row. `borrows` says whether its slots may be borrowed. The length is tested once: a number of 32 bits is one of which
 /// LLVM knows that no sum wraps.
+// In place, so that the row is made where it stays.
+#[inline(always)]
 pub(crate) fn row_at(borrows: bool, bytes: &[u8], at: usize) -> Result<Row, Fault>
     requires { at < 2 ^ 29 }
     ensures exact { result ≡ row_at borrows bytes.now at }
     ensures legal { IfOk result (λ r. is_row borrows r ≡ true) }
 {
     let at = at as u32 as usize;
-    if bytes.len() < at + 38 {
+    if bytes.len() < at + ROW_LEN {
         return row_at_end(borrows, bytes, at);
     }
     fields_at(borrows, bytes, at)
@@ -157,8 +165,10 @@ fn coefficients_at(bytes: &[u8], at: usize) -> Result<[u32; 4], Fault>
     ])
 }
 
+/// The numbers of a potential.
 #[tactic(auto, unfolding(crate::specs::Reading::potential_at))]
-pub(crate) fn potential_at(bytes: &[u8], at: usize) -> Result<Potential, Fault>
+#[inline(always)]
+fn numbers_at(bytes: &[u8], at: usize) -> Result<Potential, Fault>
     requires { at < 2 ^ 29 }
     ensures { result ≡ potential_at bytes.now at }
 {
@@ -170,13 +180,37 @@ pub(crate) fn potential_at(bytes: &[u8], at: usize) -> Result<Potential, Fault>
     })
 }
 
+/// A potential, which may be cut.
+#[cold]
+#[inline(never)]
+fn potential_at_end(bytes: &[u8], at: usize) -> Result<Potential, Fault>
+    requires { at < 2 ^ 29 }
+    ensures { result ≡ potential_at bytes.now at }
+{
+    numbers_at(bytes, at)
+}
+
+/// A potential. The length is tested once, as that of a row.
+#[inline(always)]
+pub(crate) fn potential_at(bytes: &[u8], at: usize) -> Result<Potential, Fault>
+    requires { at < 2 ^ 29 }
+    ensures { result ≡ potential_at bytes.now at }
+{
+    let at = at as u32 as usize;
+    if bytes.len() < at + POTENTIAL_LEN {
+        return potential_at_end(bytes, at);
+    }
+    numbers_at(bytes, at)
+}
+
 #[tactic(auto, unfolding(crate::specs::Reading::entry_at))]
+#[inline(always)]
 pub(crate) fn entry_at(bytes: &[u8], at: usize) -> Result<(Row, Potential), Fault>
     requires { at < 2 ^ 28 }
     ensures exact { result ≡ entry_at bytes.now at }
     ensures legal { IfOk result (λ e. is_row false e.0 ≡ true) }
 {
     let row = row_at(false, bytes, at)?;
-    let potential = potential_at(bytes, at + 38)?;
+    let potential = potential_at(bytes, at + ROW_LEN)?;
     Ok((row, potential))
 }
