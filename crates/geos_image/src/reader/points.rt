@@ -130,7 +130,7 @@ fn instr_at_end(routines: u32, instrs: u32, bytes: &[u8], at: usize) -> Result<I
     coded_at(routines, instrs, bytes, at)
 }
 
-/// The instruction at an offset. The length is tested once: a number of 32 bits is one of which LLVM knows that no sum wraps.
+/// The instruction at an offset, read as a row is.
 fn instr_at(routines: u32, instrs: u32, bytes: &[u8], at: usize) -> Result<Instr, Fault>
     requires { at < 2 ^ 31 }
     ensures exact { result ≡ instr_at routines instrs bytes.now at }
@@ -138,7 +138,8 @@ fn instr_at(routines: u32, instrs: u32, bytes: &[u8], at: usize) -> Result<Instr
 {
     let at = at as u32 as usize;
     if bytes.len() < at + INSTR_LEN {
-        return instr_at_end(routines, instrs, bytes, at);
+        let instr = instr_at_end(routines, instrs, bytes, at)?;
+        return Ok(instr);
     }
     coded_at(routines, instrs, bytes, at)
 }

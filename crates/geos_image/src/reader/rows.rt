@@ -139,7 +139,8 @@ fn row_at_end(borrows: bool, bytes: &[u8], at: usize) -> Result<Row, Fault>
 
 /// A row. `borrows` says whether its slots may be borrowed. The length is tested once: a number of 32 bits is one of which
 /// LLVM knows that no sum wraps.
-// In place, so that the row is made where it stays.
+// In place, and with the cut row taken out of what its call returns: so the row is made in registers, and not byte by byte
+// in memory that is then read by words.
 #[inline(always)]
 pub(crate) fn row_at(borrows: bool, bytes: &[u8], at: usize) -> Result<Row, Fault>
     requires { at < 2 ^ 29 }
@@ -148,7 +149,8 @@ pub(crate) fn row_at(borrows: bool, bytes: &[u8], at: usize) -> Result<Row, Faul
 {
     let at = at as u32 as usize;
     if bytes.len() < at + ROW_LEN {
-        return row_at_end(borrows, bytes, at);
+        let row = row_at_end(borrows, bytes, at)?;
+        return Ok(row);
     }
     fields_at(borrows, bytes, at)
 }
@@ -190,7 +192,7 @@ fn potential_at_end(bytes: &[u8], at: usize) -> Result<Potential, Fault>
     numbers_at(bytes, at)
 }
 
-/// A potential. The length is tested once, as that of a row.
+/// A potential, read as a row is.
 #[inline(always)]
 pub(crate) fn potential_at(bytes: &[u8], at: usize) -> Result<Potential, Fault>
     requires { at < 2 ^ 29 }
@@ -198,7 +200,8 @@ pub(crate) fn potential_at(bytes: &[u8], at: usize) -> Result<Potential, Fault>
 {
     let at = at as u32 as usize;
     if bytes.len() < at + POTENTIAL_LEN {
-        return potential_at_end(bytes, at);
+        let potential = potential_at_end(bytes, at)?;
+        return Ok(potential);
     }
     numbers_at(bytes, at)
 }
