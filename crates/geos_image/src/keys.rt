@@ -106,11 +106,15 @@ pub(crate) fn flag_count(flags: &Flags, points: &[Point]) -> usize
     count
 }
 
-/// The row for a place, if it is flagged and there is one.
-fn row_for(flag: bool, rows: &[Row], next: usize) -> Option<Row>
-    ensures { result ≡ row_for flag rows.now next }
+/// Gives a point the next row if it is flagged and there is one, and else none.
+fn set_row(point: &mut Point, flag: bool, rows: &[Row], next: usize)
+    ensures { point.new ≡ record point.old { row = row_for flag rows.now next } }
 {
-    if flag { rows.get(next).copied() } else { None }
+    if flag {
+        point.row = rows.get(next).copied();
+    } else {
+        point.row = None;
+    }
 }
 
 /// Puts rows at the places that are flagged, in their order, and none elsewhere.
@@ -120,7 +124,7 @@ pub(crate) fn place_rows(flags: &Flags, points: &mut Vec<Point>, rows: &[Row])
 {
     let mut next = 0;
     for pc in 0..points.len() {
-        points[pc].row = row_for(flags[pc], rows, next);
+        set_row(&mut points[pc], flags[pc], rows, next);
         next += flag_bit(flags[pc]);
     }
 }

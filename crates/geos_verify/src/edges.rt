@@ -39,6 +39,7 @@ fn set_pairs(i: &Instr, slot: SlotUse, row: &mut Row)
 }
 
 /// Does to slots, pairs and pointers of a row what an instruction does to them.
+#[inline(always)]
 fn apply_uses(i: &Instr, uses: Uses, row: &mut Row)
     requires { UsesFit uses i.now }
     ensures { row.new ≡ used i.now uses row.old }
@@ -56,6 +57,8 @@ fn apply_uses(i: &Instr, uses: Uses, row: &mut Row)
 
 /// Makes the row what is known where control goes on to the next instruction; after a call it
 /// is the exit row of the routine that was called.
+// In place, with what it calls, so that the uses stay in registers.
+#[inline(always)]
 pub(crate) fn go_along(image: &Image, i: &Instr, uses: Uses, row: &mut Row)
     requires fields { FieldsFit i.now.opcode i.now }
     requires callee { CalleeFits (length image.now.routines) i.now }

@@ -70,12 +70,24 @@ pub fn pointer_fits(pointer: Option<Pointer>, wanted: Option<Pointer>) -> bool
     }
 }
 
+/// The same, where mostly nothing is wanted.
+#[inline(always)]
+fn leads_on(pointer: &Option<Pointer>, wanted: &Option<Pointer>) -> bool
+    ensures { result ≡ pointer_fits pointer.now wanted.now }
+{
+    match wanted {
+        None => true,
+        Some(_) => pointer_fits(*pointer, *wanted),
+    }
+}
+
 fn pointers_fit(r: &[Option<Pointer>; 4], s: &[Option<Pointer>; 4]) -> bool
     ensures { result ≡ all2 pointer_fits r.now s.now }
 {
-    let [p0, p1, p2, p3] = *r;
-    let [q0, q1, q2, q3] = *s;
-    pointer_fits(p0, q0) & pointer_fits(p1, q1) & pointer_fits(p2, q2) & pointer_fits(p3, q3)
+    leads_on(&r[0], &s[0])
+        && leads_on(&r[1], &s[1])
+        && leads_on(&r[2], &s[2])
+        && leads_on(&r[3], &s[3])
 }
 
 /// Whether each pair that is wanted is known.

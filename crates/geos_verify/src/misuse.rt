@@ -154,12 +154,18 @@ pub(crate) fn wrong_slot(i: &Instr, slot: SlotUse, row: &Row) -> bool
     requires { slot ≡ (uses_of i.now.opcode).slot }
     ensures { result ≡ wrong_slot i.now row.now }
 {
-    let state = slot_state(row, i.a);
+    // The slot is looked up in the arms: most instructions name none.
     match slot {
-        SlotUse::Unlocks(kind) => !holds_kind(kind, state) || !state.is_own(),
-        SlotUse::Marks(kind) => !holds_kind(kind, state),
-        SlotUse::Compares => is_empty(state) || !are_alike(state, slot_state(row, i.b)),
-        SlotUse::Moves | SlotUse::LooksAt => is_empty(state),
+        SlotUse::Unlocks(kind) => {
+            let state = slot_state(row, i.a);
+            !holds_kind(kind, state) || !state.is_own()
+        }
+        SlotUse::Marks(kind) => !holds_kind(kind, slot_state(row, i.a)),
+        SlotUse::Compares => {
+            let state = slot_state(row, i.a);
+            is_empty(state) || !are_alike(state, slot_state(row, i.b))
+        }
+        SlotUse::Moves | SlotUse::LooksAt => is_empty(slot_state(row, i.a)),
         _ => false,
     }
 }

@@ -97,6 +97,8 @@ fn drop_into_groups(row: &mut Row)
 }
 
 /// Drops the pointers that an instruction makes stale.
+// In place, since most instructions make none stale.
+#[inline(always)]
 pub(crate) fn drop_pointers(i: &Instr, slot: SlotUse, row: &mut Row)
     ensures { row.new ≡ record row.old { pointers = pointers_kept i.now slot row.old } }
 {

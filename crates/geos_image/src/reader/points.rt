@@ -17,6 +17,9 @@ use crate::row::Row;
 use geos_opcodes::{Opcode, Operand};
 use std::alloc::Global;
 
+/// The bytes of an instruction.
+const INSTR_LEN: usize = 10;
+
 /// The limit of the operand in an image with one routine and one instruction: LLVM makes a table of it.
 fn least_limit(operand: Operand) -> u32
     ensures { result ≡ limit 1 1 operand }
@@ -127,15 +130,16 @@ fn instr_at_end(routines: u32, instrs: u32, bytes: &[u8], at: usize) -> Result<I
     coded_at(routines, instrs, bytes, at)
 }
 
-/// The instruction at an offset. The length is tested once: a number of 32 bits is one of which LLVM knows that no sum wraps.
+/// The instruction at an offset, read as a row is.
 fn instr_at(routines: u32, instrs: u32, bytes: &[u8], at: usize) -> Result<Instr, Fault>
     requires { at < 2 ^ 31 }
     ensures exact { result ≡ instr_at routines instrs bytes.now at }
     ensures legal { IfOk result (λ i. is_instr routines instrs i ≡ true) }
 {
     let at = at as u32 as usize;
-    if bytes.len() < at + 10 {
-        return instr_at_end(routines, instrs, bytes, at);
+    if bytes.len() < at + INSTR_LEN {
+        let instr = instr_at_end(routines, instrs, bytes, at)?;
+        return Ok(instr);
     }
     coded_at(routines, instrs, bytes, at)
 }

@@ -18,6 +18,12 @@ fn slot_at(borrows: bool, bytes: &[u8], at: usize) -> Result<SlotState, Fault>
     SlotState::from_code(borrows, byte_at(bytes, at)?).ok_or(at)
 }
 
+/// The bytes of a row.
+const ROW_LEN: usize = 38;
+
+/// The bytes of a potential.
+const POTENTIAL_LEN: usize = 20;
+
 /// The slot byte of a pointer that is stale.
 const STALE: u8 = 0xff;
 
@@ -133,14 +139,18 @@ fn row_at_end(borrows: bool, bytes: &[u8], at: usize) -> Result<Row, Fault>
 
 /// A row. `borrows` says whether its slots may be borrowed. The length is tested once: a number of 32 bits is one of which
 /// LLVM knows that no sum wraps.
+// In place, and with the cut row taken out of what its call returns: so the row is made in registers, and not byte by byte
+// in memory that is then read by words.
+#[inline(always)]
 pub(crate) fn row_at(borrows: bool, bytes: &[u8], at: usize) -> Result<Row, Fault>
     requires { at < 2 ^ 29 }
     ensures exact { result ≡ row_at borrows bytes.now at }
     ensures legal { IfOk result (λ r. is_row borrows r ≡ true) }
 {
     let at = at as u32 as usize;
-    if bytes.len() < at + 38 {
-        return row_at_end(borrows, bytes, at);
+    if bytes.len() < at + ROW_LEN {
+        let row = row_at_end(borrows, bytes, at)?;
+        return Ok(row);
     }
     fields_at(borrows, bytes, at)
 }
@@ -157,8 +167,10 @@ fn coefficients_at(bytes: &[u8], at: usize) -> Result<[u32; 4], Fault>
     ])
 }
 
+/// The numbers of a potential.
 #[tactic(auto, unfolding(crate::specs::Reading::potential_at))]
-pub(crate) fn potential_at(bytes: &[u8], at: usize) -> Result<Potential, Fault>
+#[inline(always)]
+fn numbers_at(bytes: &[u8], at: usize) -> Result<Potential, Fault>
     requires { at < 2 ^ 29 }
     ensures { result ≡ potential_at bytes.now at }
 {
@@ -170,13 +182,38 @@ pub(crate) fn potential_at(bytes: &[u8], at: usize) -> Result<Potential, Fault>
     })
 }
 
+/// A potential, which may be cut.
+#[cold]
+#[inline(never)]
+fn potential_at_end(bytes: &[u8], at: usize) -> Result<Potential, Fault>
+    requires { at < 2 ^ 29 }
+    ensures { result ≡ potential_at bytes.now at }
+{
+    numbers_at(bytes, at)
+}
+
+/// A potential, read as a row is.
+#[inline(always)]
+pub(crate) fn potential_at(bytes: &[u8], at: usize) -> Result<Potential, Fault>
+    requires { at < 2 ^ 29 }
+    ensures { result ≡ potential_at bytes.now at }
+{
+    let at = at as u32 as usize;
+    if bytes.len() < at + POTENTIAL_LEN {
+        let potential = potential_at_end(bytes, at)?;
+        return Ok(potential);
+    }
+    numbers_at(bytes, at)
+}
+
 #[tactic(auto, unfolding(crate::specs::Reading::entry_at))]
+#[inline(always)]
 pub(crate) fn entry_at(bytes: &[u8], at: usize) -> Result<(Row, Potential), Fault>
     requires { at < 2 ^ 28 }
     ensures exact { result ≡ entry_at bytes.now at }
     ensures legal { IfOk result (λ e. is_row false e.0 ≡ true) }
 {
     let row = row_at(false, bytes, at)?;
-    let potential = potential_at(bytes, at + 38)?;
+    let potential = potential_at(bytes, at + ROW_LEN)?;
     Ok((row, potential))
 }

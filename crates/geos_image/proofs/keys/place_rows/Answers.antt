@@ -25,7 +25,7 @@ loop-pc-preserved c =
     let more = place-more flags points c.args.rows.now pc c.loop-pc.next c.index_mut.result.now lt room here in
     let small = bit-small flag in
     let bit = c.flag_bit-next.ensures in
-    rw (c.row_for.ensures, bit) (
+    rw (c.set_row.ensures, bit) (
       omega (arith, small, c.loop-pc.invariant.0),
       length-set points pc _
           ∙ c.loop-pc.invariant.1,
