@@ -16,13 +16,14 @@ use Rattle.geos_infer.specs.Taken as taken
 use Rattle.geos_infer.specs.Ahead.{MayPass, NonePasses}
 use Rattle.geos_potentials.specs.declared.unpaid.BackWay.{BackWay}
 use Rattle.geos_infer.specs.declared.cause.Within.{Within}
+use Rattle.geos_infer.specs.declared.cause.LoopOn.{LoopOn}
 use Rattle.geos_infer.specs.declared.cause.LoopPair.{LoopPair}
 use Rattle.geos_infer.specs.declared.cause.LoopRing.{LoopRing}
 use Rattle.geos_infer.specs.declared.cause.ByWord.{ByWord}
 use Rattle.geos_infer.specs.declared.cause.ByNumber.{ByNumber}
 use Rattle.geos_infer.specs.declared.cause.Cause.{Cause}
-use Rattle.geos_infer.specs.declared.cause.Cause.TheVariants.{SlotsDiffer, NoLoop, SetWithin, TouchedWithin, TouchedBefore, InTurn, InRing, StepsPass, WordUnbounded, NumberHigh, WordDear, NumberDear, GivenUp, StepsMayPass, NoSteps, Unfound, Unknown}
-use Rattle.geos_potentials.specs.Idle.{GoesRound, PassesAt, calls_touching, IsKept, IsNeverPaid}
+use Rattle.geos_infer.specs.declared.cause.Cause.TheVariants.{SlotsDiffer, NoLoop, SetWithin, TouchedWithin, TouchedBefore, NotSet, InTurn, InRing, StepsPass, WordUnbounded, NumberHigh, WordDear, NumberDear, GivenUp, StepsMayPass, NoSteps, Unfound, Unknown}
+use Rattle.geos_potentials.specs.Idle.{GoesRound, PassesAt, calls_touching, IsKept, IsUnset, IsNeverPaid}
 
 -- an instruction of routine r leads back within it by its target
 pub record LeadsBack (image : Parts) (r : ℕ) (back : BackWay) : Type 0 where
@@ -89,6 +90,12 @@ pub record TouchesBefore (image : Parts) (r : ℕ) (within : Within) : Type 0 wh
 pub record TouchesWithin (image : Parts) (r : ℕ) (within : Within) : Type 0 where
   pub left : LeavesTouched image r within
   pub round : ComesRound image r None within.back.to within.at
+
+-- control goes round by a LOOP, and on a way to it from where routine r begins nothing sets its counter, or touches it
+pub record TakesUnset (image : Parts) (r : ℕ) (own : LoopOn) : Type 0 where
+  pub loops : LoopsTo image r own.back own.counter
+  pub unset : IsUnset image r own.counter own.back.from
+  pub round : ComesRound image r None own.back.to own.back.from
 
 -- in the loop that a LOOP closes, which goes round with its own counter, that of another LOOP is set, and kept from there to that
 pub record SetsFor (image : Parts) (r : ℕ) (back : BackWay) (own : ℕ) (other : BackWay) (counter at : ℕ) : Type 0 where
@@ -180,6 +187,7 @@ Holds image r (NoLoop back) = GoesRound image r back.from back.to
 Holds image r (SetWithin within) = SetsWithin image r within
 Holds image r (TouchedWithin within) = TouchesWithin image r within × IsNeverPaid image r
 Holds image r (TouchedBefore within) = TouchesBefore image r within × IsNeverPaid image r
+Holds image r (NotSet own) = TakesUnset image r own × IsNeverPaid image r
 Holds image r (InTurn both) = WaitInTurn image r both
 Holds image r (InRing ring) = WaitInRing image r ring
 Holds image r StepsPass = taken.StepsPass image r
@@ -207,6 +215,7 @@ abbrev pub is_final : Cause → Bool
 is_final (NoLoop back) = true
 is_final (TouchedWithin within) = true
 is_final (TouchedBefore within) = true
+is_final (NotSet own) = true
 is_final StepsPass = true
 is_final (WordUnbounded by_word) = true
 is_final (NumberHigh by_number) = true

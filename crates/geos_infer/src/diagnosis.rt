@@ -13,12 +13,13 @@ ghost use Rattle.geos_rows.specs.Why.{MeetAlike};
 
 use crate::ahead::may_pass;
 use crate::cause::{Cause, Within};
+use crate::idle::{cause_of_idle, find_touched};
 use crate::in_turn::find_in_turn;
 use crate::ring::find_in_ring;
 use crate::setting::find_dear;
 use crate::trails::Trails;
 use crate::turns::steps_pass;
-use crate::within::{find_set_within, find_touched_before, find_touched_within};
+use crate::within::find_set_within;
 use geos_image::{Image, Potential};
 use geos_potentials::{
     BackWay, Halt, Lack, Piece, Potentials, Search, Touching, find_round, find_touching,
@@ -72,13 +73,7 @@ fn cause_at(
     if let Some(within) = find_set_within(body, touching, graph, order, piece, from, trails) {
         return Some(Cause::SetWithin(within));
     }
-    if let Some(within) = find_touched_within(body, touching, graph, order, piece, from, trails) {
-        return Some(Cause::TouchedWithin(within));
-    }
-    match find_touched_before(body, touching, graph, from, trails) {
-        Some(before) => Some(Cause::TouchedBefore(before)),
-        None => None,
-    }
+    find_touched(body, touching, search, piece, from, trails)
 }
 
 /// The first cause for which a LOOP of a component may not pay there, where on some way round none may.
@@ -293,12 +288,16 @@ impl Tables {
             trails,
             strongest,
         } = self;
-        match search.find(body, known, &touching.certain, potentials) {
-            Ok(()) => Ok(None),
-            Err(halt) => cause_of_halt(
-                alloc, body, touching, known, search, halt, trails, strongest,
-            ),
-        }
+        let Err(halt) = search.find(body, known, &touching.certain, potentials) else {
+            return Ok(None);
+        };
+        let cause = cause_of_halt(
+            alloc, body, touching, known, search, halt, trails, strongest,
+        )?;
+        Ok(match cause {
+            Some(cause) => Some(cause),
+            None => cause_of_idle(body, touching, known, search, trails),
+        })
     }
 }
 
