@@ -14,7 +14,7 @@ ghost use Rattle.geos_rows.specs.Why.{MeetAlike};
 use crate::ahead::may_pass;
 use crate::cause::{Cause, Within};
 use crate::idle::{cause_of_idle, find_touched};
-use crate::in_turn::find_in_turn;
+use crate::in_turn::{find_in_turn, find_own_set};
 use crate::ring::find_in_ring;
 use crate::setting::find_dear;
 use crate::trails::Trails;
@@ -131,7 +131,7 @@ fn cause_of_looks(body: &Body) -> Option<Cause>
     }
 }
 
-/// Loops that wait on each other, as the cause.
+/// Loops that wait on each other, or one on itself, as the cause.
 fn cause_in_turn(
     body: &Body,
     touching: &Touching,
@@ -146,8 +146,11 @@ fn cause_in_turn(
     if let Some(pair) = find_in_turn(body, touching, graph, splitting, trails) {
         return Some(Cause::InTurn(pair));
     }
-    match find_in_ring(body, touching, graph, splitting, trails) {
-        Some(ring) => Some(Cause::InRing(ring)),
+    if let Some(ring) = find_in_ring(body, touching, graph, splitting, trails) {
+        return Some(Cause::InRing(ring));
+    }
+    match find_own_set(body, touching, graph, splitting, trails) {
+        Some(within) => Some(Cause::SetWithin(within)),
         None => None,
     }
 }

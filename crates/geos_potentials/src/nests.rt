@@ -40,7 +40,7 @@ pub struct Nest {
     /// How many are around it.
     depth: u16,
     /// Whether its counter is set in it and kept from there to one of its LOOPs.
-    pub(crate) tight: bool,
+    pub tight: bool,
     /// Whether it is to be paid for.
     pub(crate) due: bool,
     /// The last round over the nests in which one in it was left to the next.
