@@ -17,7 +17,7 @@ use Rattle.geos_infer.specs.declared.cause.LoopRing.{LoopRing}
 use Rattle.geos_infer.specs.declared.cause.ByWord.{ByWord}
 use Rattle.geos_infer.specs.declared.cause.ByNumber.{ByNumber}
 use Rattle.geos_infer.specs.declared.cause.Cause.{Cause}
-use Rattle.geos_infer.specs.declared.cause.Cause.TheVariants.{SlotsDiffer, NoLoop, SetWithin, TouchedWithin, TouchedBefore, NotSet, InTurn, InRing, StepsPass, WordUnbounded, NumberHigh, WordDear, NumberDear, GivenUp, StepsMayPass, NoSteps, Unfound, Unknown}
+use Rattle.geos_infer.specs.declared.cause.Cause.TheVariants.{SlotsDiffer, NoLoop, SetWithin, SetAgain, TouchedWithin, TouchedBefore, NotSet, InTurn, InRing, StepsPass, WordUnbounded, NumberHigh, WordDear, NumberDear, GivenUp, StepsMayPass, NoSteps, Unfound, Unknown}
 use Rattle.geos_explain.specs.Numbers.{pc_text}
 use Rattle.geos_causes.specs.Emptied.{emptied_items}
 
@@ -195,6 +195,7 @@ abbrev pub cause_words : List ℕ → Cause → List ℕ
 cause_words lines (SlotsDiffer apart) = apart_text lines apart
 cause_words lines (NoLoop back) = no_loop_text lines back
 cause_words lines (SetWithin within) = within_text lines within
+cause_words lines (SetAgain within) = within_text lines within
 cause_words lines (TouchedWithin within) = touched_text lines within
 cause_words lines (TouchedBefore within) = touched_before_text lines within
 cause_words lines (NotSet own) = not_set_text lines own

@@ -360,7 +360,7 @@ fn put_cause(out: &mut Vec<u8>, lines: &[usize], cause: &Cause) -> Result<(), Al
     match cause {
         Cause::SlotsDiffer(apart) => put_apart(out, lines, apart),
         Cause::NoLoop(back) => put_back(out, "nothing pays for the way back:", lines, back),
-        Cause::SetWithin(within) => put_within(out, lines, within),
+        Cause::SetWithin(within) | Cause::SetAgain(within) => put_within(out, lines, within),
         Cause::TouchedWithin(within) => put_touched(out, lines, within),
         Cause::TouchedBefore(within) => put_touched_before(out, lines, within),
         Cause::NotSet(own) => put_not_set(out, lines, own),

@@ -15,8 +15,8 @@ use Rattle.geos_infer.specs.Taken.{Place, Takes}
 use Rattle.geos_potentials.specs.Trails.{IsTrail}
 use Rattle.geos_rows.specs.Why.{LeadsTo}
 use Rattle.geos_potentials.specs.declared.unpaid.BackWay.{BackWay}
-use Rattle.geos_infer.specs.declared.cause.Cause.TheVariants.{SlotsDiffer, NoLoop, SetWithin, TouchedWithin, TouchedBefore, NotSet, InTurn, InRing, StepsPass, WordUnbounded, NumberHigh, WordDear, NumberDear, GivenUp, StepsMayPass, NoSteps, Unfound, Unknown}
-use Rattle.geos_infer.proofs.Kept.{kept-any}
+use Rattle.geos_infer.specs.declared.cause.Cause.TheVariants.{SlotsDiffer, NoLoop, SetWithin, SetAgain, TouchedWithin, TouchedBefore, NotSet, InTurn, InRing, StepsPass, WordUnbounded, NumberHigh, WordDear, NumberDear, GivenUp, StepsMayPass, NoSteps, Unfound, Unknown}
+use Rattle.geos_infer.proofs.Kept.{comes-any, kept-any}
 use Rattle.geos_rows.proofs.Came.{comes-to}
 use Rattle.geos_rows.proofs.Ends.{code-at, leads-one}
 
@@ -91,6 +91,13 @@ none-other image r (NoLoop back) none other holds =
 none-other image r (SetWithin within) none other holds =
     let less = loop-ahead image r none.steps.ahead within.back within.counter holds.loops in
     let round = round-ahead image r none.steps.ahead (Some within.counter) within.back.to within.at holds.loops.to holds.round in
+    let kept = kept-ahead image r none.steps.ahead within.counter within.at within.back.from
+    (kept-any image r within.counter within.at (Some within.back.to) within.back.from holds.kept) in
+    omega arith
+none-other image r (SetAgain within) none other holds =
+    let less = loop-ahead image r none.steps.ahead within.back within.counter holds.loops in
+    let turn = round-ahead image r none.steps.ahead None within.back.to within.at holds.loops.to
+    (comes-any image r None (Some within.back.from) within.back.to within.at holds.turn) in
     let kept = kept-ahead image r none.steps.ahead within.counter within.at within.back.from
     (kept-any image r within.counter within.at (Some within.back.to) within.back.from holds.kept) in
     omega arith

@@ -22,7 +22,7 @@ use Rattle.geos_infer.specs.declared.cause.LoopRing.{LoopRing}
 use Rattle.geos_infer.specs.declared.cause.ByWord.{ByWord}
 use Rattle.geos_infer.specs.declared.cause.ByNumber.{ByNumber}
 use Rattle.geos_infer.specs.declared.cause.Cause.{Cause}
-use Rattle.geos_infer.specs.declared.cause.Cause.TheVariants.{SlotsDiffer, NoLoop, SetWithin, TouchedWithin, TouchedBefore, NotSet, InTurn, InRing, StepsPass, WordUnbounded, NumberHigh, WordDear, NumberDear, GivenUp, StepsMayPass, NoSteps, Unfound, Unknown}
+use Rattle.geos_infer.specs.declared.cause.Cause.TheVariants.{SlotsDiffer, NoLoop, SetWithin, SetAgain, TouchedWithin, TouchedBefore, NotSet, InTurn, InRing, StepsPass, WordUnbounded, NumberHigh, WordDear, NumberDear, GivenUp, StepsMayPass, NoSteps, Unfound, Unknown}
 use Rattle.geos_potentials.specs.Idle.{GoesRound, PassesAt, calls_touching, IsKept, IsUnset, IsNeverPaid}
 
 -- an instruction of routine r leads back within it by its target
@@ -60,6 +60,10 @@ IsTrailBut image r counter but from [] to = from ≡ to
 IsTrailBut image r counter but from (branch ∷ branches) to = (next : ℕ) × (but ≢ Some from) × LeadsKeeping image r counter from branch next
     × IsTrailBut image r counter but next branches to
 
+-- control can come from one pc of routine r to another, by edges of which none is from a third
+abbrev pub ComesBut : Parts → ℕ → Option ℕ → ℕ → ℕ → Type 0
+ComesBut image r but from to = (branches : List Bool) × IsTrailBut image r None but from branches to
+
 -- behind a pc the counter is kept up to another, by edges of which none is from a third
 pub record IsKeptBut (image : Parts) (r counter at : ℕ) (but : Option ℕ) (to : ℕ) : Type 0 where
   pub behind : IsPcOf image r (at + 1)
@@ -73,6 +77,14 @@ pub record SetsWithin (image : Parts) (r : ℕ) (within : Within) : Type 0 where
   pub sets : PassesAt image within.at (λ i. sets_counter within.counter i i.opcode)
   pub kept : IsKeptBut image r within.counter within.at (Some within.back.to) within.back.from
   pub round : ComesRound image r (Some within.counter) within.back.to within.at
+
+-- within one turn of a loop, from a LOOP's target on, control comes, not by the LOOP, to where its counter is set, and from there to it
+pub record SetsInTurn (image : Parts) (r : ℕ) (within : Within) : Type 0 where
+  pub loops : LoopsTo image r within.back within.counter
+  pub here : IsPcOf image r within.at
+  pub sets : PassesAt image within.at (λ i. sets_counter within.counter i i.opcode)
+  pub kept : IsKeptBut image r within.counter within.at (Some within.back.to) within.back.from
+  pub turn : ComesBut image r (Some within.back.from) within.back.to within.at
 
 -- a routine is called that touches the counter of a LOOP, and it is not set from there to the LOOP
 pub record LeavesTouched (image : Parts) (r : ℕ) (within : Within) : Type 0 where
@@ -185,6 +197,7 @@ abbrev pub Holds : Parts → ℕ → Cause → Type 0
 Holds image r (SlotsDiffer apart) = AreApart image r apart
 Holds image r (NoLoop back) = GoesRound image r back.from back.to
 Holds image r (SetWithin within) = SetsWithin image r within
+Holds image r (SetAgain within) = SetsInTurn image r within
 Holds image r (TouchedWithin within) = TouchesWithin image r within × IsNeverPaid image r
 Holds image r (TouchedBefore within) = TouchesBefore image r within × IsNeverPaid image r
 Holds image r (NotSet own) = TakesUnset image r own × IsNeverPaid image r

@@ -88,6 +88,8 @@ pub enum Cause {
     NoLoop(BackWay),
     /// The counter of a loop is set within it.
     SetWithin(Within),
+    /// The counter of a loop is set within it, though not with what it was at the loop's head.
+    SetAgain(Within),
     /// A routine that is called within the loop of a counter touches it.
     TouchedWithin(Within),
     /// A routine that is called before the loop of a counter touches it, and it is not set behind that.

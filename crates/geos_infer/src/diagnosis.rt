@@ -19,7 +19,7 @@ use crate::ring::find_in_ring;
 use crate::setting::find_dear;
 use crate::trails::Trails;
 use crate::turns::steps_pass;
-use crate::within::find_set_within;
+use crate::within::{find_set_again, find_set_within};
 use geos_image::{Image, Potential};
 use geos_potentials::{
     BackWay, Halt, Lack, Piece, Potentials, Search, Touching, find_round, find_touching,
@@ -115,6 +115,32 @@ fn find_set(
         if order.has(piece, pc) {
             if let Some(within) = find_set_within(body, touching, graph, order, piece, pc, trails) {
                 return Some(within);
+            }
+        }
+    }
+    None
+}
+
+/// Where in a component the counter of a LOOP is set for it, whatever it was at the loop's head, as the cause where nests lack that.
+fn cause_of_set_again(
+    body: &Body,
+    touching: &Touching,
+    search: &Search,
+    halt: Halt,
+    trails: &mut Trails,
+) -> Option<Cause>
+    requires { KnowsTouched body.now.image.now touching.now }
+    ensures { IfSome result (Holds body.now.image.now body.now.r) }
+{
+    let Halt::Unpaid(Lack::SetWithin(piece)) = halt else {
+        return None;
+    };
+    let graph = &search.graph;
+    let order = &search.splitting.order;
+    for pc in body.start..body.end {
+        if order.has(&piece, pc) {
+            if let Some(within) = find_set_again(body, touching, graph, order, &piece, pc, trails) {
+                return Some(Cause::SetAgain(within));
             }
         }
     }
@@ -297,9 +323,13 @@ impl Tables {
         let cause = cause_of_halt(
             alloc, body, touching, known, search, halt, trails, strongest,
         )?;
-        Ok(match cause {
+        if let Some(cause) = cause {
+            return Ok(Some(cause));
+        }
+        let set_again = cause_of_set_again(body, touching, search, halt, trails);
+        Ok(match cause_of_idle(body, touching, known, search, trails) {
             Some(cause) => Some(cause),
-            None => cause_of_idle(body, touching, known, search, trails),
+            None => set_again,
         })
     }
 }
