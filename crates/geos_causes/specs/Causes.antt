@@ -11,12 +11,13 @@ use Rattle.geos_rows.specs.declared.apart.Apart.{Apart}
 use Rattle.geos_rows.specs.declared.apart.Coming.{Coming}
 use Rattle.geos_potentials.specs.declared.unpaid.BackWay.{BackWay}
 use Rattle.geos_infer.specs.declared.cause.Within.{Within}
+use Rattle.geos_infer.specs.declared.cause.LoopOn.{LoopOn}
 use Rattle.geos_infer.specs.declared.cause.LoopPair.{LoopPair}
 use Rattle.geos_infer.specs.declared.cause.LoopRing.{LoopRing}
 use Rattle.geos_infer.specs.declared.cause.ByWord.{ByWord}
 use Rattle.geos_infer.specs.declared.cause.ByNumber.{ByNumber}
 use Rattle.geos_infer.specs.declared.cause.Cause.{Cause}
-use Rattle.geos_infer.specs.declared.cause.Cause.TheVariants.{SlotsDiffer, NoLoop, SetWithin, TouchedWithin, TouchedBefore, InTurn, InRing, StepsPass, WordUnbounded, NumberHigh, WordDear, NumberDear, GivenUp, StepsMayPass, NoSteps, Unfound, Unknown}
+use Rattle.geos_infer.specs.declared.cause.Cause.TheVariants.{SlotsDiffer, NoLoop, SetWithin, SetAgain, TouchedWithin, TouchedBefore, NotSet, InTurn, InRing, StepsPass, WordUnbounded, NumberHigh, WordDear, NumberDear, GivenUp, StepsMayPass, NoSteps, Unfound, Unknown}
 use Rattle.geos_explain.specs.Numbers.{pc_text}
 use Rattle.geos_causes.specs.Emptied.{emptied_items}
 
@@ -109,6 +110,18 @@ before_loop_text lines back = codes ", which nothing sets before its loop:" ++ b
 unfoldable pub touched_before_text : List ℕ → Within → List ℕ
 touched_before_text lines within = call_text lines within ++ before_loop_text lines within.back
 
+-- nothing sets a counter
+unfoldable pub nothing_sets_text : ℕ → List ℕ
+nothing_sets_text counter = concat (codes "nothing sets k" ∷ decimal counter ∷ [])
+
+-- that this is on a way to the loop of a way that leads back
+abbrev pub to_loop_text : List ℕ → BackWay → List ℕ
+to_loop_text lines back = codes " on a way to its loop:" ++ back_text lines back
+
+-- nothing sets a counter on a way to its loop
+unfoldable pub not_set_text : List ℕ → LoopOn → List ℕ
+not_set_text lines own = nothing_sets_text own.counter ++ to_loop_text lines own.back
+
 -- that this is in the loop of a way that leads back
 abbrev pub in_loop_text : List ℕ → BackWay → List ℕ
 in_loop_text lines back = codes " in the loop where" ++ back_text lines back
@@ -182,8 +195,10 @@ abbrev pub cause_words : List ℕ → Cause → List ℕ
 cause_words lines (SlotsDiffer apart) = apart_text lines apart
 cause_words lines (NoLoop back) = no_loop_text lines back
 cause_words lines (SetWithin within) = within_text lines within
+cause_words lines (SetAgain within) = within_text lines within
 cause_words lines (TouchedWithin within) = touched_text lines within
 cause_words lines (TouchedBefore within) = touched_before_text lines within
+cause_words lines (NotSet own) = not_set_text lines own
 cause_words lines (InTurn both) = in_turn_text lines both
 cause_words lines (InRing ring) = in_ring_text lines ring
 cause_words lines StepsPass = steps_pass_text

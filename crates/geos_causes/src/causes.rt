@@ -2,7 +2,8 @@
 
 ghost use Rattle.std.specs.Prelude.{◌≡◌, ◌++◌, OnOk, IfOk};
 ghost use Rattle.geos_causes.specs.Causes.{differing_item, differing_items, is_from, edge_text, coming_from};
-ghost use Rattle.geos_causes.specs.Causes.{coming_text, call_text, touched_text, touched_before_text, set_in_text, in_turn_text, in_ring_text};
+ghost use Rattle.geos_causes.specs.Causes.{coming_text, call_text, touched_text, touched_before_text, not_set_text};
+ghost use Rattle.geos_causes.specs.Causes.{set_in_text, in_turn_text, in_ring_text};
 ghost use Rattle.geos_causes.specs.Causes.{by_word_text, dear_word_text, set_to_text, ways_text, calls_text, apart_text};
 ghost use Rattle.geos_causes.specs.Causes.{back_text, leads_text, within_text, cause_words, cause_text};
 
@@ -10,7 +11,9 @@ use crate::emptied::{put_emptied_items, slots_agree};
 use geos_explain::pc_part;
 use geos_flow::Edge;
 use geos_image::SlotState;
-use geos_infer::{Apart, BackWay, ByNumber, ByWord, Cause, Coming, LoopPair, LoopRing, Within};
+use geos_infer::{
+    Apart, BackWay, ByNumber, ByWord, Cause, Coming, LoopOn, LoopPair, LoopRing, Within,
+};
 use geos_listing::state_word;
 use geos_text::{Part, put_parts};
 use geos_verify::is_empty;
@@ -233,6 +236,15 @@ fn put_touched_before(out: &mut Vec<u8>, lines: &[usize], within: &Within) -> Re
     )
 }
 
+/// Nothing sets a counter on a way to its loop.
+#[tactic(auto, unfolding(crate::specs::Causes::nothing_sets_text, crate::specs::Causes::not_set_text))]
+fn put_not_set(out: &mut Vec<u8>, lines: &[usize], own: &LoopOn) -> Result<(), AllocError>
+    ensures { OnOk result (out.new.items ≡ out.old.items ++ not_set_text lines.now own.now) }
+{
+    put_parts(out, &[Part::Numbered("nothing sets k", own.counter as u64)])?;
+    put_back(out, " on a way to its loop:", lines, &own.back)
+}
+
 /// A counter is set in the loop of a way that leads back.
 #[tactic(auto, unfolding(crate::specs::Causes::set_at_text, crate::specs::Causes::set_in_text))]
 fn put_set_in(
@@ -348,9 +360,10 @@ fn put_cause(out: &mut Vec<u8>, lines: &[usize], cause: &Cause) -> Result<(), Al
     match cause {
         Cause::SlotsDiffer(apart) => put_apart(out, lines, apart),
         Cause::NoLoop(back) => put_back(out, "nothing pays for the way back:", lines, back),
-        Cause::SetWithin(within) => put_within(out, lines, within),
+        Cause::SetWithin(within) | Cause::SetAgain(within) => put_within(out, lines, within),
         Cause::TouchedWithin(within) => put_touched(out, lines, within),
         Cause::TouchedBefore(within) => put_touched_before(out, lines, within),
+        Cause::NotSet(own) => put_not_set(out, lines, own),
         Cause::InTurn(both) => put_in_turn(out, lines, both),
         Cause::InRing(ring) => put_in_ring(out, lines, ring),
         Cause::WordUnbounded(by_word) => put_by_word(out, lines, by_word),

@@ -5,7 +5,7 @@ use Rattle.geos_image.specs.Keys.{branches}
 use Rattle.geos_image.specs.Parts.{Parts}
 use Rattle.geos_potentials.specs.Idle.{LeadsUnpaid, IsUnpaidWay, GoesRound, LeadsIdle, IsIdleWay, IsNeverPaid}
 use Rattle.geos_infer.specs.Causes.{NoneIsAcceptedFor}
-use Rattle.geos_infer.specs.declared.cause.Cause.TheVariants.{NoLoop, TouchedWithin, TouchedBefore, StepsPass, WordUnbounded, NumberHigh}
+use Rattle.geos_infer.specs.declared.cause.Cause.TheVariants.{NoLoop, TouchedWithin, TouchedBefore, NotSet, StepsPass, WordUnbounded, NumberHigh}
 use Rattle.geos_infer.proofs.Past.{words-none, none-accepted-past}
 use Rattle.geos_potentials.proofs.Unpayable.{none-accepted-round}
 
@@ -39,6 +39,7 @@ pub none-accepted-for : NoneIsAcceptedFor
 none-accepted-for image r (NoLoop back) lt final holds has = none-accepted-round image r lt (round-never image r back.from back.to holds) has
 none-accepted-for image r (TouchedWithin within) lt final holds has = none-accepted-round image r lt holds.1 has
 none-accepted-for image r (TouchedBefore within) lt final holds has = none-accepted-round image r lt holds.1 has
+none-accepted-for image r (NotSet own) lt final holds has = none-accepted-round image r lt holds.1 has
 none-accepted-for image r StepsPass lt final holds has = none-accepted-past image r lt (words-none image r holds) has
 none-accepted-for image r (WordUnbounded by_word) lt final holds has = none-accepted-past image r lt holds.1 has
 none-accepted-for image r (NumberHigh by_number) lt final holds has = none-accepted-past image r lt holds.1 has

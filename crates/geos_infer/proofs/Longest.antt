@@ -15,8 +15,8 @@ use Rattle.geos_infer.specs.Taken.{Place, Takes}
 use Rattle.geos_potentials.specs.Trails.{IsTrail}
 use Rattle.geos_rows.specs.Why.{LeadsTo}
 use Rattle.geos_potentials.specs.declared.unpaid.BackWay.{BackWay}
-use Rattle.geos_infer.specs.declared.cause.Cause.TheVariants.{SlotsDiffer, NoLoop, SetWithin, TouchedWithin, TouchedBefore, InTurn, InRing, StepsPass, WordUnbounded, NumberHigh, WordDear, NumberDear, GivenUp, StepsMayPass, NoSteps, Unfound, Unknown}
-use Rattle.geos_infer.proofs.Kept.{kept-any}
+use Rattle.geos_infer.specs.declared.cause.Cause.TheVariants.{SlotsDiffer, NoLoop, SetWithin, SetAgain, TouchedWithin, TouchedBefore, NotSet, InTurn, InRing, StepsPass, WordUnbounded, NumberHigh, WordDear, NumberDear, GivenUp, StepsMayPass, NoSteps, Unfound, Unknown}
+use Rattle.geos_infer.proofs.Kept.{comes-any, kept-any}
 use Rattle.geos_rows.proofs.Came.{comes-to}
 use Rattle.geos_rows.proofs.Ends.{code-at, leads-one}
 
@@ -94,6 +94,13 @@ none-other image r (SetWithin within) none other holds =
     let kept = kept-ahead image r none.steps.ahead within.counter within.at within.back.from
     (kept-any image r within.counter within.at (Some within.back.to) within.back.from holds.kept) in
     omega arith
+none-other image r (SetAgain within) none other holds =
+    let less = loop-ahead image r none.steps.ahead within.back within.counter holds.loops in
+    let turn = round-ahead image r none.steps.ahead None within.back.to within.at holds.loops.to
+    (comes-any image r None (Some within.back.from) within.back.to within.at holds.turn) in
+    let kept = kept-ahead image r none.steps.ahead within.counter within.at within.back.from
+    (kept-any image r within.counter within.at (Some within.back.to) within.back.from holds.kept) in
+    omega arith
 none-other image r (TouchedWithin within) none other holds =
     let less = loop-ahead image r none.steps.ahead within.back within.counter holds.0.left.loops in
     let round = round-ahead image r none.steps.ahead None within.back.to within.at holds.0.left.loops.to holds.0.round in
@@ -101,6 +108,7 @@ none-other image r (TouchedWithin within) none other holds =
     omega arith
 none-other image r (TouchedBefore within) none other holds = none-round image r none.steps.ahead within.back
     within.counter holds.0.left.loops holds.0.round
+none-other image r (NotSet own) none other holds = none-round image r none.steps.ahead own.back own.counter holds.0.loops holds.0.round
 none-other image r (InTurn both) none other holds =
     let less = loop-ahead image r none.steps.ahead both.back both.counter holds.loops in
     let round = round-ahead image r none.steps.ahead (Some both.counter) both.back.to both.at holds.loops.to holds.sets.round in

@@ -16,13 +16,14 @@ use Rattle.geos_infer.specs.Taken as taken
 use Rattle.geos_infer.specs.Ahead.{MayPass, NonePasses}
 use Rattle.geos_potentials.specs.declared.unpaid.BackWay.{BackWay}
 use Rattle.geos_infer.specs.declared.cause.Within.{Within}
+use Rattle.geos_infer.specs.declared.cause.LoopOn.{LoopOn}
 use Rattle.geos_infer.specs.declared.cause.LoopPair.{LoopPair}
 use Rattle.geos_infer.specs.declared.cause.LoopRing.{LoopRing}
 use Rattle.geos_infer.specs.declared.cause.ByWord.{ByWord}
 use Rattle.geos_infer.specs.declared.cause.ByNumber.{ByNumber}
 use Rattle.geos_infer.specs.declared.cause.Cause.{Cause}
-use Rattle.geos_infer.specs.declared.cause.Cause.TheVariants.{SlotsDiffer, NoLoop, SetWithin, TouchedWithin, TouchedBefore, InTurn, InRing, StepsPass, WordUnbounded, NumberHigh, WordDear, NumberDear, GivenUp, StepsMayPass, NoSteps, Unfound, Unknown}
-use Rattle.geos_potentials.specs.Idle.{GoesRound, PassesAt, calls_touching, IsKept, IsNeverPaid}
+use Rattle.geos_infer.specs.declared.cause.Cause.TheVariants.{SlotsDiffer, NoLoop, SetWithin, SetAgain, TouchedWithin, TouchedBefore, NotSet, InTurn, InRing, StepsPass, WordUnbounded, NumberHigh, WordDear, NumberDear, GivenUp, StepsMayPass, NoSteps, Unfound, Unknown}
+use Rattle.geos_potentials.specs.Idle.{GoesRound, PassesAt, calls_touching, IsKept, IsUnset, IsNeverPaid}
 
 -- an instruction of routine r leads back within it by its target
 pub record LeadsBack (image : Parts) (r : ℕ) (back : BackWay) : Type 0 where
@@ -59,6 +60,10 @@ IsTrailBut image r counter but from [] to = from ≡ to
 IsTrailBut image r counter but from (branch ∷ branches) to = (next : ℕ) × (but ≢ Some from) × LeadsKeeping image r counter from branch next
     × IsTrailBut image r counter but next branches to
 
+-- control can come from one pc of routine r to another, by edges of which none is from a third
+abbrev pub ComesBut : Parts → ℕ → Option ℕ → ℕ → ℕ → Type 0
+ComesBut image r but from to = (branches : List Bool) × IsTrailBut image r None but from branches to
+
 -- behind a pc the counter is kept up to another, by edges of which none is from a third
 pub record IsKeptBut (image : Parts) (r counter at : ℕ) (but : Option ℕ) (to : ℕ) : Type 0 where
   pub behind : IsPcOf image r (at + 1)
@@ -72,6 +77,14 @@ pub record SetsWithin (image : Parts) (r : ℕ) (within : Within) : Type 0 where
   pub sets : PassesAt image within.at (λ i. sets_counter within.counter i i.opcode)
   pub kept : IsKeptBut image r within.counter within.at (Some within.back.to) within.back.from
   pub round : ComesRound image r (Some within.counter) within.back.to within.at
+
+-- within one turn of a loop, from a LOOP's target on, control comes, not by the LOOP, to where its counter is set, and from there to it
+pub record SetsInTurn (image : Parts) (r : ℕ) (within : Within) : Type 0 where
+  pub loops : LoopsTo image r within.back within.counter
+  pub here : IsPcOf image r within.at
+  pub sets : PassesAt image within.at (λ i. sets_counter within.counter i i.opcode)
+  pub kept : IsKeptBut image r within.counter within.at (Some within.back.to) within.back.from
+  pub turn : ComesBut image r (Some within.back.from) within.back.to within.at
 
 -- a routine is called that touches the counter of a LOOP, and it is not set from there to the LOOP
 pub record LeavesTouched (image : Parts) (r : ℕ) (within : Within) : Type 0 where
@@ -89,6 +102,12 @@ pub record TouchesBefore (image : Parts) (r : ℕ) (within : Within) : Type 0 wh
 pub record TouchesWithin (image : Parts) (r : ℕ) (within : Within) : Type 0 where
   pub left : LeavesTouched image r within
   pub round : ComesRound image r None within.back.to within.at
+
+-- control goes round by a LOOP, and on a way to it from where routine r begins nothing sets its counter, or touches it
+pub record TakesUnset (image : Parts) (r : ℕ) (own : LoopOn) : Type 0 where
+  pub loops : LoopsTo image r own.back own.counter
+  pub unset : IsUnset image r own.counter own.back.from
+  pub round : ComesRound image r None own.back.to own.back.from
 
 -- in the loop that a LOOP closes, which goes round with its own counter, that of another LOOP is set, and kept from there to that
 pub record SetsFor (image : Parts) (r : ℕ) (back : BackWay) (own : ℕ) (other : BackWay) (counter at : ℕ) : Type 0 where
@@ -178,8 +197,10 @@ abbrev pub Holds : Parts → ℕ → Cause → Type 0
 Holds image r (SlotsDiffer apart) = AreApart image r apart
 Holds image r (NoLoop back) = GoesRound image r back.from back.to
 Holds image r (SetWithin within) = SetsWithin image r within
+Holds image r (SetAgain within) = SetsInTurn image r within
 Holds image r (TouchedWithin within) = TouchesWithin image r within × IsNeverPaid image r
 Holds image r (TouchedBefore within) = TouchesBefore image r within × IsNeverPaid image r
+Holds image r (NotSet own) = TakesUnset image r own × IsNeverPaid image r
 Holds image r (InTurn both) = WaitInTurn image r both
 Holds image r (InRing ring) = WaitInRing image r ring
 Holds image r StepsPass = taken.StepsPass image r
@@ -207,6 +228,7 @@ abbrev pub is_final : Cause → Bool
 is_final (NoLoop back) = true
 is_final (TouchedWithin within) = true
 is_final (TouchedBefore within) = true
+is_final (NotSet own) = true
 is_final StepsPass = true
 is_final (WordUnbounded by_word) = true
 is_final (NumberHigh by_number) = true

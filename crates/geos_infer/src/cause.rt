@@ -14,6 +14,15 @@ pub struct Within {
     pub at: u16,
 }
 
+/// A LOOP with its counter.
+#[derive(Clone, Copy)]
+pub struct LoopOn {
+    /// LOOP's way to its target.
+    pub back: BackWay,
+    /// The counter that it takes from.
+    pub counter: u8,
+}
+
 /// Two loops that wait on each other.
 #[derive(Clone, Copy)]
 pub struct LoopPair {
@@ -79,10 +88,14 @@ pub enum Cause {
     NoLoop(BackWay),
     /// The counter of a loop is set within it.
     SetWithin(Within),
+    /// The counter of a loop is set within it, though not with what it was at the loop's head.
+    SetAgain(Within),
     /// A routine that is called within the loop of a counter touches it.
     TouchedWithin(Within),
     /// A routine that is called before the loop of a counter touches it, and it is not set behind that.
     TouchedBefore(Within),
+    /// On a way to a LOOP nothing sets its counter.
+    NotSet(LoopOn),
     /// Two loops set the counters of each other.
     InTurn(LoopPair),
     /// Loops set the counters of each other in a ring.

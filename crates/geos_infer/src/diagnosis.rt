@@ -13,12 +13,13 @@ ghost use Rattle.geos_rows.specs.Why.{MeetAlike};
 
 use crate::ahead::may_pass;
 use crate::cause::{Cause, Within};
-use crate::in_turn::find_in_turn;
+use crate::idle::{cause_of_idle, find_touched};
+use crate::in_turn::{find_in_turn, find_own_set};
 use crate::ring::find_in_ring;
 use crate::setting::find_dear;
 use crate::trails::Trails;
 use crate::turns::steps_pass;
-use crate::within::{find_set_within, find_touched_before, find_touched_within};
+use crate::within::{find_set_again, find_set_within};
 use geos_image::{Image, Potential};
 use geos_potentials::{
     BackWay, Halt, Lack, Piece, Potentials, Search, Touching, find_round, find_touching,
@@ -72,13 +73,7 @@ fn cause_at(
     if let Some(within) = find_set_within(body, touching, graph, order, piece, from, trails) {
         return Some(Cause::SetWithin(within));
     }
-    if let Some(within) = find_touched_within(body, touching, graph, order, piece, from, trails) {
-        return Some(Cause::TouchedWithin(within));
-    }
-    match find_touched_before(body, touching, graph, from, trails) {
-        Some(before) => Some(Cause::TouchedBefore(before)),
-        None => None,
-    }
+    find_touched(body, touching, search, piece, from, trails)
 }
 
 /// The first cause for which a LOOP of a component may not pay there, where on some way round none may.
@@ -126,6 +121,32 @@ fn find_set(
     None
 }
 
+/// Where in a component the counter of a LOOP is set for it, whatever it was at the loop's head, as the cause where nests lack that.
+fn cause_of_set_again(
+    body: &Body,
+    touching: &Touching,
+    search: &Search,
+    halt: Halt,
+    trails: &mut Trails,
+) -> Option<Cause>
+    requires { KnowsTouched body.now.image.now touching.now }
+    ensures { IfSome result (Holds body.now.image.now body.now.r) }
+{
+    let Halt::Unpaid(Lack::SetWithin(piece)) = halt else {
+        return None;
+    };
+    let graph = &search.graph;
+    let order = &search.splitting.order;
+    for pc in body.start..body.end {
+        if order.has(&piece, pc) {
+            if let Some(within) = find_set_again(body, touching, graph, order, &piece, pc, trails) {
+                return Some(Cause::SetAgain(within));
+            }
+        }
+    }
+    None
+}
+
 /// The first way that leads back, as the cause where the search took too long.
 fn cause_of_looks(body: &Body) -> Option<Cause>
     ensures { IfSome result (Holds body.now.image.now body.now.r) }
@@ -136,7 +157,7 @@ fn cause_of_looks(body: &Body) -> Option<Cause>
     }
 }
 
-/// Loops that wait on each other, as the cause.
+/// Loops that wait on each other, or one on itself, as the cause.
 fn cause_in_turn(
     body: &Body,
     touching: &Touching,
@@ -151,8 +172,11 @@ fn cause_in_turn(
     if let Some(pair) = find_in_turn(body, touching, graph, splitting, trails) {
         return Some(Cause::InTurn(pair));
     }
-    match find_in_ring(body, touching, graph, splitting, trails) {
-        Some(ring) => Some(Cause::InRing(ring)),
+    if let Some(ring) = find_in_ring(body, touching, graph, splitting, trails) {
+        return Some(Cause::InRing(ring));
+    }
+    match find_own_set(body, touching, graph, splitting, trails) {
+        Some(within) => Some(Cause::SetWithin(within)),
         None => None,
     }
 }
@@ -293,12 +317,20 @@ impl Tables {
             trails,
             strongest,
         } = self;
-        match search.find(body, known, &touching.certain, potentials) {
-            Ok(()) => Ok(None),
-            Err(halt) => cause_of_halt(
-                alloc, body, touching, known, search, halt, trails, strongest,
-            ),
+        let Err(halt) = search.find(body, known, &touching.certain, potentials) else {
+            return Ok(None);
+        };
+        let cause = cause_of_halt(
+            alloc, body, touching, known, search, halt, trails, strongest,
+        )?;
+        if let Some(cause) = cause {
+            return Ok(Some(cause));
         }
+        let set_again = cause_of_set_again(body, touching, search, halt, trails);
+        Ok(match cause_of_idle(body, touching, known, search, trails) {
+            Some(cause) => Some(cause),
+            None => set_again,
+        })
     }
 }
 

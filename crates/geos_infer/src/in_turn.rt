@@ -1,13 +1,13 @@
 //! Loops that wait on each other: each sets the counter of the other, so that what a unit of either pays for grows with that of the
-//! other.
+//! other; or a loop that waits on itself.
 
 ghost use Rattle.std.specs.Prelude.{◌<◌, IfSome};
 ghost use Rattle.geos_potentials.specs.Touching.{KnowsTouched};
-ghost use Rattle.geos_infer.specs.Causes.{WaitInTurn, SetsFor};
+ghost use Rattle.geos_infer.specs.Causes.{WaitInTurn, SetsFor, SetsWithin};
 
-use crate::cause::LoopPair;
+use crate::cause::{LoopPair, Within};
 use crate::trails::Trails;
-use crate::within::{comes_round, kept_from, loop_at, note_set, sets_at};
+use crate::within::{comes_round, find_set_within, kept_from, loop_at, note_set, sets_at};
 use geos_image::MOST_INSTRS;
 use geos_potentials::{BackWay, Graph, Jump, Piece, Splitting, Touching};
 use geos_rows::Body;
@@ -145,6 +145,42 @@ pub(crate) fn find_in_turn(
                         return Some(found);
                     }
                 }
+            }
+        }
+    }
+    None
+}
+
+/// The places of the nest that the LOOP at a pc pays in, if its counter is set there, and it was paid for again and again.
+fn tight_piece(splitting: &Splitting, pc: u16) -> Option<Piece>
+    requires { pc < 4096 }
+{
+    let nest = splitting.nests.at(nest_of(splitting, pc)?);
+    if nest.tight && 2 < nest.paid {
+        Some(nest.piece)
+    } else {
+        None
+    }
+}
+
+/// Where the counter of a LOOP is set within its own loop, among those that were paid for again and again.
+pub(crate) fn find_own_set(
+    body: &Body,
+    touching: &Touching,
+    graph: &Graph,
+    splitting: &Splitting,
+    trails: &mut Trails,
+) -> Option<Within>
+    requires { KnowsTouched body.now.image.now touching.now }
+    ensures { IfSome result (SetsWithin body.now.image.now body.now.r) }
+{
+    let order = &splitting.order;
+    for from in body.start..body.end {
+        if let Some(piece) = tight_piece(splitting, from) {
+            if let Some(within) = find_set_within(
+                body, touching, graph, order, &piece, from, trails,
+            ) {
+                return Some(within);
             }
         }
     }

@@ -8,6 +8,7 @@ mod cause;
 mod counters;
 mod diagnosis;
 mod error;
+mod idle;
 mod in_turn;
 mod inference;
 mod reach;
@@ -17,7 +18,7 @@ mod trails;
 mod turns;
 mod within;
 
-pub use cause::{ByNumber, ByWord, Cause, LoopPair, LoopRing, Within};
+pub use cause::{ByNumber, ByWord, Cause, LoopOn, LoopPair, LoopRing, Within};
 pub use diagnosis::{find_cause, no_other_cause_holds, none_is_accepted_for};
 pub use error::InferError;
 pub use geos_potentials::BackWay;

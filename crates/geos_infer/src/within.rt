@@ -1,8 +1,9 @@
 //! Counters that are set, or that a call touches, where their own loops go round.
 
-ghost use Rattle.std.specs.Prelude.{◌≡◌, ◌<◌, ◌≤◌, true, IfSome};
+ghost use Rattle.std.specs.Prelude.{◌≡◌, ◌<◌, ◌≤◌, true, Some, IfSome};
 ghost use Rattle.geos_potentials.specs.Touching.{KnowsTouched};
-ghost use Rattle.geos_infer.specs.Causes.{LoopsTo, ComesRound, IsKeptBut, SetsWithin, TouchesWithin, TouchesBefore, sets_counter};
+ghost use Rattle.geos_infer.specs.Causes.{LoopsTo, ComesRound, IsKeptBut, ComesBut, sets_counter};
+ghost use Rattle.geos_infer.specs.Causes.{SetsWithin, SetsInTurn, TouchesWithin, TouchesBefore};
 ghost use Rattle.geos_potentials.specs.Idle.{IsKept, PassesAt, calls_touching};
 ghost use Rattle.geos_rows.specs.Code.{IsPcOf};
 
@@ -80,6 +81,27 @@ pub(crate) fn comes_round(
     trails.note(from, None);
     trails.go(graph, counter, None);
     trails.lead(body, touching, counter, None, from, to)
+}
+
+/// Whether control can come from one place to another, by edges of which none is from a third.
+fn comes_but(
+    body: &Body,
+    touching: &Touching,
+    graph: &Graph,
+    trails: &mut Trails,
+    but: u16,
+    from: u16,
+    to: u16,
+) -> bool
+    requires first { from < 4096 }
+    requires second { to < 4096 }
+    requires touched { KnowsTouched body.now.image.now touching.now }
+    ensures { result ≡ true → ComesBut body.now.image.now body.now.r (Some but) from to }
+{
+    trails.clear(body);
+    trails.note(from, None);
+    trails.go(graph, None, Some(but));
+    trails.lead(body, touching, None, Some(but), from, to)
 }
 
 /// Whether the counter is kept behind a place on the way to another that is noted, and no edge of that is from a third.
@@ -205,6 +227,32 @@ pub(crate) fn find_set_within(
     if sets_at(body, counter, at)
         && comes_round(body, touching, graph, trails, Some(counter), back.to, at)
     {
+        Some(Within { back, counter, at })
+    } else {
+        None
+    }
+}
+
+/// A place of a piece where, within a turn of the loop that a LOOP closes, its counter is set, whatever it was, and kept from there to the
+/// LOOP.
+pub(crate) fn find_set_again(
+    body: &Body,
+    touching: &Touching,
+    graph: &Graph,
+    order: &Order,
+    piece: &Piece,
+    from: u16,
+    trails: &mut Trails,
+) -> Option<Within>
+    requires here { from < body.now.end }
+    requires touched { KnowsTouched body.now.image.now touching.now }
+    ensures { IfSome result (SetsInTurn body.now.image.now body.now.r) }
+{
+    let (back, counter) = loop_at(body, from)?;
+    let target = Some(back.to);
+    note_set(body, graph, order, piece, counter, target, trails);
+    let at = kept_from(body, touching, trails, counter, target, from)?;
+    if sets_at(body, counter, at) && comes_but(body, touching, graph, trails, from, back.to, at) {
         Some(Within { back, counter, at })
     } else {
         None

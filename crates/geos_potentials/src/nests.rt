@@ -1,6 +1,6 @@
 //! Nests: places among which control goes round, each with the LOOPs that pay for that.
 
-ghost use Rattle.std.specs.Prelude.{◌≡◌, ◌<◌, ◌≤◌, ◌+◌, ℕ, None, true, IfErr, slice_index_or, slice_set};
+ghost use Rattle.std.specs.Prelude.{◌≡◌, ◌<◌, ◌≤◌, ◌+◌, ℕ, None, true, IfSome, IfErr, slice_index_or, slice_set};
 ghost use Rattle.geos_potentials.specs.Pieces.{NoneMayPay};
 ghost use Rattle.geos_potentials.specs.Spent.{AreFree, LoopsSpent, StayFree};
 ghost use Rattle.geos_potentials.specs.Stuck.{StayNoted, GoesRoundIdle};
@@ -40,7 +40,7 @@ pub struct Nest {
     /// How many are around it.
     depth: u16,
     /// Whether its counter is set in it and kept from there to one of its LOOPs.
-    pub(crate) tight: bool,
+    pub tight: bool,
     /// Whether it is to be paid for.
     pub(crate) due: bool,
     /// The last round over the nests in which one in it was left to the next.
@@ -214,6 +214,19 @@ fn loops_spent(graph: &Graph, classes: &Classes, pc: u16) -> bool
     }
 }
 
+/// Whether the LOOP at a pc may pay, by what is noted.
+fn may_pay(graph: &Graph, classes: &Classes, pc: u16) -> bool
+    requires { pc < 4096 }
+{
+    let Some(arc) = graph.arc(pc, true) else {
+        return false;
+    };
+    match arc.takes() {
+        Some(counter) => !classes.is_idle(pc, counter),
+        None => false,
+    }
+}
+
 /// What a search for nests goes by.
 #[derive(Drop)]
 pub struct Splitting {
@@ -370,6 +383,38 @@ impl Splitting {
             self.make(body, graph, classes, &waiting)?;
         }
         Ok(())
+    }
+
+    /// LOOPs that may pay are left out.
+    fn leave_out_paying(&mut self, body: &Body, graph: &Graph, classes: &Classes) {
+        self.jumps.fill_from(body.start, Jump::Plain);
+        for pc in body.start..body.end {
+            if may_pay(graph, classes, pc) {
+                self.jumps.set(pc, Jump::Free);
+            }
+        }
+    }
+
+    /// Finds a component in which control goes round, and no LOOP on the way may pay, in the place of nests.
+    pub(crate) fn find_idle(
+        &mut self,
+        body: &Body,
+        graph: &Graph,
+        classes: &Classes,
+    ) -> Option<Piece>
+        ensures { IfSome result (GoesRoundIdle body.now.image.now body.now.r graph.now.arcs classes.now self.new.order) }
+    {
+        self.leave_out_paying(body, graph, classes);
+        self.nests.waits = 0;
+        let all = self.order.begin(body);
+        self.split(graph, &all, None);
+        for _ in 0..MOST_INSTRS {
+            let piece = self.nests.take()?.piece;
+            if goes_round_idle(body, graph, classes, self, &piece) {
+                return Some(piece);
+            }
+        }
+        None
     }
 }
 

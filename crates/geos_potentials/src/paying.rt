@@ -116,6 +116,11 @@ impl Round {
             ..*self
         })
     }
+
+    /// Whether it is one of a nest in the nest, which is dearer since the unit was raised.
+    fn is_within(&self) -> bool {
+        self.is_set && self.least.is_none()
+    }
 }
 
 /// A nest that is paid for.
@@ -369,7 +374,7 @@ impl Paying {
         self.round_at(graph, splitting, units, at)
     }
 
-    /// The least unit with which no way round lacks something.
+    /// The least unit with which no way round lacks something, or less, where nests in this one are to be paid for again before.
     pub(crate) fn find_unit(
         &mut self,
         graph: &Graph,
@@ -394,6 +399,9 @@ impl Paying {
                 continue;
             }
             if let Some(round) = self.find_round(graph, splitting, units) {
+                if 0 < raises && round.is_within() {
+                    return Ok(());
+                }
                 match self.raised(&round, raises) {
                     Ok(unit) => self.unit = unit,
                     Err(lack) => return Err(lack),

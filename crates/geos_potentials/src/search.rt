@@ -1,6 +1,6 @@
 //! The search for potentials of a routine with loops.
 
-ghost use Rattle.std.specs.Prelude.{◌≡◌, ◌+◌, List, [], Bool, Option, IfOk, IfErr};
+ghost use Rattle.std.specs.Prelude.{◌≡◌, ◌+◌, List, [], Bool, Option, IfSome, IfOk, IfErr};
 ghost use Rattle.geos_image.specs.Parts.{start_of};
 ghost use Rattle.geos_image.specs.declared.row.Row.{Row};
 ghost use Rattle.geos_potentials.specs.Arcs.{AreArcs};
@@ -9,6 +9,7 @@ ghost use Rattle.geos_potentials.specs.Constants.{ArePaidIn, AreLeastIn, AreLeas
 ghost use Rattle.geos_potentials.specs.Count.{StaysFrom};
 ghost use Rattle.geos_potentials.specs.Demands.{AreWanted};
 ghost use Rattle.geos_potentials.specs.Halts.{IsInTheWay};
+ghost use Rattle.geos_potentials.specs.Idle.{IsNeverPaid};
 ghost use Rattle.geos_potentials.specs.Lacks.{IsLack};
 ghost use Rattle.geos_potentials.specs.Least.{steps_at};
 ghost use Rattle.geos_potentials.specs.Numbers.{numbers_of};
@@ -113,5 +114,14 @@ impl Search {
         } else {
             Err(Halt::Passes)
         }
+    }
+
+    /// Finds a component in which control goes round, and no LOOP on the way may pay.
+    pub fn find_idle(&mut self, body: &Body, known: &Known, touched: &Touched) -> Option<Piece>
+        ensures { NotesTouched body.now.image.now touched.now → IfSome result (λ _. IsNeverPaid body.now.image.now body.now.r) }
+    {
+        self.graph.note(body, known, touched);
+        self.classes.note(body, &self.graph);
+        self.splitting.find_idle(body, &self.graph, &self.classes)
     }
 }

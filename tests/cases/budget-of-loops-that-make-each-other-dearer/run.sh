@@ -1,0 +1,1 @@
+"$1" budget "$(dirname "$0")/text.asm"
