@@ -1,14 +1,11 @@
 -- What stops the search for rows and potentials.
-use Rattle.std.proofs.Common.{◌≡◌, ◌<◌, ℕ, List, Option, length, true}
-use Rattle.geos_image.specs.declared.row.Row.{Row}
+use Rattle.std.proofs.Common.{◌≡◌, ◌<◌, ℕ, length, true}
 use Rattle.geos_image.specs.Legal.{is_image}
 use Rattle.geos_image.specs.Parts.{Parts}
-use Rattle.geos_rows.specs.Reached.{FitWhereReached}
 use Rattle.geos_rows.specs.Solutions.{NoRowsHoldIn}
 use Rattle.geos_rows.specs.Why.{AreApart, MeetAlike}
 use Rattle.geos_rows.specs.declared.apart.Apart.{Apart}
 use Rattle.geos_rows.proofs.Weakening.{never-apart}
-use Rattle.geos_potentials.specs.Reasons.{IsReason}
 use Rattle.geos_potentials.specs.Steps.{NoStepsHoldIn}
 use Rattle.geos_infer.specs.Findings.{IsUnpaid, IsObstacle, Stops}
 use Rattle.geos_infer.specs.Theorem.{NothingHoldsIn, HasReason}

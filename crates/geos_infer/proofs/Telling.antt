@@ -1,5 +1,5 @@
 -- Causes that tell of what stops the search for rows and potentials.
-use Rattle.std.proofs.Common.{◌≡◌, Bool, true, Option, Some, None, inr}
+use Rattle.std.proofs.Common.{◌≡◌, true, Option, Some, None, inr}
 use Rattle.std.specs.Prelude.{Result, Ok, Err, IfOk, IfSome}
 use Rattle.geos_infer.specs.Tells.{tells_of_setting, TellsOfPassing}
 use Rattle.geos_infer.specs.declared.cause.Cause.{Cause}

@@ -1,6 +1,6 @@
 //! How many steps are left at most, and what units of counters pay for, routine by routine.
 
-ghost use Rattle.std.specs.Prelude.{◌≡◌, ◌<◌, ◌≤◌, ◌+◌, ℕ, None, false, is_none, is_some, length, IfOk, IfErr, IfSome};
+ghost use Rattle.std.specs.Prelude.{◌≡◌, ◌<◌, ◌≤◌, ◌+◌, None, false, is_none, is_some, length, IfOk, IfErr, IfSome};
 ghost use Rattle.geos_image.specs.Parts.{start_of};
 ghost use Rattle.geos_rows.specs.Code.{ForwardIn};
 ghost use Rattle.geos_potentials.specs.Constants.{HasLoops, PayLeastIn, AreLeastFrom};

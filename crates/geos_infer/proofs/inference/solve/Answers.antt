@@ -1,5 +1,5 @@
-use Rattle.std.proofs.Common.{◌≡◌, ◌<◌, ℕ, length, sym, subst, arith}
-use Rattle.std.specs.Prelude.{Option, None, IfSome, IfNone}
+use Rattle.std.proofs.Common.{◌≡◌, ◌<◌, ℕ, length, subst, arith}
+use Rattle.std.specs.Prelude.{Option, IfNone}
 use Rattle.geos_verify.proofs.Places.{if_some}
 use Rattle.geos_potentials.specs.Constants.{AreLeastFrom}
 use Rattle.geos_potentials.specs.Count.{AreCounted}
