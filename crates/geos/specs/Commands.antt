@@ -1,5 +1,5 @@
 -- What the commands on the bytes of texts and images answer.
-use Rattle.std.specs.Prelude.{◌≡◌, ◌⊎◌, ℕ, Bool, true, false, not, MatchBool, ◌==◌, List, [], Ok, Option, codes}
+use Rattle.std.specs.Prelude.{◌≡◌, ℕ, Bool, true, false, not, MatchBool, ◌==◌, List, Ok, Option, codes}
 use Rattle.std.specs.List.{starts_with}
 use Rattle.geos_image.specs.Parts.{Parts}
 use Rattle.geos_image.specs.Legal.{is_formed}
@@ -11,10 +11,12 @@ use Rattle.geos_explain.specs.Explanation.{AreItsRefusals, IsExplanationOf, IsVe
 use Rattle.geos_explain.specs.Texts.{IsTextExplanationOf}
 use Rattle.geos_source.specs.InstrLines.{instr_lines}
 use Rattle.geos_causes.specs.Causes.{cause_text}
+use Rattle.geos_lines.specs.Telling.{TellsFaults}
 use Rattle.geos_infer.specs.declared.cause.Cause.{Cause}
 use Rattle.geos_source.specs.Coded.{IsTextOf}
-use Rattle.geos_asm.specs.Assembling.{IsAssembled, BeginsNowhere, IsCauseOf, IsWhyNoImage}
+use Rattle.geos_asm.specs.Assembling.{IsAssembled, IsCauseOf, IsWhyNoImage}
 use Rattle.geos_asm.specs.declared.error.AssembleError.{AssembleError}
+use Rattle.geos_asm.specs.declared.error.AssembleError.TheVariants.{BadLine, NoRows, Memory}
 
 -- the bytes spell an image that is one of the text, with all rows or with those at its key places
 abbrev pub IsAssembledAs : List ℕ → Bool → List ℕ → Type 0
@@ -40,10 +42,13 @@ IsExplainedText text told reject =
     (image : Parts) × IsAssembled text image
     × ((refused : List (Option Rule)) × AreItsRefusals image reject refused × IsTextExplanationOf text (instr_lines text) image refused told)
 
--- what is told is nothing, where no routine of the text begins at the line, or a cause that holds of one that does
-abbrev pub IsCauseTold : List ℕ → ℕ → List ℕ → Type 0
-IsCauseTold text line told = (BeginsNowhere text line × (told ≡ [])) ⊎ ((cause : Cause) × IsCauseOf text line cause
-    × (told ≡ cause_text (instr_lines text) cause))
+-- the fault is the first one of the text, and what is told is a sentence on each faulty line; or a routine of it has no rows, and what is
+-- told is the cause
+abbrev pub IsFaultTold : List ℕ → AssembleError → List ℕ → Type 0
+IsFaultTold text (BadLine fault) told = IsWhyNoImage text (BadLine fault) × TellsFaults text told
+IsFaultTold text (NoRows line) told = IsWhyNoImage text (NoRows line)
+    × ((cause : Cause) × IsCauseOf text line cause × (told ≡ cause_text (instr_lines text) cause))
+IsFaultTold text Memory told = ⊥
 
 -- the bytes begin as an image does
 abbrev pub begins_as_image : List ℕ → Bool

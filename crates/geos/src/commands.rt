@@ -1,22 +1,20 @@
 //! The commands.
 
-ghost use Rattle.std.specs.Prelude.{◌≡◌, ◌↔◌, [], true, false, None, IfOk, IfErr, IfSome, IfNone};
-ghost use Rattle.geos_source.specs.Texts.{fault_of};
-ghost use Rattle.geos_lines.specs.Telling.{TellsFaults};
-ghost use Rattle.geos_asm.specs.Assembling.{IsWhyNoImage};
+ghost use Rattle.std.specs.Prelude.{◌≡◌, true, false, IfOk, IfErr, IfSome, IfNone};
+ghost use Rattle.geos_asm.specs.Assembling.{IsAssembled, IsWhyNoImage};
 ghost use Rattle.geos_image.specs.Reading.{image_at, Fails};
 ghost use Rattle.geos.specs.Commands.{IsAssembledAs, TakesVersion2, IsImageOf, IsWhyNoneOf, IsListed};
-ghost use Rattle.geos.specs.Commands.{IsJudged, IsExplained, IsExplainedText, IsCauseTold, begins_as_image};
+ghost use Rattle.geos.specs.Commands.{IsJudged, IsExplained, IsExplainedText, IsFaultTold, begins_as_image};
 
-use geos_asm::{AssembleError, assemble, assemble_all_rows, why_no_rows};
+use geos_asm::{AssembleError, Unassembled, assemble, assemble_all_rows, assemble_or_tell};
 use geos_causes::explain_cause;
 use geos_explain::{explain, explain_text};
-use geos_image::ReadError;
+use geos_image::{Image, ReadError};
 use geos_lines::tell_faults;
 use geos_source::lines_of_instrs;
 use geos_verify::{Reject, check, refused_places};
 use round_trip::list;
-use std::alloc::Global;
+use std::alloc::{AllocError, Global};
 
 /// The bytes of the image of an assembly text, with rows at its key places. Its faults are those of `geos_asm::assemble`.
 pub(crate) fn assemble_bytes(alloc: Global, text: &[u8]) -> Result<Vec<u8>, AssembleError>
@@ -116,13 +114,11 @@ pub(crate) fn image_bytes(alloc: Global, bytes: Vec<u8>) -> Result<Vec<u8>, Asse
     }
 }
 
-/// The lines of a text that assembles, with what is known at each instruction; and whether the verifier accepts its
-/// image. The faults are those of `geos_asm::assemble`.
-pub(crate) fn explain_text_bytes(alloc: Global, text: &[u8]) -> Result<Explained, AssembleError>
-    ensures explained { IfOk result (λ explained. IsExplainedText text.now explained.text.items explained.reject) }
-    ensures fault { IfErr result (IsWhyNoImage text.now) }
+/// The lines of a text that has this image, with what is known at each instruction; and whether the verifier accepts the image.
+fn explain_assembled(alloc: Global, text: &[u8], image: Image) -> Result<Explained, AllocError>
+    requires { IsAssembled text.now image }
+    ensures { IfOk result (λ explained. IsExplainedText text.now explained.text.items explained.reject) }
 {
-    let image = assemble(alloc, text)?;
     let lines = lines_of_instrs(alloc, text)?;
     match check(image) {
         Ok(checked) => Ok(Explained {
@@ -136,22 +132,37 @@ pub(crate) fn explain_text_bytes(alloc: Global, text: &[u8]) -> Result<Explained
     }
 }
 
-/// Why no rows are found for the text, in a line of words, where `assemble` answers `NoRows(line)`; nothing where no
-/// routine begins at the line. The errors are those of `assemble`, but for `NoRows`.
-pub(crate) fn cause_bytes(alloc: Global, text: &[u8], line: usize) -> Result<Vec<u8>, AssembleError>
-    ensures { IfOk result (λ told. IsCauseTold text.now line told.items) }
-{
-    let lines = lines_of_instrs(alloc, text)?;
-    match why_no_rows(alloc, text, line)? {
-        Some(cause) => Ok(explain_cause(alloc, &lines, &cause)?),
-        None => Ok(Vec::new(alloc)),
-    }
+/// What there is to say of a text that is not assembled.
+#[derive(Drop)]
+pub(crate) struct Faulty {
+    /// A line on each faulty line of the text; or why no rows are found for it.
+    pub(crate) told: Vec<u8>,
+    /// The fault of `geos_asm::assemble`.
+    pub(crate) fault: AssembleError,
 }
 
-/// What there is to say of the faulty lines of a text, a line on each. `AssembleError::Memory` where an allocation is refused.
-pub(crate) fn faulty_lines_bytes(alloc: Global, text: &[u8]) -> Result<Vec<u8>, AssembleError>
-    ensures told { IfOk result (λ told. TellsFaults text.now told.items) }
-    ensures silent { IfOk result (λ told. (told.items ≡ []) ↔ (fault_of text.now ≡ None)) }
+/// The lines of a text that assembles, with what is known at each instruction; and whether the verifier accepts its
+/// image. Else why there is none.
+pub(crate) fn explain_text_bytes(
+    alloc: Global,
+    text: &[u8],
+) -> Result<Result<Explained, Faulty>, AllocError>
+    ensures explained { IfOk result (λ said. IfOk said (λ explained. IsExplainedText text.now explained.text.items explained.reject)) }
+    ensures told { IfOk result (λ said. IfErr said (λ faulty. IsFaultTold text.now faulty.fault faulty.told.items)) }
 {
-    Ok(tell_faults(alloc, text)?)
+    match assemble_or_tell(alloc, text) {
+        Ok(image) => Ok(Ok(explain_assembled(alloc, text, image)?)),
+        Err(Unassembled::BadLine(line)) => Ok(Err(Faulty {
+            told: tell_faults(alloc, text)?,
+            fault: AssembleError::BadLine(line),
+        })),
+        Err(Unassembled::NoRows(line, cause)) => {
+            let lines = lines_of_instrs(alloc, text)?;
+            Ok(Err(Faulty {
+                told: explain_cause(alloc, &lines, &cause)?,
+                fault: AssembleError::NoRows(line),
+            }))
+        }
+        Err(Unassembled::Memory) => Err(AllocError),
+    }
 }

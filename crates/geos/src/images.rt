@@ -1,8 +1,8 @@
 //! The commands on texts and images that a path names.
 
 use crate::commands::{
-    Explained, assemble_all_rows_bytes, assemble_bytes, begins_as_image, cause_bytes, check_bytes,
-    explain_bytes, explain_text_bytes, faulty_lines_bytes, image_bytes, list_bytes,
+    Explained, assemble_all_rows_bytes, assemble_bytes, begins_as_image, check_bytes,
+    explain_bytes, explain_text_bytes, image_bytes, list_bytes,
 };
 use crate::request_fault::RequestFault;
 use geos_asm::{AssembleError, with_least_budgets};
@@ -65,29 +65,15 @@ pub(crate) fn check<'a>(rt: &HostRuntime, path: &'a str) -> Result<(), RequestFa
     }
 }
 
-/// Prints why a text is not assembled: its faulty lines, or why no rows are found for it.
-fn print_why<'a>(
-    rt: &HostRuntime,
-    text: &[u8],
-    fault: &AssembleError,
-) -> Result<(), RequestFault<'a>> {
-    match fault {
-        AssembleError::BadLine(_) => {
-            Ok(print_lines(rt, &faulty_lines_bytes(rt.alloc(), text)?)?)
-        }
-        AssembleError::NoRows(line) => Ok(print_lines(rt, &cause_bytes(rt.alloc(), text, *line)?)?),
-        AssembleError::Memory => Ok(()),
-    }
-}
-
 /// What there is to say of a text. Where it is not assembled, it prints why.
 fn explained_text<'a>(rt: &HostRuntime, text: &[u8]) -> Result<Explained, RequestFault<'a>> {
     match explain_text_bytes(rt.alloc(), text) {
-        Ok(explained) => Ok(explained),
-        Err(fault) => {
-            print_why(rt, text, &fault)?;
-            Err(RequestFault::Assemble(fault))
+        Ok(Ok(explained)) => Ok(explained),
+        Ok(Err(faulty)) => {
+            print_lines(rt, &faulty.told)?;
+            Err(RequestFault::Assemble(faulty.fault))
         }
+        Err(_) => Err(RequestFault::Assemble(AssembleError::Memory)),
     }
 }
 

@@ -1,9 +1,8 @@
 -- What is found for the skeleton of a text's code is found for the text.
-use Rattle.std.proofs.Common.{◌≡◌, ◌<◌, ◌≤◌, ◌+◌, ◌∙◌, inl, inr, arith, ℕ, true, false, List, Some, length, Ok, refl, sym, ap, subst, slice_get}
+use Rattle.std.proofs.Common.{◌≡◌, ◌<◌, ◌∙◌, ℕ, true, false, List, Some, length, Ok, refl, ap, subst, slice_get}
 use Rattle.std.proofs.Math.ListN.{get_or}
-use Rattle.std.proofs.lemmas.Bool.{cases_lt}
 use Rattle.std.proofs.lemmas.List.{length-map}
-use Rattle.std.proofs.lemmas.Option.{same_Some, slice_get_read, slice_get_within}
+use Rattle.std.proofs.lemmas.Option.{slice_get_read}
 use Rattle.geos_image.specs.Parts.{Parts}
 use Rattle.geos_image.specs.Keys.{keyed_of}
 use Rattle.geos_image.specs.Legal.{is_formed}
@@ -15,10 +14,13 @@ use Rattle.geos_rows.specs.Code.{SameCode}
 use Rattle.geos_rows.specs.Reached.{AllHoldWhereReached}
 use Rattle.geos_infer.specs.Theorem.{FindsWhatThereIs, NoneIsAccepted, NothingHoldsIn}
 use Rattle.geos_infer.specs.Causes.{Holds, tells_of_slots}
+use Rattle.geos_infer.specs.Findings.{Stops}
+use Rattle.geos_infer.specs.Tells.{TellsOf}
 use Rattle.geos_rows.specs.Why.{MeetAlike}
 use Rattle.geos_infer.proofs.Keyed.{keyed-code, found-keyed, all-hold-keyed}
 use Rattle.geos_infer.specs.declared.cause.Cause.{Cause}
-use Rattle.geos_asm.specs.Assembling.{IsAssembled, RunsIfAnyDoes, HasNoRows, IsCauseOf, HasCause, BeginsAt, BeginsNowhere}
+use Rattle.geos_infer.specs.declared.finding.Finding.{Finding}
+use Rattle.geos_asm.specs.Assembling.{IsAssembled, RunsIfAnyDoes, HasNoRows, IsCauseOf}
 
 -- what is assembled of a text is so in version 2 too
 pub assembled_keyed : (text : List ℕ) (image : Parts) → is_formed true image ≡ true → IsAssembled text image → IsAssembled text (keyed_of image)
@@ -48,76 +50,41 @@ assembled text code blank image read is same rows found =
       found = subst (λ (b : Parts). FindsWhatThereIs b image) is found;
     }
 
+-- the routine that is read is one of the code
+routine-there : (code : Code) (blank : Parts) (r at : ℕ) (routine : TextRoutine) → blank ≡ skeleton code → r < length blank.routines → at ≡ r
+    → routine ≡ get_or code.routines at routine → slice_get code.routines r ≡ Some routine
+routine-there code blank r at routine is within same here =
+    slice_get_read code.routines (length blank.routines) r routine
+    (ap (λ (b : Parts). length b.routines) is ∙ length-map code.routines routine_of) within
+    (subst (λ (k : ℕ). routine ≡ get_or code.routines k routine) same here)
+
 -- a routine of the code begins at its line
 pub no_rows : (text : List ℕ) (code : Code) (blank : Parts) (r at : ℕ) (routine : TextRoutine) → code_of text ≡ Ok code
     → blank ≡ skeleton code → r < length blank.routines → at ≡ r → routine ≡ get_or code.routines at routine
     → NoneIsAccepted blank → NothingHoldsIn blank r → HasNoRows text routine.line
-no_rows text code blank r at routine read is within same here none stuck =
-    let count = ap (λ (b : Parts). length b.routines) is ∙ length-map code.routines routine_of in
-    let there = slice_get_read code.routines (length blank.routines) r routine count within
-    (subst (λ (k : ℕ). routine ≡ get_or code.routines k routine) same here) in
-    record {
-      code = code;
-      read = read;
-      begins = record { r = r; routine = routine; there = there; line_is = refl };
-      none =
-          subst NoneIsAccepted is none;
-      stuck = subst (λ (b : Parts). NothingHoldsIn b r) is stuck;
-    }
-
--- a cause that holds of a routine of the skeleton holds of the text's routine that begins at its line
-pub caused : (text : List ℕ) (code : Code) (blank : Parts) (r at line : ℕ) (items : List TextRoutine) (routine : TextRoutine) (cause : Cause)
-    → code_of text ≡ Ok code → blank ≡ skeleton code → items ≡ code.routines → at ≡ r → at < length items
-    → routine ≡ get_or items at routine → routine.line ≡ line
-    → Holds blank r cause → (tells_of_slots cause ≡ false → MeetAlike blank r) → IsCauseOf text line cause
-caused text code blank r at line items routine cause read is same_items same within here line_is holds slots =
-    let there = slice_get_read items (length items) at routine refl within here in
-    let there_in_code = subst (λ (l : List TextRoutine). slice_get l r ≡ Some routine) same_items
-    (subst (λ (k : ℕ). slice_get items k ≡ Some routine) same there) in
-    record {
-      code = code;
-      read = read;
-      begins = record { r = r; routine = routine; there = there_in_code; line_is = line_is };
-      holds = subst (λ (b : Parts). Holds b r cause) is holds;
-      slots = λ e. subst (λ (b : Parts). MeetAlike b r) is (slots e);
-    }
-
--- the code of a text is one
-same-code : (text : List ℕ) (one two : Code) → code_of text ≡ Ok one → code_of text ≡ Ok two → one ≡ two
-same-code text one two first second = cc
-
-pub has-cause : HasCause
-has-cause text line none nowhere =
-    let same : none.code ≡ nowhere.code = same-code text none.code nowhere.code none.read nowhere.read in
-    nowhere.nowhere (subst (λ (code : Code). BeginsAt code line) same none.begins)
-
--- the routine that is read begins where that of the code does
-pub read-one : (items routines : List TextRoutine) (r at : ℕ) (one other : TextRoutine) → items ≡ routines → at ≡ r → at < length items
-    → one ≡ get_or items at one → slice_get routines r ≡ Some other → one.line ≡ other.line
-read-one items routines r at one other same_items same within here there =
-    let found = slice_get_read items (length items) at one refl within here in
-    let there_too = subst (λ (l : List TextRoutine). slice_get l r ≡ Some one) same_items
-    (subst (λ (k : ℕ). slice_get items k ≡ Some one) same found) in
-    ap (λ (x : TextRoutine). x.line) (same_Some one other (sym there_too ∙ there))
-
--- none of so many routines of the code begins at the line, and one more does not
-pub none-more : (items : List TextRoutine) (r line : ℕ) → ((k : ℕ) (routine : TextRoutine) → k < r → slice_get items k ≡ Some routine
-    → routine.line ≡ line → ⊥) → ((routine : TextRoutine) → slice_get items r ≡ Some routine → routine.line ≡ line → ⊥)
-    → (k : ℕ) (routine : TextRoutine) → k < r + 1 → slice_get items k ≡ Some routine → routine.line ≡ line → ⊥
-none-more items r line before here k routine lt there is = elim (cases_lt k r) [
-  | inl earlier ↦ before k routine earlier there is
-  | inr late ↦ (let same : k ≡ r = omega arith in here routine (subst (λ (n : ℕ). slice_get items n ≡ Some routine) same there) is)
-]
-
--- where that is so of all of them, no routine of the text does
-pub begins-nowhere : (text : List ℕ) (code : Code) (blank : Parts) (count line : ℕ) → code_of text ≡ Ok code → blank ≡ skeleton code
-    → length blank.routines ≤ count → ((k : ℕ) (routine : TextRoutine) → k < count → slice_get code.routines k ≡ Some routine
-    → routine.line ≡ line → ⊥) → BeginsNowhere text line
-begins-nowhere text code blank count line read is all none = record {
+no_rows text code blank r at routine read is within same here none stuck = record {
   code = code;
   read = read;
-  nowhere = λ B.
-      let long = ap (λ (b : Parts). length b.routines) is ∙ length-map code.routines routine_of in
-      let within = slice_get_within code.routines B.r B.routine B.there in
-      none B.r B.routine (omega (arith, long, within, all)) B.there B.line_is;
+  begins = record { r = r; routine = routine; there = routine-there code blank r at routine is within same here; line_is = refl };
+  none = subst NoneIsAccepted is none;
+  stuck = subst (λ (b : Parts). NothingHoldsIn b r) is stuck;
 }
+
+-- a cause that holds of the routine where the skeleton's search stops, and tells of what stops it, is one of the text
+pub caused : (text : List ℕ) (code : Code) (blank : Parts) (finding : Finding) (at : ℕ) (routine : TextRoutine) (cause : Cause)
+    → code_of text ≡ Ok code → blank ≡ skeleton code → Stops blank finding → at ≡ finding.routine
+    → routine ≡ get_or code.routines at routine → Holds blank finding.routine cause
+    → (tells_of_slots cause ≡ false → MeetAlike blank finding.routine) → TellsOf finding.obstacle cause → IsCauseOf text routine.line cause
+caused text code blank finding at routine cause read is S same here holds slots tells =
+    let r = finding.routine in
+    record {
+      code = code;
+      read = read;
+      begins = record { r = r; routine = routine; there = routine-there code blank r at routine is S.within same here; line_is = refl };
+      holds = subst (λ (b : Parts). Holds b r cause) is holds;
+      slots = λ e. subst (λ (b : Parts). MeetAlike b r) is (slots e);
+      finding = finding;
+      stops = subst (λ (b : Parts). Stops b finding) is S;
+      there = refl;
+      tells = tells;
+    }

@@ -13,8 +13,13 @@ use Rattle.geos_rows.specs.Reached.{AllHoldWhereReached}
 use Rattle.geos_potentials.specs.Accepted.{HasAccepted}
 use Rattle.geos_infer.specs.Theorem.{FindsWhatThereIs, NoneIsAccepted, NothingHoldsIn}
 use Rattle.geos_infer.specs.Causes.{Holds, tells_of_slots}
+use Rattle.geos_infer.specs.Findings.{Stops}
+use Rattle.geos_infer.specs.Tells.{TellsOf}
 use Rattle.geos_rows.specs.Why.{MeetAlike}
 use Rattle.geos_infer.specs.declared.cause.Cause.{Cause}
+use Rattle.geos_infer.specs.declared.finding.Finding.{Finding}
+use Rattle.geos_asm.specs.declared.cause.Unassembled.{Unassembled}
+use Rattle.geos_asm.specs.declared.cause.Unassembled.TheVariants as unassembled
 use Rattle.geos_asm.specs.declared.error.AssembleError.{AssembleError}
 use Rattle.geos_asm.specs.declared.error.AssembleError.TheVariants.{BadLine, NoRows, Memory}
 
@@ -22,6 +27,11 @@ use Rattle.geos_asm.specs.declared.error.AssembleError.TheVariants.{BadLine, NoR
 abbrev pub of_parse : ParseError → AssembleError
 of_parse (parse_error.BadLine fault) = BadLine fault
 of_parse parse_error.Memory = Memory
+
+-- a parser's fault as why there is no image
+abbrev pub unassembled_by : ParseError → Unassembled
+unassembled_by (parse_error.BadLine fault) = unassembled.BadLine fault
+unassembled_by parse_error.Memory = unassembled.Memory
 
 -- a routine of the code begins at the line
 pub record BeginsAt (code : Code) (line : ℕ) : Type 0 where
@@ -60,21 +70,21 @@ IsWhyNoImage text (BadLine fault) = code_of text ≡ Err fault
 IsWhyNoImage text (NoRows line) = HasNoRows text line
 IsWhyNoImage text Memory = Unit {0}
 
--- the text has no fault, and none of its routines begins at the line
-pub record BeginsNowhere (text : List ℕ) (line : ℕ) : Type 0 where
-  pub code : Code
-  pub read : code_of text ≡ Ok code
-  pub nowhere : BeginsAt code line → ⊥
-
--- the cause holds of a routine of the text's code that begins at the line, and is that slots differ wherever
--- ways of control meet so
+-- the cause holds of a routine of the text's code that begins at the line, and is that slots differ wherever ways of control meet so; and it
+-- tells of what stops the search for rows and potentials there
 pub record IsCauseOf (text : List ℕ) (line : ℕ) (cause : Cause) : Type 0 where
   pub code : Code
   pub read : code_of text ≡ Ok code
   pub begins : BeginsAt code line
   pub holds : Holds (skeleton code) begins.r cause
   pub slots : tells_of_slots cause ≡ false → MeetAlike (skeleton code) begins.r
+  pub finding : Finding
+  pub stops : Stops (skeleton code) finding
+  pub there : finding.routine ≡ begins.r
+  pub tells : TellsOf finding.obstacle cause
 
--- there is a cause wherever a text has no rows
-abbrev pub HasCause : Type 0
-HasCause = (text : List ℕ) (line : ℕ) → HasNoRows text line → BeginsNowhere text line → ⊥
+-- why there is no image, with the cause: the text's first fault, no rows, or want of memory
+abbrev pub IsWhyUnassembled : List ℕ → Unassembled → Type 0
+IsWhyUnassembled text (unassembled.BadLine fault) = IsWhyNoImage text (BadLine fault)
+IsWhyUnassembled text (unassembled.NoRows line cause) = IsWhyNoImage text (NoRows line) × IsCauseOf text line cause
+IsWhyUnassembled text unassembled.Memory = Unit {0}

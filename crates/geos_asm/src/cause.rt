@@ -1,33 +1,63 @@
-//! Why no rows are found for a text.
+//! The image of a text, or why there is none, with the cause.
 
-ghost use Rattle.std.specs.Prelude.{◌≡◌, None, IfOk, IfSome};
-ghost use Rattle.geos_asm.specs.Assembling.{IsCauseOf, BeginsNowhere, HasCause};
+ghost use Rattle.std.specs.Prelude.{◌≡◌, true, IfOk, IfErr};
+ghost use Rattle.geos_asm.specs.Assembling.{IsAssembled, RunsIfAnyDoes, IsWhyUnassembled, unassembled_by};
+ghost use Rattle.geos_asm.specs.declared.cause.Unassembled.TheVariants.{Memory};
 
-use crate::error::AssembleError;
-use geos_infer::{Cause, find_cause};
-use geos_source::{parse, skeleton};
-use std::alloc::Global;
+use geos_image::Image;
+use geos_infer::{Cause, FindError, find_cause, find_image};
+use geos_source::{BadLine, ParseError, parse, skeleton};
+use std::alloc::{AllocError, Global};
 
-/// Why no rows, or no numbers of steps, are found for the routine that begins at a line of the text, which
-/// `AssembleError::NoRows` names; `None` only where no routine begins there, which is at no such line (`each_has_a_cause`). What the cause
-/// says holds of that routine. The errors are those of `assemble`, but for `NoRows`.
-pub fn why_no_rows(alloc: Global, text: &[u8], line: usize) -> Result<Option<Cause>, AssembleError>
-    ensures holds { IfOk result (λ cause. IfSome cause (IsCauseOf text.now line)) }
-    ensures none { IfOk result (λ cause. cause ≡ None → BeginsNowhere text.now line) }
+/// Why a text is not assembled, in an author's terms.
+#[derive(Drop)]
+pub enum Unassembled {
+    /// The text has a fault: its first faulty line, and why.
+    BadLine(BadLine),
+    /// The text has no fault. For the routine that begins at this line no rows or no numbers of steps are found, for this cause.
+    NoRows(usize, Cause),
+    /// An allocation was refused.
+    Memory,
+}
+
+impl From<AllocError> for Unassembled {
+    ghost from_gives = { λ _ why. why ≡ Memory };
+
+    fn from(_: AllocError) -> Unassembled {
+        Unassembled::Memory
+    }
+}
+
+impl From<ParseError> for Unassembled {
+    ghost from_gives = { λ fault why. why ≡ unassembled_by fault };
+
+    fn from(fault: ParseError) -> Unassembled {
+        match fault {
+            ParseError::BadLine(line) => Unassembled::BadLine(line),
+            ParseError::Memory => Unassembled::Memory,
+        }
+    }
+}
+
+/// What `assemble` answers; where that is `NoRows`, with the cause. What the cause says holds of the routine, and tells of what stopped the
+/// search for rows and numbers of steps there.
+pub fn assemble_or_tell(alloc: Global, text: &[u8]) -> Result<Image, Unassembled>
+    ensures image { IfOk result (IsAssembled text.now) }
+    ensures version { IfOk result (λ image. image.keyed ≡ true) }
+    ensures accepted { IfOk result (RunsIfAnyDoes text.now) }
+    ensures why { IfErr result (IsWhyUnassembled text.now) }
 {
     let parsed = parse(alloc, text)?;
     let blank = skeleton(alloc, &parsed)?;
-    for r in 0..blank.count() {
-        if let Some(routine) = parsed.routines.get(usize::from(r)) {
-            if routine.line == line {
-                return Ok(Some(find_cause(alloc, &blank, r)?));
-            }
+    match find_image(alloc, &blank) {
+        Ok(whole) => Ok(whole.into_keyed()),
+        Err(FindError::Stopped(finding)) => {
+            let routine = &parsed.routines[usize::from(finding.routine)];
+            let cause = find_cause(alloc, &blank, &finding);
+            // By a call, so that the check does not go over each table here.
+            drop(finding);
+            Err(Unassembled::NoRows(routine.line, cause?))
         }
+        Err(FindError::Memory) => Err(Unassembled::Memory),
     }
-    Ok(None)
 }
-
-/// A law: where `assemble` answers `NoRows(line)`, a routine begins at that line, so that there is a cause.
-pub fn each_has_a_cause()
-    ensures { HasCause }
-{}

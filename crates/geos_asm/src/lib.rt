@@ -10,6 +10,6 @@ mod error;
 
 pub use assembler::{assemble, assemble_all_rows};
 pub use budgets::with_least_budgets;
-pub use cause::{each_has_a_cause, why_no_rows};
+pub use cause::{Unassembled, assemble_or_tell};
 pub use error::AssembleError;
 pub use geos_source::{BadLine, Why};

@@ -1,7 +1,9 @@
 pub mod Borrowing
 pub mod Wanted
 pub mod Accepting
-pub mod Finding
+pub mod Found
+pub mod Stopping
+pub mod Telling
 pub mod Keyed
 pub mod Copies
 pub mod Changes

@@ -1,17 +1,19 @@
 -- The rows and potentials that are found are enough wherever some are.
-use Rattle.std.specs.Prelude.{◌<◌, ℕ, false, List, Option, length}
+use Rattle.std.specs.Prelude.{◌≡◌, ◌<◌, ℕ, false, List, Option, length}
 use Rattle.geos_image.specs.declared.row.Row.{Row}
 use Rattle.geos_image.specs.declared.point.Point.{Point}
 use Rattle.geos_image.specs.Parts.{Parts}
 use Rattle.geos_verify.specs.Rules.{IsAcceptable}
 use Rattle.geos_infer.specs.declared.error.InferError.{InferError}
 use Rattle.geos_infer.specs.declared.error.InferError.TheVariants.{NoRows, Memory}
-use Rattle.geos_rows.specs.Code.{Forward, ForwardIn}
+use Rattle.geos_rows.specs.Code.{Forward, ForwardIn, SameCode}
 use Rattle.geos_rows.specs.Solutions.{RowsHoldIn}
 use Rattle.geos_potentials.specs.Reasons.{IsReason}
 use Rattle.geos_potentials.specs.Steps.{StepsHoldIn}
 use Rattle.geos_potentials.specs.declared.reason.Reason.{Reason}
-use Rattle.geos_rows.specs.Reached.{FitWhereReached}
+use Rattle.geos_rows.specs.Reached.{AllHoldWhereReached, FitWhereReached}
+use Rattle.geos_rows.specs.Why.{MeetAlike}
+use Rattle.geos_potentials.specs.Constants.{HasLeastConstants, HasCoefficientsForLoops, PaysForLoops}
 use Rattle.geos_potentials.specs.Accepted.{HasAccepted}
 
 -- the routines of the image with these points, and all rows
@@ -29,6 +31,18 @@ NoneIsAccepted skeleton = Forward skeleton → HasAccepted skeleton → ⊥
 -- no rows and numbers of steps hold in routine r, or it has loops
 abbrev pub NothingHoldsIn : Parts → ℕ → Type 0
 NothingHoldsIn image r = ForwardIn image r → (rows : List Row) (steps : List ℕ) → RowsHoldIn image r rows → StepsHoldIn image r steps → ⊥
+
+-- all rows and the potentials are found for the skeleton's code: rows hold wherever control reaches, and ways of control meet with slots that
+-- differ in marks at most; in routines with loops the potentials pay, and are the least that do with their coefficients, which are wanted
+pub record IsInferred (skeleton found : Parts) : Type 0 where
+  pub code : SameCode skeleton found
+  pub all : found.keyed ≡ false
+  pub rows : AllHoldWhereReached found
+  pub alike : (r : ℕ) → r < length skeleton.routines → MeetAlike skeleton r
+  pub paid : PaysForLoops found
+  pub least : HasLeastConstants found
+  pub wanted : HasCoefficientsForLoops found
+  pub what_there_is : FindsWhatThereIs skeleton found
 
 -- if an error names a routine, it is one of the image
 abbrev pub NamesRoutine : Parts → InferError → Type 0

@@ -1,18 +1,26 @@
 //! Why no rows or no numbers of steps are found for a routine.
 
-ghost use Rattle.std.specs.Prelude.{◌≡◌, ◌<◌, ◌≤◌, true, false, length, IfSome, IfNone, IfOk};
+ghost use Rattle.std.specs.Prelude.{◌≡◌, ◌<◌, ◌≤◌, true, false, IfSome, IfNone, IfOk};
 ghost use Rattle.geos_infer.specs.Ahead.{OnlyAhead};
 ghost use Rattle.geos_infer.specs.Causes.{LeadsBack, SetsWithin, Holds, NoOtherHolds, NoneIsAcceptedFor, tells_of_slots};
 ghost use Rattle.geos_potentials.specs.Touching.{KnowsTouched};
 ghost use Rattle.geos_potentials.specs.Idle.{IsNeverPaid};
 ghost use Rattle.geos_rows.specs.Code.{TargetAhead};
+ghost use Rattle.geos_potentials.specs.Constants.{HasLoops};
 ghost use Rattle.geos_potentials.specs.Halts.{IsInTheWay};
+ghost use Rattle.geos_potentials.specs.Reasons.{Halts};
+ghost use Rattle.geos_potentials.specs.Stuck.{HasPlace};
+ghost use Rattle.geos_potentials.specs.declared.reason.Reason.TheVariants.{InTheWay};
+ghost use Rattle.geos_infer.specs.Findings.{IsUnpaid, Stops};
+ghost use Rattle.geos_infer.specs.Tells.{IsOfLoop, IsOfPiece, TellsOf, TellsOfHalt, TellsOfLack, TellsOfPassing, TellsOfReason};
+ghost use Rattle.geos_infer.specs.Tells.{tells_of_looks, tells_of_waiting, tells_of_ways};
 ghost use Rattle.geos_rows.specs.Reached.{FitWhereReached};
 ghost use Rattle.geos_infer.specs.Taken.{StepsPass};
 ghost use Rattle.geos_rows.specs.Why.{MeetAlike};
 
 use crate::ahead::may_pass;
 use crate::cause::{Cause, Within};
+use crate::finding::{Finding, Obstacle, Unpaid};
 use crate::idle::{cause_of_idle, find_touched};
 use crate::in_turn::{find_in_turn, find_own_set};
 use crate::ring::find_in_ring;
@@ -20,12 +28,12 @@ use crate::setting::find_dear;
 use crate::trails::Trails;
 use crate::turns::steps_pass;
 use crate::within::{find_set_again, find_set_within};
-use geos_image::{Image, Potential};
+use geos_image::Image;
 use geos_potentials::{
-    BackWay, Halt, Lack, Piece, Potentials, Search, Touching, find_round, find_touching,
+    BackWay, Halt, Halted, Lack, Piece, Reason, Search, Touching, find_touching,
     some_always_may_pay,
 };
-use geos_rows::{Body, Known, Strongest, Table, body_of, edge_in, find_apart, find_rows};
+use geos_rows::{Body, Known, Strongest, Table, body_of, edge_in};
 use std::alloc::{AllocError, Global};
 
 /// The edge of the instruction to its target, if that leads back.
@@ -66,7 +74,8 @@ fn cause_at(
     requires here { from < body.now.end }
     requires touched { KnowsTouched body.now.image.now touching.now }
     requires never { IsNeverPaid body.now.image.now body.now.r }
-    ensures { IfSome result (Holds body.now.image.now body.now.r) }
+    ensures holds { IfSome result (Holds body.now.image.now body.now.r) }
+    ensures at { IfSome result (IsOfLoop from) }
 {
     let graph = &search.graph;
     let order = &search.splitting.order;
@@ -86,7 +95,8 @@ fn first_cause(
 ) -> Option<Cause>
     requires touched { KnowsTouched body.now.image.now touching.now }
     requires never { IsNeverPaid body.now.image.now body.now.r }
-    ensures { IfSome result (Holds body.now.image.now body.now.r) }
+    ensures holds { IfSome result (Holds body.now.image.now body.now.r) }
+    ensures tells { IfSome result (IsOfPiece search.now.splitting.order piece.now) }
 {
     for pc in body.start..body.end {
         if search.splitting.order.has(piece, pc) {
@@ -107,7 +117,8 @@ fn find_set(
     trails: &mut Trails,
 ) -> Option<Within>
     requires { KnowsTouched body.now.image.now touching.now }
-    ensures { IfSome result (SetsWithin body.now.image.now body.now.r) }
+    ensures holds { IfSome result (SetsWithin body.now.image.now body.now.r) }
+    ensures place { IfSome result (λ within. HasPlace search.now.splitting.order piece.now within.back.from) }
 {
     let graph = &search.graph;
     let order = &search.splitting.order;
@@ -130,7 +141,8 @@ fn cause_of_set_again(
     trails: &mut Trails,
 ) -> Option<Cause>
     requires { KnowsTouched body.now.image.now touching.now }
-    ensures { IfSome result (Holds body.now.image.now body.now.r) }
+    ensures holds { IfSome result (Holds body.now.image.now body.now.r) }
+    ensures tells { IfSome result (TellsOfHalt search.now.splitting.order halt) }
 {
     let Halt::Unpaid(Lack::SetWithin(piece)) = halt else {
         return None;
@@ -149,7 +161,8 @@ fn cause_of_set_again(
 
 /// The first way that leads back, as the cause where the search took too long.
 fn cause_of_looks(body: &Body) -> Option<Cause>
-    ensures { IfSome result (Holds body.now.image.now body.now.r) }
+    ensures holds { IfSome result (Holds body.now.image.now body.now.r) }
+    ensures tells { IfSome result (λ cause. tells_of_looks cause ≡ true) }
 {
     match find_back(body) {
         Some(back) => Some(Cause::GivenUp(back)),
@@ -165,7 +178,8 @@ fn cause_in_turn(
     trails: &mut Trails,
 ) -> Option<Cause>
     requires { KnowsTouched body.now.image.now touching.now }
-    ensures { IfSome result (Holds body.now.image.now body.now.r) }
+    ensures holds { IfSome result (Holds body.now.image.now body.now.r) }
+    ensures tells { IfSome result (λ cause. tells_of_waiting cause ≡ true) }
 {
     let graph = &search.graph;
     let splitting = &search.splitting;
@@ -190,7 +204,8 @@ fn cause_of_set(
     trails: &mut Trails,
 ) -> Option<Cause>
     requires { KnowsTouched body.now.image.now touching.now }
-    ensures { IfSome result (Holds body.now.image.now body.now.r) }
+    ensures holds { IfSome result (Holds body.now.image.now body.now.r) }
+    ensures tells { IfSome result (IsOfPiece search.now.splitting.order piece.now) }
 {
     match find_set(body, touching, search, piece, trails) {
         Some(within) => Some(Cause::SetWithin(within)),
@@ -210,7 +225,8 @@ fn cause_of_passing(
 ) -> Result<Option<Cause>, AllocError>
     requires touched { KnowsTouched body.now.image.now touching.now }
     requires rows { FitWhereReached body.now.image.now body.now.r known.now }
-    ensures { IfOk result (λ cause. IfSome cause (Holds body.now.image.now body.now.r)) }
+    ensures holds { IfOk result (λ cause. IfSome cause (Holds body.now.image.now body.now.r)) }
+    ensures tells { IfOk result (λ cause. IfSome cause TellsOfPassing) }
 {
     if let Some(cause) = cause_in_turn(body, touching, search, trails) {
         return Ok(Some(cause));
@@ -231,7 +247,8 @@ fn cause_of_lack(
 ) -> Result<Option<Cause>, AllocError>
     requires touched { KnowsTouched body.now.image.now touching.now }
     requires rows { FitWhereReached body.now.image.now body.now.r known.now }
-    ensures { IfOk result (λ cause. IfSome cause (Holds body.now.image.now body.now.r)) }
+    ensures holds { IfOk result (λ cause. IfSome cause (Holds body.now.image.now body.now.r)) }
+    ensures tells { IfOk result (λ cause. IfSome cause (TellsOfLack search.now.splitting.order lack)) }
 {
     match lack {
         Lack::SetWithin(piece) => Ok(cause_of_set(body, touching, search, &piece, trails)),
@@ -257,7 +274,8 @@ fn cause_of_halt(
     requires touched { KnowsTouched body.now.image.now touching.now }
     requires rows { FitWhereReached body.now.image.now body.now.r known.now }
     requires way { IsInTheWay body.now.image.now body.now.r known.now search.now halt }
-    ensures { IfOk result (λ cause. IfSome cause (Holds body.now.image.now body.now.r)) }
+    ensures holds { IfOk result (λ cause. IfSome cause (Holds body.now.image.now body.now.r)) }
+    ensures tells { IfOk result (λ cause. IfSome cause (TellsOfHalt search.now.splitting.order halt)) }
 {
     match halt {
         Halt::Stuck(piece) => Ok(first_cause(body, touching, search, &piece, trails)),
@@ -270,83 +288,66 @@ fn cause_of_halt(
     }
 }
 
-/// The potential of code of which nothing is found.
-const NOTHING: Potential = Potential {
-    constant: 0,
-    coefficients: [0; 4],
-};
-
-/// What the search for potentials takes where it is asked what was in its way.
+/// What it takes to say what was in the way of a search.
 #[derive(Drop)]
 struct Tables {
-    search: Search,
-    potentials: Potentials,
     trails: Trails,
     strongest: Strongest,
 }
 
 impl Tables {
     fn new(alloc: Global) -> Result<Tables, AllocError> {
-        let potentials = Table::new(alloc, NOTHING)?;
         let trails = Trails::new(alloc)?;
         let strongest = Strongest::new(alloc)?;
-        let search = Search::new(alloc)?;
-        Ok(Tables {
-            search,
-            potentials,
-            trails,
-            strongest,
-        })
+        Ok(Tables { trails, strongest })
     }
 
-    /// What was in the way of the search, in an author's terms.
+    /// What was in the way of a search for potentials, in an author's terms.
     fn cause(
         &mut self,
         alloc: Global,
         body: &Body,
         touching: &Touching,
         known: &Known,
+        halted: &Halted,
     ) -> Result<Option<Cause>, AllocError>
         requires touched { KnowsTouched body.now.image.now touching.now }
         requires rows { FitWhereReached body.now.image.now body.now.r known.now }
-        ensures { IfOk result (λ cause. IfSome cause (Holds body.now.image.now body.now.r)) }
+        requires way { IsInTheWay body.now.image.now body.now.r known.now halted.now.search halted.now.halt }
+        ensures holds { IfOk result (λ cause. IfSome cause (Holds body.now.image.now body.now.r)) }
+        ensures tells { IfOk result (λ cause. IfSome cause (TellsOfReason (InTheWay halted.now))) }
     {
-        let Tables {
-            search,
-            potentials,
-            trails,
-            strongest,
-        } = self;
-        let Err(halt) = search.find(body, known, &touching.certain, potentials) else {
-            return Ok(None);
-        };
+        let Tables { trails, strongest } = self;
+        let Halted { search, halt } = halted;
         let cause = cause_of_halt(
-            alloc, body, touching, known, search, halt, trails, strongest,
+            alloc, body, touching, known, search, *halt, trails, strongest,
         )?;
         if let Some(cause) = cause {
             return Ok(Some(cause));
         }
-        let set_again = cause_of_set_again(body, touching, search, halt, trails);
-        Ok(match cause_of_idle(body, touching, known, search, trails) {
-            Some(cause) => Some(cause),
-            None => set_again,
-        })
+        if let Some(cause) = cause_of_idle(alloc, body, touching, known, trails)? {
+            return Ok(Some(cause));
+        }
+        Ok(cause_of_set_again(body, touching, search, *halt, trails))
     }
 }
 
-/// What was in the way of the search for potentials, in an author's terms.
-fn cause_of_search(
+/// What was in the way of a search for potentials, in an author's terms.
+fn cause_of_halted(
     alloc: Global,
     body: &Body,
     touching: &Touching,
     known: &Known,
+    halted: &Halted,
 ) -> Result<Option<Cause>, AllocError>
     requires touched { KnowsTouched body.now.image.now touching.now }
     requires rows { FitWhereReached body.now.image.now body.now.r known.now }
-    ensures { IfOk result (λ cause. IfSome cause (Holds body.now.image.now body.now.r)) }
+    requires way { IsInTheWay body.now.image.now body.now.r known.now halted.now.search halted.now.halt }
+    ensures holds { IfOk result (λ cause. IfSome cause (Holds body.now.image.now body.now.r)) }
+    ensures tells { IfOk result (λ cause. IfSome cause (TellsOfReason (InTheWay halted.now))) }
 {
     let mut tables = Tables::new(alloc)?;
-    let cause = tables.cause(alloc, body, touching, known);
+    let cause = tables.cause(alloc, body, touching, known, halted);
     // By a call, so that the check does not go over each table where this function ends.
     drop(tables);
     cause
@@ -361,29 +362,12 @@ fn least_steps_pass(alloc: Global, body: &Body, touching: &Touching) -> Result<b
     Ok(passes)
 }
 
-/// Why no numbers of steps are found where rows are. That the steps pass the limit comes first: then none are enough, whatever else
-/// there is.
-fn cause_of_steps(
-    alloc: Global,
-    body: &Body,
-    touching: &Touching,
-    known: &Known,
-) -> Result<Option<Cause>, AllocError>
-    requires touched { KnowsTouched body.now.image.now touching.now }
-    requires rows { FitWhereReached body.now.image.now body.now.r known.now }
-    ensures { IfOk result (λ cause. IfSome cause (Holds body.now.image.now body.now.r)) }
-{
-    if least_steps_pass(alloc, body, touching)? {
-        return Ok(Some(Cause::StepsPass));
-    }
-    cause_of_search(alloc, body, touching, known)
-}
-
 /// Why nothing is found for a routine in which no way leads back, and in which slots of rows that meet differ in marks at most.
 fn cause_ahead(alloc: Global, body: &Body) -> Result<Cause, AllocError>
     requires ahead { OnlyAhead body.now.image.now body.now.r }
     requires alike { MeetAlike body.now.image.now body.now.r }
-    ensures { IfOk result (Holds body.now.image.now body.now.r) }
+    ensures holds { IfOk result (Holds body.now.image.now body.now.r) }
+    ensures tells { IfOk result (λ cause. tells_of_ways cause ≡ true) }
 {
     if may_pass(alloc, body)? {
         Ok(Cause::StepsMayPass)
@@ -393,7 +377,7 @@ fn cause_ahead(alloc: Global, body: &Body) -> Result<Cause, AllocError>
 }
 
 /// Why no numbers of steps are found in a routine in which a way leads back, where nothing else is found.
-fn cause_of_loops(
+fn cause_of_back(
     alloc: Global,
     body: &Body,
     touching: &Touching,
@@ -402,7 +386,8 @@ fn cause_of_loops(
 ) -> Result<Cause, AllocError>
     requires back { LeadsBack body.now.image.now body.now.r back }
     requires touched { KnowsTouched body.now.image.now touching.now }
-    ensures { IfOk result (Holds body.now.image.now body.now.r) }
+    ensures holds { IfOk result (Holds body.now.image.now body.now.r) }
+    ensures tells { IfOk result (λ cause. tells_of_ways cause ≡ true) }
 {
     if some_always_may_pay(alloc, body, touching, known)? {
         Ok(Cause::NoSteps(back))
@@ -412,32 +397,73 @@ fn cause_of_loops(
     }
 }
 
-/// Why `infer` finds no rows or no numbers of steps for routine r, which it names in `NoRows`: of what may be the
-/// cause, the first that is found. What the cause says holds of that routine; where ways of control meet with slots that
-/// differ in more than marks, it is that. `GivenUp`, `NoSteps`, `Unfound` and `Unknown` say that no reason was found, and
-/// what is not one. `AllocError` where the allocator refuses memory.
-pub fn find_cause(alloc: Global, image: &Image, routine: u16) -> Result<Cause, AllocError>
-    requires { routine < length image.now.routines }
-    ensures holds { IfOk result (Holds image.now routine) }
-    ensures slots { IfOk result (λ cause. tells_of_slots cause ≡ false → MeetAlike image.now routine) }
+/// Why no numbers of steps are found for a routine without loops.
+fn cause_of_many(alloc: Global, body: &Body) -> Result<Cause, AllocError>
+    requires loops { HasLoops body.now.image.now body.now.r → ⊥ }
+    requires alike { MeetAlike body.now.image.now body.now.r }
+    ensures holds { IfOk result (Holds body.now.image.now body.now.r) }
+    ensures tells { IfOk result (λ cause. tells_of_ways cause ≡ true) }
 {
-    let body = body_of(image, routine);
-    if let Some(apart) = find_apart(alloc, &body)? {
-        return Ok(Cause::SlotsDiffer(apart));
+    if least_steps_pass(alloc, body, &find_touching(body.image))? {
+        return Ok(Cause::StepsPass);
     }
-    if let Some(back) = find_round(alloc, &body)? {
-        return Ok(Cause::NoLoop(back));
+    cause_ahead(alloc, body)
+}
+
+/// Why no numbers of steps are found for a routine with loops, for which a search has halted. That the steps pass the limit comes first:
+/// then none are enough, whatever else there is.
+fn cause_of_loops(
+    alloc: Global,
+    body: &Body,
+    known: &Known,
+    halted: &Halted,
+) -> Result<Cause, AllocError>
+    requires rows { FitWhereReached body.now.image.now body.now.r known.now }
+    requires halts { Halts body.now.image.now body.now.r known.now halted.now }
+    ensures holds { IfOk result (Holds body.now.image.now body.now.r) }
+    ensures tells { IfOk result (TellsOfReason (InTheWay halted.now)) }
+{
+    let touching = find_touching(body.image);
+    if least_steps_pass(alloc, body, &touching)? {
+        return Ok(Cause::StepsPass);
     }
-    let (known, routines) = find_rows(alloc, image)?;
-    let touching = find_touching(image);
-    if routine < routines {
-        if let Some(cause) = cause_of_steps(alloc, &body, &touching, &known)? {
-            return Ok(cause);
+    if let Some(cause) = cause_of_halted(alloc, body, &touching, known, halted)? {
+        return Ok(cause);
+    }
+    match find_back(body) {
+        Some(back) => cause_of_back(alloc, body, &touching, known, back),
+        None => cause_ahead(alloc, body),
+    }
+}
+
+/// Why no numbers of steps are found with the rows that are.
+fn cause_of_steps(alloc: Global, body: &Body, unpaid: &Unpaid) -> Result<Cause, AllocError>
+    requires { IsUnpaid body.now.image.now body.now.r unpaid.now }
+    ensures holds { IfOk result (Holds body.now.image.now body.now.r) }
+    ensures tells { IfOk result (TellsOfReason unpaid.now.reason) }
+{
+    match &unpaid.reason {
+        Reason::TooMany => cause_of_many(alloc, body),
+        Reason::NoLoop(back) => Ok(Cause::NoLoop(*back)),
+        Reason::InTheWay(halted) => cause_of_loops(alloc, body, &unpaid.known, halted),
+    }
+}
+
+/// Why `infer` finds no rows or no numbers of steps for the routine of a finding: of what may be the cause, the first that is found. What
+/// the cause says holds of that routine, and tells of what is in the way there (`tells`, by `specs/Tells`); where ways of control meet with
+/// slots that differ in more than marks, it is that. `GivenUp`, `NoSteps`, `Unfound` and `Unknown` say that no reason was found, and what is
+/// not one. `AllocError` where the allocator refuses memory.
+pub fn find_cause(alloc: Global, image: &Image, finding: &Finding) -> Result<Cause, AllocError>
+    requires { Stops image.now finding.now }
+    ensures holds { IfOk result (Holds image.now finding.now.routine) }
+    ensures tells { IfOk result (TellsOf finding.now.obstacle) }
+    ensures slots { IfOk result (λ cause. tells_of_slots cause ≡ false → MeetAlike image.now finding.now.routine) }
+{
+    match &finding.obstacle {
+        Obstacle::SlotsDiffer(apart) => Ok(Cause::SlotsDiffer(*apart)),
+        Obstacle::NoSteps(unpaid) => {
+            cause_of_steps(alloc, &body_of(image, finding.routine), unpaid)
         }
-    }
-    match find_back(&body) {
-        Some(back) => cause_of_loops(alloc, &body, &touching, &known, back),
-        None => cause_ahead(alloc, &body),
     }
 }
 

@@ -1,21 +1,24 @@
 //! Rows and potentials for the code of an image.
 
-ghost use Rattle.std.specs.Prelude.{◌≡◌, ◌<◌, ◌≤◌, ◌⊎◌, ℕ, false, length, IfOk, IfErr};
+ghost use Rattle.std.specs.Prelude.{◌≡◌, ◌<◌, ℕ, false, length, IfOk, IfErr};
 ghost use Rattle.geos_infer.specs.declared.error.InferError.TheVariants.{NoRows};
 ghost use Rattle.geos_rows.specs.Code.{SameCode};
 ghost use Rattle.geos_potentials.specs.Constants.{AreLeastFrom, HasLeastConstants, HasCoefficientsForLoops, PaysForLoops};
 ghost use Rattle.geos_potentials.specs.Count.{AreCounted};
 ghost use Rattle.geos_potentials.specs.Numbers.{numbers_of};
 ghost use Rattle.geos_infer.specs.Points.{PointsOf, RoutinesOf};
-ghost use Rattle.geos_rows.specs.Reached.{AllHoldWhereReached, KeptRowsHold, RowsThatHoldPass};
+ghost use Rattle.geos_rows.specs.Flow.{HaveFlowed};
+ghost use Rattle.geos_rows.specs.Reached.{AllHoldWhereReached, FitWhereReached, KeptRowsHold, RowsThatHoldPass};
 ghost use Rattle.geos_potentials.specs.Steps.{NoStepsHoldIn};
-ghost use Rattle.geos_infer.specs.Theorem.{FindsWhatThereIs, NoneIsAccepted, NothingHoldsIn, NamesRoutine, HasReasonWith, HasReason};
+ghost use Rattle.geos_infer.specs.Theorem.{FindsWhatThereIs, NoneIsAccepted, NothingHoldsIn, NamesRoutine, HasReason, IsInferred};
+ghost use Rattle.geos_infer.specs.Findings.{IsWhyNone};
 ghost use Rattle.geos_rows.specs.Why.{MeetAlike};
 
 use crate::error::InferError;
+use crate::finding::{FindError, Finding, Obstacle, Unpaid};
 use geos_image::{Image, Point, Potential, Routine, Whole};
-use geos_potentials::{Potentials, find_potentials};
-use geos_rows::{Known, find_rows, row_of};
+use geos_potentials::{Potentials, Unfound, find_potentials};
+use geos_rows::{Known, KnownRows, find_rows, row_of};
 use std::alloc::{AllocError, Global};
 
 /// The instructions of the image, with the rows and potentials that were found.
@@ -49,34 +52,64 @@ fn routines_of(alloc: Global, image: &Image) -> Result<Vec<Routine>, AllocError>
     Ok(routines)
 }
 
-/// Enough steps at each instruction, and coefficients, where so many routines have rows. `NoRows`
-/// names the first one that has none, or for which no steps were found.
-fn count(
-    alloc: Global,
-    image: &Image,
-    routines: u16,
-    known: &Known,
-) -> Result<Potentials, InferError>
-    requires { routines ≤ length image.now.routines }
-    ensures all { IfOk result (λ _. routines ≡ length image.now.routines) }
-    ensures counted { IfOk result (λ potentials. AreCounted image.now 0 routines (numbers_of potentials)) }
-    ensures least { IfOk result (λ potentials. AreLeastFrom image.now 0 routines known.now (numbers_of potentials)) }
-    ensures within { IfErr result (NamesRoutine image.now) }
-    ensures none { IfErr result (λ error. (r : ℕ) → error ≡ NoRows r → (r ≡ routines) ⊎ NoStepsHoldIn image.now r) }
-    ensures reason { IfErr result (λ error. (r : ℕ) → error ≡ NoRows r
-        → (r ≡ routines) ⊎ ((r < routines) × HasReasonWith image.now r known.now)) }
+/// Rows, and enough steps with them.
+#[derive(Drop)]
+struct Solved {
+    known: Known,
+    potentials: Potentials,
+}
+
+/// Finds rows, then numbers of steps for each routine that has rows; else what stops that. A routine for which no steps are found comes
+/// before the first one that has no rows.
+fn solve(alloc: Global, image: &Image) -> Result<Solved, FindError>
+    ensures flowed { IfOk result (λ solved. HaveFlowed image.now solved.known (length image.now.routines)) }
+    ensures fit { IfOk result (λ solved. (r : ℕ) → r < length image.now.routines → FitWhereReached image.now r solved.known) }
+    ensures counted { IfOk result (λ solved. AreCounted image.now 0 (length image.now.routines) (numbers_of solved.potentials)) }
+    ensures least { IfOk result (λ solved. AreLeastFrom image.now 0 (length image.now.routines) solved.known (numbers_of solved.potentials)) }
+    ensures why { IfErr result (IsWhyNone image.now) }
 {
+    // For what `len` says of the image: it is one that the format allows.
+    let _legal = image.len();
     let nothing = Potential {
         constant: 0,
         coefficients: [0; 4],
     };
+    let KnownRows {
+        known,
+        routines,
+        apart,
+    } = find_rows(alloc, image)?;
     let mut potentials = Potentials::new(alloc, nothing)?;
-    let left = find_potentials(alloc, image, routines, known, &mut potentials)?;
-    match left {
-        Some(unfound) => Err(InferError::NoRows(unfound.routine)),
-        None if routines < image.count() => Err(InferError::NoRows(routines)),
-        None => Ok(potentials),
+    let left = find_potentials(alloc, image, routines, &known, &mut potentials)?;
+    if let Some(unfound) = left {
+        let Unfound { routine, reason } = unfound;
+        return Err(FindError::Stopped(Finding {
+            routine,
+            obstacle: Obstacle::NoSteps(Unpaid { known, reason }),
+        }));
     }
+    match apart {
+        Some(apart) => Err(FindError::Stopped(Finding {
+            routine: routines,
+            obstacle: Obstacle::SlotsDiffer(apart),
+        })),
+        None => Ok(Solved { known, potentials }),
+    }
+}
+
+/// What `infer` answers, or what stops it: a value that says which routine, and what is in the way there.
+pub fn find_image(alloc: Global, skeleton: &Image) -> Result<Whole, FindError>
+    ensures found { IfOk result (IsInferred skeleton.now) }
+    ensures why { IfErr result (IsWhyNone skeleton.now) }
+{
+    // For what `len` says of the skeleton: it is one that the format allows.
+    let _legal = skeleton.len();
+    let points = {
+        let Solved { known, potentials } = solve(alloc, skeleton)?;
+        points_of(alloc, skeleton, &known, &potentials)?
+    };
+    let routines = routines_of(alloc, skeleton)?;
+    Ok(Whole::of_formed(routines, points))
 }
 
 /// The code of the skeleton (its routines, with entry and exit rows and budgets, and its instructions), with a row and a
@@ -112,18 +145,11 @@ pub fn infer(alloc: Global, skeleton: &Image) -> Result<Whole, InferError>
     ensures reason { IfErr result (λ error. (r : ℕ) → error ≡ NoRows r → MeetAlike skeleton.now r → HasReason skeleton.now r) }
     ensures within { IfErr result (NamesRoutine skeleton.now) }
 {
-    // For what `len` says of the skeleton: it is one that the format allows.
-    let _legal = skeleton.len();
-    let points = {
-        let (known, routines) = find_rows(alloc, skeleton)?;
-        let potentials = match count(alloc, skeleton, routines, &known) {
-            Ok(potentials) => potentials,
-            Err(error) => return Err(error),
-        };
-        points_of(alloc, skeleton, &known, &potentials)?
-    };
-    let routines = routines_of(alloc, skeleton)?;
-    Ok(Whole::of_formed(routines, points))
+    match find_image(alloc, skeleton) {
+        Ok(whole) => Ok(whole),
+        Err(FindError::Stopped(finding)) => Err(InferError::NoRows(finding.into_routine())),
+        Err(FindError::Memory) => Err(InferError::Memory),
+    }
 }
 
 /// A law: where the rows of an image hold, the verifier's rules on rows pass wherever control reaches. No

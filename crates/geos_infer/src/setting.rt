@@ -6,6 +6,7 @@ ghost use Rattle.geos_infer.specs.Causes.{LoopsTo, PaysForLoop, IsAtMost, Holds}
 ghost use Rattle.geos_potentials.specs.Idle.{IsKept};
 ghost use Rattle.geos_rows.specs.Reached.{FitWhereReached, AreAtMostAny};
 ghost use Rattle.geos_infer.specs.Taken.{WordsPass};
+ghost use Rattle.geos_infer.specs.Tells.{tells_of_setting};
 
 use crate::cause::{ByNumber, ByWord, Cause};
 use crate::trails::Trails;
@@ -128,7 +129,8 @@ fn setting_at(
     requires least { AreAtMostAny body.now.image.now body.now.r strongest.now.rows }
     requires pays { PaysForLoop body.now.image.now body.now.r counter at }
     requires passes { passes ≡ true → WordsPass body.now.image.now body.now.r }
-    ensures { IfSome result (Holds body.now.image.now body.now.r) }
+    ensures holds { IfSome result (Holds body.now.image.now body.now.r) }
+    ensures tells { IfSome result (λ cause. tells_of_setting cause ≡ true) }
 {
     let i = body.image.instr(at);
     match i.opcode {
@@ -212,7 +214,8 @@ pub(crate) fn find_dear(
 ) -> Result<Option<Cause>, AllocError>
     requires touched { KnowsTouched body.now.image.now touching.now }
     requires rows { FitWhereReached body.now.image.now body.now.r known.now }
-    ensures { IfOk result (λ cause. IfSome cause (Holds body.now.image.now body.now.r)) }
+    ensures holds { IfOk result (λ cause. IfSome cause (Holds body.now.image.now body.now.r)) }
+    ensures tells { IfOk result (λ found. IfSome found (λ cause. tells_of_setting cause ≡ true)) }
 {
     let Some(at) = find_dearest(body, search) else {
         return Ok(None);

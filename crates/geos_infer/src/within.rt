@@ -218,7 +218,8 @@ pub(crate) fn find_set_within(
 ) -> Option<Within>
     requires here { from < body.now.end }
     requires touched { KnowsTouched body.now.image.now touching.now }
-    ensures { IfSome result (SetsWithin body.now.image.now body.now.r) }
+    ensures holds { IfSome result (SetsWithin body.now.image.now body.now.r) }
+    ensures at { IfSome result (λ within. within.back.from ≡ from) }
 {
     let (back, counter) = loop_at(body, from)?;
     let target = Some(back.to);
@@ -272,7 +273,8 @@ pub(crate) fn find_touched_within(
 ) -> Option<Within>
     requires here { from < body.now.end }
     requires touched { KnowsTouched body.now.image.now touching.now }
-    ensures { IfSome result (TouchesWithin body.now.image.now body.now.r) }
+    ensures holds { IfSome result (TouchesWithin body.now.image.now body.now.r) }
+    ensures at { IfSome result (λ within. within.back.from ≡ from) }
 {
     let (back, counter) = loop_at(body, from)?;
     note_touched(body, graph, Some((order, *piece)), counter, trails);
@@ -296,7 +298,8 @@ pub(crate) fn find_touched_before(
 ) -> Option<Within>
     requires here { from < body.now.end }
     requires touched { KnowsTouched body.now.image.now touching.now }
-    ensures { IfSome result (TouchesBefore body.now.image.now body.now.r) }
+    ensures holds { IfSome result (TouchesBefore body.now.image.now body.now.r) }
+    ensures at { IfSome result (λ within. within.back.from ≡ from) }
 {
     let (back, counter) = loop_at(body, from)?;
     note_touched(body, graph, None, counter, trails);

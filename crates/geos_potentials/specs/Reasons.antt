@@ -8,22 +8,20 @@ use Rattle.geos_potentials.specs.Halts.{IsInTheWay}
 use Rattle.geos_potentials.specs.Idle.{GoesRound}
 use Rattle.geos_potentials.specs.Steps.{NoStepsHoldIn}
 use Rattle.geos_potentials.specs.Touching.{NotesTouched}
+use Rattle.geos_potentials.specs.declared.reason.Halted.{Halted}
 use Rattle.geos_potentials.specs.declared.reason.Reason.{Reason}
 use Rattle.geos_potentials.specs.declared.reason.Reason.TheVariants.{TooMany, NoLoop, InTheWay}
-use Rattle.geos_potentials.specs.declared.search.Halt.{Halt}
-use Rattle.geos_potentials.specs.declared.search.Search.{Search}
 
--- a search over the edges of routine r, where these rows are known, has come to what is in its way
-pub record Halts (image : Parts) (r : ℕ) (known : List (Option Row)) (halt : Halt) : Type 0 where
-  pub search : Search
+-- the search is one over the edges of routine r, where these rows are known, and has come to what is in its way
+pub record Halts (image : Parts) (r : ℕ) (known : List (Option Row)) (halted : Halted) : Type 0 where
   pub touched : List (List Bool)
   pub notes : NotesTouched image touched
-  pub arcs : AreArcs image r known touched search.graph.arcs
-  pub way : IsInTheWay image r known search halt
+  pub arcs : AreArcs image r known touched halted.search.graph.arcs
+  pub way : IsInTheWay image r known halted.search halted.halt
 
 -- the reason is so: routine r has no loops, and no numbers of steps hold in it; or control goes round in it by a way back, and takes no LOOP's
 -- way to its target; or a search has come to what is in its way
 abbrev pub IsReason : Parts → ℕ → List (Option Row) → Reason → Type 0
 IsReason image r known TooMany = (HasLoops image r → ⊥) × NoStepsHoldIn image r
 IsReason image r known (NoLoop back) = GoesRound image r back.from back.to
-IsReason image r known (InTheWay halt) = Halts image r known halt
+IsReason image r known (InTheWay halted) = Halts image r known halted

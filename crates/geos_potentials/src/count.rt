@@ -1,6 +1,6 @@
 //! How many steps are left at most, and what units of counters pay for, routine by routine.
 
-ghost use Rattle.std.specs.Prelude.{◌≡◌, ◌<◌, ◌≤◌, ◌+◌, ℕ, None, false, is_none, is_some, length, IfOk, IfErr, IfSome};
+ghost use Rattle.std.specs.Prelude.{◌≡◌, ◌<◌, ◌≤◌, ◌+◌, None, false, is_none, is_some, length, IfOk, IfErr, IfSome};
 ghost use Rattle.geos_image.specs.Parts.{start_of};
 ghost use Rattle.geos_rows.specs.Code.{ForwardIn};
 ghost use Rattle.geos_potentials.specs.Constants.{HasLoops, PayLeastIn, AreLeastFrom};
@@ -11,7 +11,7 @@ ghost use Rattle.geos_potentials.specs.Reasons.{IsReason};
 ghost use Rattle.geos_potentials.specs.Touching.{NotesTouched};
 
 use crate::asked::{Potentials, potential_at};
-use crate::reason::{Reason, Unfound};
+use crate::reason::{Halted, Reason, Unfound};
 use crate::search::Search;
 use crate::spent::find_touched;
 use crate::unpaid::{WaysIn, round_by};
@@ -70,27 +70,47 @@ impl Tables {
             search,
         })
     }
+
+    /// The search alone, as far as it has come.
+    fn into_search(self) -> Search
+        ensures { result ≡ self.search }
+    {
+        let Tables {
+            into,
+            listed,
+            search,
+            ..
+        } = self;
+        drop(into);
+        drop(listed);
+        search
+    }
 }
 
-/// Counts the steps of a routine with loops, or says why no number of them is found to be enough.
+/// Counts the steps of a routine with loops, and gives the tables back, or says why no number of them is found to be enough.
 fn count_loops(
     body: &Body,
     known: &Known,
-    tables: &mut Tables,
+    tables: Tables,
     potentials: &mut Potentials,
-) -> Result<(), Reason>
-    requires { NotesTouched body.now.image.now tables.old.touched }
+) -> Result<Tables, Reason>
+    requires { NotesTouched body.now.image.now tables.touched }
     ensures least { IfOk result (λ _. PayLeastIn body.now.image.now body.now.r known.now (numbers_of potentials.new)) }
     ensures reason { IfErr result (IsReason body.now.image.now body.now.r known.now) }
-    ensures touched { tables.new.touched ≡ tables.old.touched }
+    ensures touched { IfOk result (λ back. back.touched ≡ tables.touched) }
     ensures stays { StaysFrom (start_of body.now.image.now.routines (body.now.r + 1)) (numbers_of potentials.old) (numbers_of potentials.new) }
 {
+    let mut tables = tables;
     if let Some(back) = round_by(body, &mut tables.into, &mut tables.listed) {
+        drop(tables);
         return Err(Reason::NoLoop(back));
     }
     match tables.search.find(body, known, &tables.touched, potentials) {
-        Ok(()) => Ok(()),
-        Err(halt) => Err(Reason::InTheWay(halt)),
+        Ok(()) => Ok(tables),
+        Err(halt) => Err(Reason::InTheWay(Halted {
+            search: tables.into_search(),
+            halt,
+        })),
     }
 }
 
@@ -106,7 +126,7 @@ fn tables_of(alloc: Global, image: &Image, made: Option<Tables>) -> Result<Table
 }
 
 /// Counts the steps of a routine, or says why no number of them is found to be enough. The tables are made for the first routine with
-/// loops: an image without them needs none.
+/// loops: an image without them needs none. A search that has come to what is in its way is answered, and takes them along.
 fn count_in(
     alloc: Global,
     body: &Body,
@@ -130,14 +150,13 @@ fn count_in(
             None => Ok(Some(Reason::TooMany)),
         };
     }
-    let mut tables = tables_of(alloc, body.image, made.take())?;
-    let counted = count_loops(body, known, &mut tables, potentials);
-    if let Some(old) = made.replace(tables) {
-        // By a call, so that the check does not go over each table here.
-        drop(old);
-    }
-    match counted {
-        Ok(()) => Ok(None),
+    let tables = tables_of(alloc, body.image, made.take())?;
+    match count_loops(body, known, tables, potentials) {
+        Ok(tables) => {
+            // By a call, so that the check does not go over each table here.
+            drop(made.replace(tables));
+            Ok(None)
+        }
         Err(reason) => Ok(Some(reason)),
     }
 }
@@ -164,7 +183,7 @@ fn count_each(
     for r in (0..routines).rev() {
         let found = count_in(alloc, &body_of(image, r), known, tables, potentials)?;
         if let Some(reason) = found {
-            left = Some(Unfound { routine: r, reason });
+            drop(left.replace(Unfound { routine: r, reason }));
         }
     }
     Ok(left)

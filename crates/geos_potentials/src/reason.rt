@@ -1,21 +1,28 @@
 //! Why no potentials are found for a routine.
 
-use crate::search::Halt;
+use crate::search::{Halt, Search};
 use crate::unpaid::BackWay;
 
+/// A search that has come to what is in its way.
+#[derive(Drop)]
+pub struct Halted {
+    pub search: Search,
+    pub halt: Halt,
+}
+
 /// Why none are found.
-#[derive(Clone, Copy)]
+#[derive(Drop)]
 pub enum Reason {
     /// There are no loops, and the steps are past what a potential can say.
     TooMany,
     /// Control goes round by this way back, and takes no LOOP's way to its target.
     NoLoop(BackWay),
-    /// This was in the way of the search.
-    InTheWay(Halt),
+    /// Something was in the way of the search.
+    InTheWay(Halted),
 }
 
 /// A routine for which none are found.
-#[derive(Clone, Copy)]
+#[derive(Drop)]
 pub struct Unfound {
     pub routine: u16,
     pub reason: Reason,

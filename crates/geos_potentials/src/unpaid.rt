@@ -1,11 +1,10 @@
 //! Ways round that no counter pays for.
 
-ghost use Rattle.std.specs.Prelude.{◌≡◌, ◌<◌, ℕ, true, Some, List, Bool, IfSome, IfOk};
+ghost use Rattle.std.specs.Prelude.{◌≡◌, ◌<◌, ℕ, true, Some, List, Bool, IfSome};
 ghost use Rattle.geos_potentials.specs.Idle.{LeadsUnpaid, IsUnpaidWay, GoesRound};
 
 use crate::cycles::has_unpaid_cycle;
-use geos_rows::{Body, Table, edge_in, is_loop, two_tables};
-use std::alloc::{AllocError, Global};
+use geos_rows::{Body, Table, edge_in, is_loop};
 
 /// An edge to a target by which control goes round: one that leads back, or that of a LOOP.
 #[derive(Clone, Copy)]
@@ -168,12 +167,4 @@ pub(crate) fn round_by(
     note_all(body, into);
     let place = place_on_round(body, into)?;
     back_on_round(body, into, place)
-}
-
-/// A way back from whose end control can come to it again and no counter pays for that, if there is one.
-pub fn find_round(alloc: Global, body: &Body) -> Result<Option<BackWay>, AllocError>
-    ensures { IfOk result (λ found. IfSome found (λ back. GoesRound body.now.image.now body.now.r back.from back.to)) }
-{
-    let (mut into, mut listed) = two_tables(alloc, WaysIn::with_left(0), 0)?;
-    Ok(round_by(body, &mut into, &mut listed))
 }

@@ -1,6 +1,6 @@
 -- Where all that is known has gone on, no two ways meet with slots that differ in more than marks.
 use Rattle.std.proofs.Common.{◌≡◌, ℕ, zero, suc, ◌<◌, ◌+◌, Bool, true, false, List, [], ◌∷◌, length, Option, Some, None, slice_get, set, refl, sym, ap, ◌∙◌, subst, arith, inl, inr}
-use Rattle.std.specs.Prelude.{◌||◌, IfNone}
+use Rattle.std.specs.Prelude.{◌||◌}
 use Rattle.std.proofs.lemmas.Bool.{cases_eq, cases_lt, false≢true}
 use Rattle.std.proofs.lemmas.List.{get_or-set_same, get_or-set_other}
 use Rattle.std.proofs.lemmas.Option.{same_Some, none-some}
@@ -13,7 +13,7 @@ use Rattle.geos_rows.specs.Joins.{agree}
 use Rattle.geos_rows.specs.declared.apart.Apart.{Apart}
 use Rattle.geos_rows.specs.declared.apart.Coming.{Coming}
 use Rattle.geos_rows.specs.declared.body.Body.{Body}
-use Rattle.geos_rows.specs.Why.{IsWay, MeetAlike}
+use Rattle.geos_rows.specs.Why.{IsWay, MeetAlike, AreApart}
 use Rattle.geos_rows.specs.Meeting.{coming_at, waits_at, count_unknown, AllCome, IsMet, BringsAlong, HasGone, IsSpread, NoneWaits, GoesFurther, HaveAllGone}
 use Rattle.geos_rows.proofs.Alike.{alike-refl, alike-both, alike-sym, after-alike}
 use Rattle.geos_rows.proofs.Bodies.{in-body}
@@ -71,12 +71,10 @@ all-gone body known waits S settled = record {
   gone = λ pc branch within. S.gone pc branch within (settled pc within (let below = within.below in omega (arith, below, body.ends)));
 }
 
--- where none is found
-pub found-none : (image other : Parts) (r s : ℕ) (found : Option Apart) → found ≡ None → image ≡ other → r ≡ s
-    → IfNone found (MeetAlike image r) → MeetAlike other s
-found-none image other r s found is same_image same_r none =
-    let alike : MeetAlike image r = subst (λ (o : Option Apart). IfNone o (MeetAlike image r)) is none in
-    subst (λ (n : ℕ). MeetAlike other n) same_r (subst (λ (i : Parts). MeetAlike i r) same_image alike)
+-- ways that are apart in a routine's body are so in the routine
+pub apart-in : (image other : Parts) (r s : ℕ) (apart : Apart) → image ≡ other → r ≡ s → AreApart image r apart → AreApart other s apart
+apart-in image other r s apart same_image same_r are = subst (λ (n : ℕ). AreApart other n apart) same_r
+    (subst (λ (i : Parts). AreApart i r apart) same_image are)
 
 -- Where the routine begins
 

@@ -1,6 +1,6 @@
 -- The weakest rows hold where ways meet with slots that differ in marks at most.
 use Rattle.std.proofs.Common.{◌≡◌, ◌≢◌, ℕ, ◌+◌, ◌<◌, ◌≤◌, Bool, true, false, List, [], ◌∷◌, length, map, set, Option, Some, None, slice_get, refl, sym, ap, ◌∙◌, subst, arith, inl, inr}
-use Rattle.std.specs.Prelude.{nat_le, Result, Ok, Err, IfOk}
+use Rattle.std.specs.Prelude.{nat_le, Result, Ok, Err, IfOk, IfNone, is_none}
 use Rattle.std.proofs.lemmas.Bool.{cases_eq, and_parts, false≢true}
 use Rattle.std.proofs.lemmas.List.{get_or-set_same, get_or-set_other, length-set}
 use Rattle.std.proofs.lemmas.Option.{same_Some, none-some}
@@ -196,15 +196,16 @@ never-apart image r apart A meet =
     false≢true (sym A.differ ∙ meet apart.to apart.first.row apart.second.row one two)
 
 -- where rows flow, others are not looked for
-pub flows-never : {E : Type 0} (image : Parts) (r : ℕ) (known next : List (Option Row)) (answer : Result Bool E) → FlowsAnew image r known false
-    → IfOk answer (FlowsAnew image r next)
-flows-never image r known next (Ok found) F = λ want forward holds. absurd (false≢true (F want forward holds).0)
+pub flows-never : {E : Type 0} (image : Parts) (r : ℕ) (known next : List (Option Row)) (answer : Result (Option Apart) E)
+    → FlowsAnew image r known false → IfOk answer (λ left. FlowsAnew image r next (is_none left))
+flows-never image r known next (Ok left) F = λ want forward holds. absurd (false≢true (F want forward holds).0)
 flows-never image r known next (Err error) F = tt
 
 -- rows that fit along all edges fit wherever control reaches
 pub fits-reached : {E : Type 0} (image : Parts) (r : ℕ) → start_of image.routines r < start_of image.routines (r + 1)
-    → (routine : Routine) → slice_get image.routines r ≡ Some routine → (known : List (Option Row)) (answer : Result Bool E)
-    → IfOk answer (λ found. found ≡ true → AllFit image r known) → IfOk answer (λ found. found ≡ true → FitWhereReached image r known)
-fits-reached image r some routine there known (Ok found) fit = λ e. kept-fits image r some routine there known (fit e) known known
+    → (routine : Routine) → slice_get image.routines r ≡ Some routine → (known : List (Option Row)) (answer : Result (Option Apart) E)
+    → IfOk answer (λ left. IfNone left (AllFit image r known)) → IfOk answer (λ left. IfNone left (FitWhereReached image r known))
+fits-reached image r some routine there known (Ok None) fit = kept-fits image r some routine there known fit known known
     (record { len = refl; kept = λ pc row low high read. read; stays = λ k lt. refl })
+fits-reached image r some routine there known (Ok (Some apart)) fit = tt
 fits-reached image r some routine there known (Err error) fit = tt

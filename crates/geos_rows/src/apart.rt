@@ -181,15 +181,3 @@ pub(crate) fn find_comings(alloc: Global, body: &Body) -> Result<Result<Comings,
         None => Ok(Ok(known)),
     }
 }
-
-/// The first place that is found to which control comes on two ways, with slots that differ in more than marks. `None` where
-/// there is none.
-pub fn find_apart(alloc: Global, body: &Body) -> Result<Option<Apart>, AllocError>
-    ensures some { IfOk result (λ found. IfSome found (AreApart body.now.image.now body.now.r)) }
-    ensures none { IfOk result (λ found. IfNone found (MeetAlike body.now.image.now body.now.r)) }
-{
-    match find_comings(alloc, body)? {
-        Ok(_) => Ok(None),
-        Err(apart) => Ok(Some(apart)),
-    }
-}

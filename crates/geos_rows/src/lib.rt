@@ -23,12 +23,12 @@ mod weakened;
 mod weakest;
 mod widening;
 
-pub use apart::{Apart, Coming, find_apart};
+pub use apart::{Apart, Coming};
 pub use body::{Body, body_of};
 pub use common::{clean, join};
 pub use edges::{Lead, edge_in, is_loop, leads_back};
 pub use emptied::Emptied;
 pub use flow::{bound_of, row_of};
-pub use rows::find_rows;
+pub use rows::{KnownRows, find_rows};
 pub use strongest::Strongest;
 pub use table::{Known, Table, two_tables};

@@ -1,11 +1,12 @@
 //! What is known at each instruction.
 
-ghost use Rattle.std.specs.Prelude.{◌≡◌, ◌<◌, ◌≤◌, ℕ, true, length, IfOk};
+ghost use Rattle.std.specs.Prelude.{◌≡◌, ◌<◌, ◌≤◌, ℕ, true, is_none, length, IfOk, IfSome, IfNone};
 ghost use Rattle.geos_rows.specs.Flow.{FlowsAnew, HaveFlowed, StaysBefore};
 ghost use Rattle.geos_rows.specs.Reached.{AllFit, FitWhereReached, Keeps};
 ghost use Rattle.geos_rows.specs.Solutions.{NoRowsHoldIn};
-ghost use Rattle.geos_rows.specs.Why.{MeetAlike};
+ghost use Rattle.geos_rows.specs.Why.{AreApart, MeetAlike};
 
+use crate::apart::Apart;
 use crate::body::{Body, body_of};
 use crate::descent::descend;
 use crate::edges::leads_back;
@@ -137,55 +138,78 @@ fn find_rows_in(body: &Body, tables: &mut Tables, known: &mut Known) -> bool
     true
 }
 
-/// Finds what is known at each instruction of a routine: the weakest rows that hold, where others are not found; `false` where ways of
-/// control meet with slots that differ in more than marks.
+/// Finds what is known at each instruction of a routine: the weakest rows that hold, where others are not found; else answers a place
+/// where ways of control meet with slots that differ in more than marks.
 fn find_some_rows(
     alloc: Global,
     body: &Body,
     tables: &mut Tables,
     known: &mut Known,
-) -> Result<bool, AllocError>
-    ensures flows { IfOk result (FlowsAnew body.now.image.now body.now.r known.new) }
-    ensures alike { IfOk result (λ found. MeetAlike body.now.image.now body.now.r → found ≡ true) }
-    ensures fit { IfOk result (λ found. found ≡ true → FitWhereReached body.now.image.now body.now.r known.new) }
+) -> Result<Option<Apart>, AllocError>
+    ensures flows { IfOk result (λ left. FlowsAnew body.now.image.now body.now.r known.new (is_none left)) }
+    ensures apart { IfOk result (λ left. IfSome left (AreApart body.now.image.now body.now.r)) }
+    ensures fit { IfOk result (λ left. IfNone left (FitWhereReached body.now.image.now body.now.r known.new)) }
     ensures stays { StaysBefore body.now.start known.old known.new }
 {
     if find_rows_in(body, tables, known) {
-        return Ok(true);
+        return Ok(None);
     }
     find_weakest(alloc, body, known)
 }
 
-/// Finds what is known at each instruction, up to the first routine where ways of control meet with slots that differ in more than marks;
-/// how many routines there are before it.
-fn find_all_rows(alloc: Global, image: &Image, known: &mut Known) -> Result<u16, AllocError>
-    ensures few { IfOk result (λ count. count ≤ length image.now.routines) }
-    ensures found { IfOk result (λ count. count ≡ length image.now.routines → HaveFlowed image.now known.new count) }
-    ensures none { IfOk result (λ count. count < length image.now.routines → NoRowsHoldIn image.now count) }
-    ensures alike { IfOk result (λ count. count < length image.now.routines → MeetAlike image.now count → ⊥) }
-    ensures fit { IfOk result (λ count. (r : ℕ) → r < count → FitWhereReached image.now r known.new) }
-{
-    let mut tables = Tables::new(alloc)?;
-    for r in 0..image.count() {
-        let found = find_some_rows(alloc, &body_of(image, r), &mut tables, known)?;
-        if !found {
-            return Ok(r);
-        }
-    }
-    Ok(image.count())
+/// What is known of the routines of an image, up to the first one where ways of control meet with slots that differ in more than marks.
+#[derive(Drop)]
+pub struct KnownRows {
+    /// What is known at each instruction of those before that one.
+    pub known: Known,
+    /// How many these are.
+    pub routines: u16,
+    /// Where ways meet so in that one; `None` where there is none.
+    pub apart: Option<Apart>,
 }
 
 /// Finds what is known at each instruction, up to the first routine where ways of control meet with slots that differ in more than marks;
-/// and how many routines there are before it. In these it holds wherever control reaches.
-pub fn find_rows(alloc: Global, image: &Image) -> Result<(Known, u16), AllocError>
-    ensures few { IfOk result (λ both. both.1 ≤ length image.now.routines) }
-    ensures found { IfOk result (λ both. both.1 ≡ length image.now.routines → HaveFlowed image.now both.0 both.1) }
-    ensures none { IfOk result (λ both. both.1 < length image.now.routines → NoRowsHoldIn image.now both.1) }
-    ensures alike { IfOk result (λ both. both.1 < length image.now.routines → MeetAlike image.now both.1 → ⊥) }
-    ensures fit { IfOk result (λ both. (r : ℕ) → r < both.1 → FitWhereReached image.now r both.0) }
-    ensures met { IfOk result (λ both. (r : ℕ) → r < both.1 → MeetAlike image.now r) }
+/// how many routines there are before it, and where they do.
+fn find_all_rows(
+    alloc: Global,
+    image: &Image,
+    known: &mut Known,
+) -> Result<(u16, Option<Apart>), AllocError>
+    ensures few { IfOk result (λ both. both.0 ≤ length image.now.routines) }
+    ensures all { IfOk result (λ both. IfNone both.1 (both.0 ≡ length image.now.routines)) }
+    ensures within { IfOk result (λ both. IfSome both.1 (λ _. both.0 < length image.now.routines)) }
+    ensures found { IfOk result (λ both. both.0 ≡ length image.now.routines → HaveFlowed image.now known.new both.0) }
+    ensures none { IfOk result (λ both. both.0 < length image.now.routines → NoRowsHoldIn image.now both.0) }
+    ensures apart { IfOk result (λ both. IfSome both.1 (AreApart image.now both.0)) }
+    ensures fit { IfOk result (λ both. (r : ℕ) → r < both.0 → FitWhereReached image.now r known.new) }
+{
+    let mut tables = Tables::new(alloc)?;
+    for r in 0..image.count() {
+        match find_some_rows(alloc, &body_of(image, r), &mut tables, known)? {
+            Some(apart) => return Ok((r, Some(apart))),
+            None => {}
+        }
+    }
+    Ok((image.count(), None))
+}
+
+/// Finds what is known at each instruction, up to the first routine where ways of control meet with slots that differ in more than marks,
+/// and where they do; how many routines there are before it. In these it holds wherever control reaches.
+pub fn find_rows(alloc: Global, image: &Image) -> Result<KnownRows, AllocError>
+    ensures few { IfOk result (λ rows. rows.routines ≤ length image.now.routines) }
+    ensures all { IfOk result (λ rows. IfNone rows.apart (rows.routines ≡ length image.now.routines)) }
+    ensures within { IfOk result (λ rows. IfSome rows.apart (λ _. rows.routines < length image.now.routines)) }
+    ensures found { IfOk result (λ rows. rows.routines ≡ length image.now.routines → HaveFlowed image.now rows.known rows.routines) }
+    ensures none { IfOk result (λ rows. rows.routines < length image.now.routines → NoRowsHoldIn image.now rows.routines) }
+    ensures apart { IfOk result (λ rows. IfSome rows.apart (AreApart image.now rows.routines)) }
+    ensures fit { IfOk result (λ rows. (r : ℕ) → r < rows.routines → FitWhereReached image.now r rows.known) }
+    ensures met { IfOk result (λ rows. (r : ℕ) → r < rows.routines → MeetAlike image.now r) }
 {
     let mut known = Known::new(alloc, None)?;
-    let routines = find_all_rows(alloc, image, &mut known)?;
-    Ok((known, routines))
+    let (routines, apart) = find_all_rows(alloc, image, &mut known)?;
+    Ok(KnownRows {
+        known,
+        routines,
+        apart,
+    })
 }

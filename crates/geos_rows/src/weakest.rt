@@ -1,12 +1,12 @@
 //! The weakest rows of a routine that hold.
 
-ghost use Rattle.std.specs.Prelude.{◌≡◌, true, IfOk};
+ghost use Rattle.std.specs.Prelude.{◌≡◌, IfOk, IfSome, IfNone};
 ghost use Rattle.geos_rows.specs.Flow.{StaysBefore};
 ghost use Rattle.geos_rows.specs.Reached.{AllFit};
 ghost use Rattle.geos_rows.specs.Weakest.{unmarked, weakest, weakest_of, Weakens};
-ghost use Rattle.geos_rows.specs.Why.{MeetAlike};
+ghost use Rattle.geos_rows.specs.Why.{AreApart};
 
-use crate::apart::{Coming, Comings, find_comings};
+use crate::apart::{Apart, Coming, Comings, find_comings};
 use crate::body::Body;
 use crate::fitted::all_fit;
 use crate::table::Known;
@@ -63,19 +63,25 @@ fn fill(body: &Body, comings: &Comings, known: &mut Known)
     }
 }
 
-/// Makes the weakest rows that hold known in a routine; `false` where ways of control meet with slots that differ in more than marks.
+/// Makes the weakest rows that hold known in a routine; else answers a place where ways of control meet with slots that differ in more
+/// than marks.
 pub(crate) fn find_weakest(
     alloc: Global,
     body: &Body,
     known: &mut Known,
-) -> Result<bool, AllocError>
-    ensures alike { IfOk result (λ found. MeetAlike body.now.image.now body.now.r → found ≡ true) }
-    ensures fit { IfOk result (λ found. found ≡ true → AllFit body.now.image.now body.now.r known.new) }
+) -> Result<Option<Apart>, AllocError>
+    ensures apart { IfOk result (λ left. IfSome left (AreApart body.now.image.now body.now.r)) }
+    ensures fit { IfOk result (λ left. IfNone left (AllFit body.now.image.now body.now.r known.new)) }
     ensures stays { StaysBefore body.now.start known.old known.new }
 {
-    let Ok(comings) = find_comings(alloc, body)? else {
-        return Ok(false);
+    let comings = match find_comings(alloc, body)? {
+        Ok(comings) => comings,
+        Err(apart) => return Ok(Some(apart)),
     };
     fill(body, &comings, known);
-    Ok(all_fit(body, known))
+    // For what it says of rows as weak as these.
+    if !all_fit(body, known) {
+        unreachable!();
+    }
+    Ok(None)
 }

@@ -1,6 +1,7 @@
 use Rattle.std.proofs.Common.{◌≡◌, ◌<◌, ◌+◌, ◌-◌, ℕ, Bool, false, Option, None, sym, ap, ◌∙◌, subst, arith}
 use Rattle.std.specs.Prelude.{is_none, IfSome}
 use Rattle.std.proofs.lemmas.Bool.{false≢true}
+use Rattle.std.proofs.lemmas.Option.{none-some}
 use Rattle.geos_image.specs.Parts.{Parts}
 use Rattle.geos_potentials.specs.Count.{CountsOn, AreCounted}
 use Rattle.geos_potentials.specs.Numbers.{numbers_of}
@@ -39,11 +40,12 @@ loop-r-preserved-in-Some c =
     c.body_of.ensures.image c.body_of.ensures.r counts.counts in
     let undone : is_none found ≡ false = ap is_none c.in-Some.is in record {
       counted = λ want all q from less. (let this = all r lt in absurd (false≢true (sym undone ∙ (on want this.0 this.1).0)));
-      within = lt;
-      none = λ want forward holds. false≢true (sym undone ∙ (on want forward holds).0);
-      reason = reason-in image body.image.now body.r r c.args.known.now c.in-Some.reason c.body_of.ensures.image c.body_of.ensures.r
-          (subst (λ (o : Option Reason). IfSome o (IsReason body.image.now body.r c.args.known.now)) c.in-Some.is counts.reason);
-      least = λ empty. absurd cc;
+      within = rw c.replace.ensures.after lt;
+      none = rw c.replace.ensures.after (λ want forward holds. false≢true (sym undone ∙ (on want forward holds).0));
+      reason = rw c.replace.ensures.after (reason-in image body.image.now body.r r c.args.known.now c.in-Some.reason c.body_of.ensures.image
+          c.body_of.ensures.r
+          (subst (λ (o : Option Reason). IfSome o (IsReason body.image.now body.r c.args.known.now)) c.in-Some.is counts.reason));
+      least = λ empty. absurd (none-some _ (sym empty ∙ c.replace.ensures.after));
       touched = subst (λ (x : Parts). IfSome c.count_in.new.made (λ (tables : Tables). NotesTouched x tables.touched)) c.body_of.ensures.image
           counts.touched;
     }

@@ -10,7 +10,4 @@ returns-in-None-clause-reason c = (
 )
 
 pub returns-in-Ok-clause-touched : goal.returns-in-Ok-clause-touched
-returns-in-Ok-clause-touched c = rw (c.replace.ensures.after, c.count_loops-counted.ensures.touched) c.in_ok-tables.ensures
-
-pub returns-in-Err-clause-touched : goal.returns-in-Err-clause-touched
-returns-in-Err-clause-touched c = rw (c.replace.ensures.after, c.count_loops-counted.ensures.touched) c.in_ok-tables.ensures
+returns-in-Ok-clause-touched c = rw (c.replace.ensures.after, c.in-Ok.ensures.touched) c.in_ok-tables.ensures

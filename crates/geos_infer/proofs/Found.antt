@@ -1,5 +1,5 @@
 -- What is found is enough, where something is.
-use Rattle.std.proofs.Common.{◌≡◌, ℕ, zero, suc, ◌+◌, ◌*◌, ◌<◌, ◌≤◌, Bool, true, false, List, [], ◌∷◌, length, map, Option, Some, None, slice_get, get_or, refl, sym, ap, ◌∙◌, subst, arith, inl, inr, ◌⊎◌}
+use Rattle.std.proofs.Common.{◌≡◌, ℕ, zero, suc, ◌+◌, ◌*◌, ◌<◌, ◌≤◌, Bool, true, false, List, [], ◌∷◌, length, map, Option, Some, None, slice_get, get_or, refl, sym, ap, ◌∙◌, subst, arith}
 use Rattle.std.specs.Prelude.{◌&&◌, ◌==◌, nat_le, nat_lt, option_map, replicate}
 use Rattle.std.specs.List.{list_all}
 use Rattle.std.proofs.lemmas.Bool.{and_parts, le-leb, lt-ltb, eq-eqb}
@@ -18,18 +18,16 @@ use Rattle.geos_verify.specs.Places.{places}
 use Rattle.geos_verify.specs.Rows.{fits, has_edge}
 use Rattle.geos_verify.specs.Rules.{has_place, names_empty_slot, refusal, HasPoint, Accepted, IsChecked}
 use Rattle.geos_verify.proofs.Places.{item_at, place_bounds, places-length, given-place}
-use Rattle.geos_infer.specs.declared.error.InferError.{InferError}
-use Rattle.geos_infer.specs.declared.error.InferError.TheVariants.{NoRows}
 use Rattle.geos_rows.specs.Joins.{clean}
 use Rattle.geos_rows.specs.Code.{Edge, IsPcOf, Forward, ForwardIn, SameCode, instrs_of, instr_of, edge_end, edge_row}
-use Rattle.geos_rows.specs.Solutions.{RowsHoldIn, NoRowsHoldIn}
-use Rattle.geos_potentials.specs.Steps.{StepsHoldIn, NoStepsHoldIn, call_steps}
+use Rattle.geos_rows.specs.Solutions.{RowsHoldIn}
+use Rattle.geos_potentials.specs.Steps.{StepsHoldIn, call_steps}
 use Rattle.geos_rows.specs.Flow.{row_of, known_at, KnownAt, edge_number, Flowing, HaveFlowed}
 use Rattle.geos_potentials.specs.Numbers.{Numbers, zeros}
 use Rattle.geos_potentials.specs.Count.{Counting, CountedIn, AreCounted}
 use Rattle.geos_infer.specs.Points.{potential_of, PointsOf, RoutinesOf}
 use Rattle.geos_potentials.specs.Accepted.{HasAccepted}
-use Rattle.geos_infer.specs.Theorem.{FindsWhatThereIs, NoneIsAccepted, NothingHoldsIn, NamesRoutine, with_points}
+use Rattle.geos_infer.specs.Theorem.{FindsWhatThereIs, NoneIsAccepted, NothingHoldsIn, with_points}
 use Rattle.geos_verify.proofs.Pairwise.{both}
 use Rattle.geos_verify.proofs.RowsFit.{fits-trans}
 use Rattle.geos_rows.proofs.Cleaning.{clean-least}
@@ -334,19 +332,6 @@ none-accepted image legal r lt nothing = λ forward has.
     nothing (forward-accepted image legal forward has r) (map row_at (places has.other)) (map constant_at (places has.other))
     (rows-wanted image has.other has.same has.checked r routine.0 routine.1)
     (steps-wanted image has.other has.same has.checked r routine.0 routine.1 forward has.fits)
-
--- the routine that an error names is one in which nothing holds
-pub stuck-in : (image : Parts) (r routines : ℕ) (error : InferError) → NamesRoutine image error → error ≡ NoRows r
-    → (routines < length image.routines → NoRowsHoldIn image routines) → (r ≡ routines) ⊎ NoStepsHoldIn image r
-    → (r < length image.routines) × NothingHoldsIn image r
-stuck-in image r routines error names e none_rows why =
-    let lt : r < length image.routines = subst (NamesRoutine image) e names in (
-      lt,
-      λ forward rows steps rows_hold steps_hold. elim why [
-        | inl same ↦ none_rows (omega arith) rows (subst (ForwardIn image) same forward) (subst (λ (n : ℕ). RowsHoldIn image n rows) same rows_hold)
-        | inr none ↦ none steps forward steps_hold
-      ],
-    )
 
 -- What is made of them
 

@@ -1,0 +1,85 @@
+-- Which causes tell of what stops the search for rows and potentials.
+use Rattle.std.specs.Prelude.{◌≡◌, ◌⊎◌, ℕ, Bool, true, false}
+use Rattle.geos_potentials.specs.Stuck.{HasPlace}
+use Rattle.geos_potentials.specs.declared.pieces.Order.{Order}
+use Rattle.geos_potentials.specs.declared.pieces.Piece.{Piece}
+use Rattle.geos_potentials.specs.declared.reason.Reason.{Reason}
+use Rattle.geos_potentials.specs.declared.reason.Reason.TheVariants.{TooMany, NoLoop, InTheWay}
+use Rattle.geos_potentials.specs.declared.search.Halt.{Halt}
+use Rattle.geos_potentials.specs.declared.search.Halt.TheVariants.{Stuck, Unpaid, Passes}
+use Rattle.geos_potentials.specs.declared.units.Lack.{Lack}
+use Rattle.geos_potentials.specs.declared.units.Lack.TheVariants as lack
+use Rattle.geos_infer.specs.declared.cause.Cause.{Cause}
+use Rattle.geos_infer.specs.declared.cause.Cause.TheVariants as cause
+use Rattle.geos_infer.specs.declared.finding.Obstacle.{Obstacle}
+use Rattle.geos_infer.specs.declared.finding.Obstacle.TheVariants.{SlotsDiffer, NoSteps}
+
+-- the cause tells of the LOOP at a pc alone: of how its counter comes to it
+abbrev pub IsOfLoop : ℕ → Cause → Type 0
+IsOfLoop pc (cause.SetWithin within) = within.back.from ≡ pc
+IsOfLoop pc (cause.TouchedWithin within) = within.back.from ≡ pc
+IsOfLoop pc (cause.TouchedBefore within) = within.back.from ≡ pc
+IsOfLoop pc _ = ⊥
+
+-- it tells so of a LOOP that has a place in the piece
+pub record IsOfPiece (order : Order) (piece : Piece) (told : Cause) : Type 0 where
+  pub pc : ℕ
+  pub there : HasPlace order piece pc
+  pub loop : IsOfLoop pc told
+
+-- it tells of loops that wait on each other
+abbrev pub tells_of_waiting : Cause → Bool
+tells_of_waiting (cause.InTurn both) = true
+tells_of_waiting (cause.InRing ring) = true
+tells_of_waiting _ = false
+
+-- it tells of what a counter is set to
+abbrev pub tells_of_setting : Cause → Bool
+tells_of_setting (cause.WordUnbounded by_word) = true
+tells_of_setting (cause.NumberHigh by_number) = true
+tells_of_setting (cause.WordDear by_word) = true
+tells_of_setting (cause.NumberDear by_number) = true
+tells_of_setting _ = false
+
+-- it tells of a number that passes what a potential can say
+abbrev pub TellsOfPassing : Cause → Type 0
+TellsOfPassing told = (tells_of_waiting told ≡ true) ⊎ (tells_of_setting told ≡ true)
+
+-- it tells that the search was given up
+abbrev pub tells_of_looks : Cause → Bool
+tells_of_looks (cause.GivenUp back) = true
+tells_of_looks _ = false
+
+-- it tells of no place of the search: the steps of some way pass, or nothing else was found
+abbrev pub tells_of_ways : Cause → Bool
+tells_of_ways cause.StepsPass = true
+tells_of_ways cause.StepsMayPass = true
+tells_of_ways (cause.NoSteps back) = true
+tells_of_ways (cause.Unfound back) = true
+tells_of_ways cause.Unknown = true
+tells_of_ways _ = false
+
+-- it tells of what nests lack
+abbrev pub TellsOfLack : Order → Lack → Cause → Type 0
+TellsOfLack order (lack.SetWithin piece) told = IsOfPiece order piece told
+TellsOfLack order (lack.InTurn nest) told = tells_of_waiting told ≡ true
+TellsOfLack order lack.NoShare told = tells_of_waiting told ≡ true
+TellsOfLack order lack.Passes told = TellsOfPassing told
+TellsOfLack order lack.Looks told = tells_of_looks told ≡ true
+
+-- it tells of what was in the way of the search
+abbrev pub TellsOfHalt : Order → Halt → Cause → Type 0
+TellsOfHalt order (Stuck piece) told = IsOfPiece order piece told
+TellsOfHalt order (Unpaid missing) told = TellsOfLack order missing told
+TellsOfHalt order Passes told = TellsOfPassing told
+
+-- it tells of the reason for which no numbers of steps are found
+abbrev pub TellsOfReason : Reason → Cause → Type 0
+TellsOfReason TooMany told = tells_of_ways told ≡ true
+TellsOfReason (NoLoop back) told = told ≡ cause.NoLoop back
+TellsOfReason (InTheWay halted) told = TellsOfHalt halted.search.splitting.order halted.halt told ⊎ (tells_of_ways told ≡ true)
+
+-- it tells of what is in the way
+abbrev pub TellsOf : Obstacle → Cause → Type 0
+TellsOf (SlotsDiffer apart) told = told ≡ cause.SlotsDiffer apart
+TellsOf (NoSteps unpaid) told = TellsOfReason unpaid.reason told
