@@ -8,38 +8,35 @@ use Rattle.geos_image.specs.Parts.{start_of}
 use Rattle.geos_verify.specs.Rows.{after, has_edge}
 use Rattle.geos_flow.specs.declared.edge.Edge.{Edge}
 use Rattle.geos_explain.specs.declared.forgotten.Item.{Item}
+use Rattle.geos_flow.specs.declared.search.Heading.TheVariants.{Back}
 use Rattle.geos_flow.specs.Edges.{end_of}
-use Rattle.geos_explain.specs.Forgotten.{knows, comes_to_marked, stays_lacked, lacking_from, forgets_item, forgets_at, IsLackedFrom, IsForgottenBy, WhatIsSaidOfCallsHolds}
-use Rattle.geos_flow.specs.Marks.{is_marked}
+use Rattle.geos_explain.specs.Forgotten.{knows, comes_lacked, stays_lacked, is_lacked_from, forgets_item, forgets_at, IsLackedFrom, IsForgottenBy, WhatIsSaidOfCallsHolds}
 use Rattle.geos_explain.specs.Moved.{moves, moves_at, if_round, IsMovedRound, WhatIsSaidOfRoundsHolds}
-use Rattle.geos_explain.specs.Places.{Place, IsPlace, comes_alike, last_of}
+use Rattle.geos_explain.specs.Places.{Place, comes_alike, last_of}
 use Rattle.geos_explain.specs.Since.{IsInside}
 use Rattle.geos_explain.specs.Ways.{forgets}
 use Rattle.geos_flow.proofs.Choices.{elim_both}
-use Rattle.geos_explain.proofs.Comes.{marked-lead}
+use Rattle.geos_explain.proofs.Leads.{leads-is}
 use Rattle.geos_explain.proofs.Holding.{inside-at}
 
-module _ (place : Place) (item : Item) (is_place : IsPlace place) where
-  -- from a pc that is marked, a way leads on
-  marked-lacked : (to pc : ℕ) → is_marked (lacking_from place item to) pc ≡ true → IsLackedFrom place item pc to
-  marked-lacked to pc is = marked-lead place.image (stays_lacked place item) to is_place.short pc is
+module _ (place : Place) (item : Item) where
+  lacked-from : (to pc : ℕ) → is_lacked_from place item to pc ≡ true → IsLackedFrom place item pc to
+  lacked-from to pc is = (leads-is place.image Back (λ edge end. stays_lacked place item edge) to pc).0 is
 
-  forgets-forgotten : (from : ℕ) → IsInside place from → forgets_at place item (lacking_from place item place.pc) from ≡ true
-      → IsForgottenBy place item from
+  forgets-forgotten : (from : ℕ) → IsInside place from → forgets_at place item from ≡ true → IsForgottenBy place item from
   unfolding forgets_at
   forgets-forgotten from inside_here =
-      let table = lacking_from place item place.pc in
-      elim_both (slice_get (places place.image) from) false (λ (point : KnownPlace). forgets_item place item table from point)
+      elim_both (slice_get (places place.image) from) false (λ (point : KnownPlace). forgets_item place item from point)
       (λ b. b ≡ true → IsForgottenBy place item from) (λ none is. absurd cc) (λ point e is. (
       let edge : Edge = record { from = from; branch = false } in
-      let last = and_parts (forgets point.instr.opcode && knows point.row item && comes_to_marked place table edge point)
+      let last = and_parts (forgets point.instr.opcode && knows point.row item && comes_lacked place item edge point)
       (not (knows (after place.image from point.row false) item)) is in
-      let second = and_parts (forgets point.instr.opcode && knows point.row item) (comes_to_marked place table edge point) last.0 in
+      let second = and_parts (forgets point.instr.opcode && knows point.row item) (comes_lacked place item edge point) last.0 in
       let first = and_parts (forgets point.instr.opcode) (knows point.row item) second.0 in
       let end = end_of edge point.instr in
       let alike = comes_alike place from in
-      let has = and_parts (is_marked table end && alike) (has_edge point.instr false) second.1 in
-      let comes = and_parts (is_marked table end) alike has.0 in
+      let has = and_parts (is_lacked_from place item place.pc end && alike) (has_edge point.instr false) second.1 in
+      let comes = and_parts (is_lacked_from place item place.pc end) alike has.0 in
       record {
         inside = inside_here;
         next = end;
@@ -47,14 +44,14 @@ module _ (place : Place) (item : Item) (is_place : IsPlace place) where
         calls = first.0;
         known = first.1;
         lost = not-true (knows (after place.image from point.row false) item) last.1;
-        way = marked-lacked place.pc end comes.0;
+        way = lacked-from place.pc end comes.0;
       }))
 
-  moves-round : (w from : ℕ) → is_marked (lacking_from place item from) place.pc ≡ true
-      → moves_at place w (lacking_from place item place.pc) from ≡ true → IsMovedRound place item w from
+  moves-round : (w from : ℕ) → is_lacked_from place item from place.pc ≡ true → moves_at place item w from ≡ true
+      → IsMovedRound place item w from
   unfolding moves_at
   moves-round w from round =
-      let here = is_marked (lacking_from place item place.pc) from in
+      let here = is_lacked_from place item place.pc from in
       elim_both (slice_get (places place.image) from) false (λ (point : KnownPlace). here && moves point.instr point.instr.opcode w)
       (λ b. b ≡ true → IsMovedRound place item w from) (λ none is. absurd cc) (λ point e is. (
       let tests = and_parts here (moves point.instr point.instr.opcode w) is in
@@ -62,8 +59,8 @@ module _ (place : Place) (item : Item) (is_place : IsPlace place) where
         point = point;
         there = e;
         does = tests.1;
-        there_to = marked-lacked place.pc from tests.0;
-        back = marked-lacked from place.pc round;
+        there_to = lacked-from place.pc from tests.0;
+        back = lacked-from from place.pc round;
       }))
 
 -- of the routine's instructions, the last of which something is so
@@ -79,22 +76,19 @@ last-of place is from (suc n) short =
     (λ not_so. last-of place is from n (omega arith))
 
 pub said-of-calls : WhatIsSaidOfCallsHolds
-said-of-calls place item from is_place said =
-    let found = last-of place (forgets_at place item (lacking_from place item place.pc)) from place.routine.count (omega arith) said in
-    forgets-forgotten place item is_place from found.1 found.0
+said-of-calls place item from said =
+    let found = last-of place (forgets_at place item) from place.routine.count (omega arith) said in
+    forgets-forgotten place item from found.1 found.0
 
 pub said-of-rounds : WhatIsSaidOfRoundsHolds
-said-of-rounds place item w from is_place = by_last (last_of place moving place.routine.count) refl
+said-of-rounds place item w from = by_last (last_of place (moves_at place item w) place.routine.count) refl
   where
-    moving : ℕ → Bool
-    moving pc = moves_at place w (lacking_from place item place.pc) pc
-
-    by_last : (last : Option ℕ) → last_of place moving place.routine.count ≡ last
+    by_last : (last : Option ℕ) → last_of place (moves_at place item w) place.routine.count ≡ last
         → if_round place item last ≡ Some from → IsMovedRound place item w from
     by_last None e none = absurd cc
     by_last (Some found) e said =
-        let is = last-of place moving found place.routine.count (omega arith) e in
-        cond_both (is_marked (lacking_from place item found) place.pc) (Some found) None (λ o. o ≡ Some from → IsMovedRound place item w from)
+        let is = last-of place (moves_at place item w) found place.routine.count (omega arith) e in
+        cond_both (is_lacked_from place item found place.pc) (Some found) None (λ o. o ≡ Some from → IsMovedRound place item w from)
         (λ round same. (let is_from : found ≡ from = cc in
-        subst (IsMovedRound place item w) is_from (moves-round place item is_place w found round is.0)))
+        subst (IsMovedRound place item w) is_from (moves-round place item w found round is.0)))
         (λ not_so none. absurd cc) said

@@ -1,20 +1,20 @@
 -- What is said of a slot that is held is so, and all that is so is said.
-use Rattle.std.proofs.Common.{◌≡◌, ◌+◌, ◌-◌, ◌<◌, ◌≤◌, ℕ, zero, suc, Bool, true, false, not, cond, List, Some, slice_get, refl, sym, ◌∙◌, subst, inl, inr, arith}
-use Rattle.std.specs.Prelude.{◌&&◌, nat_le, nat_lt}
+use Rattle.std.proofs.Common.{◌≡◌, ◌+◌, ◌-◌, ◌<◌, ◌≤◌, ℕ, zero, suc, Bool, true, false, not, cond, Some, slice_get, refl, sym, ◌∙◌, subst, inl, inr, arith}
+use Rattle.std.specs.Prelude.{◌&&◌, ◌↔◌, nat_le, nat_lt}
 use Rattle.std.proofs.lemmas.Bool.{and_parts, and_from, or_cases, or_left, or_right, not-true, not_from_false, cond_both, cases_lt, le-leb, leb-true, lt-ltb, ltb-true}
 use Rattle.geos_verify.specs.declared.place.Place.{Place as KnownPlace}
 use Rattle.geos_verify.specs.Places.{places}
 use Rattle.geos_image.specs.Parts.{start_of}
 use Rattle.geos_verify.specs.Rows.{after, has_edge}
 use Rattle.geos_flow.specs.declared.edge.Edge.{Edge}
+use Rattle.geos_flow.specs.declared.search.Heading.TheVariants.{Back}
 use Rattle.geos_flow.specs.Edges.{end_of}
-use Rattle.geos_flow.specs.Marks.{is_marked}
 use Rattle.geos_explain.specs.declared.since.Since.{Since}
 use Rattle.geos_explain.specs.declared.since.Since.TheVariants.{Unknown, Entry, EntryOrOther, Once, Often}
-use Rattle.geos_explain.specs.Places.{Place, IsPlace, comes_alike}
-use Rattle.geos_explain.specs.Since.{holds, keeps_along, leads_to_marked, leads_on, stays_held, held_from, fills_at, one_more, also, since_entry, since_below, held_since, IsInside, IsHeldFrom, IsSince, IsSinceEntry, IsSaidOf, IsAllOf, WhatIsSaidOfSlotsHolds}
+use Rattle.geos_explain.specs.Places.{Place, comes_alike}
+use Rattle.geos_explain.specs.Since.{holds, keeps_along, leads_held, leads_on, stays_held, is_held_from, fills_at, one_more, also, since_entry, since_below, IsInside, IsHeldFrom, IsSince, IsSinceEntry, IsSaidOf, IsAllOf, WhatIsSaidOfSlotsHolds}
 use Rattle.geos_flow.proofs.Choices.{elim_both}
-use Rattle.geos_explain.proofs.Comes.{marked-lead, lead-marked}
+use Rattle.geos_explain.proofs.Leads.{leads-is}
 
 module _ (place : Place) (a : ℕ) where
   abbrev start : ℕ
@@ -107,115 +107,102 @@ module _ (place : Place) (a : ℕ) where
   also-said since n true said is all = more-said since n said (is refl)
   also-said since n false said is all = no-more since n said (λ since. (let wrong = all since in absurd cc))
 
-  module _ (is_place : IsPlace place) where
-    abbrev marks : List Bool
-    marks = held_from place a
+  held-from : (pc : ℕ) → (is_held_from place a pc ≡ true) ↔ IsHeldFrom place a pc
+  held-from pc = leads-is place.image Back (λ edge end. stays_held place a edge) place.pc pc
 
-    marked-held : (pc : ℕ) → is_marked marks pc ≡ true → IsHeldFrom place a pc
-    unfolding held_from
-    marked-held pc is = marked-lead place.image (stays_held place a) place.pc is_place.short pc is
+  edge-since : (from : ℕ) (point : KnownPlace) → IsInside place from → slice_get (places place.image) from ≡ Some point
+      → holds point.row a ≡ false → (branch : Bool) → leads_held place a (edge_at from branch) point ≡ true → IsSince place a from
+  edge-since from point inside there empty branch is =
+      let to = end_of (edge_at from branch) point.instr in
+      let alike = comes_alike place from in
+      let has = has_edge point.instr branch in
+      let behind = holds (after place.image from point.row branch) a in
+      let first = and_parts (is_held_from place a to) (alike && has && behind) is in
+      let last = and_parts (alike && has) behind first.1 in
+      let second = and_parts alike has last.0 in
+      record {
+        inside = inside;
+        branch = branch;
+        to = to;
+        comes = record { point = point; there = there; alike = second.0; has = second.1; ends = refl };
+        empty = empty;
+        held = last.1;
+        way = (held-from to).0 first.0;
+      }
 
-    held-marked : (pc : ℕ) → IsHeldFrom place a pc → is_marked marks pc ≡ true
-    unfolding held_from
-    held-marked pc way =
-        let there = is_place.there in
-        let short = is_place.short in
-        lead-marked place.image (stays_held place a) place.pc short (omega (arith, there, short)) pc way
+  fills-since : (from : ℕ) → IsInside place from → fills_at place a from ≡ true → IsSince place a from
+  unfolding fills_at
+  fills-since from inside = elim_both (slice_get (places place.image) from) false
+      (λ (point : KnownPlace). not (holds point.row a) && leads_on place a from point) (λ b. b ≡ true → IsSince place a from)
+      (λ none is. absurd cc)
+      (λ point there is. (let tests = and_parts (not (holds point.row a)) (leads_on place a from point) is in
+      let since = edge-since from point inside there (not-true (holds point.row a) tests.0) in
+      elim (or_cases (leads_held place a (edge_at from false) point)
+      (leads_held place a (edge_at from true) point) tests.1) [
+        | inl along ↦ since false along
+        | inr aside ↦ since true aside
+      ]))
 
-    edge-since : (from : ℕ) (point : KnownPlace) → IsInside place from → slice_get (places place.image) from ≡ Some point
-        → holds point.row a ≡ false → (branch : Bool) → leads_to_marked place a marks (edge_at from branch) point ≡ true → IsSince place a from
-    edge-since from point inside there empty branch is =
-        let to = end_of (edge_at from branch) point.instr in
-        let alike = comes_alike place from in
-        let has = has_edge point.instr branch in
-        let behind = holds (after place.image from point.row branch) a in
-        let first = and_parts (is_marked marks to) (alike && has && behind) is in
-        let last = and_parts (alike && has) behind first.1 in
-        let second = and_parts alike has last.0 in
-        record {
-          inside = inside;
-          branch = branch;
-          to = to;
-          comes = record { point = point; there = there; alike = second.0; has = second.1; ends = refl };
-          empty = empty;
-          held = last.1;
-          way = marked-held to first.0;
-        }
+  fills-all : (from : ℕ) → IsSince place a from → fills_at place a from ≡ true
+  unfolding fills_at
+  fills-all from since = rw (since.comes.there, fills_at)
+      (and_from (not (holds point.row a)) (leads_on place a from point) (not_from_false (holds point.row a) since.empty) (on since.branch refl))
+    where
+      point : KnownPlace
+      point = since.comes.point
 
-    fills-since : (from : ℕ) → IsInside place from → fills_at place a marks from ≡ true → IsSince place a from
-    unfolding fills_at
-    fills-since from inside = elim_both (slice_get (places place.image) from) false
-        (λ (point : KnownPlace). not (holds point.row a) && leads_on place a marks from point) (λ b. b ≡ true → IsSince place a from)
-        (λ none is. absurd cc)
-        (λ point there is. (let tests = and_parts (not (holds point.row a)) (leads_on place a marks from point) is in
-        let since = edge-since from point inside there (not-true (holds point.row a) tests.0) in
-        elim (or_cases (leads_to_marked place a marks (edge_at from false) point)
-        (leads_to_marked place a marks (edge_at from true) point) tests.1) [
-          | inl along ↦ since false along
-          | inr aside ↦ since true aside
-        ]))
+      leads : (branch : Bool) → since.branch ≡ branch → leads_held place a (edge_at from branch) point ≡ true
+      leads branch is = subst (λ b. leads_held place a (edge_at from b) point ≡ true) is
+          (and_from (is_held_from place a (end_of (edge_at from since.branch) point.instr)) (keeps_along place a (edge_at from since.branch) point)
+          ((held-from (end_of (edge_at from since.branch) point.instr)).1 (subst (λ k. IsHeldFrom place a k) (sym since.comes.ends) since.way))
+          (and_from (comes_alike place from && has_edge point.instr since.branch) (holds (after place.image from point.row since.branch) a)
+          (and_from (comes_alike place from) (has_edge point.instr since.branch) since.comes.alike since.comes.has) since.held))
 
-    fills-all : (from : ℕ) → IsSince place a from → fills_at place a marks from ≡ true
-    unfolding fills_at
-    fills-all from since = rw (since.comes.there, fills_at)
-        (and_from (not (holds point.row a)) (leads_on place a marks from point) (not_from_false (holds point.row a) since.empty) (on since.branch refl))
-      where
-        point : KnownPlace
-        point = since.comes.point
+      on : (branch : Bool) → since.branch ≡ branch → leads_on place a from point ≡ true
+      on false is = or_left _ (leads_held place a (edge_at from true) point) (leads false is)
+      on true is = or_right (leads_held place a (edge_at from false) point) _ (leads true is)
 
-        leads : (branch : Bool) → since.branch ≡ branch → leads_to_marked place a marks (edge_at from branch) point ≡ true
-        leads branch is = subst (λ b. leads_to_marked place a marks (edge_at from b) point ≡ true) is
-            (and_from (is_marked marks (end_of (edge_at from since.branch) point.instr)) (keeps_along place a (edge_at from since.branch) point)
-            (held-marked (end_of (edge_at from since.branch) point.instr) (subst (λ k. IsHeldFrom place a k) (sym since.comes.ends) since.way))
-            (and_from (comes_alike place from && has_edge point.instr since.branch) (holds (after place.image from point.row since.branch) a)
-            (and_from (comes_alike place from) (has_edge point.instr since.branch) since.comes.alike since.comes.has) since.held))
+  entry-said : Said zero (since_entry place a)
+  entry-said =
+      let held = holds place.routine.entry a in
+      cond_both (held && is_held_from place a start) Entry Unknown (Said zero)
+      (λ is. (let tests = and_parts held (is_held_from place a start) is in
+      record { is = record { held = tests.0; way = (held-from start).0 tests.1 }; below = tt; all = λ k less since. omega arith }))
+      (λ not_so. record {
+        is = tt;
+        below = tt;
+        all = (
+          λ since. (let so = and_from held (is_held_from place a start) since.held ((held-from start).1 since.way) in absurd cc),
+          λ k less since. omega arith,
+        );
+      })
 
-        on : (branch : Bool) → since.branch ≡ branch → leads_on place a marks from point ≡ true
-        on false is = or_left _ (leads_to_marked place a marks (edge_at from true) point) (leads false is)
-        on true is = or_right (leads_to_marked place a marks (edge_at from false) point) _ (leads true is)
+  below-said : (n : ℕ) → n ≤ place.routine.count → Said n (since_below place a n)
+  unfolding since_below
+  below-said zero short = entry-said
+  below-said (suc n) short = also-said (since_below place a n) n (fills_at place a (start + n)) (below-said n (omega arith))
+      (fills-since (start + n) (inside-at n (omega arith))) (fills-all (start + n))
 
-    entry-said : Said zero (since_entry place a marks)
-    entry-said =
-        let held = holds place.routine.entry a in
-        cond_both (held && is_marked marks start) Entry Unknown (Said zero)
-        (λ is. (let tests = and_parts held (is_marked marks start) is in
-        record { is = record { held = tests.0; way = marked-held start tests.1 }; below = tt; all = λ k less since. omega arith }))
-        (λ not_so. record {
-          is = tt;
-          below = tt;
-          all = (
-            λ since. (let so = and_from held (is_marked marks start) since.held (held-marked start since.way) in absurd cc),
-            λ k less since. omega arith,
-          );
-        })
+  -- each is one of the routine's
+  nth : (from : ℕ) → IsSince place a from → (k : ℕ) × (k < place.routine.count) × (start + k ≡ from)
+  nth from since =
+      let parts = and_parts (nat_le start from) (nat_lt from (start + place.routine.count)) since.inside in
+      let above = leb-true start from parts.0 in
+      let below = ltb-true from (start + place.routine.count) parts.1 in
+      (from - start, omega (arith, above, below), omega (arith, above, below))
 
-    below-said : (n : ℕ) → n ≤ place.routine.count → Said n (since_below place a marks n)
-    unfolding since_below
-    below-said zero short = entry-said
-    below-said (suc n) short = also-said (since_below place a marks n) n (fills_at place a marks (start + n)) (below-said n (omega arith))
-        (fills-since (start + n) (inside-at n (omega arith))) (fills-all (start + n))
-
-    -- each is one of the routine's
-    nth : (from : ℕ) → IsSince place a from → (k : ℕ) × (k < place.routine.count) × (start + k ≡ from)
-    nth from since =
-        let parts = and_parts (nat_le start from) (nat_lt from (start + place.routine.count)) since.inside in
-        let above = leb-true start from parts.0 in
-        let below = ltb-true from (start + place.routine.count) parts.1 in
-        (from - start, omega (arith, above, below), omega (arith, above, below))
-
-    all-of : (since : Since) → AllBelow place.routine.count since → IsAllOf place a since
-    all-of Unknown all = (all.0, λ from since. (let n = nth from since in all.1 n.0 n.1 (subst (λ m. IsSince place a m) (sym n.2) since)))
-    all-of Entry all = λ from since. (let n = nth from since in all n.0 n.1 (subst (λ m. IsSince place a m) (sym n.2) since))
-    all-of EntryOrOther all = tt
-    all-of (Once first) all = (
-      all.0,
-      λ from since. (let n = nth from since in sym n.2
-          ∙ all.1 n.0 n.1 (subst (λ m. IsSince place a m) (sym n.2) since)),
-    )
-    all-of (Often last) all = all
+  all-of : (since : Since) → AllBelow place.routine.count since → IsAllOf place a since
+  all-of Unknown all = (all.0, λ from since. (let n = nth from since in all.1 n.0 n.1 (subst (λ m. IsSince place a m) (sym n.2) since)))
+  all-of Entry all = λ from since. (let n = nth from since in all n.0 n.1 (subst (λ m. IsSince place a m) (sym n.2) since))
+  all-of EntryOrOther all = tt
+  all-of (Once first) all = (
+    all.0,
+    λ from since. (let n = nth from since in sym n.2
+        ∙ all.1 n.0 n.1 (subst (λ m. IsSince place a m) (sym n.2) since)),
+  )
+  all-of (Often last) all = all
 
 pub said-of-slots : WhatIsSaidOfSlotsHolds
-unfolding held_since
-said-of-slots place a is =
-    let said = below-said place a is place.routine.count (omega arith) in
-    (said.is, all-of place a is (since_below place a (held_from place a) place.routine.count) said.all)
+said-of-slots place a =
+    let said = below-said place a place.routine.count (omega arith) in
+    (said.is, all-of place a (since_below place a place.routine.count) said.all)

@@ -5,6 +5,7 @@ mod Forgetting
 mod Found
 mod FoundWays
 mod Holding
+mod Leads
 mod Losing
 mod Noted
 mod Outside

@@ -1,5 +1,5 @@
 -- What the search for why a pointer is not known finds is so.
-use Rattle.std.proofs.Common.{◌≡◌, ℕ, Bool, List, Option, Some, None, slice_get, sym, subst, inl, inr}
+use Rattle.std.proofs.Common.{is_some, ◌≡◌, ◌⊎◌, ℕ, Bool, true, false, List, Option, Some, None, slice_get, refl, sym, subst, inl, inr}
 use Rattle.std.specs.Prelude.{IfSome}
 use Rattle.std.specs.Option.{option_or}
 use Rattle.geos_verify.specs.declared.place.Place.{Place as KnownPlace}
@@ -8,11 +8,14 @@ use Rattle.geos_verify.specs.Rows.{after, has_edge}
 use Rattle.geos_flow.specs.declared.edge.Edge.{Edge}
 use Rattle.geos_explain.specs.declared.ways.Way.{Way}
 use Rattle.geos_explain.specs.declared.ways.Way.TheVariants.{Entry, Along}
+use Rattle.geos_explain.specs.declared.finding.End.{End}
+use Rattle.geos_explain.specs.declared.finding.Meeting.{Meeting}
+use Rattle.geos_explain.specs.declared.trace.FirstWays.{FirstWays}
 use Rattle.geos_explain.specs.declared.trace.Trace.{Trace}
-use Rattle.geos_explain.specs.Places.{Place}
+use Rattle.geos_explain.specs.Places.{Place, comes_alike}
 use Rattle.geos_explain.specs.Ways.{empty_slot, empty_along, empty_from, empty_on}
-use Rattle.geos_explain.specs.Lost.{LacksFrom, IsWay, BringsNowhere, Holds}
-use Rattle.geos_explain.specs.Trace.{IsSound}
+use Rattle.geos_explain.specs.Lost.{LacksFrom, FindsWay, IsBringing, IsWay, NoWay, BringsNowhere}
+use Rattle.geos_explain.specs.Trace.{AreWays, IsFinding, IsOpen, IsSound}
 use Rattle.geos_flow.specs.Marks.{no_marks, marked}
 use Rattle.geos_flow.specs.Waiting.{Has}
 use Rattle.geos_flow.proofs.Marked.{mark-was, none-marked}
@@ -22,6 +25,15 @@ use Rattle.geos_explain.proofs.Arriving.{cond-some}
 pub either-one : {X : Type 0} (P : X → Type 0) (a b : Option X) → IfSome a P → IfSome b P → IfSome (option_or a b) P
 either-one P None b first second = second
 either-one P (Some x) b first second = first
+
+-- where neither is there, the first is not
+pub or-none : {X : Type 0} (a b : Option X) → option_or a b ≡ None → a ≡ None
+or-none None b is = refl
+or-none (Some x) b is = is
+
+pub some-none : {X : Type 0} (a : Option X) → is_some a ≡ true → a ≡ None → ⊥
+some-none None is none = absurd cc
+some-none (Some x) is none = absurd cc
 
 module _ (place : Place) (p : ℕ) where
   along-nowhere : (slot : ℕ) (edge : Edge) (point : KnownPlace) → slice_get (places place.image) edge.from ≡ Some point
@@ -45,7 +57,24 @@ module _ (place : Place) (p : ℕ) where
   marks-more marks at passed from pc h =
       elim (mark-was marks at pc h) [ inl same ↦ subst (LacksFrom place p) (sym same) from | inr was ↦ passed pc was ]
 
+  -- the place says nothing, where no ways meet there and no end is there
+  pub ways-open : (ways : FirstWays) (meeting : Option Meeting) (end : Option End) → ways.to ≡ place.pc → AreWays place p ways
+      → (meeting ≡ None → (ways.known ≡ None) ⊎ (ways.lost ≡ None))
+      → (end ≡ None → (edge : Edge) × (ways.lost ≡ Some (Along edge)) × (comes_alike place edge.from ≡ true))
+      → meeting ≡ None → end ≡ None → IsOpen place p
+  ways-open ways meeting end here are met ended no_meeting no_end =
+      let edge = ended no_end in
+      let lost = subst (λ o. FindsWay place (λ way. IsWay place p false way ways.to) o) edge.1 are.lost in
+      let unknown : ways.known ≡ None = elim (met no_meeting) [ inl none ↦ none | inr none ↦ absurd cc ] in
+      let none = subst (λ o. FindsWay place (λ way. IsBringing place p ways.to way) o) unknown are.known in
+      record {
+        none = subst (λ to. NoWay place (λ way. IsBringing place p to way)) here none;
+        edge = edge.0;
+        lacks = subst (λ to. IsWay place p false (Along edge.0) to) here lost;
+        alike = edge.2;
+      }
+
   -- where no place was passed
-  pub none-passed : (trace : Trace) → trace.passed ≡ no_marks → Holds place p trace.finding → IsSound place p trace
-  none-passed trace is holds =
-      record { passed = λ pc h. absurd (none-marked pc (subst (λ m. Has m pc) is h)); finds = holds }
+  pub none-passed : (trace : Trace) → trace.passed ≡ no_marks → IsFinding place p trace.finding → IsSound place p trace
+  none-passed trace is finds =
+      record { passed = λ pc h. absurd (none-marked pc (subst (λ m. Has m pc) is h)); finds = finds }

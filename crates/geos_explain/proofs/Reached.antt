@@ -1,80 +1,70 @@
 -- The marks say what control reaches.
-use Rattle.std.proofs.Common.{◌≡◌, ◌<◌, ◌≤◌, ℕ, zero, suc, Bool, false, List, length, Option, sym, ◌∙◌, subst, arith, inl, inr}
+use Rattle.std.proofs.Common.{◌≡◌, ◌<◌, ◌+◌, ℕ, true, Bool, List, [], length, refl, sym, ap, ◌∙◌, subst, arith, inl, inr}
 use Rattle.std.proofs.lemmas.Bool.{cases_lt}
-use Rattle.std.proofs.lemmas.List.{length-replicate}
+use Rattle.geos_image.specs.Legal.{is_image}
 use Rattle.geos_image.specs.Parts.{Parts, start_of}
+use Rattle.geos_image.proofs.Given.{item_at, routine_counts}
 use Rattle.geos_image.proofs.Instrs.{image_parts}
-use Rattle.geos_flow.specs.declared.edge.Edge.{Edge}
+use Rattle.geos_image.proofs.Starts.{start_of-end}
 use Rattle.geos_flow.specs.declared.search.Heading.TheVariants.{Ahead}
-use Rattle.geos_flow.specs.Flow.{Step, step_by, Lead, MarksWhatIsLed, all_led}
-use Rattle.geos_flow.specs.Marks.{no_marks, marked}
-use Rattle.geos_flow.specs.Waiting.{Has}
-use Rattle.geos_flow.proofs.Leading.{all_led-led}
-use Rattle.geos_flow.proofs.Marked.{mark-grows, mark-was, mark-there, none-marked, has-marked, is-marked}
-use Rattle.geos_flow.proofs.Taking.{inside}
-use Rattle.geos_explain.specs.Led.{stays, starts_marked, reached, is_reached, MarksWhatIsReached}
-use Rattle.geos_explain.proofs.Comes.{lead-low}
+use Rattle.geos_flow.specs.Flow.{step_by, Lead, MarksWhatIsLed}
+use Rattle.geos_flow.specs.Marks.{no_marks, marked, is_marked, Marking}
+use Rattle.geos_flow.proofs.Deciding.{below-or-not, leads-or-not}
+use Rattle.geos_explain.proofs.Leads.{is-decided}
+use Rattle.geos_flow.proofs.Marked.{has-marked, marked-here, marked-keeps, mark-was, is-marked, marked-low, none-marked}
+use Rattle.geos_explain.specs.Led.{stays, LeadsFrom, MarksStarts, is_reached}
 
--- ---- First instructions
+-- each routine has a first instruction
+start-low : (image : Parts) (r : ℕ) → is_image image ≡ true → r < length image.routines → start_of image.routines r < 4096
+start-low image r legal within =
+    let parts = image_parts image legal in
+    let routine = item_at image.routines r within in
+    let some = routine_counts image.keyed [] image.routines r routine.0 parts.routines routine.1 in
+    let end = start_of-end image.routines r routine.0 routine.1 in
+    omega (arith, some, end, parts.counts, parts.short)
 
-starts-full : (image : Parts) (n : ℕ) → length (starts_marked image n) ≡ 4096
-unfolding starts_marked no_marks
-starts-full image zero = length-replicate 4096 false
-starts-full image (suc n) = let grows = mark-grows (starts_marked image n) (start_of image.routines n) in grows.len ∙ starts-full image n
+pub starts-none : (image : Parts) → MarksStarts image 0 no_marks
+starts-none image pc = (
+  λ is. absurd (none-marked pc (has-marked no_marks pc is)),
+  λ start. (let before = start.1 in absurd (omega arith)),
+)
 
--- what is marked is the first instruction of a routine
-starts-was : (image : Parts) (n k : ℕ) → n ≤ length image.routines → Has (starts_marked image n) k
-    → (r : ℕ) × (r < length image.routines) × (k ≡ start_of image.routines r)
-unfolding starts_marked
-starts-was image zero k le h = absurd (none-marked k h)
-starts-was image (suc n) k le h = elim (mark-was (starts_marked image n) (start_of image.routines n) k h) [
-  | inl same ↦ (n, omega arith, same)
-  | inr was ↦ starts-was image n k (omega arith) was
-]
-
-start-there : (image : Parts) (n r : ℕ) → r < n → start_of image.routines r < 4096 → Has (starts_marked image n) (start_of image.routines r)
-unfolding starts_marked
-start-there image zero r lt low = absurd (omega arith)
-start-there image (suc n) r lt low = elim (cases_lt r n) [
-  | inl before ↦ let grows = mark-grows (starts_marked image n) (start_of image.routines n) in
-      grows.keeps (start_of image.routines r) (start-there image n r before low)
-  | inr past ↦
-      let same : n ≡ r = omega arith in
-      subst (λ (k : ℕ). Has (marked (starts_marked image n) (start_of image.routines n)) (start_of image.routines k)) same
-      (mark-there (starts_marked image n) (start_of image.routines n) (starts-full image n)
-      (subst (λ (k : ℕ). start_of image.routines k < 4096) (sym same) low))
-]
-
--- the marks are those of what control reaches
-pub marks-reached : MarksWhatIsReached
-unfolding is_reached reached
-marks-reached image pc legal lt = (
-  λ is. (let led = (all pc).0 is in
-      let start = starts-was image (length image.routines) led.start (omega arith) (has-marked starts led.start led.begins) in
-      record {
-        r = start.0;
-        within = start.1;
-        edges = led.edges;
-        lead = subst (λ s. Lead steps s led.edges pc) start.2 led.lead;
-      }),
-  λ R. (let first = lead-low steps (inside image Ahead (stays image) short) (start_of image.routines R.r) R.edges pc (omega (arith, lt, short)) R.lead in
-      (all pc).1 (record {
-        start = start_of image.routines R.r;
-        begins = is-marked starts (start_of image.routines R.r) first
-            (start-there image (length image.routines) R.r R.within first);
-        edges = R.edges;
-        lead = R.lead;
-      })),
+-- of one more routine
+pub starts-more : (image : Parts) (n : ℕ) (marks : List Bool) → length marks ≡ 4096 → is_image image ≡ true → n < length image.routines
+    → MarksStarts image n marks → MarksStarts image (n + 1) (marked marks (start_of image.routines n))
+starts-more image n marks full legal within starts pc = (
+  λ is. elim (mark-was marks here pc (has-marked (marked marks here) pc is)) [
+    | inl same ↦ (n, omega arith, sym same)
+    | inr was ↦
+        let before = (starts pc).0 (is-marked marks pc (marked-low (marked marks here) pc is) was) in
+        (before.0, (let less = before.1 in omega arith), before.2)
+  ],
+  λ start. elim (cases_lt start.0 n) [
+    | inl less ↦ marked-keeps marks here pc ((starts pc).1 (start.0, less, start.2))
+    | inr past ↦
+        let low = start.1 in
+        let same : n ≡ start.0 = omega arith in
+        subst (λ k. is_marked (marked marks here) k ≡ true) (ap (start_of image.routines) same ∙ start.2)
+        (marked-here marks here full (start-low image n legal within))
+  ],
 )
   where
-    short : length image.points ≤ 4096
-    short = (image_parts image legal).short
+    here : ℕ
+    here = start_of image.routines n
 
-    starts : List Bool
-    starts = starts_marked image (length image.routines)
-
-    steps : Edge → Option Step
-    steps edge = step_by image Ahead (stays image) edge
-
-    all : MarksWhatIsLed steps starts (all_led steps starts)
-    all = all_led-led steps starts (starts-full image (length image.routines)) (inside image Ahead (stays image) short)
+-- what steps lead to from the first instructions is what control reaches
+pub marks-reached : (image : Parts) (starts new : List Bool) → MarksStarts image (length image.routines) starts
+    → MarksWhatIsLed (step_by image Ahead (stays image)) starts new → Marking new (is_reached image)
+unfolding is_reached
+marks-reached image starts new begins all pc = is-decided (is_marked new pc)
+    (below-or-not (LeadsFrom image pc) (λ r. leads-or-not image Ahead (stays image) (start_of image.routines r) pc) (length image.routines)) (
+      λ is. (let led = (all pc).0 is in
+          let start = (begins led.start).0 led.begins in
+          (start.0, start.1, (led.edges, subst (λ s. Lead (step_by image Ahead (stays image)) s led.edges pc) (sym start.2) led.lead))),
+      λ found. (all pc).1 (record {
+        start = start_of image.routines found.0;
+        begins = (begins (start_of image.routines found.0)).1 (found.0, found.1, refl);
+        edges = found.2.0;
+        lead = found.2.1;
+      }),
+    )

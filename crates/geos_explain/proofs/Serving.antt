@@ -1,8 +1,7 @@
 -- What is said where a potential is above its budget is so.
-use Rattle.std.proofs.Common.{◌≡◌, ◌+◌, ◌≤◌, ◌⊎◌, ℕ, zero, suc, Bool, true, false, not, List, Option, Some, None, length, slice_get, refl, ◌∙◌, subst, inl, inr, arith}
+use Rattle.std.proofs.Common.{◌≡◌, ◌+◌, ◌≤◌, ◌⊎◌, ℕ, zero, suc, Bool, true, false, not, Option, Some, None, slice_get, refl, subst, inl, inr, arith}
 use Rattle.std.specs.Prelude.{◌&&◌, nat_lt}
 use Rattle.std.proofs.lemmas.Bool.{and_parts}
-use Rattle.std.proofs.lemmas.List.{length-replicate}
 use Rattle.geos_image.specs.declared.instr.Instr.{Instr}
 use Rattle.geos_image.specs.declared.point.Point.{Point}
 use Rattle.geos_image.specs.declared.row.Row.{Row}
@@ -10,18 +9,13 @@ use Rattle.geos_image.specs.Parts.{Parts, start_of}
 use Rattle.geos_opcodes.specs.Facts.{facts}
 use Rattle.geos_verify.specs.Rules.{call_misfits}
 use Rattle.geos_verify.specs.Touched.{calls}
-use Rattle.geos_flow.specs.declared.edge.Edge.{Edge}
 use Rattle.geos_flow.specs.declared.search.Heading.TheVariants.{Ahead}
-use Rattle.geos_flow.specs.Flow.{Step, step_by, Lead, MarksWhatIsLed}
-use Rattle.geos_flow.specs.Marks.{no_marks, marked, is_marked}
 use Rattle.geos_flow.proofs.Choices.{elim_both}
-use Rattle.geos_flow.proofs.Leading.{all_led-led}
-use Rattle.geos_flow.proofs.Marked.{mark-grows, mark-was, none-marked, has-marked}
-use Rattle.geos_flow.proofs.Taking.{inside}
+use Rattle.geos_explain.proofs.Leads.{leads-is}
 use Rattle.geos_explain.specs.Budgets.{calls_on, calls_on_at, IsNeverServed, WhatIsSaidOfBudgetsHolds}
-use Rattle.geos_explain.specs.Places.{Place, IsPlace, first_or, first_of}
+use Rattle.geos_explain.specs.Places.{Place, first_or, first_of}
 use Rattle.geos_explain.specs.Since.{IsInside}
-use Rattle.geos_explain.specs.Unset.{takes, stays_unset, unset_from, takes_at, IsTakenUnset, WhatIsSaidOfCountersHolds}
+use Rattle.geos_explain.specs.Unset.{takes, stays_unset, is_unset_at, takes_at, IsTakenUnset, WhatIsSaidOfCountersHolds}
 use Rattle.geos_explain.proofs.Holding.{inside-at}
 
 -- what is found was found before, or is here
@@ -49,44 +43,21 @@ ahead-refused : (image : Parts) (r : ℕ) (i : Instr) (row : Row) → calls i.op
 unfolding call_misfits
 ahead-refused image r i row called ahead = rw (called, ahead) refl
 
-one-full : (pc : ℕ) → length (marked no_marks pc) ≡ 4096
-unfolding no_marks
-one-full pc = let grows = mark-grows no_marks pc in grows.len ∙ length-replicate 4096 false
-
-module _ (place : Place) (is_place : IsPlace place) where
-  module _ (k : ℕ) where
-    abbrev steps : Edge → Option Step
-    steps edge = step_by place.image Ahead (stays_unset place k) edge
-
-    all : MarksWhatIsLed steps (marked no_marks place.pc) (unset_from place k)
-    all = all_led-led steps (marked no_marks place.pc) (one-full place.pc) (inside place.image Ahead (stays_unset place k) is_place.short)
-
-    -- to a pc that is marked, a way leads from the place
-    marked-unset : (pc : ℕ) → is_marked (unset_from place k) pc ≡ true → (edges : List Edge) × Lead steps place.pc edges pc
-    marked-unset pc is =
-        let led = (all pc).0 is in
-        let start : led.start ≡ place.pc = elim (mark-was no_marks place.pc led.start (has-marked (marked no_marks place.pc) led.start led.begins)) [
-          | inl same ↦ same
-          | inr was ↦ absurd (none-marked led.start was)
-        ] in
-        (led.edges, subst (λ s. Lead steps s led.edges pc) start led.lead)
-
-    takes-unset : (from : ℕ) → IsInside place from → takes_at place k (unset_from place k) from ≡ true → IsTakenUnset place k from
-    unfolding takes_at
-    takes-unset from inside_here =
-        let here = is_marked (unset_from place k) from in
-        elim_both (slice_get place.image.points from) false (λ (point : Point). here && takes (facts point.instr.opcode).counter point.instr k)
-        (λ b. b ≡ true → IsTakenUnset place k from) (λ none is. absurd cc) (λ point e is. (
-        let tests = and_parts here (takes (facts point.instr.opcode).counter point.instr k) is in
-        let way = marked-unset from tests.0 in
-        record {
-          inside = inside_here;
-          point = point;
-          there = e;
-          does = tests.1;
-          edges = way.0;
-          lead = way.1;
-        }))
+module _ (place : Place) where
+  takes-unset : (k from : ℕ) → IsInside place from → takes_at place k from ≡ true → IsTakenUnset place k from
+  unfolding takes_at
+  takes-unset k from inside_here =
+      let here = is_unset_at place k from in
+      elim_both (slice_get place.image.points from) false (λ (point : Point). here && takes (facts point.instr.opcode).counter point.instr k)
+      (λ b. b ≡ true → IsTakenUnset place k from) (λ none is. absurd cc) (λ point e is. (
+      let tests = and_parts here (takes (facts point.instr.opcode).counter point.instr k) is in
+      record {
+        inside = inside_here;
+        point = point;
+        there = e;
+        does = tests.1;
+        way = (leads-is place.image Ahead (stays_unset place k) place.pc from).0 tests.0;
+      }))
 
   calls-refused : (from : ℕ) → IsInside place from → calls_on_at place from ≡ true → IsNeverServed place from
   unfolding calls_on_at
@@ -102,11 +73,11 @@ module _ (place : Place) (is_place : IsPlace place) where
       }))
 
 pub said-of-counters : WhatIsSaidOfCountersHolds
-said-of-counters place k from is_place said =
-    let found = first-of place (takes_at place k (unset_from place k)) from place.routine.count (omega arith) said in
-    takes-unset place is_place k from found.1 found.0
+said-of-counters place k from said =
+    let found = first-of place (takes_at place k) from place.routine.count (omega arith) said in
+    takes-unset place k from found.1 found.0
 
 pub said-of-budgets : WhatIsSaidOfBudgetsHolds
-said-of-budgets place from is_place said =
+said-of-budgets place from said =
     let found = first-of place (calls_on_at place) from place.routine.count (omega arith) said in
-    calls-refused place is_place from found.1 found.0
+    calls-refused place from found.1 found.0

@@ -8,7 +8,7 @@ use Rattle.geos_verify.specs.Rules.{call_misfits}
 use Rattle.geos_verify.specs.Touched.{calls}
 use Rattle.geos_explain.specs.Notes.{budget_words, budget_wish}
 use Rattle.geos_explain.specs.Numbers.{pc_text}
-use Rattle.geos_explain.specs.Places.{Place, IsPlace, first_of}
+use Rattle.geos_explain.specs.Places.{Place, first_of}
 use Rattle.geos_explain.specs.Since.{IsInside}
 use Rattle.geos_explain.specs.Unset.{unset_items}
 
@@ -49,4 +49,4 @@ pub record IsNeverServed (place : Place) (from : ℕ) : Type 0 where
 
 -- a call for which no budget is said to serve is one that is refused with each
 abbrev pub WhatIsSaidOfBudgetsHolds : Type 0
-WhatIsSaidOfBudgetsHolds = (place : Place) (from : ℕ) → IsPlace place → calling_on place ≡ Some from → IsNeverServed place from
+WhatIsSaidOfBudgetsHolds = (place : Place) (from : ℕ) → calling_on place ≡ Some from → IsNeverServed place from

@@ -9,15 +9,15 @@ use Rattle.geos_verify.specs.declared.rule.Rule.TheVariants.{StalePointer}
 use Rattle.geos_verify.specs.Places.{places}
 use Rattle.geos_explain.specs.declared.finding.Finding.{Finding}
 use Rattle.geos_explain.specs.declared.finding.Findings.{Findings}
-use Rattle.geos_explain.specs.Lost.{Holds}
 use Rattle.geos_explain.specs.Places.{Place, Explained, place_at}
 use Rattle.geos_explain.specs.Stale.{stale_used, findings_at}
 use Rattle.geos_explain.specs.Told.{is_told, rule_at, most_told}
+use Rattle.geos_explain.specs.Trace.{IsFinding}
 
 -- if there is a pointer, something is found of it, and holds
 abbrev pub IsFound : Place → Option ℕ → Option Finding → Type 0
 IsFound place None finding = Unit {0}
-IsFound place (Some p) finding = (found : Finding) × (finding ≡ Some found) × Holds place p found
+IsFound place (Some p) finding = (found : Finding) × (finding ≡ Some found) × IsFinding place p found
 
 -- the same of the pointers that an instruction uses, where the row knows nothing of them
 pub record AreFound (place : Place) (found : Findings) : Type 0 where

@@ -1,5 +1,5 @@
 -- Which call forgets what is to be known at a place: behind it only what its routine's `out` line says is known.
-use Rattle.std.specs.Prelude.{◌≡◌, ℕ, Bool, true, false, ◌&&◌, not, nat_lt, nat_le, List, Option, Some, None, slice_get, slice_index_or}
+use Rattle.std.specs.Prelude.{◌≡◌, ℕ, Bool, true, false, ◌&&◌, not, nat_lt, nat_le, Option, Some, None, slice_get, slice_index_or}
 use Rattle.geos_verify.specs.declared.place.Place.{Place as KnownPlace}
 use Rattle.geos_verify.specs.Places.{places}
 use Rattle.geos_image.specs.declared.row.Row.{Row}
@@ -7,11 +7,12 @@ use Rattle.geos_verify.specs.Rows.{after, bound, has_edge, is_empty, pointer_at,
 use Rattle.geos_flow.specs.declared.edge.Edge.{Edge}
 use Rattle.geos_explain.specs.declared.forgotten.Item.{Item}
 use Rattle.geos_explain.specs.declared.forgotten.Item.TheVariants.{Bound, Slot, Held, Leads, Apart}
+use Rattle.geos_flow.specs.declared.search.Heading.TheVariants.{Back}
 use Rattle.geos_flow.specs.Edges.{end_of}
-use Rattle.geos_flow.specs.Marks.{is_marked}
-use Rattle.geos_explain.specs.Edges.{leading_to, LeadOn}
+use Rattle.geos_flow.specs.Flow.{step_by, Leads as IsLedFrom}
+use Rattle.geos_explain.specs.Leads.{leads}
 use Rattle.geos_explain.specs.Lost.{ComesTo}
-use Rattle.geos_explain.specs.Places.{Place, IsPlace, comes_alike, is_inside, last_of}
+use Rattle.geos_explain.specs.Places.{Place, comes_alike, is_inside, last_of}
 use Rattle.geos_explain.specs.Since.{IsInside}
 use Rattle.geos_explain.specs.Ways.{forgets}
 
@@ -23,11 +24,6 @@ knows row (Held a) = not (is_empty (slot_state row a))
 knows row (Leads p pointer) = pointer_fits (pointer_at row p) (Some pointer)
 knows row (Apart pair) = nat_lt pair 6 && slice_index_or row.pairs pair false
 
--- control comes along an edge of an instruction, as it comes to the place, to a pc that is marked
-abbrev pub comes_to_marked : Place → List Bool → Edge → KnownPlace → Bool
-comes_to_marked place marks edge point =
-    is_marked marks (end_of edge point.instr) && comes_alike place edge.from && has_edge point.instr edge.branch
-
 -- an edge is one of the place's routine, and control comes along it as it comes to the place, and the item is not known before it
 unfoldable pub stays_lacked : Place → Item → Edge → Bool
 stays_lacked place item edge = elim (slice_get (places place.image) edge.from) [
@@ -35,31 +31,34 @@ stays_lacked place item edge = elim (slice_get (places place.image) edge.from) [
   | Some point ↦ is_inside place edge.from && not (knows point.row item) && comes_alike place edge.from
 ]
 
--- from where a way leads to a pc on which the item is not known all along
-abbrev pub lacking_from : Place → Item → ℕ → List Bool
-lacking_from place item to = leading_to place.image (stays_lacked place item) to
+-- whether a way leads to a pc from another on which the item is not known all along
+abbrev pub is_lacked_from : Place → Item → ℕ → ℕ → Bool
+is_lacked_from place item to pc = leads place.image Back (λ edge end. stays_lacked place item edge) to pc
 
--- an instruction is a call behind which the item is not known, and before which it is, and control comes from it to a pc that is
--- marked
-abbrev pub forgets_item : Place → Item → List Bool → ℕ → KnownPlace → Bool
-forgets_item place item marks from point =
-    forgets point.instr.opcode && knows point.row item && comes_to_marked place marks (record { from = from; branch = false }) point
+-- control comes along an edge of an instruction, as it comes to the place, and from its end such a way leads to the place
+abbrev pub comes_lacked : Place → Item → Edge → KnownPlace → Bool
+comes_lacked place item edge point =
+    is_lacked_from place item place.pc (end_of edge point.instr) && comes_alike place edge.from && has_edge point.instr edge.branch
+
+-- an instruction is a call behind which the item is not known, and before which it is, and control comes on from it so
+abbrev pub forgets_item : Place → Item → ℕ → KnownPlace → Bool
+forgets_item place item from point =
+    forgets point.instr.opcode && knows point.row item && comes_lacked place item (record { from = from; branch = false }) point
     && not (knows (after place.image from point.row false) item)
 
 -- the same of the instruction at a pc
-unfoldable pub forgets_at : Place → Item → List Bool → ℕ → Bool
-forgets_at place item marks from =
-    elim (slice_get (places place.image) from) [ None ↦ false | Some point ↦ forgets_item place item marks from point ]
+unfoldable pub forgets_at : Place → Item → ℕ → Bool
+forgets_at place item from = elim (slice_get (places place.image) from) [ None ↦ false | Some point ↦ forgets_item place item from point ]
 
 -- the last call of the routine that forgets the item on a way to the place on which it is not known again
 abbrev pub forgetting_call : Place → Item → Option ℕ
-forgetting_call place item = last_of place (forgets_at place item (lacking_from place item place.pc)) place.routine.count
+forgetting_call place item = last_of place (forgets_at place item) place.routine.count
 
 -- What is said, as a relation on ways
 
 -- a way leads from one pc to another on which the item is not known all along
 abbrev pub IsLackedFrom : Place → Item → ℕ → ℕ → Type 0
-IsLackedFrom place item pc to = LeadOn place.image (stays_lacked place item) pc to
+IsLackedFrom place item pc to = IsLedFrom (step_by place.image Back (λ edge end. stays_lacked place item edge)) to pc
 
 -- the instruction at a pc of the routine is a call, before which the item is known; behind it that is not, and from there a way
 -- leads to the place on which it is not known all along
@@ -74,5 +73,4 @@ pub record IsForgottenBy (place : Place) (item : Item) (from : ℕ) : Type 0 whe
 
 -- a call that is named forgets the item on a way to the place
 abbrev pub WhatIsSaidOfCallsHolds : Type 0
-WhatIsSaidOfCallsHolds = (place : Place) (item : Item) (from : ℕ) → IsPlace place → forgetting_call place item ≡ Some from
-    → IsForgottenBy place item from
+WhatIsSaidOfCallsHolds = (place : Place) (item : Item) (from : ℕ) → forgetting_call place item ≡ Some from → IsForgottenBy place item from

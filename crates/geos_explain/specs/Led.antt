@@ -1,39 +1,31 @@
--- Which instructions control reaches: a mark for each pc of an image, of which there are at most 4,096.
-use Rattle.std.specs.Prelude.{◌≡◌, ◌<◌, ◌↔◌, ℕ, zero, suc, Bool, true, List, length}
+-- Which instructions control reaches.
+use Rattle.std.specs.Prelude.{◌≡◌, ◌<◌, ◌↔◌, ℕ, Bool, true, List, length}
 use Rattle.geos_image.specs.Parts.{Parts, start_of}
-use Rattle.geos_image.specs.Legal.{is_image}
 use Rattle.geos_flow.specs.declared.edge.Edge.{Edge}
 use Rattle.geos_flow.specs.declared.search.Heading.TheVariants.{Ahead}
-use Rattle.geos_flow.specs.Flow.{Lead, step_by, followed}
-use Rattle.geos_flow.specs.Marks.{no_marks, marked, is_marked}
+use Rattle.geos_flow.specs.Flow.{step_by, Leads}
+use Rattle.geos_explain.specs.Leads.{decided}
+use Rattle.geos_flow.specs.Marks.{is_marked}
+use Rattle.geos_flow.proofs.Deciding.{below-or-not, leads-or-not}
 use Rattle.geos_explain.specs.Edges.{are_in_one}
 
 -- an edge stays in a routine
 abbrev pub stays : Parts → Edge → ℕ → Bool
 stays image edge end = are_in_one image edge.from end (length image.routines)
 
--- the first instruction of each of the first n routines is marked
-unfoldable pub starts_marked : Parts → ℕ → List Bool
-starts_marked image zero = no_marks
-starts_marked image (suc n) = marked (starts_marked image n) (start_of image.routines n)
+-- the first instruction of each of the first n routines is marked, and no other pc
+abbrev pub MarksStarts : Parts → ℕ → List Bool → Type 0
+MarksStarts image n marks = (pc : ℕ) → (is_marked marks pc ≡ true) ↔ ((r : ℕ) × (r < n) × (start_of image.routines r ≡ pc))
 
--- what control reaches: what edges that stay in a routine lead to from the first instructions
-unfoldable pub reached : Parts → List Bool
-reached image = followed image Ahead (stays image) (starts_marked image (length image.routines))
+-- edges that stay in a routine lead to a pc from the first instruction of routine r
+abbrev pub LeadsFrom : Parts → ℕ → ℕ → Type 0
+LeadsFrom image pc r = Leads (step_by image Ahead (stays image)) (start_of image.routines r) pc
 
--- control reaches a pc from the first instruction of its routine
+-- control reaches a pc: such edges lead there from the first instruction of one
+abbrev pub IsReached : Parts → ℕ → Type 0
+IsReached image pc = (r : ℕ) × (r < length image.routines) × LeadsFrom image pc r
+
+-- whether it does
 unfoldable pub is_reached : Parts → ℕ → Bool
-is_reached image pc = is_marked (reached image) pc
-
--- What control reaches, as a relation
-
--- edges that stay in a routine lead to the pc from the first instruction of one
-pub record IsReached (image : Parts) (pc : ℕ) : Type 0 where
-  pub r : ℕ
-  pub within : r < length image.routines
-  pub edges : List Edge
-  pub lead : Lead (step_by image Ahead (stays image)) (start_of image.routines r) edges pc
-
--- of the instructions of an image that the format allows, those that control reaches are marked, and no other
-abbrev pub MarksWhatIsReached : Type 0
-MarksWhatIsReached = (image : Parts) (pc : ℕ) → is_image image ≡ true → pc < length image.points → (is_reached image pc ≡ true) ↔ IsReached image pc
+is_reached image pc =
+    decided (below-or-not (LeadsFrom image pc) (λ r. leads-or-not image Ahead (stays image) (start_of image.routines r) pc) (length image.routines))

@@ -1,6 +1,7 @@
 pub mod Numbers
 pub mod Public
 pub mod Edges
+pub mod Leads
 pub mod Led
 pub mod Places
 pub mod Notes

@@ -9,10 +9,9 @@ use Rattle.geos_opcodes.specs.declared.opcode.Opcode.TheVariants.{Add, Sub, Muli
 use Rattle.geos_opcodes.specs.Facts.{word_of}
 use Rattle.geos_explain.specs.declared.forgotten.Item.{Item}
 use Rattle.geos_explain.specs.declared.forgotten.Item.TheVariants.{Bound}
-use Rattle.geos_explain.specs.Forgotten.{lacking_from, IsLackedFrom}
-use Rattle.geos_flow.specs.Marks.{is_marked}
+use Rattle.geos_explain.specs.Forgotten.{is_lacked_from, IsLackedFrom}
 use Rattle.geos_explain.specs.Numbers.{pc_text}
-use Rattle.geos_explain.specs.Places.{Place, IsPlace, last_of}
+use Rattle.geos_explain.specs.Places.{Place, last_of}
 
 -- an instruction puts into a word what it makes of it
 abbrev pub moves : Instr → Opcode → ℕ → Bool
@@ -21,20 +20,22 @@ moves i Sub w = i.a == w && (i.b == w || i.c == w)
 moves i Muli w = i.a == w && i.b == w
 moves i _ w = false
 
--- the instruction at a pc that is marked does
-unfoldable pub moves_at : Place → ℕ → List Bool → ℕ → Bool
-moves_at place w marks from =
-    elim (slice_get (places place.image) from) [ None ↦ false | Some point ↦ is_marked marks from && moves point.instr point.instr.opcode w ]
+-- the instruction at a pc does, and from there a way leads to the place on which an item is not known all along
+unfoldable pub moves_at : Place → Item → ℕ → ℕ → Bool
+moves_at place item w from = elim (slice_get (places place.image) from) [
+  | None ↦ false
+  | Some point ↦ is_lacked_from place item place.pc from && moves point.instr point.instr.opcode w
+]
 
 -- an instruction, if a way leads from the place to it on which an item is not known all along
 abbrev pub if_round : Place → Item → Option ℕ → Option ℕ
 if_round place item None = None
-if_round place item (Some from) = if is_marked (lacking_from place item from) place.pc then Some from else None
+if_round place item (Some from) = if is_lacked_from place item from place.pc then Some from else None
 
 -- the last instruction of the routine that moves a word on a way to the place on which an item is not known, if such a way leads
 -- back to it
 abbrev pub moving : Place → Item → ℕ → Option ℕ
-moving place item w = if_round place item (last_of place (moves_at place w (lacking_from place item place.pc)) place.routine.count)
+moving place item w = if_round place item (last_of place (moves_at place item w) place.routine.count)
 
 -- an instruction moves a word going round, and it is not known then to be at most so much
 unfoldable pub moved_words : Place → ℕ → ℕ → ℕ → Instr → List ℕ
@@ -63,5 +64,4 @@ pub record IsMovedRound (place : Place) (item : Item) (w from : ℕ) : Type 0 wh
 
 -- an instruction that is said to move a word going round does
 abbrev pub WhatIsSaidOfRoundsHolds : Type 0
-WhatIsSaidOfRoundsHolds = (place : Place) (item : Item) (w from : ℕ) → IsPlace place → moving place item w ≡ Some from
-    → IsMovedRound place item w from
+WhatIsSaidOfRoundsHolds = (place : Place) (item : Item) (w from : ℕ) → moving place item w ≡ Some from → IsMovedRound place item w from

@@ -1,6 +1,6 @@
 -- Since where a slot is held at a place: from which instructions of its routine, or from the caller, a way leads there on which it
 -- is held all along.
-use Rattle.std.specs.Prelude.{◌≡◌, ℕ, zero, suc, ◌+◌, Bool, true, false, ◌&&◌, ◌||◌, not, nat_lt, if◌then◌else◌, List, Some, None, slice_get}
+use Rattle.std.specs.Prelude.{◌≡◌, ℕ, zero, suc, ◌+◌, Bool, true, false, ◌&&◌, ◌||◌, not, nat_lt, if◌then◌else◌, Some, None, slice_get}
 use Rattle.geos_verify.specs.declared.place.Place.{Place as KnownPlace}
 use Rattle.geos_verify.specs.Places.{places}
 use Rattle.geos_image.specs.declared.row.Row.{Row}
@@ -9,11 +9,12 @@ use Rattle.geos_verify.specs.Rows.{after, has_edge, is_empty, slot_state}
 use Rattle.geos_flow.specs.declared.edge.Edge.{Edge}
 use Rattle.geos_explain.specs.declared.since.Since.{Since}
 use Rattle.geos_explain.specs.declared.since.Since.TheVariants.{Unknown, Entry, EntryOrOther, Once, Often}
+use Rattle.geos_flow.specs.declared.search.Heading.TheVariants.{Back}
 use Rattle.geos_flow.specs.Edges.{end_of}
-use Rattle.geos_flow.specs.Marks.{is_marked}
-use Rattle.geos_explain.specs.Edges.{leading_to, LeadOn}
+use Rattle.geos_flow.specs.Flow.{step_by, Leads}
+use Rattle.geos_explain.specs.Leads.{leads}
 use Rattle.geos_explain.specs.Lost.{ComesTo}
-use Rattle.geos_explain.specs.Places.{Place, IsPlace, comes_alike, is_inside}
+use Rattle.geos_explain.specs.Places.{Place, comes_alike, is_inside}
 
 -- the slot is held in a row
 abbrev pub holds : Row → ℕ → Bool
@@ -24,16 +25,6 @@ abbrev pub keeps_along : Place → ℕ → Edge → KnownPlace → Bool
 keeps_along place a edge point =
     comes_alike place edge.from && has_edge point.instr edge.branch && holds (after place.image edge.from point.row edge.branch) a
 
--- the same of an edge to a pc that is marked
-abbrev pub leads_to_marked : Place → ℕ → List Bool → Edge → KnownPlace → Bool
-leads_to_marked place a marks edge point = is_marked marks (end_of edge point.instr) && keeps_along place a edge point
-
--- the same of one of an instruction's two edges
-abbrev pub leads_on : Place → ℕ → List Bool → ℕ → KnownPlace → Bool
-leads_on place a marks from point =
-    leads_to_marked place a marks (record { from = from; branch = false }) point
-    || leads_to_marked place a marks (record { from = from; branch = true }) point
-
 -- an edge is one of the place's routine, and on it the slot is held before it and behind it
 unfoldable pub stays_held : Place → ℕ → Edge → Bool
 stays_held place a edge = elim (slice_get (places place.image) edge.from) [
@@ -41,15 +32,24 @@ stays_held place a edge = elim (slice_get (places place.image) edge.from) [
   | Some point ↦ is_inside place edge.from && holds point.row a && keeps_along place a edge point
 ]
 
--- from where a way leads to the place on which the slot is held
-unfoldable pub held_from : Place → ℕ → List Bool
-held_from place a = leading_to place.image (stays_held place a) place.pc
+-- whether a way leads from a pc to the place on which the slot is held all along
+abbrev pub is_held_from : Place → ℕ → ℕ → Bool
+is_held_from place a pc = leads place.image Back (λ edge end. stays_held place a edge) place.pc pc
+
+-- control comes along an edge so, and from its end such a way leads on
+abbrev pub leads_held : Place → ℕ → Edge → KnownPlace → Bool
+leads_held place a edge point = is_held_from place a (end_of edge point.instr) && keeps_along place a edge point
+
+-- the same of one of an instruction's two edges
+abbrev pub leads_on : Place → ℕ → ℕ → KnownPlace → Bool
+leads_on place a from point =
+    leads_held place a (record { from = from; branch = false }) point || leads_held place a (record { from = from; branch = true }) point
 
 -- the slot is empty before an instruction, which leads on so
-unfoldable pub fills_at : Place → ℕ → List Bool → ℕ → Bool
-fills_at place a marks from = elim (slice_get (places place.image) from) [
+unfoldable pub fills_at : Place → ℕ → ℕ → Bool
+fills_at place a from = elim (slice_get (places place.image) from) [
   | None ↦ false
-  | Some point ↦ not (holds point.row a) && leads_on place a marks from point
+  | Some point ↦ not (holds point.row a) && leads_on place a from point
 ]
 
 -- the later of two pcs, if it stands in front of a third
@@ -69,20 +69,18 @@ abbrev pub also : ℕ → Since → ℕ → Bool → Since
 also pc since from here = if here then one_more pc since from else since
 
 -- the caller has the slot held, and from the routine's beginning a way leads to the place so
-abbrev pub since_entry : Place → ℕ → List Bool → Since
-since_entry place a marks =
-    if holds place.routine.entry a && is_marked marks (start_of place.image.routines place.r) then Entry else Unknown
+abbrev pub since_entry : Place → ℕ → Since
+since_entry place a = if holds place.routine.entry a && is_held_from place a (start_of place.image.routines place.r) then Entry else Unknown
 
--- since where the slot is held, of the caller and the first n instructions of the routine
-unfoldable pub since_below : Place → ℕ → List Bool → ℕ → Since
-since_below place a marks zero = since_entry place a marks
-since_below place a marks (suc n) =
-    let from = start_of place.image.routines place.r + n in
-    also place.pc (since_below place a marks n) from (fills_at place a marks from)
+-- since where the slot is held at the place, of the caller and the first n instructions of the routine
+unfoldable pub since_below : Place → ℕ → ℕ → Since
+since_below place a zero = since_entry place a
+since_below place a (suc n) =
+    let from = start_of place.image.routines place.r + n in also place.pc (since_below place a n) from (fills_at place a from)
 
 -- since where the slot is held at the place
-unfoldable pub held_since : Place → ℕ → Since
-held_since place a = since_below place a (held_from place a) place.routine.count
+abbrev pub held_since : Place → ℕ → Since
+held_since place a = since_below place a place.routine.count
 
 -- What is said, as a relation on ways
 
@@ -92,7 +90,7 @@ IsInside place from = is_inside place from ≡ true
 
 -- a way leads from a pc to the place on which the slot is held all along
 abbrev pub IsHeldFrom : Place → ℕ → ℕ → Type 0
-IsHeldFrom place a pc = LeadOn place.image (stays_held place a) pc place.pc
+IsHeldFrom place a pc = Leads (step_by place.image Back (λ edge end. stays_held place a edge)) place.pc pc
 
 -- the slot is empty before an instruction of the routine and held behind one of its edges, from where a way leads to the place on
 -- which it is held all along
@@ -128,4 +126,4 @@ IsAllOf place a (Often from) = IsSinceEntry place a → ⊥
 
 -- what is said of each slot at each place of an image is so, and all that is so is said
 abbrev pub WhatIsSaidOfSlotsHolds : Type 0
-WhatIsSaidOfSlotsHolds = (place : Place) (a : ℕ) → IsPlace place → IsSaidOf place a (held_since place a) × IsAllOf place a (held_since place a)
+WhatIsSaidOfSlotsHolds = (place : Place) (a : ℕ) → IsSaidOf place a (held_since place a) × IsAllOf place a (held_since place a)

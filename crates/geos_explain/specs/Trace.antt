@@ -1,10 +1,13 @@
 -- How far a pointer that is not known was followed back.
-use Rattle.std.specs.Prelude.{ℕ, false}
+use Rattle.std.specs.Prelude.{◌≡◌, ℕ, true, false, None}
+use Rattle.geos_flow.specs.declared.edge.Edge.{Edge}
+use Rattle.geos_explain.specs.declared.finding.Finding.{Finding}
 use Rattle.geos_explain.specs.declared.trace.FirstWays.{FirstWays}
 use Rattle.geos_explain.specs.declared.trace.Trace.{Trace}
 use Rattle.geos_explain.specs.declared.trace.Tracing.{Tracing}
-use Rattle.geos_explain.specs.Lost.{AreHints, LacksFrom, FindsWay, IsBringing, IsWay, Holds}
-use Rattle.geos_explain.specs.Places.{Place, IsPlace, place_of}
+use Rattle.geos_explain.specs.declared.ways.Way.TheVariants.{Along}
+use Rattle.geos_explain.specs.Lost.{AreHints, LacksFrom, NoWay, FindsWay, IsBringing, IsWay, Holds}
+use Rattle.geos_explain.specs.Places.{Place, IsPlace, comes_alike, place_of}
 use Rattle.geos_flow.specs.Waiting.{Has}
 
 -- the place from where a pointer is followed back is an image's, and what is said of the pointer at each pc is so on some way
@@ -18,7 +21,23 @@ pub record AreWays (place : Place) (p : ℕ) (ways : FirstWays) : Type 0 where
   pub known : FindsWay place (λ way. IsBringing place p ways.to way) ways.known
   pub lost : FindsWay place (λ way. IsWay place p false way ways.to) ways.lost
 
--- from where it was passed the pointer can be lacking, and what was found holds
+-- no way brings the pointer to the place, and control comes there along an edge that does not
+pub record IsOpen (place : Place) (p : ℕ) : Type 0 where
+  pub none : NoWay place (λ way. IsBringing place p place.pc way)
+  pub edge : Edge
+  pub lacks : IsWay place p false (Along edge) place.pc
+  pub alike : comes_alike place edge.from ≡ true
+
+-- a finding names nothing
+abbrev pub NamesNothing : Finding → Type 0
+NamesNothing found = (found.lost ≡ None) × (found.meeting ≡ None) × (found.end ≡ None)
+
+-- what is found of a pointer holds, and where it names nothing, the place is open
+pub record IsFinding (place : Place) (p : ℕ) (found : Finding) : Type 0 where
+  pub holds : Holds place p found
+  pub none : NamesNothing found → IsOpen place p
+
+-- from where it was passed the pointer can be lacking, and what was found is a finding
 pub record IsSound (place : Place) (p : ℕ) (trace : Trace) : Type 0 where
   pub passed : (pc : ℕ) → Has trace.passed pc → LacksFrom place p pc
-  pub finds : Holds place p trace.finding
+  pub finds : IsFinding place p trace.finding

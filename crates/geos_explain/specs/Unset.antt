@@ -9,11 +9,11 @@ use Rattle.geos_image.specs.declared.point.Point.{Point}
 use Rattle.geos_image.specs.Parts.{Parts}
 use Rattle.geos_flow.specs.declared.edge.Edge.{Edge}
 use Rattle.geos_flow.specs.declared.search.Heading.TheVariants.{Ahead}
-use Rattle.geos_flow.specs.Flow.{Lead, step_by, followed}
-use Rattle.geos_flow.specs.Marks.{no_marks, marked, is_marked}
+use Rattle.geos_flow.specs.Flow.{step_by, Leads}
+use Rattle.geos_explain.specs.Leads.{leads}
 use Rattle.geos_listing.specs.Rows.{texts_below}
 use Rattle.geos_explain.specs.Numbers.{pc_text}
-use Rattle.geos_explain.specs.Places.{Place, IsPlace, is_inside, first_of}
+use Rattle.geos_explain.specs.Places.{Place, is_inside, first_of}
 use Rattle.geos_explain.specs.Since.{IsInside}
 
 -- the instruction takes from the counter
@@ -42,20 +42,20 @@ stays_unset place k edge end = elim (slice_get place.image.points edge.from) [
   | Some point ↦ is_inside place edge.from && leaves_alone point.instr k && pays_at place.image k end
 ]
 
--- where ways along such edges lead from the place
-abbrev pub unset_from : Place → ℕ → List Bool
-unset_from place k = followed place.image Ahead (stays_unset place k) (marked no_marks place.pc)
+-- whether a way along such edges leads to a pc from the place
+abbrev pub is_unset_at : Place → ℕ → ℕ → Bool
+is_unset_at place k pc = leads place.image Ahead (stays_unset place k) place.pc pc
 
--- the instruction at a pc that is marked takes from the counter
-unfoldable pub takes_at : Place → ℕ → List Bool → ℕ → Bool
-takes_at place k marks from = elim (slice_get place.image.points from) [
+-- such a way leads to an instruction that takes from the counter
+unfoldable pub takes_at : Place → ℕ → ℕ → Bool
+takes_at place k from = elim (slice_get place.image.points from) [
   | None ↦ false
-  | Some point ↦ is_marked marks from && takes (facts point.instr.opcode).counter point.instr k
+  | Some point ↦ is_unset_at place k from && takes (facts point.instr.opcode).counter point.instr k
 ]
 
 -- the first instruction of the routine that takes from the counter, to which such a way leads
 abbrev pub unset_loop : Place → ℕ → Option ℕ
-unset_loop place k = first_of place (takes_at place k (unset_from place k)) place.routine.count
+unset_loop place k = first_of place (takes_at place k) place.routine.count
 
 -- the counter is not set on the way to an instruction that takes from it, where there is such an instruction
 abbrev pub found_text : List ℕ → ℕ → Option ℕ → List ℕ
@@ -80,9 +80,8 @@ pub record IsTakenUnset (place : Place) (k from : ℕ) : Type 0 where
   pub point : Point
   pub there : slice_get place.image.points from ≡ Some point
   pub does : takes (facts point.instr.opcode).counter point.instr k ≡ true
-  pub edges : List Edge
-  pub lead : Lead (step_by place.image Ahead (stays_unset place k)) place.pc edges from
+  pub way : Leads (step_by place.image Ahead (stays_unset place k)) place.pc from
 
 -- an instruction that is named takes from a counter that nothing sets on a way there
 abbrev pub WhatIsSaidOfCountersHolds : Type 0
-WhatIsSaidOfCountersHolds = (place : Place) (k from : ℕ) → IsPlace place → unset_loop place k ≡ Some from → IsTakenUnset place k from
+WhatIsSaidOfCountersHolds = (place : Place) (k from : ℕ) → unset_loop place k ≡ Some from → IsTakenUnset place k from

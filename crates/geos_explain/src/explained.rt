@@ -1,7 +1,8 @@
 //! An image that is explained.
 
-ghost use Rattle.std.specs.Prelude.{◌≡◌, length};
-ghost use Rattle.geos_explain.specs.Led.{reached};
+ghost use Rattle.std.specs.Prelude.{length};
+ghost use Rattle.geos_flow.specs.Marks.{Marking};
+ghost use Rattle.geos_explain.specs.Led.{is_reached};
 ghost use Rattle.geos_explain.specs.Told.{most_told, IsFirstUntold};
 
 use crate::filled::Filled;
@@ -23,6 +24,6 @@ pub(crate) struct Explained<'a> {
     pub findings: &'a [Findings],
     /// The first pc whose refusal is not told, since so many before it are.
     pub untold: usize,
-    ghost marked: { marks.now ≡ reached image.now },
+    ghost marked: { Marking marks.now (is_reached image.now) },
     ghost told: { IsFirstUntold refused.now (most_told (length image.now.points)) untold },
 }

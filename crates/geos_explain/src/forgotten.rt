@@ -1,14 +1,16 @@
 //! Which call forgets what is to be known at a place: behind it only what its routine's `out` line says is known.
 
 ghost use Rattle.std.specs.Prelude.{◌≡◌, ◌<◌, length, Some};
+ghost use Rattle.geos_flow.specs.Marks.{Marking};
 ghost use Rattle.geos_explain.specs.Places.{IsPlace, place_of};
-ghost use Rattle.geos_explain.specs.Forgotten.{knows, comes_to_marked, lacking_from};
+ghost use Rattle.geos_explain.specs.Forgotten.{knows, comes_lacked, is_lacked_from};
 ghost use Rattle.geos_explain.specs.Forgotten.{forgets_at, forgetting_call, WhatIsSaidOfCallsHolds};
 
+use crate::led::led_from;
 use crate::place::Place;
 use crate::routines::{comes_alike, is_inside};
 use crate::ways::forgets;
-use geos_flow::{Counting, Edge, Heading, Marks, end_of, follow, is_marked, mark, no_marks};
+use geos_flow::{Counting, Edge, Heading, Marks, end_of, is_marked};
 use geos_image::{Pointer, Row, SlotState};
 use geos_verify::{
     Place as KnownPlace, has_edge, is_empty, pointer_at, pointer_fits, slot_fits, slot_state,
@@ -42,15 +44,6 @@ pub(crate) fn knows(row: &Row, item: Item) -> bool
     }
 }
 
-/// Whether control comes along the edge of the instruction, as it comes to the place, to a pc that is marked.
-fn comes_to_marked(place: &Place, marks: &Marks, edge: Edge, point: &KnownPlace) -> bool
-    ensures { result ≡ comes_to_marked (place_of place.now) marks.now edge point.now }
-{
-    is_marked(marks, end_of(edge, &point.instr))
-        && comes_alike(place, edge.from)
-        && has_edge(&point.instr, edge.branch)
-}
-
 /// The edges of the place's routine before which an item is not known, where control comes as it comes to the place.
 #[derive(Clone, Copy)]
 struct Lacking<'a> {
@@ -79,22 +72,39 @@ impl<'a> Counting for Lacking<'a> {
 }
 
 /// The pcs from which a way leads to another on which the item is not known all along.
-pub(crate) fn lacking_from(place: &Place, item: Item, to: u16) -> Marks
-    requires { IsPlace (place_of place.now) }
-    ensures { result ≡ lacking_from (place_of place.now) item to }
+pub(crate) fn lacked_from(place: &Place, item: Item, to: u16) -> Marks
+    requires place { IsPlace (place_of place.now) }
+    requires low { to < 4096 }
+    ensures { Marking result (is_lacked_from (place_of place.now) item to) }
 {
-    let mut marks = no_marks();
-    mark(&mut marks, usize::from(to));
     let lacking = Lacking { place, item };
-    follow(place.image.graph(), Heading::Back, &lacking, &mut marks);
-    marks
+    led_from(place.image, Heading::Back, &lacking, to)
+}
+
+/// Whether the pc is one of those from which such a way leads to the place.
+pub(crate) fn is_lacked_from(place: &Place, item: Item, marks: &Marks, pc: usize) -> bool
+    requires { Marking marks.now (is_lacked_from (place_of place.now) item place.now.pc) }
+    ensures { result ≡ is_lacked_from (place_of place.now) item place.now.pc pc }
+{
+    is_marked(marks, pc)
+}
+
+/// Whether control comes along the edge of the instruction, as it comes to the place, to one of these.
+fn comes_lacked(place: &Place, item: Item, marks: &Marks, edge: Edge, point: &KnownPlace) -> bool
+    requires { Marking marks.now (is_lacked_from (place_of place.now) item place.now.pc) }
+    ensures { result ≡ comes_lacked (place_of place.now) item edge point.now }
+{
+    is_lacked_from(place, item, marks, end_of(edge, &point.instr))
+        && comes_alike(place, edge.from)
+        && has_edge(&point.instr, edge.branch)
 }
 
 /// Whether the instruction at a pc is a call behind which the item is not known, and before which it is, and control comes
-/// from it to a pc that is marked.
+/// on from it so.
 #[tactic(auto, unfolding(crate::specs::Forgotten::forgets_at))]
 fn forgets_at(place: &Place, item: Item, marks: &Marks, from: u16) -> bool
-    ensures { result ≡ forgets_at (place_of place.now) item marks.now from }
+    requires { Marking marks.now (is_lacked_from (place_of place.now) item place.now.pc) }
+    ensures { result ≡ forgets_at (place_of place.now) item from }
 {
     match place.image.place(from) {
         Some(point) => {
@@ -104,7 +114,7 @@ fn forgets_at(place: &Place, item: Item, marks: &Marks, from: u16) -> bool
             };
             forgets(point.instr.opcode)
                 && knows(&point.row, item)
-                && comes_to_marked(place, marks, along, point)
+                && comes_lacked(place, item, marks, along, point)
                 && !knows(&place.image.behind(from, &point.row, false), item)
         }
         None => false,
@@ -117,7 +127,7 @@ pub(crate) fn forgetting_call(place: &Place, item: Item) -> Option<u16>
     requires { IsPlace (place_of place.now) }
     ensures { result ≡ forgetting_call (place_of place.now) item }
 {
-    let marks = lacking_from(place, item, place.pc);
+    let marks = lacked_from(place, item, place.pc);
     let start = place.image.start(place.r);
     let mut last = None;
     for k in 0..place.routine.count {

@@ -1,7 +1,9 @@
 //! Which instructions control reaches.
 
-ghost use Rattle.std.specs.Prelude.{◌≡◌, length};
-ghost use Rattle.geos_explain.specs.Led.{starts_marked, reached, is_reached, MarksWhatIsReached};
+ghost use Rattle.std.specs.Prelude.{◌≡◌, ◌<◌, length};
+ghost use Rattle.geos_flow.specs.Marks.{Marking};
+ghost use Rattle.geos_explain.specs.Leads.{leads};
+ghost use Rattle.geos_explain.specs.Led.{MarksStarts, is_reached};
 
 use crate::edges::are_in_one;
 use crate::filled::Filled;
@@ -14,6 +16,7 @@ struct Staying<'a> {
 }
 
 impl<'a> Counting for Staying<'a> {
+    ghost use Rattle.geos_explain.specs.Leads.{leads};
     ghost use Rattle.geos_explain.specs.Led.{stays};
 
     ghost counted = { λ s edge end. stays s.image.now edge end };
@@ -23,10 +26,25 @@ impl<'a> Counting for Staying<'a> {
     }
 }
 
+/// Those pcs are marked to which edges that count lead from one, or from which they lead there.
+pub(crate) fn led_from<C: Counting>(
+    image: &Filled,
+    heading: Heading,
+    counting: &C,
+    start: u16,
+) -> Marks
+    requires { start < 4096 }
+    ensures { Marking result (leads image.now heading (C.counted counting.now) start) }
+{
+    let mut marks = no_marks();
+    mark(&mut marks, usize::from(start));
+    follow(image.graph(), heading, counting, &mut marks);
+    marks
+}
+
 /// The first instruction of each routine is marked.
-#[tactic(auto, unfolding(crate::specs::Led::starts_marked))]
 fn starts_marked(image: &Filled) -> Marks
-    ensures { result ≡ starts_marked image.now (length image.now.routines) }
+    ensures { MarksStarts image.now (length image.now.routines) result }
 {
     let mut marks = no_marks();
     for r in 0..image.count() {
@@ -36,9 +54,8 @@ fn starts_marked(image: &Filled) -> Marks
 }
 
 /// The pcs that control reaches.
-#[tactic(auto, unfolding(crate::specs::Led::reached))]
 pub(crate) fn reached(image: &Filled) -> Marks
-    ensures { result ≡ reached image.now }
+    ensures { Marking result (is_reached image.now) }
 {
     let mut marks = starts_marked(image);
     follow(
@@ -51,16 +68,9 @@ pub(crate) fn reached(image: &Filled) -> Marks
 }
 
 /// Whether control reaches the pc from the first instruction of its routine.
-#[tactic(auto, unfolding(crate::specs::Led::is_reached))]
 pub(crate) fn is_reached(image: &Filled, marks: &Marks, pc: u16) -> bool
-    requires { marks.now ≡ reached image.now }
+    requires { Marking marks.now (is_reached image.now) }
     ensures { result ≡ is_reached image.now pc }
 {
     is_marked(marks, usize::from(pc))
 }
-
-/// A law: of the instructions of an image those are marked to which edges lead from the first instruction of
-/// a routine within that routine, and no other.
-pub fn marks_what_is_reached()
-    ensures { MarksWhatIsReached }
-{}

@@ -42,7 +42,6 @@ pub use budgets::what_is_said_of_budgets_holds;
 pub use explanation::explain;
 pub use forgotten::what_is_said_of_calls_holds;
 pub use lacks::rows_that_fit_lack_nothing;
-pub use led::marks_what_is_reached;
 pub use listed::{explanation_is_listing_with_notes, explanation_is_text_with_notes};
 pub use moved::what_is_said_of_rounds_holds;
 pub use numbers::pc_part;

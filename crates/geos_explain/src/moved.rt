@@ -1,11 +1,13 @@
 //! Which instruction moves an index going round a loop.
 
-ghost use Rattle.std.specs.Prelude.{◌≡◌, ◌++◌, OnOk};
+ghost use Rattle.std.specs.Prelude.{◌≡◌, ◌<◌, ◌++◌, OnOk, IfSome};
+ghost use Rattle.geos_flow.specs.Marks.{Marking};
+ghost use Rattle.geos_explain.specs.Forgotten.{is_lacked_from};
 ghost use Rattle.geos_explain.specs.Places.{IsPlace, last_of, place_of};
 ghost use Rattle.geos_explain.specs.Moved.{moves, moves_at, if_round};
 ghost use Rattle.geos_explain.specs.Moved.{moving, moved_words, moved_text, WhatIsSaidOfRoundsHolds};
 
-use crate::forgotten::{Item, lacking_from};
+use crate::forgotten::{Item, is_lacked_from, lacked_from};
 use crate::numbers::pc_part;
 use crate::place::Place;
 use geos_flow::{Marks, is_marked};
@@ -24,28 +26,32 @@ fn moves(i: &Instr, w: u8) -> bool
     }
 }
 
-/// Whether the instruction at a pc that is marked does.
+/// Whether the instruction at a pc does, and from there a way leads to the place on which the item is not known all along.
 #[tactic(auto, unfolding(crate::specs::Moved::moves_at))]
-fn moves_at(place: &Place, w: u8, marks: &Marks, from: u16) -> bool
-    ensures { result ≡ moves_at (place_of place.now) w marks.now from }
+fn moves_at(place: &Place, item: Item, w: u8, marks: &Marks, from: u16) -> bool
+    requires { Marking marks.now (is_lacked_from (place_of place.now) item place.now.pc) }
+    ensures { result ≡ moves_at (place_of place.now) item w from }
 {
     match place.image.place(from) {
-        Some(point) => is_marked(marks, usize::from(from)) && moves(&point.instr, w),
+        Some(point) => is_lacked_from(place, item, marks, usize::from(from))
+            && moves(&point.instr, w),
         None => false,
     }
 }
 
 /// The last such instruction of the routine.
 #[tactic(auto, unfolding(crate::specs::Places::last_of))]
-fn last_moving(place: &Place, w: u8, marks: &Marks) -> Option<u16>
+fn last_moving(place: &Place, item: Item, w: u8) -> Option<u16>
     requires { IsPlace (place_of place.now) }
-    ensures { result ≡ last_of (place_of place.now) (moves_at (place_of place.now) w marks.now) place.now.routine.now.count }
+    ensures last { result ≡ last_of (place_of place.now) (moves_at (place_of place.now) item w) place.now.routine.now.count }
+    ensures low { IfSome result (λ from. from < 4096) }
 {
+    let marks = lacked_from(place, item, place.pc);
     let start = place.image.start(place.r);
     let mut last = None;
     for k in 0..place.routine.count {
         let from = start + k;
-        if moves_at(place, w, marks, from) {
+        if moves_at(place, item, w, &marks, from) {
             last = Some(from);
         }
     }
@@ -54,11 +60,12 @@ fn last_moving(place: &Place, w: u8, marks: &Marks) -> Option<u16>
 
 /// The instruction, if a way leads from the place to it on which the item is not known all along.
 fn if_round(place: &Place, item: Item, from: Option<u16>) -> Option<u16>
-    requires { IsPlace (place_of place.now) }
+    requires place { IsPlace (place_of place.now) }
+    requires low { IfSome from (λ from. from < 4096) }
     ensures { result ≡ if_round (place_of place.now) item from }
 {
     match from {
-        Some(from) if is_marked(&lacking_from(place, item, from), usize::from(place.pc)) => {
+        Some(from) if is_marked(&lacked_from(place, item, from), usize::from(place.pc)) => {
             Some(from)
         }
         _ => None,
@@ -71,8 +78,7 @@ fn moving(place: &Place, item: Item, w: u8) -> Option<u16>
     requires { IsPlace (place_of place.now) }
     ensures { result ≡ moving (place_of place.now) item w }
 {
-    let marks = lacking_from(place, item, place.pc);
-    if_round(place, item, last_moving(place, w, &marks))
+    if_round(place, item, last_moving(place, item, w))
 }
 
 /// The instruction moves the word going round, and it is not known then to be at most so much.

@@ -1,7 +1,7 @@
 //! An instruction of a routine, with what is known there.
 
-ghost use Rattle.std.specs.Prelude.{◌≡◌};
-ghost use Rattle.geos_explain.specs.Led.{reached};
+ghost use Rattle.geos_flow.specs.Marks.{Marking};
+ghost use Rattle.geos_explain.specs.Led.{is_reached};
 
 use crate::filled::Filled;
 use crate::finding::Findings;
@@ -24,5 +24,5 @@ pub(crate) struct Place<'a> {
     pub findings: &'a [Findings],
     /// What control reaches.
     pub marks: &'a Marks,
-    ghost marked: { marks.now ≡ reached image.now },
+    ghost marked: { Marking marks.now (is_reached image.now) },
 }

@@ -1,14 +1,16 @@
 //! Since where a slot is held at a place.
 
 ghost use Rattle.std.specs.Prelude.{◌≡◌, ◌<◌, length, Some, slice_get};
+ghost use Rattle.geos_flow.specs.Marks.{Marking};
 ghost use Rattle.geos_explain.specs.Places.{IsPlace, place_of};
-ghost use Rattle.geos_explain.specs.Since.{holds, keeps_along, leads_to_marked, leads_on};
-ghost use Rattle.geos_explain.specs.Since.{held_from, fills_at, also, since_entry, held_since, WhatIsSaidOfSlotsHolds};
+ghost use Rattle.geos_explain.specs.Since.{holds, keeps_along, is_held_from, leads_held, leads_on};
+ghost use Rattle.geos_explain.specs.Since.{fills_at, also, since_entry, held_since, WhatIsSaidOfSlotsHolds};
 ghost use Rattle.geos_verify.specs.Places.{places};
 
+use crate::led::led_from;
 use crate::place::Place;
 use crate::routines::{comes_alike, is_inside};
-use geos_flow::{Counting, Edge, Heading, Marks, end_of, follow, is_marked, mark, no_marks};
+use geos_flow::{Counting, Edge, Heading, Marks, end_of, is_marked};
 use geos_image::Row;
 use geos_verify::{Place as KnownPlace, has_edge, is_empty, slot_state};
 
@@ -44,27 +46,6 @@ fn keeps_along(place: &Place, a: u8, edge: Edge, point: &KnownPlace) -> bool
         && holds(&place.image.behind(edge.from, &point.row, edge.branch), a)
 }
 
-/// Whether the edge leads so to a pc that is marked. Few do, so the mark is tested first.
-fn leads_to_marked(place: &Place, a: u8, marks: &Marks, edge: Edge, point: &KnownPlace) -> bool
-    requires { slice_get (places place.now.image.now) edge.from ≡ Some point.now }
-    ensures { result ≡ leads_to_marked (place_of place.now) a marks.now edge point.now }
-{
-    is_marked(marks, end_of(edge, &point.instr)) && keeps_along(place, a, edge, point)
-}
-
-/// Whether one of the edges of the instruction at a pc does.
-fn leads_on(place: &Place, a: u8, marks: &Marks, from: u16, point: &KnownPlace) -> bool
-    requires { slice_get (places place.now.image.now) from ≡ Some point.now }
-    ensures { result ≡ leads_on (place_of place.now) a marks.now from point.now }
-{
-    let along = Edge {
-        from,
-        branch: false,
-    };
-    let aside = Edge { from, branch: true };
-    leads_to_marked(place, a, marks, along, point) || leads_to_marked(place, a, marks, aside, point)
-}
-
 /// The edges of the place's routine along which a slot stays held, as control comes to the place.
 #[derive(Clone, Copy)]
 struct Holding<'a> {
@@ -93,22 +74,50 @@ impl<'a> Counting for Holding<'a> {
 }
 
 /// The pcs from which a way leads to the place on which the slot is held all along.
-#[tactic(auto, unfolding(crate::specs::Since::held_from))]
 fn held_from(place: &Place, a: u8) -> Marks
     requires { IsPlace (place_of place.now) }
-    ensures { result ≡ held_from (place_of place.now) a }
+    ensures { Marking result (is_held_from (place_of place.now) a) }
 {
-    let mut marks = no_marks();
-    mark(&mut marks, usize::from(place.pc));
     let holding = Holding { place, a };
-    follow(place.image.graph(), Heading::Back, &holding, &mut marks);
-    marks
+    led_from(place.image, Heading::Back, &holding, place.pc)
+}
+
+/// Whether the pc is one of these.
+fn is_held_from(place: &Place, a: u8, marks: &Marks, pc: usize) -> bool
+    requires { Marking marks.now (is_held_from (place_of place.now) a) }
+    ensures { result ≡ is_held_from (place_of place.now) a pc }
+{
+    is_marked(marks, pc)
+}
+
+/// Whether the edge leads so to one of these. Few do, so that is tested first.
+fn leads_held(place: &Place, a: u8, marks: &Marks, edge: Edge, point: &KnownPlace) -> bool
+    requires held { Marking marks.now (is_held_from (place_of place.now) a) }
+    requires there { slice_get (places place.now.image.now) edge.from ≡ Some point.now }
+    ensures { result ≡ leads_held (place_of place.now) a edge point.now }
+{
+    is_held_from(place, a, marks, end_of(edge, &point.instr)) && keeps_along(place, a, edge, point)
+}
+
+/// Whether one of the edges of the instruction at a pc does.
+fn leads_on(place: &Place, a: u8, marks: &Marks, from: u16, point: &KnownPlace) -> bool
+    requires held { Marking marks.now (is_held_from (place_of place.now) a) }
+    requires there { slice_get (places place.now.image.now) from ≡ Some point.now }
+    ensures { result ≡ leads_on (place_of place.now) a from point.now }
+{
+    let along = Edge {
+        from,
+        branch: false,
+    };
+    let aside = Edge { from, branch: true };
+    leads_held(place, a, marks, along, point) || leads_held(place, a, marks, aside, point)
 }
 
 /// Whether the slot is empty before the instruction at a pc, and it leads on so, if there is one.
 #[tactic(auto, unfolding(crate::specs::Since::fills_at))]
 fn fills_at(place: &Place, a: u8, marks: &Marks, from: u16) -> bool
-    ensures { result ≡ fills_at (place_of place.now) a marks.now from }
+    requires { Marking marks.now (is_held_from (place_of place.now) a) }
+    ensures { result ≡ fills_at (place_of place.now) a from }
 {
     match place.image.place(from) {
         Some(point) => !holds(&point.row, a) && leads_on(place, a, marks, from, point),
@@ -133,11 +142,12 @@ fn also(pc: u16, since: Since, from: u16, here: bool) -> Since
 
 /// Whether the caller has the slot held, and a way leads so from the routine's beginning.
 fn since_entry(place: &Place, a: u8, marks: &Marks) -> Since
-    requires { IsPlace (place_of place.now) }
-    ensures { result ≡ since_entry (place_of place.now) a marks.now }
+    requires place { IsPlace (place_of place.now) }
+    requires held { Marking marks.now (is_held_from (place_of place.now) a) }
+    ensures { result ≡ since_entry (place_of place.now) a }
 {
     let start = usize::from(place.image.start(place.r));
-    if holds(&place.routine.entry, a) && is_marked(marks, start) {
+    if holds(&place.routine.entry, a) && is_held_from(place, a, marks, start) {
         Since::Entry
     } else {
         Since::Unknown
@@ -145,7 +155,7 @@ fn since_entry(place: &Place, a: u8, marks: &Marks) -> Since
 }
 
 /// Since where the slot is held at the place.
-#[tactic(auto, unfolding(crate::specs::Since::since_below, crate::specs::Since::held_since))]
+#[tactic(auto, unfolding(crate::specs::Since::since_below))]
 pub(crate) fn held_since(place: &Place, a: u8) -> Since
     requires { IsPlace (place_of place.now) }
     ensures { result ≡ held_since (place_of place.now) a }

@@ -1,12 +1,14 @@
 //! How far a pointer that is not known was followed back: which places were passed, where ways met, and where it was lost.
 
-ghost use Rattle.std.specs.Prelude.{◌≡◌, ◌<◌, ℕ, Bool, true, false, Some, None, IfSome, length, slice_get};
+ghost use Rattle.std.specs.Prelude.{◌≡◌, ◌<◌, ◌⊎◌, ℕ, Bool, true, false, Some, None, IfSome, length, slice_get};
+ghost use Rattle.geos_flow.specs.declared.edge.Edge.{Edge};
 ghost use Rattle.geos_flow.specs.Edges.{end_of};
 ghost use Rattle.geos_verify.specs.Places.{places};
-ghost use Rattle.geos_explain.specs.Places.{IsPlace, place_of};
+ghost use Rattle.geos_explain.specs.Places.{IsPlace, comes_alike, place_of};
+ghost use Rattle.geos_explain.specs.declared.ways.Way.TheVariants.{Along};
 ghost use Rattle.geos_explain.specs.Ways.{empty_on};
-ghost use Rattle.geos_explain.specs.Lost.{IsHint, LacksBehind, LacksFrom, IsWay, IsMeeting, IsEnd, Holds};
-ghost use Rattle.geos_explain.specs.Trace.{CanFollow, AreWays, IsSound};
+ghost use Rattle.geos_explain.specs.Lost.{IsHint, LacksBehind, LacksFrom, IsWay, IsMeeting, IsEnd};
+ghost use Rattle.geos_explain.specs.Trace.{CanFollow, AreWays, IsFinding, IsSound};
 
 use crate::arrivals::{Arrivals, all_arrivals, arrival};
 use crate::finding::{End, Finding, Loss, Meeting};
@@ -61,7 +63,8 @@ fn nowhere_or(tracing: &Tracing, way: Way, to: u16, end: End) -> End
 /// the caller does not bring it, or control does not come from where it is lacking.
 fn end_at(tracing: &Tracing, ways: FirstWays) -> Option<End>
     requires { AreWays (place_of tracing.now.place.now) tracing.now.p ways }
-    ensures { IfSome result (λ end. IsEnd (place_of tracing.now.place.now) tracing.now.p end) }
+    ensures end { IfSome result (λ end. IsEnd (place_of tracing.now.place.now) tracing.now.p end) }
+    ensures none { result ≡ None → (edge : Edge) × (ways.lost ≡ Some (Along edge)) × (comes_alike (place_of tracing.now.place.now) edge.from ≡ true) }
 {
     let to = ways.to;
     match ways.lost {
@@ -78,7 +81,8 @@ fn end_at(tracing: &Tracing, ways: FirstWays) -> Option<End>
 /// Where the ways meet, if one of them brings the pointer and the other does not.
 fn meeting_at(tracing: &Tracing, ways: FirstWays) -> Option<Meeting>
     requires { AreWays (place_of tracing.now.place.now) tracing.now.p ways }
-    ensures { IfSome result (λ m. IsMeeting (place_of tracing.now.place.now) tracing.now.p m) }
+    ensures meets { IfSome result (λ m. IsMeeting (place_of tracing.now.place.now) tracing.now.p m) }
+    ensures none { result ≡ None → (ways.known ≡ None) ⊎ (ways.lost ≡ None) }
 {
     match ways.known {
         Some(known) => match ways.lost {
@@ -111,6 +115,44 @@ fn note(trace: &mut Trace, tracing: &Tracing, ways: FirstWays)
     trace.finding.meeting = met;
 }
 
+/// The first ways to a pc, from where the pointer can be lacking; where edges to it begin waits.
+fn ways_to(tracing: &Tracing, waits: &mut Pending, to: u16) -> FirstWays
+    requires tracing { CanFollow tracing.now }
+    requires there { to < length tracing.now.place.now.image.now.points }
+    requires lacks { LacksFrom (place_of tracing.now.place.now) tracing.now.p to }
+    ensures to { result.to ≡ to }
+    ensures ways { AreWays (place_of tracing.now.place.now) tracing.now.p result }
+{
+    let place = tracing.place;
+    place.image.graph().put_begins(waits, to);
+    FirstWays {
+        to,
+        known: bringing(place, tracing.p, to),
+        lost: losing(place, tracing.p, to),
+    }
+}
+
+/// The place itself is passed, to which these ways lead first.
+fn begun(tracing: &Tracing, ways: FirstWays) -> Trace
+    requires here { ways.to ≡ tracing.now.place.now.pc }
+    requires ways { AreWays (place_of tracing.now.place.now) tracing.now.p ways }
+    ensures { IsSound (place_of tracing.now.place.now) tracing.now.p result }
+{
+    let mut passed = no_marks();
+    mark(&mut passed, usize::from(ways.to));
+    let meeting = meeting_at(tracing, ways);
+    let end = end_at(tracing, ways);
+    Trace {
+        passed,
+        found: meeting.is_some(),
+        finding: Finding {
+            meeting,
+            end,
+            lost: None,
+        },
+    }
+}
+
 /// One more place is passed, and where edges to it begin waits.
 fn pass(trace: &mut Trace, tracing: &Tracing, waits: &mut Pending, at: u16)
     requires tracing { CanFollow tracing.now }
@@ -119,13 +161,7 @@ fn pass(trace: &mut Trace, tracing: &Tracing, waits: &mut Pending, at: u16)
     requires sound { IsSound (place_of tracing.now.place.now) tracing.now.p trace.old }
     ensures { IsSound (place_of tracing.now.place.now) tracing.now.p trace.new }
 {
-    let place = tracing.place;
-    place.image.graph().put_begins(waits, at);
-    let ways = FirstWays {
-        to: at,
-        known: bringing(place, tracing.p, at),
-        lost: losing(place, tracing.p, at),
-    };
+    let ways = ways_to(tracing, waits, at);
     note(trace, tracing, ways);
 }
 
@@ -274,24 +310,16 @@ fn step_aside(trace: &mut Trace, tracing: &Tracing, waits: &mut Pending, meeting
 /// that does not bring it until it was lost.
 pub(crate) fn traced(place: &Place, p: u8) -> Finding
     requires { IsPlace (place_of place.now) }
-    ensures { Holds (place_of place.now) p result }
+    ensures { IsFinding (place_of place.now) p result }
 {
-    let mut trace = Trace {
-        passed: no_marks(),
-        found: false,
-        finding: Finding {
-            meeting: None,
-            end: None,
-            lost: None,
-        },
-    };
     let tracing = Tracing {
         place,
         p,
         arrivals: all_arrivals(place, p),
     };
     let mut waits = Pending::none();
-    pass(&mut trace, &tracing, &mut waits, place.pc);
+    let ways = ways_to(&tracing, &mut waits, place.pc);
+    let mut trace = begun(&tracing, ways);
     step_back(&mut trace, &tracing, &mut waits);
     if let Some(meeting) = trace.finding.meeting {
         step_aside(&mut trace, &tracing, &mut waits, meeting);

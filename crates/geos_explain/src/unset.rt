@@ -1,15 +1,17 @@
 //! Which counters are still to pay at a routine's beginning, and which LOOP takes from them though nothing sets them.
 
 ghost use Rattle.std.specs.Prelude.{◌≡◌, ◌<◌, ◌++◌, OnOk, length};
+ghost use Rattle.geos_flow.specs.Marks.{Marking};
 ghost use Rattle.geos_explain.specs.Places.{IsPlace, place_of, first_of};
-ghost use Rattle.geos_explain.specs.Unset.{takes, gives, pays_at, leaves_alone, unset_from, takes_at, unset_loop};
+ghost use Rattle.geos_explain.specs.Unset.{takes, gives, pays_at, leaves_alone, is_unset_at, takes_at, unset_loop};
 ghost use Rattle.geos_explain.specs.Unset.{unset_item, unset_items, WhatIsSaidOfCountersHolds};
 
 use crate::filled::Filled;
+use crate::led::led_from;
 use crate::numbers::pc_part;
 use crate::place::Place;
 use crate::routines::{first_or, is_inside};
-use geos_flow::{Counting, Edge, Heading, Marks, follow, is_marked, mark, no_marks};
+use geos_flow::{Counting, Edge, Heading, Marks, is_marked};
 use geos_image::Instr;
 use geos_opcodes::CounterUse;
 use geos_text::{Part, put_parts};
@@ -87,19 +89,17 @@ impl<'a> Counting for Unset<'a> {
 fn unset_from(place: &Place, k: u8) -> Marks
     requires place { IsPlace (place_of place.now) }
     requires counter { k < 4 }
-    ensures { result ≡ unset_from (place_of place.now) k }
+    ensures { Marking result (is_unset_at (place_of place.now) k) }
 {
-    let mut marks = no_marks();
-    mark(&mut marks, usize::from(place.pc));
     let unset = Unset { place, k };
-    follow(place.image.graph(), Heading::Ahead, &unset, &mut marks);
-    marks
+    led_from(place.image, Heading::Ahead, &unset, place.pc)
 }
 
-/// Whether the instruction at a pc that is marked takes from the counter.
+/// Whether the instruction at one of these takes from the counter.
 #[tactic(auto, unfolding(crate::specs::Unset::takes_at))]
 fn takes_at(place: &Place, k: u8, marks: &Marks, from: u16) -> bool
-    ensures { result ≡ takes_at (place_of place.now) k marks.now from }
+    requires { Marking marks.now (is_unset_at (place_of place.now) k) }
+    ensures { result ≡ takes_at (place_of place.now) k from }
 {
     match place.image.point(from) {
         Some(point) => {

@@ -1,8 +1,8 @@
 -- Marks, and how many there are.
 use Rattle.std.proofs.Common.{◌≡◌, ◌<◌, ◌≤◌, ℕ, zero, suc, Bool, true, false, cond, List, [], ◌∷◌, length, replicate, get_or, set, refl, sym, ap, ◌∙◌, arith, ◌⊎◌, inl, inr}
 use Rattle.std.specs.Prelude.{nat_lt}
-use Rattle.std.proofs.lemmas.Bool.{and_parts, lt-ltb, ltb-true, cases_eq, cases_lt, false≢true}
-use Rattle.std.proofs.lemmas.List.{get_or-set_same, get_or-set_other, length-set, set_past}
+use Rattle.std.proofs.lemmas.Bool.{and_parts, lt-ltb, ltb-true, cases_eq, cases_lt}
+use Rattle.std.proofs.lemmas.List.{get_or-set_same, get_or-set_other, length-replicate, length-set, set_past}
 use Rattle.geos_flow.specs.Marks.{no_marks, marked, is_marked}
 use Rattle.geos_flow.specs.Waiting.{Has, count}
 
@@ -10,12 +10,6 @@ use Rattle.geos_flow.specs.Waiting.{Has, count}
 pub record Grows (marks next : List Bool) : Type 0 where
   pub len : length next ≡ length marks
   pub keeps : (k : ℕ) → Has marks k → Has next k
-
-pub grows-same : (marks : List Bool) → Grows marks marks
-grows-same marks = record { len = refl; keeps = λ k h. h }
-
-pub grows-on : (a b c : List Bool) → Grows a b → Grows b c → Grows a c
-grows-on a b c g h = record { len = h.len ∙ g.len; keeps = λ k e. h.keeps k (g.keeps k e) }
 
 pub set-grows : (marks : List Bool) (pc : ℕ) → Grows marks (set marks pc true)
 set-grows marks pc = record {
@@ -34,7 +28,7 @@ mark-grows marks pc = by_test (nat_lt pc 4096)
   where
     by_test : (b : Bool) → Grows marks (cond b (set marks pc true) marks)
     by_test true = set-grows marks pc
-    by_test false = grows-same marks
+    by_test false = record { len = refl; keeps = λ k h. h }
 
 pub mark-was : (marks : List Bool) (pc k : ℕ) → Has (marked marks pc) k → (k ≡ pc) ⊎ Has marks k
 mark-was marks pc k h = by_test (nat_lt pc 4096) h
@@ -65,28 +59,6 @@ count-bound (true ∷ marks) zero below = let past = below 0 refl in absurd (ome
 count-bound (true ∷ marks) (suc m) below = let rest = count-bound marks m (λ k h. (let lt = below (suc k) h in omega arith)) in omega arith
 count-bound (false ∷ marks) zero below = count-bound marks zero (λ k h. (let lt = below (suc k) h in omega arith))
 count-bound (false ∷ marks) (suc m) below = let rest = count-bound marks m (λ k h. (let lt = below (suc k) h in omega arith)) in omega arith
-
--- what grows is the same, or marks more
-pub count-grows : (marks next : List Bool) → length next ≡ length marks → ((k : ℕ) → Has marks k → Has next k)
-    → (next ≡ marks) ⊎ (count marks < count next)
-unfolding count
-count-grows [] [] len keeps = inl refl
-count-grows [] (b ∷ next) len keeps = absurd (omega arith)
-count-grows (a ∷ marks) [] len keeps = absurd (omega arith)
-count-grows (true ∷ marks) (true ∷ next) len keeps = elim (count-grows marks next (omega arith) (λ k h. keeps (suc k) h))
-    [ inl same ↦ inl (ap (λ (l : List Bool). true ∷ l) same) | inr more ↦ inr (omega arith) ]
-count-grows (true ∷ marks) (false ∷ next) len keeps = absurd (false≢true (keeps 0 refl))
-count-grows (false ∷ marks) (true ∷ next) len keeps = elim (count-grows marks next (omega arith) (λ k h. keeps (suc k) h))
-    [ inl same ↦ inr (let n = ap count same in omega arith) | inr more ↦ inr (omega arith) ]
-count-grows (false ∷ marks) (false ∷ next) len keeps = elim (count-grows marks next (omega arith) (λ k h. keeps (suc k) h))
-    [ inl same ↦ inl (ap (λ (l : List Bool). false ∷ l) same) | inr more ↦ inr more ]
-
-pub count-some : (marks : List Bool) (k : ℕ) → Has marks k → 1 ≤ count marks
-unfolding count
-count-some [] k h = absurd cc
-count-some (true ∷ marks) k h = omega arith
-count-some (false ∷ marks) zero h = absurd cc
-count-some (false ∷ marks) (suc k) h = count-some marks k h
 
 pub has-marked : (marks : List Bool) (pc : ℕ) → is_marked marks pc ≡ true → Has marks pc
 has-marked marks pc is = (and_parts (nat_lt pc 4096) (get_or marks pc false) is).1
@@ -121,3 +93,7 @@ pub count-none : (n : ℕ) → count (replicate n false) ≡ 0
 unfolding count
 count-none zero = refl
 count-none (suc n) = count-none n
+
+pub none-full : length no_marks ≡ 4096
+unfolding no_marks
+none-full = length-replicate 4096 false

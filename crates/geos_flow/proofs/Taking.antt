@@ -1,93 +1,26 @@
 -- Steps along the edges of a pc, ahead or back.
-use Rattle.std.proofs.Common.{◌≡◌, ◌<◌, ◌≤◌, ◌+◌, ◌*◌, ℕ, Bool, true, false, cond, List, [], length, Option, Some, None, slice_get, sym, ap, ◌∙◌, subst, arith, ◌⊎◌, inl, inr}
-use Rattle.std.specs.Prelude.{◌&&◌, nat_lt}
-use Rattle.std.proofs.lemmas.Bool.{and_parts, cases_lt, cases_eq, cond_both, lt-ltb, ltb-true}
-use Rattle.std.proofs.lemmas.Option.{slice_get_within}
-use Rattle.geos_image.specs.declared.point.Point.{Point}
+use Rattle.std.proofs.Common.{◌≡◌, ◌≤◌, ◌+◌, ◌*◌, ℕ, Bool, true, false, List, length, Option, Some, None, sym, ap, ◌∙◌, subst, arith, ◌⊎◌, inl, inr}
+use Rattle.std.proofs.lemmas.Bool.{cases_lt, cases_eq}
 use Rattle.geos_image.specs.Parts.{Parts}
-use Rattle.geos_verify.specs.Rows.{has_edge}
 use Rattle.geos_flow.specs.declared.edge.Edge.{Edge}
 use Rattle.geos_flow.specs.declared.search.Heading.{Heading}
 use Rattle.geos_flow.specs.declared.search.Heading.TheVariants.{Ahead, Back}
 use Rattle.geos_flow.specs.declared.waiting.Waiting.{Waiting}
-use Rattle.geos_flow.specs.Edges.{end_of, end_below, end_in, number_of}
-use Rattle.geos_flow.specs.Flow.{Step, step_along, step_by, all_led}
+use Rattle.geos_flow.specs.Edges.{end_in, number_of}
+use Rattle.geos_flow.specs.Flow.{Step, step_along, step_by, MarksWhatIsLed}
 use Rattle.geos_flow.specs.Graphs.{above, IsLast}
 use Rattle.geos_flow.specs.Waiting.{Has, IsKept, Waits, Extends, Notes, TakesEdge, GoesOn, TakesNext}
-use Rattle.geos_flow.proofs.Choices.{elim_both}
 use Rattle.geos_flow.proofs.Kept.{extends-same, extends-on}
 use Rattle.geos_flow.proofs.Into.{same-edge, number-low}
-use Rattle.geos_flow.proofs.Leading.{led-on, led-first, AllLed, AreInside, led-all_led}
+use Rattle.geos_flow.proofs.Leading.{led-on, led-first, AllLed, marks-led}
 use Rattle.geos_flow.proofs.Marked.{has-within, count-bound, is-marked}
+use Rattle.geos_flow.proofs.Steps.{end-inside, step-is, is-step}
 
--- an edge that an instruction has leads to its end, if that is inside
-pub end-there : (image : Parts) (edge : Edge) (point : Point) (to : ℕ) → slice_get image.points edge.from ≡ Some point
-    → has_edge point.instr edge.branch ≡ true → end_of edge point.instr ≡ to → to < length image.points → end_in image edge ≡ Some to
-end-there image edge point to there has is low =
-    ap (λ o. elim o [ None ↦ None | Some found ↦ end_below (length image.points) edge found.instr ]) there
-    ∙ ap (λ b. cond (b && nat_lt (end_of edge point.instr) (length image.points)) (Some (end_of edge point.instr)) None) has
-    ∙ ap (λ b. cond b (Some (end_of edge point.instr)) None) (lt-ltb (end_of edge point.instr) (length image.points) (omega (arith, is, low)))
-    ∙ ap Some is
-
--- an edge that leads to a pc
-pub record HasEnd (image : Parts) (edge : Edge) (to : ℕ) : Type 0 where
-  pub point : Point
-  pub there : slice_get image.points edge.from ≡ Some point
-  pub has : has_edge point.instr edge.branch ≡ true
-  pub is : end_of edge point.instr ≡ to
-  pub low : to < length image.points
-
-pub end-is : (image : Parts) (edge : Edge) (to : ℕ) → end_in image edge ≡ Some to → HasEnd image edge to
-end-is image edge to =
-    elim_both (slice_get image.points edge.from) None (λ (point : Point). end_below (length image.points) edge point.instr)
-    (λ o. o ≡ Some to → HasEnd image edge to) (λ none is. absurd cc) (λ point there. (
-    let end = end_of edge point.instr in
-    let has = has_edge point.instr edge.branch in
-    cond_both (has && nat_lt end (length image.points)) (Some end) None (λ o. o ≡ Some to → HasEnd image edge to)
-    (λ so same. (
-    let tests = and_parts has (nat_lt end (length image.points)) so in
-    let is : end ≡ to = cc in
-    let low = ltb-true end (length image.points) tests.1 in
-    record { point = point; there = there; has = tests.0; is = is; low = omega arith }))
-    (λ not_so none. absurd cc)))
-
--- it begins and ends in the image
-pub end-inside : (image : Parts) (edge : Edge) (end : ℕ) → end_in image edge ≡ Some end
-    → (edge.from < length image.points) × (end < length image.points)
-end-inside image edge end ends =
-    let found = end-is image edge end ends in
-    (slice_get_within image.points edge.from found.point found.there, found.low)
-
--- where a step leads is a pc
-pub step-low : (image : Parts) (heading : Heading) (edge : Edge) (end : ℕ) → length image.points ≤ 4096 → end_in image edge ≡ Some end
-    → (step_along heading edge.from end).to < 4096
-step-low image Ahead edge end short ends = let low = end-inside image edge end ends in omega (arith, short, low.1)
-step-low image Back edge end short ends = let low = end-inside image edge end ends in omega (arith, short, low.0)
+-- ---- One edge
 
 module _ (image : Parts) (heading : Heading) (counts : Edge → ℕ → Bool) where
   abbrev steps : Edge → Option Step
   steps edge = step_by image heading counts edge
-
-  -- a step is that along an edge which counts
-  pub record IsStep (edge : Edge) (step : Step) : Type 0 where
-    pub end : ℕ
-    pub ends : end_in image edge ≡ Some end
-    pub is_counted : counts edge end ≡ true
-    pub is : step_along heading edge.from end ≡ step
-
-  pub step-is : (edge : Edge) (step : Step) → steps edge ≡ Some step → IsStep edge step
-  step-is edge step = elim_both (end_in image edge) None (λ (end : ℕ). cond (counts edge end) (Some (step_along heading edge.from end)) None)
-      (λ o. o ≡ Some step → IsStep edge step) (λ none same. absurd cc) (λ end ends.
-      cond_both (counts edge end) (Some (step_along heading edge.from end)) None (λ o. o ≡ Some step → IsStep edge step)
-      (λ is same. record { end = end; ends = ends; is_counted = is; is = cc }) (λ not_so none. absurd cc))
-
-  pub is-step : (edge : Edge) (end : ℕ) → end_in image edge ≡ Some end → counts edge end ≡ true
-      → steps edge ≡ Some (step_along heading edge.from end)
-  is-step edge end ends is =
-      ap (λ o. elim o [ None ↦ None | Some to ↦ cond (counts edge to) (Some (step_along heading edge.from to)) None ]) ends
-      ∙ ap (λ b. cond b (Some (step_along heading edge.from end)) None) is
-
-  -- ---- One edge
 
   -- one that does not count, or leads nowhere
   pub takes-not : (edge : Edge) (from : ℕ) (w : Waiting) → ((step : Step) → steps edge ≡ Some step → ⊥) → TakesEdge steps edge from w w
@@ -98,12 +31,12 @@ module _ (image : Parts) (heading : Heading) (counts : Edge → ℕ → Bool) wh
   }
 
   pub takes-nowhere : (edge : Edge) (from : ℕ) (w : Waiting) → end_in image edge ≡ None → TakesEdge steps edge from w w
-  takes-nowhere edge from w none = takes-not edge from w (λ step is. (let found = step-is edge step is in let ends = found.ends in absurd cc))
+  takes-nowhere edge from w none = takes-not edge from w (λ step is. (let found = step-is image heading counts edge step is in let ends = found.ends in absurd cc))
 
   pub takes-uncounted : (edge : Edge) (end from : ℕ) (w : Waiting) → end_in image edge ≡ Some end → counts edge end ≡ false
       → TakesEdge steps edge from w w
   takes-uncounted edge end from w ends not_so = takes-not edge from w (λ step is. (
-      let found = step-is edge step is in
+      let found = step-is image heading counts edge step is in
       let both : Some end ≡ Some found.end = sym ends ∙ found.ends in
       let same : end ≡ found.end = cc in
       let counted = subst (λ e. counts edge e ≡ true) (sym same) found.is_counted in
@@ -112,7 +45,7 @@ module _ (image : Parts) (heading : Heading) (counts : Edge → ℕ → Bool) wh
   to-is : (edge : Edge) (end to : ℕ) → end_in image edge ≡ Some end
       → steps edge ≡ Some (record { from = (step_along heading edge.from end).from; to = to }) → to ≡ (step_along heading edge.from end).to
   to-is edge end to ends is =
-      let found = step-is edge (record { from = (step_along heading edge.from end).from; to = to }) is in
+      let found = step-is image heading counts edge (record { from = (step_along heading edge.from end).from; to = to }) is in
       let both : Some end ≡ Some found.end = sym ends ∙ found.ends in
       let same : end ≡ found.end = cc in
       ap (λ s. s.to) (sym found.is) ∙ ap (λ e. (step_along heading edge.from e).to) (sym same)
@@ -134,27 +67,10 @@ module _ (image : Parts) (heading : Heading) (counts : Edge → ℕ → Bool) wh
     there = λ to there. subst (λ k. Has new.marks k) (sym (to-is edge end to ends there)) notes.there;
     was = λ k h. elim (notes.was k h) [
       | inl was ↦ inl was
-      | inr same ↦ inr (is-step edge end ends is
+      | inr same ↦ inr (is-step image heading counts edge end ends is
           ∙ ap (λ t. Some (record { from = (step_along heading edge.from end).from; to = t })) (sym same))
     ];
   }
-
-  pub inside : length image.points ≤ 4096 → AreInside steps []
-  inside short edge step is =
-      let found = step-is edge step is in
-      let low = end-inside image edge found.end found.ends in
-      by_heading heading found.is low.0 low.1
-    where
-      by_heading : (h : Heading) → step_along h edge.from (step-is edge step is).end ≡ step → edge.from < length image.points
-          → (step-is edge step is).end < length image.points → (edge.from < 4096) × (step.from < 4096) × (step.to < 4096)
-      by_heading Ahead same low end =
-          let from : edge.from ≡ step.from = ap (λ s. s.from) same in
-          let to : (step-is edge step is).end ≡ step.to = ap (λ s. s.to) same in
-          (omega arith, omega arith, omega arith)
-      by_heading Back same low end =
-          let from : (step-is edge step is).end ≡ step.from = ap (λ s. s.from) same in
-          let to : edge.from ≡ step.to = ap (λ s. s.to) same in
-          (omega arith, omega arith, omega arith)
 
 -- ---- All edges of a pc
 
@@ -293,9 +209,8 @@ module _ (steps : Edge → Option Step) (marks : List Bool) (full : length marks
       taken_has : Has w.marks pc
       taken_has = takes.has
 
-  pub searched-ended : AreInside steps marks → (w : Waiting) → length w.marks ≡ 4096 → HasSearched steps marks w → ((k : ℕ) → Waits w k → ⊥)
-      → w.marks ≡ all_led steps marks
-  searched-ended inside w long all none = led-all_led steps marks full inside w.marks long all.begun all.led
+  pub searched-ended : (w : Waiting) → HasSearched steps marks w → ((k : ℕ) → Waits w k → ⊥) → MarksWhatIsLed steps marks w.marks
+  searched-ended w all none = marks-led steps marks w.marks (let kept = all.kept in kept.long) all.begun all.led
       (λ edge from to is has. elim (all.on from has) [ inl waits ↦ absurd (none from waits) | inr on ↦ on edge to is ])
 
 -- no more are marked than there are pcs

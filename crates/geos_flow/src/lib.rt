@@ -12,4 +12,4 @@ pub use edge::{Edge, end_of};
 pub use graph::Graph;
 pub use marks::{Marks, is_marked, mark, no_marks};
 pub use pending::Pending;
-pub use search::{Counting, Heading, follow, marks_what_is_led};
+pub use search::{Counting, Heading, follow};

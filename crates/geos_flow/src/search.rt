@@ -3,7 +3,7 @@
 ghost use Rattle.std.specs.Prelude.{◌≡◌, ◌<◌, ◌↔◌, ℕ, Some};
 ghost use Rattle.geos_flow.specs.declared.search.Heading.TheVariants.{Ahead, Back};
 ghost use Rattle.geos_flow.specs.Edges.{end_in};
-ghost use Rattle.geos_flow.specs.Flow.{step_along, step_by, followed, FollowsWhatIsLed};
+ghost use Rattle.geos_flow.specs.Flow.{step_along, step_by, MarksWhatIsLed};
 ghost use Rattle.geos_flow.specs.Waiting.{IsKept, Has, Waits, TakesEdge, GoesOn};
 
 use crate::edge::{Edge, end_in};
@@ -133,7 +133,7 @@ fn begun(marks: &Marks) -> Waiting
 
 /// Marks all that edges that count lead to from what is marked, or from where they lead there. Each edge is looked at once at most.
 pub fn follow<C: Counting>(graph: &Graph, heading: Heading, counting: &C, marks: &mut Marks)
-    ensures { marks.new ≡ followed graph.now.image.now heading (C.counted counting.now) marks.old }
+    ensures { MarksWhatIsLed (step_by graph.now.image.now heading (C.counted counting.now)) marks.old marks.new }
 {
     let mut waiting = begun(marks);
     while let Some(pc) = waiting.take() {
@@ -141,8 +141,3 @@ pub fn follow<C: Counting>(graph: &Graph, heading: Heading, counting: &C, marks:
     }
     *marks = waiting.marks;
 }
-
-/// A law: the marks that `follow` leaves are those of the pcs to which steps lead from what was marked, and no other.
-pub fn marks_what_is_led()
-    ensures { FollowsWhatIsLed }
-{}

@@ -4,4 +4,4 @@ use Rattle.geos_explain.specs.Forgotten.{forgets_at}
 use Rattle.geos_explain.proofs.forgotten.forgetting_call.Given as goal
 
 abbrev pub invariant-loop-k : goal.invariant-loop-k
-invariant-loop-k l = l.last ≡ last_of (place_of l.place) (forgets_at (place_of l.place) l.item l.marks) l.k
+invariant-loop-k l = l.last ≡ last_of (place_of l.place) (forgets_at (place_of l.place) l.item) l.k

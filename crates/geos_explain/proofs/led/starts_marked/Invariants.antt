@@ -1,6 +1,9 @@
-use Rattle.std.specs.Prelude.{◌≡◌}
-use Rattle.geos_explain.specs.Led.{starts_marked}
+use Rattle.std.specs.Prelude.{◌≡◌, length}
+use Rattle.geos_explain.specs.Led.{MarksStarts}
 use Rattle.geos_explain.proofs.led.starts_marked.Given as goal
 
 abbrev pub invariant-loop-r : goal.invariant-loop-r
-invariant-loop-r l = l.marks ≡ starts_marked l.image l.r
+invariant-loop-r l = record {
+  long : length l.marks ≡ 4096;
+  starts : MarksStarts l.image l.r l.marks;
+}

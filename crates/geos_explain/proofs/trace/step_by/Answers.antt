@@ -27,6 +27,7 @@ returns-then-loses c =
     let edge = c.args.edge in
     let point = c.args.point.now in
     let sound = c.requires.sound in
+    let finds = sound.finds in
     let lacks = c.lacks_on.ensures c.if-not-lacks_on.false in
     let both : Some lacks.comes.point ≡ Some point = sym lacks.comes.there ∙ c.requires.there in
     let same : lacks.comes.point ≡ point = cc in
@@ -41,14 +42,17 @@ returns-then-loses c =
     record {
       passed = sound.passed;
       finds = record {
-        lost = record {
-          to = end_of edge point.instr;
-          comes = comes;
-          known = c.hint_at-followed.ensures.hint;
-          loses = ap (λ n. loses place.image (followed n) edge point) (sym c.hint_at-followed.ensures.pointer) ∙ sym c.loses.ensures ∙ c.if-loses.true;
-          way = c.requires.lacks;
+        holds = record {
+          lost = record {
+            to = end_of edge point.instr;
+            comes = comes;
+            known = c.hint_at-followed.ensures.hint;
+            loses = ap (λ n. loses place.image (followed n) edge point) (sym c.hint_at-followed.ensures.pointer) ∙ sym c.loses.ensures ∙ c.if-loses.true;
+            way = c.requires.lacks;
+          };
+          meeting = finds.holds.meeting;
+          end = finds.holds.end;
         };
-        meeting = sound.finds.meeting;
-        end = sound.finds.end;
+        none = λ nothing. (let none = nothing.0 in absurd cc);
       };
     }

@@ -1,6 +1,6 @@
 use Rattle.std.proofs.Common.{sym, ◌∙◌, arith}
 use Rattle.geos_flow.proofs.Into.{into-more, into-nowhere, number-low}
-use Rattle.geos_flow.proofs.Taking.{end-inside}
+use Rattle.geos_flow.proofs.Steps.{end-inside}
 use Rattle.geos_flow.proofs.graph.note.Goals as goal
 
 pub bounds-first-at : goal.bounds-first-at

@@ -1,7 +1,8 @@
-use Rattle.std.proofs.Common.{◌≡◌, length, arith, refl, sym, ap, subst, ◌∙◌}
-use Rattle.geos_flow.specs.Flow.{step_by}
+use Rattle.std.proofs.Common.{◌≡◌, length, arith, refl, sym, subst}
+use Rattle.geos_flow.specs.declared.waiting.Waiting.{Waiting}
+use Rattle.geos_flow.specs.Flow.{step_by, MarksWhatIsLed}
 use Rattle.geos_flow.specs.Waiting.{Waits}
-use Rattle.geos_flow.proofs.Taking.{searched-begun, searched-next, searched-ended, few-marked, inside}
+use Rattle.geos_flow.proofs.Taking.{searched-begun, searched-next, searched-ended, few-marked}
 use Rattle.geos_flow.proofs.search.follow.Goals as goal
 
 pub loop-pc-init : goal.loop-pc-init
@@ -28,9 +29,8 @@ loop-pc-preserved g c =
 pub returns : goal.returns
 returns g c =
     let full : length c.args.marks.now ≡ 4096 = omega arith in
+    let steps = step_by c.args.graph.now.image.now c.args.heading (g.C.Counting.counted c.args.counting.now) in
     let stays = c.in_default.ensures.stays refl in
     let none = c.in_default.ensures.none refl in
-    ap (λ w. w.marks) stays
-    ∙ searched-ended (step_by c.args.graph.now.image.now c.args.heading (g.C.Counting.counted c.args.counting.now)) c.args.marks.now full
-    (inside c.args.graph.now.image.now c.args.heading (g.C.Counting.counted c.args.counting.now) c.args.graph.now.short)
-    c.loop-pc.waiting c.loop-pc.invariant.kept.long c.loop-pc.invariant (λ k waits. none k (subst (λ w. Waits w k) (sym stays) waits))
+    subst (λ (w : Waiting). MarksWhatIsLed steps c.args.marks.now w.marks) (sym stays)
+    (searched-ended steps c.args.marks.now full c.loop-pc.waiting c.loop-pc.invariant (λ k waits. none k (subst (λ w. Waits w k) (sym stays) waits)))

@@ -1,5 +1,5 @@
 use Rattle.std.proofs.Common.{arith}
-use Rattle.geos_flow.proofs.Taking.{step-low}
+use Rattle.geos_flow.proofs.Steps.{step-low}
 use Rattle.geos_flow.proofs.search.step.Goals as goal
 
 pub note-requires-clause-there : goal.note-requires-clause-there

@@ -1,6 +1,6 @@
 use Rattle.std.proofs.Common.{length}
 use Rattle.geos_flow.proofs.Into.{number-low}
-use Rattle.geos_flow.proofs.Taking.{end-inside}
+use Rattle.geos_flow.proofs.Steps.{end-inside}
 use Rattle.geos_flow.proofs.graph.Graph.next.Goals as goal
 
 pub returns : goal.returns

@@ -4,7 +4,7 @@ use Rattle.geos_flow.specs.Edges.{number_of}
 use Rattle.geos_flow.specs.Graphs.{above}
 use Rattle.geos_flow.specs.Marks.{is_marked}
 use Rattle.geos_flow.proofs.Into.{same-edge}
-use Rattle.geos_flow.proofs.Taking.{end-inside}
+use Rattle.geos_flow.proofs.Steps.{end-inside}
 use Rattle.geos_flow.proofs.graph.Graph.put_begins.Goals as goal
 
 pub loop-at-smaller : goal.loop-at-smaller

@@ -1,21 +1,16 @@
-use Rattle.std.proofs.Common.{◌≡◌, length, false, sym, ap, subst, ◌∙◌, arith}
-use Rattle.std.proofs.lemmas.List.{length-replicate}
+use Rattle.std.proofs.Common.{◌≡◌, length, sym, ap, subst, ◌∙◌, arith}
 use Rattle.geos_flow.specs.Marks.{no_marks}
 use Rattle.geos_flow.specs.Waiting.{count, Has}
-use Rattle.geos_flow.proofs.Marked.{count-none, none-marked}
+use Rattle.geos_flow.proofs.Marked.{count-none, none-full, none-marked}
 use Rattle.geos_flow.proofs.waiting.Waiting.new.Goals as goal
 
 count-no_marks : count no_marks ≡ 0
 unfolding no_marks
 count-no_marks = count-none 4096
 
-length-no_marks : length no_marks ≡ 4096
-unfolding no_marks
-length-no_marks = length-replicate 4096 false
-
 pub returns-clause-kept : goal.returns-clause-kept
 returns-clause-kept c = record {
-  long = ap length c.no_marks.ensures ∙ length-no_marks;
+  long = ap length c.no_marks.ensures ∙ none-full;
   next = omega arith;
   end = sym (ap count c.no_marks.ensures ∙ count-no_marks);
   has = λ n less. absurd (omega arith);
