@@ -14,6 +14,7 @@ pub mod Since
 pub mod Held
 pub mod Stale
 pub mod Forgotten
+pub mod Changed
 pub mod Calls
 pub mod Moved
 pub mod Steps

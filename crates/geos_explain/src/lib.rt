@@ -7,6 +7,7 @@
 mod arrivals;
 mod budgets;
 mod calls;
+mod changed;
 mod edges;
 mod explained;
 mod explanation;
