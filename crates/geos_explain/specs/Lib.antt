@@ -23,6 +23,7 @@ pub mod Budgets
 pub mod Written
 pub mod Words
 pub mod Told
+pub mod Repeated
 pub mod Findings
 pub mod Refusals
 pub mod Explanation
