@@ -1,6 +1,6 @@
 //! Why a request was not carried out.
 
-use geos_asm::AssembleError;
+use geos_asm::{AssembleError, BudgetError};
 use geos_cli::ScriptFault;
 use geos_dump::DumpError;
 use geos_image::ReadError;
@@ -42,6 +42,9 @@ pub(crate) enum RequestFault<'a> {
     /// A text is not assembled.
     #[error(transparent)]
     Assemble(#[from] AssembleError),
+    /// A text has no budgets that serve.
+    #[error(transparent)]
+    Budget(#[from] BudgetError),
     /// An image of version 1 is wanted of a text with a borrowed slot.
     #[error("a borrowed slot takes version 2")]
     TakesVersion2,

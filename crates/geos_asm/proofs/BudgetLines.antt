@@ -1,14 +1,14 @@
 -- Lines with their ends, and texts with other budgets.
-use Rattle.std.proofs.Common.{◌≡◌, ◌∙◌, ◌<◌, ◌≤◌, ℕ, zero, suc, ◌+◌, ◌-◌, Bool, true, false, cond, List, [], ◌∷◌, ◌++◌, length, take, drop, Option, Some, None, refl, sym, ap, arith, inl, subst, append_assoc, take-append-drop}
+use Rattle.std.proofs.Common.{◌≡◌, ◌∙◌, ◌<◌, ◌≤◌, ℕ, zero, suc, ◌+◌, ◌-◌, Bool, true, false, cond, List, [], ◌∷◌, ◌++◌, length, take, drop, Some, None, refl, sym, ap, arith, inl, subst, append_assoc, take-append-drop}
 use Rattle.std.specs.Prelude.{◌==◌, position, Result, Ok, Err, IfErr, IsErrAnd}
 use Rattle.std.proofs.Math.Seq.{take-add}
 use Rattle.std.proofs.lemmas.List.{take_rest}
 use Rattle.std.specs.List.{position_from}
 use Rattle.std.proofs.lemmas.Iterator.Adapters.{position_from-zero}
-use Rattle.geos_asm.specs.Budgets.{whole_lines, in_front, AreLinesAlike, HasOtherBudgets, IsLineAlike, IsWhyNoBudgets}
-use Rattle.geos_asm.specs.Assembling.{IsWhyNoImage}
-use Rattle.geos_asm.specs.declared.error.AssembleError.{AssembleError}
+use Rattle.geos_asm.specs.Budgets.{whole_lines, in_front, AreLinesAlike, HasOtherBudgets, IsLineAlike, IsWhyNot, IsWhyNoBudgets}
 use Rattle.geos_asm.specs.declared.error.AssembleError.TheVariants.{Memory}
+use Rattle.geos_asm.specs.declared.error.BudgetError.{BudgetError}
+use Rattle.geos_asm.specs.declared.error.BudgetError.TheVariants.{Assemble}
 
 abbrev feeds : ℕ → Bool
 feeds byte = byte == 10
@@ -90,14 +90,14 @@ cut-whole line s e le =
     sym (ap (λ b. (take s line ++ take (e - s) (drop s line)) ++ b) (take_rest line e) ∙ ap (λ f. f ++ drop e line) front ∙ take-append-drop e line)
 
 -- want of memory is a fault of some text alike
-pub memory-fault : {A : Type 0} (text : List ℕ) (result : Result A AssembleError) → IsErrAnd result (λ x. x ≡ Memory)
+pub memory-fault : {A : Type 0} (text : List ℕ) (result : Result A BudgetError) → IsErrAnd result (λ x. x ≡ Assemble Memory)
     → IfErr result (IsWhyNoBudgets text)
 memory-fault text (Ok x) h = tt
 memory-fault text (Err e) h = let some = some-alike text in subst (IsWhyNoBudgets text) (sym h) (some.0, some.1, tt)
 
 -- a fault of a text with other budgets
-pub draft-fault : {A : Type 0} (text new : List ℕ) (result : Result A AssembleError) (fault : AssembleError)
-    → HasOtherBudgets text new → IsWhyNoImage new fault
+pub draft-fault : {A : Type 0} (text new : List ℕ) (result : Result A BudgetError) (fault : BudgetError)
+    → HasOtherBudgets text new → IsWhyNot new fault
     → IsErrAnd result (λ x. x ≡ fault) → IfErr result (IsWhyNoBudgets text)
 draft-fault text new (Ok x) fault alike why h = tt
 draft-fault text new (Err e) fault alike why h = subst (IsWhyNoBudgets text) (sym h) (new, alike, why)

@@ -1,2 +1,3 @@
-pub mod BudgetLines
 pub mod Assembled
+pub mod BudgetLines
+pub mod Calling

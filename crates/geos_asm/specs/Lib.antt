@@ -1,2 +1,3 @@
 pub mod Assembling
 pub mod Budgets
+pub mod Calls

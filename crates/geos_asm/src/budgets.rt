@@ -6,7 +6,8 @@ ghost use Rattle.geos_asm.specs.Budgets.{begins_word, ends_word, whole_lines, is
 ghost use Rattle.geos_asm.specs.Budgets.{IsCutRound, IsLineAlike, HasOtherBudgets, IsBudgeted, IsWhyNoBudgets};
 
 use crate::assembler::assemble;
-use crate::error::AssembleError;
+use crate::calls::{first_calling_on, line_of};
+use crate::error::BudgetError;
 use geos_image::Image;
 use geos_text::{first_word, is_blank, number_up_to, put_numbered, without_comment};
 use std::alloc::{AllocError, Global};
@@ -178,12 +179,16 @@ struct Draft {
 }
 
 /// The text with these budgets, and those that are found for it.
-fn drafted(alloc: Global, text: &[u8], budgets: &[u32]) -> Result<Draft, AssembleError>
+fn drafted(alloc: Global, text: &[u8], budgets: &[u32]) -> Result<Draft, BudgetError>
     ensures budgeted { IfOk result (λ draft. IsBudgeted text.now draft.text.items) }
     ensures fault { IfErr result (IsWhyNoBudgets text.now) }
 {
     let new = with_budgets(alloc, text, budgets)?;
     let image = assemble(alloc, &new)?;
+    if let Some(pc) = first_calling_on(&image) {
+        let line = line_of(alloc, &new, pc)?;
+        return Err(BudgetError::CallsOn(line));
+    }
     let found = constants(alloc, &image)?;
     Ok(Draft { text: new, found })
 }
@@ -192,8 +197,9 @@ fn drafted(alloc: Global, text: &[u8], budgets: &[u32]) -> Result<Draft, Assembl
 /// instruction. A `?` may stand for a budget. All other bytes stay. What is found for a routine depends on the budgets of those that it
 /// calls, so each round finds one more on a chain of calls.
 ///
-/// The faults are those of `assemble`, of the text with other budgets.
-pub fn with_least_budgets(alloc: Global, text: &[u8]) -> Result<Vec<u8>, AssembleError>
+/// The faults are those of `assemble`, of the text with other budgets; or `CallsOn`, with the line of the first CALL of a routine that does
+/// not stand before its own.
+pub fn with_least_budgets(alloc: Global, text: &[u8]) -> Result<Vec<u8>, BudgetError>
     ensures budgeted { IfOk result (λ new. IsBudgeted text.now new.items) }
     ensures fault { IfErr result (IsWhyNoBudgets text.now) }
 {

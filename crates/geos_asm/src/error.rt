@@ -1,8 +1,9 @@
-//! Why a text is not assembled.
+//! Why a text is not assembled, or has no budgets.
 
 ghost use Rattle.std.specs.Prelude.{◌≡◌};
 ghost use Rattle.geos_asm.specs.Assembling.{of_parse};
 ghost use Rattle.geos_asm.specs.declared.error.AssembleError.TheVariants.{Memory};
+ghost use Rattle.geos_asm.specs.declared.error.BudgetError.TheVariants.{Assemble};
 
 use geos_source::{BadLine, ParseError};
 use std::alloc::AllocError;
@@ -39,5 +40,32 @@ impl From<ParseError> for AssembleError {
             ParseError::BadLine(line) => AssembleError::BadLine(line),
             ParseError::Memory => AssembleError::Memory,
         }
+    }
+}
+
+/// Why a text has no budgets that serve.
+#[derive(Debug, Drop, Error)]
+pub enum BudgetError {
+    /// It is not assembled.
+    #[error("{0}")]
+    Assemble(AssembleError),
+    /// The CALL on this line names a routine that does not stand before its own. The verifier refuses it, whatever the budgets are.
+    #[error("no budget: the CALL on line {0} names a routine that does not stand before its own")]
+    CallsOn(usize),
+}
+
+impl From<AllocError> for BudgetError {
+    ghost from_gives = { λ _ e. e ≡ Assemble Memory };
+
+    fn from(_: AllocError) -> BudgetError {
+        BudgetError::Assemble(AssembleError::Memory)
+    }
+}
+
+impl From<AssembleError> for BudgetError {
+    ghost from_gives = { λ fault e. e ≡ Assemble fault };
+
+    fn from(fault: AssembleError) -> BudgetError {
+        BudgetError::Assemble(fault)
     }
 }

@@ -5,11 +5,12 @@
 
 mod assembler;
 mod budgets;
+mod calls;
 mod cause;
 mod error;
 
 pub use assembler::{assemble, assemble_all_rows};
 pub use budgets::with_least_budgets;
 pub use cause::{Unassembled, assemble_or_tell};
-pub use error::AssembleError;
+pub use error::{AssembleError, BudgetError};
 pub use geos_source::{BadLine, Why};

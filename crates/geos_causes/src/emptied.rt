@@ -36,7 +36,7 @@ fn name_text(name: &[u8; 16]) -> &[u8]
     &name[..end]
 }
 
-/// A CALL leaves a slot empty, and where it is to be said that it is held.
+/// A CALL leaves a slot empty, and what helps: to say in the lines of its routine that it is held, or to take another.
 #[tactic(auto, unfolding(crate::specs::Emptied::emptied_text))]
 fn put_emptied(
     out: &mut Vec<u8>,
@@ -59,6 +59,10 @@ fn put_emptied(
             Part::Text(state_word(emptied.state)),
             Part::Text(" in the in and out lines of "),
             Part::Bytes(name),
+            Part::Text("; where "),
+            Part::Bytes(name),
+            Part::Numbered(" locks or unlocks s", a as u64),
+            Part::Text(" itself, hold the block in another slot"),
         ],
     )
 }

@@ -11,6 +11,7 @@ mod Noted
 mod Outside
 mod Places
 mod Reached
+mod Repeating
 mod Serving
 mod Told
 mod Untold

@@ -11,6 +11,7 @@ use Rattle.geos_listing.specs.Instrs.{name_of}
 use Rattle.geos_verify.specs.Rows.{bound, is_empty, pointer_at, slot_state}
 use Rattle.geos_explain.specs.declared.forgotten.Item.{Item}
 use Rattle.geos_explain.specs.declared.forgotten.Item.TheVariants.{Bound, Slot, Held, Leads, Apart}
+use Rattle.geos_explain.specs.Changed.{changed_by, changed_words}
 use Rattle.geos_explain.specs.Forgotten.{forgetting_call}
 use Rattle.geos_explain.specs.Numbers.{pc_text}
 use Rattle.geos_explain.specs.Places.{Place}
@@ -36,13 +37,19 @@ lines_of name = concat (codes " in the in and out lines of " ∷ name ∷ [])
 -- a call of a routine leaves only what its `out` line says
 unfoldable pub call_head : Place → ℕ → ℕ → List ℕ
 call_head place from r =
-    concat (codes "; CALL at" ∷ pc_text place.lines from ∷ codes " leaves what the out line of " ∷ name_at place.image r ∷ codes " says: say" ∷ [])
+    concat (codes "; CALL at" ∷ pc_text place.lines from ∷ codes " leaves what the out line of " ∷ name_at place.image r ∷ codes " says" ∷ [])
 
--- a call forgets an item, and where that is to be said
+-- what helps where a call of routine r forgets an item, which a row knows: to say it in the lines of that routine, or, where the
+-- routine changes its slot, to take another slot
+unfoldable pub kept_wish : Place → Item → ℕ → Row → List ℕ
+kept_wish place item r row = elim (changed_by place.image r item) [
+  | None ↦ codes ": say" ++ item_text row item ++ lines_of (name_at place.image r)
+  | Some a ↦ codes ", and" ++ changed_words (name_at place.image r) a
+]
+
+-- a call forgets an item, and what helps
 unfoldable pub forgotten_at : Place → Item → ℕ → KnownPlace → List ℕ
-forgotten_at place item from point =
-    call_head place from point.instr.imm ++ item_text point.row item
-    ++ lines_of (name_at place.image point.instr.imm)
+forgotten_at place item from point = call_head place from point.instr.imm ++ kept_wish place item point.instr.imm point.row
 
 -- the same, if there is a call at a pc
 abbrev pub forgotten_from : Place → Item → ℕ → List ℕ
@@ -83,14 +90,19 @@ forgotten_of place wanted k =
 abbrev pub forgotten_items : Place → Row → List ℕ
 forgotten_items place wanted = texts_below 8 (λ k. forgotten_of place wanted k)
 
--- what a slot holds that is held at a call, and where that is to be said
-unfoldable pub lent_item : Row → Routine → ℕ → List ℕ
-lent_item row callee a = codes "; say" ++ state_item a row ++ lines_of (name_of callee)
+-- what a slot holds that is held at a call of routine r, and what helps: to say it in the lines of that routine, or, where the
+-- routine changes the slot, to take another slot
+unfoldable pub lent_item : Place → ℕ → Routine → ℕ → List ℕ
+lent_item place r callee a = elim (changed_by place.image r (Held a)) [
+  | None ↦ codes "; say" ++ state_item a place.row ++ lines_of (name_of callee)
+  | Some a ↦ codes ";" ++ changed_words (name_of callee) a
+]
 
--- the same, where the routine that is called wants the slot empty
-unfoldable pub lent_of : Row → Routine → ℕ → List ℕ
-lent_of row callee a = if is_empty (slot_state callee.entry a) && not (is_empty (slot_state row a)) then lent_item row callee a else []
+-- the same, where the routine wants the slot empty
+unfoldable pub lent_of : Place → ℕ → Routine → ℕ → List ℕ
+lent_of place r callee a =
+    if is_empty (slot_state callee.entry a) && not (is_empty (slot_state place.row a)) then lent_item place r callee a else []
 
 -- the same of each slot
-abbrev pub lent_items : Row → Routine → List ℕ
-lent_items row callee = texts_below 4 (λ a. lent_of row callee a)
+abbrev pub lent_items : Place → ℕ → Routine → List ℕ
+lent_items place r callee = texts_below 4 (λ a. lent_of place r callee a)

@@ -16,6 +16,7 @@ use Rattle.geos_explain.specs.Findings.{FindingsHold}
 use Rattle.geos_explain.specs.Places.{Place, Explained, place_at}
 use Rattle.geos_explain.specs.Notes.{note}
 use Rattle.geos_explain.specs.Refusals.{refusal_text, over_text}
+use Rattle.geos_explain.specs.Repeated.{TellsOnce}
 
 -- what is known at an instruction, up to the end of the line, and what is wrong with it, and with the budget of its routine
 unfoldable pub noted : Explained → ℕ → Routine → Place → List ℕ
@@ -44,17 +45,23 @@ abbrev pub numbered_routine : Explained → ℕ → List ℕ
 numbered_routine explained r =
     option_map_or (routine_text explained r (start_of explained.image.routines r)) (slice_get explained.image.routines r) []
 
--- the routines one after another, where for each pc the lowest rule is given that refuses there, and what is found of pointers
+-- the routines one after another, where for each pc the rule is given that is told there, and what is found of pointers
 abbrev pub explanation : Parts → List (Option Rule) → List Findings → List ℕ
 explanation image refused findings =
     texts_below (length image.routines)
     (λ r. numbered_routine (record { image = image; lines = []; refused = refused; findings = findings }) r)
 
--- a text is an explanation of an image by the rules that refuse: what is found of pointers holds, and is told
-pub record IsExplanationOf (image : Parts) (refused : List (Option Rule)) (text : List ℕ) : Type 0 where
+-- a text is an explanation of an image by the rules that are told: what is found of pointers holds, and is told
+pub record IsExplanationBy (image : Parts) (told : List (Option Rule)) (text : List ℕ) : Type 0 where
   pub findings : List Findings
-  pub hold : FindingsHold image refused findings
-  pub is : text ≡ explanation image refused findings
+  pub hold : FindingsHold image told findings
+  pub is : text ≡ explanation image told findings
+
+-- the same by the rules that refuse, of which each is told once
+pub record IsExplanationOf (image : Parts) (refused : List (Option Rule)) (text : List ℕ) : Type 0 where
+  pub told : List (Option Rule)
+  pub once : TellsOnce image refused told
+  pub tells : IsExplanationBy image told text
 
 -- the refusal is the image's first, or there is none
 abbrev pub IsVerdict : Parts → Option Reject → Type 0

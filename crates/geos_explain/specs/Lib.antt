@@ -15,6 +15,7 @@ pub mod Since
 pub mod Held
 pub mod Stale
 pub mod Forgotten
+pub mod Changed
 pub mod Calls
 pub mod Moved
 pub mod Steps
@@ -23,6 +24,7 @@ pub mod Budgets
 pub mod Written
 pub mod Words
 pub mod Told
+pub mod Repeated
 pub mod Findings
 pub mod Refusals
 pub mod Explanation

@@ -11,6 +11,7 @@ use Rattle.geos_verify.specs.Places.{places}
 use Rattle.geos_verify.specs.Refused.{AreRefusals}
 use Rattle.geos_verify.specs.Rules.{refusal, over_budget, HasPoint}
 use Rattle.geos_explain.specs.Places.{Place, Explained, place_at}
+use Rattle.geos_explain.specs.Repeated.{IsRepeated, TellsOnce}
 use Rattle.geos_explain.specs.Told.{is_of_budget, is_told, rule_at, most_told}
 use Rattle.geos_explain.specs.Words.{refusal_line}
 
@@ -52,9 +53,11 @@ over_text explained r routine pc =
     then over_from explained r routine (start_of explained.image.routines r)
     else []
 
--- a rule is told at a place exactly where it is the lowest that refuses it, but for the rule on the budget
+-- a rule is told at a place exactly where it is the lowest that refuses it, but for the rule on the budget, and for that on
+-- empty slots where it is told before
 abbrev pub ToldWhereRefused : Type 0
 ToldWhereRefused =
-    (image : Parts) (refused : List (Option Rule)) → AreRefusals image refused
+    (image : Parts) (refused told : List (Option Rule)) → AreRefusals image refused → TellsOnce image refused told
     → (r pc : ℕ) (routine : Routine) (place : KnownPlace) (rule : Rule) → HasPoint image r routine pc place
-    → (rule_at refused pc ≡ Some rule) ↔ ((refusal image r routine (start_of image.routines r) pc place ≡ Some rule) × (is_of_budget rule ≡ false))
+    → (rule_at told pc ≡ Some rule)
+    ↔ ((refusal image r routine (start_of image.routines r) pc place ≡ Some rule) × (is_of_budget rule ≡ false) × (IsRepeated image refused pc → ⊥))

@@ -10,6 +10,7 @@ use Rattle.geos_explain.specs.declared.finding.Findings.{Findings}
 use Rattle.geos_explain.specs.Findings.{FindingsHold}
 use Rattle.geos_explain.specs.Places.{Explained, place_at}
 use Rattle.geos_explain.specs.Explanation.{noted}
+use Rattle.geos_explain.specs.Repeated.{TellsOnce}
 
 -- of the first n routines, the last that begins at the pc or before
 unfoldable pub last_begun : Parts → ℕ → ℕ → Option ℕ
@@ -56,14 +57,20 @@ lines_text explained pc number [] = []
 lines_text explained pc number (line ∷ rest) =
     line_text explained pc number line ++ lines_text explained (next_pc explained.lines pc number) (number + 1) rest
 
--- a text with what is known at each instruction, whose lines the table has, where for each pc the lowest rule is given that
--- refuses there, and what is found of pointers
+-- a text with what is known at each instruction, whose lines the table has, where for each pc the rule is given that is told
+-- there, and what is found of pointers
 abbrev pub text_explanation : List ℕ → List ℕ → Parts → List (Option Rule) → List Findings → List ℕ
 text_explanation text table image refused findings =
     lines_text (record { image = image; lines = table; refused = refused; findings = findings }) 0 1 (lines text)
 
--- a text is an explanation of another one, whose image this is: what is found of pointers holds, and is told
-pub record IsTextExplanationOf (text table : List ℕ) (image : Parts) (refused : List (Option Rule)) (explained : List ℕ) : Type 0 where
+-- a text is an explanation of another one, whose image this is, by the rules that are told: what is found of pointers holds, and is told
+pub record IsTextExplanationBy (text table : List ℕ) (image : Parts) (told : List (Option Rule)) (explained : List ℕ) : Type 0 where
   pub findings : List Findings
-  pub hold : FindingsHold image refused findings
-  pub is : explained ≡ text_explanation text table image refused findings
+  pub hold : FindingsHold image told findings
+  pub is : explained ≡ text_explanation text table image told findings
+
+-- the same by the rules that refuse, of which each is told once
+pub record IsTextExplanationOf (text table : List ℕ) (image : Parts) (refused : List (Option Rule)) (explained : List ℕ) : Type 0 where
+  pub told : List (Option Rule)
+  pub once : TellsOnce image refused told
+  pub tells : IsTextExplanationBy text table image told explained

@@ -131,7 +131,7 @@ slot_here place = slot_words place.i (uses_of place.i.opcode).slot place.row ++ 
 -- what is to be said of a routine that is called, and which call forgets what it wants
 abbrev pub callee_wish : Place → Routine → List ℕ
 callee_wish place callee =
-    if nat_lt place.i.imm place.r then lent_items place.row callee ++ forgotten_items place (lacking place.row callee.entry) else []
+    if nat_lt place.i.imm place.r then lent_items place place.i.imm callee ++ forgotten_items place (lacking place.row callee.entry) else []
 
 -- the same of the routine that a call names
 abbrev pub wish_of_call : Place → Opcode → List ℕ

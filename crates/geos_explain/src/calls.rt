@@ -2,10 +2,11 @@
 
 ghost use Rattle.std.specs.Prelude.{◌≡◌, ◌<◌, ◌++◌, OnOk};
 ghost use Rattle.geos_explain.specs.Places.{IsPlace, place_of};
-ghost use Rattle.geos_explain.specs.Calls.{only_pair, item_text, lines_of, call_head};
+ghost use Rattle.geos_explain.specs.Calls.{only_pair, item_text, lines_of, call_head, kept_wish};
 ghost use Rattle.geos_explain.specs.Calls.{forgotten_at, forgotten_text, forgotten_item, bound_wanted, slot_wanted};
 ghost use Rattle.geos_explain.specs.Calls.{pointer_wanted, pair_wanted, forgotten_of, forgotten_items, lent_item, lent_of, lent_items};
 
+use crate::changed::{changed_by, put_changed};
 use crate::forgotten::{Item, forgetting_call};
 use crate::numbers::pc_part;
 use crate::place::Place;
@@ -88,12 +89,33 @@ fn put_call_head(out: &mut Vec<u8>, place: &Place, from: u16, r: u16) -> Result<
             pc_part(place.lines, from),
             Part::Text(" leaves what the out line of "),
             Part::Bytes(name_at(place.image, r)),
-            Part::Text(" says: say"),
+            Part::Text(" says"),
         ],
     )
 }
 
-/// A call forgets the item, and where that is to be said.
+/// What helps where a call of routine r forgets the item, which the row knows: to say it in the lines of that routine, or, where the
+/// routine changes its slot, to take another slot.
+#[tactic(auto, unfolding(crate::specs::Calls::kept_wish))]
+fn put_kept_wish(
+    out: &mut Vec<u8>,
+    place: &Place,
+    item: Item,
+    r: u16,
+    row: &Row,
+) -> Result<(), AllocError>
+    ensures { OnOk result (out.new.items ≡ out.old.items ++ kept_wish (place_of place.now) item r row.now) }
+{
+    if let Some(a) = changed_by(place.image, r, item) {
+        out.extend_from_slice(b", and")?;
+        return put_changed(out, name_at(place.image, r), a);
+    }
+    out.extend_from_slice(b": say")?;
+    put_item(out, row, item)?;
+    put_lines_of(out, name_at(place.image, r))
+}
+
+/// A call forgets the item, and what helps.
 #[tactic(auto, unfolding(crate::specs::Calls::forgotten_at))]
 fn put_forgotten_at(
     out: &mut Vec<u8>,
@@ -105,8 +127,7 @@ fn put_forgotten_at(
     ensures { OnOk result (out.new.items ≡ out.old.items ++ forgotten_at (place_of place.now) item from point.now) }
 {
     put_call_head(out, place, from, point.instr.imm)?;
-    put_item(out, &point.row, item)?;
-    put_lines_of(out, name_at(place.image, point.instr.imm))
+    put_kept_wish(out, place, item, point.instr.imm, &point.row)
 }
 
 /// The call that forgets the item on a way to the place, if there is one.
@@ -214,23 +235,40 @@ pub(crate) fn put_forgotten_items(
     Ok(())
 }
 
-/// What a slot holds that is held at a call, and where that is to be said.
+/// What a slot holds that is held at a call of routine r, and what helps: to say it in the lines of that routine, or, where the routine
+/// changes the slot, to take another slot.
 #[tactic(auto, unfolding(crate::specs::Calls::lent_item))]
-fn put_lent(out: &mut Vec<u8>, row: &Row, callee: &Routine, a: u8) -> Result<(), AllocError>
-    ensures { OnOk result (out.new.items ≡ out.old.items ++ lent_item row.now callee.now a) }
+fn put_lent(
+    out: &mut Vec<u8>,
+    place: &Place,
+    r: u16,
+    callee: &Routine,
+    a: u8,
+) -> Result<(), AllocError>
+    ensures { OnOk result (out.new.items ≡ out.old.items ++ lent_item (place_of place.now) r callee.now a) }
 {
+    if let Some(a) = changed_by(place.image, r, Item::Held(a)) {
+        out.extend_from_slice(b";")?;
+        return put_changed(out, callee.name_text(), a);
+    }
     out.extend_from_slice(b"; say")?;
-    put_state(out, a, row)?;
+    put_state(out, a, place.row)?;
     put_lines_of(out, callee.name_text())
 }
 
-/// The same, where the routine that is called wants the slot empty.
+/// The same, where the routine wants the slot empty.
 #[tactic(auto, unfolding(crate::specs::Calls::lent_of))]
-fn put_lent_of(out: &mut Vec<u8>, row: &Row, callee: &Routine, a: u8) -> Result<(), AllocError>
-    ensures { OnOk result (out.new.items ≡ out.old.items ++ lent_of row.now callee.now a) }
+fn put_lent_of(
+    out: &mut Vec<u8>,
+    place: &Place,
+    r: u16,
+    callee: &Routine,
+    a: u8,
+) -> Result<(), AllocError>
+    ensures { OnOk result (out.new.items ≡ out.old.items ++ lent_of (place_of place.now) r callee.now a) }
 {
-    if is_empty(slot_state(&callee.entry, a)) && !is_empty(slot_state(row, a)) {
-        put_lent(out, row, callee, a)
+    if is_empty(slot_state(&callee.entry, a)) && !is_empty(slot_state(place.row, a)) {
+        put_lent(out, place, r, callee, a)
     } else {
         Ok(())
     }
@@ -240,13 +278,14 @@ fn put_lent_of(out: &mut Vec<u8>, row: &Row, callee: &Routine, a: u8) -> Result<
 #[tactic(auto, unfolding(geos_listing::specs::Rows::texts_below))]
 pub(crate) fn put_lent_items(
     out: &mut Vec<u8>,
-    row: &Row,
+    place: &Place,
+    r: u16,
     callee: &Routine,
 ) -> Result<(), AllocError>
-    ensures { OnOk result (out.new.items ≡ out.old.items ++ lent_items row.now callee.now) }
+    ensures { OnOk result (out.new.items ≡ out.old.items ++ lent_items (place_of place.now) r callee.now) }
 {
     for a in 0..4 {
-        put_lent_of(out, row, callee, a)?;
+        put_lent_of(out, place, r, callee, a)?;
     }
     Ok(())
 }

@@ -18,7 +18,7 @@ pub(crate) struct Explained<'a> {
     pub lines: &'a [usize],
     /// What control reaches.
     pub marks: &'a Marks,
-    /// For each pc the lowest rule that refuses there, if one does.
+    /// For each pc the rule that is told there, if one is.
     pub refused: &'a [Option<Rule>],
     /// For each pc what is found of the pointers that the instruction uses; else nothing.
     pub findings: &'a [Findings],

@@ -5,7 +5,7 @@ ghost use Rattle.geos_image.specs.Legal.{is_image};
 ghost use Rattle.geos_listing.specs.Rows.{texts_below};
 ghost use Rattle.geos_listing.specs.Instrs.{MarksTargets};
 ghost use Rattle.geos_explain.specs.Places.{IsPlace, explained_of, place_of};
-ghost use Rattle.geos_explain.specs.Explanation.{noted, place_text, head_text, numbered_routine, IsExplanationOf};
+ghost use Rattle.geos_explain.specs.Explanation.{noted, place_text, head_text, numbered_routine, IsExplanationBy, IsExplanationOf};
 
 use crate::explained::Explained;
 use crate::filled::Filled;
@@ -14,6 +14,7 @@ use crate::led::reached;
 use crate::notes::put_note;
 use crate::place::Place;
 use crate::refusals::{first_untold, most_told, put_over_budget, put_refusal};
+use crate::repeated::told_once;
 use crate::routines::{ExplainedRoutine, place_at};
 use geos_image::{Image, Routine};
 use geos_listing::{Targets, put_code, put_label_line, put_routine_line, put_row, targets_of};
@@ -126,6 +127,37 @@ fn all_routines(
     Ok(out)
 }
 
+/// The explanation of an image where these rules are told.
+fn explanation_by<'a>(
+    alloc: Global,
+    image: &'a Filled<'a>,
+    told: &'a [Option<Rule>],
+) -> Result<Vec<u8>, AllocError>
+    ensures { IfOk result (λ text. IsExplanationBy image.now told.now text.items) }
+{
+    let marks = reached(image);
+    let untold = first_untold(told, most_told(image.len()));
+    let bare = Explained {
+        image: &*image,
+        lines: &[],
+        marks: &marks,
+        refused: &*told,
+        findings: &[],
+        untold,
+    };
+    let findings = all_found(alloc, &bare)?;
+    let explained = Explained {
+        image: &*image,
+        lines: &[],
+        marks: &marks,
+        refused: &*told,
+        findings: findings.as_slice(),
+        untold,
+    };
+    let out = all_routines(alloc, &targets_of(image.image()), &explained)?;
+    Ok(out)
+}
+
 /// The listing of the image, behind each instruction what is known there, and a line for its refusal in front of the next
 /// instruction; behind the last of a routine one for that by the rule on the budget. `refused` has for each pc the lowest
 /// rule that refuses there, or nothing where none does. At most it takes time in proportion to the square of the number of
@@ -138,25 +170,7 @@ pub fn explain(
     ensures { IfOk result (λ text. IsExplanationOf image.now refused.now text.items) }
 {
     let filled = Filled::of(alloc, image)?;
-    let marks = reached(&filled);
-    let untold = first_untold(refused, most_told(filled.len()));
-    let bare = Explained {
-        image: &filled,
-        lines: &[],
-        marks: &marks,
-        refused,
-        findings: &[],
-        untold,
-    };
-    let findings = all_found(alloc, &bare)?;
-    let explained = Explained {
-        image: &filled,
-        lines: &[],
-        marks: &marks,
-        refused,
-        findings: findings.as_slice(),
-        untold,
-    };
-    let out = all_routines(alloc, &targets_of(image), &explained)?;
+    let told = told_once(alloc, &filled, refused)?;
+    let out = explanation_by(alloc, &filled, &told)?;
     Ok(out)
 }

@@ -182,7 +182,8 @@ pub(crate) fn put_over_budget(
     }
 }
 
-/// A law: a rule is told at a place exactly where it is the lowest that refuses it, but for the rule on the budget.
+/// A law: a rule is told at a place exactly where it is the lowest that refuses it, but for the rule on the budget, and for that on
+/// empty slots where it is told before.
 pub fn told_where_refused()
     ensures { ToldWhereRefused }
 {}

@@ -3,7 +3,7 @@
 ghost use Rattle.std.specs.Prelude.{◌≡◌, ◌<◌, ◌++◌, OnOk, IfOk, length};
 ghost use Rattle.std.specs.Str.Lines.{lines};
 ghost use Rattle.geos_explain.specs.Places.{explained_of};
-ghost use Rattle.geos_explain.specs.Texts.{last_begun, noted_at, is_line_of, numbered, line_text, lines_text, next_pc, IsTextExplanationOf};
+ghost use Rattle.geos_explain.specs.Texts.{last_begun, noted_at, is_line_of, numbered, line_text, lines_text, next_pc, IsTextExplanationBy, IsTextExplanationOf};
 
 use crate::explained::Explained;
 use crate::explanation::put_noted;
@@ -11,6 +11,7 @@ use crate::filled::Filled;
 use crate::findings::all_found;
 use crate::led::reached;
 use crate::refusals::{first_untold, most_told};
+use crate::repeated::told_once;
 use crate::routines::{ExplainedRoutine, place_at};
 use geos_image::Image;
 use geos_text::{Part, first_line, put_parts};
@@ -136,6 +137,39 @@ fn all_lines(alloc: Global, text: &[u8], explained: &Explained) -> Result<Vec<u8
     Ok(out)
 }
 
+/// The explanation of a text, whose image this is, where these rules are told.
+fn text_explanation_by<'a>(
+    alloc: Global,
+    text: &[u8],
+    lines: &'a [usize],
+    image: &'a Filled<'a>,
+    told: &'a [Option<Rule>],
+) -> Result<Vec<u8>, AllocError>
+    ensures { IfOk result (λ explained. IsTextExplanationBy text.now lines.now image.now told.now explained.items) }
+{
+    let marks = reached(image);
+    let untold = first_untold(told, most_told(image.len()));
+    let bare = Explained {
+        image: &*image,
+        lines: &[],
+        marks: &marks,
+        refused: &*told,
+        findings: &[],
+        untold,
+    };
+    let findings = all_found(alloc, &bare)?;
+    let explained = Explained {
+        image: &*image,
+        lines: &*lines,
+        marks: &marks,
+        refused: &*told,
+        findings: findings.as_slice(),
+        untold,
+    };
+    let out = all_lines(alloc, text, &explained)?;
+    Ok(out)
+}
+
 /// The author's text, each line behind its number, and behind each instruction what is known there and a line for its
 /// refusal, as `explain` has them. `lines` has the number of each instruction's line, as `geos_source::lines_of_instrs` gives
 /// them, and the image is one of the text. At most it takes time in proportion to the text, and to the square of the
@@ -150,25 +184,7 @@ pub fn explain_text(
     ensures { IfOk result (λ explained. IsTextExplanationOf text.now lines.now image.now refused.now explained.items) }
 {
     let filled = Filled::of(alloc, image)?;
-    let marks = reached(&filled);
-    let untold = first_untold(refused, most_told(filled.len()));
-    let bare = Explained {
-        image: &filled,
-        lines: &[],
-        marks: &marks,
-        refused,
-        findings: &[],
-        untold,
-    };
-    let findings = all_found(alloc, &bare)?;
-    let explained = Explained {
-        image: &filled,
-        lines,
-        marks: &marks,
-        refused,
-        findings: findings.as_slice(),
-        untold,
-    };
-    let out = all_lines(alloc, text, &explained)?;
+    let told = told_once(alloc, &filled, refused)?;
+    let out = text_explanation_by(alloc, text, lines, &filled, &told)?;
     Ok(out)
 }

@@ -43,7 +43,7 @@ fn nowhere_only(slots: &[SlotState; 4], pointer: Option<Pointer>) -> Option<Poin
 }
 
 /// The pointers of a row that lead into empty slots, and nothing else.
-fn leading_nowhere(row: &Row) -> Row
+pub(crate) fn leading_nowhere(row: &Row) -> Row
     ensures { result ≡ leading_nowhere row.now }
 {
     let [p0, p1, p2, p3] = row.pointers;

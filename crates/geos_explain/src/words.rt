@@ -288,7 +288,7 @@ fn put_call_wish(out: &mut Vec<u8>, place: &Place) -> Result<(), AllocError>
     if place.i.imm >= place.r {
         return Ok(());
     }
-    put_lent_items(out, place.row, callee)?;
+    put_lent_items(out, place, place.i.imm, callee)?;
     put_forgotten_items(out, place, &lacking(place.row, &callee.entry))
 }
 

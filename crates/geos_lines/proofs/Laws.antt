@@ -1,12 +1,13 @@
 -- Nothing is told exactly where no line is faulty.
-use Rattle.std.proofs.Common.{◌≡◌, ◌∙◌, ◌+◌, ◌<◌, ◌↔◌, ℕ, List, [], ◌∷◌, ◌++◌, length, Option, Some, None, refl, sym, ap, subst, suc, drop, get_or, drop-cons, arith, length-append}
+use Rattle.std.proofs.Common.{◌≡◌, ◌∙◌, ◌+◌, ◌-◌, ◌<◌, ◌↔◌, ℕ, List, [], ◌∷◌, ◌++◌, length, Option, Some, None, refl, sym, ap, suc, drop, get_or, drop-cons, arith, length-append}
 use Rattle.geos_source.specs.declared.fault.Why.{Why}
 use Rattle.geos_source.specs.declared.fault.BadLine.{BadLine}
 use Rattle.geos_source.specs.Faults.{first, at_line}
 use Rattle.geos_source.specs.Tallies.{first_in}
 use Rattle.geos_source.specs.Texts.{fault_of}
 use Rattle.geos_source.proofs.Quiet.{first-none, at_line-none}
-use Rattle.geos_lines.specs.Telling.{sentence, IsTold, also, with_faulty, line_of, TellsFaults}
+use Rattle.geos_lines.specs.Telling.{sentence, IsTold, also, with_faulty, line_of, first_lines, more_line, TellsFirst, TellsFaults}
+use Rattle.geos_lines.proofs.Firsts.{none-first}
 
 sentence-long : (front : List ℕ) (number : ℕ) (saying : List ℕ) → 0 < length (front ++ sentence number saying)
 sentence-long front number saying = let e = length-append front (sentence number saying) in omega arith
@@ -18,6 +19,21 @@ none_told (number ∷ earlier) text told empty =
     let same : length text ≡ length (told.0 ++ sentence number told.1) = ap length told.3 in
     let none : length text ≡ 0 = ap length empty in
     absurd (omega arith)
+
+none_append : (front behind : List ℕ) → front ++ behind ≡ [] → front ≡ []
+none_append [] behind empty = refl
+none_append (x ∷ front) behind empty = absurd cc
+
+-- where nothing is told of some lines, there are none
+none_of_them : (numbers text : List ℕ) → TellsFirst numbers text → text ≡ [] → numbers ≡ []
+none_of_them numbers text tells empty =
+    let no_front = none_append tells.front (more_line (length numbers - 1000)) (sym tells.whole ∙ empty) in
+    none-first numbers (none_told (first_lines numbers) tells.front tells.told no_front)
+
+-- and where there are none, nothing is
+nothing_of_none : (numbers text : List ℕ) → TellsFirst numbers text → numbers ≡ [] → text ≡ []
+nothing_of_none [] text tells none = tells.whole ∙ ap (λ front. front ++ more_line 0) tells.told
+nothing_of_none (number ∷ numbers) text tells none = absurd cc
 
 none_faulty : (n : ℕ) (whys : List (Option Why)) (earlier : List ℕ) → with_faulty n whys earlier ≡ [] → (first_in n whys ≡ None) × (earlier ≡ [])
 none_faulty n [] earlier e = (refl, e)
@@ -49,10 +65,10 @@ told-silent text told all =
     let whys = all.0 in
     let other = all.1 in (
       λ empty.
-          let none = none_faulty 1 whys (line_of other) (none_told (with_faulty 1 whys (line_of other)) told all.3 empty) in
+          let none = none_faulty 1 whys (line_of other) (none_of_them (with_faulty 1 whys (line_of other)) told all.3 empty) in
           sym all.2 ∙ ap (λ x. first x other) none.0 ∙ no_other other none.1,
       λ reads.
           let none = first-none (first_in 1 whys) other (all.2 ∙ reads) in
           let numbers : with_faulty 1 whys (line_of other) ≡ [] = faulty-none 1 whys (line_of other) none.0 ∙ ap line_of none.1 in
-          subst (λ x. IsTold x told) numbers all.3,
+          nothing_of_none (with_faulty 1 whys (line_of other)) told all.3 numbers,
     )

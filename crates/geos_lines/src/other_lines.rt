@@ -21,6 +21,15 @@ enum HeadStop<'a> {
     Nowhere,
 }
 
+/// Why a word is no budget.
+fn budget_misfit(word: &[u8]) -> Option<Misfit> {
+    if word == b"?".as_slice() {
+        Some(Misfit::Form(Wrong::OpenBudget))
+    } else {
+        number_misfit(u32::MAX, word)
+    }
+}
+
 /// Where the words of a line from an index on, behind `routine NAME`, stop being a budget.
 fn budget_stop(line: &[u8], from: usize) -> HeadStop
     requires { from ≤ length line.now }
@@ -34,7 +43,7 @@ fn budget_stop(line: &[u8], from: usize) -> HeadStop
     let Some(number) = word_from(line, word.end) else {
         return HeadStop::Missing("the number of steps");
     };
-    if let Some(misfit) = number_misfit(u32::MAX, number.bytes) {
+    if let Some(misfit) = budget_misfit(number.bytes) {
         return HeadStop::At(number, misfit);
     }
     match word_from(line, number.end) {

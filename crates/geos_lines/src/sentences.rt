@@ -20,6 +20,8 @@ pub(crate) enum Wrong {
     NoNumber,
     NoName,
     NoBudget,
+    /// The `?` that `geos budget` takes for a budget.
+    OpenBudget,
     NoItem,
     NoLabel,
     NoInstruction,
@@ -37,6 +39,7 @@ impl Wrong {
             Wrong::NoName =>
                 " is no name: a name has letters, digits and underscores, the first a letter",
             Wrong::NoBudget => " stands where the word budget is wanted",
+            Wrong::OpenBudget => " is no number: geos budget puts one there",
             Wrong::NoItem => " is no item",
             Wrong::NoLabel =>
                 " is no label: it has letters, digits and underscores, the first a letter, and a colon",
@@ -54,7 +57,7 @@ impl Wrong {
             Wrong::NoNumber => " is no number",
             Wrong::NoName => " is no name",
             Wrong::NoLabel => " is no label",
-            Wrong::NoBudget => self.text(),
+            Wrong::NoBudget | Wrong::OpenBudget => self.text(),
             Wrong::NoItem => " is no item",
             Wrong::NoInstruction => " is no instruction",
         }
@@ -117,8 +120,6 @@ pub(crate) fn hint(word: &[u8], most: usize) -> Option<&'static str> {
         Some(": a line ends with LF or CR LF, and not with CR alone")
     } else if word.contains(&b',') {
         Some(": spaces part words, and no commas")
-    } else if word == b"?".as_slice() {
-        Some(": geos budget puts one there")
     } else if word.len() > most {
         Some(": a name has at most 16 letters, digits and underscores")
     } else {

@@ -1,8 +1,8 @@
 //! All faulty lines of a text are told of.
 
-ghost use Rattle.std.specs.Prelude.{◌≡◌, ◌↔◌, ◌++◌, ℕ, List, [], None, IfOk, OnOk};
+ghost use Rattle.std.specs.Prelude.{◌≡◌, ◌≤◌, ◌+◌, ◌↔◌, ◌++◌, ℕ, List, [], None, IfOk, OnOk};
 ghost use Rattle.geos_source.specs.Texts.{fault_of};
-ghost use Rattle.geos_lines.specs.Telling.{IsTold, TellsFaults, also, line_of, sentence};
+ghost use Rattle.geos_lines.specs.Telling.{TellsFaults, also, line_of, more_line, sentence};
 
 use crate::instr_lines::put_instr;
 use crate::names::{NamesSoFar, Statement, Twice};
@@ -154,21 +154,49 @@ pub fn put_told(out: &mut Vec<u8>, number: usize, saying: &[u8]) -> Result<(), A
     )
 }
 
+/// How many faulty lines are told of.
+const MOST_TOLD: usize = 1000;
+
+/// Appends how many more lines are faulty, if any is.
+fn put_more(out: &mut Vec<u8>, more: usize) -> Result<(), AllocError>
+    ensures { OnOk result (out.new.items ≡ out.old.items ++ more_line more) }
+{
+    if more == 0 {
+        return Ok(());
+    }
+    put_parts(
+        out,
+        &[
+            Part::Numbered(".. and ", more as u64),
+            Part::Text(" more\n"),
+        ],
+    )
+}
+
 /// What is told so far.
 #[derive(Drop)]
 struct Telling {
     names: NamesSoFar,
     out: Vec<u8>,
+    /// Of how many lines it is, and how many other ones are faulty.
+    told: usize,
+    untold: usize,
+    ghost few: { told ≤ 1000 },
 }
 
 impl Telling {
+    ghost use Rattle.geos_lines.specs.Telling.{IsToldSoFar};
+
     /// Nothing is told but a fault that is on no line of the text.
     fn begin(alloc: Global, other: Option<BadLine>) -> Result<Telling, AllocError>
-        ensures { IfOk result (λ telling. IsTold (line_of other) telling.out.items) }
+        ensures told { IfOk result (λ telling. IsToldSoFar (line_of other) telling.out.items telling.told telling.untold) }
+        ensures few { IfOk result (λ telling. telling.told + telling.untold ≤ 1) }
     {
         let mut telling = Telling {
             names: NamesSoFar::new(alloc),
             out: Vec::new(alloc),
+            told: 0,
+            untold: 0,
         };
         match other {
             None => Ok(telling),
@@ -179,7 +207,7 @@ impl Telling {
         }
     }
 
-    /// Takes a line, and tells of it if it is faulty.
+    /// Takes a line, and tells of it if it is faulty, and not too many were before.
     fn take_line(
         &mut self,
         alloc: Global,
@@ -187,23 +215,31 @@ impl Telling {
         line: &[u8],
         why: Option<Why>,
     ) -> Result<(), AllocError>
-        ensures { OnOk result ((earlier : List ℕ) → IsTold earlier self.old.out.items → IsTold (also number why earlier) self.new.out.items) }
+        requires { self.old.told + self.old.untold ≤ number }
+        ensures told { OnOk result ((earlier : List ℕ) → IsToldSoFar earlier self.old.out.items self.old.told self.old.untold
+            → IsToldSoFar (also number why earlier) self.new.out.items self.new.told self.new.untold) }
+        ensures few { OnOk result (self.new.told + self.new.untold ≤ self.old.told + self.old.untold + 1) }
     {
         let (twice, statement) = self.names.take_labels(without_comment(line), number)?;
         let twice = self.names.take_routine(twice, statement, number)?;
         match why {
             None => Ok(()),
+            Some(_) if self.told == MOST_TOLD => {
+                self.untold += 1;
+                Ok(())
+            }
             Some(why) => {
                 let saying = saying(alloc, number, statement, twice, why)?;
                 put_told(&mut self.out, number, &saying)?;
+                self.told += 1;
                 Ok(())
             }
         }
     }
 }
 
-/// What there is to say of the faulty lines of a text: a line on each, in their order. `AllocError` where the allocator
-/// refuses memory.
+/// What there is to say of the faulty lines of a text: a line on each of the first 1,000, in their order, and how many more there are.
+/// `AllocError` where the allocator refuses memory.
 pub fn tell_faults(alloc: Global, text: &[u8]) -> Result<Vec<u8>, AllocError>
     ensures told { IfOk result (λ told. TellsFaults text.now told.items) }
     ensures silent { IfOk result (λ told. (told.items ≡ []) ↔ (fault_of text.now ≡ None)) }
@@ -216,5 +252,7 @@ pub fn tell_faults(alloc: Global, text: &[u8]) -> Result<Vec<u8>, AllocError>
         rest = behind;
         telling.take_line(alloc, i + 1, line, faults.lines[i])?;
     }
-    Ok(telling.out)
+    let mut out = telling.out;
+    put_more(&mut out, telling.untold)?;
+    Ok(out)
 }

@@ -5,13 +5,19 @@ use geos_lines::{Word, put_word};
 use geos_text::{Part, put_parts};
 use std::alloc::AllocError;
 
+/// What is said of a word that is no command.
+fn text_of_command(word: Word) -> &'static str {
+    if word.bytes.starts_with(b"\xef\xbb\xbf") {
+        " is no command: the script begins with a byte order mark, which has to go"
+    } else {
+        " is no command: commands are call, update, save and revert"
+    }
+}
+
 /// A word, if the sentence begins with one, and what is said behind it.
 fn text_of<'a>(fault: &Fault<'a>) -> (Option<Word<'a>>, &'static str) {
     match fault {
-        Fault::NoCommand(word) => (
-            Some(*word),
-            " is no command: commands are call, update, save and revert",
-        ),
+        Fault::NoCommand(word) => (Some(*word), text_of_command(*word)),
         Fault::Behind(word) => (Some(*word), " is too much: the command stands alone"),
         Fault::NoName => (
             None,

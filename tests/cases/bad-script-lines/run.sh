@@ -11,3 +11,6 @@ echo "status $?"
 "$1" explain "$folder/text.asm" --script "$folder/named.script" --vars 2>&1
 "$1" explain "$folder/text.asm" --script "$folder/named.script" 2>&1 | sed -n '1p;4p;9p'
 "$1" explain "$folder/text.asm" --vars 2>&1 | head -n 1
+# A byte order mark is named.
+printf '\357\273\277call add 2 3\ncall add 2 3\n' | "$1" explain "$folder/text.asm" --script - 2>&1
+exit 0

@@ -1,4 +1,5 @@
-# A text that has a fault, or no rows, gets no budgets: the fault is that of `asm`, at the same line, and OUT is as it was.
+# A text that has a fault, or no rows, gets no budgets: the fault is that of `asm`, at the same line, and OUT is as it was. Nor does one with
+# a CALL of a routine that does not stand before its own: the first such line is named.
 export LC_ALL=C
 folder=$(mktemp -d)
 trap 'rm -rf "$folder"' EXIT
@@ -17,6 +18,11 @@ printf 'routine a public budget ?\n RET\nroutine b budget ?\n RET\nroutine a bud
 printf 'routine a public budget ?\n' | faulty
 printf 'routine a public budget ?\n RET\n\nroutine b public budget ?\nb: JMP b\n' | faulty
 faulty </dev/null
+echo "calls:"
+printf 'routine a public budget ?\n CALL a\n RET\n' | faulty
+printf 'routine a public budget 9\n CALL b\n RET\nroutine b budget 9\n CALL a\n RET\n' | faulty
+printf 'routine a budget ?\n RET\n\nroutine b public budget ?\n CALL a\nx: CALL c ; later\n CALL b\n RET\nroutine c budget ?\n RET\n' | faulty
+printf 'routine a public budget ?\n JMP x\n CALL a\nx: RET\n' | faulty
 cat out.asm
 echo "streams and files:"
 "$program" budget missing.asm 2>&1

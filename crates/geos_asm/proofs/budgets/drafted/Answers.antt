@@ -1,5 +1,6 @@
 use Rattle.std.proofs.Common.{subst}
 use Rattle.geos_asm.specs.Assembling.{IsAssembled, IsWhyNoImage}
+use Rattle.geos_asm.specs.declared.error.BudgetError.TheVariants.{Assemble}
 use Rattle.geos_asm.proofs.BudgetLines.{draft-fault, memory-fault}
 use Rattle.geos_asm.proofs.budgets.drafted.Goals as goal
 
@@ -8,7 +9,7 @@ returns-in_err-new-clause-fault c = memory-fault c.args.text.now _ c.from_residu
 
 pub returns-in_err-image-clause-fault : goal.returns-in_err-image-clause-fault
 returns-in_err-image-clause-fault c =
-    draft-fault c.args.text.now c.in_ok-new.new.items _ c.in_err-image.field-0.0 c.in_ok-new.ensures
+    draft-fault c.args.text.now c.in_ok-new.new.items _ (Assemble c.in_err-image.field-0.0) c.in_ok-new.ensures
     (subst (λ bytes. IsWhyNoImage bytes c.in_err-image.field-0.0) c.deref.ensures.value c.in_err-image.ensures.fault)
     c.from_residual-in_err-image.ensures.1
 
@@ -22,5 +23,6 @@ returns-clause-budgeted c = (
     c.in_ok-image.image,
     subst (λ bytes. IsAssembled bytes c.in_ok-image.image) c.deref.ensures.value
         c.in_ok-image.ensures.image,
+    c.in_default.ensures.none,
   ),
 )

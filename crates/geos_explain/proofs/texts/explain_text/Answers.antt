@@ -1,18 +1,18 @@
-use Rattle.std.proofs.Common.{ap, ◌∙◌, subst}
-use Rattle.geos_explain.specs.Findings.{FindingsHold}
-use Rattle.geos_explain.specs.Texts.{text_explanation}
+use Rattle.std.proofs.Common.{subst}
+use Rattle.geos_explain.specs.Repeated.{TellsOnce}
+use Rattle.geos_explain.specs.Texts.{IsTextExplanationBy}
 use Rattle.geos_explain.proofs.texts.explain_text.Goals as goal
 
 pub returns : goal.returns
 returns c =
     let image = c.args.image.now in
-    let refused = c.args.refused.now in
     let text = c.args.text.now in
     let table = c.args.lines.now in
-    let found = c.in_ok-findings.findings.items in
+    let told = c.in_ok-told.told.items in
+    let explained = c.in_ok-out.out.items in
     record {
-      findings = found;
-      hold = subst (λ i. FindingsHold i refused found) c.in_ok-filled.ensures c.in_ok-findings.ensures;
-      is = c.in_ok-out.ensures ∙ ap (λ i. text_explanation text table i refused c.as_slice.result.now) c.in_ok-filled.ensures
-          ∙ ap (λ f. text_explanation text table image refused f) c.as_slice.ensures.value;
+      told = told;
+      once = subst (λ i. TellsOnce i c.args.refused.now told) c.in_ok-filled.ensures c.in_ok-told.ensures;
+      tells = subst (λ t. IsTextExplanationBy text table image t explained) c.deref.ensures.value
+          (subst (λ i. IsTextExplanationBy text table i c.deref.result.now explained) c.in_ok-filled.ensures c.in_ok-out.ensures);
     }

@@ -1,0 +1,56 @@
+//! Calls of routines that do not stand before the one that calls: the verifier refuses them, whatever the budgets are.
+
+ghost use Rattle.std.specs.Prelude.{◌≡◌, ◌<◌, length, IfOk, IfNone, IfSome};
+ghost use Rattle.geos_asm.specs.Calls.{calls_on, line_at, CallsOnAt, CallBefore, CallBeforeIn};
+ghost use Rattle.geos_source.specs.InstrLines.{instr_lines};
+
+use geos_image::{Image, Instr};
+use geos_source::lines_of_instrs;
+use geos_verify::calls;
+use std::alloc::{AllocError, Global};
+
+/// Whether the instruction calls a routine that does not stand before routine r.
+fn calls_on(r: u16, i: &Instr) -> bool
+    ensures { result ≡ calls_on r i.now }
+{
+    calls(i.opcode) && i.imm >= r
+}
+
+/// The first instruction of routine r that calls one that does not stand before it.
+fn calling_on(image: &Image, r: u16) -> Option<u16>
+    requires { r < length image.now.routines }
+    ensures some { IfSome result (CallsOnAt image.now) }
+    ensures none { IfNone result (CallBeforeIn image.now r) }
+{
+    let start = image.start(r);
+    for pc in start..start + image.routine(r).count {
+        if calls_on(r, image.instr(pc)) {
+            return Some(pc);
+        }
+    }
+    None
+}
+
+/// The same of all routines.
+pub(crate) fn first_calling_on(image: &Image) -> Option<u16>
+    ensures some { IfSome result (CallsOnAt image.now) }
+    ensures none { IfNone result (CallBefore image.now) }
+{
+    for r in 0..image.count() {
+        if let Some(pc) = calling_on(image, r) {
+            return Some(pc);
+        }
+    }
+    None
+}
+
+/// The line of the text that has the instruction at a pc.
+pub(crate) fn line_of(alloc: Global, text: &[u8], pc: u16) -> Result<usize, AllocError>
+    ensures { IfOk result (λ line. line ≡ line_at (instr_lines text.now) pc) }
+{
+    let lines = lines_of_instrs(alloc, text)?;
+    match lines.get(usize::from(pc)) {
+        Some(line) => Ok(*line),
+        None => Ok(0),
+    }
+}

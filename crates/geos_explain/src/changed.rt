@@ -1,0 +1,86 @@
+//! Which slots a routine locks blocks into, or unlocks, by its own instructions: it can't keep what its caller holds there.
+
+ghost use Rattle.std.specs.Prelude.{◌≡◌, ◌<◌, ◌++◌, length, OnOk};
+ghost use Rattle.std.specs.List.{list_any};
+ghost use Rattle.geos_explain.specs.Changed.{changes, changes_here, changes_slot, slot_kept, changed_by, changed_words};
+
+use crate::filled::Filled;
+use crate::forgotten::Item;
+use geos_image::{Instr, Point};
+use geos_opcodes::SlotUse;
+use geos_text::{Part, put_parts};
+use std::alloc::AllocError;
+
+/// Whether an instruction that does this with the slot that it names leaves another block in it, or none.
+fn changes(slot: SlotUse) -> bool
+    ensures { result ≡ changes slot }
+{
+    match slot {
+        SlotUse::LocksNew(_) | SlotUse::Locks(_) | SlotUse::Unlocks(_) => true,
+        _ => false,
+    }
+}
+
+/// Whether the instruction does, in slot a.
+fn changes_here(i: &Instr, a: u8) -> bool
+    ensures { result ≡ changes_here i.now a }
+{
+    changes(i.opcode.facts().uses.slot) && i.a == a
+}
+
+/// Whether one of these instructions does.
+fn any_changes(points: &[Point], a: u8) -> bool
+    ensures { result ≡ list_any (λ point. changes_here point.instr a) points.now }
+{
+    points.iter().any(|point| changes_here(&point.instr, a))
+}
+
+/// Whether one of routine r does.
+#[tactic(auto, unfolding(crate::specs::Changed::changes_slot))]
+fn changes_slot(image: &Filled, r: u16, a: u8) -> bool
+    ensures { result ≡ changes_slot image.now r a }
+{
+    if r >= image.count() {
+        return false;
+    }
+    let start = usize::from(image.start(r));
+    let count = usize::from(image.routine(r).count);
+    any_changes(&image.image().points()[start..][..count], a)
+}
+
+/// The slot that is to hold what it held, where the item says something of one.
+fn slot_kept(item: Item) -> Option<u8>
+    ensures { result ≡ slot_kept item }
+{
+    match item {
+        Item::Slot(a, _) | Item::Held(a) => Some(a),
+        Item::Leads(_, pointer) => Some(pointer.slot),
+        Item::Bound(..) | Item::Apart(_) => None,
+    }
+}
+
+/// The slot of the item, if routine r changes it.
+pub(crate) fn changed_by(image: &Filled, r: u16, item: Item) -> Option<u8>
+    ensures { result ≡ changed_by image.now r item }
+{
+    match slot_kept(item) {
+        Some(a) if changes_slot(image, r, a) => Some(a),
+        _ => None,
+    }
+}
+
+/// The routine of this name changes the slot, and what helps.
+#[tactic(auto, unfolding(crate::specs::Changed::changed_words))]
+pub(crate) fn put_changed(out: &mut Vec<u8>, name: &[u8], a: u8) -> Result<(), AllocError>
+    ensures { OnOk result (out.new.items ≡ out.old.items ++ changed_words name.now a) }
+{
+    put_parts(
+        out,
+        &[
+            Part::Text(" "),
+            Part::Bytes(name),
+            Part::Numbered(" locks or unlocks s", a as u64),
+            Part::Text(" itself: hold the block in another slot"),
+        ],
+    )
+}

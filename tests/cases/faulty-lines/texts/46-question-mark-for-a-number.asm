@@ -1,0 +1,3 @@
+routine add public budget 3
+        LDI w0 ?
+        RET
