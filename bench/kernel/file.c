@@ -1,6 +1,7 @@
 // The same as file.rattle, on the file that it made: reads blocks by pread and checks them, by the same walk over the header, the table,
 // the chunks and the free ones; and passes of locks over a quarter of the blocks in memory, which a clock replaces, with commits that
-// copy all blocks into one buffer, write it to the other area and make it last, and then the selector.
+// copy all blocks into one buffer, write it to the other area and make it last, and then the selector. A lock, a look-up of a chunk and
+// an unlock make the tests that refusals ask for, and keep the count.
 #define _GNU_SOURCE
 #include <fcntl.h>
 #include <stdint.h>
@@ -10,7 +11,7 @@
 #include <time.h>
 #include <unistd.h>
 
-enum { BLOCKS = 1000, SIZE = 4096, ROUNDS = 30, PASSES = 40, LOCKS = 4000, WRITES = 64, FIRST = 16, FRAMES = 250 };
+enum { BLOCKS = 1000, SIZE = 4096, ROUNDS = 30, PASSES = 40, LOCKS = 4000, WRITES = 64, FIRST = 16, FRAMES = 250, GROUP = 0xff00 };
 
 static int file;
 static uint32_t area;
@@ -18,6 +19,7 @@ static unsigned char selector;
 static unsigned char *area_bytes; // what a commit writes
 static long area_used;
 static long places[BLOCKS + 1]; // where the block of a handle stands in an area
+static unsigned char groups[BLOCKS + 1]; // whether it is a group, which is not locked so
 
 static double now(void) {
     struct timespec t;
@@ -81,6 +83,7 @@ static void open_file(void) {
     for (unsigned k = 0; k < word(area_bytes, 0); k++) {
         if (word(area_bytes, at + 4) != SIZE) exit(1);
         places[word(area_bytes, at)] = at + 6;
+        groups[word(area_bytes, at)] = word(area_bytes, at + 2) == GROUP;
         at += 6 + SIZE;
     }
     area_used = at + 6 + 8;
@@ -106,21 +109,25 @@ static void fetches(void) {
     free(blocks);
 }
 
-// Frames, which a clock goes round. A block that was written stays until a commit.
+// Frames, which a clock goes round. A block that is locked stays, and one that was written until a commit.
 static unsigned char frames[FRAMES][SIZE];
-static struct { unsigned h; unsigned char used, dirty; } of_frame[FRAMES];
+static struct { unsigned h; uint16_t locks; unsigned char used, dirty; } of_frame[FRAMES];
 static int frame_of[BLOCKS + 1];
 static unsigned hand;
 
 static int lock(unsigned h) {
-    if (frame_of[h] >= 0) {
-        of_frame[frame_of[h]].used = 1;
-        return frame_of[h];
+    if (h == 0 || h > BLOCKS || groups[h]) return -1;
+    int there = frame_of[h];
+    if (there >= 0) {
+        if (of_frame[there].locks == 65535) return -1;
+        of_frame[there].locks++;
+        of_frame[there].used = 1;
+        return there;
     }
     for (;;) {
         unsigned f = hand;
         hand = (hand + 1) % FRAMES;
-        if (of_frame[f].dirty) continue;
+        if (of_frame[f].locks || of_frame[f].dirty) continue;
         if (of_frame[f].used) {
             of_frame[f].used = 0;
             continue;
@@ -129,10 +136,19 @@ static int lock(unsigned h) {
         of_frame[f].h = 0;
         if (!fetch_block(h, frames[f])) return -1;
         of_frame[f].h = h;
+        of_frame[f].locks = 1;
         of_frame[f].used = 1;
         frame_of[h] = (int)f;
         return (int)f;
     }
+}
+
+// Where the bytes of a chunk stand, `least` or more; 0 where there is no such chunk.
+static unsigned find(const unsigned char *block, unsigned chunk, unsigned least) {
+    if (chunk % 2 || chunk < FIRST || chunk >= FIRST + 2 * word(block, 10)) return 0;
+    unsigned at = word(block, chunk);
+    if (at == 0 || at == 0xffff || word(block, at - 2) - 2 < least) return 0;
+    return at;
 }
 
 static int commit(void) {
@@ -165,7 +181,8 @@ static void passes(void) {
             int f = lock(1 + (x >> 16) % (far ? BLOCKS : 100));
             if (f < 0) continue;
             unsigned char *block = frames[f];
-            unsigned at = word(block, FIRST);
+            unsigned at = find(block, FIRST, 2);
+            if (at == 0) continue;
             if (k % WRITES == 0) {
                 uint16_t w = (uint16_t)x;
                 of_frame[f].dirty = 1;
@@ -173,6 +190,7 @@ static void passes(void) {
             } else {
                 sum += word(block, at);
             }
+            of_frame[f].locks--;
             done++;
         }
         double took = now() - start;

@@ -29,6 +29,7 @@ use Rattle.geos_kernel.specs.View.{KernelOn, IsFileOf, IsLocked, IsMarked, MayCh
 use Rattle.geos_kernel.proofs.Stops.{between-same}
 use Rattle.geos_machine.specs.Runs.{Throughout}
 use Rattle.geos_machine.proofs.Stops.{stops-first}
+use Rattle.geos_machine.proofs.Honest.{alike-on}
 use Rattle.geos_cli.specs.declared.bytes.Place.{Place}
 use Rattle.geos_cli.specs.declared.bytes.Place.TheVariants.{Chunk, Item}
 use Rattle.geos_cli.specs.Bytes.{handle_of, Closes, Gets, Measures, Opened, Opens, Puts, Reads, Resizes, Stores, Writes}
@@ -292,7 +293,7 @@ module _ {D : Type 0} (medium : Medium D) where
       let now = IsAllowed (medium.honest old.device) in
       let ref = o.ref in
       let so : Way = Then (Opens now place (at + length bytes) ref) (Comes now (store ref at bytes) (Ok tt)) in
-      let both : medium.honest stored.device ↔ medium.honest old.device = ((λ h. o.alike.0 (alike.0 h)), (λ h. alike.1 (o.alike.1 h))) in
+      let both : medium.honest stored.device ↔ medium.honest old.device = alike-on _ _ _ alike o.alike in
       let opens = subst (λ n. LeadsOn medium old opened (λ allows. Opens allows place n ref)) e o.leads in
       leads-as (medium.honest old.device) (Throughout medium old.device new.device) old.core new.core
       (Then so (Closes now place)) (Writes now place at bytes) (λ before after keeps w. (ref, w))

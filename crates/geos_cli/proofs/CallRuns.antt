@@ -1,10 +1,12 @@
 -- One call that was carried out, or stopped, as the call that words name.
-use Rattle.std.proofs.Common.{◌≡◌, ◌<◌, ◌+◌, ◌∙◌, ℕ, Bool, true, false, List, [], ◌∷◌, length, take, Option, Some, None, refl, sym, ap, subst, arith}
+use Rattle.std.proofs.Common.{◌≡◌, ◌<◌, ◌+◌, ◌∙◌, ℕ, Bool, true, false, List, [], ◌∷◌, length, take, Option, Some, None, Ok, refl, sym, ap, subst, arith}
 use Rattle.std.specs.Prelude.{is_some, nat_lt}
 use Rattle.std.specs.Borrow.{Bor}
 use Rattle.std.proofs.lemmas.List.{length-map, take-map}
 use Rattle.geos_kernel.specs.View.{KernelState}
 use Rattle.geos_image.specs.Parts.{Parts}
+use Rattle.geos_image.specs.Reading.{image_at}
+use Rattle.geos_verify.specs.Rules.{Accepted}
 use Rattle.geos_machine.specs.Runs.{Within}
 use Rattle.geos_input.specs.declared.fault.ScriptFault.{ScriptFault}
 use Rattle.geos_input.specs.declared.fault.ScriptFault.TheVariants.{TooLong, BadHex, BadImage, Rejected, BadScript, Read, Write, Memory}
@@ -13,9 +15,14 @@ use Rattle.geos_cli.specs.declared.script.Call.{Call}
 use Rattle.geos_cli.specs.declared.script.Command.TheVariants as command
 use Rattle.geos_cli.specs.declared.script.Mode.TheVariants.{Lenient}
 use Rattle.geos_cli.specs.declared.script.RefusedCommand.{RefusedCommand}
-use Rattle.geos_cli.specs.Script.{before_blocks, on_line, From, IsAllowed, IsBadImage, Leads, RanCommands, StoppedCommands}
+use Rattle.geos_cli.specs.Script.{before_blocks, call_named, on_line, From, IsAllowed, IsBadImage, Leads, RanCommands, StoppedCommands}
 use Rattle.geos_cli.proofs.Registers.{before-taken}
 use Rattle.geos_cli.specs.Calls.{texts, Asks, CallEndsBy, RanCall, RunsCall, StoppedCall, StopsCall}
+
+-- a call that words name is asked for, of an image that was read and accepted
+pub asks : (bytes name : List ℕ) (words : List (List ℕ)) (image : Parts) (found : Option Call) (call : Call)
+    → (image_at bytes ≡ Ok image) × Accepted image → found ≡ call_named image name words → found ≡ Some call → Asks bytes name words image call
+asks bytes name words image found call read named is = record { read = read.0; accepted = read.1; named = sym named ∙ is }
 
 -- as many texts as words
 pub length-texts : (words : List (Bor (List ℕ))) → length (texts words) ≡ length words

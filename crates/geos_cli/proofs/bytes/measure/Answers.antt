@@ -1,3 +1,4 @@
+use Rattle.geos_machine.proofs.Honest.{alike-on}
 use Rattle.geos_cli.proofs.BytesPut.{unwritten_on}
 use Rattle.geos_cli.proofs.BytesWays.{measured, opened-locked}
 use Rattle.geos_cli.proofs.bytes.measure.Goals as goal
@@ -15,6 +16,6 @@ returns g c =
     record {
       measured = measured medium old opened new c.args.place c.in_ok-span.span o c.close.ensures.leads;
       refused = tt;
-      honest = ((λ h. o.alike.0 (c.close.ensures.honest.0 h)), (λ h. c.close.ensures.honest.1 (o.alike.1 h)));
+      honest = alike-on _ _ _ c.close.ensures.honest o.alike;
       unwritten = unwritten_on medium old.device opened.device new.device c.open.ensures.unwritten c.close.ensures.unwritten;
     }

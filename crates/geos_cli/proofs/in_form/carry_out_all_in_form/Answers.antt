@@ -1,6 +1,7 @@
 use Rattle.std.proofs.Common.{◌∙◌, refl, arith}
 use Rattle.vm_file.proofs.StateLaws.{steadily_then}
 use Rattle.geos_kernel.specs.Files.{vm_file_of}
+use Rattle.geos_machine.proofs.Honest.{alike-on}
 use Rattle.geos_cli.proofs.InFormRun.{none-ran, more-ran, all-ran, refused-ran, stopped-at}
 use Rattle.geos_cli.proofs.NamedRun.{shown-of}
 use Rattle.geos_cli.proofs.Parts.{IfErr-any}
@@ -25,13 +26,11 @@ returns-clause-ran g c =
 
 pub loop-numbered-preserved : goal.loop-numbered-preserved
 loop-numbered-preserved g c =
-    let shown = shown-of g.D.Device.medium c.args.form c.args.checked.now _ _ _ _ _ _ _ c.in_ok-done.ensures.ok in
-    let alike = c.loop-numbered.invariant.2 in
-    let next = c.carry_out_next.ensures.honest in (
+    let shown = shown-of g.D.Device.medium c.args.form c.args.checked.now _ _ _ _ _ _ _ c.in_ok-done.ensures.ok in (
       more-ran g.D.Device.medium c.args.form c.args.checked.now c.args.mode c.args.commands.now c.loop-numbered.numbered-index
           _ _ _ _ _ _ _ c.loop-numbered-test.true _ c.in_default.ensures c.loop-numbered.invariant.0 shown,
       c.in_ok-done.ensures.kept ∙ c.loop-numbered.invariant.1,
-      ((λ h. alike.0 (next.0 h)), (λ h. next.1 (alike.1 h))),
+      alike-on _ _ _ c.carry_out_next.ensures.honest c.loop-numbered.invariant.2,
       c.carry_out_next.ensures.unlocked,
       c.carry_out_next.ensures.sees.1,
       steadily_then g.D.Device.medium (vm_file_of c.args.kernel.now) (vm_file_of c.loop-numbered.kernel)
@@ -71,16 +70,10 @@ returns-in-Some-clause-steadily g c =
     (vm_file_of c.carry_out_next.new.kernel) c.loop-numbered.invariant.5 c.carry_out_next.ensures.steadily
 
 pub returns-in_err-done-clause-honest : goal.returns-in_err-done-clause-honest
-returns-in_err-done-clause-honest g c =
-    let alike = c.loop-numbered.invariant.2 in
-    let next = c.carry_out_next.ensures.honest in
-    ((λ h. alike.0 (next.0 h)), (λ h. next.1 (alike.1 h)))
+returns-in_err-done-clause-honest g c = alike-on _ _ _ c.carry_out_next.ensures.honest c.loop-numbered.invariant.2
 
 pub returns-in-Some-clause-honest : goal.returns-in-Some-clause-honest
-returns-in-Some-clause-honest g c =
-    let alike = c.loop-numbered.invariant.2 in
-    let next = c.carry_out_next.ensures.honest in
-    ((λ h. alike.0 (next.0 h)), (λ h. next.1 (alike.1 h)))
+returns-in-Some-clause-honest g c = alike-on _ _ _ c.carry_out_next.ensures.honest c.loop-numbered.invariant.2
 
 pub returns-in-Some-clause-kept : goal.returns-in-Some-clause-kept
 returns-in-Some-clause-kept g c = c.in_ok-done.ensures.kept ∙ c.loop-numbered.invariant.1

@@ -11,9 +11,10 @@ use Rattle.geos_cli.specs.declared.script.RefusedCommand.{RefusedCommand}
 use Rattle.geos_image.specs.Parts.{Parts}
 use Rattle.geos_kernel.specs.View.{KernelOn}
 use Rattle.vm_file.specs.Device.{Medium}
-use Rattle.geos_cli.specs.Calls.{texts, Asks, CallEndsBy}
+use Rattle.geos_cli.specs.Calls.{texts, CallEndsBy}
 use Rattle.geos_cli.specs.Script.{on_line}
 use Rattle.geos_cli.specs.InForm.{Leaves, RanInForm, StoppedCallInForm}
+use Rattle.geos_cli.proofs.CallRuns.{asks}
 use Rattle.geos_cli.proofs.in_form.run_call_in_form.Goals as goal
 
 pub returns-clause-due : goal.returns-clause-due
@@ -21,12 +22,10 @@ returns-clause-due g c =
     let image = c.args.image.now in
     let name = c.args.name.now in
     let words = texts c.args.words.now in
-    let read = c.in_ok-checked.ensures.image in
-    let asks : Asks image name words c.in_ok-checked.checked c.in-Some.call =
-    record { read = read.0; accepted = read.1; named = sym c.call_on.ensures ∙ c.in-Some.is } in
+    let asked = asks _ _ _ _ _ c.in-Some.call c.in_ok-checked.ensures.image c.call_on.ensures c.in-Some.is in
     let F : ScriptFault → Type 0 = λ fault. CallEndsBy image name words (Script fault) in
     elim c.in-Err.ensures.fault [
-      | inl write ↦ subst F (sym write) (c.in_ok-checked.checked, c.in-Some.call, asks)
+      | inl write ↦ subst F (sym write) (c.in_ok-checked.checked, c.in-Some.call, asked)
       | inr memory ↦ subst F (sym memory) tt
     ]
 
@@ -35,15 +34,13 @@ returns-clause-left g c =
     let image = c.args.image.now in
     let name = c.args.name.now in
     let words = texts c.args.words.now in
-    let read = c.in_ok-checked.ensures.image in
     let old = c.args.kernel.now in
     let new = c.carry_out_all_in_form.new.kernel in
     let from = g.W.Write.contents c.args.out.now.stream in
     let to = g.W.Write.contents c.carry_out_all_in_form.new.out.stream in
-    let asks : Asks image name words c.in_ok-checked.checked c.in-Some.call =
-    record { read = read.0; accepted = read.1; named = sym c.call_on.ensures ∙ c.in-Some.is } in
+    let asked = asks _ _ _ _ _ c.in-Some.call c.in_ok-checked.ensures.image c.call_on.ensures c.in-Some.is in
     let stopped : StoppedCallInForm g.D.Device.medium c.args.form image name words old new from to =
-    (c.in_ok-checked.checked, c.in-Some.call, asks, c.in-Err.ensures.stopped) in
+    (c.in_ok-checked.checked, c.in-Some.call, asked, c.in-Err.ensures.stopped) in
     let F : ScriptFault → Type 0 = λ fault. Leaves fault ((new ≡ old) × Keeps from to)
     (StoppedCallInForm g.D.Device.medium c.args.form image name words old new from to) in
     elim c.in-Err.ensures.fault [
@@ -67,12 +64,10 @@ lenient-ran medium form image call (Some refused) kernel later old new ran = abs
 
 pub returns-in-Ok-clause-ran : goal.returns-in-Ok-clause-ran
 returns-in-Ok-clause-ran g c =
-    let read = c.in_ok-checked.ensures.image in
-    let asks : Asks c.args.image.now c.args.name.now (texts c.args.words.now) c.in_ok-checked.checked c.in-Some.call =
-    record { read = read.0; accepted = read.1; named = sym c.call_on.ensures ∙ c.in-Some.is } in (
+    let asked = asks _ _ _ _ _ c.in-Some.call c.in_ok-checked.ensures.image c.call_on.ensures c.in-Some.is in (
       c.in_ok-checked.checked,
       c.in-Some.call,
-      asks,
+      asked,
       lenient-ran g.D.Device.medium c.args.form c.in_ok-checked.checked c.in-Some.call _ c.args.kernel.now
           c.carry_out_all_in_form.new.kernel _ _ c.in-Ok.ensures.ran,
     )

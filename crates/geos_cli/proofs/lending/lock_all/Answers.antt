@@ -9,6 +9,7 @@ use Rattle.vm_file.proofs.StateLaws.{steadily_then}
 use Rattle.geos_kernel.specs.Files.{vm_file_of}
 use Rattle.geos_machine.specs.Lent.{has_block}
 use Rattle.geos_machine.specs.Runs.{Throughout}
+use Rattle.geos_machine.proofs.Honest.{alike-on}
 use Rattle.geos_machine.proofs.Stops.{stops-first}
 use Rattle.geos_cli.specs.Script.{IsAllowed, Leads, Locks, times}
 use Rattle.geos_cli.proofs.LentLocks.{times-one}
@@ -33,15 +34,14 @@ loop-k-preserved g c =
     let medium = g.D.Device.medium in
     let handles = c.args.handles.now in
     let k = c.loop-k.k in
-    let so_far = c.loop-k.invariant in
-    let next = c.lock.ensures.honest in (
+    let so_far = c.loop-k.invariant in (
       on-locks medium c.args.kernel.now c.loop-k.kernel c.lock.new.kernel so_far.3 handles k c.loop-k-test.true so_far.0 c.in_default.ensures.leads,
       (λ n. c.in_default.ensures.counts n ∙ times-one n handles k c.loop-k-test.true (locks_of c.loop-k.kernel.core.blocks (vm_slot n))
           (locks_of c.args.kernel.now.core.blocks (vm_slot n)) (so_far.1 n)),
       All-more (λ h. has_block c.lock.new.kernel.core h ≡ true) handles k 0 c.loop-k-test.true
           (All-weaker (λ h. has_block c.loop-k.kernel.core h ≡ true) (λ h. has_block c.lock.new.kernel.core h ≡ true)
           (λ h there. c.lock.ensures.stay h there) (take k handles) so_far.2) c.in_default.ensures.there,
-      ((λ h. so_far.3.0 (next.0 h)), (λ h. next.1 (so_far.3.1 h))),
+      alike-on _ _ _ c.lock.ensures.honest so_far.3,
       c.lock.ensures.sees.1,
       steadily_then medium (vm_file_of c.args.kernel.now) (vm_file_of c.loop-k.kernel) (vm_file_of c.lock.new.kernel)
           so_far.5 c.lock.ensures.steadily,
@@ -73,10 +73,7 @@ returns-clause-there g c =
     subst (All (λ h. has_block c.loop-k.kernel.core h ≡ true)) (take_all c.loop-k.k c.args.handles.now past) c.loop-k.invariant.2
 
 pub returns-in-Err-clause-honest : goal.returns-in-Err-clause-honest
-returns-in-Err-clause-honest g c =
-    let so_far = c.loop-k.invariant in
-    let next = c.lock.ensures.honest in
-    ((λ h. so_far.3.0 (next.0 h)), (λ h. next.1 (so_far.3.1 h)))
+returns-in-Err-clause-honest g c = alike-on _ _ _ c.lock.ensures.honest c.loop-k.invariant.3
 
 pub returns-in-Err-clause-sees : goal.returns-in-Err-clause-sees
 returns-in-Err-clause-sees g c = (c.memory_is_legal.ensures.sees, c.lock.ensures.sees.1)

@@ -6,6 +6,7 @@ use Rattle.vm_file.proofs.StateLaws.{steadily_then}
 use Rattle.geos_kernel.specs.Files.{vm_file_of}
 use Rattle.geos_machine.specs.Lent.{has_block}
 use Rattle.geos_machine.specs.Runs.{Throughout}
+use Rattle.geos_machine.proofs.Honest.{alike-on}
 use Rattle.geos_cli.specs.Script.{lent_handles, times, IsAllowed, Leads, Locks, NotLent, Unlocks}
 use Rattle.geos_cli.proofs.LentLocks.{entry-of}
 use Rattle.geos_cli.proofs.LentRuns.{lent-refused}
@@ -60,10 +61,7 @@ returns-in-Err g c =
           (c.as_slice-in-Err.ensures.value ∙ sym c.as_slice.ensures.value) c.unlock_all.ensures.leads));
       there = tt;
       counts = tt;
-      honest = (
-        (λ h. c.lock_all.ensures.honest.0 (c.unlock_all.ensures.honest.0 h)),
-        (λ h. c.unlock_all.ensures.honest.1 (c.lock_all.ensures.honest.1 h)),
-      );
+      honest = alike-on _ _ _ c.unlock_all.ensures.honest c.lock_all.ensures.honest;
       unlocked = λ h handle.
           omega (
             arith,

@@ -3,6 +3,7 @@ use Rattle.std.specs.Prelude.{◌↔◌}
 use Rattle.vm_file.proofs.StateLaws.{steadily_then}
 use Rattle.geos_kernel.specs.Files.{vm_file_of}
 use Rattle.geos_machine.specs.Runs.{Throughout}
+use Rattle.geos_machine.proofs.Honest.{alike-on}
 use Rattle.geos_cli.specs.Script.{times, IsAllowed, Leads, Unlocks}
 use Rattle.geos_cli.proofs.LentRuns.{lent-ran}
 use Rattle.geos_cli.proofs.lending.run_lent.Goals as goal
@@ -22,14 +23,14 @@ returns g c =
     let lent = c.as_slice.ensures.value ∙ c.in_ok-lent.ensures.handles in
     let alike = c.lock_lent.ensures.honest in
     let alike_ran : medium.honest ran.device ↔ medium.honest old.device =
-    ((λ h. alike.0 (c.run-outcome.ensures.honest.0 h)), (λ h. c.run-outcome.ensures.honest.1 (alike.1 h))) in
+    alike-on _ _ _ c.run-outcome.ensures.honest alike in
     record {
       ran = lent-ran medium old locked ran new alike alike_ran c.args.checked.now c.args.call.now c.run-outcome.result.now
           c.in_ok-lent.ensures.locked c.run-outcome.ensures.ran
           (subst (λ hs. Leads (medium.honest ran.device) (Throughout medium ran.device new.device) ran.core new.core
           (Unlocks (IsAllowed (medium.honest ran.device)) hs)) lent c.unlock_all.ensures.leads);
       refused = tt;
-      honest = ((λ h. alike_ran.0 (c.unlock_all.ensures.honest.0 h)), (λ h. c.unlock_all.ensures.honest.1 (alike_ran.1 h)));
+      honest = alike-on _ _ _ c.unlock_all.ensures.honest alike_ran;
       unlocked = λ h handle.
           omega (
             arith,

@@ -5,6 +5,7 @@ use Rattle.vm_blocks.specs.View.{vm_slot}
 use Rattle.vm_file.proofs.StateLaws.{steadily_then}
 use Rattle.geos_kernel.specs.Files.{vm_file_of}
 use Rattle.geos_machine.specs.Runs.{Throughout}
+use Rattle.geos_machine.proofs.Honest.{alike-on}
 use Rattle.geos_machine.proofs.Stops.{stops-first}
 use Rattle.geos_cli.specs.Script.{IsAllowed, Leads, Unlocks, times}
 use Rattle.geos_cli.proofs.LentLocks.{times-fewer, times-here, times-one}
@@ -32,8 +33,7 @@ loop-h-preserved g c =
     let medium = g.D.Device.medium in
     let handles = c.args.handles.now in
     let k = c.loop-h.h-index in
-    let so_far = c.loop-h.invariant in
-    let next = c.unlock.ensures.honest in (
+    let so_far = c.loop-h.invariant in (
       on-unlocks medium c.args.kernel.now c.loop-h.kernel c.unlock.new.kernel so_far.3 handles k c.loop-h-test.true so_far.0 c.unlock.ensures.leads,
       (λ n. omega (
         arith,
@@ -44,7 +44,7 @@ loop-h-preserved g c =
       )),
       (λ n. times-fewer n handles k c.loop-h-test.true (locks_of c.unlock.new.kernel.core.blocks (vm_slot n))
           (locks_of c.loop-h.kernel.core.blocks (vm_slot n)) (c.unlock.ensures.counts n) (so_far.2 n)),
-      ((λ h. so_far.3.0 (next.0 h)), (λ h. next.1 (so_far.3.1 h))),
+      alike-on _ _ _ c.unlock.ensures.honest so_far.3,
       c.unlock.ensures.sees.1,
       steadily_then medium (vm_file_of c.args.kernel.now) (vm_file_of c.loop-h.kernel) (vm_file_of c.unlock.new.kernel)
           so_far.5 c.unlock.ensures.steadily,

@@ -2,6 +2,7 @@ use Rattle.std.proofs.Common.{◌∙◌, sym, inl, refl, arith}
 use Rattle.vm_file.proofs.StateLaws.{steadily_then}
 use Rattle.geos_kernel.specs.Files.{vm_file_of}
 use Rattle.geos_machine.specs.Runs.{Throughout}
+use Rattle.geos_machine.proofs.Honest.{alike-on}
 use Rattle.geos_machine.proofs.Stops.{stops-first}
 use Rattle.geos_cli.proofs.CommandsRun.{throughout-then, ran-none, ran-more, ran-refused, ran-all, ran-alike, ran-kept, last-done, stopped-at, stopped-ahead, stopped-alike}
 use Rattle.geos_cli.proofs.Parts.{IfErr-any}
@@ -32,7 +33,6 @@ loop-numbered-preserved g c =
     let honest = g.D.Device.medium.honest c.args.kernel.now.device in
     let before = ran-kept c.args.mode honest _ c.args.checked.now _ _ _ _ _ _ c.loop-numbered.invariant.0 c.give_before.ensures.bytes in
     let alike = c.loop-numbered.invariant.2 in
-    let next = c.carry_out.ensures.honest in
     let ran = ran-alike (g.D.Device.medium.honest c.loop-numbered.kernel.device)
     (g.D.Device.medium.honest c.args.kernel.now.device) alike _ c.args.checked.now _ _ _ _ _ _ c.in_ok-done.ensures.ok in (
       ran-more c.args.mode (g.D.Device.medium.honest c.args.kernel.now.device) _ _ _
@@ -40,7 +40,7 @@ loop-numbered-preserved g c =
           c.args.checked.now c.args.commands.now c.loop-numbered.numbered-index _ _ _ _ _ _ _ c.loop-numbered-test.true
           _ c.in_default.ensures before ran,
       c.in_ok-done.ensures.kept ∙ c.in_ok-give_before.ensures.kept ∙ c.loop-numbered.invariant.1,
-      ((λ h. alike.0 (next.0 h)), (λ h. next.1 (alike.1 h))),
+      alike-on _ _ _ c.carry_out.ensures.honest alike,
       c.carry_out.ensures.unlocked,
       c.carry_out.ensures.sees.1,
       steadily_then g.D.Device.medium (vm_file_of c.args.kernel.now) (vm_file_of c.loop-numbered.kernel)
@@ -99,16 +99,10 @@ returns-in-Some-clause-steadily g c =
     (vm_file_of c.carry_out.new.kernel) c.loop-numbered.invariant.5 c.carry_out.ensures.steadily
 
 pub returns-in-Some-clause-honest : goal.returns-in-Some-clause-honest
-returns-in-Some-clause-honest g c =
-    let alike = c.loop-numbered.invariant.2 in
-    let next = c.carry_out.ensures.honest in
-    ((λ h. alike.0 (next.0 h)), (λ h. next.1 (alike.1 h)))
+returns-in-Some-clause-honest g c = alike-on _ _ _ c.carry_out.ensures.honest c.loop-numbered.invariant.2
 
 pub returns-in_err-done-clause-honest : goal.returns-in_err-done-clause-honest
-returns-in_err-done-clause-honest g c =
-    let alike = c.loop-numbered.invariant.2 in
-    let next = c.carry_out.ensures.honest in
-    ((λ h. alike.0 (next.0 h)), (λ h. next.1 (alike.1 h)))
+returns-in_err-done-clause-honest g c = alike-on _ _ _ c.carry_out.ensures.honest c.loop-numbered.invariant.2
 
 pub returns-in-Some-clause-kept : goal.returns-in-Some-clause-kept
 returns-in-Some-clause-kept g c = c.in_ok-done.ensures.kept ∙ c.in_ok-give_before.ensures.kept ∙ c.loop-numbered.invariant.1

@@ -9,9 +9,10 @@ use Rattle.geos_machine.specs.Traces.{Notes}
 use Rattle.geos_cli.specs.declared.call_fault.CallFault.{CallFault}
 use Rattle.geos_cli.specs.declared.call_fault.CallFault.TheVariants.{BadBlocks, BadWord, Script}
 use Rattle.geos_cli.specs.declared.traced.TraceFault.TheVariants as trace_fault
-use Rattle.geos_cli.specs.Calls.{texts, Asks, IsWhyNoCall}
+use Rattle.geos_cli.specs.Calls.{texts, IsWhyNoCall}
 use Rattle.geos_cli.specs.Script.{IsBadImage}
 use Rattle.geos_cli.specs.Traced.{stretch_of, WhyNotTraced}
+use Rattle.geos_cli.proofs.CallRuns.{asks}
 use Rattle.geos_cli.proofs.traced.trace_call.Goals as goal
 
 module _ (bytes name : List ℕ) (words : List (List ℕ)) (only : Option (List ℕ)) where
@@ -44,15 +45,13 @@ returns-in_default-clause-due g c = no-call c.args.image.now c.args.name.now (te
 
 pub returns-in-Ok-trace_lent-clause-ran : goal.returns-in-Ok-trace_lent-clause-ran
 returns-in-Ok-trace_lent-clause-ran g c =
-    let image = c.in-Ok.ensures.image in
-    let asks : Asks c.args.image.now c.args.name.now (texts c.args.words.now) c.in-Ok.checked c.in-Some.call =
-    record { read = image.0; accepted = image.1; named = sym c.call_on.ensures ∙ c.in-Some.is } in
+    let asked = asks _ _ _ _ _ c.in-Some.call c.in-Ok.ensures.image c.call_on.ensures c.in-Some.is in
     let made = c.in-Ok-trace_lent.ensures.made in
     let first = made.first ∙ ap (λ (n : Notes). n.first) c.in-Ok-new.ensures in
     let end = made.end ∙ ap (λ (n : Notes). n.end) c.in-Ok-new.ensures in
     record {
       call = c.in-Some.call;
-      asks = asks;
+      asks = asked;
       routine = refl;
       stretch = sym c.stretch_of.ensures ∙ c.in-Some-stretch_of.is ∙ rw (first, end) refl;
       room = made.most ∙ ap (λ (n : Notes). n.most) c.in-Ok-new.ensures;
@@ -61,7 +60,5 @@ returns-in-Ok-trace_lent-clause-ran g c =
 
 pub returns-in-Err-trace_lent-clause-ran : goal.returns-in-Err-trace_lent-clause-ran
 returns-in-Err-trace_lent-clause-ran g c =
-    let image = c.in-Ok.ensures.image in
-    let asks : Asks c.args.image.now c.args.name.now (texts c.args.words.now) c.in-Ok.checked c.in-Some.call =
-    record { read = image.0; accepted = image.1; named = sym c.call_on.ensures ∙ c.in-Some.is } in
-    record { image = c.in-Ok.checked; call = c.in-Some.call; asks = asks; refused = c.in-Err-trace_lent.ensures.refused }
+    let asked = asks _ _ _ _ _ c.in-Some.call c.in-Ok.ensures.image c.call_on.ensures c.in-Some.is in
+    record { image = c.in-Ok.checked; call = c.in-Some.call; asks = asked; refused = c.in-Err-trace_lent.ensures.refused }

@@ -3,6 +3,7 @@ use Rattle.std.specs.Prelude.{◌↔◌}
 use Rattle.vm_file.proofs.StateLaws.{steadily_then}
 use Rattle.geos_kernel.specs.Files.{vm_file_of}
 use Rattle.geos_machine.specs.Runs.{Throughout}
+use Rattle.geos_machine.proofs.Honest.{alike-on}
 use Rattle.geos_cli.specs.Script.{times, IsAllowed, Leads, Unlocks}
 use Rattle.geos_cli.proofs.TracedRuns.{lent-traced}
 use Rattle.geos_cli.proofs.traced.trace_lent.Goals as goal
@@ -22,7 +23,7 @@ returns g c =
     let lent = c.as_slice.ensures.value ∙ c.in_ok-lent.ensures.handles in
     let alike = c.lock_lent.ensures.honest in
     let alike_ran : medium.honest ran.device ↔ medium.honest old.device =
-    ((λ h. alike.0 (c.trace-outcome.ensures.honest.0 h)), (λ h. c.trace-outcome.ensures.honest.1 (alike.1 h))) in
+    alike-on _ _ _ c.trace-outcome.ensures.honest alike in
     record {
       ran = lent-traced medium old locked ran new alike alike_ran c.args.checked.now c.args.call.now c.trace-outcome.result c.args.notes.now c.trace-outcome.new.notes
           c.in_ok-lent.ensures.locked c.trace-outcome.ensures.ran
@@ -30,7 +31,7 @@ returns g c =
           (Unlocks (IsAllowed (medium.honest ran.device)) hs)) lent c.unlock_all.ensures.leads);
       refused = tt;
       made = c.trace-outcome.ensures.made;
-      honest = ((λ h. alike_ran.0 (c.unlock_all.ensures.honest.0 h)), (λ h. c.unlock_all.ensures.honest.1 (alike_ran.1 h)));
+      honest = alike-on _ _ _ c.unlock_all.ensures.honest alike_ran;
       unlocked = λ h handle.
           omega (
             arith,

@@ -1,6 +1,7 @@
 use Rattle.std.proofs.Common.{◌∙◌, ◌+◌, refl, sym, subst, take, get_or, map, arith}
 use Rattle.vm_file.proofs.StateLaws.{steadily_then}
 use Rattle.geos_kernel.specs.Files.{vm_file_of}
+use Rattle.geos_machine.proofs.Honest.{alike-on}
 use Rattle.geos_text.specs.Words.{words}
 use Rattle.geos_cli.specs.Names.{names_of, said_by}
 use Rattle.geos_cli.proofs.NamedRun.{RanSoFar, admitted-named, all-ran, any_line, ended-badly, more-ran, named-in, not-begun, refused-ran, stopped-at, stopped-behind}
@@ -63,14 +64,12 @@ loop-line-preserved g c =
     (names_of c.loop-line.names.items) c.args.kernel.now c.loop-line.kernel (g.W.Write.contents c.args.out.now.stream)
     (g.W.Write.contents c.loop-line.out.stream) c.loop-line.invariant.0 any_line c.loop-line-test.true c.in-Some.command named
     c.carry_out_next.new.kernel (g.W.Write.contents c.carry_out_next.new.out.stream) _ _ c.in_default-ended_by.ensures
-    c.in_ok-done.ensures.ok in
-    let alike = c.loop-line.invariant.2 in
-    let next = c.carry_out_next.ensures.honest in (
+    c.in_ok-done.ensures.ok in (
       subst (λ ns. RanSoFar g.D.Device.medium c.args.form c.args.mode c.args.checked.now
           (map said_by (take (c.loop-line.line-index + 1) c.args.lines.now)) ns c.args.kernel.now c.carry_out_next.new.kernel
           (g.W.Write.contents c.args.out.now.stream) (g.W.Write.contents c.carry_out_next.new.out.stream)) (sym c.in_ok-keep.ensures) more,
       c.in_ok-done.ensures.kept ∙ c.loop-line.invariant.1,
-      ((λ h. alike.0 (next.0 h)), (λ h. next.1 (alike.1 h))),
+      alike-on _ _ _ c.carry_out_next.ensures.honest c.loop-line.invariant.2,
       c.carry_out_next.ensures.unlocked,
       c.carry_out_next.ensures.sees.1,
       steadily_then g.D.Device.medium (vm_file_of c.args.kernel.now) (vm_file_of c.loop-line.kernel)
@@ -85,10 +84,7 @@ returns-clause-ran g c = all-ran g.D.Device.medium c.args.form c.args.mode c.arg
     (omega (arith, c.loop-line-test.false))
 
 pub returns-in_err-done-clause-honest : goal.returns-in_err-done-clause-honest
-returns-in_err-done-clause-honest g c =
-    let alike = c.loop-line.invariant.2 in
-    let next = c.carry_out_next.ensures.honest in
-    ((λ h. alike.0 (next.0 h)), (λ h. next.1 (alike.1 h)))
+returns-in_err-done-clause-honest g c = alike-on _ _ _ c.carry_out_next.ensures.honest c.loop-line.invariant.2
 
 pub returns-in_err-done-clause-sees : goal.returns-in_err-done-clause-sees
 returns-in_err-done-clause-sees g c = (c.memory_is_legal.ensures.sees, c.carry_out_next.ensures.sees.1)
@@ -98,10 +94,7 @@ returns-in_err-done-clause-steadily g c = steadily_then g.D.Device.medium (vm_fi
     (vm_file_of c.carry_out_next.new.kernel) c.loop-line.invariant.5 c.carry_out_next.ensures.steadily
 
 pub returns-in-Some-ended_by-clause-honest : goal.returns-in-Some-ended_by-clause-honest
-returns-in-Some-ended_by-clause-honest g c =
-    let alike = c.loop-line.invariant.2 in
-    let next = c.carry_out_next.ensures.honest in
-    ((λ h. alike.0 (next.0 h)), (λ h. next.1 (alike.1 h)))
+returns-in-Some-ended_by-clause-honest g c = alike-on _ _ _ c.carry_out_next.ensures.honest c.loop-line.invariant.2
 
 pub returns-in-Some-ended_by-clause-sees : goal.returns-in-Some-ended_by-clause-sees
 returns-in-Some-ended_by-clause-sees g c = (c.memory_is_legal.ensures.sees, c.carry_out_next.ensures.sees.1)
@@ -111,10 +104,7 @@ returns-in-Some-ended_by-clause-steadily g c = steadily_then g.D.Device.medium (
     (vm_file_of c.carry_out_next.new.kernel) c.loop-line.invariant.5 c.carry_out_next.ensures.steadily
 
 pub returns-in_err-keep-clause-honest : goal.returns-in_err-keep-clause-honest
-returns-in_err-keep-clause-honest g c =
-    let alike = c.loop-line.invariant.2 in
-    let next = c.carry_out_next.ensures.honest in
-    ((λ h. alike.0 (next.0 h)), (λ h. next.1 (alike.1 h)))
+returns-in_err-keep-clause-honest g c = alike-on _ _ _ c.carry_out_next.ensures.honest c.loop-line.invariant.2
 
 pub returns-in_err-keep-clause-sees : goal.returns-in_err-keep-clause-sees
 returns-in_err-keep-clause-sees g c = (c.memory_is_legal.ensures.sees, c.carry_out_next.ensures.sees.1)
