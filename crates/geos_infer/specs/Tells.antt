@@ -17,6 +17,7 @@ use Rattle.geos_infer.specs.declared.finding.Obstacle.TheVariants.{SlotsDiffer, 
 -- the cause tells of the LOOP at a pc alone: of how its counter comes to it
 abbrev pub IsOfLoop : ℕ → Cause → Type 0
 IsOfLoop pc (cause.SetWithin within) = within.back.from ≡ pc
+IsOfLoop pc (cause.SetAgain within) = within.back.from ≡ pc
 IsOfLoop pc (cause.TouchedWithin within) = within.back.from ≡ pc
 IsOfLoop pc (cause.TouchedBefore within) = within.back.from ≡ pc
 IsOfLoop pc _ = ⊥
@@ -27,8 +28,9 @@ pub record IsOfPiece (order : Order) (piece : Piece) (told : Cause) : Type 0 whe
   pub there : HasPlace order piece pc
   pub loop : IsOfLoop pc told
 
--- it tells of loops that wait on each other
+-- it tells of loops that wait on each other, or of one whose counter is set within it, so that it waits on itself
 abbrev pub tells_of_waiting : Cause → Bool
+tells_of_waiting (cause.SetWithin within) = true
 tells_of_waiting (cause.InTurn both) = true
 tells_of_waiting (cause.InRing ring) = true
 tells_of_waiting _ = false
@@ -50,8 +52,12 @@ abbrev pub tells_of_looks : Cause → Bool
 tells_of_looks (cause.GivenUp back) = true
 tells_of_looks _ = false
 
--- it tells of no place of the search: the steps of some way pass, or nothing else was found
+-- it tells of no place of the search: a LOOP may not pay on a way round on which none may, the steps of some way pass, or nothing else was
+-- found
 abbrev pub tells_of_ways : Cause → Bool
+tells_of_ways (cause.TouchedWithin within) = true
+tells_of_ways (cause.TouchedBefore within) = true
+tells_of_ways (cause.NotSet own) = true
 tells_of_ways cause.StepsPass = true
 tells_of_ways cause.StepsMayPass = true
 tells_of_ways (cause.NoSteps back) = true

@@ -1,15 +1,17 @@
 //! Ways round on which no LOOP may pay: why one of them may not.
 
-ghost use Rattle.std.specs.Prelude.{◌<◌, IfSome};
+ghost use Rattle.std.specs.Prelude.{◌≡◌, ◌<◌, true, IfSome, IfOk};
 ghost use Rattle.geos_potentials.specs.Idle.{IsNeverPaid};
 ghost use Rattle.geos_potentials.specs.Touching.{KnowsTouched};
 ghost use Rattle.geos_infer.specs.Causes.{TakesUnset, Holds};
+ghost use Rattle.geos_infer.specs.Tells.{IsOfLoop, tells_of_ways};
 
 use crate::cause::{Cause, LoopOn};
 use crate::trails::Trails;
 use crate::within::{comes_round, find_touched_before, find_touched_within, loop_at};
 use geos_potentials::{Graph, Piece, Search, Touching};
 use geos_rows::{Body, Known};
+use std::alloc::{AllocError, Global};
 
 /// The LOOP at a pc, if control goes round by it, and on a way to it nothing sets its counter.
 fn find_not_set(
@@ -52,7 +54,9 @@ pub(crate) fn find_touched(
     requires here { from < body.now.end }
     requires touched { KnowsTouched body.now.image.now touching.now }
     requires never { IsNeverPaid body.now.image.now body.now.r }
-    ensures { IfSome result (Holds body.now.image.now body.now.r) }
+    ensures holds { IfSome result (Holds body.now.image.now body.now.r) }
+    ensures at { IfSome result (IsOfLoop from) }
+    ensures tells { IfSome result (λ cause. tells_of_ways cause ≡ true) }
 {
     let graph = &search.graph;
     let order = &search.splitting.order;
@@ -77,7 +81,8 @@ fn idle_at(
     requires here { from < body.now.end }
     requires touched { KnowsTouched body.now.image.now touching.now }
     requires never { IsNeverPaid body.now.image.now body.now.r }
-    ensures { IfSome result (Holds body.now.image.now body.now.r) }
+    ensures holds { IfSome result (Holds body.now.image.now body.now.r) }
+    ensures tells { IfSome result (λ cause. tells_of_ways cause ≡ true) }
 {
     if let Some(cause) = find_touched(body, touching, search, piece, from, trails) {
         return Some(cause);
@@ -98,7 +103,8 @@ fn first_idle(
 ) -> Option<Cause>
     requires touched { KnowsTouched body.now.image.now touching.now }
     requires never { IsNeverPaid body.now.image.now body.now.r }
-    ensures { IfSome result (Holds body.now.image.now body.now.r) }
+    ensures holds { IfSome result (Holds body.now.image.now body.now.r) }
+    ensures tells { IfSome result (λ cause. tells_of_ways cause ≡ true) }
 {
     for pc in body.start..body.end {
         if search.splitting.order.has(piece, pc) {
@@ -112,15 +118,22 @@ fn first_idle(
 
 /// Why a LOOP may not pay on a way round on which none may, if there is one.
 pub(crate) fn cause_of_idle(
+    alloc: Global,
     body: &Body,
     touching: &Touching,
     known: &Known,
-    search: &mut Search,
     trails: &mut Trails,
-) -> Option<Cause>
+) -> Result<Option<Cause>, AllocError>
     requires { KnowsTouched body.now.image.now touching.now }
-    ensures { IfSome result (Holds body.now.image.now body.now.r) }
+    ensures holds { IfOk result (λ cause. IfSome cause (Holds body.now.image.now body.now.r)) }
+    ensures tells { IfOk result (λ cause. IfSome cause (λ told. tells_of_ways told ≡ true)) }
 {
-    let piece = search.find_idle(body, known, &touching.certain)?;
-    first_idle(body, touching, search, &piece, trails)
+    let mut search = Search::new(alloc)?;
+    let cause = match search.find_idle(body, known, &touching.certain) {
+        Some(piece) => first_idle(body, touching, &search, &piece, trails),
+        None => None,
+    };
+    // By a call, so that the check does not go over each table here.
+    drop(search);
+    Ok(cause)
 }

@@ -247,7 +247,8 @@ pub(crate) fn find_set_again(
 ) -> Option<Within>
     requires here { from < body.now.end }
     requires touched { KnowsTouched body.now.image.now touching.now }
-    ensures { IfSome result (SetsInTurn body.now.image.now body.now.r) }
+    ensures holds { IfSome result (SetsInTurn body.now.image.now body.now.r) }
+    ensures at { IfSome result (λ within. within.back.from ≡ from) }
 {
     let (back, counter) = loop_at(body, from)?;
     let target = Some(back.to);
