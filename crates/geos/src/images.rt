@@ -8,7 +8,7 @@ use crate::request_fault::RequestFault;
 use geos_asm::{AssembleError, with_least_budgets};
 use geos_cli::{MOST_BYTES, ScriptFault};
 use geos_scripts::{BadLines, NameUse, tell_bad_lines};
-use geos_shell::{print, print_lines, read, write};
+use geos_shell::{StreamFault, print, print_lines, read, write};
 
 /// The most bytes that are read of a file: one more than a text may have, and more than any image has.
 pub(crate) const MOST_READ: u64 = MOST_BYTES as u64 + 1;
@@ -65,12 +65,24 @@ pub(crate) fn check<'a>(rt: &HostRuntime, path: &'a str) -> Result<(), RequestFa
     }
 }
 
+/// Prints why a text is not assembled: what is told of it, but of a VM file that it is one, since its lines say nothing.
+fn print_why<'a>(rt: &HostRuntime, text: &[u8], told: &[u8]) -> Result<(), StreamFault<'a>> {
+    if text.starts_with(b"GVM1") {
+        print(
+            rt,
+            b"line 1: the file begins with GVM1, as a VM file does: geos dump shows it\n",
+        )
+    } else {
+        print_lines(rt, told)
+    }
+}
+
 /// What there is to say of a text. Where it is not assembled, it prints why.
 fn explained_text<'a>(rt: &HostRuntime, text: &[u8]) -> Result<Explained, RequestFault<'a>> {
     match explain_text_bytes(rt.alloc(), text) {
         Ok(Ok(explained)) => Ok(explained),
         Ok(Err(faulty)) => {
-            print_lines(rt, &faulty.told)?;
+            print_why(rt, text, &faulty.told)?;
             Err(RequestFault::Assemble(faulty.fault))
         }
         Err(_) => Err(RequestFault::Assemble(AssembleError::Memory)),

@@ -94,7 +94,7 @@ docs/FORMATS.md has the faults, and the digits of an image.";
 const CALLED: &str = "\
 What is in IN begins as an image does, or is read as a text. Nothing runs unless the text has no fault and
 the verifier accepts the image: `geos help asm` has the faults of a text, `geos help check` the rules, and
-`geos explain IN` says more.
+`geos explain IN` says more. A VM file stands behind --file: as IN it is a text with `line 1: why 1`.
 
 NAME is a public routine, which runs on at most eight numbers, its words w0 to w7; missing ones are 0. Behind
 them stands `@` with the handle of a block of FILE for each slot that it borrows, as in a script. Each word
@@ -145,8 +145,8 @@ const FAULTS: &str = "\
 If there is a file OUT, it is replaced; after a fault it is as it was. A row is what is known at an
 instruction. The image, of version 2, has rows where a routine begins, where a label is used and behind
 each JMP and RET: the verifier computes the others.
-The first fault of the text is `line N: why K`; `geos explain IN` says more, of an image too, which has
-`line 1: why 1` here. Of several on one line, the lowest number is named:
+The first fault of the text is `line N: why K`; `geos explain IN` says more, of an image or a VM file too, which
+have `line 1: why 1` here. Of several on one line, the lowest number is named:
   1  the first word is no instruction, and none of `routine`, `in` and `out`
   2  operands are too few or too many, or one is of another form
   3  a number is past its range: 15 for SHR, 4,294,967,295 for a budget, else 65,535
@@ -192,7 +192,7 @@ written to it. `refused N` is said as by `put`.";
 const EXPLAINED: &str = "\
 IMAGE may be a text too: what does not begin as an image does is read as one. Its own lines are printed,
 each behind its number; behind an instruction stands what is known before it runs, and how many steps are
-left then at most.
+left then at most. Of a VM file it is said that it is one.
 Where lines of it have faults, these are printed alone, each with the word that is wrong and what is wanted.
 Of an image each instruction is printed, with the routine and the pc in front of that.
 Where a rule refuses, a line says why, and what to do; of a stale pointer from where it is known, from
@@ -233,7 +233,8 @@ the file can't be made.";
 
 /// How a script runs on a VM file.
 const RUNS: &str = "\
-IMAGE may be a text too: what does not begin as an image does is read as one, and assembled in memory.
+IMAGE may be a text too: what does not begin as an image does is read as one, and assembled in memory; so a
+VM file there has `line 1: why 1`.
 SCRIPT has a command a line, as a session behind its image:
   call NAME n.. @h..  runs the public routine on at most eight numbers, and prints what it puts out
   update              the file keeps its blocks as they are
