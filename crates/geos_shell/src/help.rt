@@ -27,6 +27,7 @@ pub(crate) enum Usage {
     Call,
     Trace,
     Asm,
+    Budget,
     Explain,
     New,
     Run,
@@ -42,6 +43,7 @@ impl Usage {
             Usage::Trace =>
                 "geos trace IN NAME [N..] [--steps N] [--only ROUTINE] [--count] [--file FILE] [--region N]",
             Usage::Asm => "geos asm IN OUT [--all-rows]",
+            Usage::Budget => "geos budget TEXT [OUT]",
             Usage::Explain => "geos explain IMAGE [--script SCRIPT [--vars]]",
             Usage::New => "geos new FILE [--area N]",
             Usage::Run => "geos run IMAGE FILE SCRIPT [--region N] [--strict] [--vars] [FORM]",

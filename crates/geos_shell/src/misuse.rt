@@ -22,8 +22,8 @@ pub(crate) enum Misuse {
     NamesOfNoScript,
     /// A word of an output is to be written in two ways, of a command of this usage.
     TwoWritings(Usage),
-    /// The image of a text is to take the place of the text.
-    ImageOntoText,
+    /// What is made of the text that this name stands for is to take the place of it, by a command of this usage.
+    OntoText(&'static str, Usage),
     /// Nothing is wrong with the words, but an allocation was refused.
     Memory,
 }
@@ -70,8 +70,8 @@ impl Misuse {
                     "only one of '--hex', '--signed' and '--text' can be given",
                 )
             }
-            Misuse::ImageOntoText => {
-                String::from_str(alloc, "IN and OUT are one file, and the text would be lost")
+            Misuse::OntoText(name, _) => {
+                format!(in alloc; "{name} and OUT are one file, and the text would be lost")
             }
             Misuse::Memory => Err(AllocError),
         }
@@ -81,11 +81,12 @@ impl Misuse {
     fn usage(&self) -> &'static str {
         match self {
             Misuse::WrongNumber(number) => number.usage.text(),
-            Misuse::TwoWritings(usage) | Misuse::NoWord(_, usage) | Misuse::TwoOfOneStream(usage) =>
-                usage.text(),
+            Misuse::TwoWritings(usage)
+            | Misuse::NoWord(_, usage)
+            | Misuse::TwoOfOneStream(usage)
+            | Misuse::OntoText(_, usage) => usage.text(),
             Misuse::NoName | Misuse::NoScript | Misuse::Memory => Usage::Call.text(),
             Misuse::NamesOfNoScript => Usage::Explain.text(),
-            Misuse::ImageOntoText => Usage::Asm.text(),
         }
     }
 

@@ -229,7 +229,7 @@ fn trace_of<'a>(alloc: Global, words: &ArgMatches<'a>) -> Result<RoutineRequest<
 fn asm_of<'a>(words: &ArgMatches<'a>) -> Result<TextRequest<'a>, Misuse> {
     let (text, image) = (word(words, "IN"), word(words, "OUT"));
     if text == image && !is_stream(text) {
-        return Err(Misuse::ImageOntoText);
+        return Err(Misuse::OntoText("IN", Usage::Asm));
     }
     Ok(TextRequest::Assemble {
         text,
@@ -334,12 +334,16 @@ fn map_of<'a>(words: &ArgMatches<'a>) -> Result<FileRequest<'a>, Misuse>
     }
 }
 
-/// What a `budget` asks for.
-fn budget_of<'a>(words: &ArgMatches<'a>) -> TextRequest<'a> {
-    TextRequest::Budget {
-        text: word(words, "TEXT"),
-        new: words.get_str("OUT").unwrap_or(STANDARD),
+/// What a `budget` asks for. As of `asm`, what is made of a text does not take its place.
+fn budget_of<'a>(words: &ArgMatches<'a>) -> Result<TextRequest<'a>, Misuse> {
+    let (text, new) = (
+        word(words, "TEXT"),
+        words.get_str("OUT").unwrap_or(STANDARD),
+    );
+    if text == new && !is_stream(text) {
+        return Err(Misuse::OntoText("TEXT", Usage::Budget));
     }
+    Ok(TextRequest::Budget { text, new })
 }
 
 /// What a `dump` asks for.
@@ -364,7 +368,7 @@ fn request_of<'a>(alloc: Global, matches: &ArgMatches<'a>) -> Result<Request<'a>
         "trace" => Request::Routines(trace_of(alloc, words)?),
         "run" => Request::Routines(run_of(words)?),
         "asm" => Request::Text(asm_of(words)?),
-        "budget" => Request::Text(budget_of(words)),
+        "budget" => Request::Text(budget_of(words)?),
         "list" => Request::Text(TextRequest::List(word(words, "IMAGE"))),
         "explain" => Request::Text(explain_of(words)?),
         "new" => Request::File(new_of(words)?),

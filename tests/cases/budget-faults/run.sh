@@ -28,7 +28,10 @@ echo "streams and files:"
 "$program" budget missing.asm 2>&1
 echo "status $?"
 printf 'routine a public budget ?\n RET\n' >a.asm
-"$program" budget a.asm a.asm 2>&1
+"$program" budget a.asm a.asm 2>said
+echo "status $?"
+head -n 1 said
+"$program" budget a.asm ./a.asm 2>&1
 echo "status $?"
 "$program" budget a.asm - 2>&1 >/dev/full
 echo "status $?"
