@@ -2,9 +2,9 @@
 
 use crate::file_id::regular_at;
 use crate::kept::begins_as_vm_file;
-use crate::output::faults_go_into;
+use crate::output::{faults_go_into, written_name};
 use crate::request::{ChunkPath, FileRequest, Request, RoutineRequest, TextRequest};
-use crate::streams::{STANDARD, is_stream, name_of};
+use crate::streams::{STANDARD, name_of};
 
 /// Whether standard error goes into the file with the path.
 fn are_in(rt: &HostRuntime, path: &str) -> bool {
@@ -16,9 +16,11 @@ fn are_in_read(rt: &HostRuntime, path: &str) -> bool {
     are_in(rt, name_of(path))
 }
 
-/// Whether it goes into a VM file at the path that is to be written. Any other file there may take faults.
+/// Whether it goes into a VM file that is to be written for the path, the standard output where that is `-`. Any other file there may
+/// take faults.
 fn are_in_kept(rt: &HostRuntime, path: &str) -> bool {
-    !is_stream(path) && are_in(rt, path) && !matches!(begins_as_vm_file(rt, path), Ok(false))
+    let name = written_name(path);
+    are_in(rt, name) && !matches!(begins_as_vm_file(rt, name), Ok(false))
 }
 
 /// Whether it goes into the VM file, if there is one.

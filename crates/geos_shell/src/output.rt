@@ -10,6 +10,11 @@ const OUTPUT: &str = "/dev/stdout";
 /// What it calls that of standard error.
 const FAULTS: &str = "/dev/stderr";
 
+/// What the system calls the file that is written for a path, also that of the standard output.
+pub(crate) fn written_name(path: &str) -> &str {
+    if is_stream(path) { OUTPUT } else { path }
+}
+
 /// Whether the standard output goes into the file.
 pub(crate) fn goes_into(rt: &HostRuntime, file: FileId) -> bool {
     regular_at(rt, OUTPUT) == Some(file)

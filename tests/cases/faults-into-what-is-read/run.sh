@@ -54,7 +54,21 @@ silent /dev/null book.vm call text nope --file=book.vm --region=1
 silent /dev/null text asm text text
 silent text text call -
 
+# Where OUT is the standard output, and a VM file.
+both() {
+    "$program" "$@" 1>>book.vm 2>>book.vm
+    status=$?
+    "$program" "$@" 1<>book.vm 2<>book.vm
+    echo "$*, output and faults into book.vm: status $status and $?"
+    cmp saved/book.vm book.vm
+}
+both asm wrong -
+both asm text -
+both budget wrong
+both budget missing -
+
 # Any other file takes faults.
 "$program" call text nope --file book.vm 2>>log
 "$program" asm wrong log 2>>log
+"$program" asm wrong - >>log 2>&1
 cat log
