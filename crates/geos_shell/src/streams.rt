@@ -34,8 +34,16 @@ fn bytes_of<R: Read + Drop>(alloc: Global, input: R, most: u64) -> io::Result<Ve
     Ok(bytes)
 }
 
+/// Says that the standard input is read, to a user who has to type it.
+fn tell_typist(rt: &HostRuntime) {
+    if rt.stdin().is_terminal() && rt.stderr().is_terminal() {
+        let _ = eprintln!(rt; "reading from the terminal, to its end (Ctrl-D)");
+    }
+}
+
 fn bytes_at(rt: &HostRuntime, path: &str, most: u64) -> io::Result<Vec<u8>> {
     if is_stream(path) {
+        tell_typist(rt);
         bytes_of(rt.alloc(), rt.stdin(), most)
     } else {
         bytes_of(rt.alloc(), fs::open(rt, path)?, most)
