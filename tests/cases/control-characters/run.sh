@@ -44,3 +44,5 @@ python3 on_terminal.py "$program" explain text.asm
 # A text that is not UTF-8.
 printf 'routine a public budget 1\n RET ; \233 \303\251\n' >text.asm
 python3 on_terminal.py "$program" explain text.asm
+# `budget` gives a terminal the bytes of the text as they are.
+python3 on_terminal.py "$program" budget text.asm | tail -n 1 | od -An -c
