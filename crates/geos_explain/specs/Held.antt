@@ -67,7 +67,7 @@ sinces_at which place = texts_below 4 (λ a. since_at which place a)
 
 -- what else the exit row of a place wants
 unfoldable pub else_wanted : Place → List ℕ
-else_wanted place = also_are (row_items (lacking place.row place.routine.exit)) (codes " wanted by the exit row, and not known here")
+else_wanted place = also_are (row_items (lacking place.row place.routine.exit)) (codes " wanted by the out line, and not known here")
 
 -- that slots are still held at the return, since where, which of them are borrowed, and what else the exit row wants
 unfoldable pub kept_behind : Place → List ℕ
@@ -79,7 +79,7 @@ kept_words place = slots_at Return place ++ kept_behind place
 
 -- the exit row wants more than the row says
 unfoldable pub unmet_words : Place → List ℕ
-unmet_words place = are_text (lacking_items place.row place.routine.exit) (codes " wanted by the exit row, and not known here")
+unmet_words place = are_text (lacking_items place.row place.routine.exit) (codes " wanted by the out line, and not known here")
 
 -- a row does not fit the exit row: slots are still held, or else it wants more
 unfoldable pub exit_words : Place → List ℕ

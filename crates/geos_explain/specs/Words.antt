@@ -47,7 +47,7 @@ unfoldable pub entry_words : Routine → Row → List ℕ
 entry_words routine row =
     if length (lacking_items routine.entry row) == 0
     then public_words routine
-    else are_text (lacking_items routine.entry row) (codes " wanted here, and not known from the entry row")
+    else are_text (lacking_items routine.entry row) (codes " wanted here, and not known from the in line")
 
 -- that items are wanted by a routine or at a pc
 abbrev pub wanted_behind_items : List ℕ → List ℕ → List ℕ → List ℕ

@@ -139,7 +139,7 @@ fn put_else_wanted(out: &mut Vec<u8>, place: &Place) -> Result<(), AllocError>
     put_also(
         out,
         &lacking(place.row, &place.routine.exit),
-        " wanted by the exit row, and not known here",
+        " wanted by the out line, and not known here",
     )
 }
 
@@ -164,7 +164,7 @@ fn put_unmet(out: &mut Vec<u8>, place: &Place) -> Result<(), AllocError>
 {
     let before = out.len();
     put_lacking(out, place.row, &place.routine.exit)?;
-    put_are(out, before, " wanted by the exit row, and not known here")
+    put_are(out, before, " wanted by the out line, and not known here")
 }
 
 /// The row does not fit the exit row: slots are still held, or else it wants more.

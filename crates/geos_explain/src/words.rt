@@ -65,7 +65,7 @@ fn put_entry(out: &mut Vec<u8>, routine: &Routine, row: &Row) -> Result<(), Allo
     put_are(
         out,
         before,
-        " wanted here, and not known from the entry row",
+        " wanted here, and not known from the in line",
     )
 }
 

@@ -9,4 +9,4 @@ pub returns : goal.returns
 unfolding unmet_words
 returns c =
     behind-items c.put_are.result c.args.out.now.items c.put_lacking.new.out.items c.put_are.new.out.items _ c.len-before.result
-    (λ items. are_behind items (codes " wanted by the exit row, and not known here")) (omega arith) c.in_ok-put_lacking.ensures c.put_are.ensures
+    (λ items. are_behind items (codes " wanted by the out line, and not known here")) (omega arith) c.in_ok-put_lacking.ensures c.put_are.ensures

@@ -16,5 +16,5 @@ returns c =
     (λ same. omega (arith, same)) in
     rw filled (
     behind-items c.put_are.result out c.put_lacking.new.out.items c.put_are.new.out.items lacking c.len-before.result
-    (λ items. are_behind items (codes " wanted here, and not known from the entry row")) (omega arith) c.in_ok-put_lacking.ensures c.put_are.ensures
+    (λ items. are_behind items (codes " wanted here, and not known from the in line")) (omega arith) c.in_ok-put_lacking.ensures c.put_are.ensures
     )
