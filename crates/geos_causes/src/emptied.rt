@@ -3,7 +3,8 @@
 ghost use Rattle.std.specs.Prelude.{◌≡◌, ◌<◌, ◌++◌, length, IfSome, OnOk};
 ghost use Rattle.geos_image.specs.Legal.{text_end};
 ghost use Rattle.geos_rows.specs.Joins.{slots_agree};
-ghost use Rattle.geos_causes.specs.Emptied.{name_text, emptied_text, emptied_item, emptied_items};
+ghost use Rattle.geos_causes.specs.Emptied.{name_text, emptying_text, held_wish, other_wish};
+ghost use Rattle.geos_causes.specs.Emptied.{emptied_text, emptied_item, emptied_items};
 
 use geos_explain::pc_part;
 use geos_image::SlotState;
@@ -36,8 +37,57 @@ fn name_text(name: &[u8; 16]) -> &[u8]
     &name[..end]
 }
 
-/// A CALL leaves a slot empty, and what helps: to say in the lines of its routine that it is held, or to take another.
-#[tactic(auto, unfolding(crate::specs::Emptied::emptied_text))]
+/// A CALL leaves only what the lines of its routine say.
+#[tactic(auto, unfolding(crate::specs::Emptied::emptying_text))]
+fn put_emptying(out: &mut Vec<u8>, lines: &[usize], emptied: &Emptied) -> Result<(), AllocError>
+    ensures { OnOk result (out.new.items ≡ out.old.items ++ emptying_text lines.now emptied.now) }
+{
+    put_parts(
+        out,
+        &[
+            Part::Text("; CALL at"),
+            pc_part(lines, emptied.at),
+            Part::Text(" leaves what the out line of "),
+            Part::Bytes(name_text(&emptied.callee)),
+            Part::Text(" says"),
+        ],
+    )
+}
+
+/// That the slot is held is to be said in these lines.
+#[tactic(auto, unfolding(crate::specs::Emptied::held_wish))]
+fn put_held_wish(out: &mut Vec<u8>, a: usize, emptied: &Emptied) -> Result<(), AllocError>
+    ensures { OnOk result (out.new.items ≡ out.old.items ++ held_wish a emptied.now) }
+{
+    put_parts(
+        out,
+        &[
+            Part::Numbered(": say s", a as u64),
+            Part::Text("="),
+            Part::Text(state_word(emptied.state)),
+            Part::Text(" in the in and out lines of "),
+            Part::Bytes(name_text(&emptied.callee)),
+        ],
+    )
+}
+
+/// Or, where that routine changes the slot, another is to be taken.
+#[tactic(auto, unfolding(crate::specs::Emptied::other_wish))]
+fn put_other_wish(out: &mut Vec<u8>, a: usize, emptied: &Emptied) -> Result<(), AllocError>
+    ensures { OnOk result (out.new.items ≡ out.old.items ++ other_wish a emptied.now) }
+{
+    put_parts(
+        out,
+        &[
+            Part::Text("; where "),
+            Part::Bytes(name_text(&emptied.callee)),
+            Part::Numbered(" locks or unlocks s", a as u64),
+            Part::Text(" itself, hold the block in another slot"),
+        ],
+    )
+}
+
+/// A CALL leaves a slot empty, and what helps.
 fn put_emptied(
     out: &mut Vec<u8>,
     lines: &[usize],
@@ -46,25 +96,9 @@ fn put_emptied(
 ) -> Result<(), AllocError>
     ensures { OnOk result (out.new.items ≡ out.old.items ++ emptied_text lines.now a emptied.now) }
 {
-    let name = name_text(&emptied.callee);
-    put_parts(
-        out,
-        &[
-            Part::Text("; CALL at"),
-            pc_part(lines, emptied.at),
-            Part::Text(" leaves what the out line of "),
-            Part::Bytes(name),
-            Part::Numbered(" says: say s", a as u64),
-            Part::Text("="),
-            Part::Text(state_word(emptied.state)),
-            Part::Text(" in the in and out lines of "),
-            Part::Bytes(name),
-            Part::Text("; where "),
-            Part::Bytes(name),
-            Part::Numbered(" locks or unlocks s", a as u64),
-            Part::Text(" itself, hold the block in another slot"),
-        ],
-    )
+    put_emptying(out, lines, emptied)?;
+    put_held_wish(out, a, emptied)?;
+    put_other_wish(out, a, emptied)
 }
 
 /// The same, where what the slot held agrees with what it holds on the other way.
