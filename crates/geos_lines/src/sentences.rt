@@ -1,6 +1,7 @@
 //! All sentences on faulty lines.
 
 use crate::words::Word;
+use geos_source::label_of;
 use geos_text::put_numbered;
 use std::alloc::AllocError;
 
@@ -127,13 +128,32 @@ pub(crate) fn hint(word: &[u8], most: usize) -> Option<&'static str> {
     }
 }
 
+/// Whether a word has digits and commas alone.
+fn has_digits_and_commas(word: &[u8]) -> bool {
+    for byte in word {
+        if !byte.is_ascii_digit() && *byte != b',' {
+            return false;
+        }
+    }
+    true
+}
+
+/// What helps with a word in the place of what its form is to be.
+fn help(word: &[u8], wrong: Wrong) -> Option<&'static str> {
+    match wrong {
+        Wrong::NoName if label_of(word).is_some() => Some(": it stands here without the colon"),
+        Wrong::NoNumber if has_digits_and_commas(word) => None,
+        _ => hint(word, wrong.most_bytes()),
+    }
+}
+
 /// Appends what is wrong with a word of a line.
 pub(crate) fn put_wrong(out: &mut Vec<u8>, word: Word, wrong: Wrong) -> Result<(), AllocError> {
     put_word(out, word)?;
-    match hint(word.bytes, wrong.most_bytes()) {
-        Some(hint) => {
+    match help(word.bytes, wrong) {
+        Some(help) => {
             put_text(out, wrong.short_text())?;
-            put_text(out, hint)
+            put_text(out, help)
         }
         None => put_text(out, wrong.text()),
     }

@@ -1,0 +1,2 @@
+routine a budget 3
+x:      JMP x:

@@ -1,0 +1,2 @@
+routine a budget 1,000
+        RET
