@@ -7,6 +7,7 @@ pub mod Places
 pub mod Notes
 pub mod Lacks
 pub mod Uses
+pub mod Mends
 pub mod Past
 pub mod Ways
 pub mod Lost

@@ -1,5 +1,5 @@
 -- What is to be known where a read or a write may pass the end of what a pointer leads to, and what helps there.
-use Rattle.std.specs.Prelude.{ℕ, ◌-◌, nat_le, nat_lt, if◌then◌else◌, List, [], ◌∷◌, codes, decimal}
+use Rattle.std.specs.Prelude.{ℕ, ◌-◌, nat_le, nat_lt, if◌then◌else◌, List, [], ◌∷◌, ◌++◌, codes, decimal}
 use Rattle.std.specs.List.{concat}
 use Rattle.geos_image.specs.declared.instr.Instr.{Instr}
 use Rattle.geos_image.specs.declared.row.Row.{Row}
@@ -13,6 +13,7 @@ use Rattle.geos_verify.specs.Uses.{bytes_in}
 use Rattle.geos_verify.specs.Rules.{reach, least_at}
 use Rattle.geos_explain.specs.declared.forgotten.Item.{Item}
 use Rattle.geos_explain.specs.declared.forgotten.Item.TheVariants.{Bound, Leads}
+use Rattle.geos_explain.specs.Mends.{bounding}
 use Rattle.geos_explain.specs.Uses.{slot_behind}
 
 -- the read of a width that tests its index
@@ -55,7 +56,7 @@ ask_wish p wanted =
 unfoldable pub index_wish : List ℕ → Instr → ℕ → ℕ → List ℕ
 index_wish tested i wide least =
     if nat_le wide least
-    then concat (codes "; CHK w" ∷ decimal i.c ∷ codes " " ∷ decimal (least - wide) ∷ codes " L bounds it, " ∷ tested ∷ codes " tests it" ∷ [])
+    then bounding i.c (least - wide) ++ concat (codes ", " ∷ tested ∷ codes " tests it" ∷ [])
     else concat (codes "; ask for " ∷ decimal wide ∷ codes " or more where p" ∷ decimal i.b ∷ codes " is set, or " ∷ tested ∷ codes " tests the index" ∷ [])
 
 -- what helps a read or a write at an offset

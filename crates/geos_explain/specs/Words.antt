@@ -30,6 +30,7 @@ use Rattle.geos_explain.specs.declared.forgotten.Item.TheVariants.{Slot, Held}
 use Rattle.geos_explain.specs.Calls.{forgotten_text, forgotten_item, forgotten_items, lent_items}
 use Rattle.geos_explain.specs.Moved.{moved_text}
 use Rattle.geos_explain.specs.Past.{past_item, past_wish}
+use Rattle.geos_explain.specs.Mends.{mends}
 use Rattle.geos_explain.specs.Stale.{stale_words}
 use Rattle.geos_explain.specs.Steps.{unpaid_words}
 use Rattle.geos_verify.specs.Places.{places}
@@ -128,10 +129,12 @@ slot_item i row = if is_empty (slot_state row i.a) then Some (Held i.a) else Non
 unfoldable pub slot_here : Place → List ℕ
 slot_here place = slot_words place.i (uses_of place.i.opcode).slot place.row ++ forgotten_item place (slot_item place.i place.row)
 
--- what is to be said of a routine that is called, and which call forgets what it wants
+-- what is to be said of a routine that is called, which call forgets what it wants, and what makes it known
 abbrev pub callee_wish : Place → Routine → List ℕ
 callee_wish place callee =
-    if nat_lt place.i.imm place.r then lent_items place place.i.imm callee ++ forgotten_items place (lacking place.row callee.entry) else []
+    if nat_lt place.i.imm place.r
+    then lent_items place place.i.imm callee ++ forgotten_items place (lacking place.row callee.entry) ++ mends place.row callee.entry
+    else []
 
 -- the same of the routine that a call names
 abbrev pub wish_of_call : Place → Opcode → List ℕ
@@ -142,9 +145,10 @@ wish_of_call place _ = []
 unfoldable pub call_wish : Place → List ℕ
 call_wish place = wish_of_call place place.i.opcode
 
--- a row does not fit the exit row, and which call forgets what that wants
+-- a row does not fit the exit row, which call forgets what that wants, and what makes it known
 unfoldable pub exit_here : Place → List ℕ
-exit_here place = exit_words place ++ forgotten_items place (lacking place.row place.routine.exit)
+exit_here place =
+    exit_words place ++ forgotten_items place (lacking place.row place.routine.exit) ++ mends place.row place.routine.exit
 
 -- what is wrong at a place, by a rule
 unfoldable pub words : Place → Rule → List ℕ

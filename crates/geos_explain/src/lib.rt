@@ -20,6 +20,7 @@ mod held;
 mod lacks;
 mod led;
 mod listed;
+mod mends;
 mod moved;
 mod notes;
 mod numbers;

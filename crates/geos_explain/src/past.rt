@@ -8,6 +8,7 @@ ghost use Rattle.geos_explain.specs.Past.{load_tested, store_tested, leads_item,
 ghost use Rattle.geos_explain.specs.Past.{past_item, ask_wish, index_wish, reach_wish, past_wish};
 
 use crate::forgotten::Item;
+use crate::mends::put_bounding;
 use crate::uses::slot_behind;
 use geos_image::{Instr, Pointer, Row};
 use geos_opcodes::{Offset, PointerUse, Width};
@@ -65,12 +66,11 @@ fn put_index_wish(
     ensures { OnOk result (out.new.items ≡ out.old.items ++ index_wish tested.now i.now wide least) }
 {
     if wide <= least {
+        put_bounding(out, i.c, least - wide)?;
         put_parts(
             out,
             &[
-                Part::Numbered("; CHK w", i.c as u64),
-                Part::Numbered(" ", (least - wide) as u64),
-                Part::Text(" L bounds it, "),
+                Part::Text(", "),
                 Part::Text(tested),
                 Part::Text(" tests it"),
             ],

@@ -233,7 +233,7 @@ pub(crate) fn changed_slot(i: &Instr, pointer: PointerUse, row: &Row) -> u8
 }
 
 /// The instruction that marks the block of a slot.
-fn mark_word(state: SlotState) -> &'static str
+pub(crate) fn mark_word(state: SlotState) -> &'static str
     ensures { result.now ≡ mark_word state }
 {
     match state {

@@ -8,7 +8,6 @@ ghost use Rattle.geos_explain.specs.Words.{wanted_behind_items, branching_words,
 ghost use Rattle.geos_explain.specs.Words.{mark_item, unmarked_here, slot_item, slot_here, call_wish, exit_here, words, refusal_head, refusal_line};
 ghost use Rattle.geos_opcodes.specs.Facts.{uses_of};
 ghost use Rattle.geos_verify.specs.RuleText.{rule_number};
-ghost use Rattle.geos_verify.specs.Rows.{marked_state};
 
 use crate::budgets::put_over;
 use crate::calls::{put_forgotten, put_forgotten_item, put_forgotten_items, put_lent_items};
@@ -16,6 +15,7 @@ use crate::forgotten::Item;
 use crate::held::put_exit;
 use crate::lacks::{lacking, put_lacking};
 use crate::led::is_reached;
+use crate::mends::{as_marked, put_mends};
 use crate::moved::put_moved_round;
 use crate::numbers::{is_or_are, label_part, pc_part, put_are, written_from};
 use crate::past::{past_item, put_past_wish};
@@ -25,7 +25,7 @@ use crate::stale::put_stale;
 use crate::steps::put_unpaid;
 use crate::uses::{changed_slot, put_held, put_nowhere, put_past, put_slot, put_unmarked};
 use crate::written::put_written;
-use geos_image::{Instr, Opcode, Routine, Row, SlotState};
+use geos_image::{Instr, Opcode, Routine, Row};
 use geos_text::{Part, put_parts};
 use geos_verify::{Rule, after, falls_through, has_edge, has_place, is_empty, slot_state};
 use std::alloc::AllocError;
@@ -62,11 +62,7 @@ fn put_entry(out: &mut Vec<u8>, routine: &Routine, row: &Row) -> Result<(), Allo
     if out.len() == before {
         return put_public(out, routine);
     }
-    put_are(
-        out,
-        before,
-        " wanted here, and not known from the in line",
-    )
+    put_are(out, before, " wanted here, and not known from the in line")
 }
 
 /// The items that were written from a place on are wanted by a routine or at a pc.
@@ -219,23 +215,6 @@ fn put_past_here(out: &mut Vec<u8>, place: &Place) -> Result<(), AllocError>
     put_past_wish(out, place.i, place.row)
 }
 
-/// The state of a slot whose block is marked, if it has a mark.
-fn as_marked(state: SlotState) -> SlotState
-    ensures { result ≡ marked_state state }
-{
-    match state {
-        SlotState::Vm {
-            marked: _,
-            borrowed,
-        } => SlotState::Vm {
-            marked: true,
-            borrowed,
-        },
-        SlotState::Db { marked: _ } => SlotState::Db { marked: true },
-        other => other,
-    }
-}
-
 /// The mark of the slot whose block the instruction changes.
 fn mark_item(i: &Instr, row: &Row) -> Item
     ensures { result ≡ mark_item i.now (uses_of i.now.opcode).pointer row.now }
@@ -275,7 +254,7 @@ fn put_slot_here(out: &mut Vec<u8>, place: &Place) -> Result<(), AllocError>
     put_forgotten_item(out, place, slot_item(place.i, place.row))
 }
 
-/// What is to be said of the routine that a call names, and which call forgets what that wants.
+/// What is to be said of the routine that a call names, which call forgets what that wants, and what makes it known.
 #[tactic(auto, unfolding(crate::specs::Words::call_wish))]
 fn put_call_wish(out: &mut Vec<u8>, place: &Place) -> Result<(), AllocError>
     requires { IsPlace (place_of place.now) }
@@ -289,7 +268,8 @@ fn put_call_wish(out: &mut Vec<u8>, place: &Place) -> Result<(), AllocError>
         return Ok(());
     }
     put_lent_items(out, place, place.i.imm, callee)?;
-    put_forgotten_items(out, place, &lacking(place.row, &callee.entry))
+    put_forgotten_items(out, place, &lacking(place.row, &callee.entry))?;
+    put_mends(out, place.row, &callee.entry)
 }
 
 /// What is wrong at a call, and what helps.
@@ -301,14 +281,15 @@ fn put_call_here(out: &mut Vec<u8>, place: &Place) -> Result<(), AllocError>
     put_call_wish(out, place)
 }
 
-/// A row does not fit the exit row, and which call forgets what that wants.
+/// A row does not fit the exit row, which call forgets what that wants, and what makes it known.
 #[tactic(auto, unfolding(crate::specs::Words::exit_here))]
 fn put_exit_here(out: &mut Vec<u8>, place: &Place) -> Result<(), AllocError>
     requires { IsPlace (place_of place.now) }
     ensures { OnOk result (out.new.items ≡ out.old.items ++ exit_here (place_of place.now)) }
 {
     put_exit(out, place)?;
-    put_forgotten_items(out, place, &lacking(place.row, &place.routine.exit))
+    put_forgotten_items(out, place, &lacking(place.row, &place.routine.exit))?;
+    put_mends(out, place.row, &place.routine.exit)
 }
 
 /// What is wrong at the place, by the rule.
