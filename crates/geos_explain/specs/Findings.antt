@@ -1,38 +1,45 @@
--- What is found of the pointers that may be stale, for each place where that is told.
+-- What is found of the pointers that are not known, for each place where that is told.
 use Rattle.std.specs.Prelude.{◌≡◌, ◌<◌, ◌+◌, ℕ, List, [], take, count_by, Option, Some, None, length, slice_get}
 use Rattle.geos_image.specs.declared.routine.Routine.{Routine}
 use Rattle.geos_image.specs.Parts.{Parts, start_of}
 use Rattle.geos_opcodes.specs.Facts.{uses_of}
 use Rattle.geos_verify.specs.declared.place.Place.{Place as KnownPlace}
 use Rattle.geos_verify.specs.declared.rule.Rule.{Rule}
-use Rattle.geos_verify.specs.declared.rule.Rule.TheVariants.{StalePointer}
+use Rattle.geos_verify.specs.declared.rule.Rule.TheVariants.{StalePointer, ExitMisfit}
 use Rattle.geos_verify.specs.Places.{places}
 use Rattle.geos_explain.specs.declared.finding.Finding.{Finding}
 use Rattle.geos_explain.specs.declared.finding.Findings.{Findings}
 use Rattle.geos_explain.specs.Places.{Place, Explained, place_at}
+use Rattle.geos_explain.specs.Returned.{first_wanted}
 use Rattle.geos_explain.specs.Stale.{stale_used, findings_at}
 use Rattle.geos_explain.specs.Told.{is_told, rule_at, most_told}
 use Rattle.geos_explain.specs.Trace.{IsFinding}
+
+-- the pointers that are not known where a rule is told: those that the instruction uses, or the first that the exit row wants
+abbrev pub told_pointers : Place → Rule → Option ℕ × Option ℕ
+told_pointers place StalePointer = stale_used place.i (uses_of place.i.opcode).pointer place.row
+told_pointers place ExitMisfit = (first_wanted place.row place.routine.exit, None)
+told_pointers place _ = (None, None)
 
 -- if there is a pointer, something is found of it, and holds
 abbrev pub IsFound : Place → Option ℕ → Option Finding → Type 0
 IsFound place None finding = Unit {0}
 IsFound place (Some p) finding = (found : Finding) × (finding ≡ Some found) × IsFinding place p found
 
--- the same of the pointers that an instruction uses, where the row knows nothing of them
-pub record AreFound (place : Place) (found : Findings) : Type 0 where
-  pub first : IsFound place (stale_used place.i (uses_of place.i.opcode).pointer place.row).0 found.first
-  pub second : IsFound place (stale_used place.i (uses_of place.i.opcode).pointer place.row).1 found.second
+-- the same of these pointers
+pub record AreFound (place : Place) (rule : Rule) (found : Findings) : Type 0 where
+  pub first : IsFound place (told_pointers place rule).0 found.first
+  pub second : IsFound place (told_pointers place rule).1 found.second
 
--- the rule on stale pointers is told at a pc: it refuses there, and not too many are told before
-pub record IsToldStale (image : Parts) (refused : List (Option Rule)) (pc : ℕ) : Type 0 where
-  pub rule : rule_at refused pc ≡ Some StalePointer
+-- a rule is told at a pc: it refuses there, and not too many are told before
+pub record IsToldAt (image : Parts) (refused : List (Option Rule)) (pc : ℕ) (rule : Rule) : Type 0 where
+  pub refuses : rule_at refused pc ≡ Some rule
   pub few : count_by is_told (take pc refused) < most_told (length image.points)
 
--- where that rule is told of an instruction of routine r, these are found of its pointers
+-- where a rule is told of an instruction of routine r, these are found of the pointers
 abbrev pub FoundAt : Explained → ℕ → Routine → ℕ → Findings → Type 0
-FoundAt explained r routine pc found = IsToldStale explained.image explained.refused pc → (known : KnownPlace)
-    → slice_get (places explained.image) pc ≡ Some known → AreFound (place_at explained r routine pc known) found
+FoundAt explained r routine pc found = (rule : Rule) → IsToldAt explained.image explained.refused pc rule → (known : KnownPlace)
+    → slice_get (places explained.image) pc ≡ Some known → AreFound (place_at explained r routine pc known) rule found
 
 -- of each such instruction of all routines
 abbrev pub AllFound : Explained → List Findings → Type 0
@@ -45,6 +52,6 @@ AllFoundSoFar explained findings = (r k : ℕ) (routine : Routine) → slice_get
     → start_of explained.image.routines r + k < length findings
     → FoundAt explained r routine (start_of explained.image.routines r + k) (findings_at findings (start_of explained.image.routines r + k))
 
--- what is found holds, of each pointer of an image that is told to be stale
+-- what is found holds, of each pointer of an image that is told to be not known
 abbrev pub FindingsHold : Parts → List (Option Rule) → List Findings → Type 0
 FindingsHold image refused findings = AllFound (record { image = image; lines = []; refused = refused; findings = [] }) findings

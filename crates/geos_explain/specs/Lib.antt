@@ -23,6 +23,7 @@ pub mod Steps
 pub mod Unset
 pub mod Budgets
 pub mod Written
+pub mod Returned
 pub mod Words
 pub mod Told
 pub mod Repeated

@@ -17,7 +17,7 @@ use Rattle.geos_explain.specs.declared.place.Place as code
 use Rattle.geos_explain.specs.declared.explained.Explained as told
 
 -- the instruction at a pc of routine r, its row and its potential; and the line of each instruction in an author's text, or
--- nothing, and what is found of the pointers that each uses, or nothing
+-- nothing, and what is found of the pointers that are not known at each, or nothing
 pub record Place : Type 0 where
   pub image : Parts
   pub lines : List ℕ
@@ -30,7 +30,7 @@ pub record Place : Type 0 where
   pub findings : List Findings
 
 -- an image that is explained, with the line of each instruction in an author's text, or nothing, and for each pc the lowest rule
--- that refuses there, if one does, and what is found of the pointers that the instruction uses
+-- that refuses there, if one does, and what is found of the pointers that are not known
 pub record Explained : Type 0 where
   pub image : Parts
   pub lines : List ℕ

@@ -32,6 +32,7 @@ use Rattle.geos_explain.specs.Moved.{moved_text}
 use Rattle.geos_explain.specs.Past.{past_item, past_wish}
 use Rattle.geos_explain.specs.Mends.{mends}
 use Rattle.geos_explain.specs.Stale.{stale_words}
+use Rattle.geos_explain.specs.Returned.{unknown_item}
 use Rattle.geos_explain.specs.Steps.{unpaid_words}
 use Rattle.geos_verify.specs.Places.{places}
 
@@ -145,10 +146,10 @@ wish_of_call place _ = []
 unfoldable pub call_wish : Place → List ℕ
 call_wish place = wish_of_call place place.i.opcode
 
--- a row does not fit the exit row, which call forgets what that wants, and what makes it known
+-- a row does not fit the exit row, which call forgets what that wants, what makes it known, and why a pointer is not
 unfoldable pub exit_here : Place → List ℕ
 exit_here place =
-    exit_words place ++ forgotten_items place (lacking place.row place.routine.exit) ++ mends place.row place.routine.exit
+    exit_words place ++ forgotten_items place (lacking place.row place.routine.exit) ++ mends place.row place.routine.exit ++ unknown_item place
 
 -- what is wrong at a place, by a rule
 unfoldable pub words : Place → Rule → List ℕ

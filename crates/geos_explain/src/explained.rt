@@ -20,7 +20,7 @@ pub(crate) struct Explained<'a> {
     pub marks: &'a Marks,
     /// For each pc the rule that is told there, if one is.
     pub refused: &'a [Option<Rule>],
-    /// For each pc what is found of the pointers that the instruction uses; else nothing.
+    /// For each pc what is found of the pointers that are not known there; else nothing.
     pub findings: &'a [Findings],
     /// The first pc whose refusal is not told, since so many before it are.
     pub untold: usize,

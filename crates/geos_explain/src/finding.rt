@@ -51,7 +51,7 @@ pub(crate) struct Finding {
     pub lost: Option<Loss>,
 }
 
-/// What is found of the pointers that an instruction uses.
+/// What is found of the pointers that are told to be not known.
 #[derive(Clone, Copy)]
 pub(crate) struct Findings {
     /// Of that which is named first.

@@ -1,28 +1,42 @@
-//! What is found of the pointers that may be stale, for each place where that is told.
+//! What is found of the pointers that are not known, for each place where that is told.
 
-ghost use Rattle.std.specs.Prelude.{◌≡◌, ◌<◌, true, false, suc, length, IfOk, OnOk};
+ghost use Rattle.std.specs.Prelude.{◌≡◌, ◌<◌, true, Some, suc, length, IfOk, OnOk};
 ghost use Rattle.geos_image.specs.Legal.{is_image};
 ghost use Rattle.geos_image.specs.Parts.{start_of};
-ghost use Rattle.geos_explain.specs.Findings.{AreFound, AllFound, AllFoundSoFar, FoundAt, IsFound, IsToldStale};
+ghost use Rattle.geos_explain.specs.Findings.{AreFound, AllFound, AllFoundSoFar, FoundAt, IsFound, IsToldAt, told_pointers};
 ghost use Rattle.geos_explain.specs.Places.{IsPlace, explained_of, place_of};
 
 use crate::explained::Explained;
 use crate::finding::{Finding, Findings};
 use crate::place::Place;
 use crate::refusals::rule_at;
+use crate::returned::first_wanted;
 use crate::routines::{ExplainedRoutine, place_at};
 use crate::stale::stale_used;
 use crate::trace::traced;
 use geos_verify::{Rule, uses_at};
 use std::alloc::{AllocError, Global};
 
-/// Whether the rule on stale pointers is told at the pc.
-fn is_told_stale(explained: &Explained, pc: u16) -> bool
-    ensures { result ≡ false → IsToldStale explained.now.image.now explained.now.refused.now pc → ⊥ }
+/// The rule that is told at the pc, if one is.
+fn rule_told(explained: &Explained, pc: u16) -> Option<Rule>
+    ensures { (rule : Rule) → IsToldAt explained.now.image.now explained.now.refused.now pc rule → result ≡ Some rule }
 {
-    match rule_at(explained.refused, pc) {
-        Some(Rule::StalePointer) => usize::from(pc) < explained.untold,
-        _ => false,
+    if usize::from(pc) < explained.untold {
+        rule_at(explained.refused, pc)
+    } else {
+        None
+    }
+}
+
+/// The pointers that are not known where the rule is told: those that the instruction uses, or the first that the exit row wants.
+fn told_pointers(place: &Place, rule: Rule) -> (Option<u8>, Option<u8>)
+    requires { IsPlace (place_of place.now) }
+    ensures { result ≡ told_pointers (place_of place.now) rule }
+{
+    match rule {
+        Rule::StalePointer => stale_used(place.i, uses_at(place.i).pointer, place.row),
+        Rule::ExitMisfit => (first_wanted(place.row, &place.routine.exit), None),
+        _ => (None, None),
     }
 }
 
@@ -37,30 +51,29 @@ fn finding_of(place: &Place, pointer: Option<u8>) -> Option<Finding>
     }
 }
 
-/// What is found of the pointers that the instruction uses, where its row knows nothing of them.
-fn findings_of(place: &Place) -> Findings
+/// What is found of these pointers.
+fn findings_of(place: &Place, rule: Rule) -> Findings
     requires { IsPlace (place_of place.now) }
-    ensures { AreFound (place_of place.now) result }
+    ensures { AreFound (place_of place.now) rule result }
 {
-    let (first, second) = stale_used(place.i, uses_at(place.i).pointer, place.row);
+    let (first, second) = told_pointers(place, rule);
     Findings {
         first: finding_of(place, first),
         second: finding_of(place, second),
     }
 }
 
-/// The same of the instruction at a pc, if the rule is told there.
+/// The same of the instruction at a pc, if a rule is told there.
 fn found_at(within: &ExplainedRoutine, pc: u16) -> Findings
     requires { pc < length within.now.explained.now.image.now.points }
     ensures { FoundAt (explained_of within.now.explained.now) within.now.r within.now.routine.now pc result }
 {
-    if is_told_stale(within.explained, pc) {
-        findings_of(&place_at(within, pc))
-    } else {
-        Findings {
+    match rule_told(within.explained, pc) {
+        Some(rule) => findings_of(&place_at(within, pc), rule),
+        None => Findings {
             first: None,
             second: None,
-        }
+        },
     }
 }
 

@@ -29,6 +29,7 @@ mod place;
 mod public;
 mod refusals;
 mod repeated;
+mod returned;
 mod routines;
 mod since;
 mod stale;

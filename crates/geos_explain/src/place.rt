@@ -20,7 +20,7 @@ pub(crate) struct Place<'a> {
     pub i: &'a Instr,
     pub row: &'a Row,
     pub potential: &'a Potential,
-    /// What is found of the pointers that each instruction uses; else nothing.
+    /// What is found of the pointers that are not known at each instruction; else nothing.
     pub findings: &'a [Findings],
     /// What control reaches.
     pub marks: &'a Marks,

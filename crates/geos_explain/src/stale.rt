@@ -20,7 +20,7 @@ use geos_verify::{Place as KnownPlace, pointer_at, uses_at};
 use std::alloc::AllocError;
 
 /// The pointer, where the row knows nothing of it.
-fn if_stale(row: &Row, p: u8) -> Option<u8>
+pub(crate) fn if_stale(row: &Row, p: u8) -> Option<u8>
     ensures { result ≡ if_stale row.now p }
 {
     if is_stale(pointer_at(row, p)) {
@@ -416,7 +416,7 @@ fn put_loss(out: &mut Vec<u8>, place: &Place, p: u8, found: Finding) -> Result<(
 
 /// Where the pointer was lost, and by what, if there is a pointer, and something is found of it.
 #[tactic(auto, unfolding(crate::specs::Stale::finding_words))]
-fn put_finding_item(
+pub(crate) fn put_finding_item(
     out: &mut Vec<u8>,
     place: &Place,
     pointer: Option<u8>,

@@ -21,6 +21,7 @@ use crate::numbers::{is_or_are, label_part, pc_part, put_are, written_from};
 use crate::past::{past_item, put_past_wish};
 use crate::place::Place;
 use crate::public::put_public;
+use crate::returned::put_unknown_item;
 use crate::stale::put_stale;
 use crate::steps::put_unpaid;
 use crate::uses::{changed_slot, put_held, put_nowhere, put_past, put_slot, put_unmarked};
@@ -281,7 +282,7 @@ fn put_call_here(out: &mut Vec<u8>, place: &Place) -> Result<(), AllocError>
     put_call_wish(out, place)
 }
 
-/// A row does not fit the exit row, which call forgets what that wants, and what makes it known.
+/// A row does not fit the exit row, which call forgets what that wants, what makes it known, and why a pointer is not.
 #[tactic(auto, unfolding(crate::specs::Words::exit_here))]
 fn put_exit_here(out: &mut Vec<u8>, place: &Place) -> Result<(), AllocError>
     requires { IsPlace (place_of place.now) }
@@ -289,7 +290,8 @@ fn put_exit_here(out: &mut Vec<u8>, place: &Place) -> Result<(), AllocError>
 {
     put_exit(out, place)?;
     put_forgotten_items(out, place, &lacking(place.row, &place.routine.exit))?;
-    put_mends(out, place.row, &place.routine.exit)
+    put_mends(out, place.row, &place.routine.exit)?;
+    put_unknown_item(out, place)
 }
 
 /// What is wrong at the place, by the rule.
