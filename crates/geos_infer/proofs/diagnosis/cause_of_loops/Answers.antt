@@ -1,4 +1,4 @@
-use Rattle.std.proofs.Common.{◌≡◌, true, inl, inr, refl}
+use Rattle.std.proofs.Common.{◌≡◌, true, inr, refl}
 use Rattle.std.proofs.lemmas.Result.{IfOk-weaker}
 use Rattle.geos_potentials.specs.declared.reason.Reason.TheVariants.{InTheWay}
 use Rattle.geos_rows.proofs.Held.{fit-alike}
@@ -14,7 +14,7 @@ pub returns-then-branch-clause-tells : goal.returns-then-branch-clause-tells
 returns-then-branch-clause-tells c = inr refl
 
 pub returns-in-Some-clause-tells : goal.returns-in-Some-clause-tells
-returns-in-Some-clause-tells c = inl (rw c.in-Some.is at c.in_ok-cause.ensures.tells)
+returns-in-Some-clause-tells c = rw c.in-Some.is at c.in_ok-cause.ensures.tells
 
 pub returns-in-Some-find_back-clause-tells : goal.returns-in-Some-find_back-clause-tells
 returns-in-Some-find_back-clause-tells c = IfOk-weaker c.cause_of_back.result (λ told. tells_of_ways told ≡ true)
