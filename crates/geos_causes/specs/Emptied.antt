@@ -16,17 +16,20 @@ name_text name = take (unwrap_or (text_end name) 16) name
 -- a CALL leaves only what the lines of its routine say
 unfoldable pub emptying_text : List ℕ → Emptied → List ℕ
 emptying_text lines emptied =
-    concat (codes "; CALL at" ∷ pc_text lines emptied.at ∷ codes " leaves what the out line of " ∷ name_text emptied.callee ∷ codes " says" ∷ [])
+    concat (codes "; CALL at" ∷ pc_text lines emptied.at ∷ codes " leaves what the out line of " ∷ name_text emptied.callee
+    ∷ codes " says" ∷ [])
 
 -- that a slot is held is to be said in these lines
 unfoldable pub held_wish : ℕ → Emptied → List ℕ
 held_wish a emptied =
-    concat (codes ": say s" ∷ decimal a ∷ codes "=" ∷ state_word emptied.state ∷ codes " in the in and out lines of " ∷ name_text emptied.callee ∷ [])
+    concat (codes ": say s" ∷ decimal a ∷ codes "=" ∷ state_word emptied.state
+    ∷ codes " in the in and out lines of " ∷ name_text emptied.callee ∷ [])
 
 -- or, where that routine changes the slot, another is to be taken
 unfoldable pub other_wish : ℕ → Emptied → List ℕ
 other_wish a emptied =
-    concat (codes "; where " ∷ name_text emptied.callee ∷ codes " locks or unlocks s" ∷ decimal a ∷ codes " itself, hold the block in another slot" ∷ [])
+    concat (codes "; where " ∷ name_text emptied.callee ∷ codes " locks or unlocks s" ∷ decimal a
+    ∷ codes " itself, hold the block in another slot" ∷ [])
 
 -- a CALL leaves a slot empty, and what helps
 abbrev pub emptied_text : List ℕ → ℕ → Emptied → List ℕ
