@@ -22,8 +22,8 @@ returns-in-Ok-clause-accepted c =
     found.what_there_is in
     subst (RunsIfAnyDoes text) (sym c.into_keyed.ensures.value) (runs_if_any text whole made)
 
-pub find_cause-requires : goal.find_cause-requires
-find_cause-requires c = subst (IsWhyNone c.in_ok-blank.blank) c.in-Err-Stopped.field-0-is c.in-Err-Stopped.ensures.why
+pub find_cause-cause-requires : goal.find_cause-cause-requires
+find_cause-cause-requires c = subst (IsWhyNone c.in_ok-blank.blank) c.in-Err-Stopped.field-0-is c.in-Err-Stopped.ensures.why
 
 pub returns-in-Err-Stopped-clause-why : goal.returns-in-Err-Stopped-clause-why
 returns-in-Err-Stopped-clause-why c =
@@ -31,7 +31,7 @@ returns-in-Err-Stopped-clause-why c =
     let blank = c.in_ok-blank.blank in
     let finding = c.in-Err-Stopped.finding in
     let S = subst (IsWhyNone blank) c.in-Err-Stopped.field-0-is c.in-Err-Stopped.ensures.why in
-    let cause = c.in_ok-cause.ensures in (
+    let cause = c.in_ok-cause-in-Err-Stopped.ensures in (
       no_rows text _ blank finding.routine c.from.result _ c.in_ok-parsed.ensures.parsed c.in_ok-blank.ensures S.within c.from.ensures
           c.index-routine.ensures S.none S.stuck,
       caused text _ blank finding c.from.result _ _ c.in_ok-parsed.ensures.parsed c.in_ok-blank.ensures S c.from.ensures
