@@ -1,6 +1,7 @@
 -- What the commands on the bytes of texts and images answer.
 use Rattle.std.specs.Prelude.{◌≡◌, ℕ, Bool, true, false, not, MatchBool, ◌==◌, List, Ok, Option, codes}
 use Rattle.std.specs.List.{starts_with}
+use Rattle.geos_image.specs.declared.instr.Instr.{Instr}
 use Rattle.geos_image.specs.Parts.{Parts}
 use Rattle.geos_image.specs.Legal.{is_formed}
 use Rattle.geos_image.specs.Reading.{image_at}
@@ -14,7 +15,7 @@ use Rattle.geos_causes.specs.Causes.{cause_text}
 use Rattle.geos_lines.specs.Telling.{TellsFaults}
 use Rattle.geos_infer.specs.declared.cause.Cause.{Cause}
 use Rattle.geos_source.specs.Coded.{IsTextOf}
-use Rattle.geos_asm.specs.Assembling.{IsAssembled, IsCauseOf, IsWhyNoImage}
+use Rattle.geos_asm.specs.Assembling.{IsAssembled, IsCauseIn, IsWhyNoImage}
 use Rattle.geos_asm.specs.declared.error.AssembleError.{AssembleError}
 use Rattle.geos_asm.specs.declared.error.AssembleError.TheVariants.{BadLine, NoRows, Memory}
 
@@ -47,7 +48,7 @@ IsExplainedText text told reject =
 abbrev pub IsFaultTold : List ℕ → AssembleError → List ℕ → Type 0
 IsFaultTold text (BadLine fault) told = IsWhyNoImage text (BadLine fault) × TellsFaults text told
 IsFaultTold text (NoRows line) told = IsWhyNoImage text (NoRows line)
-    × ((cause : Cause) × IsCauseOf text line cause × (told ≡ cause_text (instr_lines text) cause))
+    × ((cause : Cause) × (instrs : List Instr) × IsCauseIn text line cause instrs × (told ≡ cause_text (instr_lines text) instrs cause))
 IsFaultTold text Memory told = ⊥
 
 -- the bytes begin as an image does

@@ -156,10 +156,10 @@ pub(crate) fn explain_text_bytes(
             told: tell_faults(alloc, text)?,
             fault: AssembleError::BadLine(line),
         })),
-        Err(Unassembled::NoRows(line, cause)) => {
+        Err(Unassembled::NoRows(line, cause, instrs)) => {
             let lines = lines_of_instrs(alloc, text)?;
             Ok(Err(Faulty {
-                told: explain_cause(alloc, &lines, &cause)?,
+                told: explain_cause(alloc, &lines, &instrs, &cause)?,
                 fault: AssembleError::NoRows(line),
             }))
         }

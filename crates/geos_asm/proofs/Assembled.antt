@@ -20,7 +20,7 @@ use Rattle.geos_rows.specs.Why.{MeetAlike}
 use Rattle.geos_infer.proofs.Keyed.{keyed-code, found-keyed, all-hold-keyed}
 use Rattle.geos_infer.specs.declared.cause.Cause.{Cause}
 use Rattle.geos_infer.specs.declared.finding.Finding.{Finding}
-use Rattle.geos_asm.specs.Assembling.{IsAssembled, RunsIfAnyDoes, HasNoRows, IsCauseOf}
+use Rattle.geos_asm.specs.Assembling.{IsAssembled, RunsIfAnyDoes, HasNoRows, IsCauseIn}
 
 -- what is assembled of a text is so in version 2 too
 pub assembled_keyed : (text : List ℕ) (image : Parts) → is_formed true image ≡ true → IsAssembled text image → IsAssembled text (keyed_of image)
@@ -74,17 +74,21 @@ no_rows text code blank r at routine read is within same here none stuck = recor
 pub caused : (text : List ℕ) (code : Code) (blank : Parts) (finding : Finding) (at : ℕ) (routine : TextRoutine) (cause : Cause)
     → code_of text ≡ Ok code → blank ≡ skeleton code → Stops blank finding → at ≡ finding.routine
     → routine ≡ get_or code.routines at routine → Holds blank finding.routine cause
-    → (tells_of_slots cause ≡ false → MeetAlike blank finding.routine) → TellsOf finding.obstacle cause → IsCauseOf text routine.line cause
+    → (tells_of_slots cause ≡ false → MeetAlike blank finding.routine) → TellsOf finding.obstacle cause
+    → IsCauseIn text routine.line cause code.instrs
 caused text code blank finding at routine cause read is S same here holds slots tells =
     let r = finding.routine in
     record {
-      code = code;
-      read = read;
-      begins = record { r = r; routine = routine; there = routine-there code blank r at routine is S.within same here; line_is = refl };
-      holds = subst (λ (b : Parts). Holds b r cause) is holds;
-      slots = λ e. subst (λ (b : Parts). MeetAlike b r) is (slots e);
-      finding = finding;
-      stops = subst (λ (b : Parts). Stops b finding) is S;
-      there = refl;
-      tells = tells;
+      of = record {
+        code = code;
+        read = read;
+        begins = record { r = r; routine = routine; there = routine-there code blank r at routine is S.within same here; line_is = refl };
+        holds = subst (λ (b : Parts). Holds b r cause) is holds;
+        slots = λ e. subst (λ (b : Parts). MeetAlike b r) is (slots e);
+        finding = finding;
+        stops = subst (λ (b : Parts). Stops b finding) is S;
+        there = refl;
+        tells = tells;
+      };
+      are = refl;
     }

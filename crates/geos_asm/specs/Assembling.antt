@@ -1,5 +1,6 @@
 -- What an assembler answers.
 use Rattle.std.specs.Prelude.{◌≡◌, ℕ, false, List, Some, Ok, Err, slice_get}
+use Rattle.geos_image.specs.declared.instr.Instr.{Instr}
 use Rattle.geos_image.specs.Parts.{Parts}
 use Rattle.geos_source.specs.declared.parser.ParseError.{ParseError}
 use Rattle.geos_source.specs.declared.parser.ParseError.TheVariants as parse_error
@@ -83,8 +84,13 @@ pub record IsCauseOf (text : List ℕ) (line : ℕ) (cause : Cause) : Type 0 whe
   pub there : finding.routine ≡ begins.r
   pub tells : TellsOf finding.obstacle cause
 
+-- the same, and these are the instructions of the text
+pub record IsCauseIn (text : List ℕ) (line : ℕ) (cause : Cause) (instrs : List Instr) : Type 0 where
+  pub of : IsCauseOf text line cause
+  pub are : of.code.instrs ≡ instrs
+
 -- why there is no image, with the cause: the text's first fault, no rows, or want of memory
 abbrev pub IsWhyUnassembled : List ℕ → Unassembled → Type 0
 IsWhyUnassembled text (unassembled.BadLine fault) = IsWhyNoImage text (BadLine fault)
-IsWhyUnassembled text (unassembled.NoRows line cause) = IsWhyNoImage text (NoRows line) × IsCauseOf text line cause
+IsWhyUnassembled text (unassembled.NoRows line cause instrs) = IsWhyNoImage text (NoRows line) × IsCauseIn text line cause instrs.items
 IsWhyUnassembled text unassembled.Memory = Unit {0}

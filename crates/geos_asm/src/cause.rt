@@ -4,7 +4,7 @@ ghost use Rattle.std.specs.Prelude.{◌≡◌, true, IfOk, IfErr};
 ghost use Rattle.geos_asm.specs.Assembling.{IsAssembled, RunsIfAnyDoes, IsWhyUnassembled, unassembled_by};
 ghost use Rattle.geos_asm.specs.declared.cause.Unassembled.TheVariants.{Memory};
 
-use geos_image::Image;
+use geos_image::{Image, Instr};
 use geos_infer::{Cause, FindError, find_cause, find_image};
 use geos_source::{BadLine, ParseError, parse, skeleton};
 use std::alloc::{AllocError, Global};
@@ -14,8 +14,9 @@ use std::alloc::{AllocError, Global};
 pub enum Unassembled {
     /// The text has a fault: its first faulty line, and why.
     BadLine(BadLine),
-    /// The text has no fault. For the routine that begins at this line no rows or no numbers of steps are found, for this cause.
-    NoRows(usize, Cause),
+    /// The text has no fault. For the routine that begins at this line no rows or no numbers of steps are found, for this cause. The
+    /// instructions are those of the text.
+    NoRows(usize, Cause, Vec<Instr>),
     /// An allocation was refused.
     Memory,
 }
@@ -56,7 +57,7 @@ pub fn assemble_or_tell(alloc: Global, text: &[u8]) -> Result<Image, Unassembled
             let cause = find_cause(alloc, &blank, &finding);
             // By a call, so that the check does not go over each table here.
             drop(finding);
-            Err(Unassembled::NoRows(routine.line, cause?))
+            Err(Unassembled::NoRows(routine.line, cause?, parsed.instrs))
         }
         Err(FindError::Memory) => Err(Unassembled::Memory),
     }

@@ -1,6 +1,8 @@
 -- Why no rows or no numbers of steps are found, in an author's words.
-use Rattle.std.specs.Prelude.{ℕ, ◌==◌, Bool, false, ◌&&◌, nat_lt, if◌then◌else◌, List, [], ◌∷◌, ◌++◌, Option, Some, None, slice_index_or, codes, decimal}
+use Rattle.std.specs.Prelude.{ℕ, Bool, false, ◌&&◌, nat_lt, if◌then◌else◌, List, [], ◌∷◌, ◌++◌, Option, Some, None, slice_get, slice_index_or, codes, decimal}
 use Rattle.std.specs.List.{concat}
+use Rattle.geos_opcodes.specs.Facts.{operands_of}
+use Rattle.geos_image.specs.declared.instr.Instr.{Instr}
 use Rattle.geos_image.specs.declared.row.SlotState.{SlotState}
 use Rattle.geos_image.specs.declared.row.SlotState.TheVariants.{Empty}
 use Rattle.geos_listing.specs.Rows.{texts_below, state_word}
@@ -33,46 +35,47 @@ differing_item i state other = if slots_agree state other then [] else codes " s
 abbrev pub differing_items : ℕ → List SlotState → List SlotState → List ℕ
 differing_items n slots others = texts_below n (λ i. differing_item i (slice_index_or slots i Empty) (slice_index_or others i Empty))
 
--- control comes from the instruction at a pc
-abbrev pub is_from : Option Edge → ℕ → Bool
-is_from None pc = false
-is_from (Some edge) pc = edge.from == pc
+-- the instruction at a pc can be refused, and goes to its label then
+abbrev pub is_refusable : List Instr → ℕ → Bool
+is_refusable instrs from = elim (slice_get instrs from) [ None ↦ false | Some i ↦ (operands_of i.opcode).refusable ]
 
 -- where an instruction is refused
 unfoldable pub refusal_text : List ℕ → ℕ → List ℕ
 refusal_text lines pc = codes " where" ++ pc_text lines pc ++ codes " is refused:"
 
--- where an edge comes from; where another comes from the same instruction, which of the two is that of its refusal
-abbrev pub edge_text : List ℕ → Edge → Option Edge → List ℕ
-edge_text lines edge other = if edge.branch && is_from other edge.from then refusal_text lines edge.from else pc_text lines edge.from ++ codes ":"
+-- where an edge comes from, and that its instruction is refused there, if it is that of a refusal
+abbrev pub edge_text : List ℕ → List Instr → Edge → List ℕ
+edge_text lines instrs edge =
+    if edge.branch && is_refusable instrs edge.from then refusal_text lines edge.from else pc_text lines edge.from ++ codes ":"
 
--- where control comes from, beside another way
-unfoldable pub coming_from : List ℕ → Coming → Coming → List ℕ
-coming_from lines coming other = elim coming.from [ None ↦ codes " the in line:" | Some edge ↦ edge_text lines edge other.from ]
+-- where control comes from
+unfoldable pub coming_from : List ℕ → List Instr → Coming → List ℕ
+coming_from lines instrs coming = elim coming.from [ None ↦ codes " the in line:" | Some edge ↦ edge_text lines instrs edge ]
 
 -- how control comes to a place, and the slots that differ from those of another way
-unfoldable pub coming_text : List ℕ → Coming → Coming → List ℕ
-coming_text lines coming other = codes " from" ++ coming_from lines coming other ++ differing_items 4 coming.row.slots other.row.slots
+unfoldable pub coming_text : List ℕ → List Instr → Coming → Coming → List ℕ
+coming_text lines instrs coming other = codes " from" ++ coming_from lines instrs coming ++ differing_items 4 coming.row.slots other.row.slots
 
 -- the place where ways meet
 unfoldable pub meeting_text : List ℕ → ℕ → List ℕ
 meeting_text lines to = codes "at" ++ pc_text lines to ++ codes ","
 
 -- the other way
-unfoldable pub other_text : List ℕ → Coming → Coming → List ℕ
-other_text lines coming other = codes ";" ++ coming_text lines coming other
+unfoldable pub other_text : List ℕ → List Instr → Coming → Coming → List ℕ
+other_text lines instrs coming other = codes ";" ++ coming_text lines instrs coming other
 
 -- slots differ where ways meet
-unfoldable pub ways_text : List ℕ → Apart → List ℕ
-ways_text lines apart = meeting_text lines apart.to ++ coming_text lines apart.first apart.second ++ other_text lines apart.second apart.first
+unfoldable pub ways_text : List ℕ → List Instr → Apart → List ℕ
+ways_text lines instrs apart =
+    meeting_text lines apart.to ++ coming_text lines instrs apart.first apart.second ++ other_text lines instrs apart.second apart.first
 
 -- the CALLs by which slots are empty on a way that agreed with those of another
 abbrev pub calls_text : List ℕ → Coming → Coming → List ℕ
 calls_text lines coming other = emptied_items 4 lines coming.emptied other.row.slots
 
 -- slots differ where ways meet, and the CALLs by which they do
-abbrev pub apart_text : List ℕ → Apart → List ℕ
-apart_text lines apart = ways_text lines apart ++ calls_text lines apart.first apart.second ++ calls_text lines apart.second apart.first
+abbrev pub apart_text : List ℕ → List Instr → Apart → List ℕ
+apart_text lines instrs apart = ways_text lines instrs apart ++ calls_text lines apart.first apart.second ++ calls_text lines apart.second apart.first
 
 -- what the way of a LOOP to its target does, which may lie ahead
 abbrev pub leads_text : BackWay → List ℕ
@@ -191,27 +194,27 @@ abbrev pub unknown_text : List ℕ
 unknown_text = codes "no steps were found"
 
 -- why no rows or no numbers of steps are found
-abbrev pub cause_words : List ℕ → Cause → List ℕ
-cause_words lines (SlotsDiffer apart) = apart_text lines apart
-cause_words lines (NoLoop back) = no_loop_text lines back
-cause_words lines (SetWithin within) = within_text lines within
-cause_words lines (SetAgain within) = within_text lines within
-cause_words lines (TouchedWithin within) = touched_text lines within
-cause_words lines (TouchedBefore within) = touched_before_text lines within
-cause_words lines (NotSet own) = not_set_text lines own
-cause_words lines (InTurn both) = in_turn_text lines both
-cause_words lines (InRing ring) = in_ring_text lines ring
-cause_words lines StepsPass = steps_pass_text
-cause_words lines (WordUnbounded by_word) = by_word_text lines by_word
-cause_words lines (NumberHigh by_number) = by_number_text lines by_number
-cause_words lines (WordDear by_word) = dear_word_text lines by_word
-cause_words lines (NumberDear by_number) = dear_number_text lines by_number
-cause_words lines (GivenUp back) = given_up_text lines back
-cause_words lines StepsMayPass = steps_may_pass_text
-cause_words lines (NoSteps back) = no_steps_text lines back
-cause_words lines (Unfound back) = unfound_text lines back
-cause_words lines Unknown = unknown_text
+abbrev pub cause_words : List ℕ → List Instr → Cause → List ℕ
+cause_words lines instrs (SlotsDiffer apart) = apart_text lines instrs apart
+cause_words lines instrs (NoLoop back) = no_loop_text lines back
+cause_words lines instrs (SetWithin within) = within_text lines within
+cause_words lines instrs (SetAgain within) = within_text lines within
+cause_words lines instrs (TouchedWithin within) = touched_text lines within
+cause_words lines instrs (TouchedBefore within) = touched_before_text lines within
+cause_words lines instrs (NotSet own) = not_set_text lines own
+cause_words lines instrs (InTurn both) = in_turn_text lines both
+cause_words lines instrs (InRing ring) = in_ring_text lines ring
+cause_words lines instrs StepsPass = steps_pass_text
+cause_words lines instrs (WordUnbounded by_word) = by_word_text lines by_word
+cause_words lines instrs (NumberHigh by_number) = by_number_text lines by_number
+cause_words lines instrs (WordDear by_word) = dear_word_text lines by_word
+cause_words lines instrs (NumberDear by_number) = dear_number_text lines by_number
+cause_words lines instrs (GivenUp back) = given_up_text lines back
+cause_words lines instrs StepsMayPass = steps_may_pass_text
+cause_words lines instrs (NoSteps back) = no_steps_text lines back
+cause_words lines instrs (Unfound back) = unfound_text lines back
+cause_words lines instrs Unknown = unknown_text
 
 -- the same as a line
-unfoldable pub cause_text : List ℕ → Cause → List ℕ
-cause_text lines cause = cause_words lines cause ++ codes "\n"
+unfoldable pub cause_text : List ℕ → List Instr → Cause → List ℕ
+cause_text lines instrs cause = cause_words lines instrs cause ++ codes "\n"

@@ -1,7 +1,7 @@
 //! Why no rows or no numbers of steps are found, in an author's words.
 
 ghost use Rattle.std.specs.Prelude.{◌≡◌, ◌++◌, OnOk, IfOk};
-ghost use Rattle.geos_causes.specs.Causes.{differing_item, differing_items, is_from, edge_text, coming_from};
+ghost use Rattle.geos_causes.specs.Causes.{differing_item, differing_items, is_refusable, edge_text, coming_from};
 ghost use Rattle.geos_causes.specs.Causes.{coming_text, call_text, touched_text, touched_before_text, not_set_text};
 ghost use Rattle.geos_causes.specs.Causes.{set_in_text, in_turn_text, in_ring_text};
 ghost use Rattle.geos_causes.specs.Causes.{by_word_text, dear_word_text, set_to_text, ways_text, calls_text, apart_text};
@@ -10,7 +10,7 @@ ghost use Rattle.geos_causes.specs.Causes.{back_text, leads_text, within_text, c
 use crate::emptied::{put_emptied_items, slots_agree};
 use geos_explain::pc_part;
 use geos_flow::Edge;
-use geos_image::SlotState;
+use geos_image::{Instr, SlotState};
 use geos_infer::{
     Apart, BackWay, ByNumber, ByWord, Cause, Coming, LoopOn, LoopPair, LoopRing, Within,
 };
@@ -53,28 +53,28 @@ fn put_all_differing(
     Ok(())
 }
 
-/// Whether control comes from the instruction at a pc.
-fn is_from(edge: Option<Edge>, pc: u16) -> bool
-    ensures { result ≡ is_from edge pc }
+/// Whether the instruction at a pc can be refused, and goes to its label then.
+fn is_refusable(instrs: &[Instr], from: u16) -> bool
+    ensures { result ≡ is_refusable instrs.now from }
 {
-    match edge {
-        Some(edge) => edge.from == pc,
+    match instrs.get(usize::from(from)) {
+        Some(i) => i.opcode.operands().refusable,
         None => false,
     }
 }
 
-/// Where an edge comes from; where another comes from the same instruction, which of the two is that of its refusal.
+/// Where an edge comes from, and that its instruction is refused there, if it is that of a refusal.
 #[tactic(auto, unfolding(crate::specs::Causes::refusal_text))]
 fn put_edge(
     out: &mut Vec<u8>,
     lines: &[usize],
+    instrs: &[Instr],
     edge: Edge,
-    other: Option<Edge>,
 ) -> Result<(), AllocError>
-    ensures { OnOk result (out.new.items ≡ out.old.items ++ edge_text lines.now edge other) }
+    ensures { OnOk result (out.new.items ≡ out.old.items ++ edge_text lines.now instrs.now edge) }
 {
     let place = pc_part(lines, edge.from);
-    if edge.branch && is_from(other, edge.from) {
+    if edge.branch && is_refusable(instrs, edge.from) {
         put_parts(
             out,
             &[Part::Text(" where"), place, Part::Text(" is refused:")],
@@ -84,18 +84,18 @@ fn put_edge(
     }
 }
 
-/// Where control comes from, beside another way.
+/// Where control comes from.
 #[tactic(auto, unfolding(crate::specs::Causes::coming_from))]
 fn put_coming_from(
     out: &mut Vec<u8>,
     lines: &[usize],
+    instrs: &[Instr],
     coming: &Coming,
-    other: &Coming,
 ) -> Result<(), AllocError>
-    ensures { OnOk result (out.new.items ≡ out.old.items ++ coming_from lines.now coming.now other.now) }
+    ensures { OnOk result (out.new.items ≡ out.old.items ++ coming_from lines.now instrs.now coming.now) }
 {
     match coming.from {
-        Some(edge) => put_edge(out, lines, edge, other.from),
+        Some(edge) => put_edge(out, lines, instrs, edge),
         None => out.extend_from_slice(b" the in line:"),
     }
 }
@@ -105,28 +105,34 @@ fn put_coming_from(
 fn put_coming(
     out: &mut Vec<u8>,
     lines: &[usize],
+    instrs: &[Instr],
     coming: &Coming,
     other: &Coming,
 ) -> Result<(), AllocError>
-    ensures { OnOk result (out.new.items ≡ out.old.items ++ coming_text lines.now coming.now other.now) }
+    ensures { OnOk result (out.new.items ≡ out.old.items ++ coming_text lines.now instrs.now coming.now other.now) }
 {
     out.extend_from_slice(b" from")?;
-    put_coming_from(out, lines, coming, other)?;
+    put_coming_from(out, lines, instrs, coming)?;
     put_all_differing(out, &coming.row.slots, &other.row.slots)
 }
 
 /// Slots differ where ways meet.
 #[tactic(auto, unfolding(crate::specs::Causes::meeting_text, crate::specs::Causes::other_text, crate::specs::Causes::ways_text))]
-fn put_ways(out: &mut Vec<u8>, lines: &[usize], apart: &Apart) -> Result<(), AllocError>
-    ensures { OnOk result (out.new.items ≡ out.old.items ++ ways_text lines.now apart.now) }
+fn put_ways(
+    out: &mut Vec<u8>,
+    lines: &[usize],
+    instrs: &[Instr],
+    apart: &Apart,
+) -> Result<(), AllocError>
+    ensures { OnOk result (out.new.items ≡ out.old.items ++ ways_text lines.now instrs.now apart.now) }
 {
     put_parts(
         out,
         &[Part::Text("at"), pc_part(lines, apart.to), Part::Text(",")],
     )?;
-    put_coming(out, lines, &apart.first, &apart.second)?;
+    put_coming(out, lines, instrs, &apart.first, &apart.second)?;
     out.extend_from_slice(b";")?;
-    put_coming(out, lines, &apart.second, &apart.first)
+    put_coming(out, lines, instrs, &apart.second, &apart.first)
 }
 
 /// The CALLs by which slots are empty on a way that agreed with those of another.
@@ -142,10 +148,15 @@ fn put_calls(
 }
 
 /// Slots differ where ways meet, and the CALLs by which they do.
-fn put_apart(out: &mut Vec<u8>, lines: &[usize], apart: &Apart) -> Result<(), AllocError>
-    ensures { OnOk result (out.new.items ≡ out.old.items ++ apart_text lines.now apart.now) }
+fn put_apart(
+    out: &mut Vec<u8>,
+    lines: &[usize],
+    instrs: &[Instr],
+    apart: &Apart,
+) -> Result<(), AllocError>
+    ensures { OnOk result (out.new.items ≡ out.old.items ++ apart_text lines.now instrs.now apart.now) }
 {
-    put_ways(out, lines, apart)?;
+    put_ways(out, lines, instrs, apart)?;
     put_calls(out, lines, &apart.first, &apart.second)?;
     put_calls(out, lines, &apart.second, &apart.first)
 }
@@ -354,11 +365,16 @@ fn put_set_to(
 }
 
 /// Why no rows or no numbers of steps are found.
-fn put_cause(out: &mut Vec<u8>, lines: &[usize], cause: &Cause) -> Result<(), AllocError>
-    ensures { OnOk result (out.new.items ≡ out.old.items ++ cause_words lines.now cause.now) }
+fn put_cause(
+    out: &mut Vec<u8>,
+    lines: &[usize],
+    instrs: &[Instr],
+    cause: &Cause,
+) -> Result<(), AllocError>
+    ensures { OnOk result (out.new.items ≡ out.old.items ++ cause_words lines.now instrs.now cause.now) }
 {
     match cause {
-        Cause::SlotsDiffer(apart) => put_apart(out, lines, apart),
+        Cause::SlotsDiffer(apart) => put_apart(out, lines, instrs, apart),
         Cause::NoLoop(back) => put_back(out, "nothing pays for the way back:", lines, back),
         Cause::SetWithin(within) | Cause::SetAgain(within) => put_within(out, lines, within),
         Cause::TouchedWithin(within) => put_touched(out, lines, within),
@@ -396,14 +412,19 @@ fn put_cause(out: &mut Vec<u8>, lines: &[usize], cause: &Cause) -> Result<(), Al
     }
 }
 
-/// The line that says why no rows or no numbers of steps are found. `lines` has the number of each instruction's line,
+/// The line that says why no rows or no numbers of steps are found for instructions. `lines` has the number of each one's line,
 /// as `geos_source::lines_of_instrs` gives them.
 #[tactic(auto, unfolding(crate::specs::Causes::cause_text))]
-pub fn explain_cause(alloc: Global, lines: &[usize], cause: &Cause) -> Result<Vec<u8>, AllocError>
-    ensures { IfOk result (λ told. told.items ≡ cause_text lines.now cause.now) }
+pub fn explain_cause(
+    alloc: Global,
+    lines: &[usize],
+    instrs: &[Instr],
+    cause: &Cause,
+) -> Result<Vec<u8>, AllocError>
+    ensures { IfOk result (λ told. told.items ≡ cause_text lines.now instrs.now cause.now) }
 {
     let mut out = Vec::new(alloc);
-    put_cause(&mut out, lines, cause)?;
+    put_cause(&mut out, lines, instrs, cause)?;
     out.extend_from_slice(b"\n")?;
     Ok(out)
 }

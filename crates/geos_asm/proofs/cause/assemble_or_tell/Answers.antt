@@ -25,8 +25,8 @@ returns-in-Ok-clause-accepted c =
 pub find_cause-cause-requires : goal.find_cause-cause-requires
 find_cause-cause-requires c = subst (IsWhyNone c.in_ok-blank.blank) c.in-Err-Stopped.field-0-is c.in-Err-Stopped.ensures.why
 
-pub returns-in-Err-Stopped-clause-why : goal.returns-in-Err-Stopped-clause-why
-returns-in-Err-Stopped-clause-why c =
+pub returns-in_ok-cause-in-Err-Stopped-clause-why : goal.returns-in_ok-cause-in-Err-Stopped-clause-why
+returns-in_ok-cause-in-Err-Stopped-clause-why c =
     let text = c.args.text.now in
     let blank = c.in_ok-blank.blank in
     let finding = c.in-Err-Stopped.finding in
