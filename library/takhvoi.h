@@ -87,12 +87,12 @@ enum {
 static inline const char *takhvoi_error_text(uint32_t status) {
     switch (status) {
     case TAKHVOI_DONE: return "done";
-    case TAKHVOI_BAD_HANDLE: return "no block has this handle";
+    case TAKHVOI_BAD_HANDLE: return "no block of this kind has this handle";
     case TAKHVOI_BAD_CHUNK: return "no chunk has this handle";
-    case TAKHVOI_SHORT: return "the chunk is too short";
+    case TAKHVOI_SHORT: return "the chunk or element is too short";
     case TAKHVOI_NO_ROOM: return "no room in the region";
     case TAKHVOI_NO_HANDLE: return "no handle is free";
-    case TAKHVOI_TOO_BIG: return "the block would be too big";
+    case TAKHVOI_TOO_BIG: return "too big";
     case TAKHVOI_LOCKED: return "the block is locked";
     case TAKHVOI_BAD_ARRAY: return "the chunk is no such array";
     case TAKHVOI_BAD_ELEMENT: return "no element has this index";
@@ -100,8 +100,8 @@ static inline const char *takhvoi_error_text(uint32_t status) {
     case TAKHVOI_DISK: return "the device failed";
     case TAKHVOI_UNSURE: return "it is not sure what the device holds";
     case TAKHVOI_MEMORY: return "out of memory";
-    case TAKHVOI_RANGE: return "past the end of the chunk";
-    case TAKHVOI_RESERVED: return "a group stands in the place of a block";
+    case TAKHVOI_RANGE: return "out of range";
+    case TAKHVOI_RESERVED: return "the user ID is reserved for groups";
     case TAKHVOI_NO_KERNEL: return "no kernel is open";
     case TAKHVOI_NOT_LOCKED: return "the block is not locked";
     case TAKHVOI_NOT_MARKED: return "the block is not marked as changed";

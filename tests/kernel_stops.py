@@ -31,7 +31,7 @@ COMMITS = ("vupdate", "vsave", "vrevert")
 # sure what is kept.
 UNSURE_CALLS = 2
 FAILED, UNSURE = "the device failed", "it is not sure what the device holds"
-NONE, RESERVED, NOT_LOCKED = "no block has this handle", "a group stands in the place of a block", "not asked: not locked"
+NONE, RESERVED, NOT_LOCKED = "no block of this kind has this handle", "the user ID is reserved for groups", "not asked: not locked"
 # So many handles are in use.
 HANDLES = range(1, 5)
 

@@ -10,12 +10,12 @@ from typing import Optional
 ABI = 1
 
 TEXTS = {
-    1: "no block has this handle",
+    1: "no block of this kind has this handle",
     2: "no chunk has this handle",
-    3: "the chunk is too short",
+    3: "the chunk or element is too short",
     4: "no room in the region",
     5: "no handle is free",
-    6: "the block would be too big",
+    6: "too big",
     7: "the block is locked",
     8: "the chunk is no such array",
     9: "no element has this index",
@@ -23,8 +23,8 @@ TEXTS = {
     11: "the device failed",
     12: "it is not sure what the device holds",
     13: "out of memory",
-    14: "past the end of the chunk",
-    15: "a group stands in the place of a block",
+    14: "out of range",
+    15: "the user ID is reserved for groups",
     100: "no kernel is open",
     101: "the block is not locked",
     102: "the block is not marked as changed",

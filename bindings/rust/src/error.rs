@@ -86,12 +86,12 @@ macro_rules! refusals {
 }
 
 refusals! {
-    BadHandle 1 "no block has this handle";
+    BadHandle 1 "no block of this kind has this handle";
     BadChunk 2 "no chunk has this handle";
-    Short 3 "the chunk is too short";
+    Short 3 "the chunk or element is too short";
     NoRoom 4 "no room in the region";
     NoHandle 5 "no handle is free";
-    TooBig 6 "the block would be too big";
+    TooBig 6 "too big";
     Locked 7 "the block is locked";
     BadArray 8 "the chunk is no such array";
     BadElement 9 "no element has this index";
@@ -99,8 +99,8 @@ refusals! {
     Disk 11 "the device failed";
     Unsure 12 "it is not sure what the device holds";
     Memory 13 "out of memory";
-    Range 14 "past the end of the chunk";
-    Reserved 15 "a group stands in the place of a block";
+    Range 14 "out of range";
+    Reserved 15 "the user ID is reserved for groups";
     NoKernel 100 "no kernel is open";
     NotLocked 101 "the block is not locked";
     NotMarked 102 "the block is not marked as changed";

@@ -11,13 +11,13 @@ use thiserror::Error;
 #[derive(Clone, Copy, Debug, Drop, PartialEq, Eq, Error)]
 pub enum Refusal {
     /// No block has this handle; or, for a call on a group or its items, no group has.
-    #[error("no block has this handle")]
+    #[error("no block of this kind has this handle")]
     BadHandle,
     /// No chunk of the block has this handle.
     #[error("no chunk has this handle")]
     BadChunk,
     /// The chunk, or the element of an array, has fewer bytes than are wanted.
-    #[error("the chunk is too short")]
+    #[error("the chunk or element is too short")]
     Short,
     /// The region has no room for a block that is made or grows, or for a block of the VM file that
     /// is brought into memory.
@@ -28,7 +28,7 @@ pub enum Refusal {
     NoHandle,
     /// The block would need more than 65,520 bytes; or the directories that a commit is to keep need
     /// more than an area of the VM file has.
-    #[error("the block would be too big")]
+    #[error("too big")]
     TooBig,
     /// The count of locks can't rise, or the block is locked and can't be freed.
     #[error("the block is locked")]
@@ -52,12 +52,12 @@ pub enum Refusal {
     /// An allocation was refused.
     #[error("out of memory")]
     Memory,
-    /// The offset, or where the bytes end, is past the chunk's end; or an item other than 0 is to be
-    /// the map item where the group is 0.
-    #[error("past the end of the chunk")]
+    /// The offset, or where the bytes end, is past the end of the chunk or of the pointer's bytes; or
+    /// an item other than 0 is to be the map item where the group is 0.
+    #[error("out of range")]
     Range,
     /// The user ID of groups is given, or a group is named, where a block is wanted.
-    #[error("a group stands in the place of a block")]
+    #[error("the user ID is reserved for groups")]
     Reserved,
 }
 
