@@ -9,7 +9,7 @@ use Rattle.geos_source.specs.Texts.{Code, code_of}
 use Rattle.geos_source.specs.Coded.{HasCode}
 use Rattle.geos_source.specs.Skeletons.{skeleton}
 use Rattle.geos_verify.specs.Rules.{IsChecked}
-use Rattle.geos_rows.specs.Code.{Forward}
+use Rattle.geos_code.specs.Code.{Forward}
 use Rattle.geos_rows.specs.Reached.{AllHoldWhereReached}
 use Rattle.geos_potentials.specs.Accepted.{HasAccepted}
 use Rattle.geos_infer.specs.Theorem.{FindsWhatThereIs, NoneIsAccepted, NothingHoldsIn}

@@ -6,11 +6,12 @@ use Rattle.geos_image.specs.declared.instr.Instr.{Instr}
 use Rattle.geos_image.specs.declared.row.Row.{Row}
 use Rattle.geos_image.specs.Parts.{Parts}
 use Rattle.geos_verify.specs.Rows.{bound}
-use Rattle.geos_rows.specs.Code.{IsPcOf}
-use Rattle.geos_rows.specs.Flow.{row_of, known_at}
+use Rattle.geos_code.specs.Code.{IsPcOf}
+use Rattle.geos_code.specs.Known.{row_of, known_at}
 use Rattle.geos_rows.specs.Reached.{FitWhereReached}
 use Rattle.geos_potentials.specs.Accepted.{HasAccepted}
-use Rattle.geos_rows.specs.Why.{LeadsTo, AreApart, MeetAlike}
+use Rattle.geos_code.specs.Edges.{LeadsTo}
+use Rattle.geos_rows.specs.Why.{AreApart, MeetAlike}
 use Rattle.geos_potentials.specs.Trails.{IsTrail, LeadsKeeping}
 use Rattle.geos_infer.specs.Taken as taken
 use Rattle.geos_infer.specs.Ahead.{MayPass, NonePasses}

@@ -8,9 +8,9 @@ ghost use Rattle.geos_infer.specs.Causes.{WaitInTurn, SetsFor, SetsWithin};
 use crate::cause::{LoopPair, Within};
 use crate::trails::Trails;
 use crate::within::{comes_round, find_set_within, kept_from, loop_at, note_set, sets_at};
+use geos_code::Body;
 use geos_image::MOST_INSTRS;
 use geos_potentials::{BackWay, Graph, Jump, Piece, Splitting, Touching};
-use geos_rows::Body;
 
 /// How many pairs of LOOPs are looked at.
 const PAIRS: u16 = 256;

@@ -9,9 +9,9 @@ use crate::cause::LoopRing;
 use crate::in_turn::{nest_of, set_for};
 use crate::trails::Trails;
 use crate::within::{loop_at, note_set};
+use geos_code::Body;
 use geos_image::MOST_INSTRS;
 use geos_potentials::{BackWay, Graph, Nest, Splitting, Touching};
-use geos_rows::Body;
 
 /// How many loops are followed: so many that one comes round, on a small ring, to the loop with which one began.
 const LOOPS: u16 = 60;

@@ -4,7 +4,7 @@ ghost use Rattle.std.specs.Prelude.{◌≡◌, ◌<◌, ℕ, true, Some, List, B
 ghost use Rattle.geos_potentials.specs.Idle.{LeadsUnpaid, IsUnpaidWay, GoesRound};
 
 use crate::cycles::has_unpaid_cycle;
-use geos_rows::{Body, Table, edge_in, is_loop};
+use geos_code::{Body, Table, edge_in, is_loop};
 
 /// An edge to a target by which control goes round: one that leads back, or that of a LOOP.
 #[derive(Clone, Copy)]

@@ -4,11 +4,9 @@ ghost use Rattle.std.specs.Prelude.{◌≡◌, ◌<◌, true, false, slice_set, 
 ghost use Rattle.geos_rows.specs.Meeting.{AllCome, BringsAlong, GoesFurther, HasGone, HaveAllGone, IsSpread, NoneWaits, count_unknown};
 ghost use Rattle.geos_rows.specs.Why.{ComesBy, AllEmptied, AreApart, MeetAlike};
 
-use crate::body::Body;
 use crate::common::agree;
-use crate::edges::{Lead, edge_in};
 use crate::emptied::{Emptied, emptied_along};
-use crate::table::{Table, two_tables};
+use geos_code::{Body, Lead, Table, edge_in, two_tables};
 use geos_flow::Edge;
 use geos_image::Row;
 use geos_verify::after;

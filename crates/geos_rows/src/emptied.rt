@@ -3,12 +3,12 @@
 ghost use Rattle.std.specs.Prelude.{◌≡◌, ◌<◌, IfSome};
 ghost use Rattle.geos_image.specs.Parts.{Parts};
 ghost use Rattle.geos_verify.specs.Rows.{after};
-ghost use Rattle.geos_rows.specs.Code.{IsPcOf};
-ghost use Rattle.geos_rows.specs.Why.{LeadsTo, CallsBeside, IsEmptied, AllEmptied, IsComing};
+ghost use Rattle.geos_code.specs.Code.{IsPcOf};
+ghost use Rattle.geos_code.specs.Edges.{LeadsTo};
+ghost use Rattle.geos_rows.specs.Why.{CallsBeside, IsEmptied, AllEmptied, IsComing};
 
 use crate::apart::Coming;
-use crate::body::Body;
-use crate::edges::Lead;
+use geos_code::{Body, Lead};
 use geos_image::{Opcode, Row, SlotState};
 use geos_verify::{is_empty, slot_state};
 

@@ -7,9 +7,8 @@ ghost use Rattle.geos_rows.specs.Weakest.{unmarked, weakest, weakest_of, Weakens
 ghost use Rattle.geos_rows.specs.Why.{AreApart};
 
 use crate::apart::{Apart, Coming, Comings, find_comings};
-use crate::body::Body;
 use crate::fitted::all_fit;
-use crate::table::Known;
+use geos_code::{Body, Known};
 use geos_image::{Row, SlotState};
 use std::alloc::{AllocError, Global};
 

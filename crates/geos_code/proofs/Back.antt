@@ -6,12 +6,12 @@ use Rattle.geos_image.specs.declared.instr.Instr.{Instr}
 use Rattle.geos_image.specs.declared.point.Point.{Point}
 use Rattle.geos_verify.proofs.Places.{item_at, if_some}
 use Rattle.geos_verify.specs.Rows.{has_edge}
-use Rattle.geos_rows.specs.Code.{ForwardIn, instrs_of, edge_end, is_loop, IsPcOf}
-use Rattle.geos_rows.specs.Edges.{lead_of, edge_ahead, edge_within, leads_ahead}
-use Rattle.geos_rows.specs.declared.body.Body.{Body}
-use Rattle.geos_rows.specs.declared.edges.Lead.{Lead}
-use Rattle.geos_rows.proofs.Bodies.{in-body}
-use Rattle.geos_rows.proofs.Ends.{code-at}
+use Rattle.geos_code.specs.Code.{ForwardIn, instrs_of, edge_end, is_loop, IsPcOf}
+use Rattle.geos_code.specs.Edges.{lead_of, edge_ahead, edge_within, leads_ahead}
+use Rattle.geos_code.specs.declared.body.Body.{Body}
+use Rattle.geos_code.specs.declared.edges.Lead.{Lead}
+use Rattle.geos_code.proofs.Bodies.{in-body}
+use Rattle.geos_code.proofs.Ends.{code-at}
 use Rattle.std.proofs.lemmas.Option.{same_Some, none-some}
 use Rattle.geos_opcodes.specs.declared.opcode.Opcode.{Opcode}
 use Rattle.geos_opcodes.specs.declared.opcode.Opcode.TheVariants.{Loop}

@@ -1,10 +1,11 @@
 -- Where control goes from an instruction, within its routine.
-use Rattle.std.specs.Prelude.{◌≡◌, ◌<◌, ℕ, Bool, ◌&&◌, nat_le, nat_lt, if◌then◌else◌, Option, Some, None}
+use Rattle.std.specs.Prelude.{◌≡◌, ◌<◌, ℕ, Bool, ◌&&◌, nat_le, nat_lt, if◌then◌else◌, Option, Some, None, true, slice_get}
 use Rattle.geos_image.specs.declared.instr.Instr.{Instr}
+use Rattle.geos_image.specs.declared.point.Point.{Point}
 use Rattle.geos_image.specs.Parts.{Parts}
 use Rattle.geos_verify.specs.Rows.{HasEdge, has_edge}
-use Rattle.geos_rows.specs.declared.edges.Lead.{Lead}
-use Rattle.geos_rows.specs.Code.{edge_end}
+use Rattle.geos_code.specs.declared.edges.Lead.{Lead}
+use Rattle.geos_code.specs.Code.{edge_end}
 
 -- the instruction has the edge, and it leads ahead and before the limit
 abbrev pub leads_ahead : ℕ → ℕ → Instr → Bool → Bool
@@ -30,3 +31,10 @@ pub record IsInside (image : Parts) (limit pc : ℕ) (branch : Bool) (lead : Lea
   pub way : lead.edge.branch ≡ branch
   pub has : HasEdge image lead.edge.from lead.edge.branch
   pub inside : lead.to < limit
+
+-- the instruction at a pc has an edge to another
+pub record LeadsTo (image : Parts) (pc : ℕ) (branch : Bool) (to : ℕ) : Type 0 where
+  pub point : Point
+  pub there : slice_get image.points pc ≡ Some point
+  pub has : has_edge point.instr branch ≡ true
+  pub leads : edge_end pc point.instr branch ≡ to

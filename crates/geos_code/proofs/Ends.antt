@@ -16,10 +16,10 @@ use Rattle.geos_verify.specs.Rows.{exit_row, row_along, fits, after}
 use Rattle.geos_verify.specs.Touched.{calls}
 use Rattle.geos_verify.proofs.Along.{row_along-used}
 use Rattle.geos_verify.proofs.Places.{item_at, places-length, point-of}
-use Rattle.geos_rows.specs.Code.{instr_of, instrs_of, edge_row, edge_end}
+use Rattle.geos_code.specs.Code.{instr_of, instrs_of, edge_row, edge_end}
 use Rattle.geos_verify.proofs.RowsAfter.{along-mono, branching-mono, is-call}
 use Rattle.geos_image.proofs.Starts.{start_of-next}
-use Rattle.geos_rows.specs.Why.{LeadsTo}
+use Rattle.geos_code.specs.Edges.{LeadsTo}
 
 -- the row at the end of an edge
 pub after-edge : (image : Parts) (pc : ℕ) (branch : Bool) (point : Point) (row : Row) → slice_get image.points pc ≡ Some point

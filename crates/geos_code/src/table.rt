@@ -3,7 +3,7 @@
 ghost use Rattle.std.specs.Prelude.{◌≡◌, ◌<◌, ◌≤◌, ◌+◌, ◌-◌, ◌++◌, ℕ, length, replicate, slice_index_or, slice_set, IfOk};
 ghost use Rattle.std.specs.Vec.{vec_len, vec_capacity};
 
-use geos_image::{MOST_INSTRS, Row};
+use geos_image::MOST_INSTRS;
 use std::alloc::{AllocError, Global};
 use std::marker::Model;
 
@@ -15,9 +15,6 @@ pub struct Table<T: Copy> {
     /// The item at each pc behind those.
     rest: T,
 }
-
-/// What is known at each pc.
-pub type Known = Table<Option<Row>>;
 
 impl<T: Copy> Model for Table<T> {
     ghost use Rattle.std.specs.Prelude.{◌≡◌, ◌≤◌, ◌-◌, ◌++◌, List, length, replicate};

@@ -12,7 +12,7 @@ use Rattle.geos_image.specs.Legal.{is_pointer, is_shaped, is_row}
 use Rattle.geos_verify.specs.Lists.{all2}
 use Rattle.geos_verify.specs.Rows.{slot_fits, pointer_fits, pair_fits, is_empty, leads_nowhere}
 use Rattle.geos_verify.specs.Rules.{names_empty_slot}
-use Rattle.geos_rows.specs.Joins.{without_empty, clean, IsLeastClean}
+use Rattle.geos_code.specs.Known.{without_empty, clean, IsLeastClean}
 use Rattle.geos_verify.proofs.Pairwise.{both, all2-refl}
 use Rattle.geos_verify.proofs.RowsFit.{empty-at, fitting, fits-from, le-refl, slot-refl, pair-refl, pointer-none, pointer-refl}
 

@@ -1,6 +1,6 @@
 use Rattle.std.proofs.Common.{sym, ◌∙◌}
-use Rattle.geos_rows.proofs.Back.{within-some}
-use Rattle.geos_rows.proofs.edges.edge_in.Goals as goal
+use Rattle.geos_code.proofs.Back.{within-some}
+use Rattle.geos_code.proofs.edges.edge_in.Goals as goal
 
 pub returns-then-to-body-clause-value : goal.returns-then-to-body-clause-value
 returns-then-to-body-clause-value c =

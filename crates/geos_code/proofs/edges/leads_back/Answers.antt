@@ -1,7 +1,7 @@
 use Rattle.std.proofs.Common.{Some, true, arith}
 use Rattle.std.proofs.lemmas.Bool.{lt-leb}
-use Rattle.geos_rows.proofs.Back.{read-ahead, ahead-alone}
-use Rattle.geos_rows.proofs.edges.leads_back.Goals as goal
+use Rattle.geos_code.proofs.Back.{read-ahead, ahead-alone}
+use Rattle.geos_code.proofs.edges.leads_back.Goals as goal
 
 pub returns-in-Some-clause-none : goal.returns-in-Some-clause-none
 returns-in-Some-clause-none c = λ forward.

@@ -1,9 +1,9 @@
 use Rattle.std.proofs.Common.{◌≡◌, ◌-◌, ◌≤◌, List, length, set, ap, ◌∙◌, arith}
 use Rattle.std.specs.Vec.{vec_len}
-use Rattle.geos_rows.specs.declared.table.Table.TheInside.{Inside}
-use Rattle.geos_rows.proofs.Filled.{filled, longer, filled-reach, filled-set, filled-push}
-use Rattle.geos_rows.proofs.table.Table.set.Goals.{then-len-at, else-len-at}
-use Rattle.geos_rows.proofs.table.Table.set.Goals as goal
+use Rattle.geos_code.specs.declared.table.Table.TheInside.{Inside}
+use Rattle.geos_code.proofs.Filled.{filled, longer, filled-reach, filled-set, filled-push}
+use Rattle.geos_code.proofs.table.Table.set.Goals.{then-len-at, else-len-at}
+use Rattle.geos_code.proofs.table.Table.set.Goals as goal
 
 pub returns-then-at-len : goal.returns-then-at-len
 returns-then-at-len g c =

@@ -1,5 +1,5 @@
-use Rattle.geos_rows.proofs.Cleaning.{clean-least, clean-legal}
-use Rattle.geos_rows.proofs.common.clean.Goals as goal
+use Rattle.geos_code.proofs.Cleaning.{clean-least, clean-legal}
+use Rattle.geos_code.proofs.known.clean.Goals as goal
 
 pub returns-clause-least : goal.returns-clause-least
 returns-clause-least c = rw c.pointers_without_empty.ensures (clean-least c.args.row.now)

@@ -1,7 +1,7 @@
 use Rattle.std.proofs.Common.{◌+◌, ap, add-one, arith, rules}
 use Rattle.geos_image.proofs.Starts.{start_of-next}
-use Rattle.geos_rows.proofs.Bodies.{lies}
-use Rattle.geos_rows.proofs.body.body_of.Goals as goal
+use Rattle.geos_code.proofs.Bodies.{lies}
+use Rattle.geos_code.proofs.body.body_of.Goals as goal
 
 pub invariant_of-result : goal.invariant_of-result
 invariant_of-result c =

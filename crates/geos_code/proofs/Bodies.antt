@@ -6,8 +6,8 @@ use Rattle.geos_image.specs.Legal.{is_image}
 use Rattle.geos_image.proofs.Instrs.{image_parts}
 use Rattle.geos_image.proofs.Starts.{start_of-end}
 use Rattle.geos_verify.proofs.Leads.{routine_parts}
-use Rattle.geos_rows.specs.declared.body.Body.{Body}
-use Rattle.geos_rows.specs.Code.{IsPcOf}
+use Rattle.geos_code.specs.declared.body.Body.{Body}
+use Rattle.geos_code.specs.Code.{IsPcOf}
 
 is-pc : (image : Parts) (r start end pc : ℕ) → start ≡ start_of image.routines r → end ≡ start_of image.routines (r + 1)
     → start ≤ pc → pc < end → IsPcOf image r pc

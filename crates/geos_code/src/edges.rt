@@ -1,9 +1,8 @@
 //! Where control goes from an instruction, within its routine.
 
 ghost use Rattle.std.specs.Prelude.{◌≡◌, ◌<◌, ◌≤◌, false, slice_get, IfSome};
-ghost use Rattle.geos_rows.specs.Code.{is_loop, ForwardIn, IsPcOf, TargetAhead, edge_end};
-ghost use Rattle.geos_rows.specs.Edges.{edge_within, IsInside};
-ghost use Rattle.geos_rows.specs.Why.{LeadsTo};
+ghost use Rattle.geos_code.specs.Code.{is_loop, ForwardIn, IsPcOf, TargetAhead, edge_end};
+ghost use Rattle.geos_code.specs.Edges.{edge_within, IsInside, LeadsTo};
 
 use crate::body::Body;
 use geos_flow::Edge;
@@ -28,7 +27,7 @@ pub fn is_loop(opcode: Opcode) -> bool
 }
 
 /// The pc that the edge leads to.
-pub(crate) fn edge_end(pc: u16, i: &Instr, branch: bool) -> u16
+pub fn edge_end(pc: u16, i: &Instr, branch: bool) -> u16
     requires { pc < 4096 }
     ensures { result ≡ edge_end pc i.now branch }
 {
