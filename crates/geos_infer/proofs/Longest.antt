@@ -14,8 +14,8 @@ use Rattle.geos_potentials.specs.Steps.{most_steps, taken_at}
 use Rattle.geos_infer.specs.Taken.{Place, Takes}
 use Rattle.geos_potentials.specs.Trails.{IsTrail}
 use Rattle.geos_code.specs.Edges.{LeadsTo}
-use Rattle.geos_potentials.specs.declared.unpaid.BackWay.{BackWay}
-use Rattle.geos_infer.specs.declared.cause.Cause.TheVariants.{SlotsDiffer, NoLoop, SetWithin, SetAgain, TouchedWithin, TouchedBefore, NotSet, InTurn, InRing, StepsPass, WordUnbounded, NumberHigh, WordDear, NumberDear, GivenUp, StepsMayPass, NoSteps, Unfound, Unknown}
+use Rattle.geos_causes.specs.declared.back_way.BackWay.{BackWay}
+use Rattle.geos_causes.specs.declared.cause.Cause.TheVariants.{SlotsDiffer, NoLoop, SetWithin, SetAgain, TouchedWithin, TouchedBefore, NotSet, InTurn, InRing, StepsPass, WordUnbounded, NumberHigh, WordDear, NumberDear, GivenUp, StepsMayPass, NoSteps, Unfound, Unknown}
 use Rattle.geos_infer.proofs.Kept.{comes-any, kept-any}
 use Rattle.geos_rows.proofs.Came.{comes-to}
 use Rattle.geos_code.proofs.Ends.{code-at, leads-one}

@@ -19,7 +19,6 @@ ghost use Rattle.geos_infer.specs.Taken.{StepsPass};
 ghost use Rattle.geos_rows.specs.Why.{MeetAlike};
 
 use crate::ahead::may_pass;
-use crate::cause::{Cause, Within};
 use crate::finding::{Finding, Obstacle, Unpaid};
 use crate::idle::{cause_of_idle, find_touched};
 use crate::in_turn::{find_in_turn, find_own_set};
@@ -28,11 +27,11 @@ use crate::setting::find_dear;
 use crate::trails::Trails;
 use crate::turns::steps_pass;
 use crate::within::{find_set_again, find_set_within};
+use geos_causes::{BackWay, Cause, Within};
 use geos_code::{Body, Known, Table, body_of, edge_in};
 use geos_image::Image;
 use geos_potentials::{
-    BackWay, Halt, Halted, Lack, Piece, Reason, Search, Touching, find_touching,
-    some_always_may_pay,
+    Halt, Halted, Lack, Piece, Reason, Search, Touching, find_touching, some_always_may_pay,
 };
 use geos_rows::Strongest;
 use std::alloc::{AllocError, Global};

@@ -17,7 +17,8 @@ use Rattle.geos_rows.specs.Alike.{ComesAlike, AllComeAlike, StaysAlike, GoesAlik
 use Rattle.geos_code.specs.Code.{IsPcOf}
 use Rattle.geos_code.specs.Known.{known_at, clean}
 use Rattle.geos_rows.specs.Flow.{HaveNoJoin, Joins, Arrives, has_joined, Seeded}
-use Rattle.geos_rows.specs.Joins.{slots_agree, agree}
+use Rattle.geos_causes.specs.Slots.{slots_agree}
+use Rattle.geos_rows.specs.Joins.{agree}
 use Rattle.geos_rows.specs.Reached.{Copies}
 use Rattle.geos_code.specs.Edges.{LeadsTo}
 use Rattle.geos_rows.specs.Why.{MeetAlike}

@@ -10,8 +10,8 @@ use Rattle.geos_image.specs.Parts.{Parts, start_of}
 use Rattle.geos_verify.specs.Rows.{after}
 use Rattle.geos_code.specs.Code.{IsPcOf}
 use Rattle.geos_rows.specs.Joins.{agree}
-use Rattle.geos_rows.specs.declared.apart.Apart.{Apart}
-use Rattle.geos_rows.specs.declared.apart.Coming.{Coming}
+use Rattle.geos_causes.specs.declared.apart.Apart.{Apart}
+use Rattle.geos_causes.specs.declared.apart.Coming.{Coming}
 use Rattle.geos_code.specs.declared.body.Body.{Body}
 use Rattle.geos_rows.specs.Why.{IsWay, MeetAlike, AreApart}
 use Rattle.geos_rows.specs.Meeting.{coming_at, waits_at, count_unknown, AllCome, IsMet, BringsAlong, HasGone, IsSpread, NoneWaits, GoesFurther, HaveAllGone}

@@ -1,14 +1,11 @@
 -- What two rows have in common.
-use Rattle.std.specs.Prelude.{◌≡◌, max, min, Bool, true, ◌&&◌, ◌||◌, ◌==◌, if◌then◌else◌, Option, Some, None}
+use Rattle.std.specs.Prelude.{◌≡◌, max, min, Bool, true, ◌&&◌, ◌==◌, if◌then◌else◌, Option, Some, None}
 use Rattle.geos_image.specs.declared.row.Row.{Row}
 use Rattle.geos_image.specs.declared.row.Pointer.{Pointer}
 use Rattle.geos_image.specs.declared.row.SlotState.{SlotState}
 use Rattle.geos_verify.specs.Lists.{all2, zip2}
 use Rattle.geos_verify.specs.Rows.{slot_fits, fits}
-
--- the states differ in the mark at most
-abbrev pub slots_agree : SlotState → SlotState → Bool
-slots_agree x y = slot_fits x y || slot_fits y x
+use Rattle.geos_causes.specs.Slots.{slots_agree}
 
 -- the state without a mark, where they differ in it
 abbrev pub slot_join : SlotState → SlotState → SlotState

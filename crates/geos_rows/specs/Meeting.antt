@@ -8,7 +8,7 @@ use Rattle.geos_code.specs.Code.{IsPcOf}
 use Rattle.geos_rows.specs.Joins.{agree}
 use Rattle.geos_code.specs.Edges.{LeadsTo}
 use Rattle.geos_rows.specs.Why.{IsComing}
-use Rattle.geos_rows.specs.declared.apart.Coming.{Coming}
+use Rattle.geos_causes.specs.declared.apart.Coming.{Coming}
 
 -- how control is known to come to a place
 abbrev pub coming_at : List (Option Coming) → ℕ → Option Coming

@@ -11,7 +11,7 @@ use Rattle.geos_code.specs.Known.{known_at, clean}
 use Rattle.geos_rows.specs.Flow.{StaysBefore}
 use Rattle.geos_rows.specs.Joins.{agree}
 use Rattle.geos_rows.specs.Meeting.{coming_at}
-use Rattle.geos_rows.specs.declared.apart.Coming.{Coming}
+use Rattle.geos_causes.specs.declared.apart.Coming.{Coming}
 
 -- the state without a mark
 abbrev pub unmarked : SlotState → SlotState

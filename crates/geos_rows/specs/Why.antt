@@ -11,9 +11,9 @@ use Rattle.geos_code.specs.Edges.{LeadsTo}
 use Rattle.geos_rows.specs.Joins.{agree}
 use Rattle.geos_flow.specs.declared.edge.Edge.{Edge}
 use Rattle.geos_code.specs.declared.edges.Lead.{Lead}
-use Rattle.geos_rows.specs.declared.emptied.Emptied.{Emptied}
-use Rattle.geos_rows.specs.declared.apart.Coming.{Coming}
-use Rattle.geos_rows.specs.declared.apart.Apart.{Apart}
+use Rattle.geos_causes.specs.declared.apart.Emptied.{Emptied}
+use Rattle.geos_causes.specs.declared.apart.Coming.{Coming}
+use Rattle.geos_causes.specs.declared.apart.Apart.{Apart}
 
 -- the edges, the last first, lead within routine r from where it begins with a row to a pc, and the row there
 abbrev pub IsWay : Parts → ℕ → Row → List (ℕ × Bool) → ℕ → Row → Type 0

@@ -2,17 +2,13 @@
 
 ghost use Rattle.std.specs.Prelude.{◌≡◌, max, IfSome, IfNone};
 ghost use Rattle.geos_verify.specs.Lists.{zip2};
-ghost use Rattle.geos_rows.specs.Joins.{slots_agree, slot_join, pointer_join, pair_join, agree, joined, join, IsLeastAbove, FitNothing};
+ghost use Rattle.geos_causes.specs.Slots.{slots_agree};
+ghost use Rattle.geos_rows.specs.Joins.{slot_join, pointer_join, pair_join, agree, joined, join, IsLeastAbove, FitNothing};
 
+use geos_causes::slots_agree;
 use geos_code::shape;
 use geos_image::{Pointer, Row, SlotState};
 use geos_verify::slot_fits;
-
-fn slots_agree(r: SlotState, s: SlotState) -> bool
-    ensures { result ≡ slots_agree r s }
-{
-    slot_fits(r, s) || slot_fits(s, r)
-}
 
 /// Whether the slots of the rows differ in marks at most.
 pub(crate) fn agree(r: &Row, s: &Row) -> bool

@@ -20,8 +20,6 @@ mod weakened;
 mod weakest;
 mod widening;
 
-pub use apart::{Apart, Coming};
 pub use common::join;
-pub use emptied::Emptied;
 pub use rows::{KnownRows, find_rows};
 pub use strongest::Strongest;

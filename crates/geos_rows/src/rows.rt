@@ -6,7 +6,6 @@ ghost use Rattle.geos_rows.specs.Reached.{AllFit, FitWhereReached, Keeps};
 ghost use Rattle.geos_rows.specs.Solutions.{NoRowsHoldIn};
 ghost use Rattle.geos_rows.specs.Why.{AreApart, MeetAlike};
 
-use crate::apart::Apart;
 use crate::descent::descend;
 use crate::fitted::{all_fit, back_edges_fit};
 use crate::flow::flow;
@@ -15,6 +14,7 @@ use crate::seeds::{copy_rows, seed_entry};
 use crate::waiting::Waiting;
 use crate::weakened::weaken;
 use crate::weakest::find_weakest;
+use geos_causes::Apart;
 use geos_code::{Body, Known, body_of, leads_back, two_tables};
 use geos_image::Image;
 use std::alloc::{AllocError, Global};

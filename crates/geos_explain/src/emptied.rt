@@ -2,24 +2,16 @@
 
 ghost use Rattle.std.specs.Prelude.{◌≡◌, ◌<◌, ◌++◌, length, IfSome, OnOk};
 ghost use Rattle.geos_image.specs.Legal.{text_end};
-ghost use Rattle.geos_rows.specs.Joins.{slots_agree};
-ghost use Rattle.geos_causes.specs.Emptied.{name_text, emptying_text, held_wish, other_wish};
-ghost use Rattle.geos_causes.specs.Emptied.{emptied_text, emptied_item, emptied_items};
+ghost use Rattle.geos_causes.specs.Slots.{slots_agree};
+ghost use Rattle.geos_explain.specs.Emptied.{name_text, emptying_text, held_wish, other_wish};
+ghost use Rattle.geos_explain.specs.Emptied.{emptied_text, emptied_item, emptied_items};
 
-use geos_explain::pc_part;
+use crate::numbers::pc_part;
+use geos_causes::{Emptied, slots_agree};
 use geos_image::SlotState;
-use geos_infer::Emptied;
 use geos_listing::state_word;
 use geos_text::{Part, put_parts};
-use geos_verify::slot_fits;
 use std::alloc::AllocError;
-
-/// Whether two states of a slot differ in the mark at most.
-pub(crate) fn slots_agree(state: SlotState, other: SlotState) -> bool
-    ensures { result ≡ slots_agree state other }
-{
-    slot_fits(state, other) || slot_fits(other, state)
-}
 
 /// Where the text of a padded name ends, if zeros follow it.
 fn text_end(name: &[u8]) -> Option<usize>

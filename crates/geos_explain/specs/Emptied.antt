@@ -5,8 +5,8 @@ use Rattle.geos_image.specs.declared.row.SlotState.{SlotState}
 use Rattle.geos_image.specs.declared.row.SlotState.TheVariants.{Empty}
 use Rattle.geos_image.specs.Legal.{text_end}
 use Rattle.geos_listing.specs.Rows.{texts_below, state_word}
-use Rattle.geos_rows.specs.Joins.{slots_agree}
-use Rattle.geos_rows.specs.declared.emptied.Emptied.{Emptied}
+use Rattle.geos_causes.specs.Slots.{slots_agree}
+use Rattle.geos_causes.specs.declared.apart.Emptied.{Emptied}
 use Rattle.geos_explain.specs.Numbers.{pc_text}
 
 -- a routine's name without the zeros behind it

@@ -1,19 +1,20 @@
 //! Why no rows or no numbers of steps are found, in an author's words.
 
 ghost use Rattle.std.specs.Prelude.{◌≡◌, ◌++◌, OnOk, IfOk};
-ghost use Rattle.geos_causes.specs.Causes.{differing_item, differing_items, is_refusable, edge_text, coming_from};
-ghost use Rattle.geos_causes.specs.Causes.{coming_text, call_text, touched_text, touched_before_text, not_set_text};
-ghost use Rattle.geos_causes.specs.Causes.{set_in_text, in_turn_text, in_ring_text};
-ghost use Rattle.geos_causes.specs.Causes.{by_word_text, dear_word_text, set_to_text, ways_text, calls_text, apart_text};
-ghost use Rattle.geos_causes.specs.Causes.{back_text, leads_text, within_text, cause_words, cause_text};
+ghost use Rattle.geos_explain.specs.Causes.{differing_item, differing_items, is_refusable, edge_text, coming_from};
+ghost use Rattle.geos_explain.specs.Causes.{coming_text, call_text, touched_text, touched_before_text, not_set_text};
+ghost use Rattle.geos_explain.specs.Causes.{set_in_text, in_turn_text, in_ring_text};
+ghost use Rattle.geos_explain.specs.Causes.{by_word_text, dear_word_text, set_to_text, ways_text, calls_text, apart_text};
+ghost use Rattle.geos_explain.specs.Causes.{back_text, leads_text, within_text, cause_words, cause_text};
 
-use crate::emptied::{put_emptied_items, slots_agree};
-use geos_explain::pc_part;
+use crate::emptied::put_emptied_items;
+use crate::numbers::pc_part;
+use geos_causes::{
+    Apart, BackWay, ByNumber, ByWord, Cause, Coming, LoopOn, LoopPair, LoopRing, Within,
+    slots_agree,
+};
 use geos_flow::Edge;
 use geos_image::{Instr, SlotState};
-use geos_infer::{
-    Apart, BackWay, ByNumber, ByWord, Cause, Coming, LoopOn, LoopPair, LoopRing, Within,
-};
 use geos_listing::state_word;
 use geos_text::{Part, put_parts};
 use geos_verify::is_empty;

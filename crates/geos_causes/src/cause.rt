@@ -1,7 +1,7 @@
 //! Causes for which no rows or no numbers of steps are found for a routine.
 
-use geos_potentials::BackWay;
-use geos_rows::Apart;
+use crate::apart::Apart;
+use crate::back_way::BackWay;
 
 /// What is wrong at a place of a loop that a LOOP closes.
 #[derive(Clone, Copy)]

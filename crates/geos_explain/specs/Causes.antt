@@ -7,21 +7,21 @@ use Rattle.geos_image.specs.declared.row.SlotState.{SlotState}
 use Rattle.geos_image.specs.declared.row.SlotState.TheVariants.{Empty}
 use Rattle.geos_listing.specs.Rows.{texts_below, state_word}
 use Rattle.geos_verify.specs.Rows.{is_empty}
-use Rattle.geos_rows.specs.Joins.{slots_agree}
+use Rattle.geos_causes.specs.Slots.{slots_agree}
 use Rattle.geos_flow.specs.declared.edge.Edge.{Edge}
-use Rattle.geos_rows.specs.declared.apart.Apart.{Apart}
-use Rattle.geos_rows.specs.declared.apart.Coming.{Coming}
-use Rattle.geos_potentials.specs.declared.unpaid.BackWay.{BackWay}
-use Rattle.geos_infer.specs.declared.cause.Within.{Within}
-use Rattle.geos_infer.specs.declared.cause.LoopOn.{LoopOn}
-use Rattle.geos_infer.specs.declared.cause.LoopPair.{LoopPair}
-use Rattle.geos_infer.specs.declared.cause.LoopRing.{LoopRing}
-use Rattle.geos_infer.specs.declared.cause.ByWord.{ByWord}
-use Rattle.geos_infer.specs.declared.cause.ByNumber.{ByNumber}
-use Rattle.geos_infer.specs.declared.cause.Cause.{Cause}
-use Rattle.geos_infer.specs.declared.cause.Cause.TheVariants.{SlotsDiffer, NoLoop, SetWithin, SetAgain, TouchedWithin, TouchedBefore, NotSet, InTurn, InRing, StepsPass, WordUnbounded, NumberHigh, WordDear, NumberDear, GivenUp, StepsMayPass, NoSteps, Unfound, Unknown}
+use Rattle.geos_causes.specs.declared.apart.Apart.{Apart}
+use Rattle.geos_causes.specs.declared.apart.Coming.{Coming}
+use Rattle.geos_causes.specs.declared.back_way.BackWay.{BackWay}
+use Rattle.geos_causes.specs.declared.cause.Within.{Within}
+use Rattle.geos_causes.specs.declared.cause.LoopOn.{LoopOn}
+use Rattle.geos_causes.specs.declared.cause.LoopPair.{LoopPair}
+use Rattle.geos_causes.specs.declared.cause.LoopRing.{LoopRing}
+use Rattle.geos_causes.specs.declared.cause.ByWord.{ByWord}
+use Rattle.geos_causes.specs.declared.cause.ByNumber.{ByNumber}
+use Rattle.geos_causes.specs.declared.cause.Cause.{Cause}
+use Rattle.geos_causes.specs.declared.cause.Cause.TheVariants.{SlotsDiffer, NoLoop, SetWithin, SetAgain, TouchedWithin, TouchedBefore, NotSet, InTurn, InRing, StepsPass, WordUnbounded, NumberHigh, WordDear, NumberDear, GivenUp, StepsMayPass, NoSteps, Unfound, Unknown}
 use Rattle.geos_explain.specs.Numbers.{pc_text}
-use Rattle.geos_causes.specs.Emptied.{emptied_items}
+use Rattle.geos_explain.specs.Emptied.{emptied_items}
 
 -- what a slot holds
 abbrev pub state_text : SlotState → List ℕ
