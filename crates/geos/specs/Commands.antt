@@ -11,9 +11,9 @@ use Rattle.geos_listing.specs.Listing.{listing}
 use Rattle.geos_explain.specs.Explanation.{AreItsRefusals, IsExplanationOf, IsVerdict}
 use Rattle.geos_explain.specs.Texts.{IsTextExplanationOf}
 use Rattle.geos_source.specs.InstrLines.{instr_lines}
-use Rattle.geos_causes.specs.Causes.{cause_text}
+use Rattle.geos_explain.specs.Causes.{cause_text}
 use Rattle.geos_lines.specs.Telling.{TellsFaults}
-use Rattle.geos_infer.specs.declared.cause.Cause.{Cause}
+use Rattle.geos_causes.specs.declared.cause.Cause.{Cause}
 use Rattle.geos_source.specs.Coded.{IsTextOf}
 use Rattle.geos_asm.specs.Assembling.{IsAssembled, IsCauseIn, IsWhyNoImage}
 use Rattle.geos_asm.specs.declared.error.AssembleError.{AssembleError}

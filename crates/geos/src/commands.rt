@@ -7,8 +7,7 @@ ghost use Rattle.geos.specs.Commands.{IsAssembledAs, TakesVersion2, IsImageOf, I
 ghost use Rattle.geos.specs.Commands.{IsJudged, IsExplained, IsExplainedText, IsFaultTold, begins_as_image};
 
 use geos_asm::{AssembleError, Unassembled, assemble, assemble_all_rows, assemble_or_tell};
-use geos_causes::explain_cause;
-use geos_explain::{explain, explain_text};
+use geos_explain::{explain, explain_cause, explain_text};
 use geos_image::{Image, ReadError};
 use geos_lines::tell_faults;
 use geos_source::lines_of_instrs;

@@ -10,7 +10,7 @@ use Rattle.geos_source.specs.declared.progress.TextRoutine.{TextRoutine}
 use Rattle.geos_source.specs.Texts.{Code, code_of}
 use Rattle.geos_source.specs.Skeletons.{routine_of, skeleton}
 use Rattle.geos_source.proofs.SkeletonLaws.{skeleton-code}
-use Rattle.geos_rows.specs.Code.{SameCode}
+use Rattle.geos_code.specs.Code.{SameCode}
 use Rattle.geos_rows.specs.Reached.{AllHoldWhereReached}
 use Rattle.geos_infer.specs.Theorem.{FindsWhatThereIs, NoneIsAccepted, NothingHoldsIn}
 use Rattle.geos_infer.specs.Causes.{Holds, tells_of_slots}
@@ -18,7 +18,7 @@ use Rattle.geos_infer.specs.Findings.{Stops}
 use Rattle.geos_infer.specs.Tells.{TellsOf}
 use Rattle.geos_rows.specs.Why.{MeetAlike}
 use Rattle.geos_infer.proofs.Keyed.{keyed-code, found-keyed, all-hold-keyed}
-use Rattle.geos_infer.specs.declared.cause.Cause.{Cause}
+use Rattle.geos_causes.specs.declared.cause.Cause.{Cause}
 use Rattle.geos_infer.specs.declared.finding.Finding.{Finding}
 use Rattle.geos_asm.specs.Assembling.{IsAssembled, RunsIfAnyDoes, HasNoRows, IsCauseIn}
 

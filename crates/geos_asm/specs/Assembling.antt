@@ -9,7 +9,7 @@ use Rattle.geos_source.specs.Texts.{Code, code_of}
 use Rattle.geos_source.specs.Coded.{HasCode}
 use Rattle.geos_source.specs.Skeletons.{skeleton}
 use Rattle.geos_verify.specs.Rules.{IsChecked}
-use Rattle.geos_rows.specs.Code.{Forward}
+use Rattle.geos_code.specs.Code.{Forward}
 use Rattle.geos_rows.specs.Reached.{AllHoldWhereReached}
 use Rattle.geos_potentials.specs.Accepted.{HasAccepted}
 use Rattle.geos_infer.specs.Theorem.{FindsWhatThereIs, NoneIsAccepted, NothingHoldsIn}
@@ -17,7 +17,7 @@ use Rattle.geos_infer.specs.Causes.{Holds, tells_of_slots}
 use Rattle.geos_infer.specs.Findings.{Stops}
 use Rattle.geos_infer.specs.Tells.{TellsOf}
 use Rattle.geos_rows.specs.Why.{MeetAlike}
-use Rattle.geos_infer.specs.declared.cause.Cause.{Cause}
+use Rattle.geos_causes.specs.declared.cause.Cause.{Cause}
 use Rattle.geos_infer.specs.declared.finding.Finding.{Finding}
 use Rattle.geos_asm.specs.declared.cause.Unassembled.{Unassembled}
 use Rattle.geos_asm.specs.declared.cause.Unassembled.TheVariants as unassembled

@@ -1,2 +1,1 @@
-pub mod Emptied
-pub mod Causes
+pub mod Slots

@@ -1,9 +1,10 @@
-//! Causes for which no rows or no numbers of steps are found for a text, in an author's words.
-//!
-//! docs/FORMATS.md has the form.
+//! Why there are no rows or no numbers of steps for a routine, as values.
 #![tactic(auto)]
 
-mod causes;
-mod emptied;
+mod apart;
+mod back_way;
+mod cause;
 
-pub use causes::explain_cause;
+pub use apart::{Apart, Coming, Emptied, slots_agree};
+pub use back_way::BackWay;
+pub use cause::{ByNumber, ByWord, Cause, LoopOn, LoopPair, LoopRing, Within};

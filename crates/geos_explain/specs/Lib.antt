@@ -32,3 +32,5 @@ pub mod Refusals
 pub mod Explanation
 pub mod Texts
 pub mod Listed
+pub mod Emptied
+pub mod Causes

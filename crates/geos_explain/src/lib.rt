@@ -1,5 +1,5 @@
 //! Explanations: the listing of an image with what is known at each instruction, and, where the
-//! verifier refuses it, what is wrong at each such place, in plain words.
+//! verifier refuses it, what is wrong at each such place, in plain words; and why no rows are found.
 //!
 //! docs/FORMATS.md has the form.
 #![tactic(auto)]
@@ -7,8 +7,10 @@
 mod arrivals;
 mod budgets;
 mod calls;
+mod causes;
 mod changed;
 mod edges;
+mod emptied;
 mod explained;
 mod explanation;
 mod filled;
@@ -43,12 +45,12 @@ mod words;
 mod written;
 
 pub use budgets::what_is_said_of_budgets_holds;
+pub use causes::explain_cause;
 pub use explanation::explain;
 pub use forgotten::what_is_said_of_calls_holds;
 pub use lacks::rows_that_fit_lack_nothing;
 pub use listed::{explanation_is_listing_with_notes, explanation_is_text_with_notes};
 pub use moved::what_is_said_of_rounds_holds;
-pub use numbers::pc_part;
 pub use public::rows_without_faults_may_be_public;
 pub use refusals::told_where_refused;
 pub use repeated::repeated_is_told_before;

@@ -16,12 +16,12 @@ use Rattle.geos_verify.specs.declared.asked.Asked.{Asked}
 use Rattle.geos_verify.specs.Potentials.{asked_along, asks_calling}
 use Rattle.geos_verify.proofs.Places.{item_at}
 use Rattle.std.proofs.lemmas.Option.{same_Some, slice_get_within}
-use Rattle.geos_rows.specs.Code.{Edge, IsPcOf, instrs_of, edge_end}
-use Rattle.geos_rows.specs.Why.{LeadsTo}
+use Rattle.geos_code.specs.Code.{Edge, IsPcOf, instrs_of, edge_end}
+use Rattle.geos_code.specs.Edges.{LeadsTo}
 use Rattle.geos_infer.specs.Points.{PointsOf}
 use Rattle.geos_infer.specs.Theorem.{with_points}
-use Rattle.geos_rows.proofs.Bodies.{lies}
-use Rattle.geos_rows.proofs.Ends.{ends-at}
+use Rattle.geos_code.proofs.Bodies.{lies}
+use Rattle.geos_code.proofs.Ends.{ends-at}
 use Rattle.geos_potentials.specs.Count.{return_steps}
 use Rattle.geos_potentials.specs.Constants.{asked_over, PaysSteps, ConstantsPay, row_known, coefficients_at, HasLoops, AreLeastFrom, given_row, coefficients_in, potential_given, HasLeastConstants, PaysForLoops, HasCoefficientsForLoops, IsAskingWay, LeadsAsking, potential_in}
 use Rattle.geos_potentials.specs.Numbers.{Numbers}

@@ -9,7 +9,7 @@ use Rattle.geos_image.specs.declared.routine.Routine.{Routine}
 use Rattle.geos_image.specs.declared.row.Row.{Row}
 use Rattle.geos_image.specs.Legal.{is_row}
 use Rattle.geos_image.specs.Parts.{Parts}
-use Rattle.geos_rows.specs.Flow.{row_of, known_at}
+use Rattle.geos_code.specs.Known.{row_of, known_at}
 use Rattle.geos_potentials.specs.Numbers.{Numbers}
 use Rattle.geos_infer.specs.Points.{PointsOf, RoutinesOf}
 use borrow.Author.Count.{below_more}

@@ -18,11 +18,11 @@ use Rattle.geos_verify.specs.Places.{places}
 use Rattle.geos_verify.specs.Rows.{fits, has_edge}
 use Rattle.geos_verify.specs.Rules.{has_place, names_empty_slot, refusal, HasPoint, Accepted, IsChecked}
 use Rattle.geos_verify.proofs.Places.{item_at, place_bounds, places-length, given-place}
-use Rattle.geos_rows.specs.Joins.{clean}
-use Rattle.geos_rows.specs.Code.{Edge, IsPcOf, Forward, ForwardIn, SameCode, instrs_of, instr_of, edge_end, edge_row}
+use Rattle.geos_code.specs.Known.{clean, row_of, known_at}
+use Rattle.geos_code.specs.Code.{Edge, IsPcOf, Forward, ForwardIn, SameCode, instrs_of, instr_of, edge_end, edge_row}
 use Rattle.geos_rows.specs.Solutions.{RowsHoldIn}
 use Rattle.geos_potentials.specs.Steps.{StepsHoldIn, call_steps}
-use Rattle.geos_rows.specs.Flow.{row_of, known_at, KnownAt, edge_number, Flowing, HaveFlowed}
+use Rattle.geos_rows.specs.Flow.{KnownAt, edge_number, Flowing, HaveFlowed}
 use Rattle.geos_potentials.specs.Numbers.{Numbers, zeros}
 use Rattle.geos_potentials.specs.Count.{Counting, CountedIn, AreCounted}
 use Rattle.geos_infer.specs.Points.{potential_of, PointsOf, RoutinesOf}
@@ -30,11 +30,11 @@ use Rattle.geos_potentials.specs.Accepted.{HasAccepted}
 use Rattle.geos_infer.specs.Theorem.{FindsWhatThereIs, NoneIsAccepted, NothingHoldsIn, with_points}
 use Rattle.geos_verify.proofs.Pairwise.{both}
 use Rattle.geos_verify.proofs.RowsFit.{fits-trans}
-use Rattle.geos_rows.proofs.Cleaning.{clean-least}
-use Rattle.geos_rows.proofs.Bodies.{lies}
+use Rattle.geos_code.proofs.Cleaning.{clean-least}
+use Rattle.geos_code.proofs.Bodies.{lies}
 use Rattle.geos_infer.proofs.Borrowing.{routines-too}
 use Rattle.geos_rows.proofs.Flows.{all-reached}
-use Rattle.geos_rows.proofs.Ends.{code-at, code-length, code-place, same-edge, map-get, ends-at}
+use Rattle.geos_code.proofs.Ends.{code-at, code-length, code-place, same-edge, map-get, ends-at}
 use Rattle.geos_infer.proofs.Wanted.{row_at, constant_at, routine-at, closed-wanted, rows-wanted, steps-wanted, forward-in}
 use Rattle.geos_infer.proofs.Accepting.{Beside, accepts}
 

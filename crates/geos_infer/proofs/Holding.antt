@@ -16,16 +16,16 @@ use Rattle.geos_verify.specs.Places.{places, at_place}
 use Rattle.geos_verify.specs.Rows.{row_along, row_branching, fits, has_edge}
 use Rattle.geos_verify.specs.Rules.{has_place, names_empty_slot, leaves_routine, misfits_at, edge_misfits, HasPoint}
 use Rattle.geos_verify.proofs.Places.{item_at, place_bounds, places-length, given-place}
-use Rattle.geos_rows.specs.Code.{Edge, IsPcOf, instr_of, instrs_of, edge_end, edge_row}
-use Rattle.geos_rows.specs.Joins.{clean}
-use Rattle.geos_rows.specs.Flow.{row_of, known_at, KnownAt}
+use Rattle.geos_code.specs.Code.{Edge, IsPcOf, instr_of, instrs_of, edge_end, edge_row}
+use Rattle.geos_code.specs.Known.{clean, row_of, known_at}
+use Rattle.geos_rows.specs.Flow.{KnownAt}
 use Rattle.geos_potentials.specs.Numbers.{Numbers}
 use Rattle.geos_infer.specs.Points.{PointsOf}
 use Rattle.geos_infer.specs.Theorem.{with_points}
 use Rattle.geos_rows.specs.Reached.{LeadWithin, IsReached, HoldWhereReached, row_in, rows_of, RowRulesPass, FitWhereReached}
 use Rattle.geos_infer.proofs.Accepting.{at-place-true}
-use Rattle.geos_rows.proofs.Cleaning.{clean-least}
-use Rattle.geos_rows.proofs.Ends.{place-code-at, same-edge, map-get, ends-at}
+use Rattle.geos_code.proofs.Cleaning.{clean-least}
+use Rattle.geos_code.proofs.Ends.{place-code-at, same-edge, map-get, ends-at}
 use Rattle.geos_verify.proofs.RowsFit.{fits-trans}
 use Rattle.geos_verify.proofs.Passing.{neither, not-both, second-false, true-not}
 

@@ -19,10 +19,10 @@ use Rattle.geos_verify.specs.Rules.{names_empty_slot}
 use Rattle.geos_verify.proofs.Places.{item_at, places-length, point-of}
 use Rattle.geos_verify.proofs.KeyedPlaces.{KnownAs, along-same, known-given, known-next, along-fits, branching-fits, start-given, target-given}
 use Rattle.geos_verify.proofs.AcceptedToo.{accepted_too}
-use Rattle.geos_rows.specs.Code.{Edge, IsPcOf, instr_of, instrs_of, edge_row}
+use Rattle.geos_code.specs.Code.{Edge, IsPcOf, instr_of, instrs_of, edge_row}
 use Rattle.geos_rows.specs.Reached.{LeadWithin, IsReached, HoldWhereReached, AllHoldWhereReached, row_in, rows_of}
 use Rattle.geos_infer.specs.Theorem.{FindsWhatThereIs}
-use Rattle.geos_rows.proofs.Ends.{code-place, code-length, map-get}
+use Rattle.geos_code.proofs.Ends.{code-place, code-length, map-get}
 
 -- the code is the same
 pub keyed-code : (image : Parts) → instrs_of (keyed_of image) ≡ instrs_of image

@@ -8,17 +8,17 @@ use Rattle.geos_image.specs.Parts.{Parts, start_of}
 use Rattle.geos_infer.specs.Ahead.{OnlyAhead, TakesAlong, NonePasses, GoesOn, IsLongestOver, IsLongestFrom}
 use Rattle.geos_infer.specs.Causes.{LoopsTo, ComesRound, NoOtherHolds}
 use Rattle.geos_potentials.specs.Idle.{IsKept}
-use Rattle.geos_rows.specs.Code.{IsPcOf}
+use Rattle.geos_code.specs.Code.{IsPcOf}
 use Rattle.geos_potentials.specs.Numbers.{zeros}
 use Rattle.geos_potentials.specs.Steps.{most_steps, taken_at}
 use Rattle.geos_infer.specs.Taken.{Place, Takes}
 use Rattle.geos_potentials.specs.Trails.{IsTrail}
-use Rattle.geos_rows.specs.Why.{LeadsTo}
-use Rattle.geos_potentials.specs.declared.unpaid.BackWay.{BackWay}
-use Rattle.geos_infer.specs.declared.cause.Cause.TheVariants.{SlotsDiffer, NoLoop, SetWithin, SetAgain, TouchedWithin, TouchedBefore, NotSet, InTurn, InRing, StepsPass, WordUnbounded, NumberHigh, WordDear, NumberDear, GivenUp, StepsMayPass, NoSteps, Unfound, Unknown}
+use Rattle.geos_code.specs.Edges.{LeadsTo}
+use Rattle.geos_causes.specs.declared.back_way.BackWay.{BackWay}
+use Rattle.geos_causes.specs.declared.cause.Cause.TheVariants.{SlotsDiffer, NoLoop, SetWithin, SetAgain, TouchedWithin, TouchedBefore, NotSet, InTurn, InRing, StepsPass, WordUnbounded, NumberHigh, WordDear, NumberDear, GivenUp, StepsMayPass, NoSteps, Unfound, Unknown}
 use Rattle.geos_infer.proofs.Kept.{comes-any, kept-any}
 use Rattle.geos_rows.proofs.Came.{comes-to}
-use Rattle.geos_rows.proofs.Ends.{code-at, leads-one}
+use Rattle.geos_code.proofs.Ends.{code-at, leads-one}
 
 -- a way begins in its routine
 begins-in : (image : Parts) (r pc : ℕ) (branches : List Bool) (steps : ℕ) → TakesAlong image r pc branches steps → IsPcOf image r pc

@@ -11,17 +11,16 @@ use Rattle.geos_verify.specs.Rows.{bound}
 use Rattle.geos_verify.proofs.Places.{item_at}
 use Rattle.geos_verify.proofs.RowsFit.{fits-refl, fits-trans}
 use Rattle.geos_semantics.specs.Lists.{dot}
-use Rattle.geos_rows.specs.Code.{IsPcOf, edge_row}
-use Rattle.geos_rows.specs.Flow.{row_of, known_at}
-use Rattle.geos_rows.specs.Joins.{clean}
+use Rattle.geos_code.specs.Code.{IsPcOf, edge_row}
+use Rattle.geos_code.specs.Known.{row_of, known_at, clean}
 use Rattle.geos_potentials.specs.Numbers.{zeros}
 use Rattle.geos_rows.specs.Reached.{EdgeFits, FitWhereReached, AreAtMostAny}
 use Rattle.geos_rows.specs.Solutions.{RowsHoldIn}
 use Rattle.geos_infer.specs.Taken.{NoneIsAcceptedPast, StepsPass, WordsPass, word_at}
 use Rattle.geos_potentials.specs.Accepted.{HasAccepted}
 use Rattle.geos_potentials.proofs.Asks.{zero-at}
-use Rattle.geos_rows.proofs.Cleaning.{clean-least}
-use Rattle.geos_rows.proofs.Ends.{edge-mono}
+use Rattle.geos_code.proofs.Cleaning.{clean-least}
+use Rattle.geos_code.proofs.Ends.{edge-mono}
 use Rattle.geos_rows.proofs.Reaching.{reached-within}
 use Rattle.geos_infer.proofs.Refused.{dot-zeros, instr-paid, way-value, begins-in}
 use Rattle.geos_potentials.proofs.Accepted.{point-of, four-at}

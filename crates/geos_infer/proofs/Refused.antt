@@ -22,13 +22,13 @@ use Rattle.geos_semantics.specs.Lists.{dot}
 use Rattle.geos_semantics.specs.Theorem.{value}
 use Rattle.geos_verify.proofs.Leads.{leads-along, leads-branching, may_return}
 use Rattle.geos_semantics.proofs.Paid.{pays-value, pays_setting-value, pays_taking-value, pays_calling-value, spent-at}
-use Rattle.geos_rows.specs.Code.{IsPcOf, instr_of}
+use Rattle.geos_code.specs.Code.{IsPcOf, instr_of}
 use Rattle.geos_potentials.specs.Steps.{call_steps, taken_at}
 use Rattle.geos_infer.specs.Taken.{Place, Counts, Takes, word_at}
 use Rattle.geos_potentials.specs.Accepted.{HasAccepted}
-use Rattle.geos_rows.specs.Why.{LeadsTo}
+use Rattle.geos_code.specs.Edges.{LeadsTo}
 use Rattle.geos_potentials.proofs.Asks.{called}
-use Rattle.geos_rows.proofs.Ends.{place-code-at, map-get}
+use Rattle.geos_code.proofs.Ends.{place-code-at, map-get}
 use Rattle.geos_potentials.proofs.Accepted.{along-steps, pays-steps, touches-same, same-instr, four-at}
 
 -- Potentials and counters

@@ -4,7 +4,7 @@ use Rattle.geos_image.specs.Legal.{is_image}
 use Rattle.geos_image.specs.Parts.{Parts}
 use Rattle.geos_rows.specs.Solutions.{NoRowsHoldIn}
 use Rattle.geos_rows.specs.Why.{AreApart, MeetAlike}
-use Rattle.geos_rows.specs.declared.apart.Apart.{Apart}
+use Rattle.geos_causes.specs.declared.apart.Apart.{Apart}
 use Rattle.geos_rows.proofs.Weakening.{never-apart}
 use Rattle.geos_potentials.specs.Steps.{NoStepsHoldIn}
 use Rattle.geos_infer.specs.Findings.{IsUnpaid, IsObstacle, Stops}

@@ -26,11 +26,11 @@ use Rattle.geos_verify.specs.Rules.{has_place, returns, names_empty_slot, tests,
 use Rattle.geos_verify.proofs.Passed.{passed}
 use Rattle.geos_verify.proofs.Places.{place_bounds, place_true, item_at, places-length, point-of}
 use Rattle.geos_verify.proofs.Leads.{leads-along, leads-branching, may_return, may_begin, begins-within}
-use Rattle.geos_rows.specs.Code.{Edge, IsPcOf, ClosedIn, Entered, EnteredIn, SameCode, Forward, ForwardIn, instrs_of, edge_row}
+use Rattle.geos_code.specs.Code.{Edge, IsPcOf, ClosedIn, Entered, EnteredIn, SameCode, Forward, ForwardIn, instrs_of, edge_row}
 use Rattle.geos_rows.specs.Solutions.{RowsHoldIn}
 use Rattle.geos_potentials.specs.Steps.{StepsHoldIn, call_steps}
-use Rattle.geos_rows.proofs.Bodies.{lies}
-use Rattle.geos_rows.proofs.Ends.{code-length, code-place, place-code-at, same-edge, map-get, ends-at}
+use Rattle.geos_code.proofs.Bodies.{lies}
+use Rattle.geos_code.proofs.Ends.{code-length, code-place, place-code-at, same-edge, map-get, ends-at}
 use Rattle.geos_potentials.proofs.Asks.{called}
 use Rattle.geos_potentials.proofs.Accepted.{along-steps, pays-steps}
 

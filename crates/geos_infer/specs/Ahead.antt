@@ -1,9 +1,9 @@
 -- Ways in routines in which none leads back, and the steps that are taken on them.
 use Rattle.std.specs.Prelude.{◌≡◌, ◌≤◌, ◌<◌, ◌+◌, ◌⊎◌, ℕ, Bool, List, [], ◌∷◌, slice_index}
 use Rattle.geos_image.specs.Parts.{Parts}
-use Rattle.geos_rows.specs.Code.{IsPcOf, TargetAhead}
+use Rattle.geos_code.specs.Code.{IsPcOf, TargetAhead}
 use Rattle.geos_potentials.specs.Steps.{most_steps, taken_at}
-use Rattle.geos_rows.specs.Why.{LeadsTo}
+use Rattle.geos_code.specs.Edges.{LeadsTo}
 
 -- each edge of routine r to a target in it leads ahead
 abbrev pub OnlyAhead : Parts → ℕ → Type 0

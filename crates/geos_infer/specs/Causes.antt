@@ -6,23 +6,24 @@ use Rattle.geos_image.specs.declared.instr.Instr.{Instr}
 use Rattle.geos_image.specs.declared.row.Row.{Row}
 use Rattle.geos_image.specs.Parts.{Parts}
 use Rattle.geos_verify.specs.Rows.{bound}
-use Rattle.geos_rows.specs.Code.{IsPcOf}
-use Rattle.geos_rows.specs.Flow.{row_of, known_at}
+use Rattle.geos_code.specs.Code.{IsPcOf}
+use Rattle.geos_code.specs.Known.{row_of, known_at}
 use Rattle.geos_rows.specs.Reached.{FitWhereReached}
 use Rattle.geos_potentials.specs.Accepted.{HasAccepted}
-use Rattle.geos_rows.specs.Why.{LeadsTo, AreApart, MeetAlike}
+use Rattle.geos_code.specs.Edges.{LeadsTo}
+use Rattle.geos_rows.specs.Why.{AreApart, MeetAlike}
 use Rattle.geos_potentials.specs.Trails.{IsTrail, LeadsKeeping}
 use Rattle.geos_infer.specs.Taken as taken
 use Rattle.geos_infer.specs.Ahead.{MayPass, NonePasses}
-use Rattle.geos_potentials.specs.declared.unpaid.BackWay.{BackWay}
-use Rattle.geos_infer.specs.declared.cause.Within.{Within}
-use Rattle.geos_infer.specs.declared.cause.LoopOn.{LoopOn}
-use Rattle.geos_infer.specs.declared.cause.LoopPair.{LoopPair}
-use Rattle.geos_infer.specs.declared.cause.LoopRing.{LoopRing}
-use Rattle.geos_infer.specs.declared.cause.ByWord.{ByWord}
-use Rattle.geos_infer.specs.declared.cause.ByNumber.{ByNumber}
-use Rattle.geos_infer.specs.declared.cause.Cause.{Cause}
-use Rattle.geos_infer.specs.declared.cause.Cause.TheVariants.{SlotsDiffer, NoLoop, SetWithin, SetAgain, TouchedWithin, TouchedBefore, NotSet, InTurn, InRing, StepsPass, WordUnbounded, NumberHigh, WordDear, NumberDear, GivenUp, StepsMayPass, NoSteps, Unfound, Unknown}
+use Rattle.geos_causes.specs.declared.back_way.BackWay.{BackWay}
+use Rattle.geos_causes.specs.declared.cause.Within.{Within}
+use Rattle.geos_causes.specs.declared.cause.LoopOn.{LoopOn}
+use Rattle.geos_causes.specs.declared.cause.LoopPair.{LoopPair}
+use Rattle.geos_causes.specs.declared.cause.LoopRing.{LoopRing}
+use Rattle.geos_causes.specs.declared.cause.ByWord.{ByWord}
+use Rattle.geos_causes.specs.declared.cause.ByNumber.{ByNumber}
+use Rattle.geos_causes.specs.declared.cause.Cause.{Cause}
+use Rattle.geos_causes.specs.declared.cause.Cause.TheVariants.{SlotsDiffer, NoLoop, SetWithin, SetAgain, TouchedWithin, TouchedBefore, NotSet, InTurn, InRing, StepsPass, WordUnbounded, NumberHigh, WordDear, NumberDear, GivenUp, StepsMayPass, NoSteps, Unfound, Unknown}
 use Rattle.geos_potentials.specs.Idle.{GoesRound, PassesAt, calls_touching, IsKept, IsUnset, IsNeverPaid}
 
 -- an instruction of routine r leads back within it by its target

@@ -7,7 +7,7 @@ use Rattle.geos_image.specs.declared.point.Point.{Point}
 use Rattle.geos_image.specs.Parts.{Parts}
 use Rattle.geos_image.specs.Legal.{is_row}
 use Rattle.geos_potentials.specs.Numbers.{Numbers}
-use Rattle.geos_rows.specs.Flow.{row_of, known_at}
+use Rattle.geos_code.specs.Known.{row_of, known_at}
 
 -- so many steps, whatever the counters are
 abbrev pub potential_of : ℕ → Potential

@@ -7,13 +7,13 @@ use Rattle.geos_image.specs.declared.row.Row.{Row}
 use Rattle.geos_image.specs.Parts.{Parts}
 use Rattle.geos_verify.specs.Rows.{bound}
 use Rattle.geos_verify.specs.Touched.{touches}
-use Rattle.geos_rows.specs.Code.{IsPcOf}
-use Rattle.geos_rows.specs.Flow.{known_at}
+use Rattle.geos_code.specs.Code.{IsPcOf}
+use Rattle.geos_code.specs.Known.{known_at}
 use Rattle.geos_potentials.specs.Numbers.{zeros}
 use Rattle.geos_rows.specs.Reached.{AreAtMostAny}
 use Rattle.geos_potentials.specs.Steps.{taken_at, most_steps}
 use Rattle.geos_potentials.specs.Accepted.{HasAccepted}
-use Rattle.geos_rows.specs.Why.{LeadsTo}
+use Rattle.geos_code.specs.Edges.{LeadsTo}
 
 -- where control is, and what the counters k0 to k3 are then
 pub record Place : Type 0 where

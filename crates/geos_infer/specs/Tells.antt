@@ -9,8 +9,8 @@ use Rattle.geos_potentials.specs.declared.search.Halt.{Halt}
 use Rattle.geos_potentials.specs.declared.search.Halt.TheVariants.{Stuck, Unpaid, Passes}
 use Rattle.geos_potentials.specs.declared.units.Lack.{Lack}
 use Rattle.geos_potentials.specs.declared.units.Lack.TheVariants as lack
-use Rattle.geos_infer.specs.declared.cause.Cause.{Cause}
-use Rattle.geos_infer.specs.declared.cause.Cause.TheVariants as cause
+use Rattle.geos_causes.specs.declared.cause.Cause.{Cause}
+use Rattle.geos_causes.specs.declared.cause.Cause.TheVariants as cause
 use Rattle.geos_infer.specs.declared.finding.Obstacle.{Obstacle}
 use Rattle.geos_infer.specs.declared.finding.Obstacle.TheVariants.{SlotsDiffer, NoSteps}
 

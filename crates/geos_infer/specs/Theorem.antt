@@ -6,7 +6,7 @@ use Rattle.geos_image.specs.Parts.{Parts}
 use Rattle.geos_verify.specs.Rules.{IsAcceptable}
 use Rattle.geos_infer.specs.declared.error.InferError.{InferError}
 use Rattle.geos_infer.specs.declared.error.InferError.TheVariants.{NoRows, Memory}
-use Rattle.geos_rows.specs.Code.{Forward, ForwardIn, SameCode}
+use Rattle.geos_code.specs.Code.{Forward, ForwardIn, SameCode}
 use Rattle.geos_rows.specs.Solutions.{RowsHoldIn}
 use Rattle.geos_potentials.specs.Reasons.{IsReason}
 use Rattle.geos_potentials.specs.Steps.{StepsHoldIn}

@@ -10,7 +10,7 @@ use Rattle.geos_verify.specs.Lists.{zip2}
 use Rattle.geos_infer.specs.declared.counters.Counter.{Counter}
 use Rattle.geos_infer.specs.declared.counters.Counter.TheVariants.{Kept, Is, Unknown}
 use Rattle.geos_infer.specs.declared.reach.Reach.{Reach}
-use Rattle.geos_rows.specs.Code.{IsPcOf}
+use Rattle.geos_code.specs.Code.{IsPcOf}
 use Rattle.geos_infer.specs.Taken.{Place, Takes}
 
 -- Counters

@@ -5,7 +5,7 @@ ghost use Rattle.geos_infer.specs.Ahead.{OnlyAhead};
 ghost use Rattle.geos_infer.specs.Causes.{LeadsBack, SetsWithin, Holds, NoOtherHolds, NoneIsAcceptedFor, tells_of_slots};
 ghost use Rattle.geos_potentials.specs.Touching.{KnowsTouched};
 ghost use Rattle.geos_potentials.specs.Idle.{IsNeverPaid};
-ghost use Rattle.geos_rows.specs.Code.{TargetAhead};
+ghost use Rattle.geos_code.specs.Code.{TargetAhead};
 ghost use Rattle.geos_potentials.specs.Constants.{HasLoops};
 ghost use Rattle.geos_potentials.specs.Halts.{IsInTheWay};
 ghost use Rattle.geos_potentials.specs.Reasons.{Halts};
@@ -19,7 +19,6 @@ ghost use Rattle.geos_infer.specs.Taken.{StepsPass};
 ghost use Rattle.geos_rows.specs.Why.{MeetAlike};
 
 use crate::ahead::may_pass;
-use crate::cause::{Cause, Within};
 use crate::finding::{Finding, Obstacle, Unpaid};
 use crate::idle::{cause_of_idle, find_touched};
 use crate::in_turn::{find_in_turn, find_own_set};
@@ -28,12 +27,13 @@ use crate::setting::find_dear;
 use crate::trails::Trails;
 use crate::turns::steps_pass;
 use crate::within::{find_set_again, find_set_within};
+use geos_causes::{BackWay, Cause, Within};
+use geos_code::{Body, Known, Table, body_of, edge_in};
 use geos_image::Image;
 use geos_potentials::{
-    BackWay, Halt, Halted, Lack, Piece, Reason, Search, Touching, find_touching,
-    some_always_may_pay,
+    Halt, Halted, Lack, Piece, Reason, Search, Touching, find_touching, some_always_may_pay,
 };
-use geos_rows::{Body, Known, Strongest, Table, body_of, edge_in};
+use geos_rows::Strongest;
 use std::alloc::{AllocError, Global};
 
 /// The edge of the instruction to its target, if that leads back.

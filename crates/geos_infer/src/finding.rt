@@ -3,8 +3,9 @@
 ghost use Rattle.std.specs.Prelude.{◌≡◌};
 ghost use Rattle.geos_infer.specs.declared.finding.FindError.TheVariants.{Memory};
 
+use geos_causes::Apart;
+use geos_code::Known;
 use geos_potentials::Reason;
-use geos_rows::{Apart, Known};
 use std::alloc::AllocError;
 
 /// Why no numbers of steps are found for a routine.

@@ -6,11 +6,11 @@ ghost use Rattle.geos_potentials.specs.Touching.{KnowsTouched};
 ghost use Rattle.geos_infer.specs.Causes.{TakesUnset, Holds};
 ghost use Rattle.geos_infer.specs.Tells.{IsOfLoop, tells_of_ways};
 
-use crate::cause::{Cause, LoopOn};
 use crate::trails::Trails;
 use crate::within::{comes_round, find_touched_before, find_touched_within, loop_at};
+use geos_causes::{Cause, LoopOn};
+use geos_code::{Body, Known};
 use geos_potentials::{Graph, Piece, Search, Touching};
-use geos_rows::{Body, Known};
 use std::alloc::{AllocError, Global};
 
 /// The LOOP at a pc, if control goes round by it, and on a way to it nothing sets its counter.

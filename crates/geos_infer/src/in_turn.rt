@@ -5,12 +5,12 @@ ghost use Rattle.std.specs.Prelude.{◌<◌, IfSome};
 ghost use Rattle.geos_potentials.specs.Touching.{KnowsTouched};
 ghost use Rattle.geos_infer.specs.Causes.{WaitInTurn, SetsFor, SetsWithin};
 
-use crate::cause::{LoopPair, Within};
 use crate::trails::Trails;
 use crate::within::{comes_round, find_set_within, kept_from, loop_at, note_set, sets_at};
+use geos_causes::{BackWay, LoopPair, Within};
+use geos_code::Body;
 use geos_image::MOST_INSTRS;
-use geos_potentials::{BackWay, Graph, Jump, Piece, Splitting, Touching};
-use geos_rows::Body;
+use geos_potentials::{Graph, Jump, Piece, Splitting, Touching};
 
 /// How many pairs of LOOPs are looked at.
 const PAIRS: u16 = 256;

@@ -2,7 +2,7 @@
 
 ghost use Rattle.std.specs.Prelude.{◌≡◌, ◌<◌, ℕ, false, length, IfOk, IfErr};
 ghost use Rattle.geos_infer.specs.declared.error.InferError.TheVariants.{NoRows};
-ghost use Rattle.geos_rows.specs.Code.{SameCode};
+ghost use Rattle.geos_code.specs.Code.{SameCode};
 ghost use Rattle.geos_potentials.specs.Constants.{AreLeastFrom, HasLeastConstants, HasCoefficientsForLoops, PaysForLoops};
 ghost use Rattle.geos_potentials.specs.Count.{AreCounted};
 ghost use Rattle.geos_potentials.specs.Numbers.{numbers_of};
@@ -16,9 +16,10 @@ ghost use Rattle.geos_rows.specs.Why.{MeetAlike};
 
 use crate::error::InferError;
 use crate::finding::{FindError, Finding, Obstacle, Unpaid};
+use geos_code::{Known, row_of};
 use geos_image::{Image, Point, Potential, Routine, Whole};
 use geos_potentials::{Potentials, Unfound, find_potentials};
-use geos_rows::{Known, KnownRows, find_rows, row_of};
+use geos_rows::{KnownRows, find_rows};
 use std::alloc::{AllocError, Global};
 
 /// The instructions of the image, with the rows and potentials that were found.

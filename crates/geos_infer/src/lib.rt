@@ -4,7 +4,6 @@
 #![tactic(auto)]
 
 mod ahead;
-mod cause;
 mod counters;
 mod diagnosis;
 mod error;
@@ -19,11 +18,13 @@ mod trails;
 mod turns;
 mod within;
 
-pub use cause::{ByNumber, ByWord, Cause, LoopOn, LoopPair, LoopRing, Within};
 pub use diagnosis::{find_cause, no_other_cause_holds, none_is_accepted_for};
 pub use error::InferError;
 pub use finding::{FindError, Finding, Obstacle, Unpaid};
-pub use geos_potentials::BackWay;
-pub use geos_rows::{Apart, Coming, Emptied, clean, join};
+pub use geos_causes::{
+    Apart, BackWay, ByNumber, ByWord, Cause, Coming, Emptied, LoopOn, LoopPair, LoopRing, Within,
+};
+pub use geos_code::clean;
+pub use geos_rows::join;
 pub use inference::{find_image, infer, kept_rows_hold, rows_that_hold_pass};
 pub use turns::none_is_accepted_past;

@@ -3,7 +3,7 @@
 ghost use Rattle.std.specs.Prelude.{◌≡◌, ◌<◌, ◌⊎◌, Some, slice_set};
 
 use crate::counters::{Counter, number_in};
-use geos_rows::Table;
+use geos_code::Table;
 
 /// What is known of a way to a place.
 #[derive(Clone, Copy)]

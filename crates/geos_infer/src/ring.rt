@@ -3,15 +3,15 @@
 ghost use Rattle.std.specs.Prelude.{◌≡◌, ◌<◌, true, List, IfSome};
 ghost use Rattle.geos_potentials.specs.Touching.{KnowsTouched};
 ghost use Rattle.geos_infer.specs.Causes.{LoopsTo, SetsFor, WaitOn, WaitInRing};
-ghost use Rattle.geos_potentials.specs.declared.unpaid.BackWay.{BackWay};
+ghost use Rattle.geos_causes.specs.declared.back_way.BackWay.{BackWay};
 
-use crate::cause::LoopRing;
 use crate::in_turn::{nest_of, set_for};
 use crate::trails::Trails;
 use crate::within::{loop_at, note_set};
+use geos_causes::{BackWay, LoopRing};
+use geos_code::Body;
 use geos_image::MOST_INSTRS;
-use geos_potentials::{BackWay, Graph, Nest, Splitting, Touching};
-use geos_rows::Body;
+use geos_potentials::{Graph, Nest, Splitting, Touching};
 
 /// How many loops are followed: so many that one comes round, on a small ring, to the loop with which one began.
 const LOOPS: u16 = 60;

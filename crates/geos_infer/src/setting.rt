@@ -8,13 +8,14 @@ ghost use Rattle.geos_rows.specs.Reached.{FitWhereReached, AreAtMostAny};
 ghost use Rattle.geos_infer.specs.Taken.{WordsPass};
 ghost use Rattle.geos_infer.specs.Tells.{tells_of_setting};
 
-use crate::cause::{ByNumber, ByWord, Cause};
 use crate::trails::Trails;
 use crate::turns::steps_pass;
 use crate::within::{comes_round, is_kept, loop_at};
+use geos_causes::{BackWay, ByNumber, ByWord, Cause};
+use geos_code::{Body, Known, bound_of, is_loop, row_of};
 use geos_image::Opcode;
-use geos_potentials::{BackWay, Graph, Jump, Search, Splitting, Touching, find_dearest};
-use geos_rows::{Body, Known, Strongest, bound_of, is_loop, row_of};
+use geos_potentials::{Graph, Jump, Search, Splitting, Touching, find_dearest};
+use geos_rows::Strongest;
 use std::alloc::{AllocError, Global};
 
 /// The LOOP at a pc, if it takes from the counter, and the counter is kept up to it from behind a place from where control goes on.

@@ -6,9 +6,9 @@ ghost use Rattle.geos_potentials.specs.Touching.{KnowsTouched, NotesAllTouched};
 ghost use Rattle.geos_infer.specs.Causes.{IsTrailBut};
 ghost use Rattle.geos_potentials.specs.Trails.{LeadsKeeping, keeps};
 
+use geos_code::{Body, Table, edge_in, two_tables};
 use geos_image::{Instr, MOST_INSTRS, Opcode};
 use geos_potentials::{Graph, Pile, Touching, touches};
-use geos_rows::{Body, Table, edge_in, two_tables};
 use geos_verify::Touched;
 use std::alloc::{AllocError, Global};
 

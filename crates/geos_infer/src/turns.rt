@@ -3,14 +3,14 @@
 ghost use Rattle.std.specs.Prelude.{◌≡◌, ◌<◌, ◌≤◌, ◌-◌, ℕ, true, false, IfSome, IfOk};
 ghost use Rattle.geos_infer.specs.Turns.{begin_at, begin_from, AlwaysComesTo, GoOn, AreReached, StayReached, IsTurn, AreTurns};
 ghost use Rattle.geos_infer.specs.Taken.{NoneIsAcceptedPast, StepsPassBy, word_at};
-ghost use Rattle.geos_rows.specs.Why.{LeadsTo};
+ghost use Rattle.geos_code.specs.Edges.{LeadsTo};
 
 use crate::counters::{
     Counter, counter_at, counters_after, number_in, unless_all_changed, untouched, with_counter,
 };
 use crate::reach::{Reach, Reached, note};
+use geos_code::{Body, Known, Lead, edge_in, is_loop, two_tables};
 use geos_potentials::{taken_at, touched_by};
-use geos_rows::{Body, Known, Lead, edge_in, is_loop, two_tables};
 use geos_verify::Touched;
 use std::alloc::{AllocError, Global};
 

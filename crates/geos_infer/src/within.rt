@@ -5,13 +5,13 @@ ghost use Rattle.geos_potentials.specs.Touching.{KnowsTouched};
 ghost use Rattle.geos_infer.specs.Causes.{LoopsTo, ComesRound, IsKeptBut, ComesBut, sets_counter};
 ghost use Rattle.geos_infer.specs.Causes.{SetsWithin, SetsInTurn, TouchesWithin, TouchesBefore};
 ghost use Rattle.geos_potentials.specs.Idle.{IsKept, PassesAt, calls_touching};
-ghost use Rattle.geos_rows.specs.Code.{IsPcOf};
+ghost use Rattle.geos_code.specs.Code.{IsPcOf};
 
-use crate::cause::Within;
 use crate::trails::{Came, Trails};
+use geos_causes::{BackWay, Within};
+use geos_code::{Body, edge_in, is_loop};
 use geos_image::{Instr, Opcode};
-use geos_potentials::{BackWay, Graph, Order, Piece, Touching, touches};
-use geos_rows::{Body, edge_in, is_loop};
+use geos_potentials::{Graph, Order, Piece, Touching, touches};
 
 /// The way of the LOOP at a pc to its target, and its counter.
 pub(crate) fn loop_at(body: &Body, from: u16) -> Option<(BackWay, u8)>

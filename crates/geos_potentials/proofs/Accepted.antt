@@ -18,8 +18,8 @@ use Rattle.geos_verify.specs.Potentials.{pays, pays_setting, pays_calling, budge
 use Rattle.geos_verify.specs.Touched.{calls, touched_by, counts, points_of, touches_here, touches_within, touches}
 use Rattle.geos_verify.specs.Rules.{HasPoint}
 use Rattle.geos_verify.proofs.Places.{place_true, point-of as find-point}
-use Rattle.geos_rows.specs.Code.{IsPcOf, SameCode, instrs_of, instr_of}
-use Rattle.geos_rows.proofs.Ends.{place-code-at, code-at, ends-at}
+use Rattle.geos_code.specs.Code.{IsPcOf, SameCode, instrs_of, instr_of}
+use Rattle.geos_code.proofs.Ends.{place-code-at, code-at, ends-at}
 use Rattle.geos_potentials.proofs.Asks.{called}
 use Rattle.std.specs.List.{list_any}
 use Rattle.std.proofs.lemmas.List.{take-map, drop-map}

@@ -16,12 +16,12 @@ use Rattle.geos_verify.specs.Rows.{bound, has_edge}
 use Rattle.geos_verify.specs.Touched.{calls}
 use Rattle.geos_verify.specs.Potentials.{asks, asks_setting, asked_along, asked_branching, budget_of}
 use Rattle.geos_verify.proofs.Places.{item_at, if_some}
-use Rattle.geos_rows.specs.declared.edges.Lead.{Lead}
-use Rattle.geos_rows.specs.Edges.{leads_ahead, edge_ahead}
+use Rattle.geos_code.specs.declared.edges.Lead.{Lead}
+use Rattle.geos_code.specs.Edges.{leads_ahead, edge_ahead}
 use Rattle.geos_potentials.specs.Numbers.{Numbers, zeros}
 use Rattle.geos_potentials.specs.Count.{edge_steps, return_steps, steps_at, ZerosFrom, asked_steps, asked_coefficients, AsksFor, HasSteps}
 use Rattle.geos_potentials.specs.Steps.{call_steps, most_steps, taken_at}
-use Rattle.geos_rows.proofs.Back.{none-ahead, read-ahead}
+use Rattle.geos_code.proofs.Back.{none-ahead, read-ahead}
 
 -- Where no counter counts behind an edge, it asks for steps alone
 

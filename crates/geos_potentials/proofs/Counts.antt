@@ -11,13 +11,13 @@ use Rattle.geos_image.proofs.Starts.{start_of-le}
 use Rattle.geos_verify.specs.Rules.{returns}
 use Rattle.geos_verify.proofs.Places.{item_at, if_some}
 use Rattle.geos_verify.specs.Rows.{has_edge}
-use Rattle.geos_rows.specs.Code.{Edge, IsPcOf, ForwardIn, instrs_of, edge_end}
+use Rattle.geos_code.specs.Code.{Edge, IsPcOf, ForwardIn, instrs_of, edge_end}
 use Rattle.geos_potentials.specs.Steps.{StepsHoldIn, call_steps, most_steps}
-use Rattle.geos_rows.specs.Edges.{leads_ahead}
+use Rattle.geos_code.specs.Edges.{leads_ahead}
 use Rattle.geos_potentials.specs.Numbers.{Numbers, zeros}
 use Rattle.geos_potentials.specs.Count.{edge_steps, return_steps, steps_at, Counting, ZerosFrom, HasSteps, Counted, CountedIn, StaysFrom, CountsOn, AreCounted}
 use Rattle.geos_verify.proofs.Pairwise.{both}
-use Rattle.geos_rows.proofs.Ends.{code-at, code-length}
+use Rattle.geos_code.proofs.Ends.{code-at, code-length}
 
 some-is : (x y : Instr) → Some x ≡ Some y → x ≡ y
 some-is x y e = cc

@@ -16,9 +16,9 @@ use Rattle.geos_image.specs.Parts.{Parts, start_of}
 use Rattle.geos_verify.specs.Lists.{all2}
 use Rattle.geos_verify.specs.Rows.{has_edge}
 use Rattle.geos_verify.specs.Potentials.{asked_along, asked_branching, is_paid}
-use Rattle.geos_rows.proofs.Ends.{leads-one}
-use Rattle.geos_rows.specs.Code.{IsPcOf, edge_end}
-use Rattle.geos_rows.specs.Why.{LeadsTo}
+use Rattle.geos_code.proofs.Ends.{leads-one}
+use Rattle.geos_code.specs.Code.{IsPcOf, edge_end}
+use Rattle.geos_code.specs.Edges.{LeadsTo}
 use Rattle.geos_potentials.specs.declared.arcs.Arc.{Arc}
 use Rattle.geos_potentials.specs.declared.arcs.Counting.{Counting}
 use Rattle.geos_potentials.specs.declared.arcs.Counting.TheVariants.{Sets, Takes, Forgets}

@@ -14,9 +14,9 @@ use Rattle.geos_image.specs.declared.row.Row.{Row}
 use Rattle.geos_image.specs.Parts.{Parts}
 use Rattle.geos_verify.specs.Lists.{zip2}
 use Rattle.geos_potentials.specs.Arcs.{arc_at, unit_at, counting_of, IsArc, IsArcIf, AreArcs}
-use Rattle.geos_rows.specs.Code.{IsPcOf}
+use Rattle.geos_code.specs.Code.{IsPcOf}
 use Rattle.geos_potentials.specs.Constants.{asks_coefficient, IsAskingWay, AreForLoops, coefficients_at}
-use Rattle.geos_rows.specs.Flow.{row_of, known_at}
+use Rattle.geos_code.specs.Known.{row_of, known_at}
 use Rattle.geos_potentials.specs.Numbers.{zeros}
 use Rattle.geos_potentials.proofs.Asks.{zero-at}
 use Rattle.geos_potentials.specs.Demands.{keeps, kept_over, AreRaised, IsKeptOver, IsWanted, AreWanted, StayWanted, taken_from}

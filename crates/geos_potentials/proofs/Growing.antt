@@ -18,7 +18,7 @@ use Rattle.geos_potentials.specs.declared.jumps.Jump.TheVariants.{Plain}
 use Rattle.geos_potentials.specs.declared.lengths.Link.{Link}
 use Rattle.geos_potentials.specs.Arcs.{arc_at, unit_at, price_of, paid_by, counting_of, AreArcs}
 use Rattle.geos_potentials.specs.Demands.{taken_from, left_at, left_in, AreRaised, HaveGrown}
-use Rattle.geos_rows.specs.Flow.{row_of, known_at}
+use Rattle.geos_code.specs.Known.{row_of, known_at}
 use Rattle.geos_potentials.specs.Lacks.{PricePasses}
 use Rattle.geos_potentials.specs.Least.{is_free, IsLookedAt, AreLookedAt, AskNoMore, StayAtLoops}
 use Rattle.geos_potentials.proofs.Demand.{is-arc}

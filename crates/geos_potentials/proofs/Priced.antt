@@ -16,9 +16,9 @@ use Rattle.geos_verify.specs.Potentials.{asked_along, asked_branching}
 use Rattle.geos_verify.proofs.Places.{item_at, if_some}
 use Rattle.std.proofs.lemmas.Option.{same_Some}
 use Rattle.geos_potentials.specs.Arcs.{counting_of, IsArc, IsArcIf, AreArcs, price_of, paid_by}
-use Rattle.geos_rows.specs.Code.{is_loop, IsPcOf, TargetAhead}
-use Rattle.geos_rows.proofs.Ends.{code-at, leads-one}
-use Rattle.geos_rows.specs.Why.{LeadsTo}
+use Rattle.geos_code.specs.Code.{is_loop, IsPcOf, TargetAhead}
+use Rattle.geos_code.proofs.Ends.{code-at, leads-one}
+use Rattle.geos_code.specs.Edges.{LeadsTo}
 use Rattle.geos_potentials.specs.Constants.{AreLeastWith, asked_over, PaysSteps, ConstantsPay, row_known, coefficients_at, AreLeastIn, GoesBack, IsLoopAt, potential_in, IsAsked}
 use Rattle.geos_potentials.specs.Least.{SomePasses, steps_at, link_at, PaysLink, PayAll, PayEnds, AreLeast, IsLookedAt, AskNoMore, NoneOutside, ArePut}
 use Rattle.geos_potentials.specs.Halts.{NonePayWith}

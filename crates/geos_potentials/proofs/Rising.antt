@@ -2,7 +2,7 @@
 use Rattle.std.proofs.Common.{◌≡◌, ◌≤◌, ◌<◌, ◌+◌, ℕ, Bool, true, false, List, [], ◌∷◌, Some, sym, ap, ◌∙◌, arith, inl, inr}
 use Rattle.std.specs.Prelude.{slice_index}
 use Rattle.geos_image.specs.Parts.{Parts, start_of}
-use Rattle.geos_rows.specs.Code.{IsPcOf}
+use Rattle.geos_code.specs.Code.{IsPcOf}
 use Rattle.geos_potentials.specs.Idle.{IsIdleWay, IsNeverPaid, MayNotPay}
 use Rattle.geos_potentials.specs.Ranks.{AllRise, AreIdleNoted, noted_idle}
 use Rattle.geos_potentials.specs.Trails.{IsTrail, LeadsKeeping}

@@ -23,7 +23,7 @@ use Rattle.geos_potentials.specs.declared.units.Lack.{Lack}
 use Rattle.geos_potentials.specs.declared.units.Lack.TheVariants.{SetWithin, Passes, InTurn, NoShare, Looks}
 use Rattle.geos_potentials.specs.declared.units.Units.{Units}
 use Rattle.geos_potentials.specs.Arcs.{arc_at, AreArcs, NoArcsOutside, unit_at, price_of, paid_by}
-use Rattle.geos_rows.specs.Code.{IsPcOf}
+use Rattle.geos_code.specs.Code.{IsPcOf}
 use Rattle.geos_potentials.specs.Constants.{ConstantsPay, row_known, coefficients_at}
 use Rattle.geos_potentials.specs.Halts.{NeverPay}
 use Rattle.geos_potentials.specs.Lacks.{IsLackIn, IsLack, OfSomeNest}

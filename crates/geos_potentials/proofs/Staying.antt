@@ -7,7 +7,7 @@ use Rattle.geos_image.specs.declared.potential.Potential.{Potential}
 use Rattle.geos_image.specs.Parts.{Parts, start_of}
 use Rattle.geos_verify.specs.Potentials.{is_paid}
 use Rattle.geos_image.proofs.Starts.{start_of-le}
-use Rattle.geos_rows.specs.Code.{IsPcOf}
+use Rattle.geos_code.specs.Code.{IsPcOf}
 use Rattle.geos_potentials.specs.Count.{StaysFrom}
 use Rattle.geos_potentials.specs.Constants.{asked_over, PaysSteps, ConstantsPay, row_known, coefficients_at, HasLoops, AreLeastIn, AreLeastFrom, AreForLoops, potential_in, ArePaidIn, PayLeastIn}
 use Rattle.geos_potentials.specs.Numbers.{Numbers}

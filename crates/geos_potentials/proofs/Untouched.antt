@@ -11,8 +11,8 @@ use Rattle.geos_image.specs.declared.point.Point.{Point}
 use Rattle.geos_image.specs.declared.row.Row.{Row}
 use Rattle.geos_image.specs.Keys.{falls_through}
 use Rattle.geos_image.specs.Parts.{Parts, start_of}
-use Rattle.geos_rows.specs.Code.{IsPcOf}
-use Rattle.geos_rows.specs.Flow.{row_of, known_at}
+use Rattle.geos_code.specs.Code.{IsPcOf}
+use Rattle.geos_code.specs.Known.{row_of, known_at}
 use Rattle.geos_potentials.specs.declared.arcs.Arc.{Arc}
 use Rattle.geos_potentials.specs.declared.arcs.Counting.{Counting}
 use Rattle.geos_potentials.specs.declared.jumps.Jump.{Jump}

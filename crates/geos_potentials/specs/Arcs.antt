@@ -10,10 +10,10 @@ use Rattle.geos_potentials.specs.declared.arcs.Arc.{Arc}
 use Rattle.geos_potentials.specs.declared.arcs.Counting.{Counting}
 use Rattle.geos_potentials.specs.declared.arcs.Counting.TheVariants.{Nothing, Sets, Takes, Forgets}
 use Rattle.geos_potentials.specs.declared.lengths.Link.{Link}
-use Rattle.geos_rows.specs.Code.{IsPcOf}
-use Rattle.geos_rows.specs.Flow.{row_of, known_at}
+use Rattle.geos_code.specs.Code.{IsPcOf}
+use Rattle.geos_code.specs.Known.{row_of, known_at}
 use Rattle.geos_potentials.specs.Steps.{taken_at}
-use Rattle.geos_rows.specs.Why.{LeadsTo}
+use Rattle.geos_code.specs.Edges.{LeadsTo}
 
 -- the counters that a routine touches, by a table
 abbrev pub touched_by : List (List Bool) → ℕ → List Bool

@@ -11,11 +11,11 @@ use Rattle.geos_image.specs.Parts.{Parts}
 use Rattle.geos_verify.specs.declared.asked.Asked.{Asked}
 use Rattle.geos_verify.specs.Places.{or_row}
 use Rattle.geos_verify.specs.Potentials.{asked_along, asked_branching, left_with, is_paid}
-use Rattle.geos_rows.specs.Code.{Edge, IsPcOf, instrs_of}
+use Rattle.geos_code.specs.Code.{Edge, IsPcOf, instrs_of}
 use Rattle.geos_potentials.specs.Count.{return_steps}
-use Rattle.geos_rows.specs.Flow.{row_of, known_at}
+use Rattle.geos_code.specs.Known.{row_of, known_at}
 use Rattle.geos_potentials.specs.Numbers.{Numbers, zeros}
-use Rattle.geos_rows.specs.Why.{LeadsTo}
+use Rattle.geos_code.specs.Edges.{LeadsTo}
 
 -- what an edge of an instruction asks, where q is the potential at its end
 abbrev pub asked_over : Parts → Instr → Row → Bool → Potential → Asked

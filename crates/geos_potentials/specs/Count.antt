@@ -3,10 +3,10 @@ use Rattle.std.specs.Prelude.{◌≡◌, ◌≤◌, ◌<◌, ℕ, ◌+◌, max, 
 use Rattle.geos_image.specs.declared.instr.Instr.{Instr}
 use Rattle.geos_image.specs.Parts.{Parts, start_of}
 use Rattle.geos_verify.specs.Rules.{returns}
-use Rattle.geos_rows.specs.Code.{Edge, ForwardIn, instrs_of, edge_end}
+use Rattle.geos_code.specs.Code.{Edge, ForwardIn, instrs_of, edge_end}
 use Rattle.geos_verify.specs.declared.asked.Asked.{Asked}
 use Rattle.geos_image.specs.declared.potential.Potential.{Potential}
-use Rattle.geos_rows.specs.Edges.{leads_ahead}
+use Rattle.geos_code.specs.Edges.{leads_ahead}
 use Rattle.geos_potentials.specs.Numbers.{Numbers, zeros}
 use Rattle.geos_potentials.specs.Steps.{StepsHoldIn, call_steps, most_steps}
 

@@ -13,7 +13,7 @@ use Rattle.geos_potentials.specs.declared.jumps.Jump.{Jump}
 use Rattle.geos_potentials.specs.declared.jumps.Jump.TheVariants.{Plain}
 use Rattle.geos_potentials.specs.declared.lengths.Link.{Link}
 use Rattle.geos_potentials.specs.declared.lengths.Way.{Way}
-use Rattle.geos_rows.specs.Code.{IsPcOf}
+use Rattle.geos_code.specs.Code.{IsPcOf}
 
 -- what the LOOP at a pc asks for is paid by the way from there and a unit of its counter; or that way is past what a potential can say
 abbrev pub LoopPays : List (List (Option Arc)) → List (List ℕ) → List Way → ℕ → Type 0

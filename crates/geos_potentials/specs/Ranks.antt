@@ -2,7 +2,7 @@
 use Rattle.std.specs.Prelude.{◌≡◌, ◌<◌, ◌+◌, ℕ, Bool, true, false, ◌||◌, ◌==◌, not, List, Some, slice_index}
 use Rattle.geos_image.specs.Parts.{Parts, start_of}
 use Rattle.geos_potentials.specs.Arcs.{unit_at}
-use Rattle.geos_rows.specs.Code.{IsPcOf}
+use Rattle.geos_code.specs.Code.{IsPcOf}
 use Rattle.geos_potentials.specs.Idle.{PassesAt, calls_touching, LeadsIdle}
 use Rattle.geos_potentials.specs.Trails.{LeadsKeeping}
 use Rattle.geos_potentials.specs.declared.classes.Classes.{Classes}

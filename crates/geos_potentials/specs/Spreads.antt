@@ -6,7 +6,7 @@ use Rattle.geos_potentials.specs.declared.arcs.Counting.TheVariants.{Sets}
 use Rattle.geos_potentials.specs.Arcs.{arc_at, unit_at}
 use Rattle.geos_potentials.specs.Demands.{forgets, IsKeptOver}
 use Rattle.geos_image.specs.Parts.{Parts}
-use Rattle.geos_rows.specs.Code.{IsPcOf}
+use Rattle.geos_code.specs.Code.{IsPcOf}
 
 -- a number of a counter at a pc stood at another one, from one on, and comes from there by edges that keep the counter
 pub record HasCome (arcs : List (List (Option Arc))) (low : ℕ) (old : List (List ℕ)) (pc k n : ℕ) : Type 0 where

@@ -5,7 +5,7 @@ use Rattle.geos_image.specs.Parts.{Parts}
 use Rattle.geos_verify.specs.Potentials.{budget_of}
 use Rattle.geos_verify.specs.Rules.{returns}
 use Rattle.geos_verify.specs.Touched.{calls}
-use Rattle.geos_rows.specs.Code.{Edge, IsPcOf, ClosedIn, ForwardIn, instrs_of}
+use Rattle.geos_code.specs.Code.{Edge, IsPcOf, ClosedIn, ForwardIn, instrs_of}
 
 -- the most steps that a potential can say
 abbrev pub most_steps : ℕ

@@ -3,7 +3,7 @@ use Rattle.std.specs.Prelude.{◌≡◌, ◌≤◌, ◌<◌, ℕ, Bool, true, Li
 use Rattle.geos_image.specs.Parts.{Parts}
 use Rattle.geos_potentials.specs.Arcs.{arc_at}
 use Rattle.geos_potentials.specs.Idle.{MayNotPay}
-use Rattle.geos_rows.specs.Code.{IsPcOf}
+use Rattle.geos_code.specs.Code.{IsPcOf}
 use Rattle.geos_potentials.specs.Demands.{taken_from}
 use Rattle.geos_potentials.specs.Ranks.{noted_idle}
 use Rattle.geos_potentials.specs.declared.arcs.Arc.{Arc}

@@ -6,8 +6,8 @@ use Rattle.geos_image.specs.declared.instr.Instr.{Instr}
 use Rattle.geos_image.specs.declared.point.Point.{Point}
 use Rattle.geos_image.specs.Parts.{Parts}
 use Rattle.geos_verify.specs.Touched.{touches}
-use Rattle.geos_rows.specs.Code.{IsPcOf}
-use Rattle.geos_rows.specs.Why.{LeadsTo}
+use Rattle.geos_code.specs.Code.{IsPcOf}
+use Rattle.geos_code.specs.Edges.{LeadsTo}
 
 -- an edge of the instruction does not set the counter, nor goes on behind a LOOP on it, nor behind a call of a routine that touches it
 abbrev pub keeps_counter : Parts → ℕ → Instr → Opcode → Bool → Bool

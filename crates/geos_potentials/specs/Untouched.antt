@@ -9,7 +9,7 @@ use Rattle.geos_potentials.specs.Within.{HoldsAt}
 use Rattle.geos_potentials.specs.declared.arcs.Arc.{Arc}
 use Rattle.geos_potentials.specs.declared.jumps.Jump.{Jump}
 use Rattle.geos_potentials.specs.declared.jumps.Jump.TheVariants.{Plain}
-use Rattle.geos_rows.specs.Code.{IsPcOf}
+use Rattle.geos_code.specs.Code.{IsPcOf}
 
 -- it is not noted at a pc that a call has touched a counter
 abbrev pub untouched : List (List ℕ) → ℕ → ℕ → Bool

@@ -4,7 +4,7 @@ ghost use Rattle.std.specs.Prelude.{◌≡◌, ◌≤◌, ◌<◌, ◌==◌, ◌
 ghost use Rattle.geos_potentials.specs.Arcs.{unit_at};
 ghost use Rattle.geos_potentials.specs.Carried.{AreSpread};
 ghost use Rattle.geos_potentials.specs.Demands.{forgets};
-ghost use Rattle.geos_rows.specs.Code.{IsPcOf};
+ghost use Rattle.geos_code.specs.Code.{IsPcOf};
 ghost use Rattle.geos_potentials.specs.Ranks.{noted_idle};
 ghost use Rattle.geos_potentials.specs.Spreads.{ComeBehind, ComeFrom, ForgetsIt, SetsTo, SetsSome, AllStandAt};
 ghost use Rattle.geos_potentials.specs.Spent.{spent_at, AreNotedSet};
@@ -17,7 +17,7 @@ use crate::graph::Graph;
 use crate::pieces::{Order, Piece};
 use crate::pile::Pile;
 use crate::spread::{Spread, go_on, number_of, only, raise};
-use geos_rows::{Body, Table, two_tables};
+use geos_code::{Body, Table, two_tables};
 use std::alloc::{AllocError, Global};
 
 /// What is known of counters at each place.

@@ -7,8 +7,8 @@ use crate::graph::Graph;
 use crate::jumps::{Jumps, lead_within};
 use crate::pieces::{Order, Piece};
 use crate::pile::Pile;
+use geos_code::{Table, two_tables};
 use geos_image::MOST_INSTRS;
-use geos_rows::{Table, two_tables};
 use std::alloc::{AllocError, Global};
 
 /// What a search for components takes.

@@ -23,8 +23,8 @@ use crate::lengths::Link;
 use crate::nests::Splitting;
 use crate::pieces::{Order, Piece};
 use crate::units::{LOOKS, Lack, Units};
+use geos_code::Body;
 use geos_image::Potential;
-use geos_rows::Body;
 
 /// Whether an edge is the way to its target of a LOOP that is left out.
 fn is_left_out(splitting: &Splitting, pc: u16, branch: bool) -> bool

@@ -2,7 +2,7 @@
 
 ghost use Rattle.std.specs.Prelude.{◌≡◌, ◌<◌, ◌≤◌, ◌+◌, None, false, is_none, is_some, length, IfOk, IfErr, IfSome};
 ghost use Rattle.geos_image.specs.Parts.{start_of};
-ghost use Rattle.geos_rows.specs.Code.{ForwardIn};
+ghost use Rattle.geos_code.specs.Code.{ForwardIn};
 ghost use Rattle.geos_potentials.specs.Constants.{HasLoops, PayLeastIn, AreLeastFrom};
 ghost use Rattle.geos_potentials.specs.Steps.{NoStepsHoldIn};
 ghost use Rattle.geos_potentials.specs.Count.{CountsOn, AreCounted, StaysFrom};
@@ -15,8 +15,8 @@ use crate::reason::{Halted, Reason, Unfound};
 use crate::search::Search;
 use crate::spent::find_touched;
 use crate::unpaid::{WaysIn, round_by};
+use geos_code::{Body, Known, Table, body_of, is_loop, leads_back, two_tables};
 use geos_image::Image;
-use geos_rows::{Body, Known, Table, body_of, is_loop, leads_back, two_tables};
 use geos_verify::Touched;
 use std::alloc::{AllocError, Global};
 

@@ -3,13 +3,13 @@
 ghost use Rattle.std.specs.Prelude.{◌≡◌, ◌<◌, ◌≤◌, ◌+◌, false};
 ghost use Rattle.geos_image.specs.Fields.{FieldsFit};
 ghost use Rattle.geos_potentials.specs.Arcs.{counting_of, IsArcIf};
-ghost use Rattle.geos_rows.specs.Flow.{row_of, known_at};
+ghost use Rattle.geos_code.specs.Known.{row_of, known_at};
 ghost use Rattle.geos_potentials.specs.Steps.{taken_at};
 
 use crate::arcs::{Arc, Counting};
 use crate::spent::touched_by;
+use geos_code::{Body, Known, bound_of, edge_in, row_of};
 use geos_image::{Instr, Opcode};
-use geos_rows::{Body, Known, bound_of, edge_in, row_of};
 use geos_verify::Touched;
 
 /// What the edge of the instruction at a pc to the next one does to counters.

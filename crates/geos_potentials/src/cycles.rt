@@ -1,11 +1,11 @@
 //! Cycles that no counter pays for.
 
 ghost use Rattle.std.specs.Prelude.{◌≡◌, ◌<◌, false};
-ghost use Rattle.geos_rows.specs.Code.{ForwardIn};
+ghost use Rattle.geos_code.specs.Code.{ForwardIn};
 
 use crate::unpaid::{WaysIn, lead_unpaid};
+use geos_code::{Body, Table, is_loop, leads_back};
 use geos_image::MOST_INSTRS;
-use geos_rows::{Body, Table, is_loop, leads_back};
 
 /// Whether an edge leads back in a routine that is no LOOP's way to its target.
 fn leads_back_unpaid(body: &Body) -> bool

@@ -6,8 +6,8 @@ use crate::graph::Graph;
 use crate::jumps::{Jumps, lead_within};
 use crate::pieces::{Order, Piece};
 use crate::place::Place;
+use geos_code::{Table, two_tables};
 use geos_image::MOST_INSTRS;
-use geos_rows::{Table, two_tables};
 use std::alloc::{AllocError, Global};
 
 /// How far a place is searched.

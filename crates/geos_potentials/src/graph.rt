@@ -7,7 +7,7 @@ ghost use Rattle.geos_potentials.specs.Led.{AreLed, behind_at};
 use crate::arcs::Arc;
 use crate::counting::arc_of;
 use crate::leads::{Lead, Leads};
-use geos_rows::{Body, Known, Table};
+use geos_code::{Body, Known, Table};
 use geos_verify::Touched;
 use std::alloc::{AllocError, Global};
 

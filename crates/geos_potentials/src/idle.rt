@@ -3,11 +3,11 @@
 ghost use Rattle.std.specs.Prelude.{◌≡◌, ◌<◌, ◌≤◌, ℕ, true, Some, IfSome};
 ghost use Rattle.geos_potentials.specs.Touching.{KnowsTouched, NotesTouched, NotesAllTouched};
 ghost use Rattle.geos_potentials.specs.Idle.{calls_touching, LeadsIdle};
-ghost use Rattle.geos_rows.specs.Code.{IsPcOf};
+ghost use Rattle.geos_code.specs.Code.{IsPcOf};
 ghost use Rattle.geos_potentials.specs.Ranks.{noted_idle, GoesOn, IsNotedBehind, AreNotedFrom, AreIdleNoted};
 ghost use Rattle.geos_potentials.specs.Stuck.{HasPlace, LeadsNotedIdle, GoesRoundIdle};
 ghost use Rattle.geos_potentials.specs.Trails.{keeps_counter};
-ghost use Rattle.geos_rows.specs.Why.{LeadsTo};
+ghost use Rattle.geos_code.specs.Edges.{LeadsTo};
 ghost use Rattle.geos_image.specs.Parts.{Parts};
 ghost use Rattle.geos_potentials.specs.declared.pieces.Order.{Order};
 ghost use Rattle.geos_potentials.specs.declared.pieces.Piece.{Piece};
@@ -19,8 +19,8 @@ use crate::leads::Lead;
 use crate::nests::Splitting;
 use crate::pieces::Piece;
 use crate::spent::{Touching, touches};
+use geos_code::{Body, edge_in, is_loop};
 use geos_image::{Instr, MOST_INSTRS, Opcode};
-use geos_rows::{Body, edge_in, is_loop};
 use geos_verify::Touched;
 
 // What is noted

@@ -5,7 +5,7 @@ ghost use Rattle.geos_potentials.specs.Pieces.{LeadsWithin};
 
 use crate::graph::Graph;
 use crate::pieces::{Order, Piece};
-use geos_rows::Table;
+use geos_code::Table;
 
 /// What is found of the way from a place to its target.
 #[derive(Clone, Copy)]

@@ -51,4 +51,3 @@ pub use search::{Halt, Search};
 pub use spent::{Touching, find_touching, touched_by, touches};
 pub use spread::Spread;
 pub use units::{Lack, Units};
-pub use unpaid::BackWay;

@@ -14,8 +14,8 @@ use crate::graph::Graph;
 use crate::idle::goes_round_idle;
 use crate::jumps::{Jump, Jumps, lead_within};
 use crate::pieces::{Order, Piece};
+use geos_code::{Body, Table, two_tables};
 use geos_image::MOST_INSTRS;
-use geos_rows::{Body, Table, two_tables};
 use std::alloc::{AllocError, Global};
 
 /// Why a nest is to be paid for again: the counter of another is set in it, for LOOPs that pay in that one, and a unit of it pays for more.

@@ -5,7 +5,7 @@ ghost use Rattle.std.specs.List.{count_by};
 ghost use Rattle.geos_potentials.specs.declared.place.Place.{Place};
 
 use crate::place::Place;
-use geos_rows::{Table, two_tables};
+use geos_code::{Table, two_tables};
 use std::alloc::{AllocError, Global};
 
 /// Places that wait, the last one on top. There is room for all that there may be, since none waits twice.

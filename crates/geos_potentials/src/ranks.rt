@@ -10,7 +10,7 @@ use crate::graph::Graph;
 use crate::idle::{are_noted, lead_idle};
 use crate::pile::Pile;
 use crate::spent::Touching;
-use geos_rows::{Body, Known, Table, two_tables};
+use geos_code::{Body, Known, Table, two_tables};
 use std::alloc::{AllocError, Global};
 
 /// The rank of each place.

@@ -24,7 +24,7 @@ use crate::graph::Graph;
 use crate::nests::Splitting;
 use crate::pieces::Piece;
 use crate::units::{Lack, Units};
-use geos_rows::{Body, Known};
+use geos_code::{Body, Known};
 use geos_verify::Touched;
 use std::alloc::{AllocError, Global};
 

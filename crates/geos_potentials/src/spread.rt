@@ -17,8 +17,8 @@ use crate::arcs::Arc;
 use crate::graph::Graph;
 use crate::jumps::{Jump, Jumps};
 use crate::pile::Pile;
+use geos_code::Table;
 use geos_image::MOST_INSTRS;
-use geos_rows::Table;
 
 /// A number of each counter at each place.
 pub type Spread = Table<[u32; 4]>;

@@ -21,8 +21,8 @@ use crate::pieces::Piece;
 use crate::pile::Pile;
 use crate::ring::find_ring;
 use crate::spread::{Spread, go_back, go_back_free, go_back_from, number_of, only, raise};
+use geos_code::two_tables;
 use geos_image::MOST_INSTRS;
-use geos_rows::two_tables;
 use std::alloc::{AllocError, Global};
 
 /// After so many rounds over the nests it is first looked for some that wait on each other in a ring, and then each time after twice as many.

@@ -4,16 +4,8 @@ ghost use Rattle.std.specs.Prelude.{◌≡◌, ◌<◌, ℕ, true, Some, List, B
 ghost use Rattle.geos_potentials.specs.Idle.{LeadsUnpaid, IsUnpaidWay, GoesRound};
 
 use crate::cycles::has_unpaid_cycle;
-use geos_rows::{Body, Table, edge_in, is_loop};
-
-/// An edge to a target by which control goes round: one that leads back, or that of a LOOP.
-#[derive(Clone, Copy)]
-pub struct BackWay {
-    /// The pc of the instruction that it comes from.
-    pub from: u16,
-    /// The pc that it leads to.
-    pub to: u16,
-}
+use geos_causes::BackWay;
+use geos_code::{Body, Table, edge_in, is_loop};
 
 /// An edge by which control comes to a place.
 #[derive(Clone, Copy)]

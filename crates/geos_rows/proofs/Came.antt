@@ -6,11 +6,12 @@ use Rattle.std.proofs.lemmas.Option.{same_Some}
 use Rattle.geos_image.specs.declared.row.Row.{Row}
 use Rattle.geos_image.specs.Parts.{Parts}
 use Rattle.geos_verify.specs.Rows.{after}
-use Rattle.geos_rows.specs.Code.{IsPcOf}
-use Rattle.geos_rows.specs.declared.apart.Coming.{Coming}
+use Rattle.geos_code.specs.Code.{IsPcOf}
+use Rattle.geos_causes.specs.declared.apart.Coming.{Coming}
 use Rattle.geos_flow.specs.declared.edge.Edge.{Edge}
-use Rattle.geos_rows.specs.declared.edges.Lead.{Lead}
-use Rattle.geos_rows.specs.Why.{LeadsTo, ComesFromStart, ComesBy, Comes, IsComing}
+use Rattle.geos_code.specs.declared.edges.Lead.{Lead}
+use Rattle.geos_code.specs.Edges.{LeadsTo}
+use Rattle.geos_rows.specs.Why.{ComesFromStart, ComesBy, Comes, IsComing}
 use Rattle.geos_rows.specs.Meeting.{coming_at, AllCome}
 
 -- what comes along an edge comes to where it leads

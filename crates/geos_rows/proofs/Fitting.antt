@@ -9,13 +9,14 @@ use Rattle.geos_image.specs.Parts.{Parts, start_of}
 use Rattle.geos_image.specs.Keys.{falls_through, branches}
 use Rattle.geos_verify.specs.Rows.{at_point, HasEdge, after, has_edge}
 use Rattle.geos_verify.proofs.Places.{item_at, if_some}
-use Rattle.geos_rows.specs.Joins.{agree, clean}
+use Rattle.geos_rows.specs.Joins.{agree}
+use Rattle.geos_code.specs.Known.{clean, known_at}
 use Rattle.geos_rows.specs.Weakest.{weakest, EdgeIsWeak}
-use Rattle.geos_rows.specs.Code.{Edge, IsPcOf, TargetAhead, instrs_of, edge_end, edge_row}
-use Rattle.geos_rows.specs.Flow.{known_at, KnownAt, fits_known, edge_number, FitAhead}
+use Rattle.geos_code.specs.Code.{Edge, IsPcOf, TargetAhead, instrs_of, edge_end, edge_row}
+use Rattle.geos_rows.specs.Flow.{KnownAt, fits_known, edge_number, FitAhead}
 use Rattle.geos_rows.specs.Reached.{EdgeFits, BackFit, AllFit, Copies}
-use Rattle.geos_rows.specs.declared.body.Body.{Body}
-use Rattle.geos_rows.proofs.Ends.{code-at, after-edge}
+use Rattle.geos_code.specs.declared.body.Body.{Body}
+use Rattle.geos_code.proofs.Ends.{code-at, after-edge}
 
 -- What is known where a row comes
 

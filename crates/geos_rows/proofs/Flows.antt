@@ -12,19 +12,19 @@ use Rattle.geos_verify.specs.Rows.{fits, after}
 use Rattle.geos_image.specs.Legal.{is_image}
 use Rattle.geos_image.proofs.Starts.{start_of-next, start_of-le}
 use Rattle.geos_verify.proofs.Places.{item_at}
-use Rattle.geos_rows.specs.Joins.{clean}
-use Rattle.geos_rows.specs.Code.{Edge, IsPcOf, ForwardIn, instrs_of, edge_end, edge_row}
+use Rattle.geos_code.specs.Known.{clean, known_at}
+use Rattle.geos_code.specs.Code.{Edge, IsPcOf, ForwardIn, instrs_of, edge_end, edge_row}
 use Rattle.geos_rows.specs.Solutions.{RowsHoldIn}
 use Rattle.geos_rows.specs.declared.flow.Arrival.{Arrival}
 use Rattle.geos_rows.specs.declared.flow.Arrival.TheVariants.{Same, Weaker, Apart}
-use Rattle.geos_rows.specs.declared.edges.Lead.{Lead}
-use Rattle.geos_rows.specs.Flow.{known_at, KnownAt, edge_number, FitAhead, AllBelow, Flowing, AllKnown, IsJoin, HaveNoJoin, Joins, Arrives, has_joined, GoesAhead, Spreads, StaysBefore, FlowsAnew, HaveFlowed}
-use Rattle.geos_rows.specs.Why.{LeadsTo}
-use Rattle.geos_rows.proofs.Bodies.{lies}
+use Rattle.geos_code.specs.declared.edges.Lead.{Lead}
+use Rattle.geos_rows.specs.Flow.{KnownAt, edge_number, FitAhead, AllBelow, Flowing, AllKnown, IsJoin, HaveNoJoin, Joins, Arrives, has_joined, GoesAhead, Spreads, StaysBefore, FlowsAnew, HaveFlowed}
+use Rattle.geos_code.specs.Edges.{LeadsTo}
+use Rattle.geos_code.proofs.Bodies.{lies}
 use Rattle.geos_verify.proofs.RowsFit.{fits-refl, fits-trans}
-use Rattle.geos_rows.proofs.Cleaning.{clean-least}
+use Rattle.geos_code.proofs.Cleaning.{clean-least}
 use Rattle.geos_rows.proofs.Joining.{apart-fit}
-use Rattle.geos_rows.proofs.Ends.{edge-mono, after-edge, code-at}
+use Rattle.geos_code.proofs.Ends.{edge-mono, after-edge, code-at}
 
 -- The order of edges
 

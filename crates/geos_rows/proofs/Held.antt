@@ -5,13 +5,14 @@ use Rattle.geos_image.specs.declared.row.Row.{Row}
 use Rattle.geos_image.specs.declared.routine.Routine.{Routine}
 use Rattle.geos_image.specs.Parts.{Parts}
 use Rattle.geos_verify.specs.Rows.{fits, after}
-use Rattle.geos_rows.specs.Code.{Edge, instrs_of}
-use Rattle.geos_rows.specs.Flow.{known_at}
-use Rattle.geos_rows.specs.Joins.{agree, clean}
+use Rattle.geos_code.specs.Code.{Edge, instrs_of}
+use Rattle.geos_code.specs.Known.{known_at, clean}
+use Rattle.geos_rows.specs.Joins.{agree}
 use Rattle.geos_rows.specs.Reached.{IsReached, FitWhereReached}
-use Rattle.geos_rows.specs.Why.{LeadsTo, IsWay, MeetAlike}
+use Rattle.geos_code.specs.Edges.{LeadsTo}
+use Rattle.geos_rows.specs.Why.{IsWay, MeetAlike}
 use Rattle.geos_rows.proofs.Alike.{alike-both, alike-sym, after-alike}
-use Rattle.geos_rows.proofs.Ends.{after-edge, code-at}
+use Rattle.geos_code.proofs.Ends.{after-edge, code-at}
 use Rattle.geos_rows.proofs.Joinable.{fits-alike}
 
 -- an instruction has the edge

@@ -12,13 +12,16 @@ use Rattle.geos_verify.specs.Rows.{fits, after}
 use Rattle.geos_verify.proofs.RowsFit.{fits-refl}
 use Rattle.geos_rows.specs.declared.flow.Arrival.{Arrival}
 use Rattle.geos_rows.specs.declared.flow.Arrival.TheVariants.{Same, Weaker, Apart}
-use Rattle.geos_rows.specs.declared.edges.Lead.{Lead}
+use Rattle.geos_code.specs.declared.edges.Lead.{Lead}
 use Rattle.geos_rows.specs.Alike.{ComesAlike, AllComeAlike, StaysAlike, GoesAlike}
-use Rattle.geos_rows.specs.Code.{IsPcOf}
-use Rattle.geos_rows.specs.Flow.{known_at, HaveNoJoin, Joins, Arrives, has_joined, Seeded}
-use Rattle.geos_rows.specs.Joins.{slots_agree, agree, clean}
+use Rattle.geos_code.specs.Code.{IsPcOf}
+use Rattle.geos_code.specs.Known.{known_at, clean}
+use Rattle.geos_rows.specs.Flow.{HaveNoJoin, Joins, Arrives, has_joined, Seeded}
+use Rattle.geos_causes.specs.Slots.{slots_agree}
+use Rattle.geos_rows.specs.Joins.{agree}
 use Rattle.geos_rows.specs.Reached.{Copies}
-use Rattle.geos_rows.specs.Why.{LeadsTo, MeetAlike}
+use Rattle.geos_code.specs.Edges.{LeadsTo}
+use Rattle.geos_rows.specs.Why.{MeetAlike}
 use Rattle.geos_rows.proofs.Alike.{alike-refl, alike-both, alike-sym, after-alike}
 use Rattle.geos_rows.proofs.Flows.{some-is, join-upper}
 use Rattle.geos_rows.proofs.Joining.{agreeing}

@@ -8,9 +8,10 @@ use Rattle.geos_image.specs.declared.row.SlotState.{SlotState}
 use Rattle.geos_image.specs.declared.row.SlotState.TheVariants.{Empty, Mem, Vm, Db}
 use Rattle.geos_image.specs.Legal.{is_shaped}
 use Rattle.geos_verify.specs.Rows.{same_flag, mark_fits, slot_fits, pointer_fits, pair_fits, fits}
-use Rattle.geos_rows.specs.Joins.{slots_agree, slot_join, pointer_join, pair_join, agree, joined, IsLeastAbove, FitNothing}
+use Rattle.geos_causes.specs.Slots.{slots_agree}
+use Rattle.geos_rows.specs.Joins.{slot_join, pointer_join, pair_join, agree, joined, IsLeastAbove, FitNothing}
 use Rattle.geos_verify.proofs.Pairwise.{both, as_long, as_long-from, all2-above, zip2-left, zip2-right, zip2-least}
-use Rattle.geos_rows.proofs.Cleaning.{shape-parts}
+use Rattle.geos_code.proofs.Cleaning.{shape-parts}
 use Rattle.geos_verify.proofs.RowsFit.{flag-is, fitting, fits-from, slot-refl, pointer-none}
 
 -- Bounds

@@ -1,11 +1,7 @@
 pub mod Eight
 pub mod Joining
-pub mod Cleaning
-pub mod Ends
-pub mod Bodies
 pub mod Flows
 pub mod Seeding
-pub mod Back
 pub mod Reaching
 pub mod Fitting
 pub mod Alike
@@ -16,4 +12,3 @@ pub mod Strong
 pub mod Joinable
 pub mod Held
 pub mod Weakening
-pub mod Filled

@@ -8,17 +8,17 @@ use Rattle.geos_image.specs.declared.row.Row.{Row}
 use Rattle.geos_image.specs.declared.routine.Routine.{Routine}
 use Rattle.geos_image.specs.Parts.{Parts, start_of}
 use Rattle.geos_verify.specs.Rows.{after}
-use Rattle.geos_rows.specs.Code.{IsPcOf}
+use Rattle.geos_code.specs.Code.{IsPcOf}
 use Rattle.geos_rows.specs.Joins.{agree}
-use Rattle.geos_rows.specs.declared.apart.Apart.{Apart}
-use Rattle.geos_rows.specs.declared.apart.Coming.{Coming}
-use Rattle.geos_rows.specs.declared.body.Body.{Body}
+use Rattle.geos_causes.specs.declared.apart.Apart.{Apart}
+use Rattle.geos_causes.specs.declared.apart.Coming.{Coming}
+use Rattle.geos_code.specs.declared.body.Body.{Body}
 use Rattle.geos_rows.specs.Why.{IsWay, MeetAlike, AreApart}
 use Rattle.geos_rows.specs.Meeting.{coming_at, waits_at, count_unknown, AllCome, IsMet, BringsAlong, HasGone, IsSpread, NoneWaits, GoesFurther, HaveAllGone}
 use Rattle.geos_rows.proofs.Alike.{alike-refl, alike-both, alike-sym, after-alike}
-use Rattle.geos_rows.proofs.Bodies.{in-body}
+use Rattle.geos_code.proofs.Bodies.{in-body}
 use Rattle.geos_rows.proofs.Came.{all_come-set}
-use Rattle.geos_rows.proofs.Ends.{leads-one}
+use Rattle.geos_code.proofs.Ends.{leads-one}
 use Rattle.geos_rows.proofs.Named.{named-none}
 
 -- Where all has gone on

@@ -5,9 +5,10 @@ use Rattle.std.proofs.lemmas.Bool.{false≢true}
 use Rattle.geos_image.specs.declared.row.Row.{Row}
 use Rattle.geos_image.specs.Parts.{Parts}
 use Rattle.geos_verify.specs.Rows.{after, is_empty, slot_state}
-use Rattle.geos_rows.specs.Code.{IsPcOf}
-use Rattle.geos_rows.specs.declared.emptied.Emptied.{Emptied}
-use Rattle.geos_rows.specs.Why.{LeadsTo, ComesFromStart, CallsBeside, IsEmptied, AllEmptied}
+use Rattle.geos_code.specs.Code.{IsPcOf}
+use Rattle.geos_causes.specs.declared.apart.Emptied.{Emptied}
+use Rattle.geos_code.specs.Edges.{LeadsTo}
+use Rattle.geos_rows.specs.Why.{ComesFromStart, CallsBeside, IsEmptied, AllEmptied}
 
 -- none is named
 pub named-none : (image : Parts) (r to : ℕ) (row : Row) → AllEmptied image r to row (None ∷ None ∷ None ∷ None ∷ [])

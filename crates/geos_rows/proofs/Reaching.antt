@@ -8,12 +8,12 @@ use Rattle.geos_image.specs.Parts.{Parts, start_of}
 use Rattle.geos_image.specs.Legal.{is_image}
 use Rattle.geos_image.proofs.Starts.{start_of-next, start_of-le}
 use Rattle.geos_verify.proofs.Places.{item_at}
-use Rattle.geos_rows.specs.declared.body.Body.{Body}
-use Rattle.geos_rows.specs.Code.{IsPcOf, instrs_of, edge_row}
-use Rattle.geos_rows.specs.Joins.{clean}
-use Rattle.geos_rows.specs.Flow.{known_at, KnownAt, Flowing, AllKnown, StaysBefore}
+use Rattle.geos_code.specs.declared.body.Body.{Body}
+use Rattle.geos_code.specs.Code.{IsPcOf, instrs_of, edge_row}
+use Rattle.geos_code.specs.Known.{clean, known_at}
+use Rattle.geos_rows.specs.Flow.{KnownAt, Flowing, AllKnown, StaysBefore}
 use Rattle.geos_rows.specs.Reached.{LeadWithin, AllFit, FitWhereReached, Copies, Keeps}
-use Rattle.geos_rows.proofs.Bodies.{lies}
+use Rattle.geos_code.proofs.Bodies.{lies}
 
 some-row : (x y : Row) → Some x ≡ Some y → x ≡ y
 some-row x y e = cc

@@ -6,8 +6,9 @@ use Rattle.std.proofs.lemmas.Option.{none-some}
 use Rattle.geos_image.specs.declared.row.Row.{Row}
 use Rattle.geos_image.specs.declared.routine.Routine.{Routine}
 use Rattle.geos_image.specs.Parts.{Parts, start_of}
-use Rattle.geos_rows.specs.Code.{IsPcOf, instrs_of}
-use Rattle.geos_rows.specs.Flow.{known_at, edge_number, Seeded, FitAhead, AllBelow}
+use Rattle.geos_code.specs.Code.{IsPcOf, instrs_of}
+use Rattle.geos_code.specs.Known.{known_at}
+use Rattle.geos_rows.specs.Flow.{edge_number, Seeded, FitAhead, AllBelow}
 use Rattle.geos_rows.specs.Reached.{Copies}
 use Rattle.geos_rows.specs.Solutions.{RowsHoldIn}
 use Rattle.geos_verify.specs.Rows.{fits}

@@ -1,25 +1,24 @@
 -- No rows that hold are stronger than what flows along all edges of a routine and is joined.
-use Rattle.std.proofs.Common.{◌≡◌, ℕ, zero, suc, ◌<◌, ◌≤◌, Bool, true, List, [], ◌∷◌, length, Option, Some, None, slice_get, set, refl, sym, ap, ◌∙◌, subst, arith, inl, inr}
-use Rattle.std.specs.Prelude.{nat_le, slice_index}
-use Rattle.std.proofs.lemmas.Bool.{cases_eq, and_parts, leb-true}
+use Rattle.std.proofs.Common.{◌≡◌, ℕ, ◌<◌, ◌≤◌, Bool, true, List, [], ◌∷◌, length, Option, Some, None, slice_get, set, refl, sym, ap, ◌∙◌, subst, arith, inl, inr}
+use Rattle.std.proofs.lemmas.Bool.{cases_eq}
 use Rattle.std.proofs.lemmas.List.{get_or-set_same, get_or-set_other}
 use Rattle.std.proofs.lemmas.Option.{none-some}
 use Rattle.geos_image.specs.declared.row.Row.{Row}
 use Rattle.geos_image.specs.declared.routine.Routine.{Routine}
 use Rattle.geos_image.specs.Parts.{Parts, start_of}
-use Rattle.geos_verify.specs.Lists.{all2}
 use Rattle.geos_verify.specs.Rows.{bound, fits, after}
 use Rattle.geos_verify.proofs.RowsFit.{fits-trans, fitting}
-use Rattle.geos_rows.specs.Joins.{clean}
-use Rattle.geos_rows.specs.Code.{Edge, IsPcOf, instrs_of, edge_row}
+use Rattle.geos_code.specs.Known.{clean, row_of, known_at}
+use Rattle.geos_code.specs.Code.{Edge, IsPcOf, instrs_of, edge_row}
 use Rattle.geos_rows.specs.declared.flow.Arrival.{Arrival}
 use Rattle.geos_rows.specs.declared.flow.Arrival.TheVariants.{Same, Weaker, Apart}
-use Rattle.geos_rows.specs.declared.edges.Lead.{Lead}
-use Rattle.geos_rows.specs.Flow.{row_of, known_at, KnownAt, Joins, Arrives, Seeded}
+use Rattle.geos_code.specs.declared.edges.Lead.{Lead}
+use Rattle.geos_rows.specs.Flow.{KnownAt, Joins, Arrives, Seeded}
 use Rattle.geos_rows.specs.Reached.{IsReached, FitWhereReached, AreAtMostAny}
-use Rattle.geos_rows.specs.Why.{LeadsTo}
-use Rattle.geos_rows.proofs.Cleaning.{clean-least}
-use Rattle.geos_rows.proofs.Ends.{edge-mono, after-edge, code-at}
+use Rattle.geos_code.specs.Edges.{LeadsTo}
+use Rattle.geos_code.proofs.Bounds.{bound-at}
+use Rattle.geos_code.proofs.Cleaning.{clean-least}
+use Rattle.geos_code.proofs.Ends.{edge-mono, after-edge, code-at}
 use Rattle.geos_rows.proofs.Flows.{join-least, no-join, some-is}
 
 -- so it is where a routine begins
@@ -106,13 +105,6 @@ module _ (image : Parts) (r pc : ℕ) (branch : Bool) (lead : Lead) (row : Row) 
       absurd (no-join (known_at least lead.to) comes there.known_row none (fits-there known F) there.fits)
 
 -- Bounds
-
-pub bound-at : (xs us : List ℕ) (k : ℕ) → all2 nat_le xs us ≡ true → slice_index xs k ≤ slice_index us k
-bound-at [] [] k h = omega arith
-bound-at [] (u ∷ us) k h = absurd cc
-bound-at (x ∷ xs) [] k h = absurd cc
-bound-at (x ∷ xs) (u ∷ us) zero h = leb-true x u ((and_parts (nat_le x u) (all2 nat_le xs us) h).0)
-bound-at (x ∷ xs) (u ∷ us) (suc k) h = bound-at xs us k ((and_parts (nat_le x u) (all2 nat_le xs us) h).1)
 
 -- a word is as much at least by rows that say no more
 pub least-bound : (known : List (Option Row)) (pc : ℕ) (row : Row) (word : ℕ) → KnownAt known pc row

@@ -16,19 +16,22 @@ use Rattle.geos_verify.specs.Lists.{all2}
 use Rattle.geos_verify.specs.Rows.{slot_fits, pointer_fits, pair_fits, fits, has_edge, after}
 use Rattle.geos_verify.proofs.Places.{item_at}
 use Rattle.geos_verify.proofs.RowsFit.{fits-from, pointer-none}
-use Rattle.geos_rows.specs.Code.{Edge, IsPcOf, instrs_of, edge_end, edge_row}
-use Rattle.geos_rows.specs.Flow.{known_at, FlowsAnew}
-use Rattle.geos_rows.specs.Joins.{slots_agree, agree, clean}
+use Rattle.geos_code.specs.Code.{Edge, IsPcOf, instrs_of, edge_end, edge_row}
+use Rattle.geos_code.specs.Known.{known_at, clean}
+use Rattle.geos_rows.specs.Flow.{FlowsAnew}
+use Rattle.geos_causes.specs.Slots.{slots_agree}
+use Rattle.geos_rows.specs.Joins.{agree}
 use Rattle.geos_rows.specs.Meeting.{coming_at, HaveAllGone}
 use Rattle.geos_rows.specs.Reached.{AllFit, FitWhereReached}
 use Rattle.geos_rows.specs.Weakest.{unmarked, any_words, weakest, weakest_of, IsWeakAt, EdgeIsWeak, AllWeak, Weakens}
-use Rattle.geos_rows.specs.Why.{LeadsTo, AreApart, MeetAlike}
-use Rattle.geos_rows.specs.declared.apart.Apart.{Apart}
-use Rattle.geos_rows.specs.declared.apart.Coming.{Coming}
+use Rattle.geos_code.specs.Edges.{LeadsTo}
+use Rattle.geos_rows.specs.Why.{AreApart, MeetAlike}
+use Rattle.geos_causes.specs.declared.apart.Apart.{Apart}
+use Rattle.geos_causes.specs.declared.apart.Coming.{Coming}
 use Rattle.geos_rows.proofs.Alike.{alike-borrowed, alike-both, alike-sym, after-alike}
 use Rattle.geos_rows.proofs.Came.{comes-to}
-use Rattle.geos_rows.proofs.Cleaning.{shape-parts}
-use Rattle.geos_rows.proofs.Ends.{after-edge, code-at}
+use Rattle.geos_code.proofs.Cleaning.{shape-parts}
+use Rattle.geos_code.proofs.Ends.{after-edge, code-at}
 use Rattle.geos_rows.proofs.Joining.{marks_agree, borrowed_alike}
 use Rattle.geos_rows.proofs.Reaching.{kept-fits}
 

@@ -2,11 +2,12 @@
 use Rattle.std.specs.Prelude.{◌≡◌, ℕ, Bool, true, List, Option, Some}
 use Rattle.geos_image.specs.declared.row.Row.{Row}
 use Rattle.geos_image.specs.Parts.{Parts}
-use Rattle.geos_rows.specs.Code.{IsPcOf}
-use Rattle.geos_rows.specs.Flow.{known_at}
+use Rattle.geos_code.specs.Code.{IsPcOf}
+use Rattle.geos_code.specs.Known.{known_at}
 use Rattle.geos_rows.specs.Joins.{agree}
-use Rattle.geos_rows.specs.Why.{LeadsTo, ComesFromStart, MeetAlike}
-use Rattle.geos_rows.specs.declared.edges.Lead.{Lead}
+use Rattle.geos_code.specs.Edges.{LeadsTo}
+use Rattle.geos_rows.specs.Why.{ComesFromStart, MeetAlike}
+use Rattle.geos_code.specs.declared.edges.Lead.{Lead}
 
 -- control comes to a pc of routine r with slots that differ from those of a row in marks at most
 pub record ComesAlike (image : Parts) (r pc : ℕ) (row : Row) : Type 0 where

@@ -1,34 +1,16 @@
 -- How rows flow along the edges that lead ahead.
-use Rattle.std.specs.Prelude.{◌≡◌, ◌<◌, ◌≤◌, ◌⊎◌, ℕ, ◌+◌, ◌*◌, Bool, true, false, List, [], ◌∷◌, length, Option, Some, None, slice_get, slice_index_or, slice_set, MatchBool}
+use Rattle.std.specs.Prelude.{◌≡◌, ◌<◌, ◌≤◌, ◌⊎◌, ℕ, ◌+◌, ◌*◌, Bool, true, false, List, length, Option, Some, None, slice_get, slice_set, MatchBool}
 use Rattle.geos_image.specs.declared.instr.Instr.{Instr}
 use Rattle.geos_image.specs.declared.row.Row.{Row}
-use Rattle.geos_image.specs.declared.row.SlotState.TheVariants.{Empty}
 use Rattle.geos_image.specs.declared.routine.Routine.{Routine}
 use Rattle.geos_image.specs.Parts.{Parts, start_of}
 use Rattle.geos_verify.specs.Rows.{fits}
-use Rattle.geos_rows.specs.Joins.{agree, clean, IsLeastAbove}
-use Rattle.geos_rows.specs.Code.{Edge, IsPcOf, ForwardIn, instrs_of, edge_row}
+use Rattle.geos_code.specs.Code.{Edge, IsPcOf, ForwardIn, instrs_of, edge_row}
+use Rattle.geos_code.specs.Known.{known_at, clean}
+use Rattle.geos_rows.specs.Joins.{agree, IsLeastAbove}
 use Rattle.geos_rows.specs.declared.flow.Arrival.{Arrival}
 use Rattle.geos_rows.specs.declared.flow.Arrival.TheVariants.{Same, Weaker, Apart}
 use Rattle.geos_rows.specs.Solutions.{RowsHoldIn}
-
--- of a place that nothing reaches: words are 0, no slot is held, and all pairs are known
-abbrev pub strongest : Row
-strongest = record {
-  bounds = 0 ∷ 0 ∷ 0 ∷ 0 ∷ 0 ∷ 0 ∷ 0 ∷ 0 ∷ [];
-  slots = Empty ∷ Empty ∷ Empty ∷ Empty ∷ [];
-  pointers = None ∷ None ∷ None ∷ None ∷ [];
-  pairs = true ∷ true ∷ true ∷ true ∷ true ∷ true ∷ [];
-}
-
--- the row at a place where this much is known
-abbrev pub row_of : Option Row → Row
-row_of None = strongest
-row_of (Some row) = clean row
-
--- what is known at a place
-abbrev pub known_at : List (Option Row) → ℕ → Option Row
-known_at known pc = slice_index_or known pc None
 
 -- something is known that the row fits
 abbrev pub fits_known : Option Row → Row → Bool

@@ -1,17 +1,11 @@
--- What two rows have in common, and a row without pointers into empty slots.
-use Rattle.std.specs.Prelude.{◌≡◌, max, min, Bool, true, false, ◌&&◌, ◌||◌, ◌==◌, if◌then◌else◌, List, map, Option, Some, None}
+-- What two rows have in common.
+use Rattle.std.specs.Prelude.{◌≡◌, max, min, Bool, true, ◌&&◌, ◌==◌, if◌then◌else◌, Option, Some, None}
 use Rattle.geos_image.specs.declared.row.Row.{Row}
 use Rattle.geos_image.specs.declared.row.Pointer.{Pointer}
 use Rattle.geos_image.specs.declared.row.SlotState.{SlotState}
 use Rattle.geos_verify.specs.Lists.{all2, zip2}
-use Rattle.geos_verify.specs.Rows.{slot_fits, fits, leads_nowhere}
-use Rattle.geos_verify.specs.Rules.{names_empty_slot}
-
--- Joins
-
--- the states differ in the mark at most
-abbrev pub slots_agree : SlotState → SlotState → Bool
-slots_agree x y = slot_fits x y || slot_fits y x
+use Rattle.geos_verify.specs.Rows.{slot_fits, fits}
+use Rattle.geos_causes.specs.Slots.{slots_agree}
 
 -- the state without a mark, where they differ in it
 abbrev pub slot_join : SlotState → SlotState → SlotState
@@ -53,20 +47,3 @@ pub record IsLeastAbove (r s above : Row) : Type 0 where
 -- there is no row that both fit
 abbrev pub FitNothing : Row → Row → Type 0
 FitNothing r s = (u : Row) → fits r u ≡ true → fits s u ≡ true → ⊥
-
--- Pointers into empty slots
-
--- the pointer, if the slot that it leads into is held
-abbrev pub without_empty : List SlotState → Option Pointer → Option Pointer
-without_empty slots p = if leads_nowhere slots p then None else p
-
--- the row without pointers into empty slots
-abbrev pub clean : Row → Row
-clean row = record row { pointers = map (without_empty row.slots) row.pointers }
-
--- the row fits the second, which has no pointer into an empty slot, and fits each such row that
--- the first fits
-pub record IsLeastClean (row above : Row) : Type 0 where
-  pub weaker : fits row above ≡ true
-  pub clean : names_empty_slot above ≡ false
-  pub least : (u : Row) → fits row u ≡ true → names_empty_slot u ≡ false → fits above u ≡ true

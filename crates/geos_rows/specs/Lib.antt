@@ -1,6 +1,4 @@
 pub mod Joins
-pub mod Code
-pub mod Edges
 pub mod Solutions
 pub mod Flow
 pub mod Reached

@@ -4,10 +4,11 @@ use Rattle.geos_image.specs.declared.row.Row.{Row}
 use Rattle.geos_image.specs.declared.routine.Routine.{Routine}
 use Rattle.geos_image.specs.Parts.{Parts, start_of}
 use Rattle.geos_verify.specs.Rows.{after}
-use Rattle.geos_rows.specs.Code.{IsPcOf}
+use Rattle.geos_code.specs.Code.{IsPcOf}
 use Rattle.geos_rows.specs.Joins.{agree}
-use Rattle.geos_rows.specs.Why.{LeadsTo, IsComing}
-use Rattle.geos_rows.specs.declared.apart.Coming.{Coming}
+use Rattle.geos_code.specs.Edges.{LeadsTo}
+use Rattle.geos_rows.specs.Why.{IsComing}
+use Rattle.geos_causes.specs.declared.apart.Coming.{Coming}
 
 -- how control is known to come to a place
 abbrev pub coming_at : List (Option Coming) → ℕ → Option Coming

@@ -10,9 +10,9 @@ use Rattle.geos_verify.specs.declared.place.Place.{Place}
 use Rattle.geos_verify.specs.Places.{places}
 use Rattle.geos_verify.specs.Rows.{fits}
 use Rattle.geos_verify.specs.Rules.{names_empty_slot, leaves_routine, edge_misfits, HasPoint}
-use Rattle.geos_rows.specs.Code.{Edge, IsPcOf, TargetAhead, instrs_of, edge_row}
-use Rattle.geos_rows.specs.Joins.{clean}
-use Rattle.geos_rows.specs.Flow.{known_at, KnownAt, StaysBefore}
+use Rattle.geos_code.specs.Code.{Edge, IsPcOf, TargetAhead, instrs_of, edge_row}
+use Rattle.geos_code.specs.Known.{clean, known_at}
+use Rattle.geos_rows.specs.Flow.{KnownAt, StaysBefore}
 
 -- edges of routine r, the last first, lead from where it begins to the pc, and none of them out of it
 abbrev pub LeadWithin : Parts → ℕ → List (ℕ × Bool) → ℕ → Type 0

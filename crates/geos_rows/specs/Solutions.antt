@@ -6,7 +6,7 @@ use Rattle.geos_image.specs.declared.routine.Routine.{Routine}
 use Rattle.geos_image.specs.Parts.{Parts, start_of}
 use Rattle.geos_verify.specs.Rows.{fits}
 use Rattle.geos_verify.specs.Rules.{names_empty_slot}
-use Rattle.geos_rows.specs.Code.{Edge, IsPcOf, ClosedIn, ForwardIn, instrs_of, edge_row}
+use Rattle.geos_code.specs.Code.{Edge, IsPcOf, ClosedIn, ForwardIn, instrs_of, edge_row}
 
 -- rows at the instructions of routine r: its entry row fits the first one; the row after an edge
 -- fits the one where it leads; no pointer leads into an empty slot; and no edge leaves the routine

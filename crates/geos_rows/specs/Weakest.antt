@@ -6,11 +6,12 @@ use Rattle.geos_image.specs.declared.row.SlotState.{SlotState}
 use Rattle.geos_image.specs.declared.row.SlotState.TheVariants.{Empty, Mem, Vm, Db}
 use Rattle.geos_image.specs.declared.routine.Routine.{Routine}
 use Rattle.geos_image.specs.Parts.{Parts, start_of}
-use Rattle.geos_rows.specs.Code.{Edge, IsPcOf, instrs_of, edge_row}
-use Rattle.geos_rows.specs.Flow.{known_at, StaysBefore}
-use Rattle.geos_rows.specs.Joins.{agree, clean}
+use Rattle.geos_code.specs.Code.{Edge, IsPcOf, instrs_of, edge_row}
+use Rattle.geos_code.specs.Known.{known_at, clean}
+use Rattle.geos_rows.specs.Flow.{StaysBefore}
+use Rattle.geos_rows.specs.Joins.{agree}
 use Rattle.geos_rows.specs.Meeting.{coming_at}
-use Rattle.geos_rows.specs.declared.apart.Coming.{Coming}
+use Rattle.geos_causes.specs.declared.apart.Coming.{Coming}
 
 -- the state without a mark
 abbrev pub unmarked : SlotState → SlotState

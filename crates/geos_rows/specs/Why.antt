@@ -4,22 +4,16 @@ use Rattle.geos_image.specs.declared.row.Row.{Row}
 use Rattle.geos_image.specs.declared.point.Point.{Point}
 use Rattle.geos_image.specs.declared.routine.Routine.{Routine}
 use Rattle.geos_image.specs.Parts.{Parts, start_of}
-use Rattle.geos_verify.specs.Rows.{after, has_edge, is_empty, slot_state}
+use Rattle.geos_verify.specs.Rows.{after, is_empty, slot_state}
 use Rattle.geos_verify.specs.Touched.{calls}
-use Rattle.geos_rows.specs.Code.{IsPcOf, edge_end}
+use Rattle.geos_code.specs.Code.{IsPcOf}
+use Rattle.geos_code.specs.Edges.{LeadsTo}
 use Rattle.geos_rows.specs.Joins.{agree}
 use Rattle.geos_flow.specs.declared.edge.Edge.{Edge}
-use Rattle.geos_rows.specs.declared.edges.Lead.{Lead}
-use Rattle.geos_rows.specs.declared.emptied.Emptied.{Emptied}
-use Rattle.geos_rows.specs.declared.apart.Coming.{Coming}
-use Rattle.geos_rows.specs.declared.apart.Apart.{Apart}
-
--- the instruction at a pc has an edge to another
-pub record LeadsTo (image : Parts) (pc : ℕ) (branch : Bool) (to : ℕ) : Type 0 where
-  pub point : Point
-  pub there : slice_get image.points pc ≡ Some point
-  pub has : has_edge point.instr branch ≡ true
-  pub leads : edge_end pc point.instr branch ≡ to
+use Rattle.geos_code.specs.declared.edges.Lead.{Lead}
+use Rattle.geos_causes.specs.declared.apart.Emptied.{Emptied}
+use Rattle.geos_causes.specs.declared.apart.Coming.{Coming}
+use Rattle.geos_causes.specs.declared.apart.Apart.{Apart}
 
 -- the edges, the last first, lead within routine r from where it begins with a row to a pc, and the row there
 abbrev pub IsWay : Parts → ℕ → Row → List (ℕ × Bool) → ℕ → Row → Type 0

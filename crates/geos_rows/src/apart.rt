@@ -4,35 +4,14 @@ ghost use Rattle.std.specs.Prelude.{◌≡◌, ◌<◌, true, false, slice_set, 
 ghost use Rattle.geos_rows.specs.Meeting.{AllCome, BringsAlong, GoesFurther, HasGone, HaveAllGone, IsSpread, NoneWaits, count_unknown};
 ghost use Rattle.geos_rows.specs.Why.{ComesBy, AllEmptied, AreApart, MeetAlike};
 
-use crate::body::Body;
 use crate::common::agree;
-use crate::edges::{Lead, edge_in};
-use crate::emptied::{Emptied, emptied_along};
-use crate::table::{Table, two_tables};
+use crate::emptied::emptied_along;
+use geos_causes::{Apart, Coming, Emptied};
+use geos_code::{Body, Lead, Table, edge_in, two_tables};
 use geos_flow::Edge;
 use geos_image::Row;
 use geos_verify::after;
 use std::alloc::{AllocError, Global};
-
-/// How control comes to a place.
-#[derive(Clone, Copy)]
-pub struct Coming {
-    /// The edge that it comes along; `None` where the routine begins at the place.
-    pub from: Option<Edge>,
-    /// What is known then, of slots above all.
-    pub row: Row,
-    /// By which CALL on a way there each slot was left empty, if by one.
-    pub emptied: [Option<Emptied>; 4],
-}
-
-/// A place to which control comes on two ways, with slots that differ in more than marks.
-#[derive(Clone, Copy)]
-pub struct Apart {
-    /// The place.
-    pub to: u16,
-    pub first: Coming,
-    pub second: Coming,
-}
 
 /// How control was first found to come to each place.
 pub(crate) type Comings = Table<Option<Coming>>;

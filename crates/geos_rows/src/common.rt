@@ -1,18 +1,14 @@
 //! What two rows have in common.
 
-ghost use Rattle.std.specs.Prelude.{◌≡◌, max, map, true, length, IfSome, IfNone};
-ghost use Rattle.geos_image.specs.Legal.{is_shaped, is_row};
+ghost use Rattle.std.specs.Prelude.{◌≡◌, max, IfSome, IfNone};
 ghost use Rattle.geos_verify.specs.Lists.{zip2};
-ghost use Rattle.geos_rows.specs.Joins.{slots_agree, slot_join, pointer_join, pair_join, agree, joined, join, without_empty, clean, IsLeastAbove, FitNothing, IsLeastClean};
+ghost use Rattle.geos_causes.specs.Slots.{slots_agree};
+ghost use Rattle.geos_rows.specs.Joins.{slot_join, pointer_join, pair_join, agree, joined, join, IsLeastAbove, FitNothing};
 
+use geos_causes::slots_agree;
+use geos_code::shape;
 use geos_image::{Pointer, Row, SlotState};
-use geos_verify::{leads_nowhere, slot_fits};
-
-fn slots_agree(r: SlotState, s: SlotState) -> bool
-    ensures { result ≡ slots_agree r s }
-{
-    slot_fits(r, s) || slot_fits(s, r)
-}
+use geos_verify::slot_fits;
 
 /// Whether the slots of the rows differ in marks at most.
 pub(crate) fn agree(r: &Row, s: &Row) -> bool
@@ -115,26 +111,6 @@ fn joined(r: &Row, s: &Row) -> Row
     }
 }
 
-/// A law: how long the lists of a row are.
-fn lengths(
-    bounds: &[u16; 8],
-    slots: &[SlotState; 4],
-    pointers: &[Option<Pointer>; 4],
-    pairs: &[bool; 6],
-)
-    ensures bounds { length bounds.now ≡ 8 }
-    ensures slots { length slots.now ≡ 4 }
-    ensures pointers { length pointers.now ≡ 4 }
-    ensures pairs { length pairs.now ≡ 6 }
-{}
-
-/// A law: each row has the shape that the format wants.
-pub(crate) fn shape(row: &Row)
-    ensures { is_shaped row.now ≡ true }
-{
-    lengths(&row.bounds, &row.slots, &row.pointers, &row.pairs);
-}
-
 /// The least of the rows that both fit: what is known where control may come with either.
 /// `None` where there is no such row, since a slot is in states that differ in more than a mark.
 pub fn join(one: &Row, other: &Row) -> Option<Row>
@@ -148,44 +124,5 @@ pub fn join(one: &Row, other: &Row) -> Option<Row>
         Some(joined(one, other))
     } else {
         None
-    }
-}
-
-fn without_empty(slots: &[SlotState; 4], pointer: Option<Pointer>) -> Option<Pointer>
-    ensures { result ≡ without_empty slots.now pointer }
-{
-    if leads_nowhere(slots, pointer) {
-        None
-    } else {
-        pointer
-    }
-}
-
-fn pointers_without_empty(row: &Row) -> [Option<Pointer>; 4]
-    ensures { result ≡ map (without_empty row.now.slots) row.now.pointers }
-{
-    let [p0, p1, p2, p3] = row.pointers;
-    let slots = &row.slots;
-    [
-        without_empty(slots, p0),
-        without_empty(slots, p1),
-        without_empty(slots, p2),
-        without_empty(slots, p3),
-    ]
-}
-
-/// The row without pointers into empty slots: the least of the rows that it fits and that have
-/// none.
-pub fn clean(row: &Row) -> Row
-    ensures value { result ≡ clean row.now }
-    ensures least { IsLeastClean row.now result }
-    ensures legal { is_row true result ≡ true }
-{
-    shape(row);
-    Row {
-        bounds: row.bounds,
-        slots: row.slots,
-        pointers: pointers_without_empty(row),
-        pairs: row.pairs,
     }
 }

@@ -4,11 +4,9 @@ ghost use Rattle.std.specs.Prelude.{◌≡◌, true};
 ghost use Rattle.geos_rows.specs.Alike.{AllComeAlike, StaysAlike};
 ghost use Rattle.geos_rows.specs.Why.{MeetAlike};
 
-use crate::body::Body;
-use crate::edges::edge_in;
 use crate::flow::{flow, spread};
 use crate::seeds::{copy_rows, seed_entry};
-use crate::table::Known;
+use geos_code::{Body, Known, edge_in};
 
 /// What was given up may come back one loop further in at each descent.
 const DESCENTS: u16 = 2;

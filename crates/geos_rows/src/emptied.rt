@@ -1,28 +1,15 @@
 //! Slots that a CALL leaves empty, since the lines of its routine do not say that they are held.
 
 ghost use Rattle.std.specs.Prelude.{◌≡◌, ◌<◌, IfSome};
-ghost use Rattle.geos_image.specs.Parts.{Parts};
 ghost use Rattle.geos_verify.specs.Rows.{after};
-ghost use Rattle.geos_rows.specs.Code.{IsPcOf};
-ghost use Rattle.geos_rows.specs.Why.{LeadsTo, CallsBeside, IsEmptied, AllEmptied, IsComing};
+ghost use Rattle.geos_code.specs.Code.{IsPcOf};
+ghost use Rattle.geos_code.specs.Edges.{LeadsTo};
+ghost use Rattle.geos_rows.specs.Why.{CallsBeside, IsEmptied, AllEmptied, IsComing};
 
-use crate::apart::Coming;
-use crate::body::Body;
-use crate::edges::Lead;
-use geos_image::{Opcode, Row, SlotState};
+use geos_causes::{Coming, Emptied};
+use geos_code::{Body, Lead};
+use geos_image::{Opcode, Row};
 use geos_verify::{is_empty, slot_state};
-
-/// A CALL that leaves a slot empty which is held before it: the lines `in` and `out` of the routine that it calls do not say that the
-/// slot is held.
-#[derive(Clone, Copy)]
-pub struct Emptied {
-    /// The pc of the CALL.
-    pub at: u16,
-    /// What the slot holds before it.
-    pub state: SlotState,
-    /// The name of the routine that it calls, with zeros behind it.
-    pub callee: [u8; 16],
-}
 
 /// The instruction at a pc, if it is a CALL, the slot is held before it, and the `in` line of the routine that it calls does not say so.
 fn call_beside(body: &Body, pc: u16, before: &Row, a: u8) -> Option<Emptied>

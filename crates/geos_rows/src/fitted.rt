@@ -2,15 +2,12 @@
 
 ghost use Rattle.std.specs.Prelude.{◌≡◌, ◌<◌, ◌↔◌, true, nat_le};
 ghost use Rattle.geos_verify.specs.Lists.{all2};
-ghost use Rattle.geos_rows.specs.Code.{ForwardIn};
+ghost use Rattle.geos_code.specs.Code.{ForwardIn};
 ghost use Rattle.geos_rows.specs.Flow.{fits_known};
 ghost use Rattle.geos_rows.specs.Reached.{EdgeFits, BackFit, AllFit};
 ghost use Rattle.geos_rows.specs.Weakest.{any_words, FitsWeakest, EdgeIsWeak, AllWeak};
 
-use crate::body::Body;
-use crate::common::{clean, shape};
-use crate::edges::{edge_end, leads_back};
-use crate::table::Known;
+use geos_code::{Body, Known, clean, edge_end, leads_back, shape};
 use geos_image::Row;
 use geos_verify::{after, fits, has_edge};
 

@@ -1,49 +1,17 @@
 //! Rows flow along the edges that lead ahead.
 
 ghost use Rattle.std.specs.Prelude.{◌≡◌, ◌<◌, ◌≤◌, ◌+◌, ◌*◌, true, IfSome, IfNone};
-ghost use Rattle.geos_image.specs.Legal.{is_row};
 ghost use Rattle.geos_image.specs.Parts.{start_of};
-ghost use Rattle.geos_verify.specs.Rows.{after, bound};
+ghost use Rattle.geos_verify.specs.Rows.{after};
 ghost use Rattle.geos_rows.specs.Alike.{StaysAlike};
-ghost use Rattle.geos_rows.specs.Edges.{IsInside};
-ghost use Rattle.geos_rows.specs.Flow.{row_of, has_joined, IsJoin, HaveNoJoin, Arrives, Spreads, Seeded, FlowsBelow, FitAhead, StaysBefore};
-ghost use Rattle.geos_rows.specs.Joins.{clean};
+ghost use Rattle.geos_code.specs.Edges.{IsInside};
+ghost use Rattle.geos_code.specs.Known.{clean};
+ghost use Rattle.geos_rows.specs.Flow.{has_joined, IsJoin, HaveNoJoin, Arrives, Spreads, Seeded, FlowsBelow, FitAhead, StaysBefore};
 
-use crate::body::Body;
-use crate::common::{clean, join};
-use crate::edges::{Lead, edge_in};
-use crate::table::Known;
-use geos_image::{Row, SlotState};
+use crate::common::join;
+use geos_code::{Body, Known, Lead, clean, edge_in};
+use geos_image::Row;
 use geos_verify::after;
-
-/// What holds of the registers at a place that nothing reaches, at its strongest.
-const STRONGEST: Row = Row {
-    bounds: [0; 8],
-    slots: [SlotState::Empty; 4],
-    pointers: [None; 4],
-    pairs: [true; 6],
-};
-
-/// The row at a place where this much is known.
-pub fn row_of(known: &Option<Row>) -> Row
-    ensures value { result ≡ row_of known.now }
-    ensures legal { is_row true result ≡ true }
-{
-    match known {
-        None => STRONGEST,
-        Some(row) => clean(row),
-    }
-}
-
-/// The bound of a word; a row has no other word.
-pub fn bound_of(row: &Row, word: u8) -> u16
-    ensures { word < 8 → result ≡ bound row.now word }
-{
-    match row.bounds.get(usize::from(word)) {
-        Some(bound) => *bound,
-        None => u16::MAX,
-    }
-}
 
 /// What is known where another row comes to a place; nothing where they have no join.
 fn join_known(old: &Option<Row>, row: &Row) -> Option<Row>

@@ -4,10 +4,8 @@
 #![tactic(auto)]
 
 mod apart;
-mod body;
 mod common;
 mod descent;
-mod edges;
 mod emptied;
 mod fitted;
 mod flow;
@@ -16,19 +14,12 @@ mod rounds;
 mod rows;
 mod seeds;
 mod strongest;
-mod table;
 mod unreached;
 mod waiting;
 mod weakened;
 mod weakest;
 mod widening;
 
-pub use apart::{Apart, Coming};
-pub use body::{Body, body_of};
-pub use common::{clean, join};
-pub use edges::{Lead, edge_in, is_loop, leads_back};
-pub use emptied::Emptied;
-pub use flow::{bound_of, row_of};
+pub use common::join;
 pub use rows::{KnownRows, find_rows};
 pub use strongest::Strongest;
-pub use table::{Known, Table, two_tables};

@@ -2,9 +2,7 @@
 
 ghost use Rattle.std.specs.Prelude.{◌<◌, IfSome};
 
-use crate::body::Body;
-use crate::edges::{Lead, edge_in};
-use crate::table::{Table, two_tables};
+use geos_code::{Body, Lead, Table, edge_in, two_tables};
 use geos_image::MOST_INSTRS;
 use std::alloc::{AllocError, Global};
 

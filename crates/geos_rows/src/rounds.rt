@@ -2,15 +2,13 @@
 
 ghost use Rattle.std.specs.Prelude.{◌<◌, true};
 ghost use Rattle.geos_rows.specs.Alike.{AllComeAlike, GoesAlike, StaysAlike};
-ghost use Rattle.geos_rows.specs.Edges.{IsInside};
+ghost use Rattle.geos_code.specs.Edges.{IsInside};
 ghost use Rattle.geos_rows.specs.Flow.{has_joined};
 
-use crate::body::Body;
-use crate::edges::{Lead, edge_in};
 use crate::flow::{Arrival, spread};
-use crate::table::Known;
 use crate::waiting::Waiting;
 use crate::widening::{Kept, widened};
+use geos_code::{Body, Known, Lead, edge_in};
 use geos_image::Row;
 
 /// How often places go along their edges at most: each of 4,096 does so 100 times until all that changes there is given up, and then 22

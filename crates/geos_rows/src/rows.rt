@@ -6,18 +6,16 @@ ghost use Rattle.geos_rows.specs.Reached.{AllFit, FitWhereReached, Keeps};
 ghost use Rattle.geos_rows.specs.Solutions.{NoRowsHoldIn};
 ghost use Rattle.geos_rows.specs.Why.{AreApart, MeetAlike};
 
-use crate::apart::Apart;
-use crate::body::{Body, body_of};
 use crate::descent::descend;
-use crate::edges::leads_back;
 use crate::fitted::{all_fit, back_edges_fit};
 use crate::flow::flow;
 use crate::rounds::flow_on;
 use crate::seeds::{copy_rows, seed_entry};
-use crate::table::{Known, two_tables};
 use crate::waiting::Waiting;
 use crate::weakened::weaken;
 use crate::weakest::find_weakest;
+use geos_causes::Apart;
+use geos_code::{Body, Known, body_of, leads_back, two_tables};
 use geos_image::Image;
 use std::alloc::{AllocError, Global};
 

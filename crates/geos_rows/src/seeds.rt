@@ -3,8 +3,7 @@
 ghost use Rattle.geos_rows.specs.Flow.{Seeded, StaysBefore};
 ghost use Rattle.geos_rows.specs.Reached.{Copies};
 
-use crate::body::Body;
-use crate::table::Known;
+use geos_code::{Body, Known};
 
 /// The entry row of a routine where it begins, and nothing at its other instructions.
 pub(crate) fn seed_entry(body: &Body, known: &mut Known)

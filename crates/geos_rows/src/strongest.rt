@@ -1,15 +1,13 @@
 //! The strongest rows that can hold in a routine: rows flow along all its edges, and each is joined with others as it is.
 
 ghost use Rattle.std.specs.Prelude.{◌≡◌, ◌<◌, ◌≤◌};
-ghost use Rattle.geos_rows.specs.Flow.{known_at};
+ghost use Rattle.geos_code.specs.Known.{known_at};
 ghost use Rattle.geos_rows.specs.Reached.{AreAtMostAny};
 
-use crate::body::Body;
-use crate::edges::edge_in;
 use crate::flow::{Arrival, spread};
 use crate::seeds::seed_entry;
-use crate::table::Known;
 use crate::waiting::Waiting;
+use geos_code::{Body, Known, edge_in};
 use geos_image::Row;
 use std::alloc::{AllocError, Global};
 

@@ -4,12 +4,9 @@ ghost use Rattle.std.specs.Prelude.{◌≡◌, ◌<◌, true, false};
 ghost use Rattle.geos_image.specs.Fields.{FieldsFit};
 ghost use Rattle.geos_rows.specs.Flow.{AllKnown};
 
-use crate::body::Body;
-use crate::common::clean;
-use crate::edges::edge_in;
 use crate::rounds::{PASSES, pass};
-use crate::table::Known;
 use crate::waiting::Waiting;
+use geos_code::{Body, Known, clean, edge_in};
 use geos_image::{Instr, Opcode, Pointer, Row, SlotState};
 use geos_opcodes::{Kind, SlotUse};
 use geos_verify::uses_at;

@@ -2,11 +2,9 @@
 
 ghost use Rattle.std.specs.Prelude.{◌<◌, IfSome};
 
-use crate::body::Body;
-use crate::edges::Lead;
 use crate::order::Order;
-use crate::table::{Table, two_tables};
 use crate::widening::Kept;
+use geos_code::{Body, Lead, Table, two_tables};
 use geos_image::MOST_INSTRS;
 use std::alloc::{AllocError, Global};
 

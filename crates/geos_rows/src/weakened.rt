@@ -4,14 +4,11 @@ ghost use Rattle.std.specs.Prelude.{◌≡◌, ◌<◌, true};
 ghost use Rattle.geos_rows.specs.Flow.{AllKnown};
 ghost use Rattle.geos_rows.specs.Reached.{AllFit};
 
-use crate::body::Body;
-use crate::common::clean;
 use crate::fitted::all_fit;
-use crate::flow::{bound_of, row_of};
 use crate::rounds::flow_on;
-use crate::table::Known;
 use crate::unreached::fill;
 use crate::waiting::Waiting;
+use geos_code::{Body, Known, bound_of, clean, row_of};
 use geos_image::{Instr, Opcode, Row};
 use geos_verify::{fits, misuses};
 

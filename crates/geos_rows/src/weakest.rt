@@ -6,10 +6,10 @@ ghost use Rattle.geos_rows.specs.Reached.{AllFit};
 ghost use Rattle.geos_rows.specs.Weakest.{unmarked, weakest, weakest_of, Weakens};
 ghost use Rattle.geos_rows.specs.Why.{AreApart};
 
-use crate::apart::{Apart, Coming, Comings, find_comings};
-use crate::body::Body;
+use crate::apart::{Comings, find_comings};
 use crate::fitted::all_fit;
-use crate::table::Known;
+use geos_causes::{Apart, Coming};
+use geos_code::{Body, Known};
 use geos_image::{Row, SlotState};
 use std::alloc::{AllocError, Global};
 

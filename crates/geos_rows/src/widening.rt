@@ -2,7 +2,7 @@
 
 ghost use Rattle.std.specs.Prelude.{◌≡◌, ◌<◌};
 
-use crate::body::Body;
+use geos_code::Body;
 use geos_image::{Opcode, Row};
 
 /// So often a row is joined with what an edge that leads back says, as it is.

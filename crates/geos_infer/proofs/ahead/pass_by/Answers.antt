@@ -1,6 +1,6 @@
 use Rattle.std.proofs.Common.{◌≡◌, ◌<◌, ◌+◌, ◌-◌, ℕ, length, sym, ap, ◌∙◌, subst, arith}
 use Rattle.std.proofs.lemmas.List.{length-set}
-use Rattle.geos_rows.proofs.Bodies.{in-body}
+use Rattle.geos_code.proofs.Bodies.{in-body}
 use Rattle.geos_infer.proofs.Longest.{Measured, measured-none, measured-more, some-from, none-passes}
 use Rattle.geos_infer.proofs.ahead.pass_by.Goals as goal
 

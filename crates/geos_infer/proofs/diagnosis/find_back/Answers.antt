@@ -1,6 +1,6 @@
 use Rattle.std.proofs.Common.{◌≡◌, inl, inr, subst, arith}
 use Rattle.std.proofs.lemmas.Bool.{cases_lt}
-use Rattle.geos_rows.specs.Code.{TargetAhead}
+use Rattle.geos_code.specs.Code.{TargetAhead}
 use Rattle.geos_infer.proofs.diagnosis.find_back.Goals as goal
 
 pub loop-from-init : goal.loop-from-init

@@ -1,5 +1,5 @@
 use Rattle.std.proofs.Common.{◌<◌, ℕ}
-use Rattle.geos_rows.specs.Code.{IsPcOf, TargetAhead}
+use Rattle.geos_code.specs.Code.{IsPcOf, TargetAhead}
 use Rattle.geos_infer.proofs.diagnosis.find_back.Given as goal
 
 -- the edges to targets of the instructions before pc lead ahead

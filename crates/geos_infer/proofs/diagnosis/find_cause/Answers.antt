@@ -7,7 +7,7 @@ use Rattle.geos_rows.proofs.Held.{fit-alike}
 use Rattle.geos_infer.specs.Causes.{Holds, tells_of_slots}
 use Rattle.geos_infer.specs.Findings.{IsObstacle, IsUnpaid}
 use Rattle.geos_infer.specs.Tells.{TellsOf}
-use Rattle.geos_infer.specs.declared.cause.Cause.TheVariants.{SlotsDiffer}
+use Rattle.geos_causes.specs.declared.cause.Cause.TheVariants.{SlotsDiffer}
 use Rattle.geos_infer.specs.declared.finding.Obstacle.{Obstacle}
 use Rattle.geos_infer.proofs.diagnosis.find_cause.Goals as goal
 

@@ -1,5 +1,5 @@
 use Rattle.std.proofs.Common.{None, refl, ◌∙◌, ap, arith}
-use Rattle.geos_rows.specs.Flow.{row_of}
+use Rattle.geos_code.specs.Known.{row_of}
 use Rattle.geos_potentials.specs.Numbers.{numbers_of}
 use Rattle.geos_potentials.proofs.Numbered.{numbers-at}
 use Rattle.geos_infer.proofs.Copies.{made-none, made-more, made-all, point_of}

@@ -1,6 +1,6 @@
 use Rattle.std.proofs.Common.{◌<◌, List}
 use Rattle.geos_infer.specs.Causes.{LoopsTo, WaitOn}
-use Rattle.geos_potentials.specs.declared.unpaid.BackWay.{BackWay}
+use Rattle.geos_causes.specs.declared.back_way.BackWay.{BackWay}
 use Rattle.geos_infer.proofs.ring.wait_on.Given as goal
 
 -- loops from the first one on wait each for the next

@@ -1,8 +1,8 @@
 use Rattle.std.proofs.Common.{None, sym, ap, ◌∙◌, arith}
 use Rattle.geos_image.specs.declared.row.Row.{Row}
 use Rattle.geos_verify.specs.Rows.{bound}
-use Rattle.geos_rows.specs.Flow.{row_of}
-use Rattle.geos_rows.proofs.Bodies.{in-body}
+use Rattle.geos_code.specs.Known.{row_of}
+use Rattle.geos_code.proofs.Bodies.{in-body}
 use Rattle.geos_rows.proofs.Strong.{least-bound}
 use Rattle.geos_infer.proofs.setting.most_at.Goals as goal
 

@@ -9,10 +9,10 @@ use Rattle.geos_image.specs.Parts.{Parts}
 use Rattle.geos_verify.proofs.Places.{item_at, if_some}
 use Rattle.geos_infer.specs.declared.counters.Counter.TheVariants.{Kept}
 use Rattle.geos_infer.specs.declared.reach.Reach.{Reach}
-use Rattle.geos_rows.specs.Code.{IsPcOf}
+use Rattle.geos_code.specs.Code.{IsPcOf}
 use Rattle.geos_infer.specs.Turns.{begin_at, counter_at, AlwaysComesTo, IsTurn}
-use Rattle.geos_rows.proofs.Back.{loop-only}
-use Rattle.geos_rows.proofs.Bodies.{in-body}
+use Rattle.geos_code.proofs.Back.{loop-only}
+use Rattle.geos_code.proofs.Bodies.{in-body}
 use Rattle.geos_infer.proofs.turns.find_turn.Goals as goal
 
 turn-at : (rows : List (Option Row)) (image : Parts) (r pc : ℕ) (i : Instr) (turn : Reach) → IsPcOf image r pc → pc < length image.points

@@ -1,5 +1,5 @@
 use Rattle.std.proofs.Common.{Bool, subst}
-use Rattle.geos_rows.specs.Why.{LeadsTo}
+use Rattle.geos_code.specs.Edges.{LeadsTo}
 use Rattle.geos_infer.proofs.turns.go_along.Goals as goal
 
 pub returns-in-Some : goal.returns-in-Some

@@ -1,6 +1,6 @@
 use Rattle.std.proofs.Common.{◌+◌, ◌∙◌, ℕ, ap, arith}
 use Rattle.geos_infer.specs.Turns.{counters_after}
-use Rattle.geos_rows.proofs.Bodies.{in-body}
+use Rattle.geos_code.proofs.Bodies.{in-body}
 use Rattle.geos_infer.proofs.Onward.{goes-on}
 use Rattle.geos_infer.proofs.turns.go_on.Goals as goal
 

@@ -2,11 +2,11 @@ use Rattle.std.proofs.Common.{◌≡◌, Some, None, ap, ◌∙◌, arith}
 use Rattle.geos_image.specs.declared.row.Row.{Row}
 use Rattle.geos_verify.specs.Potentials.{asked_along}
 use Rattle.geos_potentials.specs.Constants.{row_known}
-use Rattle.geos_rows.specs.Flow.{strongest, row_of}
+use Rattle.geos_code.specs.Known.{strongest, row_of}
 use Rattle.geos_potentials.proofs.Priced.{asked-one}
 use Rattle.geos_potentials.specs.Numbers.{numbers_of}
 use Rattle.geos_potentials.proofs.Asks.{asks-none, asks-some}
-use Rattle.geos_rows.proofs.Back.{ahead-alone}
+use Rattle.geos_code.proofs.Back.{ahead-alone}
 use Rattle.geos_potentials.proofs.Numbered.{numbers-at}
 use Rattle.geos_potentials.proofs.asked.asked_over.Goals as goal
 

@@ -1,8 +1,8 @@
 use Rattle.std.proofs.Common.{ℕ, ◌+◌, List, sym, ◌∙◌, subst, arith, inl}
-use Rattle.geos_rows.specs.Code.{IsPcOf}
+use Rattle.geos_code.specs.Code.{IsPcOf}
 use Rattle.geos_potentials.specs.Spent.{AreNotedSet}
 use Rattle.geos_potentials.specs.Spreads.{SetsTo}
-use Rattle.geos_rows.proofs.Bodies.{in-body}
+use Rattle.geos_code.proofs.Bodies.{in-body}
 use Rattle.geos_potentials.proofs.Spending.{set-more, set-none, set-grown}
 use Rattle.geos_potentials.proofs.Spreading.{none-behind, filled-none, behind-raised, behind-come}
 use Rattle.geos_potentials.proofs.Untouched.{AreSpreadSoFar, risen-spread}

@@ -1,4 +1,4 @@
-use Rattle.geos_rows.specs.Code.{IsPcOf}
+use Rattle.geos_code.specs.Code.{IsPcOf}
 use Rattle.geos_potentials.specs.Spent.{AreNotedSet}
 use Rattle.geos_potentials.specs.Spreads.{SetsTo}
 use Rattle.geos_potentials.proofs.Untouched.{AreSpreadSoFar}

@@ -1,7 +1,7 @@
 use Rattle.std.proofs.Common.{ℕ, ◌+◌, List, sym, ◌∙◌, subst, arith, inl}
-use Rattle.geos_rows.specs.Code.{IsPcOf}
+use Rattle.geos_code.specs.Code.{IsPcOf}
 use Rattle.geos_potentials.specs.Spreads.{ForgetsIt}
-use Rattle.geos_rows.proofs.Bodies.{in-body}
+use Rattle.geos_code.proofs.Bodies.{in-body}
 use Rattle.geos_potentials.proofs.Spreading.{none-behind, filled-none, behind-come}
 use Rattle.geos_potentials.proofs.Untouched.{AreTouchedSoFar, touched-more, touched-none, behind-grown}
 use Rattle.geos_potentials.proofs.classes.note_touched.Goals.{in-Some, in_default}

@@ -3,7 +3,7 @@ use Rattle.std.specs.Prelude.{slice_get}
 use Rattle.geos_verify.proofs.Places.{item_at, if_some}
 use Rattle.geos_potentials.specs.Count.{return_steps}
 use Rattle.geos_potentials.specs.declared.lengths.Way.{Way}
-use Rattle.geos_rows.proofs.Bodies.{in-body}
+use Rattle.geos_code.proofs.Bodies.{in-body}
 use Rattle.geos_potentials.proofs.Costs.{ends-more, returns-more}
 use Rattle.geos_potentials.proofs.Priced.{outside-more, looked-more}
 use Rattle.geos_potentials.proofs.constants.begin.Goals as goal

@@ -1,7 +1,7 @@
 use Rattle.std.proofs.Common.{◌≡◌, ◌≤◌, ◌<◌, ℕ, Bool, Some}
 use Rattle.std.specs.Prelude.{slice_get}
 use Rattle.geos_image.specs.declared.point.Point.{Point}
-use Rattle.geos_rows.specs.Code.{IsPcOf}
+use Rattle.geos_code.specs.Code.{IsPcOf}
 use Rattle.geos_potentials.specs.Count.{return_steps}
 use Rattle.geos_potentials.specs.Least.{PayEnds, NoneOutside, IsLookedAt, link_at, steps_at}
 use Rattle.geos_potentials.proofs.constants.begin.Given as goal

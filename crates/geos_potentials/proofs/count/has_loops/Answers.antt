@@ -1,8 +1,8 @@
 use Rattle.std.proofs.Common.{◌≡◌, inl, inr, sym, ◌∙◌, subst, arith}
 use Rattle.std.proofs.lemmas.Bool.{cases_lt, false≢true}
-use Rattle.geos_rows.proofs.Bodies.{in-body}
+use Rattle.geos_code.proofs.Bodies.{in-body}
 use Rattle.geos_potentials.specs.Constants.{IsLoopAt, GoesBack}
-use Rattle.geos_rows.proofs.Back.{no-loop, loop-only}
+use Rattle.geos_code.proofs.Back.{no-loop, loop-only}
 use Rattle.geos_potentials.proofs.Priced.{never-loops, never-back}
 use Rattle.geos_potentials.proofs.count.has_loops.Goals.{then-is_loop-via-then-is_loop, then-is_loop-via-else-is_loop+then-leads_back}
 use Rattle.geos_potentials.proofs.count.has_loops.Goals as goal

@@ -1,5 +1,5 @@
 use Rattle.std.proofs.Common.{◌<◌, ◌⊎◌, ℕ}
-use Rattle.geos_rows.specs.Code.{IsPcOf}
+use Rattle.geos_code.specs.Code.{IsPcOf}
 use Rattle.geos_potentials.specs.Constants.{IsLoopAt, GoesBack}
 use Rattle.geos_potentials.proofs.count.has_loops.Given as goal
 

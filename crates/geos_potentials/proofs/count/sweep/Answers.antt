@@ -3,7 +3,7 @@ use Rattle.std.proofs.lemmas.List.{length-map}
 use Rattle.geos_image.specs.Parts.{start_of}
 use Rattle.geos_potentials.specs.Count.{Counted, StaysFrom, ZerosFrom}
 use Rattle.geos_potentials.specs.Numbers.{numbers_of, steps_of, coefficients_of}
-use Rattle.geos_rows.proofs.Bodies.{in-body}
+use Rattle.geos_code.proofs.Bodies.{in-body}
 use Rattle.geos_potentials.proofs.Numbered.{numbers-set}
 use Rattle.geos_potentials.proofs.Counts.{counts-begin, counted-more, counted-few, stays-refl, stays-set}
 use Rattle.geos_potentials.proofs.count.sweep.Goals as goal

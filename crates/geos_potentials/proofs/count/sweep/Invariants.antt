@@ -1,5 +1,5 @@
 use Rattle.std.proofs.Common.{◌≤◌, ℕ, List}
-use Rattle.geos_rows.specs.Code.{ForwardIn}
+use Rattle.geos_code.specs.Code.{ForwardIn}
 use Rattle.geos_potentials.specs.Steps.{StepsHoldIn}
 use Rattle.geos_potentials.specs.Numbers.{numbers_of}
 use Rattle.geos_potentials.specs.Count.{Counted, StaysFrom}

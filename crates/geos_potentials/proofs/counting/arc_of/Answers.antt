@@ -3,7 +3,7 @@ use Rattle.geos_image.specs.declared.instr.Instr.{Instr}
 use Rattle.geos_verify.proofs.Places.{if_some}
 use Rattle.std.specs.Prelude.{slice_get}
 use Rattle.geos_potentials.specs.Arcs.{counting_of}
-use Rattle.geos_rows.specs.Flow.{row_of, known_at}
+use Rattle.geos_code.specs.Known.{row_of, known_at}
 use Rattle.geos_potentials.proofs.counting.arc_of.Goals as goal
 
 pub returns : goal.returns

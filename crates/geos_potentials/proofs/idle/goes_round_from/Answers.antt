@@ -1,6 +1,6 @@
 use Rattle.std.proofs.Common.{◌≡◌, ℕ, [], ◌∷◌, refl, subst, arith}
 use Rattle.geos_potentials.specs.Stuck.{LeadsNotedIdle}
-use Rattle.geos_rows.specs.Code.{IsPcOf}
+use Rattle.geos_code.specs.Code.{IsPcOf}
 use Rattle.geos_potentials.proofs.idle.goes_round_from.Goals as goal
 
 pub loop-init : goal.loop-init

@@ -5,10 +5,10 @@ use Rattle.geos_opcodes.specs.declared.opcode.Opcode.{Opcode}
 use Rattle.geos_image.specs.Fields.{FieldsFit}
 use Rattle.geos_image.specs.declared.instr.Instr.{Instr}
 use Rattle.geos_verify.proofs.Places.{if_some}
-use Rattle.geos_rows.specs.Code.{is_loop}
+use Rattle.geos_code.specs.Code.{is_loop}
 use Rattle.geos_potentials.specs.Idle.{MayNotPay}
-use Rattle.geos_rows.proofs.Back.{loop-only}
-use Rattle.geos_rows.proofs.Bodies.{in-body}
+use Rattle.geos_code.proofs.Back.{loop-only}
+use Rattle.geos_code.proofs.Bodies.{in-body}
 use Rattle.geos_potentials.proofs.Rising.{idle-noted}
 use Rattle.geos_potentials.proofs.idle.lead_idle.Goals as goal
 

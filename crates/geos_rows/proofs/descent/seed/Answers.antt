@@ -3,7 +3,7 @@ use Rattle.std.proofs.lemmas.Bool.{false≢true}
 use Rattle.geos_image.specs.declared.row.Row.{Row}
 use Rattle.geos_rows.specs.Alike.{AllComeAlike}
 use Rattle.geos_verify.proofs.Places.{item_at}
-use Rattle.geos_rows.proofs.Bodies.{in-body}
+use Rattle.geos_code.proofs.Bodies.{in-body}
 use Rattle.geos_rows.proofs.Joinable.{goes-alike, brings-alike, seeded-alike}
 use Rattle.geos_rows.proofs.descent.seed.Goals.{else-lead-pc-via-then-lead-pc+else-not-has_joined, else-lead-pc-via-else-lead-pc}
 use Rattle.geos_rows.proofs.descent.seed.Goals as goal

@@ -2,9 +2,10 @@ use Rattle.std.proofs.Common.{◌+◌, ℕ, true, false, None, refl, sym, ap, �
 use Rattle.geos_image.specs.declared.routine.Routine.{Routine}
 use Rattle.geos_image.specs.Parts.{start_of}
 use Rattle.geos_image.proofs.Starts.{some_routine}
-use Rattle.geos_rows.specs.Flow.{known_at, KnownAt, fits_known}
+use Rattle.geos_code.specs.Known.{known_at}
+use Rattle.geos_rows.specs.Flow.{KnownAt, fits_known}
 use Rattle.std.proofs.lemmas.Bool.{false≢true}
-use Rattle.geos_rows.proofs.Bodies.{in-body}
+use Rattle.geos_code.proofs.Bodies.{in-body}
 use Rattle.geos_rows.proofs.Fitting.{known-from, fits-more}
 use Rattle.geos_rows.proofs.fitted.all_fit.Goals as goal
 

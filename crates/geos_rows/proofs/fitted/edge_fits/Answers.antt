@@ -2,9 +2,10 @@ use Rattle.std.proofs.Common.{ℕ, None, refl, sym, ap, ◌∙◌, subst, arith}
 use Rattle.std.proofs.lemmas.Bool.{false≢true}
 use Rattle.geos_image.specs.declared.row.Row.{Row}
 use Rattle.geos_verify.specs.Rows.{after}
-use Rattle.geos_rows.specs.Code.{IsPcOf}
-use Rattle.geos_rows.specs.Flow.{known_at, fits_known}
-use Rattle.geos_rows.proofs.Bodies.{in-body}
+use Rattle.geos_code.specs.Code.{IsPcOf}
+use Rattle.geos_code.specs.Known.{known_at}
+use Rattle.geos_rows.specs.Flow.{fits_known}
+use Rattle.geos_code.proofs.Bodies.{in-body}
 use Rattle.geos_rows.proofs.Fitting.{has-there, outside-fits, inside-fits, weak-fits}
 use Rattle.geos_rows.proofs.fitted.edge_fits.Goals.{else-has_edge-via-then-has_edge+then-body-to+else-to-body, else-has_edge-via-then-has_edge+else-body-to, else-has_edge-via-else-has_edge}
 use Rattle.geos_rows.proofs.fitted.edge_fits.Goals as goal

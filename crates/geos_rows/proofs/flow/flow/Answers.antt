@@ -2,10 +2,10 @@ use Rattle.std.proofs.Common.{◌+◌, ◌*◌, ◌≤◌, ◌<◌, ℕ, false, 
 use Rattle.std.proofs.lemmas.Bool.{false≢true}
 use Rattle.geos_verify.proofs.Places.{item_at}
 use Rattle.geos_image.specs.Parts.{start_of}
-use Rattle.geos_rows.specs.Code.{instrs_of}
+use Rattle.geos_code.specs.Code.{instrs_of}
 use Rattle.geos_rows.specs.Flow.{FitAhead}
-use Rattle.geos_rows.proofs.Bodies.{in-body}
-use Rattle.geos_rows.proofs.Ends.{code-length}
+use Rattle.geos_code.proofs.Bodies.{in-body}
+use Rattle.geos_code.proofs.Ends.{code-length}
 use Rattle.geos_rows.proofs.Flows.{spreads-below, fit-more, below-more}
 use Rattle.geos_rows.proofs.Seeding.{seeds-fit, seeds-below}
 use Rattle.geos_rows.proofs.flow.flow.Goals as goal

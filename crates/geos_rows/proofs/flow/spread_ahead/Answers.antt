@@ -1,5 +1,5 @@
 use Rattle.std.proofs.Common.{None, sym, ◌∙◌, arith}
-use Rattle.geos_rows.proofs.Bodies.{in-body}
+use Rattle.geos_code.proofs.Bodies.{in-body}
 use Rattle.geos_rows.proofs.Flows.{spreads-on}
 use Rattle.geos_rows.proofs.Joinable.{goes-alike, brings-alike}
 use Rattle.geos_rows.proofs.flow.spread_ahead.Goals as goal

@@ -1,5 +1,5 @@
 use Rattle.std.proofs.Common.{None, sym, ◌∙◌, arith}
-use Rattle.geos_rows.proofs.Bodies.{in-body}
+use Rattle.geos_code.proofs.Bodies.{in-body}
 use Rattle.geos_rows.proofs.Joinable.{goes-alike}
 use Rattle.geos_rows.proofs.rounds.pass_from.Goals as goal
 

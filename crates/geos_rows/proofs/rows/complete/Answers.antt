@@ -3,7 +3,7 @@ use Rattle.std.specs.Prelude.{not, is_some}
 use Rattle.std.proofs.lemmas.List.{get_or-set_other}
 use Rattle.std.proofs.lemmas.Option.{none-some}
 use Rattle.geos_image.specs.declared.row.Row.{Row}
-use Rattle.geos_rows.specs.Flow.{known_at}
+use Rattle.geos_code.specs.Known.{known_at}
 use Rattle.geos_rows.specs.Reached.{Keeps}
 use Rattle.geos_rows.proofs.Reaching.{keeps-none, keeps-more, keeps-same, keeps-to}
 use Rattle.geos_rows.proofs.rows.complete.Goals.{then-is_none, else-is_none}

@@ -1,5 +1,5 @@
 use Rattle.std.proofs.Common.{◌≡◌, ◌≤◌, ℕ}
-use Rattle.geos_rows.specs.Flow.{known_at}
+use Rattle.geos_code.specs.Known.{known_at}
 use Rattle.geos_rows.specs.Reached.{Keeps}
 use Rattle.geos_rows.proofs.rows.complete.Given as goal
 

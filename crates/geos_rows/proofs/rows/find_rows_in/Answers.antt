@@ -2,7 +2,7 @@ use Rattle.std.proofs.Common.{◌*◌, ◌+◌, refl, sym, ◌∙◌, arith}
 use Rattle.std.proofs.lemmas.Bool.{false≢true}
 use Rattle.geos_image.specs.Parts.{start_of}
 use Rattle.geos_verify.proofs.Places.{item_at}
-use Rattle.geos_rows.proofs.Ends.{code-length}
+use Rattle.geos_code.proofs.Ends.{code-length}
 use Rattle.geos_rows.proofs.Flows.{all-reached}
 use Rattle.geos_rows.proofs.Reaching.{copies-keep, kept-in, kept-fits, kept-flows}
 use Rattle.geos_rows.proofs.rows.find_rows_in.Goals as goal

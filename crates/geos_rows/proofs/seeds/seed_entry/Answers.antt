@@ -1,8 +1,8 @@
 use Rattle.std.proofs.Common.{◌≢◌, List, Option, None, Some, ap, ◌∙◌, arith}
 use Rattle.std.proofs.lemmas.List.{get_or-set_other}
 use Rattle.geos_image.specs.declared.row.Row.{Row}
-use Rattle.geos_rows.specs.Flow.{known_at}
-use Rattle.geos_rows.proofs.Ends.{code-length}
+use Rattle.geos_code.specs.Known.{known_at}
+use Rattle.geos_code.proofs.Ends.{code-length}
 use Rattle.geos_rows.proofs.Seeding.{seeded}
 use Rattle.geos_rows.proofs.seeds.seed_entry.Goals as goal
 

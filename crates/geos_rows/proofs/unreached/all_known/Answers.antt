@@ -1,5 +1,5 @@
 use Rattle.std.proofs.Common.{None, ◌∙◌}
-use Rattle.geos_rows.proofs.Bodies.{in-body}
+use Rattle.geos_code.proofs.Bodies.{in-body}
 use Rattle.geos_rows.proofs.unreached.all_known.Goals as goal
 
 pub returns-in_default : goal.returns-in_default

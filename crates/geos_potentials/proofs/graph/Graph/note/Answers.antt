@@ -3,8 +3,8 @@ use Rattle.std.specs.Prelude.{if◌then◌else◌}
 use Rattle.std.proofs.lemmas.Bool.{cases_lt}
 use Rattle.std.proofs.lemmas.List.{length-set, get_or_past}
 use Rattle.geos_potentials.specs.Arcs.{IsArcIf, arc_at}
-use Rattle.geos_rows.specs.Code.{IsPcOf}
-use Rattle.geos_rows.proofs.Bodies.{in-body}
+use Rattle.geos_code.specs.Code.{IsPcOf}
+use Rattle.geos_code.proofs.Bodies.{in-body}
 use Rattle.geos_potentials.specs.declared.arcs.Arc.{Arc}
 use Rattle.geos_potentials.proofs.Costs.{arc-other, arc-same}
 use Rattle.geos_potentials.proofs.Led.{led-more, all-led}

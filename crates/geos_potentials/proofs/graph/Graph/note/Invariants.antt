@@ -1,6 +1,6 @@
 use Rattle.std.proofs.Common.{◌≡◌, ◌<◌, ℕ, Bool, length}
 use Rattle.geos_potentials.specs.Arcs.{IsArcIf, NoArcsOutside, arc_at}
-use Rattle.geos_rows.specs.Code.{IsPcOf}
+use Rattle.geos_code.specs.Code.{IsPcOf}
 use Rattle.geos_potentials.proofs.Led.{AreLedSoFar}
 use Rattle.geos_potentials.proofs.graph.Graph.note.Given as goal
 

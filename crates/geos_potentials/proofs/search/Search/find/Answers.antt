@@ -1,6 +1,6 @@
 use Rattle.std.proofs.Common.{sym, subst}
 use Rattle.geos_potentials.specs.Arcs.{AreArcs, NoArcsOutside}
-use Rattle.geos_rows.specs.Code.{IsPcOf}
+use Rattle.geos_code.specs.Code.{IsPcOf}
 use Rattle.geos_potentials.specs.Lacks.{IsLack}
 use Rattle.geos_potentials.specs.Spreads.{ComeBehind, ComeFrom, ForgetsIt}
 use Rattle.geos_potentials.specs.Stuck.{HasPlace}

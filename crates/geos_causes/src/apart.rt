@@ -1,0 +1,47 @@
+//! Where ways of control meet with slots that differ.
+
+ghost use Rattle.std.specs.Prelude.{◌≡◌};
+ghost use Rattle.geos_causes.specs.Slots.{slots_agree};
+
+use geos_flow::Edge;
+use geos_image::{Row, SlotState};
+use geos_verify::slot_fits;
+
+/// A CALL that leaves a slot empty which is held before it: the lines `in` and `out` of the routine that it calls do not say that the
+/// slot is held.
+#[derive(Clone, Copy)]
+pub struct Emptied {
+    /// The pc of the CALL.
+    pub at: u16,
+    /// What the slot holds before it.
+    pub state: SlotState,
+    /// The name of the routine that it calls, with zeros behind it.
+    pub callee: [u8; 16],
+}
+
+/// How control comes to a place.
+#[derive(Clone, Copy)]
+pub struct Coming {
+    /// The edge that it comes along; `None` where the routine begins at the place.
+    pub from: Option<Edge>,
+    /// What is known then, of slots above all.
+    pub row: Row,
+    /// By which CALL on a way there each slot was left empty, if by one.
+    pub emptied: [Option<Emptied>; 4],
+}
+
+/// A place to which control comes on two ways, with slots that differ in more than marks.
+#[derive(Clone, Copy)]
+pub struct Apart {
+    /// The place.
+    pub to: u16,
+    pub first: Coming,
+    pub second: Coming,
+}
+
+/// Whether two states of a slot differ in the mark at most.
+pub fn slots_agree(state: SlotState, other: SlotState) -> bool
+    ensures { result ≡ slots_agree state other }
+{
+    slot_fits(state, other) || slot_fits(other, state)
+}

@@ -1,0 +1,3 @@
+pub mod Code
+pub mod Edges
+pub mod Known

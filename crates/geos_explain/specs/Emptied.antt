@@ -1,0 +1,45 @@
+-- CALLs that leave slots empty, in an author's words.
+use Rattle.std.specs.Prelude.{ℕ, if◌then◌else◌, List, [], ◌∷◌, ◌++◌, Option, Some, None, slice_index_or, codes, decimal, take, unwrap_or}
+use Rattle.std.specs.List.{concat}
+use Rattle.geos_image.specs.declared.row.SlotState.{SlotState}
+use Rattle.geos_image.specs.declared.row.SlotState.TheVariants.{Empty}
+use Rattle.geos_image.specs.Legal.{text_end}
+use Rattle.geos_listing.specs.Rows.{texts_below, state_word}
+use Rattle.geos_causes.specs.Slots.{slots_agree}
+use Rattle.geos_causes.specs.declared.apart.Emptied.{Emptied}
+use Rattle.geos_explain.specs.Numbers.{pc_text}
+
+-- a routine's name without the zeros behind it
+abbrev pub name_text : List ℕ → List ℕ
+name_text name = take (unwrap_or (text_end name) 16) name
+
+-- a CALL leaves only what the lines of its routine say
+unfoldable pub emptying_text : List ℕ → Emptied → List ℕ
+emptying_text lines emptied =
+    concat (codes "; CALL at" ∷ pc_text lines emptied.at ∷ codes " leaves what the out line of " ∷ name_text emptied.callee
+    ∷ codes " says" ∷ [])
+
+-- that a slot is held is to be said in these lines
+unfoldable pub held_wish : ℕ → Emptied → List ℕ
+held_wish a emptied =
+    concat (codes ": say s" ∷ decimal a ∷ codes "=" ∷ state_word emptied.state
+    ∷ codes " in the in and out lines of " ∷ name_text emptied.callee ∷ [])
+
+-- or, where that routine changes the slot, another is to be taken
+unfoldable pub other_wish : ℕ → Emptied → List ℕ
+other_wish a emptied =
+    concat (codes "; where " ∷ name_text emptied.callee ∷ codes " locks or unlocks s" ∷ decimal a
+    ∷ codes " itself, hold the block in another slot" ∷ [])
+
+-- a CALL leaves a slot empty, and what helps
+abbrev pub emptied_text : List ℕ → ℕ → Emptied → List ℕ
+emptied_text lines a emptied = emptying_text lines emptied ++ held_wish a emptied ++ other_wish a emptied
+
+-- the same, where what the slot held agrees with what it holds on the other way
+abbrev pub emptied_item : List ℕ → ℕ → Option Emptied → SlotState → List ℕ
+emptied_item lines a None other = []
+emptied_item lines a (Some emptied) other = if slots_agree emptied.state other then emptied_text lines a emptied else []
+
+-- the same of each slot for which a CALL is named
+abbrev pub emptied_items : ℕ → List ℕ → List (Option Emptied) → List SlotState → List ℕ
+emptied_items n lines named others = texts_below n (λ a. emptied_item lines a (slice_index_or named a None) (slice_index_or others a Empty))

@@ -1,0 +1,431 @@
+//! Why no rows or no numbers of steps are found, in an author's words.
+
+ghost use Rattle.std.specs.Prelude.{◌≡◌, ◌++◌, OnOk, IfOk};
+ghost use Rattle.geos_explain.specs.Causes.{differing_item, differing_items, is_refusable, edge_text, coming_from};
+ghost use Rattle.geos_explain.specs.Causes.{coming_text, call_text, touched_text, touched_before_text, not_set_text};
+ghost use Rattle.geos_explain.specs.Causes.{set_in_text, in_turn_text, in_ring_text};
+ghost use Rattle.geos_explain.specs.Causes.{by_word_text, dear_word_text, set_to_text, ways_text, calls_text, apart_text};
+ghost use Rattle.geos_explain.specs.Causes.{back_text, leads_text, within_text, cause_words, cause_text};
+
+use crate::emptied::put_emptied_items;
+use crate::numbers::pc_part;
+use geos_causes::{
+    Apart, BackWay, ByNumber, ByWord, Cause, Coming, LoopOn, LoopPair, LoopRing, Within,
+    slots_agree,
+};
+use geos_flow::Edge;
+use geos_image::{Instr, SlotState};
+use geos_listing::state_word;
+use geos_text::{Part, put_parts};
+use geos_verify::is_empty;
+use std::alloc::{AllocError, Global};
+
+/// A slot, where two states of it differ in more than the mark, and what it holds in the first.
+fn put_differing(
+    out: &mut Vec<u8>,
+    i: usize,
+    state: SlotState,
+    other: SlotState,
+) -> Result<(), AllocError>
+    ensures { OnOk result (out.new.items ≡ out.old.items ++ differing_item i state other) }
+{
+    let slot = Part::Numbered(" s", i as u64);
+    if slots_agree(state, other) {
+        Ok(())
+    } else if is_empty(state) {
+        put_parts(out, &[slot, Part::Text(" empty")])
+    } else {
+        put_parts(out, &[slot, Part::Text("="), Part::Text(state_word(state))])
+    }
+}
+
+/// The slots of a row that differ in more than marks from those of another.
+#[tactic(auto, unfolding(geos_listing::specs::Rows::texts_below))]
+fn put_all_differing(
+    out: &mut Vec<u8>,
+    slots: &[SlotState; 4],
+    others: &[SlotState; 4],
+) -> Result<(), AllocError>
+    ensures { OnOk result (out.new.items ≡ out.old.items ++ differing_items 4 slots.now others.now) }
+{
+    for i in 0..slots.len() {
+        put_differing(out, i, slots[i], others[i])?;
+    }
+    Ok(())
+}
+
+/// Whether the instruction at a pc can be refused, and goes to its label then.
+fn is_refusable(instrs: &[Instr], from: u16) -> bool
+    ensures { result ≡ is_refusable instrs.now from }
+{
+    match instrs.get(usize::from(from)) {
+        Some(i) => i.opcode.operands().refusable,
+        None => false,
+    }
+}
+
+/// Where an edge comes from, and that its instruction is refused there, if it is that of a refusal.
+#[tactic(auto, unfolding(crate::specs::Causes::refusal_text))]
+fn put_edge(
+    out: &mut Vec<u8>,
+    lines: &[usize],
+    instrs: &[Instr],
+    edge: Edge,
+) -> Result<(), AllocError>
+    ensures { OnOk result (out.new.items ≡ out.old.items ++ edge_text lines.now instrs.now edge) }
+{
+    let place = pc_part(lines, edge.from);
+    if edge.branch && is_refusable(instrs, edge.from) {
+        put_parts(
+            out,
+            &[Part::Text(" where"), place, Part::Text(" is refused:")],
+        )
+    } else {
+        put_parts(out, &[place, Part::Text(":")])
+    }
+}
+
+/// Where control comes from.
+#[tactic(auto, unfolding(crate::specs::Causes::coming_from))]
+fn put_coming_from(
+    out: &mut Vec<u8>,
+    lines: &[usize],
+    instrs: &[Instr],
+    coming: &Coming,
+) -> Result<(), AllocError>
+    ensures { OnOk result (out.new.items ≡ out.old.items ++ coming_from lines.now instrs.now coming.now) }
+{
+    match coming.from {
+        Some(edge) => put_edge(out, lines, instrs, edge),
+        None => out.extend_from_slice(b" the in line:"),
+    }
+}
+
+/// How control comes to a place, and the slots that differ from those of another way.
+#[tactic(auto, unfolding(crate::specs::Causes::coming_text))]
+fn put_coming(
+    out: &mut Vec<u8>,
+    lines: &[usize],
+    instrs: &[Instr],
+    coming: &Coming,
+    other: &Coming,
+) -> Result<(), AllocError>
+    ensures { OnOk result (out.new.items ≡ out.old.items ++ coming_text lines.now instrs.now coming.now other.now) }
+{
+    out.extend_from_slice(b" from")?;
+    put_coming_from(out, lines, instrs, coming)?;
+    put_all_differing(out, &coming.row.slots, &other.row.slots)
+}
+
+/// Slots differ where ways meet.
+#[tactic(auto, unfolding(crate::specs::Causes::meeting_text, crate::specs::Causes::other_text, crate::specs::Causes::ways_text))]
+fn put_ways(
+    out: &mut Vec<u8>,
+    lines: &[usize],
+    instrs: &[Instr],
+    apart: &Apart,
+) -> Result<(), AllocError>
+    ensures { OnOk result (out.new.items ≡ out.old.items ++ ways_text lines.now instrs.now apart.now) }
+{
+    put_parts(
+        out,
+        &[Part::Text("at"), pc_part(lines, apart.to), Part::Text(",")],
+    )?;
+    put_coming(out, lines, instrs, &apart.first, &apart.second)?;
+    out.extend_from_slice(b";")?;
+    put_coming(out, lines, instrs, &apart.second, &apart.first)
+}
+
+/// The CALLs by which slots are empty on a way that agreed with those of another.
+fn put_calls(
+    out: &mut Vec<u8>,
+    lines: &[usize],
+    coming: &Coming,
+    other: &Coming,
+) -> Result<(), AllocError>
+    ensures { OnOk result (out.new.items ≡ out.old.items ++ calls_text lines.now coming.now other.now) }
+{
+    put_emptied_items(out, lines, &coming.emptied, &other.row.slots)
+}
+
+/// Slots differ where ways meet, and the CALLs by which they do.
+fn put_apart(
+    out: &mut Vec<u8>,
+    lines: &[usize],
+    instrs: &[Instr],
+    apart: &Apart,
+) -> Result<(), AllocError>
+    ensures { OnOk result (out.new.items ≡ out.old.items ++ apart_text lines.now instrs.now apart.now) }
+{
+    put_ways(out, lines, instrs, apart)?;
+    put_calls(out, lines, &apart.first, &apart.second)?;
+    put_calls(out, lines, &apart.second, &apart.first)
+}
+
+/// What the way of a LOOP to its target does, which may lie ahead.
+fn leads_text(back: &BackWay) -> &'static str
+    ensures { result.now ≡ leads_text back.now }
+{
+    if back.from < back.to {
+        " leads on to"
+    } else {
+        " goes back to"
+    }
+}
+
+/// A text, and a way that leads back.
+#[tactic(auto, unfolding(crate::specs::Causes::back_text))]
+fn put_back(
+    out: &mut Vec<u8>,
+    text: &str,
+    lines: &[usize],
+    back: &BackWay,
+) -> Result<(), AllocError>
+    ensures { OnOk result (out.new.items ≡ out.old.items ++ (text.now ++ back_text lines.now back.now)) }
+{
+    put_parts(
+        out,
+        &[
+            Part::Text(text),
+            pc_part(lines, back.from),
+            Part::Text(leads_text(back)),
+            pc_part(lines, back.to),
+        ],
+    )
+}
+
+/// A counter is set within its loop.
+#[tactic(auto, unfolding(crate::specs::Causes::set_text, crate::specs::Causes::within_text))]
+fn put_within(out: &mut Vec<u8>, lines: &[usize], within: &Within) -> Result<(), AllocError>
+    ensures { OnOk result (out.new.items ≡ out.old.items ++ within_text lines.now within.now) }
+{
+    put_parts(
+        out,
+        &[
+            Part::Numbered("k", within.counter as u64),
+            Part::Text(" is set at"),
+            pc_part(lines, within.at),
+        ],
+    )?;
+    put_back(out, ", within its own loop:", lines, &within.back)
+}
+
+/// A call touches a counter.
+#[tactic(auto, unfolding(crate::specs::Causes::call_text))]
+fn put_call(out: &mut Vec<u8>, lines: &[usize], within: &Within) -> Result<(), AllocError>
+    ensures { OnOk result (out.new.items ≡ out.old.items ++ call_text lines.now within.now) }
+{
+    put_parts(
+        out,
+        &[
+            Part::Text("the call at"),
+            pc_part(lines, within.at),
+            Part::Numbered(" touches k", within.counter as u64),
+        ],
+    )
+}
+
+/// A call touches a counter within its loop.
+#[tactic(auto, unfolding(crate::specs::Causes::touched_text))]
+fn put_touched(out: &mut Vec<u8>, lines: &[usize], within: &Within) -> Result<(), AllocError>
+    ensures { OnOk result (out.new.items ≡ out.old.items ++ touched_text lines.now within.now) }
+{
+    put_call(out, lines, within)?;
+    put_back(out, ", within its own loop:", lines, &within.back)
+}
+
+/// A call touches a counter that is not set behind it.
+#[tactic(auto, unfolding(crate::specs::Causes::touched_before_text))]
+fn put_touched_before(out: &mut Vec<u8>, lines: &[usize], within: &Within) -> Result<(), AllocError>
+    ensures { OnOk result (out.new.items ≡ out.old.items ++ touched_before_text lines.now within.now) }
+{
+    put_call(out, lines, within)?;
+    put_back(
+        out,
+        ", which nothing sets before its loop:",
+        lines,
+        &within.back,
+    )
+}
+
+/// Nothing sets a counter on a way to its loop.
+#[tactic(auto, unfolding(crate::specs::Causes::nothing_sets_text, crate::specs::Causes::not_set_text))]
+fn put_not_set(out: &mut Vec<u8>, lines: &[usize], own: &LoopOn) -> Result<(), AllocError>
+    ensures { OnOk result (out.new.items ≡ out.old.items ++ not_set_text lines.now own.now) }
+{
+    put_parts(out, &[Part::Numbered("nothing sets k", own.counter as u64)])?;
+    put_back(out, " on a way to its loop:", lines, &own.back)
+}
+
+/// A counter is set in the loop of a way that leads back.
+#[tactic(auto, unfolding(crate::specs::Causes::set_at_text, crate::specs::Causes::set_in_text))]
+fn put_set_in(
+    out: &mut Vec<u8>,
+    lines: &[usize],
+    counter: u8,
+    at: u16,
+    back: &BackWay,
+) -> Result<(), AllocError>
+    ensures { OnOk result (out.new.items ≡ out.old.items ++ set_in_text lines.now counter at back.now) }
+{
+    put_parts(
+        out,
+        &[
+            Part::Numbered("k", counter as u64),
+            Part::Text(" at"),
+            pc_part(lines, at),
+        ],
+    )?;
+    put_back(out, " in the loop where", lines, back)
+}
+
+/// Two loops set the counters of each other.
+#[tactic(auto, unfolding(crate::specs::Causes::in_turn_text))]
+fn put_in_turn(out: &mut Vec<u8>, lines: &[usize], both: &LoopPair) -> Result<(), AllocError>
+    ensures { OnOk result (out.new.items ≡ out.old.items ++ in_turn_text lines.now both.now) }
+{
+    out.extend_from_slice(b"two loops set the counters of each other: ")?;
+    put_set_in(out, lines, both.other_counter, both.at, &both.back)?;
+    out.extend_from_slice(b", and ")?;
+    put_set_in(out, lines, both.counter, both.other_at, &both.other)
+}
+
+/// Loops set the counters of each other in a ring.
+#[tactic(auto, unfolding(crate::specs::Causes::in_ring_text))]
+fn put_in_ring(out: &mut Vec<u8>, lines: &[usize], ring: &LoopRing) -> Result<(), AllocError>
+    ensures { OnOk result (out.new.items ≡ out.old.items ++ in_ring_text lines.now ring.now) }
+{
+    out.extend_from_slice(b"loops set the counters of each other in a ring: ")?;
+    put_set_in(out, lines, ring.next_counter, ring.at, &ring.back)?;
+    out.extend_from_slice(b", ")?;
+    put_set_in(out, lines, ring.third_counter, ring.next_at, &ring.next)?;
+    out.extend_from_slice(b", and so on")
+}
+
+/// The steps pass the limit where a word is so large as it may be.
+#[tactic(auto, unfolding(crate::specs::Causes::by_word_text))]
+fn put_by_word(out: &mut Vec<u8>, lines: &[usize], by_word: &ByWord) -> Result<(), AllocError>
+    ensures { OnOk result (out.new.items ≡ out.old.items ++ by_word_text lines.now by_word.now) }
+{
+    put_parts(
+        out,
+        &[
+            Part::Numbered(
+                "the steps may pass 4,294,967,295, since w",
+                by_word.word as u64,
+            ),
+            Part::Numbered(" may be ", by_word.most as u64),
+            Part::Text(" at"),
+            pc_part(lines, by_word.at),
+            Part::Text(": CHK it"),
+        ],
+    )
+}
+
+/// No steps that fit were found where a word is so large as it may be.
+#[tactic(auto, unfolding(crate::specs::Causes::dear_word_text))]
+fn put_dear_word(out: &mut Vec<u8>, lines: &[usize], by_word: &ByWord) -> Result<(), AllocError>
+    ensures { OnOk result (out.new.items ≡ out.old.items ++ dear_word_text lines.now by_word.now) }
+{
+    put_parts(
+        out,
+        &[
+            Part::Numbered(
+                "no steps up to 4,294,967,295 were found; w",
+                by_word.word as u64,
+            ),
+            Part::Numbered(" may be ", by_word.most as u64),
+            Part::Text(" at"),
+            pc_part(lines, by_word.at),
+            Part::Numbered(", which sets k", by_word.counter as u64),
+            Part::Text(": CHK it"),
+        ],
+    )
+}
+
+/// A text, and that a counter is set to a number.
+#[tactic(auto, unfolding(crate::specs::Causes::set_to_text))]
+fn put_set_to(
+    out: &mut Vec<u8>,
+    text: &str,
+    lines: &[usize],
+    by_number: &ByNumber,
+) -> Result<(), AllocError>
+    ensures { OnOk result (out.new.items ≡ out.old.items ++ (text.now ++ set_to_text lines.now by_number.now)) }
+{
+    put_parts(
+        out,
+        &[
+            Part::Text(text),
+            Part::Numbered("k", by_number.counter as u64),
+            Part::Numbered(" is set to ", by_number.number as u64),
+            Part::Text(" at"),
+            pc_part(lines, by_number.at),
+        ],
+    )
+}
+
+/// Why no rows or no numbers of steps are found.
+fn put_cause(
+    out: &mut Vec<u8>,
+    lines: &[usize],
+    instrs: &[Instr],
+    cause: &Cause,
+) -> Result<(), AllocError>
+    ensures { OnOk result (out.new.items ≡ out.old.items ++ cause_words lines.now instrs.now cause.now) }
+{
+    match cause {
+        Cause::SlotsDiffer(apart) => put_apart(out, lines, instrs, apart),
+        Cause::NoLoop(back) => put_back(out, "nothing pays for the way back:", lines, back),
+        Cause::SetWithin(within) | Cause::SetAgain(within) => put_within(out, lines, within),
+        Cause::TouchedWithin(within) => put_touched(out, lines, within),
+        Cause::TouchedBefore(within) => put_touched_before(out, lines, within),
+        Cause::NotSet(own) => put_not_set(out, lines, own),
+        Cause::InTurn(both) => put_in_turn(out, lines, both),
+        Cause::InRing(ring) => put_in_ring(out, lines, ring),
+        Cause::WordUnbounded(by_word) => put_by_word(out, lines, by_word),
+        Cause::NumberHigh(by_number) => put_set_to(
+            out,
+            "the steps may pass 4,294,967,295, since ",
+            lines,
+            by_number,
+        ),
+        Cause::WordDear(by_word) => put_dear_word(out, lines, by_word),
+        Cause::NumberDear(by_number) => put_set_to(
+            out,
+            "no steps up to 4,294,967,295 were found; ",
+            lines,
+            by_number,
+        ),
+        Cause::GivenUp(back) => put_back(
+            out,
+            "the search for steps takes too long and was given up; the first loop:",
+            lines,
+            back,
+        ),
+        Cause::StepsPass => out.extend_from_slice(b"the steps pass 4,294,967,295"),
+        Cause::StepsMayPass => {
+            out.extend_from_slice(b"the steps may pass 4,294,967,295 on a way that leads ahead")
+        }
+        Cause::NoSteps(back) => put_back(out, "no steps were found for the loop:", lines, back),
+        Cause::Unfound(back) => put_back(out, "no steps were found; the first loop:", lines, back),
+        Cause::Unknown => out.extend_from_slice(b"no steps were found"),
+    }
+}
+
+/// The line that says why no rows or no numbers of steps are found for instructions. `lines` has the number of each one's line,
+/// as `geos_source::lines_of_instrs` gives them.
+#[tactic(auto, unfolding(crate::specs::Causes::cause_text))]
+pub fn explain_cause(
+    alloc: Global,
+    lines: &[usize],
+    instrs: &[Instr],
+    cause: &Cause,
+) -> Result<Vec<u8>, AllocError>
+    ensures { IfOk result (λ told. told.items ≡ cause_text lines.now instrs.now cause.now) }
+{
+    let mut out = Vec::new(alloc);
+    put_cause(&mut out, lines, instrs, cause)?;
+    out.extend_from_slice(b"\n")?;
+    Ok(out)
+}

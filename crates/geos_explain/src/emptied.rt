@@ -1,0 +1,126 @@
+//! CALLs that leave slots empty, in an author's words.
+
+ghost use Rattle.std.specs.Prelude.{◌≡◌, ◌<◌, ◌++◌, length, IfSome, OnOk};
+ghost use Rattle.geos_image.specs.Legal.{text_end};
+ghost use Rattle.geos_causes.specs.Slots.{slots_agree};
+ghost use Rattle.geos_explain.specs.Emptied.{name_text, emptying_text, held_wish, other_wish};
+ghost use Rattle.geos_explain.specs.Emptied.{emptied_text, emptied_item, emptied_items};
+
+use crate::numbers::pc_part;
+use geos_causes::{Emptied, slots_agree};
+use geos_image::SlotState;
+use geos_listing::state_word;
+use geos_text::{Part, put_parts};
+use std::alloc::AllocError;
+
+/// Where the text of a padded name ends, if zeros follow it.
+fn text_end(name: &[u8]) -> Option<usize>
+    ensures place { result ≡ text_end name.now }
+    ensures within { IfSome result (λ end. end < length name.now) }
+{
+    name.iter().position(|byte| *byte == 0)
+}
+
+/// A routine's name without the zeros behind it.
+fn name_text(name: &[u8; 16]) -> &[u8]
+    ensures { result.now ≡ name_text name.now }
+{
+    let end = text_end(name).unwrap_or(16);
+    &name[..end]
+}
+
+/// A CALL leaves only what the lines of its routine say.
+#[tactic(auto, unfolding(crate::specs::Emptied::emptying_text))]
+fn put_emptying(out: &mut Vec<u8>, lines: &[usize], emptied: &Emptied) -> Result<(), AllocError>
+    ensures { OnOk result (out.new.items ≡ out.old.items ++ emptying_text lines.now emptied.now) }
+{
+    put_parts(
+        out,
+        &[
+            Part::Text("; CALL at"),
+            pc_part(lines, emptied.at),
+            Part::Text(" leaves what the out line of "),
+            Part::Bytes(name_text(&emptied.callee)),
+            Part::Text(" says"),
+        ],
+    )
+}
+
+/// That the slot is held is to be said in these lines.
+#[tactic(auto, unfolding(crate::specs::Emptied::held_wish))]
+fn put_held_wish(out: &mut Vec<u8>, a: usize, emptied: &Emptied) -> Result<(), AllocError>
+    ensures { OnOk result (out.new.items ≡ out.old.items ++ held_wish a emptied.now) }
+{
+    put_parts(
+        out,
+        &[
+            Part::Numbered(": say s", a as u64),
+            Part::Text("="),
+            Part::Text(state_word(emptied.state)),
+            Part::Text(" in the in and out lines of "),
+            Part::Bytes(name_text(&emptied.callee)),
+        ],
+    )
+}
+
+/// Or, where that routine changes the slot, another is to be taken.
+#[tactic(auto, unfolding(crate::specs::Emptied::other_wish))]
+fn put_other_wish(out: &mut Vec<u8>, a: usize, emptied: &Emptied) -> Result<(), AllocError>
+    ensures { OnOk result (out.new.items ≡ out.old.items ++ other_wish a emptied.now) }
+{
+    put_parts(
+        out,
+        &[
+            Part::Text("; where "),
+            Part::Bytes(name_text(&emptied.callee)),
+            Part::Numbered(" locks or unlocks s", a as u64),
+            Part::Text(" itself, hold the block in another slot"),
+        ],
+    )
+}
+
+/// A CALL leaves a slot empty, and what helps.
+fn put_emptied(
+    out: &mut Vec<u8>,
+    lines: &[usize],
+    a: usize,
+    emptied: &Emptied,
+) -> Result<(), AllocError>
+    ensures { OnOk result (out.new.items ≡ out.old.items ++ emptied_text lines.now a emptied.now) }
+{
+    put_emptying(out, lines, emptied)?;
+    put_held_wish(out, a, emptied)?;
+    put_other_wish(out, a, emptied)
+}
+
+/// The same, where what the slot held agrees with what it holds on the other way.
+fn put_emptied_item(
+    out: &mut Vec<u8>,
+    lines: &[usize],
+    a: usize,
+    named: Option<Emptied>,
+    other: SlotState,
+) -> Result<(), AllocError>
+    ensures { OnOk result (out.new.items ≡ out.old.items ++ emptied_item lines.now a named other) }
+{
+    match named {
+        Some(emptied) if slots_agree(emptied.state, other) => put_emptied(out, lines, a, &emptied),
+        _ => Ok(()),
+    }
+}
+
+/// The same of each slot for which a CALL is named.
+#[tactic(auto, unfolding(geos_listing::specs::Rows::texts_below))]
+pub(crate) fn put_emptied_items(
+    out: &mut Vec<u8>,
+    lines: &[usize],
+    named: &[Option<Emptied>; 4],
+    others: &[SlotState; 4],
+) -> Result<(), AllocError>
+    ensures { OnOk result (out.new.items ≡ out.old.items ++ emptied_items 4 lines.now named.now others.now) }
+{
+    for a in 0..named.len() {
+        put_emptied_item(out, lines, a, named[a], others[a])?;
+    }
+    Ok(())
+}
