@@ -1,3 +1,3 @@
-pub mod Assembled
+pub mod Found
 pub mod BudgetLines
 pub mod Calling

@@ -5,7 +5,7 @@ ghost use Rattle.geos_text.specs.Words.{words};
 ghost use Rattle.geos_asm.specs.Budgets.{begins_word, ends_word, whole_lines, is_budget, is_header};
 ghost use Rattle.geos_asm.specs.Budgets.{IsCutRound, IsLineAlike, HasOtherBudgets, IsBudgeted, IsWhyNoBudgets};
 
-use crate::assembler::assemble;
+use crate::assembler::assemble_with_lines;
 use crate::calls::{first_calling_on, line_of};
 use crate::error::BudgetError;
 use geos_image::Image;
@@ -184,12 +184,11 @@ fn drafted(alloc: Global, text: &[u8], budgets: &[u32]) -> Result<Draft, BudgetE
     ensures fault { IfErr result (IsWhyNoBudgets text.now) }
 {
     let new = with_budgets(alloc, text, budgets)?;
-    let image = assemble(alloc, &new)?;
-    if let Some(pc) = first_calling_on(&image) {
-        let line = line_of(alloc, &new, pc)?;
-        return Err(BudgetError::CallsOn(line));
+    let made = assemble_with_lines(alloc, &new)?;
+    if let Some(pc) = first_calling_on(&made.image) {
+        return Err(BudgetError::CallsOn(line_of(&made.lines, pc)));
     }
-    let found = constants(alloc, &image)?;
+    let found = constants(alloc, &made.image)?;
     Ok(Draft { text: new, found })
 }
 

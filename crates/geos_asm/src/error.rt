@@ -51,7 +51,7 @@ pub enum BudgetError {
     Assemble(AssembleError),
     /// The CALL on this line names a routine that does not stand before its own. The verifier refuses it, whatever the budgets are.
     #[error("no budget: the CALL on line {0} names a routine that does not stand before its own")]
-    CallsOn(usize),
+    CallsOn(u32),
 }
 
 impl From<AllocError> for BudgetError {
