@@ -8,6 +8,7 @@ mod budgets;
 mod calls;
 mod cause;
 mod error;
+mod unset;
 
 pub use assembler::{Assembled, assemble, assemble_all_rows, assemble_with_lines};
 pub use budgets::with_least_budgets;

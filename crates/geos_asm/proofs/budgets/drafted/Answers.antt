@@ -24,5 +24,6 @@ returns-clause-budgeted c = (
     subst (λ bytes. IsAssembled bytes c.in_ok-made.made.image) c.deref.ensures.value
         c.in_ok-made.ensures.image,
     c.in_default.ensures.none,
+    c.in_default-first_unset_loop.ensures.none,
   ),
 )
