@@ -3,14 +3,16 @@
 ghost use Rattle.std.specs.Prelude.{◌≡◌, true, false, IfOk, IfErr, IfSome, IfNone};
 ghost use Rattle.geos_asm.specs.Assembling.{IsAssembled, IsWhyNoImage};
 ghost use Rattle.geos_image.specs.Reading.{image_at, Fails};
+ghost use Rattle.geos_source.specs.InstrLines.{instr_lines};
 ghost use Rattle.geos.specs.Commands.{IsAssembledAs, TakesVersion2, IsImageOf, IsWhyNoneOf, IsListed};
 ghost use Rattle.geos.specs.Commands.{IsJudged, IsExplained, IsExplainedText, IsFaultTold, begins_as_image};
 
-use geos_asm::{AssembleError, Unassembled, assemble, assemble_all_rows, assemble_or_tell};
+use geos_asm::{
+    AssembleError, Assembled, Unassembled, assemble, assemble_all_rows, assemble_or_tell,
+};
 use geos_explain::{explain, explain_cause, explain_text};
-use geos_image::{Image, ReadError};
+use geos_image::ReadError;
 use geos_lines::tell_faults;
-use geos_source::lines_of_instrs;
 use geos_verify::{Reject, check, refused_places};
 use round_trip::list;
 use std::alloc::{AllocError, Global};
@@ -114,11 +116,16 @@ pub(crate) fn image_bytes(alloc: Global, bytes: Vec<u8>) -> Result<Vec<u8>, Asse
 }
 
 /// The lines of a text that has this image, with what is known at each instruction; and whether the verifier accepts the image.
-fn explain_assembled(alloc: Global, text: &[u8], image: Image) -> Result<Explained, AllocError>
-    requires { IsAssembled text.now image }
+fn explain_assembled(
+    alloc: Global,
+    text: &[u8],
+    assembled: Assembled,
+) -> Result<Explained, AllocError>
+    requires image { IsAssembled text.now assembled.image }
+    requires lines { assembled.lines.items ≡ instr_lines text.now }
     ensures { IfOk result (λ explained. IsExplainedText text.now explained.text.items explained.reject) }
 {
-    let lines = lines_of_instrs(alloc, text)?;
+    let Assembled { image, lines } = assembled;
     match check(image) {
         Ok(checked) => Ok(Explained {
             text: explain_text(alloc, text, &lines, checked.image(), &[])?,
@@ -150,18 +157,15 @@ pub(crate) fn explain_text_bytes(
     ensures told { IfOk result (λ said. IfErr said (λ faulty. IsFaultTold text.now faulty.fault faulty.told.items)) }
 {
     match assemble_or_tell(alloc, text) {
-        Ok(image) => Ok(Ok(explain_assembled(alloc, text, image)?)),
+        Ok(assembled) => Ok(Ok(explain_assembled(alloc, text, assembled)?)),
         Err(Unassembled::BadLine(line)) => Ok(Err(Faulty {
             told: tell_faults(alloc, text)?,
             fault: AssembleError::BadLine(line),
         })),
-        Err(Unassembled::NoRows(line, cause, instrs)) => {
-            let lines = lines_of_instrs(alloc, text)?;
-            Ok(Err(Faulty {
-                told: explain_cause(alloc, &lines, &instrs, &cause)?,
-                fault: AssembleError::NoRows(line),
-            }))
-        }
+        Err(Unassembled::NoRows(line, cause, parsed)) => Ok(Err(Faulty {
+            told: explain_cause(alloc, &parsed.lines, &parsed.instrs, &cause)?,
+            fault: AssembleError::NoRows(line),
+        })),
         Err(Unassembled::Memory) => Err(AllocError),
     }
 }

@@ -3,16 +3,16 @@
 ghost use Rattle.vm_blocks.specs.Listed.{NoneLocked};
 ghost use Rattle.geos_shell.specs.Limits.{IsRegion};
 
-use crate::commands::{begins_as_image, image_bytes};
+use crate::commands::begins_as_image;
 use crate::files::{Unlocked, open_unlocked, opened};
 use crate::images::MOST_READ;
 use crate::manner::call_fault;
 use crate::request_fault::RequestFault;
+use geos_asm::{Assembled, assemble_with_lines};
 use geos_cli::{ScriptFault, TraceFault, TracedCall, trace_call};
 use geos_image::Image;
 use geos_kernel::{Kernel, kernel_in_memory};
 use geos_shell::{CallWords, Sharing, TraceWords, print, read};
-use geos_source::lines_of_instrs;
 use geos_trace::{put_counts, put_end, put_refused, put_steps};
 use std::alloc::{AllocError, Global};
 use vm_file::Device;
@@ -21,20 +21,23 @@ use vm_file::Device;
 #[derive(Drop)]
 struct Traceable {
     image: Vec<u8>,
-    lines: Option<Vec<usize>>,
+    lines: Option<Vec<u32>>,
 }
 
 /// What a path names: an image, or a text, which is assembled.
 fn read_traceable<'a>(rt: &HostRuntime, path: &'a str) -> Result<Traceable, RequestFault<'a>> {
     let bytes = read(rt, path, MOST_READ)?;
-    let lines = if begins_as_image(&bytes) {
-        None
-    } else {
-        Some(lines_of_instrs(rt.alloc(), &bytes).map_err(|_| ScriptFault::Memory)?)
-    };
+    if begins_as_image(&bytes) {
+        return Ok(Traceable {
+            image: bytes,
+            lines: None,
+        });
+    }
+    let Assembled { image, lines } = assemble_with_lines(rt.alloc(), &bytes)?;
+    let image = geos_image::write(rt.alloc(), &image).map_err(|_| ScriptFault::Memory)?;
     Ok(Traceable {
-        image: image_bytes(rt.alloc(), bytes)?,
-        lines,
+        image,
+        lines: Some(lines),
     })
 }
 
@@ -51,7 +54,7 @@ fn budget_of(image: &Image, routine: u16) -> u32 {
 fn text_of(
     alloc: Global,
     words: &TraceWords<'_>,
-    lines: Option<&[usize]>,
+    lines: Option<&[u32]>,
     traced: &TracedCall,
 ) -> Result<Vec<u8>, AllocError> {
     let image = traced.checked.image();

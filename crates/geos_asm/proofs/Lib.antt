@@ -1,3 +1,4 @@
-pub mod Assembled
+pub mod Found
 pub mod BudgetLines
 pub mod Calling
+pub mod Unsetting

@@ -5,6 +5,7 @@ use Rattle.geos_image.specs.Parts.{Parts}
 use Rattle.geos_source.specs.declared.parser.ParseError.{ParseError}
 use Rattle.geos_source.specs.declared.parser.ParseError.TheVariants as parse_error
 use Rattle.geos_source.specs.declared.progress.TextRoutine.{TextRoutine}
+use Rattle.geos_source.specs.InstrLines.{instr_lines}
 use Rattle.geos_source.specs.Texts.{Code, code_of}
 use Rattle.geos_source.specs.Coded.{HasCode}
 use Rattle.geos_source.specs.Skeletons.{skeleton}
@@ -71,8 +72,8 @@ IsWhyNoImage text (BadLine fault) = code_of text ≡ Err fault
 IsWhyNoImage text (NoRows line) = HasNoRows text line
 IsWhyNoImage text Memory = Unit {0}
 
--- the cause holds of a routine of the text's code that begins at the line, and is that slots differ wherever ways of control meet so; and it
--- tells of what stops the search for rows and potentials there
+-- the cause holds of a routine of the text's code that begins at the line, and is that slots differ wherever ways of control meet so; and
+-- it tells of what stops the search for rows and potentials there
 pub record IsCauseOf (text : List ℕ) (line : ℕ) (cause : Cause) : Type 0 where
   pub code : Code
   pub read : code_of text ≡ Ok code
@@ -89,8 +90,9 @@ pub record IsCauseIn (text : List ℕ) (line : ℕ) (cause : Cause) (instrs : Li
   pub of : IsCauseOf text line cause
   pub are : of.code.instrs ≡ instrs
 
--- why there is no image, with the cause: the text's first fault, no rows, or want of memory
+-- why there is no image, with the cause and the lines of the instructions: the text's first fault, no rows, or want of memory
 abbrev pub IsWhyUnassembled : List ℕ → Unassembled → Type 0
 IsWhyUnassembled text (unassembled.BadLine fault) = IsWhyNoImage text (BadLine fault)
-IsWhyUnassembled text (unassembled.NoRows line cause instrs) = IsWhyNoImage text (NoRows line) × IsCauseIn text line cause instrs.items
+IsWhyUnassembled text (unassembled.NoRows line cause parsed) =
+    IsWhyNoImage text (NoRows line) × IsCauseIn text line cause parsed.instrs.items × (parsed.lines.items ≡ instr_lines text)
 IsWhyUnassembled text unassembled.Memory = Unit {0}

@@ -5,8 +5,9 @@ use Rattle.geos_text.specs.Numbers.{number_up_to}
 use Rattle.geos_text.specs.Words.{is_blank, words}
 use Rattle.geos_asm.specs.Assembling.{IsAssembled, IsWhyNoImage}
 use Rattle.geos_asm.specs.Calls.{CallBefore, CallsOnIn}
+use Rattle.geos_asm.specs.Unset.{NoneUnset, TakesUnsetOn}
 use Rattle.geos_asm.specs.declared.error.BudgetError.{BudgetError}
-use Rattle.geos_asm.specs.declared.error.BudgetError.TheVariants.{Assemble, CallsOn}
+use Rattle.geos_asm.specs.declared.error.BudgetError.TheVariants.{Assemble, CallsOn, NotSet}
 
 -- a byte in front of the first line, if there is one
 abbrev pub in_front : ℕ → List (List ℕ) → List (List ℕ)
@@ -73,14 +74,15 @@ AreLinesAlike (line ∷ lines) new = (here : List ℕ) × (others : List ℕ) ×
 abbrev pub HasOtherBudgets : List ℕ → List ℕ → Type 0
 HasOtherBudgets text new = AreLinesAlike (whole_lines text) new
 
--- so it is, and has an image, whose calls lead to routines before their own
+-- so it is, and has an image, whose calls lead to routines before their own, and whose LOOPs take from counters that are set
 abbrev pub IsBudgeted : List ℕ → List ℕ → Type 0
-IsBudgeted text new = HasOtherBudgets text new × ((image : Parts) × IsAssembled new image × CallBefore image)
+IsBudgeted text new = HasOtherBudgets text new × ((image : Parts) × IsAssembled new image × CallBefore image × NoneUnset image)
 
--- why a text has none, or a call in it that does not
+-- why a text has none, or a call in it that does not, or a LOOP
 abbrev pub IsWhyNot : List ℕ → BudgetError → Type 0
 IsWhyNot text (Assemble fault) = IsWhyNoImage text fault
 IsWhyNot text (CallsOn line) = CallsOnIn text line
+IsWhyNot text (NotSet k line) = TakesUnsetOn text k line
 
 -- the same with some budgets
 abbrev pub IsWhyNoBudgets : List ℕ → BudgetError → Type 0

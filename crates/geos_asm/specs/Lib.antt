@@ -1,3 +1,4 @@
 pub mod Assembling
 pub mod Budgets
 pub mod Calls
+pub mod Unset

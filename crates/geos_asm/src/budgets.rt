@@ -5,9 +5,10 @@ ghost use Rattle.geos_text.specs.Words.{words};
 ghost use Rattle.geos_asm.specs.Budgets.{begins_word, ends_word, whole_lines, is_budget, is_header};
 ghost use Rattle.geos_asm.specs.Budgets.{IsCutRound, IsLineAlike, HasOtherBudgets, IsBudgeted, IsWhyNoBudgets};
 
-use crate::assembler::assemble;
+use crate::assembler::assemble_with_lines;
 use crate::calls::{first_calling_on, line_of};
 use crate::error::BudgetError;
+use crate::unset::{LoopOn, first_unset_loop};
 use geos_image::Image;
 use geos_text::{first_word, is_blank, number_up_to, put_numbered, without_comment};
 use std::alloc::{AllocError, Global};
@@ -184,12 +185,14 @@ fn drafted(alloc: Global, text: &[u8], budgets: &[u32]) -> Result<Draft, BudgetE
     ensures fault { IfErr result (IsWhyNoBudgets text.now) }
 {
     let new = with_budgets(alloc, text, budgets)?;
-    let image = assemble(alloc, &new)?;
-    if let Some(pc) = first_calling_on(&image) {
-        let line = line_of(alloc, &new, pc)?;
-        return Err(BudgetError::CallsOn(line));
+    let made = assemble_with_lines(alloc, &new)?;
+    if let Some(pc) = first_calling_on(&made.image) {
+        return Err(BudgetError::CallsOn(line_of(&made.lines, pc)));
     }
-    let found = constants(alloc, &image)?;
+    if let Some(LoopOn { counter, pc }) = first_unset_loop(&made.image) {
+        return Err(BudgetError::NotSet(counter, line_of(&made.lines, pc)));
+    }
+    let found = constants(alloc, &made.image)?;
     Ok(Draft { text: new, found })
 }
 
@@ -198,7 +201,7 @@ fn drafted(alloc: Global, text: &[u8], budgets: &[u32]) -> Result<Draft, BudgetE
 /// calls, so each round finds one more on a chain of calls.
 ///
 /// The faults are those of `assemble`, of the text with other budgets; or `CallsOn`, with the line of the first CALL of a routine that does
-/// not stand before its own.
+/// not stand before its own; or `NotSet`, with that of a LOOP which takes from a counter that nothing sets on a way to it.
 pub fn with_least_budgets(alloc: Global, text: &[u8]) -> Result<Vec<u8>, BudgetError>
     ensures budgeted { IfOk result (λ new. IsBudgeted text.now new.items) }
     ensures fault { IfErr result (IsWhyNoBudgets text.now) }

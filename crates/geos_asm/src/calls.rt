@@ -1,13 +1,10 @@
 //! Calls of routines that do not stand before the one that calls: the verifier refuses them, whatever the budgets are.
 
-ghost use Rattle.std.specs.Prelude.{◌≡◌, ◌<◌, length, IfOk, IfNone, IfSome};
+ghost use Rattle.std.specs.Prelude.{◌≡◌, ◌<◌, length, IfNone, IfSome};
 ghost use Rattle.geos_asm.specs.Calls.{calls_on, line_at, CallsOnAt, CallBefore, CallBeforeIn};
-ghost use Rattle.geos_source.specs.InstrLines.{instr_lines};
 
 use geos_image::{Image, Instr};
-use geos_source::lines_of_instrs;
 use geos_verify::calls;
-use std::alloc::{AllocError, Global};
 
 /// Whether the instruction calls a routine that does not stand before routine r.
 fn calls_on(r: u16, i: &Instr) -> bool
@@ -44,13 +41,12 @@ pub(crate) fn first_calling_on(image: &Image) -> Option<u16>
     None
 }
 
-/// The line of the text that has the instruction at a pc.
-pub(crate) fn line_of(alloc: Global, text: &[u8], pc: u16) -> Result<usize, AllocError>
-    ensures { IfOk result (λ line. line ≡ line_at (instr_lines text.now) pc) }
+/// The line that has the instruction at a pc, by a table of them.
+pub(crate) fn line_of(lines: &[u32], pc: u16) -> u32
+    ensures { result ≡ line_at lines.now pc }
 {
-    let lines = lines_of_instrs(alloc, text)?;
     match lines.get(usize::from(pc)) {
-        Some(line) => Ok(*line),
-        None => Ok(0),
+        Some(line) => *line,
+        None => 0,
     }
 }

@@ -1,12 +1,13 @@
 //! The image of a text, or why there is none, with the cause.
 
 ghost use Rattle.std.specs.Prelude.{◌≡◌, true, IfOk, IfErr};
+ghost use Rattle.geos_source.specs.InstrLines.{instr_lines};
 ghost use Rattle.geos_asm.specs.Assembling.{IsAssembled, RunsIfAnyDoes, IsWhyUnassembled, unassembled_by};
 ghost use Rattle.geos_asm.specs.declared.cause.Unassembled.TheVariants.{Memory};
 
-use geos_image::{Image, Instr};
+use crate::assembler::Assembled;
 use geos_infer::{Cause, FindError, find_cause, find_image};
-use geos_source::{BadLine, ParseError, parse, skeleton};
+use geos_source::{BadLine, ParseError, Parsed, parse, skeleton};
 use std::alloc::{AllocError, Global};
 
 /// Why a text is not assembled, in an author's terms.
@@ -14,9 +15,9 @@ use std::alloc::{AllocError, Global};
 pub enum Unassembled {
     /// The text has a fault: its first faulty line, and why.
     BadLine(BadLine),
-    /// The text has no fault. For the routine that begins at this line no rows or no numbers of steps are found, for this cause. The
-    /// instructions are those of the text.
-    NoRows(usize, Cause, Vec<Instr>),
+    /// The text has no fault. For the routine that begins at this line no rows or no numbers of steps are found, for this cause. Behind it
+    /// stands what the text is read to.
+    NoRows(usize, Cause, Parsed),
     /// An allocation was refused.
     Memory,
 }
@@ -40,24 +41,29 @@ impl From<ParseError> for Unassembled {
     }
 }
 
-/// What `assemble` answers; where that is `NoRows`, with the cause. What the cause says holds of the routine, and tells of what stopped the
-/// search for rows and numbers of steps there.
-pub fn assemble_or_tell(alloc: Global, text: &[u8]) -> Result<Image, Unassembled>
-    ensures image { IfOk result (IsAssembled text.now) }
-    ensures version { IfOk result (λ image. image.keyed ≡ true) }
-    ensures accepted { IfOk result (RunsIfAnyDoes text.now) }
+/// The image of an assembly text, with the line of each instruction, where `assemble` answers one; else why there is none. Where no rows
+/// are found, that is a cause which holds of the routine, and tells of what stopped the search for rows and numbers of steps there.
+pub fn assemble_or_tell(alloc: Global, text: &[u8]) -> Result<Assembled, Unassembled>
+    ensures image { IfOk result (λ made. IsAssembled text.now made.image) }
+    ensures version { IfOk result (λ made. made.image.keyed ≡ true) }
+    ensures accepted { IfOk result (λ made. RunsIfAnyDoes text.now made.image) }
+    ensures lines { IfOk result (λ made. made.lines.items ≡ instr_lines text.now) }
     ensures why { IfErr result (IsWhyUnassembled text.now) }
 {
     let parsed = parse(alloc, text)?;
     let blank = skeleton(alloc, &parsed)?;
     match find_image(alloc, &blank) {
-        Ok(whole) => Ok(whole.into_keyed()),
+        Ok(whole) => Ok(Assembled {
+            image: whole.into_keyed(),
+            lines: parsed.lines,
+        }),
         Err(FindError::Stopped(finding)) => {
             let routine = &parsed.routines[usize::from(finding.routine)];
+            let line = routine.line;
             let cause = find_cause(alloc, &blank, &finding);
             // By a call, so that the check does not go over each table here.
             drop(finding);
-            Err(Unassembled::NoRows(routine.line, cause?, parsed.instrs))
+            Err(Unassembled::NoRows(line, cause?, parsed))
         }
         Err(FindError::Memory) => Err(Unassembled::Memory),
     }

@@ -51,7 +51,11 @@ pub enum BudgetError {
     Assemble(AssembleError),
     /// The CALL on this line names a routine that does not stand before its own. The verifier refuses it, whatever the budgets are.
     #[error("no budget: the CALL on line {0} names a routine that does not stand before its own")]
-    CallsOn(usize),
+    CallsOn(u32),
+    /// Nothing sets this counter on a way to the LOOP on this line, for which steps are owed where its routine begins. The verifier refuses
+    /// that, whatever the budgets are.
+    #[error("no budget: k{0} is not set on the way to the LOOP on line {1}: set it first by SETK or SETKW")]
+    NotSet(u8, u32),
 }
 
 impl From<AllocError> for BudgetError {

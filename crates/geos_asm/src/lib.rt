@@ -8,9 +8,10 @@ mod budgets;
 mod calls;
 mod cause;
 mod error;
+mod unset;
 
-pub use assembler::{assemble, assemble_all_rows};
+pub use assembler::{Assembled, assemble, assemble_all_rows, assemble_with_lines};
 pub use budgets::with_least_budgets;
 pub use cause::{Unassembled, assemble_or_tell};
 pub use error::{AssembleError, BudgetError};
-pub use geos_source::{BadLine, Why};
+pub use geos_source::{BadLine, Parsed, Why};

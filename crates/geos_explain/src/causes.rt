@@ -68,7 +68,7 @@ fn is_refusable(instrs: &[Instr], from: u16) -> bool
 #[tactic(auto, unfolding(crate::specs::Causes::refusal_text))]
 fn put_edge(
     out: &mut Vec<u8>,
-    lines: &[usize],
+    lines: &[u32],
     instrs: &[Instr],
     edge: Edge,
 ) -> Result<(), AllocError>
@@ -89,7 +89,7 @@ fn put_edge(
 #[tactic(auto, unfolding(crate::specs::Causes::coming_from))]
 fn put_coming_from(
     out: &mut Vec<u8>,
-    lines: &[usize],
+    lines: &[u32],
     instrs: &[Instr],
     coming: &Coming,
 ) -> Result<(), AllocError>
@@ -105,7 +105,7 @@ fn put_coming_from(
 #[tactic(auto, unfolding(crate::specs::Causes::coming_text))]
 fn put_coming(
     out: &mut Vec<u8>,
-    lines: &[usize],
+    lines: &[u32],
     instrs: &[Instr],
     coming: &Coming,
     other: &Coming,
@@ -121,7 +121,7 @@ fn put_coming(
 #[tactic(auto, unfolding(crate::specs::Causes::meeting_text, crate::specs::Causes::other_text, crate::specs::Causes::ways_text))]
 fn put_ways(
     out: &mut Vec<u8>,
-    lines: &[usize],
+    lines: &[u32],
     instrs: &[Instr],
     apart: &Apart,
 ) -> Result<(), AllocError>
@@ -139,7 +139,7 @@ fn put_ways(
 /// The CALLs by which slots are empty on a way that agreed with those of another.
 fn put_calls(
     out: &mut Vec<u8>,
-    lines: &[usize],
+    lines: &[u32],
     coming: &Coming,
     other: &Coming,
 ) -> Result<(), AllocError>
@@ -151,7 +151,7 @@ fn put_calls(
 /// Slots differ where ways meet, and the CALLs by which they do.
 fn put_apart(
     out: &mut Vec<u8>,
-    lines: &[usize],
+    lines: &[u32],
     instrs: &[Instr],
     apart: &Apart,
 ) -> Result<(), AllocError>
@@ -175,12 +175,7 @@ fn leads_text(back: &BackWay) -> &'static str
 
 /// A text, and a way that leads back.
 #[tactic(auto, unfolding(crate::specs::Causes::back_text))]
-fn put_back(
-    out: &mut Vec<u8>,
-    text: &str,
-    lines: &[usize],
-    back: &BackWay,
-) -> Result<(), AllocError>
+fn put_back(out: &mut Vec<u8>, text: &str, lines: &[u32], back: &BackWay) -> Result<(), AllocError>
     ensures { OnOk result (out.new.items ≡ out.old.items ++ (text.now ++ back_text lines.now back.now)) }
 {
     put_parts(
@@ -196,7 +191,7 @@ fn put_back(
 
 /// A counter is set within its loop.
 #[tactic(auto, unfolding(crate::specs::Causes::set_text, crate::specs::Causes::within_text))]
-fn put_within(out: &mut Vec<u8>, lines: &[usize], within: &Within) -> Result<(), AllocError>
+fn put_within(out: &mut Vec<u8>, lines: &[u32], within: &Within) -> Result<(), AllocError>
     ensures { OnOk result (out.new.items ≡ out.old.items ++ within_text lines.now within.now) }
 {
     put_parts(
@@ -212,7 +207,7 @@ fn put_within(out: &mut Vec<u8>, lines: &[usize], within: &Within) -> Result<(),
 
 /// A call touches a counter.
 #[tactic(auto, unfolding(crate::specs::Causes::call_text))]
-fn put_call(out: &mut Vec<u8>, lines: &[usize], within: &Within) -> Result<(), AllocError>
+fn put_call(out: &mut Vec<u8>, lines: &[u32], within: &Within) -> Result<(), AllocError>
     ensures { OnOk result (out.new.items ≡ out.old.items ++ call_text lines.now within.now) }
 {
     put_parts(
@@ -227,7 +222,7 @@ fn put_call(out: &mut Vec<u8>, lines: &[usize], within: &Within) -> Result<(), A
 
 /// A call touches a counter within its loop.
 #[tactic(auto, unfolding(crate::specs::Causes::touched_text))]
-fn put_touched(out: &mut Vec<u8>, lines: &[usize], within: &Within) -> Result<(), AllocError>
+fn put_touched(out: &mut Vec<u8>, lines: &[u32], within: &Within) -> Result<(), AllocError>
     ensures { OnOk result (out.new.items ≡ out.old.items ++ touched_text lines.now within.now) }
 {
     put_call(out, lines, within)?;
@@ -236,7 +231,7 @@ fn put_touched(out: &mut Vec<u8>, lines: &[usize], within: &Within) -> Result<()
 
 /// A call touches a counter that is not set behind it.
 #[tactic(auto, unfolding(crate::specs::Causes::touched_before_text))]
-fn put_touched_before(out: &mut Vec<u8>, lines: &[usize], within: &Within) -> Result<(), AllocError>
+fn put_touched_before(out: &mut Vec<u8>, lines: &[u32], within: &Within) -> Result<(), AllocError>
     ensures { OnOk result (out.new.items ≡ out.old.items ++ touched_before_text lines.now within.now) }
 {
     put_call(out, lines, within)?;
@@ -250,7 +245,7 @@ fn put_touched_before(out: &mut Vec<u8>, lines: &[usize], within: &Within) -> Re
 
 /// Nothing sets a counter on a way to its loop.
 #[tactic(auto, unfolding(crate::specs::Causes::nothing_sets_text, crate::specs::Causes::not_set_text))]
-fn put_not_set(out: &mut Vec<u8>, lines: &[usize], own: &LoopOn) -> Result<(), AllocError>
+fn put_not_set(out: &mut Vec<u8>, lines: &[u32], own: &LoopOn) -> Result<(), AllocError>
     ensures { OnOk result (out.new.items ≡ out.old.items ++ not_set_text lines.now own.now) }
 {
     put_parts(out, &[Part::Numbered("nothing sets k", own.counter as u64)])?;
@@ -261,7 +256,7 @@ fn put_not_set(out: &mut Vec<u8>, lines: &[usize], own: &LoopOn) -> Result<(), A
 #[tactic(auto, unfolding(crate::specs::Causes::set_at_text, crate::specs::Causes::set_in_text))]
 fn put_set_in(
     out: &mut Vec<u8>,
-    lines: &[usize],
+    lines: &[u32],
     counter: u8,
     at: u16,
     back: &BackWay,
@@ -281,7 +276,7 @@ fn put_set_in(
 
 /// Two loops set the counters of each other.
 #[tactic(auto, unfolding(crate::specs::Causes::in_turn_text))]
-fn put_in_turn(out: &mut Vec<u8>, lines: &[usize], both: &LoopPair) -> Result<(), AllocError>
+fn put_in_turn(out: &mut Vec<u8>, lines: &[u32], both: &LoopPair) -> Result<(), AllocError>
     ensures { OnOk result (out.new.items ≡ out.old.items ++ in_turn_text lines.now both.now) }
 {
     out.extend_from_slice(b"two loops set the counters of each other: ")?;
@@ -292,7 +287,7 @@ fn put_in_turn(out: &mut Vec<u8>, lines: &[usize], both: &LoopPair) -> Result<()
 
 /// Loops set the counters of each other in a ring.
 #[tactic(auto, unfolding(crate::specs::Causes::in_ring_text))]
-fn put_in_ring(out: &mut Vec<u8>, lines: &[usize], ring: &LoopRing) -> Result<(), AllocError>
+fn put_in_ring(out: &mut Vec<u8>, lines: &[u32], ring: &LoopRing) -> Result<(), AllocError>
     ensures { OnOk result (out.new.items ≡ out.old.items ++ in_ring_text lines.now ring.now) }
 {
     out.extend_from_slice(b"loops set the counters of each other in a ring: ")?;
@@ -304,7 +299,7 @@ fn put_in_ring(out: &mut Vec<u8>, lines: &[usize], ring: &LoopRing) -> Result<()
 
 /// The steps pass the limit where a word is so large as it may be.
 #[tactic(auto, unfolding(crate::specs::Causes::by_word_text))]
-fn put_by_word(out: &mut Vec<u8>, lines: &[usize], by_word: &ByWord) -> Result<(), AllocError>
+fn put_by_word(out: &mut Vec<u8>, lines: &[u32], by_word: &ByWord) -> Result<(), AllocError>
     ensures { OnOk result (out.new.items ≡ out.old.items ++ by_word_text lines.now by_word.now) }
 {
     put_parts(
@@ -324,7 +319,7 @@ fn put_by_word(out: &mut Vec<u8>, lines: &[usize], by_word: &ByWord) -> Result<(
 
 /// No steps that fit were found where a word is so large as it may be.
 #[tactic(auto, unfolding(crate::specs::Causes::dear_word_text))]
-fn put_dear_word(out: &mut Vec<u8>, lines: &[usize], by_word: &ByWord) -> Result<(), AllocError>
+fn put_dear_word(out: &mut Vec<u8>, lines: &[u32], by_word: &ByWord) -> Result<(), AllocError>
     ensures { OnOk result (out.new.items ≡ out.old.items ++ dear_word_text lines.now by_word.now) }
 {
     put_parts(
@@ -348,7 +343,7 @@ fn put_dear_word(out: &mut Vec<u8>, lines: &[usize], by_word: &ByWord) -> Result
 fn put_set_to(
     out: &mut Vec<u8>,
     text: &str,
-    lines: &[usize],
+    lines: &[u32],
     by_number: &ByNumber,
 ) -> Result<(), AllocError>
     ensures { OnOk result (out.new.items ≡ out.old.items ++ (text.now ++ set_to_text lines.now by_number.now)) }
@@ -368,7 +363,7 @@ fn put_set_to(
 /// Why no rows or no numbers of steps are found.
 fn put_cause(
     out: &mut Vec<u8>,
-    lines: &[usize],
+    lines: &[u32],
     instrs: &[Instr],
     cause: &Cause,
 ) -> Result<(), AllocError>
@@ -414,11 +409,11 @@ fn put_cause(
 }
 
 /// The line that says why no rows or no numbers of steps are found for instructions. `lines` has the number of each one's line,
-/// as `geos_source::lines_of_instrs` gives them.
+/// as `geos_source::parse` gives them.
 #[tactic(auto, unfolding(crate::specs::Causes::cause_text))]
 pub fn explain_cause(
     alloc: Global,
-    lines: &[usize],
+    lines: &[u32],
     instrs: &[Instr],
     cause: &Cause,
 ) -> Result<Vec<u8>, AllocError>

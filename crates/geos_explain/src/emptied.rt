@@ -31,7 +31,7 @@ fn name_text(name: &[u8; 16]) -> &[u8]
 
 /// A CALL leaves only what the lines of its routine say.
 #[tactic(auto, unfolding(crate::specs::Emptied::emptying_text))]
-fn put_emptying(out: &mut Vec<u8>, lines: &[usize], emptied: &Emptied) -> Result<(), AllocError>
+fn put_emptying(out: &mut Vec<u8>, lines: &[u32], emptied: &Emptied) -> Result<(), AllocError>
     ensures { OnOk result (out.new.items ≡ out.old.items ++ emptying_text lines.now emptied.now) }
 {
     put_parts(
@@ -82,7 +82,7 @@ fn put_other_wish(out: &mut Vec<u8>, a: usize, emptied: &Emptied) -> Result<(), 
 /// A CALL leaves a slot empty, and what helps.
 fn put_emptied(
     out: &mut Vec<u8>,
-    lines: &[usize],
+    lines: &[u32],
     a: usize,
     emptied: &Emptied,
 ) -> Result<(), AllocError>
@@ -96,7 +96,7 @@ fn put_emptied(
 /// The same, where what the slot held agrees with what it holds on the other way.
 fn put_emptied_item(
     out: &mut Vec<u8>,
-    lines: &[usize],
+    lines: &[u32],
     a: usize,
     named: Option<Emptied>,
     other: SlotState,
@@ -113,7 +113,7 @@ fn put_emptied_item(
 #[tactic(auto, unfolding(geos_listing::specs::Rows::texts_below))]
 pub(crate) fn put_emptied_items(
     out: &mut Vec<u8>,
-    lines: &[usize],
+    lines: &[u32],
     named: &[Option<Emptied>; 4],
     others: &[SlotState; 4],
 ) -> Result<(), AllocError>

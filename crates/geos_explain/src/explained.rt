@@ -15,7 +15,7 @@ use geos_verify::Rule;
 pub(crate) struct Explained<'a> {
     pub image: &'a Filled<'a>,
     /// The line of each instruction in an author's text; else nothing.
-    pub lines: &'a [usize],
+    pub lines: &'a [u32],
     /// What control reaches.
     pub marks: &'a Marks,
     /// For each pc the rule that is told there, if one is.

@@ -64,7 +64,7 @@ pub(crate) fn put_slots_at(
 }
 
 /// Since where a slot is held; of several places, one.
-fn since_part(lines: &[usize], since: Since) -> Part<'static>
+fn since_part(lines: &[u32], since: Since) -> Part<'static>
     ensures { part_text result ≡ since_place lines.now since }
 {
     match since {
@@ -85,7 +85,7 @@ fn or_another(since: Since) -> &'static str
 }
 
 /// Since where a slot is held, if that is known; of several places, one.
-fn put_since(out: &mut Vec<u8>, lines: &[usize], a: u8, since: Since) -> Result<(), AllocError>
+fn put_since(out: &mut Vec<u8>, lines: &[u32], a: u8, since: Since) -> Result<(), AllocError>
     ensures { OnOk result (out.new.items ≡ out.old.items ++ since_text lines.now a since) }
 {
     if let Since::Unknown = since {

@@ -40,7 +40,7 @@ pub(crate) fn is_or_are(items: &[u8]) -> &'static str
 
 /// A target as the reader has it: in an author's text its line, else the label that the listing gives it.
 #[tactic(auto, unfolding(crate::specs::Numbers::label_text))]
-pub(crate) fn label_part(lines: &[usize], target: u16) -> Part<'static>
+pub(crate) fn label_part(lines: &[u32], target: u16) -> Part<'static>
     ensures { part_text result ≡ label_text lines.now target }
 {
     match lines.get(usize::from(target)) {
@@ -52,7 +52,7 @@ pub(crate) fn label_part(lines: &[usize], target: u16) -> Part<'static>
 /// A pc as the reader has it: in an author's text its line, else itself. `lines` has the number of each instruction's line,
 /// or nothing.
 #[tactic(auto, unfolding(crate::specs::Numbers::pc_text))]
-pub(crate) fn pc_part(lines: &[usize], pc: u16) -> Part<'static>
+pub(crate) fn pc_part(lines: &[u32], pc: u16) -> Part<'static>
     ensures { part_text result ≡ pc_text lines.now pc }
 {
     match lines.get(usize::from(pc)) {

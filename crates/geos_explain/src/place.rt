@@ -13,7 +13,7 @@ use geos_image::{Instr, Potential, Routine, Row};
 pub(crate) struct Place<'a> {
     pub image: &'a Filled<'a>,
     /// The line of each instruction in an author's text; else nothing.
-    pub lines: &'a [usize],
+    pub lines: &'a [u32],
     pub r: u16,
     pub routine: &'a Routine,
     pub pc: u16,

@@ -127,7 +127,7 @@ fn put_meeting_item(
 #[tactic(auto, unfolding(crate::specs::Stale::named))]
 fn put_named(
     out: &mut Vec<u8>,
-    lines: &[usize],
+    lines: &[u32],
     from: u16,
     point: &KnownPlace,
 ) -> Result<(), AllocError>

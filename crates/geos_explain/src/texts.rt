@@ -57,11 +57,11 @@ fn put_noted_at(out: &mut Vec<u8>, explained: &Explained, pc: u16) -> Result<(),
 
 /// Whether the table has the line as that of the instruction at the pc.
 #[tactic(auto, unfolding(crate::specs::Texts::is_line_of))]
-fn is_line_of(lines: &[usize], pc: u16, number: usize) -> bool
+fn is_line_of(lines: &[u32], pc: u16, number: usize) -> bool
     ensures { result ≡ is_line_of lines.now pc number }
 {
     match lines.get(usize::from(pc)) {
-        Some(line) => *line == number,
+        Some(line) => *line as usize == number,
         None => false,
     }
 }
@@ -109,7 +109,7 @@ fn put_line(
 
 /// The next instruction behind a line.
 #[tactic(auto, unfolding(crate::specs::Texts::next_pc))]
-fn next_pc(lines: &[usize], pc: u16, number: usize) -> u16
+fn next_pc(lines: &[u32], pc: u16, number: usize) -> u16
     ensures { result ≡ next_pc lines.now pc number }
 {
     if is_line_of(lines, pc, number) && pc < 4096 {
@@ -141,7 +141,7 @@ fn all_lines(alloc: Global, text: &[u8], explained: &Explained) -> Result<Vec<u8
 fn text_explanation_by<'a>(
     alloc: Global,
     text: &[u8],
-    lines: &'a [usize],
+    lines: &'a [u32],
     image: &'a Filled<'a>,
     told: &'a [Option<Rule>],
 ) -> Result<Vec<u8>, AllocError>
@@ -171,13 +171,13 @@ fn text_explanation_by<'a>(
 }
 
 /// The author's text, each line behind its number, and behind each instruction what is known there and a line for its
-/// refusal, as `explain` has them. `lines` has the number of each instruction's line, as `geos_source::lines_of_instrs` gives
+/// refusal, as `explain` has them. `lines` has the number of each instruction's line, as `geos_source::parse` gives
 /// them, and the image is one of the text. At most it takes time in proportion to the text, and to the square of the
 /// number of instructions.
 pub fn explain_text(
     alloc: Global,
     text: &[u8],
-    lines: &[usize],
+    lines: &[u32],
     image: &Image,
     refused: &[Option<Rule>],
 ) -> Result<Vec<u8>, AllocError>

@@ -13,5 +13,5 @@ mod told;
 mod words;
 
 pub use sentences::put_word;
-pub use told::{put_told, tell_faults};
+pub use told::{MOST_TOLD, put_more, put_told, tell_faults};
 pub use words::{Word, word_from};

@@ -155,10 +155,10 @@ pub fn put_told(out: &mut Vec<u8>, number: usize, saying: &[u8]) -> Result<(), A
 }
 
 /// How many faulty lines are told of.
-const MOST_TOLD: usize = 1000;
+pub const MOST_TOLD: usize = 1000;
 
-/// Appends how many more lines are faulty, if any is.
-fn put_more(out: &mut Vec<u8>, more: usize) -> Result<(), AllocError>
+/// Appends how many more lines are faulty, if any is. `AllocError` where the allocator refuses memory.
+pub fn put_more(out: &mut Vec<u8>, more: usize) -> Result<(), AllocError>
     ensures { OnOk result (out.new.items ≡ out.old.items ++ more_line more) }
 {
     if more == 0 {

@@ -1,6 +1,7 @@
 //! What is wrong with the command of a line of a script.
 
-ghost use Rattle.std.specs.Prelude.{◌≡◌, ◌<◌, ◌≤◌, ◌+◌, [], ◌∷◌, ℕ, List, slice_get, length, drop, not, true, false, IfNone, IfSome, IfOk, IfErr, Some};
+ghost use Rattle.std.specs.Prelude.{◌≡◌, ◌<◌, ◌≤◌, ◌+◌, [], ◌∷◌, ℕ, List, slice_get, length, drop, not};
+ghost use Rattle.std.specs.Prelude.{true, false, IfNone, IfSome, IfOk, IfErr, Some};
 ghost use Rattle.std.specs.List.{count_by};
 ghost use Rattle.geos_cli.specs.Script.{names_block, routine_named};
 ghost use Rattle.geos_image.specs.Parts.{Parts};

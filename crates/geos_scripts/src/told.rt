@@ -12,20 +12,20 @@ use crate::names::{NameUse, Names};
 use crate::sentences::put_fault;
 use geos_cli::{Line, MOST_BYTES, ScriptFault, bad_lines, bad_lines_with_names};
 use geos_image::Image;
-use geos_lines::put_told;
+use geos_lines::{MOST_TOLD, put_more, put_told};
 use geos_verify::{Checked, check};
 use std::alloc::{AllocError, Global};
 
 /// What there is to say of the bad lines of a script.
 #[derive(Drop)]
 pub struct BadLines {
-    /// A line on each of them, in their order.
+    /// A line on each of the first 1,000 of them, in their order, and how many more there are.
     pub told: Vec<u8>,
     /// The number of the first one, from 1.
     pub first: Option<usize>,
 }
 
-/// A sentence on each bad line.
+/// A sentence on each of some bad lines.
 fn sentences<'a>(
     alloc: Global,
     image: &Image,
@@ -81,7 +81,9 @@ fn told_of(
     let bad = bad_ones(alloc, checked, script, names)?;
     let kept = Names::new(alloc, script, names);
     let lines: &[Line] = &bad;
-    let told = sentences(alloc, checked.image(), lines, kept)?;
+    let few = lines.len().min(MOST_TOLD);
+    let mut told = sentences(alloc, checked.image(), &lines[..few], kept)?;
+    put_more(&mut told, lines.len() - few)?;
     let first = first_number(lines);
     Ok(BadLines { told, first })
 }
@@ -95,7 +97,8 @@ pub fn tell_bad_lines(
     script: &[u8],
     names: NameUse,
 ) -> Result<BadLines, ScriptFault>
-    ensures told { IfOk result (λ bad. (parts : Parts) × (image_at image.now ≡ Ok parts) × Accepted parts × TellsBad names parts script.now bad) }
+    ensures told { IfOk result (λ bad. (parts : Parts) × (image_at image.now ≡ Ok parts) × Accepted parts
+        × TellsBad names parts script.now bad) }
 {
     if script.len() > MOST_BYTES {
         return Err(ScriptFault::TooLong);

@@ -164,9 +164,9 @@ LOOP, its counter is set or touched within it, or the steps pass 4,294,967,295. 
 const BUDGETED: &str = "\
 Each number behind `budget`, or a `?` in its place, becomes the least one that is found, so that a caller
 pays for what its callees take now; all other bytes stay. Faults are those of `asm`, whose help has them.
-OUT is not TEXT. Where a CALL names a routine that does not stand before its own, as its own name, no budget is
-enough, and that is the fault. None is where a LOOP takes from a counter that its routine does not set: `geos
-check` says so of the image (V14). `geos explain` says why no steps are found; it wants numbers for `?`.
+OUT is not TEXT. Where a CALL names a routine that does not stand before its own, as its own name, or a LOOP
+takes from a counter that nothing sets on a way to it, no budget is enough, and that is the fault.
+`geos explain` says why no steps are found; it wants numbers for `?`.
 
 Example:
   geos budget draft.asm add.asm && geos call add.asm add 2 3";

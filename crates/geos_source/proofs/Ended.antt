@@ -91,7 +91,7 @@ ended d t h quiet inside =
     formed-from (bare_whole (record { routines = all_of t; instrs = t.code })) parts
 
 -- a code is there if there is no fault
-code_is : (t : Draft) (fault : Option BadLine) (code : Code) → unless_bad t fault ≡ Ok code → (fault ≡ None)
+pub code_is : (t : Draft) (fault : Option BadLine) (code : Code) → unless_bad t fault ≡ Ok code → (fault ≡ None)
     × (record { routines = t.routines; instrs = t.code } ≡ code)
 code_is t None code e = (refl, cc)
 code_is t (Some fault) code e = absurd cc

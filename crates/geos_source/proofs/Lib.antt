@@ -15,6 +15,7 @@ pub mod Told
 pub mod ToldParts
 pub mod ToldLines
 pub mod Ended
+pub mod Counted
 pub mod PartNames
 pub mod FirstLaws
 pub mod Noted

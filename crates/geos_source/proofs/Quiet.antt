@@ -47,7 +47,7 @@ pub unfollowed-none : (waiting : Option ℕ) → unfollowed waiting ≡ None →
 unfollowed-none None e = refl
 unfollowed-none (Some line) e = absurd cc
 
-unless_some : {A : Type 0} (test : Bool) (x : A) → cond test (Some x) None ≡ None → test ≡ false
+pub unless_some : {A : Type 0} (test : Bool) (x : A) → cond test (Some x) None ≡ None → test ≡ false
 unless_some true x e = absurd cc
 unless_some false x e = refl
 
@@ -121,7 +121,7 @@ take_labels-quiet : (n : ℕ) (some : Bool) (p : Progress) → (take_labels n so
 take_labels-quiet n false p e = e
 take_labels-quiet n true p e = e
 
-take_line-quiet : (names : Names) (n : ℕ) (line : List ℕ) (t : Draft) → (take_line names n line t).progress.fault ≡ None → t.progress.fault ≡ None
+pub take_line-quiet : (names : Names) (n : ℕ) (line : List ℕ) (t : Draft) → (take_line names n line t).progress.fault ≡ None → t.progress.fault ≡ None
 unfolding take_line
 take_line-quiet names n line t e =
     let parts = parted (said line) in

@@ -1,5 +1,5 @@
 -- Which lines of a text have an instruction.
-use Rattle.std.specs.Prelude.{ℕ, ◌+◌, Bool, false, ◌||◌, not, if◌then◌else◌, List, [], ◌∷◌, codes, bytes_eq}
+use Rattle.std.specs.Prelude.{ℕ, ◌+◌, Bool, true, false, ◌||◌, not, if◌then◌else◌, List, [], ◌∷◌, ◌++◌, codes, bytes_eq}
 use Rattle.std.specs.Str.Lines.{lines}
 use Rattle.geos_source.specs.Lines.{parted, said}
 
@@ -17,6 +17,11 @@ abbrev pub instr_lines_from : ℕ → List (List ℕ) → List ℕ
 instr_lines_from number [] = []
 instr_lines_from number (line ∷ rest) =
     if has_instr line then number ∷ instr_lines_from (number + 1) rest else instr_lines_from (number + 1) rest
+
+-- numbers of lines, with one more where that line has an instruction
+abbrev pub with_number_if : Bool → ℕ → List ℕ → List ℕ
+with_number_if true number numbers = numbers ++ number ∷ []
+with_number_if false number numbers = numbers
 
 -- the numbers of a text's lines that have an instruction, from 1
 abbrev pub instr_lines : List ℕ → List ℕ

@@ -90,7 +90,8 @@ impl Declarations {
         said: &'a [u8],
     ) -> Result<Option<(&'a [u8], &'a [u8])>, AllocError>
         ensures statement { IfOk result (IsStatement (parted (words said.now)).statement) }
-        ensures labels { IfOk result (λ _. declared_of self.new ≡ with_labels line (parted (words said.now)).labels (declared_of self.old)) }
+        ensures labels { IfOk result (λ _. declared_of self.new
+            ≡ with_labels line (parted (words said.now)).labels (declared_of self.old)) }
     {
         let mut rest = said;
         while let Some((word, behind)) = first_word(rest) {

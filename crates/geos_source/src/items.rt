@@ -2,7 +2,8 @@
 
 ghost use Rattle.std.specs.Prelude.{◌≡◌, ◌<◌, IfSome, codes};
 ghost use Rattle.geos_text.specs.Words.{words};
-ghost use Rattle.geos_source.specs.Items.{behind, bound_item, slot_state_of, pair_place, pair_of, pair_item, slot_item, pointer_item, item, row_of};
+ghost use Rattle.geos_source.specs.Items.{behind, bound_item, slot_state_of, pair_place, pair_of};
+ghost use Rattle.geos_source.specs.Items.{pair_item, slot_item, pointer_item, item, row_of};
 
 use crate::fault::{Why, least};
 use crate::operands::short;

@@ -5,7 +5,6 @@ mod declarations;
 mod draft;
 mod fault;
 mod headers;
-mod instr_lines;
 mod items;
 mod lines;
 mod names;
@@ -17,7 +16,6 @@ mod tally;
 
 pub use fault::{BadLine, Why};
 pub use geos_text::MOST_BYTES;
-pub use instr_lines::lines_of_instrs;
 pub use names::{Name, label_of, name_of};
 pub use parser::{ParseError, Parsed, parse};
 pub use progress::TextRoutine;

@@ -6,7 +6,8 @@ ghost use Rattle.geos_opcodes.specs.Fields.{is_written};
 ghost use Rattle.geos_text.specs.Words.{words};
 ghost use Rattle.geos_source.specs.declared.fault.Why.TheVariants.{WrongOperands};
 ghost use Rattle.geos_source.specs.Faults.{least};
-ghost use Rattle.geos_source.specs.Operands.{numbered, register_value, constant_value, register, constant, left_over, instruction, instr_of};
+ghost use Rattle.geos_source.specs.Operands.{numbered, register_value, constant_value, register, constant};
+ghost use Rattle.geos_source.specs.Operands.{left_over, instruction, instr_of};
 ghost use Rattle.geos_source.specs.Readings.{reading_of, names_of};
 
 use crate::fault::{Why, least};

@@ -1,8 +1,9 @@
 //! The parser.
 
-ghost use Rattle.std.specs.Prelude.{◌≡◌, true, Ok, IfOk, IfErr};
+ghost use Rattle.std.specs.Prelude.{◌≡◌, true, length, Ok, IfOk, IfErr};
 ghost use Rattle.geos_image.specs.Legal.{is_formed};
 ghost use Rattle.geos_source.specs.Faults.{first};
+ghost use Rattle.geos_source.specs.InstrLines.{instr_lines};
 ghost use Rattle.geos_source.specs.Texts.{too_long, without_routine, code_of};
 ghost use Rattle.geos_source.specs.declared.parser.ParseError.TheVariants.{Memory};
 ghost use Rattle.geos_source.specs.Parsing.{code_in, IsWhyNot};
@@ -23,6 +24,8 @@ pub struct Parsed {
     pub routines: Vec<TextRoutine>,
     /// The instructions of all routines, one after another.
     pub instrs: Vec<Instr>,
+    /// The number of each one's line, from 1.
+    pub lines: Vec<u32>,
 }
 
 /// Why a text is not parsed.
@@ -67,13 +70,15 @@ fn first_fault(text: &[u8], twice: Option<BadLine>, progress: Progress) -> Optio
 }
 
 /// The code of an assembly text: its routines, with their rows at entry and exit, and their
-/// instructions. `BadLine` exactly where the text has a fault, and names the first one: the
+/// instructions, each with its line. `BadLine` exactly where the text has a fault, and names the first one: the
 /// least line, and there the least number. `Memory` may come at any text.
 pub fn parse(alloc: Global, text: &[u8]) -> Result<Parsed, ParseError>
     ensures parsed { IfOk result (λ parsed. code_of text.now ≡ Ok (code_in parsed)) }
     // The code may stand in an image of version 2: names are fit for one and stand for what there is, each routine has
     // instructions, and there are no more than an image may have.
     ensures formed { IfOk result (λ parsed. is_formed true (bare_whole (code_in parsed)) ≡ true) }
+    ensures lines { IfOk result (λ parsed. parsed.lines.items ≡ instr_lines text.now) }
+    ensures each { IfOk result (λ parsed. length parsed.lines.items ≡ length parsed.instrs.items) }
     ensures bad { IfErr result (IsWhyNot text.now) }
 {
     let declarations = declare(alloc, text)?;
@@ -83,6 +88,7 @@ pub fn parse(alloc: Global, text: &[u8]) -> Result<Parsed, ParseError>
         None => Ok(Parsed {
             routines: draft.routines,
             instrs: draft.code,
+            lines: draft.lines,
         }),
     }
 }

@@ -188,7 +188,8 @@ impl Tally {
         word: &[u8],
         rest: &[u8],
     ) -> Result<(), AllocError>
-        ensures { IfOk result (λ _. told_in self.new ≡ take_statement (names_of names.now) line (word.now ∷ words rest.now) (told_in self.old)) }
+        ensures { IfOk result (λ _. told_in self.new
+            ≡ take_statement (names_of names.now) line (word.now ∷ words rest.now) (told_in self.old)) }
     {
         if word == b"routine".as_slice() {
             self.close()?;

@@ -9,10 +9,10 @@ use geos_text::put_numbered;
 use std::alloc::AllocError;
 
 /// Where an instruction stands: the number of its line in a text, where lines are given, or else its pc.
-fn place_of(lines: Option<&[usize]>, pc: u16) -> usize {
+fn place_of(lines: Option<&[u32]>, pc: u16) -> u32 {
     match lines {
         Some(lines) => lines.get(usize::from(pc)).copied().unwrap_or(0),
-        None => usize::from(pc),
+        None => u32::from(pc),
     }
 }
 
@@ -20,14 +20,14 @@ fn place_of(lines: Option<&[usize]>, pc: u16) -> usize {
 pub(crate) fn put_placed(
     out: &mut Vec<u8>,
     image: &Image,
-    lines: Option<&[usize]>,
+    lines: Option<&[u32]>,
     pc: u16,
 ) -> Result<(), AllocError>
     requires { pc < length image.now.points }
 {
     // for what it says of the image
     image.len();
-    put_numbered(out, "", place_of(lines, pc) as u64)?;
+    put_numbered(out, "", u64::from(place_of(lines, pc)))?;
     put_code(out, image, image.instr(pc))
 }
 
@@ -35,7 +35,7 @@ pub(crate) fn put_placed(
 pub fn put_counts(
     out: &mut Vec<u8>,
     image: &Image,
-    lines: Option<&[usize]>,
+    lines: Option<&[u32]>,
     trace: &Trace,
 ) -> Result<(), AllocError> {
     for pc in 0..image.len() {

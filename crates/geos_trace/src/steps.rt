@@ -26,7 +26,7 @@ fn put_done(out: &mut Vec<u8>, instr: &Instr, noted: &Noted) -> Result<(), Alloc
 fn put_step(
     out: &mut Vec<u8>,
     image: &Image,
-    lines: Option<&[usize]>,
+    lines: Option<&[u32]>,
     noted: &Noted,
 ) -> Result<(), AllocError> {
     if noted.pc >= image.len() {
@@ -47,7 +47,7 @@ fn put_step(
 pub fn put_steps(
     out: &mut Vec<u8>,
     image: &Image,
-    lines: Option<&[usize]>,
+    lines: Option<&[u32]>,
     steps: &[Noted],
 ) -> Result<(), AllocError> {
     for noted in steps {

@@ -1,7 +1,6 @@
-use Rattle.std.proofs.Common.{◌≤◌, ◌+◌, ◌∙◌, length, false, slice_get, sym, arith}
+use Rattle.std.proofs.Common.{◌≤◌, ◌+◌, ◌∙◌, length, slice_get, sym, arith}
 use Rattle.geos_image.specs.declared.routine.Routine.{Routine}
 use Rattle.geos_verify.proofs.Places.{if_some}
-use Rattle.geos_asm.specs.Calls.{calls_on}
 use Rattle.geos_asm.proofs.Calling.{calls-on-at, none-more, none-in}
 use Rattle.geos_asm.proofs.calls.calling_on.Goals as goal
 

@@ -1,7 +1,7 @@
 use Rattle.std.proofs.Common.{subst, sym}
 use Rattle.geos_infer.specs.Findings.{IsWhyNone}
 use Rattle.geos_asm.specs.Assembling.{IsAssembled, RunsIfAnyDoes}
-use Rattle.geos_asm.proofs.Assembled.{assembled, assembled_keyed, runs_if_any, no_rows, caused}
+use Rattle.geos_asm.proofs.Found.{assembled, assembled_keyed, runs_if_any, no_rows, caused}
 use Rattle.geos_asm.proofs.cause.assemble_or_tell.Goals as goal
 
 pub returns-in-Ok-clause-image : goal.returns-in-Ok-clause-image
@@ -36,4 +36,5 @@ returns-in_ok-cause-in-Err-Stopped-clause-why c =
           c.index-routine.ensures S.none S.stuck,
       caused text _ blank finding c.from.result _ _ c.in_ok-parsed.ensures.parsed c.in_ok-blank.ensures S c.from.ensures
           c.index-routine.ensures cause.holds cause.slots cause.tells,
+      c.in_ok-parsed.ensures.lines,
     )

@@ -7,4 +7,4 @@ use Rattle.geos_source.proofs.tally.Tally.begin.Goals as goal
 pub returns : goal.returns
 returns c =
     let faults = fault_in c.args.self.now.faults in
-    c.settle.ensures.told ∙ ap (told faults) c.begin.ensures ∙ sym (begin-told c.args.line c.args.read faults (draft_in c.args.self.now.draft))
+    c.settle.ensures.told ∙ ap (told faults) c.begin.ensures.said ∙ sym (begin-told c.args.line c.args.read faults (draft_in c.args.self.now.draft))

@@ -10,7 +10,7 @@ pub returns-clause-told : goal.returns-clause-told
 returns-clause-told c =
     let dropped = c.drop_labels.new.self in
     c.settle.ensures.told
-    ∙ ap (told (fault_in dropped.faults)) c.in_ok-close.ensures
+    ∙ ap (told (fault_in dropped.faults)) c.in_ok-close.ensures.said
     ∙ sym (close-told (fault_in dropped.faults) (draft_in dropped.draft))
     ∙ ap close c.drop_labels.ensures
     ∙ close-dropped (told_in c.args.self.now)

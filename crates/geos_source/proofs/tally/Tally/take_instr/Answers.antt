@@ -7,5 +7,5 @@ use Rattle.geos_source.proofs.tally.Tally.take_instr.Goals as goal
 pub returns : goal.returns
 returns c =
     let faults = fault_in c.args.self.now.faults in
-    c.settle.ensures.told ∙ ap (told faults) c.in_ok-take_instr.ensures
+    c.settle.ensures.told ∙ ap (told faults) c.in_ok-take_instr.ensures.said
     ∙ sym (take_instr-told c.args.line c.args.read faults (draft_in c.args.self.now.draft))

@@ -1,7 +1,7 @@
 use Rattle.std.proofs.Common.{subst}
 use Rattle.geos_infer.specs.Theorem.{NamesRoutine}
-use Rattle.geos_asm.proofs.Assembled.{assembled, no_rows}
-use Rattle.geos_asm.proofs.assembler.assemble_all_rows.Goals as goal
+use Rattle.geos_asm.proofs.Found.{assembled, no_rows}
+use Rattle.geos_asm.proofs.assembler.infer_with_lines.Goals as goal
 
 pub returns-in-Ok-clause-whole : goal.returns-in-Ok-clause-whole
 returns-in-Ok-clause-whole c = assembled c.args.text.now _ c.in_ok-blank.blank c.in-Ok.whole c.in_ok-parsed.ensures.parsed
