@@ -59,12 +59,7 @@ impl Looked {
     }
 
     /// The same as `Lengths::sweep_all` does.
-    pub(crate) fn sweep_all(
-        &mut self,
-        lengths: &mut Lengths,
-        order: &Order,
-        piece: &Piece,
-    ) -> bool
+    pub(crate) fn sweep_all(&mut self, lengths: &mut Lengths, order: &Order, piece: &Piece) -> bool
         ensures counts { RisesBy self.old.count (2 * (piece.now.end - piece.now.begin)) self.new.count }
         ensures links { lengths.new.links ≡ lengths.old.links }
         ensures below { StayAtMost lengths.old.links lengths.old.ways lengths.new.ways }

@@ -21,17 +21,17 @@ loop-pc-preserved c =
     let price = c.price_at-price in
     let inv = c.loop-pc.invariant in elim c.if-most-price.branch [
       | then-most-price w ↦ record {
-          inside = subst (λ (d : Option ℕ). IfSome d (λ at. at < end)) (sym w.dearest-is) c.loop-pc-test.true;
-          best = subst (λ (d : Option ℕ). Best arcs pay start (p + 1) d c.if-most-price.most) (sym w.dearest-is)
-              (subst (λ (m : ℕ). Best arcs pay start (p + 1) (Some p) m) (sym w.most-is)
-              (best-here arcs pay start p most price.result c.loop-pc.dearest w.if-most-price.true price.ensures.sets price.ensures.all inv.best));
-        }
+        inside = subst (λ (d : Option ℕ). IfSome d (λ at. at < end)) (sym w.dearest-is) c.loop-pc-test.true;
+        best = subst (λ (d : Option ℕ). Best arcs pay start (p + 1) d c.if-most-price.most) (sym w.dearest-is)
+            (subst (λ (m : ℕ). Best arcs pay start (p + 1) (Some p) m) (sym w.most-is)
+            (best-here arcs pay start p most price.result c.loop-pc.dearest w.if-most-price.true price.ensures.sets price.ensures.all inv.best));
+      }
       | else-most-price w ↦ record {
-          inside = subst (λ (d : Option ℕ). IfSome d (λ at. at < end)) (sym w.dearest-is) inv.inside;
-          best = subst (λ (d : Option ℕ). Best arcs pay start (p + 1) d c.if-most-price.most) (sym w.dearest-is)
-              (subst (λ (m : ℕ). Best arcs pay start (p + 1) c.loop-pc.dearest m) (sym w.most-is)
-              (best-still arcs pay start p most price.result c.loop-pc.dearest w.if-most-price.false price.ensures.all inv.best));
-        }
+        inside = subst (λ (d : Option ℕ). IfSome d (λ at. at < end)) (sym w.dearest-is) inv.inside;
+        best = subst (λ (d : Option ℕ). Best arcs pay start (p + 1) d c.if-most-price.most) (sym w.dearest-is)
+            (subst (λ (m : ℕ). Best arcs pay start (p + 1) c.loop-pc.dearest m) (sym w.most-is)
+            (best-still arcs pay start p most price.result c.loop-pc.dearest w.if-most-price.false price.ensures.all inv.best));
+      }
     ]
 
 pub returns-clause-dearest : goal.returns-clause-dearest

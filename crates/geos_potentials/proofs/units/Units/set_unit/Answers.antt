@@ -19,16 +19,16 @@ loop-x-preserved c =
     let jumps = c.args.splitting.now.jumps in
     let old = c.args.self.now in elim c.if-pays_in.branch [
       | then-pays_in w ↦ record {
-          rise = subst (λ (u : Units). RiseAtLoops arcs jumps old.pay u.pay old.waits u.waits) (sym w.self-is)
-              (rise-more arcs jumps old.pay c.loop-x.self.pay w.raise_at_loop.new.self.pay old.waits c.loop-x.self.waits w.raise_at_loop.new.self.waits
-              c.place-pc.result c.loop-x.invariant.rise w.raise_at_loop.ensures.wanted w.raise_at_loop.ensures.risen w.raise_at_loop.ensures.within
-              (ap pays (sym (c.at.ensures Plain)) ∙ pays-any c.args.paying.now.id c.at.result (sym c.pays_in.ensures ∙ w.if-pays_in.true)));
-          looked = ap (λ (u : Units). u.looked) w.self-is ∙ w.raise_at_loop.ensures.looked ∙ c.loop-x.invariant.looked;
-        }
+        rise = subst (λ (u : Units). RiseAtLoops arcs jumps old.pay u.pay old.waits u.waits) (sym w.self-is)
+            (rise-more arcs jumps old.pay c.loop-x.self.pay w.raise_at_loop.new.self.pay old.waits c.loop-x.self.waits w.raise_at_loop.new.self.waits
+            c.place-pc.result c.loop-x.invariant.rise w.raise_at_loop.ensures.wanted w.raise_at_loop.ensures.risen w.raise_at_loop.ensures.within
+            (ap pays (sym (c.at.ensures Plain)) ∙ pays-any c.args.paying.now.id c.at.result (sym c.pays_in.ensures ∙ w.if-pays_in.true)));
+        looked = ap (λ (u : Units). u.looked) w.self-is ∙ w.raise_at_loop.ensures.looked ∙ c.loop-x.invariant.looked;
+      }
       | else-pays_in w ↦ record {
-          rise = subst (λ (u : Units). RiseAtLoops arcs jumps old.pay u.pay old.waits u.waits) (sym w.self-is) c.loop-x.invariant.rise;
-          looked = ap (λ (u : Units). u.looked) w.self-is ∙ c.loop-x.invariant.looked;
-        }
+        rise = subst (λ (u : Units). RiseAtLoops arcs jumps old.pay u.pay old.waits u.waits) (sym w.self-is) c.loop-x.invariant.rise;
+        looked = ap (λ (u : Units). u.looked) w.self-is ∙ c.loop-x.invariant.looked;
+      }
     ]
 
 pub returns-clause-wanted : goal.returns-clause-wanted
