@@ -15,7 +15,7 @@ use Rattle.geos_potentials.specs.declared.pieces.Piece.{Piece}
 use Rattle.geos_potentials.specs.declared.place.Place.{Place}
 
 -- one place stands somewhere
-stands-one : (order : Order) (x pc other : ℕ) → StandsAt order x pc → StandsAt order x other → pc ≡ other
+pub stands-one : (order : Order) (x pc other : ℕ) → StandsAt order x pc → StandsAt order x other → pc ≡ other
 stands-one order x pc other here there = (let place : Place = record { pc = 0; inside = omega arith } in sym (here place) ∙ there place)
 
 -- prices of one place more

@@ -24,3 +24,5 @@ pub mod Setting
 pub mod Covering
 pub mod Spending
 pub mod Freeing
+pub mod Sweeping
+pub mod Dearer

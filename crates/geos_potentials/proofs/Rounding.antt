@@ -49,6 +49,17 @@ dearest-set : (pay : List (List ℕ)) (k to most : ℕ) (counting : Counting) �
     → dearest_price pay k to counting ≡ max (unit_at pay to k) 4294967295 * most
 dearest-set pay k to most counting is = rw (is, eq-eqb k k refl) refl
 
+price-set : (pay : List (List ℕ)) (k to most : ℕ) (counting : Counting) → counting ≡ Sets k most
+    → price_of pay to counting ≡ unit_at pay to k * most
+price-set pay k to most counting is = rw is refl
+
+-- by how much an edge that sets a counter costs more where a unit pays for so much
+dearer-by : (here unit most : ℕ) → max here unit * most ≡ here * most + (unit - here) * most
+dearer-by here unit most =
+    let is : max here unit ≡ here + (unit - here) = omega arith in
+    let product : max here unit * most ≡ (here + (unit - here)) * most = ap (λ (n : ℕ). n * most) is in
+    omega (arith, product)
+
 paid-by-set : (pay : List (List ℕ)) (k pc most : ℕ) (counting : Counting) → counting ≡ Sets k most → paid_by pay pc counting ≡ 0
 paid-by-set pay k pc most counting is = rw is refl
 
@@ -103,14 +114,14 @@ module _ (jumps : List Jump) (pay : List (List ℕ)) (nest k unit pc : ℕ) (bra
       let by_it = has.2 in record {
         takes = (let before = up.takes in let none = takes-none has.0 in omega (arith, before, none, takes));
         sets = (let before = up.sets in omega (arith, before, all_sets));
-        some = λ is. (let before = up.some (sym adds.4 ∙ is) in omega (arith, before));
         none = λ is. takes ∙ up.none (sym adds.5 ∙ is);
         least = λ is. (let before = up.least (λ e. is (adds.5 ∙ e)) in omega (arith, before, takes));
-        plain = λ none unset.
-            let before = up.plain (sym adds.5 ∙ none) (sym adds.4 ∙ unset) in
+        plain = λ none.
+            let before = up.plain (sym adds.5 ∙ none) in
             let old_costs = before.0 in
             let old_paid = before.1 in
-            (omega (arith, old_costs, costs, here), omega (arith, old_paid, paid, by_it));
+            let dearer = adds.4 in
+            (omega (arith, old_costs, costs, here, dearer), omega (arith, old_paid, paid, by_it));
         dear =
             (let before = up.dear in let less = price-dearest pay k arc.to arc.counting in
             let same = ap (λ (n : ℕ). (4294967295 - unit) * n) sets in omega (arith, before, less, same, costs, here));
@@ -128,7 +139,6 @@ module _ (jumps : List Jump) (pay : List (List ℕ)) (nest k unit pc : ℕ) (bra
       let by_it = has.2 in record {
         takes = (let before = up.takes in let one = takes-one has.0 in omega (arith, before, one, takes));
         sets = (let before = up.sets in omega (arith, before, all_sets));
-        some = λ is. (let before = up.some (sym adds.4 ∙ is) in omega (arith, before));
         none = λ is. absurd (adds.5 is);
         least = λ is. omega (arith, takes);
         plain = λ none. absurd (adds.5 none);
@@ -151,10 +161,19 @@ module _ (jumps : List Jump) (pay : List (List ℕ)) (nest k unit pc : ℕ) (bra
       let low = adds.6.0 in record {
         takes = (let before = up.takes in let none = takes-none has.0 in omega (arith, before, none, takes));
         sets = (let before = up.sets in omega (arith, before, all_sets, its));
-        some = λ is. omega (arith, its, some);
         none = λ is. takes ∙ up.none (sym adds.5 ∙ is);
         least = λ is. (let before = up.least (λ e. is (adds.5 ∙ e)) in omega (arith, before, takes));
-        plain = λ none unset. absurd (false≢true (sym unset ∙ adds.4));
+        plain = λ none.
+            let before = up.plain (sym adds.5 ∙ none) in
+            let old_costs = before.0 in
+            let old_paid = before.1 in
+            let dearer = adds.4 in
+            let same_dearer = ap (λ (n : ℕ). (unit - unit_at pay n k) * most) to in
+            let price = price-set pay k arc.to most arc.counting has.1 in
+            let apart = dearer-by (unit_at pay arc.to k) unit most in
+            let by_it = has.4 in
+            let none_paid = paid-by-set pay k pc most arc.counting has.1 in
+            (omega (arith, old_costs, costs, here, dearer, same_dearer, price, apart), omega (arith, old_paid, paid, by_it, none_paid));
         dear =
             (let before = up.dear in let sets_low = subst (λ (n : ℕ). SetsLow (unit_at pay n k) unit most low) to adds.6.1 in
             let less = dear-set (unit_at pay arc.to k) unit most low few sets_low in
@@ -216,36 +235,28 @@ costs-past arcs splitting pay id nest unit round R L = record {
 
 module _ (arcs : List (List (Option Arc))) (splitting : Splitting) (id unit : ℕ) (nest : Nest) (units : Units) (round : Round)
     (unpaid : (round.least ≡ None) ⊎ (round.all_takes ≤ round.all_sets)) (R : IsRound arcs splitting units.pay id nest unit round) where
-  sets-enough : 0 < total (set_of nest.counter) R.up.steps → SetsEnough arcs splitting id nest
-  sets-enough some = record {
+  pub lacks-takes : (least : ℕ) → round.least ≡ Some least → SetsEnough arcs splitting id nest
+  lacks-takes least is = record {
     from = R.from;
     steps = R.up.steps;
     round = R.up.lead;
-    some = some;
-    enough = (let is = R.up.adds.takes in let less = enough round.all_takes round.all_sets (total (set_of nest.counter) R.up.steps) round.least
-        R.up.adds.none R.up.adds.sets unpaid in omega (arith, is, less));
+    takes =
+        (let takes = R.up.adds.takes in let some = R.up.adds.least (λ none. none-some least (sym none ∙ is)) in
+        omega (arith, takes, some));
+    enough = (let same = R.up.adds.takes in let less = enough round.all_takes round.all_sets (total (set_of nest.counter) R.up.steps) round.least
+        R.up.adds.none R.up.adds.sets unpaid in omega (arith, same, less));
   }
 
-  pub lacks-set : round.is_set ≡ true → SetsEnough arcs splitting id nest
-  lacks-set is = sets-enough (R.up.adds.some is)
-
-  pub lacks-takes : (least : ℕ) → round.least ≡ Some least → SetsEnough arcs splitting id nest
-  lacks-takes least is = sets-enough (by_lack unpaid)
-    where
-      by_lack : (round.least ≡ None) ⊎ (round.all_takes ≤ round.all_sets) → 0 < total (set_of nest.counter) R.up.steps
-      by_lack (inl none) = absurd (none-some least (sym none ∙ is))
-      by_lack (inr most) = (let some = R.up.adds.least (λ none. none-some least (sym none ∙ is)) in let less = R.up.adds.sets in
-          omega (arith, most, some, less))
-
-  pub lacks-share : round.is_set ≡ false → round.least ≡ None → CostsMore arcs splitting units.pay id nest
-  lacks-share unset none = record {
+  pub lacks-share : (round.least ≡ None → round.paid + round.dearer < round.costs) → round.least ≡ None
+      → CostsMore arcs splitting units.pay id nest
+  lacks-share lacks none = record {
     from = R.from;
     steps = R.up.steps;
     round = R.up.lead;
     none = sym R.up.adds.takes ∙ R.up.adds.none none;
     more =
-        (let plain = R.up.adds.plain none unset in let costs = plain.0 in let paid = plain.1 in let lacks = R.lacks in
-        omega (arith, costs, paid, lacks));
+        (let plain = R.up.adds.plain none in let costs = plain.0 in let paid = plain.1 in let less = lacks none in
+        omega (arith, costs, paid, less));
   }
 
 -- what a nest lacks is so of a nest

@@ -11,7 +11,7 @@ use Rattle.geos_potentials.specs.declared.jumps.Jump.TheVariants.{Plain, Free, P
 use Rattle.geos_potentials.specs.Arcs.{arc_at, unit_at}
 use Rattle.geos_potentials.specs.Demands.{AreRaised, HaveGrown}
 use Rattle.geos_potentials.specs.Least.{is_free}
-use Rattle.geos_potentials.specs.Spent.{LoopsSpent, AreFree, StayFree, AreNotedSet}
+use Rattle.geos_potentials.specs.Spent.{LoopsSpent, AreLeftOut, AreFree, StayFree, AreNotedSet}
 use Rattle.geos_potentials.specs.Untouched.{untouched}
 use Rattle.geos_potentials.specs.Within.{HoldsAt}
 use Rattle.geos_potentials.proofs.Covering.{spent-parts}
@@ -62,9 +62,9 @@ spent-untouched arcs classes pc S = holds-at arcs (untouched classes.touched) pc
     (eq-eqb (unit_at classes.touched pc S.k) 0 (spent-parts classes pc S.k S.spent).0)
 
 -- at first none is
-pub none-free : (arcs : List (List (Option Arc))) (jumps : List Jump) (classes : Classes) (low : ℕ) → length jumps ≡ 4096
-    → ((pc : ℕ) (other : Jump) → low ≤ pc → pc < 4096 → slice_index_or jumps pc other ≡ Plain) → AreFree arcs jumps classes low low
-none-free arcs jumps classes low long filled = record {
+pub none-free : (are : ℕ → Type 0) (jumps : List Jump) (low : ℕ) → length jumps ≡ 4096
+    → ((pc : ℕ) (other : Jump) → low ≤ pc → pc < 4096 → slice_index_or jumps pc other ≡ Plain) → AreLeftOut are jumps low low
+none-free are jumps low long filled = record {
   only = λ pc above is. absurd (false≢true (sym (ap is_free (plain pc above)) ∙ is));
   all = λ pc above below S. absurd (omega (arith, above, below));
 }
@@ -75,12 +75,12 @@ none-free arcs jumps classes low long filled = record {
       | inr past ↦ get_or_past jumps pc Plain (omega (arith, past, long))
     ]
 
--- then one more is, whose counter is 0
-pub one-free : (arcs : List (List (Option Arc))) (old next : List Jump) (classes : Classes) (low p : ℕ) → p < length old
-    → next ≡ slice_set old p Free → LoopsSpent arcs classes p → AreFree arcs old classes low p → AreFree arcs next classes low (p + 1)
-one-free arcs old next classes low p room is spent before = record {
+-- then one more is, if it is one of these
+pub one-free : (are : ℕ → Type 0) (old next : List Jump) (low p : ℕ) → p < length old
+    → next ≡ slice_set old p Free → are p → AreLeftOut are old low p → AreLeftOut are next low (p + 1)
+one-free are old next low p room is spent before = record {
   only = λ pc above free. elim (cases_eq pc p) [
-    | inl same ↦ subst (LoopsSpent arcs classes) (sym same) spent
+    | inl same ↦ subst are (sym same) spent
     | inr ne ↦ before.only pc above (sym (ap is_free (other pc ne)) ∙ free)
   ];
   all = λ pc above below S. elim (cases_eq pc p) [
@@ -93,13 +93,13 @@ one-free arcs old next classes low p room is spent before = record {
     other : (pc : ℕ) → (pc ≡ p → ⊥) → slice_index_or next pc Plain ≡ slice_index_or old pc Plain
     other pc ne = ap (λ (xs : List Jump). slice_index_or xs pc Plain) is ∙ get_or-set_other old p pc Free Plain ne
 
--- and one is not whose counter is not
-pub not-free : (arcs : List (List (Option Arc))) (jumps : List Jump) (classes : Classes) (low p : ℕ) → (LoopsSpent arcs classes p → ⊥)
-    → AreFree arcs jumps classes low p → AreFree arcs jumps classes low (p + 1)
-not-free arcs jumps classes low p none before = record {
+-- and one is not if it is none
+pub not-free : (are : ℕ → Type 0) (jumps : List Jump) (low p : ℕ) → (are p → ⊥) → AreLeftOut are jumps low p
+    → AreLeftOut are jumps low (p + 1)
+not-free are jumps low p none before = record {
   only = before.only;
   all = λ pc above below S. elim (cases_eq pc p) [
-    | inl same ↦ absurd (none (subst (LoopsSpent arcs classes) same S))
+    | inl same ↦ absurd (none (subst are same S))
     | inr ne ↦ before.all pc above (omega (arith, below, ne)) S
   ];
 }

@@ -27,13 +27,13 @@ pub record OfSomeNest (nests : Nests) (is : ℕ → Nest → Type 0) : Type 0 wh
 abbrev pub SomeIsDue : Nests → Type 0
 SomeIsDue nests = OfSomeNest nests (λ id nest. nest.due ≡ true)
 
--- control goes round in a nest on a way on which its counter is set to as much, at least, as its LOOPs take; or on one that costs more than
+-- control goes round in a nest on a way on which its LOOPs take, and its counter is set to as much, at least; or on one that costs more than
 -- units pay for, and no LOOP of the nest takes there; or on one that costs more, even where a unit of the counter pays for as much as one
--- can; or at least 2 ^ 27 edges were looked at
+-- can; or at least 2 ^ 27 edges, places and nests were looked at
 abbrev pub IsLackIn : List (List (Option Arc)) → Splitting → ℕ → Nest → Units → Lack → Type 0
 IsLackIn arcs splitting id nest units (SetWithin piece) = (piece ≡ nest.piece) × SetsEnough arcs splitting id nest
 IsLackIn arcs splitting id nest units NoShare = CostsMore arcs splitting units.pay id nest
-IsLackIn arcs splitting id nest units Looks = 134217728 ≤ units.looks
+IsLackIn arcs splitting id nest units Looks = 134217728 ≤ units.looked.count
 IsLackIn arcs splitting id nest units (InTurn ring) = ⊥
 IsLackIn arcs splitting id nest units Passes = CostsPast arcs splitting units.pay id nest
 
@@ -62,7 +62,7 @@ pub record FreePasses (arcs : List (List (Option Arc))) (jumps : List Jump) (way
 abbrev pub IsLack : List (List (Option Arc)) → Splitting → Units → Lack → Type 0
 IsLack arcs splitting units (SetWithin piece) = OfSomeNest splitting.nests (λ id nest. (piece ≡ nest.piece) × SetsEnough arcs splitting id nest)
 IsLack arcs splitting units NoShare = OfSomeNest splitting.nests (CostsMore arcs splitting units.pay)
-IsLack arcs splitting units Looks = 134217728 ≤ units.looks
+IsLack arcs splitting units Looks = 134217728 ≤ units.looked.count
 IsLack arcs splitting units (InTurn ring) = SomeIsDue splitting.nests × IsRing arcs splitting ring
 IsLack arcs splitting units Passes = PricePasses arcs units.pay ⊎ (OfSomeNest splitting.nests (CostsPast arcs splitting units.pay)
     ⊎ FreePasses arcs splitting.jumps units.lengths.ways)

@@ -6,6 +6,7 @@ pub mod Constants
 pub mod Least
 pub mod Ranks
 pub mod Demands
+pub mod Dearest
 pub mod Spreads
 pub mod Stuck
 pub mod Halts
@@ -16,6 +17,7 @@ pub mod Steps
 pub mod Touching
 pub mod Rings
 pub mod Lacks
+pub mod Looks
 pub mod Rounds
 pub mod Waits
 pub mod Led

@@ -10,8 +10,16 @@ use Rattle.geos_potentials.specs.declared.jumps.Jump.{Jump}
 use Rattle.geos_potentials.specs.declared.jumps.Jump.TheVariants.{Plain}
 use Rattle.geos_potentials.specs.declared.nests.Nest.{Nest}
 use Rattle.geos_potentials.specs.declared.nests.Splitting.{Splitting}
+use Rattle.geos_potentials.specs.declared.nests.Wait.{Wait}
 use Rattle.geos_potentials.specs.declared.pieces.Order.{Order}
 use Rattle.geos_potentials.specs.declared.pieces.Piece.{Piece}
+
+-- a nest was last to be paid for again for another, as that was paid for in a round
+pub record IsDueBy (nest : Nest) (on round : ℕ) : Type 0 where
+  pub wait : Wait
+  pub due : nest.due_by ≡ Some wait
+  pub for_it : wait.on ≡ on
+  pub then : wait.round ≡ round
 
 -- the edge of a pc to the next instruction stays in a piece, and sets a counter to more than 0
 pub record SetsInPiece (arcs : List (List (Option Arc))) (order : Order) (piece : Piece) (k pc : ℕ) (arc : Arc) : Type 0 where

@@ -80,12 +80,12 @@ pub record CostsMore (arcs : List (List (Option Arc))) (splitting : Splitting) (
   pub none : total (taken_of splitting.jumps id) steps ≡ 0
   pub more : total (paid_of pay) steps < total (cost_of pay) steps
 
--- control goes round in a nest on a way on which its counter is set to as much, at least, as its LOOPs take there
+-- control goes round in a nest on a way on which its LOOPs take, and its counter is set to as much, at least
 pub record SetsEnough (arcs : List (List (Option Arc))) (splitting : Splitting) (id : ℕ) (nest : Nest) : Type 0 where
   pub from : ℕ
   pub steps : List Step
   pub round : AreSteps arcs splitting id nest.piece from steps from
-  pub some : 0 < total (set_of nest.counter) steps
+  pub takes : 0 < total (taken_of splitting.jumps id) steps
   pub enough : total (taken_of splitting.jumps id) steps ≤ total (set_of nest.counter) steps
 
 -- Where a unit of a counter pays for as much as one can
@@ -120,7 +120,7 @@ HasShare pay k unit pc arc pays link Nothing = (pays ≡ false) × (link.costs �
 HasShare pay k unit pc arc pays link PaysFor = (pays ≡ true) × (link.costs ≡ 1 + arc.called + price_of pay arc.to arc.counting)
     × (unit ≤ link.paid)
 HasShare pay k unit pc arc pays link (Costs most) = (pays ≡ false) × (arc.counting ≡ Sets k most) × (0 < most)
-    × (link.costs ≡ 1 + arc.called + max (unit_at pay arc.to k) unit * most)
+    × (link.costs ≡ 1 + arc.called + max (unit_at pay arc.to k) unit * most) × (link.paid ≡ paid_by pay pc arc.counting)
 
 -- a link is one of a pc's edges that stays in a nest, with its share
 pub record LinksIn (arcs : List (List (Option Arc))) (splitting : Splitting) (pay : List (List ℕ)) (id : ℕ) (nest : Nest) (unit pc : ℕ)
@@ -138,24 +138,22 @@ SetsLow here unit most low = (low ≡ 0) ⊎ ((low ≡ most) × (here ≤ unit))
 -- one more edge is added up, with its share
 abbrev pub Adds : List (List ℕ) → ℕ → ℕ → Round → Link → Round → Share → Type 0
 Adds pay k unit round link next Nothing = (next.costs ≡ round.costs + link.costs) × (next.paid ≡ round.paid + link.paid)
-    × (next.all_takes ≡ round.all_takes) × (next.all_sets ≡ round.all_sets) × (next.is_set ≡ round.is_set) × (next.least ≡ round.least)
+    × (next.all_takes ≡ round.all_takes) × (next.all_sets ≡ round.all_sets) × (next.dearer ≡ round.dearer) × (next.least ≡ round.least)
     × (next.sets ≡ round.sets)
 Adds pay k unit round link next PaysFor = (next.costs ≡ round.costs + link.costs) × (next.paid ≡ round.paid + link.paid)
-    × (next.all_takes ≡ round.all_takes + 1) × (next.all_sets ≡ round.all_sets) × (next.is_set ≡ round.is_set) × (next.least ≢ None)
+    × (next.all_takes ≡ round.all_takes + 1) × (next.all_sets ≡ round.all_sets) × (next.dearer ≡ round.dearer) × (next.least ≢ None)
     × (next.sets ≡ round.sets)
 Adds pay k unit round link next (Costs most) = (next.costs ≡ round.costs + link.costs) × (next.paid ≡ round.paid + link.paid)
-    × (next.all_takes ≡ round.all_takes) × (next.all_sets ≡ round.all_sets + most) × (next.is_set ≡ true) × (next.least ≡ round.least)
+    × (next.all_takes ≡ round.all_takes) × (next.all_sets ≡ round.all_sets + most) × (next.dearer ≡ round.dearer + (unit - unit_at pay link.to k) * most) × (next.least ≡ round.least)
     × ((low : ℕ) × SetsLow (unit_at pay link.to k) unit most low × (next.sets ≡ round.sets + low))
 
 -- steps are added up
 pub record AddsUp (jumps : List Jump) (pay : List (List ℕ)) (nest k unit : ℕ) (steps : List Step) (round : Round) : Type 0 where
   pub takes : round.all_takes ≡ total (taken_of jumps nest) steps
   pub sets : round.all_sets ≤ total (set_of k) steps
-  pub some : round.is_set ≡ true → 0 < total (set_of k) steps
   pub none : round.least ≡ None → round.all_takes ≡ 0
   pub least : round.least ≢ None → 0 < round.all_takes
-  pub plain : round.least ≡ None → round.is_set ≡ false
-      → (round.costs ≡ total (cost_of pay) steps) × (round.paid ≡ total (paid_of pay) steps)
+  pub plain : round.least ≡ None → (round.costs ≡ total (cost_of pay) steps + round.dearer) × (round.paid ≡ total (paid_of pay) steps)
   pub dear : round.costs + (4294967295 - unit) * round.sets ≤ total (dearest_of pay k) steps
   pub paid : total (most_paid_of jumps pay nest) steps ≤ round.paid + (4294967295 - unit) * round.all_takes
 

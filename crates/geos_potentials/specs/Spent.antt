@@ -23,10 +23,22 @@ pub record LoopsSpent (arcs : List (List (Option Arc))) (classes : Classes) (pc 
   pub takes : taken_from arc.counting ≡ Some k
   pub spent : spent_at classes pc k ≡ true
 
--- of the LOOPs at pcs from one on only such are left out, and all of those before another pc
-pub record AreFree (arcs : List (List (Option Arc))) (jumps : List Jump) (classes : Classes) (low end : ℕ) : Type 0 where
-  pub only : (pc : ℕ) → low ≤ pc → is_free (slice_index_or jumps pc Plain) ≡ true → LoopsSpent arcs classes pc
-  pub all : (pc : ℕ) → low ≤ pc → pc < end → LoopsSpent arcs classes pc → is_free (slice_index_or jumps pc Plain) ≡ true
+-- by what is noted the LOOP at a pc may pay
+pub record MayPayAt (arcs : List (List (Option Arc))) (classes : Classes) (pc : ℕ) : Type 0 where
+  pub k : ℕ
+  pub arc : Arc
+  pub read : arc_at arcs pc true ≡ Some arc
+  pub takes : taken_from arc.counting ≡ Some k
+  pub busy : noted_idle classes pc k ≡ false
+
+-- of the LOOPs at pcs from one on only some are left out, and all of these before another pc
+pub record AreLeftOut (are : ℕ → Type 0) (jumps : List Jump) (low end : ℕ) : Type 0 where
+  pub only : (pc : ℕ) → low ≤ pc → is_free (slice_index_or jumps pc Plain) ≡ true → are pc
+  pub all : (pc : ℕ) → low ≤ pc → pc < end → are pc → is_free (slice_index_or jumps pc Plain) ≡ true
+
+-- those whose counter is 0
+abbrev pub AreFree : List (List (Option Arc)) → List Jump → Classes → ℕ → ℕ → Type 0
+AreFree arcs jumps classes low end = AreLeftOut (LoopsSpent arcs classes) jumps low end
 
 -- the same LOOPs are left out next
 abbrev pub StayFree : List Jump → List Jump → Type 0

@@ -26,7 +26,7 @@ pub struct Arc {
 }
 
 impl Arc {
-    ghost use Rattle.std.specs.Prelude.{◌≡◌, ◌≤◌, ◌<◌, ◌+◌, IfSome};
+    ghost use Rattle.std.specs.Prelude.{◌≡◌, ◌≤◌, ◌<◌, ◌+◌, ℕ, IfSome, IfNone};
     ghost use Rattle.geos_potentials.specs.declared.arcs.Counting.TheVariants.{Sets};
     ghost use Rattle.geos_potentials.specs.Demands.{keeps, forgets, taken_from};
 
@@ -71,7 +71,8 @@ impl Arc {
 
     /// The counter that it sets to a number above 0, and that number at most.
     pub fn sets(&self) -> Option<(u8, u16)>
-        ensures { IfSome result (λ both. (self.now.counting ≡ Sets both.0 both.1) × (0 < both.1)) }
+        ensures some { IfSome result (λ both. (self.now.counting ≡ Sets both.0 both.1) × (0 < both.1)) }
+        ensures none { IfNone result ((k n : ℕ) → self.now.counting ≡ Sets k n → n ≡ 0) }
     {
         match self.counting {
             Counting::Sets(counter, most) if 0 < most => Some((counter, most)),

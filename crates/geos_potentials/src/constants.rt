@@ -20,9 +20,10 @@ use crate::asked::{Potentials, return_steps};
 use crate::graph::Graph;
 use crate::jumps::Jump;
 use crate::lengths::Link;
+use crate::looks::LOOKS;
 use crate::nests::Splitting;
 use crate::pieces::{Order, Piece};
-use crate::units::{LOOKS, Lack, Units};
+use crate::units::{Lack, Units};
 use geos_code::Body;
 use geos_image::Potential;
 
@@ -77,18 +78,19 @@ fn lengthen(order: &Order, all: &Piece, units: &mut Units) -> Result<(), Lack>
     ensures longer { AreLonger units.old.lengths.ways units.new.lengths.ways }
     ensures covered { IfOk result (λ _. AreCovered units.new.lengths.links units.new.lengths.ways all.now.begin all.now.end) }
     ensures pay { units.new.pay ≡ units.old.pay }
-    ensures looks { IfErr result (λ lack. (lack ≡ Looks) × (LOOKS ≤ units.new.looks)) }
+    ensures looks { IfErr result (λ lack. (lack ≡ Looks) × (LOOKS ≤ units.new.looked.count)) }
 {
     // A way that passes no place twice is found by as many sweeps as it has edges, and in the last one nothing is longer. That there is none
     // longer where nests are paid for is not proved: so the looks are the bound.
     for _ in 0..LOOKS {
-        if !units.look(2 * all.length()) {
+        if !units.may_look() {
             return Err(Lack::Looks);
         }
-        if !units.lengths.sweep_all(order, all) {
+        if !units.sweep_all(order, all) {
             return Ok(());
         }
     }
+    // Each sweep looks at an edge at least.
     Err(Lack::Looks)
 }
 
@@ -105,7 +107,7 @@ pub(crate) fn find_constants(
     ensures covered { IfOk result (λ _. AreCovered units.new.lengths.links units.new.lengths.ways body.now.start body.now.end) }
     ensures returns { CoverReturns body.now.image.now body.now.r units.new.lengths.ways }
     ensures pay { units.new.pay ≡ units.old.pay }
-    ensures looks { IfErr result (λ lack. (lack ≡ Looks) × (LOOKS ≤ units.new.looks)) }
+    ensures looks { IfErr result (λ lack. (lack ≡ Looks) × (LOOKS ≤ units.new.looked.count)) }
 {
     begin(body, graph, splitting, units);
     let all = Piece {

@@ -1,6 +1,7 @@
 //! Where a counter is set at the greatest price.
 
-ghost use Rattle.std.specs.Prelude.{◌<◌, IfSome};
+ghost use Rattle.std.specs.Prelude.{◌≡◌, ◌<◌, ℕ, IfSome};
+ghost use Rattle.geos_potentials.specs.Dearest.{SetsAt, IsDearest};
 
 use crate::search::Search;
 use geos_code::Body;
@@ -8,6 +9,8 @@ use geos_code::Body;
 /// What it costs that the instruction at a pc sets a counter; 0 where it sets none, or to 0.
 fn price_at(search: &Search, pc: u16) -> u64
     requires { pc < 4096 }
+    ensures sets { 0 < result → SetsAt search.now.graph.arcs search.now.units.pay pc result }
+    ensures all { (price : ℕ) → SetsAt search.now.graph.arcs search.now.units.pay pc price → result ≡ price }
 {
     match search.graph.arc(pc, false) {
         Some(arc) => match arc.sets() {
@@ -20,7 +23,8 @@ fn price_at(search: &Search, pc: u16) -> u64
 
 /// The place where a counter is set at the greatest price, if a unit of one costs something.
 pub fn find_dearest(body: &Body, search: &Search) -> Option<u16>
-    ensures { IfSome result (λ at. at < body.now.end) }
+    ensures inside { IfSome result (λ at. at < body.now.end) }
+    ensures dearest { IsDearest search.now.graph.arcs search.now.units.pay body.now.start body.now.end result }
 {
     let mut dearest = None;
     let mut most = 1;

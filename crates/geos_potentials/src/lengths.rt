@@ -57,8 +57,9 @@ pub(crate) struct Lengths {
 }
 
 impl Lengths {
-    ghost use Rattle.std.specs.Prelude.{◌≡◌, ◌<◌, ◌≤◌, ℕ, Bool, None, false, length, slice_set};
+    ghost use Rattle.std.specs.Prelude.{◌≡◌, ◌<◌, ◌≤◌, ℕ, Bool, None, true, false, length, slice_set};
     ghost use Rattle.geos_potentials.specs.Least.{steps_at, link_at, PaysLink, AtMost, StayAtMost, Covers, AreCovered, AreLonger};
+    ghost use Rattle.geos_potentials.specs.Looks.{SomeIsLonger, AreCoveredIn};
 
     pub(crate) fn new(alloc: Global) -> Result<Lengths, AllocError> {
         let (links, ways) = two_tables(alloc, [None, None], Way::NOTHING)?;
@@ -125,7 +126,10 @@ impl Lengths {
     }
 
     /// No edge is known that made ways so long as they are, among the places of a piece.
-    pub(crate) fn forget(&mut self, order: &Order, piece: &Piece) {
+    pub(crate) fn forget(&mut self, order: &Order, piece: &Piece)
+        ensures links { self.new.links ≡ self.old.links }
+        ensures same { (pc : ℕ) → steps_at self.new.ways pc ≡ steps_at self.old.ways pc }
+    {
         for x in piece.begin..piece.end {
             let pc = order.place(x);
             let steps = self.steps(pc);
@@ -172,6 +176,7 @@ impl Lengths {
         ensures links { self.new.links ≡ self.old.links }
         ensures below { StayAtMost self.old.links self.old.ways self.new.ways }
         ensures longer { AreLonger self.old.ways self.new.ways }
+        ensures grows { result ≡ true → steps_at self.old.ways pc < steps_at self.new.ways pc }
         ensures same { result ≡ false → self.new ≡ self.old }
         ensures covered { result ≡ false → (branch : Bool)
             → Covers self.old.ways (steps_at self.old.ways pc) (link_at self.old.links pc branch) }
@@ -183,6 +188,8 @@ impl Lengths {
         if by_along.max(by_branching) <= steps {
             return false;
         }
+        // For what its law says.
+        self.ways.lengths();
         let way = Way {
             steps: by_along.max(by_branching),
             first: Some(by_along < by_branching),
@@ -197,6 +204,10 @@ impl Lengths {
         ensures links { self.new.links ≡ self.old.links }
         ensures below { StayAtMost self.old.links self.old.ways self.new.ways }
         ensures longer { AreLonger self.old.ways self.new.ways }
+        ensures grows { result ≡ true → SomeIsLonger self.old.ways self.new.ways }
+        ensures some { result ≡ true → piece.now.begin < piece.now.end }
+        ensures same { result ≡ false → self.new ≡ self.old }
+        ensures covered { result ≡ false → AreCoveredIn order.now piece.now self.new.links self.new.ways }
     {
         let mut longer = false;
         for x in piece.begin..piece.end {
@@ -211,6 +222,8 @@ impl Lengths {
         ensures links { self.new.links ≡ self.old.links }
         ensures below { StayAtMost self.old.links self.old.ways self.new.ways }
         ensures longer { AreLonger self.old.ways self.new.ways }
+        ensures grows { result ≡ true → SomeIsLonger self.old.ways self.new.ways }
+        ensures some { result ≡ true → begin < end }
         ensures covered { result ≡ false → AreCovered self.new.links self.new.ways begin end }
     {
         for pc in begin..end {
@@ -227,6 +240,8 @@ impl Lengths {
         ensures links { self.new.links ≡ self.old.links }
         ensures below { StayAtMost self.old.links self.old.ways self.new.ways }
         ensures longer { AreLonger self.old.ways self.new.ways }
+        ensures grows { result ≡ true → SomeIsLonger self.old.ways self.new.ways }
+        ensures some { result ≡ true → piece.now.begin < piece.now.end }
         ensures covered { result ≡ false → AreCovered self.new.links self.new.ways piece.now.begin piece.now.end }
     {
         if self.sweep(order, piece) {

@@ -20,6 +20,7 @@ mod inside;
 mod jumps;
 mod leads;
 mod lengths;
+mod looks;
 mod nests;
 mod paying;
 mod pieces;

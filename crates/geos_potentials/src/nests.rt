@@ -2,7 +2,7 @@
 
 ghost use Rattle.std.specs.Prelude.{◌≡◌, ◌<◌, ◌≤◌, ◌+◌, ℕ, None, true, IfSome, IfErr, slice_index_or, slice_set};
 ghost use Rattle.geos_potentials.specs.Pieces.{NoneMayPay};
-ghost use Rattle.geos_potentials.specs.Spent.{AreFree, LoopsSpent, StayFree};
+ghost use Rattle.geos_potentials.specs.Spent.{AreFree, AreLeftOut, LoopsSpent, MayPayAt, StayFree};
 ghost use Rattle.geos_potentials.specs.Stuck.{StayNoted, GoesRoundIdle};
 ghost use Rattle.geos_potentials.specs.Untouched.{AreUntouched, StayUntouched};
 ghost use Rattle.geos_potentials.specs.declared.nests.Nest.{Nest};
@@ -52,6 +52,9 @@ pub struct Nest {
 }
 
 impl Nest {
+    ghost use Rattle.std.specs.Prelude.{◌≡◌, true};
+    ghost use Rattle.geos_potentials.specs.Rings.{IsDueBy};
+
     const NOTHING: Nest = Nest {
         piece: Piece { begin: 0, end: 0 },
         counter: 0,
@@ -65,7 +68,10 @@ impl Nest {
     };
 
     /// Whether it was last to be paid for again for another nest, as that is paid for in a round.
-    pub(crate) fn is_due_by(&self, on: u16, round: u32) -> bool {
+    pub(crate) fn is_due_by(&self, on: u16, round: u32) -> bool
+        ensures only { result ≡ true → IsDueBy self.now on round }
+        ensures all { IsDueBy self.now on round → result ≡ true }
+    {
         match self.due_by {
             Some(wait) => wait.on == on && wait.round == round,
             None => false,
@@ -217,6 +223,8 @@ fn loops_spent(graph: &Graph, classes: &Classes, pc: u16) -> bool
 /// Whether the LOOP at a pc may pay, by what is noted.
 fn may_pay(graph: &Graph, classes: &Classes, pc: u16) -> bool
     requires { pc < 4096 }
+    ensures only { result ≡ true → MayPayAt graph.now.arcs classes.now pc }
+    ensures all { MayPayAt graph.now.arcs classes.now pc → result ≡ true }
 {
     let Some(arc) = graph.arc(pc, true) else {
         return false;
@@ -386,8 +394,12 @@ impl Splitting {
     }
 
     /// LOOPs that may pay are left out.
-    fn leave_out_paying(&mut self, body: &Body, graph: &Graph, classes: &Classes) {
+    fn leave_out_paying(&mut self, body: &Body, graph: &Graph, classes: &Classes)
+        ensures { AreLeftOut (MayPayAt graph.now.arcs classes.now) self.new.jumps body.now.start body.now.end }
+    {
         self.jumps.fill_from(body.start, Jump::Plain);
+        // For what its law says.
+        self.jumps.lengths();
         for pc in body.start..body.end {
             if may_pay(graph, classes, pc) {
                 self.jumps.set(pc, Jump::Free);

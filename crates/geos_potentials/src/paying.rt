@@ -1,6 +1,6 @@
 //! A nest that is paid for: the least unit with which no way round in it lacks something.
 
-ghost use Rattle.std.specs.Prelude.{◌≡◌, ◌≢◌, ◌<◌, ◌≤◌, ◌-◌, ◌⊎◌, List, Option, None, IfSome, IfErr, slice_index_or};
+ghost use Rattle.std.specs.Prelude.{◌≡◌, ◌≢◌, ◌<◌, ◌≤◌, ◌+◌, ◌-◌, ◌⊎◌, List, Option, None, IfSome, IfErr, slice_index_or};
 ghost use Rattle.geos_potentials.specs.Lacks.{IsLackIn, IsLack};
 ghost use Rattle.geos_potentials.specs.Rounds.{HasShare, LinksIn, SetsLow, Adds, IsRound, LacksPast};
 ghost use Rattle.geos_potentials.specs.declared.arcs.Arc.{Arc};
@@ -13,9 +13,10 @@ use crate::arcs::Arc;
 use crate::graph::Graph;
 use crate::inside::arc_in;
 use crate::lengths::{Link, Share};
+use crate::looks::LOOKS;
 use crate::nests::{Nest, Splitting};
 use crate::spread::number_of;
-use crate::units::{LOOKS, Lack, Units};
+use crate::units::{Lack, Units};
 use geos_image::MOST_INSTRS;
 
 /// How often the unit of a nest is raised to just what a way round lacks, before it is doubled each time.
@@ -40,12 +41,12 @@ struct Round {
     least: Option<u32>,
     /// The least of those that are more than the nest's; the most there can be, where none is.
     above: u32,
-    /// Whether the counter is set on it for them.
-    is_set: bool,
+    /// By how much it costs more than with the units as they are.
+    dearer: u64,
 }
 
 impl Round {
-    ghost use Rattle.std.specs.Prelude.{◌≡◌, ◌≢◌, ◌+◌, ℕ, true, None, IfSome};
+    ghost use Rattle.std.specs.Prelude.{◌≡◌, ◌≢◌, ◌<◌, ◌+◌, ◌-◌, ◌*◌, ℕ, false, None, IfSome};
     ghost use Rattle.geos_potentials.specs.Rounds.{SetsLow};
 
     const NOTHING: Round = Round {
@@ -57,13 +58,13 @@ impl Round {
         all_sets: 0,
         least: None,
         above: u32::MAX,
-        is_set: false,
+        dearer: 0,
     };
 
     /// The same with what one more edge costs; none where that is past 64 bits.
     fn with_cost(&self, link: &Link) -> Option<Round>
         ensures { IfSome result (λ next. (next.costs ≡ self.now.costs + link.now.costs) × (next.paid ≡ self.now.paid + link.now.paid)
-            × (next.all_takes ≡ self.now.all_takes) × (next.all_sets ≡ self.now.all_sets) × (next.is_set ≡ self.now.is_set)
+            × (next.all_takes ≡ self.now.all_takes) × (next.all_sets ≡ self.now.all_sets) × (next.dearer ≡ self.now.dearer)
             × (next.least ≡ self.now.least) × (next.sets ≡ self.now.sets)) }
     {
         let costs = self.costs.checked_add(link.costs)?;
@@ -78,7 +79,7 @@ impl Round {
     /// The same with one more LOOP, where a unit at it is so much, and is so much in the nest.
     fn with_take(&self, here: u32, unit: u32) -> Option<Round>
         ensures { IfSome result (λ next. (next.costs ≡ self.now.costs) × (next.paid ≡ self.now.paid)
-            × (next.all_takes ≡ self.now.all_takes + 1) × (next.all_sets ≡ self.now.all_sets) × (next.is_set ≡ self.now.is_set)
+            × (next.all_takes ≡ self.now.all_takes + 1) × (next.all_sets ≡ self.now.all_sets) × (next.dearer ≡ self.now.dearer)
             × (next.least ≢ None) × (next.sets ≡ self.now.sets)) }
     {
         let all_takes = self.all_takes.checked_add(1)?;
@@ -103,23 +104,33 @@ impl Round {
     /// The same where the counter is once more set to so much, where a unit is so much, and is so much in the nest.
     fn with_set(&self, most: u16, here: u32, unit: u32) -> Option<Round>
         ensures { IfSome result (λ next. (next.costs ≡ self.now.costs) × (next.paid ≡ self.now.paid)
-            × (next.all_takes ≡ self.now.all_takes) × (next.all_sets ≡ self.now.all_sets + most) × (next.is_set ≡ true)
+            × (next.all_takes ≡ self.now.all_takes) × (next.all_sets ≡ self.now.all_sets + most) × (next.dearer ≡ self.now.dearer + (unit - here) * most)
             × (next.least ≡ self.now.least) × ((low : ℕ) × SetsLow here unit most low × (next.sets ≡ self.now.sets + low))) }
     {
         let all_sets = self.all_sets.checked_add(u64::from(most))?;
         let low = low_set(most, here, unit);
         let sets = self.sets.checked_add(low)?;
+        let more = u64::from(unit.saturating_sub(here)) * u64::from(most);
+        let dearer = self.dearer.checked_add(more)?;
         Some(Round {
             all_sets,
             sets,
-            is_set: true,
+            dearer,
             ..*self
         })
     }
 
-    /// Whether it is one of a nest in the nest, which is dearer since the unit was raised.
-    fn is_within(&self) -> bool {
-        self.is_set && self.least.is_none()
+    /// Whether it is one of a nest in the nest, which is dearer since the unit was raised so often, or is paid for but for that.
+    fn is_within(&self, raises: u32) -> bool
+        ensures { result ≡ false → self.now.least ≡ None → self.now.paid + self.now.dearer < self.now.costs }
+    {
+        match self.least {
+            Some(_) => false,
+            None => {
+                0 < raises && 0 < self.all_sets
+                    || self.costs <= self.paid.saturating_add(self.dearer)
+            }
+        }
     }
 }
 
@@ -276,7 +287,7 @@ impl Paying {
     /// Notes what each edge costs, and forgets which edges made ways long.
     fn weigh(&self, graph: &Graph, splitting: &Splitting, units: &mut Units)
         ensures pay { units.new.pay ≡ units.old.pay }
-        ensures looks { units.new.looks ≡ units.old.looks }
+        ensures looked { units.new.looked.count ≡ units.old.looked.count }
     {
         let piece = &self.nest.piece;
         for x in piece.begin..piece.end {
@@ -333,14 +344,12 @@ impl Paying {
 
     /// Why a way round is not paid for, whatever the unit is.
     fn lack_of(&self, round: &Round) -> Lack
-        requires { (round.now.least ≡ None) ⊎ (round.now.all_takes ≤ round.now.all_sets) }
+        requires plain { round.now.least ≡ None → round.now.paid + round.now.dearer < round.now.costs }
+        requires unpaid { (round.now.least ≡ None) ⊎ (round.now.all_takes ≤ round.now.all_sets) }
         ensures { (arcs : List (List (Option Arc))) (splitting : Splitting) (units : Units)
             → IsRound arcs splitting units.pay self.now.id self.now.nest self.now.unit round.now
             → IsLackIn arcs splitting self.now.id self.now.nest units result }
     {
-        if round.is_set {
-            return Lack::SetWithin(self.nest.piece);
-        }
         match round.least {
             Some(_) => Lack::SetWithin(self.nest.piece),
             None => Lack::NoShare,
@@ -349,6 +358,7 @@ impl Paying {
 
     /// The unit, where a way round is paid for, too.
     fn raised(&self, round: &Round, raises: u32) -> Result<u32, Lack>
+        requires { round.now.least ≡ None → round.now.paid + round.now.dearer < round.now.costs }
         ensures { (arcs : List (List (Option Arc))) (splitting : Splitting) (units : Units)
             → IsRound arcs splitting units.pay self.now.id self.now.nest self.now.unit round.now
             → IfErr result (IsLackIn arcs splitting self.now.id self.now.nest units) }
@@ -365,7 +375,7 @@ impl Paying {
     /// A way round that lacks something, if one is found.
     fn find_round(&self, graph: &Graph, splitting: &Splitting, units: &mut Units) -> Option<Round>
         ensures pay { units.new.pay ≡ units.old.pay }
-        ensures looks { units.new.looks ≡ units.old.looks }
+        ensures looked { units.new.looked.count ≡ units.old.looked.count }
         ensures round { IfSome result (IsRound graph.now.arcs splitting.now units.new.pay self.now.id self.now.nest self.now.unit) }
     {
         let at = units
@@ -382,6 +392,7 @@ impl Paying {
         units: &mut Units,
     ) -> Result<(), Lack>
         ensures pay { units.new.pay ≡ units.old.pay }
+        ensures looked { units.old.looked.count ≤ units.new.looked.count }
         ensures lack { ((other : Nest) → slice_index_or splitting.now.nests.list self.old.id other ≡ self.old.nest)
             → self.old.id < splitting.now.nests.count → IfErr result (IsLack graph.now.arcs splitting.now units.new) }
     {
@@ -389,17 +400,17 @@ impl Paying {
         let mut raises = 0;
         self.weigh(graph, splitting, units);
         for sweep in 0..LOOKS {
-            if !units.look(2 * piece.length()) {
+            if !units.may_look() {
                 return Err(Lack::Looks);
             }
-            if !units.lengths.sweep(&splitting.order, &piece) {
+            if !units.sweep(&splitting.order, &piece) {
                 return Ok(());
             }
             if EACH < sweep && sweep % EACH != 0 {
                 continue;
             }
             if let Some(round) = self.find_round(graph, splitting, units) {
-                if 0 < raises && round.is_within() {
+                if round.is_within(raises) {
                     return Ok(());
                 }
                 match self.raised(&round, raises) {

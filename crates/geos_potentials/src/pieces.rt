@@ -1,6 +1,6 @@
 //! The places of a routine in the order in which they are gone over, and pieces of that order.
 
-ghost use Rattle.std.specs.Prelude.{◌≤◌};
+ghost use Rattle.std.specs.Prelude.{◌≡◌, ◌-◌, ◌≤◌};
 
 use crate::place::Place;
 use geos_code::{Body, Table, two_tables};
@@ -17,7 +17,8 @@ pub struct Piece {
 impl Piece {
     /// How many places there are.
     pub(crate) fn length(&self) -> u32
-        ensures { result ≤ 4096 }
+        ensures value { result ≡ self.now.end - self.now.begin }
+        ensures few { result ≤ 4096 }
     {
         u32::from(self.end.saturating_sub(self.begin))
     }

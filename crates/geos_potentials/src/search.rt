@@ -50,7 +50,9 @@ pub struct Search {
 
 impl Search {
     /// Nothing is noted yet.
-    pub fn new(alloc: Global) -> Result<Search, AllocError> {
+    pub fn new(alloc: Global) -> Result<Search, AllocError>
+        ensures { IfOk result (λ search. search.units.looked.count ≡ 0) }
+    {
         let graph = Graph::new(alloc)?;
         let classes = Classes::new(alloc)?;
         let units = Units::new(alloc)?;

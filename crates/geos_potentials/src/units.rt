@@ -1,12 +1,13 @@
 //! What a unit of each counter pays for, nest by nest: as much as ways round lack that go through its LOOPs.
 
-ghost use Rattle.std.specs.Prelude.{◌≡◌, ◌≢◌, ◌<◌, ◌≤◌, ◌+◌, ℕ, max, true, false, [], Some, IfErr};
+ghost use Rattle.std.specs.Prelude.{◌≡◌, ◌≢◌, ◌<◌, ◌≤◌, ◌+◌, ◌-◌, ◌*◌, ℕ, min, true, false, [], Some, IfOk, IfErr};
 ghost use Rattle.geos_potentials.specs.Arcs.{IsLink, arc_at, unit_at, price_of, paid_by};
 ghost use Rattle.geos_potentials.specs.Carried.{AreCarried, AreHeld, Carries, NoneHeld, StayCarried};
 ghost use Rattle.geos_potentials.specs.Demands.{AreWanted, HaveGrown, StayWanted, taken_from};
 ghost use Rattle.geos_potentials.specs.Lacks.{IsLack, PricePasses};
-ghost use Rattle.geos_potentials.specs.Least.{StayAtLoops};
+ghost use Rattle.geos_potentials.specs.Least.{StayAtLoops, StayAtMost, AreLonger, AreCovered};
 ghost use Rattle.geos_potentials.specs.Led.{AreLed};
+ghost use Rattle.geos_potentials.specs.Looks.{RisesBy, SomeIsLonger, AreCoveredIn};
 ghost use Rattle.geos_potentials.specs.Waits.{HaveRisen};
 ghost use Rattle.geos_potentials.specs.Within.{StayWithin, StayWithinAt, StayWithinLoops, pays};
 ghost use Rattle.geos_potentials.specs.declared.arcs.Arc.{Arc};
@@ -15,9 +16,10 @@ use crate::arcs::{Arc, Counting};
 use crate::graph::Graph;
 use crate::jumps::Jumps;
 use crate::lengths::{Lengths, Link, Share};
+use crate::looks::{LOOKS, Looked};
 use crate::nests::{Splitting, Wait};
 use crate::paying::Paying;
-use crate::pieces::Piece;
+use crate::pieces::{Order, Piece};
 use crate::pile::Pile;
 use crate::ring::find_ring;
 use crate::spread::{Spread, go_back, go_back_free, go_back_from, number_of, only, raise};
@@ -27,9 +29,6 @@ use std::alloc::{AllocError, Global};
 
 /// After so many rounds over the nests it is first looked for some that wait on each other in a ring, and then each time after twice as many.
 const ROUNDS: u32 = 64;
-
-/// How many edges are looked at in all: some 2 s. Of the texts that were made to hurt none took a third of that.
-pub(crate) const LOOKS: u32 = 1 << 27;
 
 /// Why no units are found.
 #[derive(Clone, Copy)]
@@ -55,11 +54,13 @@ pub struct Units {
     /// 1 of a nest's counter where it is kept up to a LOOP that pays in the nest.
     pub(crate) before: Spread,
     waits: Pile,
-    looks: u32,
+    looked: Looked,
 }
 
 impl Units {
-    pub(crate) fn new(alloc: Global) -> Result<Units, AllocError> {
+    pub(crate) fn new(alloc: Global) -> Result<Units, AllocError>
+        ensures { IfOk result (λ units. units.looked.count ≡ 0) }
+    {
         let (pay, before) = two_tables(alloc, [0; 4], [0; 4])?;
         let lengths = Lengths::new(alloc)?;
         let waits = Pile::new(alloc)?;
@@ -68,32 +69,42 @@ impl Units {
             lengths,
             before,
             waits,
-            looks: 0,
+            looked: Looked::new(),
         })
     }
 
-    /// Whether so many more edges may be looked at, and one at least.
-    pub(crate) fn look(&mut self, edges: u32) -> bool
-        ensures lengths { self.new.lengths ≡ self.old.lengths }
-        ensures pay { self.new.pay ≡ self.old.pay }
-        ensures more { result ≡ true → self.old.looks < self.new.looks }
-        ensures few { result ≡ true → self.new.looks ≤ LOOKS }
-        ensures past { result ≡ false → LOOKS < self.new.looks }
-        ensures most { self.new.looks ≤ self.old.looks + max edges 1 }
+    /// Whether more may be looked at.
+    pub(crate) fn may_look(&self) -> bool
+        ensures few { result ≡ true → self.now.looked.count < LOOKS }
+        ensures many { result ≡ false → LOOKS ≤ self.now.looked.count }
     {
-        self.looks = self.looks.saturating_add(edges.max(1));
-        self.looks <= LOOKS
+        self.looked.are_few()
     }
 
-    /// Whether one more round over so many nests may be begun: as many edges were looked at as rounds were begun, at least.
-    fn begins(&mut self, round: u32, nests: u16) -> bool
+    /// Looks at the edges from the places of a piece, for longer ways.
+    pub(crate) fn sweep(&mut self, order: &Order, piece: &Piece) -> bool
         ensures pay { self.new.pay ≡ self.old.pay }
-        ensures few { result ≡ true → round ≤ LOOKS }
-        ensures past { result ≡ false → LOOKS < self.new.looks }
-        ensures most { self.new.looks ≤ max self.old.looks round + max nests 1 }
+        ensures counts { RisesBy self.old.looked.count (2 * (piece.now.end - piece.now.begin)) self.new.looked.count }
+        ensures grows { result ≡ true → SomeIsLonger self.old.lengths.ways self.new.lengths.ways }
+        ensures some { result ≡ true → piece.now.begin < piece.now.end }
+        ensures same { result ≡ false → self.new.lengths ≡ self.old.lengths }
+        ensures covered { result ≡ false → AreCoveredIn order.now piece.now self.new.lengths.links self.new.lengths.ways }
     {
-        self.looks = self.looks.max(round);
-        self.look(u32::from(nests))
+        self.looked.sweep(&mut self.lengths, order, piece)
+    }
+
+    /// The same, and if none is longer, at those from each pc of the piece.
+    pub(crate) fn sweep_all(&mut self, order: &Order, piece: &Piece) -> bool
+        ensures pay { self.new.pay ≡ self.old.pay }
+        ensures counts { RisesBy self.old.looked.count (2 * (piece.now.end - piece.now.begin)) self.new.looked.count }
+        ensures links { self.new.lengths.links ≡ self.old.lengths.links }
+        ensures below { StayAtMost self.old.lengths.links self.old.lengths.ways self.new.lengths.ways }
+        ensures longer { AreLonger self.old.lengths.ways self.new.lengths.ways }
+        ensures some { result ≡ true → piece.now.begin < piece.now.end }
+        ensures covered { result ≡ false
+            → AreCovered self.new.lengths.links self.new.lengths.ways piece.now.begin piece.now.end }
+    {
+        self.looked.sweep_all(&mut self.lengths, order, piece)
     }
 
     /// The unit of a counter at a place.
@@ -115,6 +126,7 @@ impl Units {
         ensures raised { (arc : Arc) (k : ℕ) → arc_at graph.now.arcs pc true ≡ Some arc → taken_from arc.counting ≡ Some k → k < 4
             → unit ≤ unit_at self.new.pay pc k }
         ensures within { StayWithinAt graph.now.arcs pc self.old.pay self.new.pay }
+        ensures looked { self.new.looked ≡ self.old.looked }
     {
         let Some(arc) = graph.arc(pc, true) else {
             return;
@@ -181,11 +193,9 @@ impl Units {
     /// Notes from where the counter of a nest is kept up to its LOOPs.
     fn note_before(&mut self, graph: &Graph, splitting: &Splitting, paying: &Paying)
         ensures pay { self.new.pay ≡ self.old.pay }
-        ensures looks { self.new.looks ≤ self.old.looks + 4096 }
+        ensures counts { RisesBy self.old.looked.count 4096 self.new.looked.count }
     {
-        // It may go back over all edges.
-        self.looks = self.looks.saturating_add(u32::from(MOST_INSTRS));
-        self.before.fill_from(0, [0; 4]);
+        self.looked.clear(&mut self.before);
         let piece = &paying.nest.piece;
         for x in piece.begin..piece.end {
             let pc = splitting.order.place(x);
@@ -285,13 +295,13 @@ impl Units {
         ensures wanted { StayWanted graph.now.arcs self.old.pay self.new.pay }
         ensures carried { Carries graph.now NoneHeld self.old.pay self.new.pay self.old.waits }
         ensures within { StayWithin graph.now.arcs self.old.pay self.new.pay }
+        ensures looked { self.old.looked.count ≤ self.new.looked.count }
         ensures lack { IfErr result (IsLack graph.now.arcs splitting.new self.new) }
         ensures jumps { splitting.new.jumps ≡ splitting.old.jumps }
         ensures count { splitting.new.nests.count ≡ splitting.old.nests.count }
     {
         let mut fits = true;
-        while let Some(pc) = self.waits.take() {
-            self.looks = self.looks.saturating_add(1);
+        while let Some(pc) = self.looked.take(&mut self.waits) {
             fits &= self.note_dearer(graph, splitting, paying, round, pc);
             go_back_from(graph, &mut self.pay, &mut self.waits, pc);
         }
@@ -309,6 +319,7 @@ impl Units {
         ensures wanted { StayWanted graph.now.arcs self.old.pay self.new.pay }
         ensures carried { StayCarried graph.now self.old.pay self.new.pay }
         ensures within { StayWithinLoops graph.now.arcs splitting.old.jumps pays self.old.pay self.new.pay }
+        ensures looked { self.old.looked.count ≤ self.new.looked.count }
         ensures lack { IfErr result (IsLack graph.now.arcs splitting.new self.new) }
         ensures jumps { splitting.new.jumps ≡ splitting.old.jumps }
         ensures count { splitting.new.nests.count ≡ splitting.old.nests.count }
@@ -336,6 +347,7 @@ impl Units {
         ensures wanted { StayWanted graph.now.arcs self.old.pay self.new.pay }
         ensures carried { StayCarried graph.now self.old.pay self.new.pay }
         ensures within { StayWithinLoops graph.now.arcs splitting.old.jumps pays self.old.pay self.new.pay }
+        ensures looked { self.old.looked.count ≤ self.new.looked.count }
         ensures lack { IfErr result (IsLack graph.now.arcs splitting.new self.new) }
         ensures jumps { splitting.new.jumps ≡ splitting.old.jumps }
         ensures count { splitting.new.nests.count ≡ splitting.old.nests.count }
@@ -364,12 +376,14 @@ impl Units {
         ensures wanted { StayWanted graph.now.arcs self.old.pay self.new.pay }
         ensures carried { StayCarried graph.now self.old.pay self.new.pay }
         ensures within { StayWithinLoops graph.now.arcs splitting.old.jumps pays self.old.pay self.new.pay }
+        ensures looked { self.old.looked.count ≤ self.new.looked.count }
+        ensures some { IfOk result (λ some. some ≡ true → min (self.old.looked.count + 1) 4294967295 ≤ self.new.looked.count) }
         ensures lack { IfErr result (IsLack graph.now.arcs splitting.new self.new) }
         ensures jumps { splitting.new.jumps ≡ splitting.old.jumps }
     {
         let mut some = false;
         for id in (0..splitting.nests.count().min(MOST_INSTRS)).rev() {
-            let nest = splitting.nests.at(id);
+            let nest = self.looked.nest(&splitting.nests, id);
             if nest.due {
                 some = true;
                 if nest.put_off != round {
@@ -395,14 +409,17 @@ impl Units {
         ensures lack { IfErr result (IsLack graph.now.arcs splitting.new self.new) }
         ensures jumps { splitting.new.jumps ≡ splitting.old.jumps }
     {
-        self.looks = 0;
+        self.looked = Looked::new();
         self.pay.fill_from(0, [0; 4]);
         // For what its law says.
         self.pay.lengths();
         self.lengths.clear(start);
         let mut round = 1;
         let mut look_at = ROUNDS;
-        while self.begins(round, splitting.nests.count()) {
+        for _ in 0..LOOKS {
+            if !self.may_look() {
+                return Err(Lack::Looks);
+            }
             if !self.pay_round(graph, splitting, round)? {
                 return Ok(());
             }
@@ -415,6 +432,7 @@ impl Units {
             }
             round += 1;
         }
+        // Each round looks at a nest at least.
         Err(Lack::Looks)
     }
 }

@@ -6,4 +6,4 @@ use Rattle.geos_potentials.proofs.constants.lengthen.Given as goal
 abbrev pub invariant-loop : goal.invariant-loop
 invariant-loop l = (l.units.lengths.links ≡ l.fn.units.lengths.links)
     × StayAtMost l.fn.units.lengths.links l.fn.units.lengths.ways l.units.lengths.ways × (l.units.pay ≡ l.fn.units.pay)
-    × (l.counter ≤ l.units.looks) × AreLonger l.fn.units.lengths.ways l.units.lengths.ways
+    × (l.counter ≤ l.units.looked.count) × AreLonger l.fn.units.lengths.ways l.units.lengths.ways

@@ -2,7 +2,7 @@ use Rattle.std.proofs.Common.{◌≡◌, ◌+◌, List, length, sym, ap, ◌∙�
 use Rattle.std.specs.Prelude.{slice_set}
 use Rattle.std.proofs.lemmas.Bool.{false≢true}
 use Rattle.std.proofs.lemmas.List.{length-set}
-use Rattle.geos_potentials.specs.Spent.{AreFree}
+use Rattle.geos_potentials.specs.Spent.{LoopsSpent, AreFree}
 use Rattle.geos_potentials.specs.Untouched.{AreUntouched}
 use Rattle.geos_potentials.specs.declared.jumps.Jump.{Jump}
 use Rattle.geos_potentials.specs.declared.jumps.Jump.TheVariants.{Free}
@@ -20,7 +20,7 @@ loop-pc-init c =
     let jumps = c.fill_from.new.self in record {
       room = c.lengths.ensures;
       untouched = none-found start arcs jumps classes.touched c.lengths.ensures c.fill_from.ensures.same;
-      free = none-free arcs jumps classes start c.lengths.ensures c.fill_from.ensures.same;
+      free = none-free (LoopsSpent arcs classes) jumps start c.lengths.ensures c.fill_from.ensures.same;
     }
 
 pub loop-pc-preserved : goal.loop-pc-preserved
@@ -37,7 +37,7 @@ loop-pc-preserved c =
           let is : next ≡ slice_set old p Free = ap (λ (s : Splitting). s.jumps) w.self-is ∙ w.set.ensures in record {
             room = ap length is ∙ length-set old p Free ∙ before.room;
             untouched = untouched-set body.start p arcs old next classes.touched Free is (spent-untouched arcs classes p spent) before.untouched;
-            free = one-free arcs old next classes body.start p (omega (arith, c.loop-pc-test.true, body.room, body.short, before.room)) is spent
+            free = one-free (LoopsSpent arcs classes) old next body.start p (omega (arith, c.loop-pc-test.true, body.room, body.short, before.room)) is spent
                 before.free;
           }
       | else-loops_spent w ↦
@@ -45,6 +45,6 @@ loop-pc-preserved c =
             room = ap length same ∙ before.room;
             untouched = subst (λ (jumps : List Jump). AreUntouched body.start arcs jumps classes.touched) (sym same) before.untouched;
             free = subst (λ (jumps : List Jump). AreFree arcs jumps classes body.start (p + 1)) (sym same)
-                (not-free arcs old classes body.start p (λ S. false≢true (sym w.if-loops_spent.false ∙ c.loops_spent.ensures.all S)) before.free);
+                (not-free (LoopsSpent arcs classes) old body.start p (λ S. false≢true (sym w.if-loops_spent.false ∙ c.loops_spent.ensures.all S)) before.free);
           }
     ]

@@ -7,5 +7,6 @@ invariant-loop-sweep l = record {
   pay : l.units.pay ≡ l.fn.units.pay;
   nest : l.self.nest ≡ l.fn.self.nest;
   id : l.self.id ≡ l.fn.self.id;
-  looks : l.sweep ≤ l.units.looks;
+  looked : l.fn.units.looked.count ≤ l.units.looked.count;
+  many : l.sweep ≤ l.units.looked.count;
 }

@@ -1,5 +1,4 @@
 use Rattle.std.proofs.Common.{◌≡◌, ℕ, [], refl, subst, arith}
-use Rattle.std.proofs.lemmas.Bool.{false≢true}
 use Rattle.geos_potentials.specs.Rounds.{AddsUpTo}
 use Rattle.geos_potentials.proofs.Rounding.{up-more}
 use Rattle.geos_potentials.proofs.paying.Paying.round_at.Goals as goal
@@ -13,10 +12,9 @@ loop-init c = record {
     adds = record {
       takes = refl;
       sets = omega arith;
-      some = λ is. absurd (false≢true is);
       none = λ is. refl;
       least = λ is. absurd (is refl);
-      plain = λ none unset. (refl, refl);
+      plain = λ none. (refl, refl);
       dear = omega arith;
       paid = omega arith;
     };

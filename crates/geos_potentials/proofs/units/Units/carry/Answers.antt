@@ -1,4 +1,4 @@
-use Rattle.std.proofs.Common.{◌∙◌, inl}
+use Rattle.std.proofs.Common.{◌∙◌, arith, inl}
 use Rattle.geos_potentials.specs.Carried.{NoneHeld, Nowhere}
 use Rattle.geos_potentials.specs.Lacks.{PricePasses}
 use Rattle.geos_potentials.specs.Waits.{Waits}
@@ -12,12 +12,13 @@ loop-pc-preserved c =
     let pay = c.loop-pc.self.pay in record {
       wanted = λ before. c.go_back_from.ensures.wanted (c.loop-pc.invariant.wanted before);
       carried = λ led before. c.go_back_from.ensures.carried led
-          (take-carried arcs NoneHeld pay c.loop-pc.self.waits c.take.new.self c.in-Some.pc c.in-Some.ensures.others
+          (take-carried arcs NoneHeld pay c.loop-pc.self.waits c.take.new.waits c.in-Some.pc c.in-Some.ensures.others
           (c.loop-pc.invariant.carried led before));
       within = λ law base passes carried before. c.go_back_from.ensures.within law base passes carried
           (c.loop-pc.invariant.within law base passes carried before);
       passes = λ is. price-passes-on arcs pay c.go_back_from.new.spread c.go_back_from.ensures.more
           (either-false c.loop-pc.fits c.note_dearer-fits.result (PricePasses arcs pay) c.loop-pc.invariant.passes c.note_dearer-fits.ensures.past is);
+      looked = (let rises = c.in-Some.ensures.counts.up in let before = c.loop-pc.invariant.looked in omega (arith, rises, before));
       jumps = c.note_dearer-fits.ensures.jumps ∙ c.loop-pc.invariant.jumps;
       count = c.note_dearer-fits.ensures.count ∙ c.loop-pc.invariant.count;
     }

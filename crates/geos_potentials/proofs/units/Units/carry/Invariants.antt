@@ -1,4 +1,4 @@
-use Rattle.std.proofs.Common.{◌≡◌, ◌+◌, ◌*◌, false}
+use Rattle.std.proofs.Common.{◌≡◌, ◌+◌, ◌*◌, ◌≤◌, false}
 use Rattle.geos_potentials.specs.Carried.{AreCarriedBut, NoneHeld}
 use Rattle.geos_potentials.specs.Demands.{left_in, StayWanted}
 use Rattle.geos_potentials.specs.Lacks.{PricePasses}
@@ -15,6 +15,7 @@ invariant-loop-pc l = record {
       → AreCarriedBut l.graph.arcs NoneHeld l.self.pay (Waits l.self.waits);
   within : StayWithin l.graph.arcs l.fn.self.pay l.self.pay;
   passes : l.fits ≡ false → PricePasses l.graph.arcs l.self.pay;
+  looked : l.fn.self.looked.count ≤ l.self.looked.count;
   jumps : l.splitting.jumps ≡ l.fn.splitting.jumps;
   count : l.splitting.nests.count ≡ l.fn.splitting.nests.count;
 }

@@ -1,4 +1,4 @@
-use Rattle.std.proofs.Common.{◌≡◌, sym, ap, ◌∙◌, subst}
+use Rattle.std.proofs.Common.{◌≡◌, ◌≤◌, sym, ap, ◌∙◌, subst, arith}
 use Rattle.geos_potentials.specs.Carried.{AreCarried, NoneHeld}
 use Rattle.geos_potentials.specs.Demands.{AreWanted}
 use Rattle.geos_potentials.specs.Within.{ExceedWithin}
@@ -35,3 +35,28 @@ pub returns-in-Err-clause-lack : goal.returns-in-Err-clause-lack
 returns-in-Err-clause-lack c = c.in-Err.ensures.lack
     (λ other. rw c.begin-paying.ensures.id (c.set.ensures.there other ∙ sym c.begin-paying.ensures.nest))
     (rw (c.begin-paying.ensures.id, c.set.ensures.count) c.requires.few)
+
+pub returns-in-Err-clause-looked : goal.returns-in-Err-clause-looked
+returns-in-Err-clause-looked c =
+    let noted : c.args.self.now.looked.count ≤ c.if-nest.self.looked.count = elim c.if-nest.branch [
+      | then-nest w ↦
+          let is = ap (λ (u : Units). u.looked.count) w.self-is in
+          let counts = w.note_before.ensures.counts.up in
+          omega (arith, is, counts)
+      | else-nest w ↦ (let is = ap (λ (u : Units). u.looked.count) w.self-is in omega (arith, is))
+    ] in
+    let found = c.find_unit.ensures.looked in
+    omega (arith, noted, found)
+
+pub returns-clause-looked : goal.returns-clause-looked
+returns-clause-looked c =
+    let noted : c.args.self.now.looked.count ≤ c.if-nest.self.looked.count = elim c.if-nest.branch [
+      | then-nest w ↦
+          let is = ap (λ (u : Units). u.looked.count) w.self-is in
+          let counts = w.note_before.ensures.counts.up in
+          omega (arith, is, counts)
+      | else-nest w ↦ (let is = ap (λ (u : Units). u.looked.count) w.self-is in omega (arith, is))
+    ] in
+    let found = c.find_unit.ensures.looked in
+    let set = c.set_unit.ensures.looked in
+    omega (arith, noted, found, set)

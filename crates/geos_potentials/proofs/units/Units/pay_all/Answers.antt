@@ -1,4 +1,4 @@
-use Rattle.std.proofs.Common.{◌≡◌, [], refl, sym, ap, subst, ◌∙◌}
+use Rattle.std.proofs.Common.{◌≡◌, [], refl, sym, ap, subst, ◌∙◌, arith}
 use Rattle.geos_potentials.specs.Carried.{AreCarried, NoneHeld}
 use Rattle.geos_potentials.specs.Demands.{AreWanted}
 use Rattle.geos_potentials.specs.Within.{StayWithinLoops, pays}
@@ -8,53 +8,58 @@ use Rattle.geos_potentials.proofs.Within.{filled-carried, filled-within, paid-mo
 use Rattle.geos_potentials.proofs.units.Units.pay_all.Goals.{then-round-look_at+in_default, else-round-look_at}
 use Rattle.geos_potentials.proofs.units.Units.pay_all.Goals as goal
 
-pub loop-self-init : goal.loop-self-init
-loop-self-init c =
+pub loop-init : goal.loop-init
+loop-init c =
     let arcs = c.args.graph.now.arcs in
     let pay = c.fill_from.new.self in record {
       wanted = filled-wanted arcs pay c.lengths.ensures c.fill_from.ensures.same;
       carried = λ led. filled-carried arcs pay c.lengths.ensures c.fill_from.ensures.same;
       within = filled-within arcs c.args.splitting.now.jumps pay c.lengths.ensures c.fill_from.ensures.same;
+      round = refl;
+      looked = omega arith;
       jumps = refl;
     }
 
-pub returns-clause-within : goal.returns-clause-within
-returns-clause-within c = subst (StayWithinLoops c.args.graph.now.arcs c.args.splitting.now.jumps pays []) (sym c.begins.ensures.pay)
-    c.loop-self.invariant.within
-
 pub returns-in_err-pay_round-clause-within : goal.returns-in_err-pay_round-clause-within
-returns-in_err-pay_round-clause-within c = paid-more c.args.graph.now c.args.splitting.now.jumps c.loop-self.splitting.jumps c.begins.new.self.pay c.pay_round.new.self.pay
-    c.loop-self.invariant.jumps
-    (subst (StayWithinLoops c.args.graph.now.arcs c.args.splitting.now.jumps pays []) (sym c.begins.ensures.pay) c.loop-self.invariant.within)
+returns-in_err-pay_round-clause-within c = paid-more c.args.graph.now c.args.splitting.now.jumps c.loop.splitting.jumps c.loop.self.pay c.pay_round.new.self.pay
+    c.loop.invariant.jumps
+    c.loop.invariant.within
     c.pay_round.ensures.within
 
 pub returns-then-not-branch-clause-within : goal.returns-then-not-branch-clause-within
-returns-then-not-branch-clause-within c = paid-more c.args.graph.now c.args.splitting.now.jumps c.loop-self.splitting.jumps c.begins.new.self.pay c.pay_round.new.self.pay
-    c.loop-self.invariant.jumps
-    (subst (StayWithinLoops c.args.graph.now.arcs c.args.splitting.now.jumps pays []) (sym c.begins.ensures.pay) c.loop-self.invariant.within)
+returns-then-not-branch-clause-within c = paid-more c.args.graph.now c.args.splitting.now.jumps c.loop.splitting.jumps c.loop.self.pay c.pay_round.new.self.pay
+    c.loop.invariant.jumps
+    c.loop.invariant.within
     c.pay_round.ensures.within
 
 pub returns-in-Some-clause-within : goal.returns-in-Some-clause-within
-returns-in-Some-clause-within c = paid-more c.args.graph.now c.args.splitting.now.jumps c.loop-self.splitting.jumps c.begins.new.self.pay c.pay_round.new.self.pay
-    c.loop-self.invariant.jumps
-    (subst (StayWithinLoops c.args.graph.now.arcs c.args.splitting.now.jumps pays []) (sym c.begins.ensures.pay) c.loop-self.invariant.within)
+returns-in-Some-clause-within c = paid-more c.args.graph.now c.args.splitting.now.jumps c.loop.splitting.jumps c.loop.self.pay c.pay_round.new.self.pay
+    c.loop.invariant.jumps
+    c.loop.invariant.within
     c.pay_round.ensures.within
 
-pub loop-self-preserved : goal.loop-self-preserved
-loop-self-preserved c =
+pub loop-preserved : goal.loop-preserved
+loop-preserved c =
     let arcs = c.args.graph.now.arcs in
     let jumps = c.args.splitting.now.jumps in
-    let began = sym c.begins.ensures.pay in
-    let inv = c.loop-self.invariant in
+    let inv = c.loop.invariant in
     let paid : c.pay_round.new.self.pay ≡ c.if-round-look_at.self.pay = elim c.if-round-look_at.branch [
       | then-round-look_at+in_default w ↦ sym (ap (λ (u : Units). u.pay) w.self-is)
       | else-round-look_at w ↦ sym (ap (λ (u : Units). u.pay) w.self-is)
+    ] in
+    let same : c.pay_round.new.self.looked.count ≡ c.if-round-look_at.self.looked.count = elim c.if-round-look_at.branch [
+      | then-round-look_at+in_default w ↦ sym (ap (λ (u : Units). u.looked.count) w.self-is)
+      | else-round-look_at w ↦ sym (ap (λ (u : Units). u.looked.count) w.self-is)
     ] in record {
-      wanted = subst (AreWanted arcs) paid (c.pay_round.ensures.wanted (subst (AreWanted arcs) began inv.wanted));
+      wanted = subst (AreWanted arcs) paid (c.pay_round.ensures.wanted inv.wanted);
       carried = λ led. subst (AreCarried arcs NoneHeld) paid
-          (c.pay_round.ensures.carried led (subst (AreCarried arcs NoneHeld) began (inv.carried led)));
+          (c.pay_round.ensures.carried led (inv.carried led));
       within = subst (StayWithinLoops arcs jumps pays []) paid
-          (paid-more c.args.graph.now jumps c.loop-self.splitting.jumps c.begins.new.self.pay c.pay_round.new.self.pay inv.jumps
-          (subst (StayWithinLoops arcs jumps pays []) began inv.within) c.pay_round.ensures.within);
+          (paid-more c.args.graph.now jumps c.loop.splitting.jumps c.loop.self.pay c.pay_round.new.self.pay inv.jumps
+          inv.within c.pay_round.ensures.within);
+      round = omega (arith, inv.round);
+      looked =
+          (let few = c.may_look.ensures.few c.if-not-may_look.false in let more = c.in_ok-pay_round.ensures.some c.if-not-branch.false in
+          let before = inv.looked in omega (arith, few, more, before, same));
       jumps = c.pay_round.ensures.jumps ∙ inv.jumps;
     }

@@ -1,19 +1,17 @@
-use Rattle.std.proofs.Common.{◌≡◌, ◌-◌, []}
+use Rattle.std.proofs.Common.{◌≡◌, ◌≤◌, ◌+◌, []}
 use Rattle.geos_potentials.specs.Carried.{AreCarried, NoneHeld}
 use Rattle.geos_potentials.specs.Demands.{AreWanted}
 use Rattle.geos_potentials.specs.Led.{AreLed}
 use Rattle.geos_potentials.specs.Within.{StayWithinLoops, pays}
 use Rattle.geos_potentials.proofs.units.Units.pay_all.Given as goal
 
--- what units pay for is wanted, and carried
-abbrev pub invariant-loop-self : goal.invariant-loop-self
-invariant-loop-self l = record {
+-- what units pay for is wanted, and carried, and each round looked at a nest at least
+abbrev pub invariant-loop : goal.invariant-loop
+invariant-loop l = record {
   wanted : AreWanted l.graph.arcs l.self.pay;
   carried : AreLed l.graph → AreCarried l.graph.arcs NoneHeld l.self.pay;
   within : StayWithinLoops l.graph.arcs l.fn.splitting.jumps pays [] l.self.pay;
+  round : l.round ≡ l.counter + 1;
+  looked : l.counter ≤ l.self.looked.count;
   jumps : l.splitting.jumps ≡ l.fn.splitting.jumps;
 }
-
--- as many rounds are left as edges may be looked at
-abbrev pub decreases-loop-self : goal.decreases-loop-self
-decreases-loop-self l = 134217729 - l.round

@@ -1,15 +1,25 @@
-use Rattle.std.proofs.Common.{refl, ◌∙◌}
+use Rattle.std.proofs.Common.{refl, ◌∙◌, arith}
+use Rattle.std.proofs.lemmas.Bool.{false≢true}
 use Rattle.geos_potentials.proofs.Within.{pay-none, pay-more}
 use Rattle.geos_potentials.proofs.units.Units.pay_round.Goals as goal
 
 pub loop-id-init : goal.loop-id-init
-loop-id-init c = record { on = pay-none c.args.graph.now c.args.splitting.now.jumps c.args.self.now.pay; count = refl }
+loop-id-init c = record {
+  on = pay-none c.args.graph.now c.args.splitting.now.jumps c.args.self.now.pay;
+  looked = omega arith;
+  some = λ is. absurd (false≢true is);
+  count = refl;
+}
 
 pub loop-id-preserved-in-Continue-1 : goal.loop-id-preserved-in-Continue-1
 loop-id-preserved-in-Continue-1 c = record {
   on = pay-more c.args.graph.now c.args.splitting.now.jumps c.loop-id.splitting.jumps c.pay.new.splitting.jumps c.args.self.now.pay
       c.loop-id.self.pay c.pay.new.self.pay c.loop-id.invariant.on c.pay.ensures.wanted c.pay.ensures.carried c.pay.ensures.within
       c.pay.ensures.jumps;
+  looked = (let counts = c.nest-nest.ensures.counts in let more = c.pay.ensures.looked in let before = c.loop-id.invariant.looked in
+      omega (arith, counts, more, before));
+  some = λ is. (let counts = c.nest-nest.ensures.counts in let more = c.pay.ensures.looked in let before = c.loop-id.invariant.looked in
+      omega (arith, counts, more, before));
   count = c.pay.ensures.count ∙ c.loop-id.invariant.count;
 }
 
