@@ -108,7 +108,7 @@ may write names as with --vars.
 the byte that it is, or two bytes, the low one first, from 256 on. --label prints each line behind its call, as
 `add 2 3: 5`; zeros at the end of the call's words are left out.
 
-With FILE the routines work on that VM file, as `geos new` makes it, and nothing else may meanwhile. What
+With FILE the routines work on that VM file, as `geos new` makes it, and other commands on it wait. What
 they change in it is lost unless VUPDATE or VSAVE in a routine keeps it, or a command of the script.
 Without FILE they have one in memory, whose areas have 65,536 bytes, and which is gone at the end.
 
@@ -136,7 +136,8 @@ L and a number is the label of the instruction with that pc, counted from 0.
 
 The last line has the steps of the whole run, and what is left of the budget. At most 10,000 steps are
 printed, or as many as --steps says; with --only those in ROUTINE alone. The run goes to its end all the
-same. With --count a line is printed for each instruction: how often it ran, its line or pc, and what it is.
+same. With --count, whatever --steps and --only say, a line is printed for each instruction of all routines:
+how often it ran, its line or pc, and what it is.
 
 Example:
   geos trace add.asm add 2 3        where add.asm is the text of `geos help`
@@ -200,8 +201,9 @@ Of an image each instruction is printed, with the routine and the pc in front of
 Where a rule refuses, a line says why, and what to do; of a stale pointer from where it is known, from
 where not, and what has moved there. `no rows: line N` has a line that says where slots differ, or which
 loop is not paid for.
-With --script each bad line of SCRIPT is printed, as `run` finds it, or with --vars `run --vars` and `call`: the
-word that is wrong, and what is wanted. Nothing else is printed, and nothing runs.";
+With --script each line of SCRIPT that is bad before anything runs is printed, by the rules of `run`, or with
+--vars by those of `run --vars` and `call`: the word that is wrong, and what is wanted. At most 1,000 are, and
+how many more there are. Nothing else is printed, and nothing runs.";
 
 /// Why an image may not run.
 const RULES: &str = "\
