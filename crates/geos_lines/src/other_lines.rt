@@ -1,6 +1,6 @@
 //! What is wrong with the line that begins a routine, and with the lines `in` and `out`.
 
-ghost use Rattle.std.specs.Prelude.{◌≤◌, length};
+ghost use Rattle.std.specs.Prelude.{◌≤◌, length, IfSome};
 
 use crate::instr_lines::{Misfit, name_misfit, number_misfit, put_misfit, put_missing};
 use crate::sentences::{Wrong, hint, put_text, put_too_much, put_word};
@@ -150,7 +150,9 @@ fn item_misfit(item: &[u8]) -> Option<Misfit> {
 }
 
 /// How many registers have the letter, and what is said of them.
-fn registers(letter: u8) -> Option<(u8, &'static str)> {
+fn registers(letter: u8) -> Option<(u8, &'static str)>
+    ensures { IfSome result (λ found. found.0 ≤ 10) }
+{
     match letter {
         b'w' => Some((8, ": words are w0 to w7")),
         b's' => Some((4, ": slots are s0 to s3")),
