@@ -44,6 +44,7 @@ pub fn make_chunk<D: Device + Drop>(
 
 /// Makes the room that a chunk wants, and makes the chunk.
 // By itself, so that the chunks that want no room are made in place.
+#[cold]
 #[inline(never)]
 fn grow_and_make<D: Device + Drop>(
     vm: &VmBlocks<D>,

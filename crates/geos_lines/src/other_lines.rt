@@ -1,6 +1,6 @@
 //! What is wrong with the line that begins a routine, and with the lines `in` and `out`.
 
-ghost use Rattle.std.specs.Prelude.{◌≤◌, length};
+ghost use Rattle.std.specs.Prelude.{◌≤◌, length, IfSome};
 
 use crate::instr_lines::{Misfit, name_misfit, number_misfit, put_misfit, put_missing};
 use crate::sentences::{Wrong, hint, put_text, put_too_much, put_word};
@@ -149,8 +149,43 @@ fn item_misfit(item: &[u8]) -> Option<Misfit> {
     }
 }
 
-/// The form of an item that begins as this word does.
+/// How many registers have the letter, and what is said of them.
+fn registers(letter: u8) -> Option<(u8, &'static str)>
+    ensures { IfSome result (λ found. found.0 ≤ 10) }
+{
+    match letter {
+        b'w' => Some((8, ": words are w0 to w7")),
+        b's' => Some((4, ": slots are s0 to s3")),
+        b'p' => Some((4, ": pointers are p0 to p3")),
+        _ => None,
+    }
+}
+
+/// What is said of a text that begins as a register does, where there is none of its number.
+fn misnamed(text: &[u8]) -> Option<&'static str> {
+    let (count, saying) = registers(*text.first()?)?;
+    if !text.get(1)?.is_ascii_digit() {
+        return None;
+    }
+    let (name, rest) = text.split_at(2);
+    let goes_on = match rest.first() {
+        Some(byte) => byte.is_ascii_digit(),
+        None => false,
+    };
+    if goes_on || register(text[0], count, name).is_none() {
+        Some(saying)
+    } else {
+        None
+    }
+}
+
+/// The form of an item that begins as this word does, or which registers there are, where it names one that there is not: in front, or
+/// behind `p0=` or `s0#`.
 fn form_of_item(item: &[u8]) -> &'static str {
+    let (_, behind) = item.split_at(item.len().min(3));
+    if let Some(saying) = misnamed(item).or(misnamed(behind)) {
+        return saying;
+    }
     match item.first() {
         Some(b'w') => ": a bound is as w0<=9",
         Some(b's') => ": a slot is as s0=mem, with mem, vm, vm!, vm@, vm@!, db or db!, or as s0#s1",

@@ -14,6 +14,24 @@ fn text_of_command(word: Word) -> &'static str {
     }
 }
 
+/// What is said of a word that is no number.
+fn text_of_number(word: Word) -> &'static str {
+    if word.bytes.starts_with(b"->") {
+        " is no number: -> stands apart from the name behind it, as -> h"
+    } else {
+        " is no number: a number has decimal digits alone"
+    }
+}
+
+/// What is said of the word for a name that no line before keeps.
+fn text_of_unkept(word: Word) -> &'static str {
+    if word.bytes.starts_with(b"$@") {
+        " names no word: the block that a name stands for is as @$h"
+    } else {
+        " is a name that no line before keeps"
+    }
+}
+
 /// A word, if the sentence begins with one, and what is said behind it.
 fn text_of<'a>(fault: &Fault<'a>) -> (Option<Word<'a>>, &'static str) {
     match fault {
@@ -29,10 +47,7 @@ fn text_of<'a>(fault: &Fault<'a>) -> (Option<Word<'a>>, &'static str) {
             Some(*word),
             " is one number too many: a call has at most eight",
         ),
-        Fault::NoNumber(word) => (
-            Some(*word),
-            " is no number: a number has decimal digits alone",
-        ),
+        Fault::NoNumber(word) => (Some(*word), text_of_number(*word)),
         Fault::TooHigh(word) => (Some(*word), " is above 65535"),
         Fault::PastBound(word, _, _) => (Some(*word), " is above "),
         Fault::NumberBehind(word) => (Some(*word), " stands behind a block: numbers come first"),
@@ -50,7 +65,7 @@ fn text_of_name<'a>(fault: &Fault<'a>) -> (Option<Word<'a>>, &'static str) {
             Some(*word),
             " is for names: run and explain take them with --vars",
         ),
-        Fault::NotKept(word) => (Some(*word), " is a name that no line before keeps"),
+        Fault::NotKept(word) => (Some(*word), text_of_unkept(*word)),
         Fault::ArrowAlone(word) => (Some(*word), " stands behind a call alone"),
         Fault::NothingKept(word) => (Some(*word), " wants a name behind it, as call make -> h"),
         Fault::BadName(word) => (

@@ -1,7 +1,7 @@
 //! Requests on files that standard error goes into.
 
 use crate::file_id::regular_at;
-use crate::kept::begins_as_vm_file;
+use crate::kept::begins_as_saved;
 use crate::output::{faults_go_into, written_name};
 use crate::request::{ChunkPath, FileRequest, Request, RoutineRequest, TextRequest};
 use crate::streams::{STANDARD, name_of};
@@ -16,11 +16,11 @@ fn are_in_read(rt: &HostRuntime, path: &str) -> bool {
     are_in(rt, name_of(path))
 }
 
-/// Whether it goes into a VM file that is to be written for the path, the standard output where that is `-`. Any other file there may
-/// take faults.
+/// Whether it goes into a VM file or an image that is to be written for the path, the standard output where that is `-`. Any other file
+/// there may take faults.
 fn are_in_kept(rt: &HostRuntime, path: &str) -> bool {
     let name = written_name(path);
-    are_in(rt, name) && !matches!(begins_as_vm_file(rt, name), Ok(false))
+    are_in(rt, name) && !matches!(begins_as_saved(rt, name), Ok(false))
 }
 
 /// Whether it goes into the VM file, if there is one.
@@ -106,8 +106,8 @@ impl FileRequest<'_> {
 }
 
 impl Request<'_> {
-    /// Whether standard error goes into a file that the request reads or works on, or into a VM file that it is to write: whatever is said
-    /// there would come into what the file has.
+    /// Whether standard error goes into a file that the request reads or works on, or into a VM file or an image that it is to
+    /// write: whatever is said there would come into what the file has.
     pub fn has_faults(&self, rt: &HostRuntime) -> bool {
         match self {
             Request::Routines(request) => request.has_faults(rt),

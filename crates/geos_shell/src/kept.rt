@@ -7,19 +7,31 @@ use std::os::unix::fs::FileExt;
 
 /// What a VM file begins with.
 const VM_FILE: [u8; 4] = *b"GVM1";
+/// What an image begins with, of either version.
+const IMAGE: [u8; 4] = *b"GRT1";
 
-/// Whether a file begins as a VM file does. An error where it can't be read: else what a user saved in it might be lost.
-pub(crate) fn begins_as_vm_file(rt: &HostRuntime, path: &str) -> io::Result<bool> {
+/// What a file begins with; `None` where it is shorter. An error where it can't be read: else what a user saved in it might be lost.
+fn first_of(rt: &HostRuntime, path: &str) -> io::Result<Option<[u8; 4]>> {
     // One without a byte need not be readable.
     if fs::metadata(rt, path)?.len() == 0 {
-        return Ok(false);
+        return Ok(None);
     }
     let mut first = [0; 4];
     match File::open(rt, path)?.read_exact_at(&mut first, 0) {
-        Ok(()) => Ok(first == VM_FILE),
-        Err(error) if error.kind() == ErrorKind::UnexpectedEof => Ok(false),
+        Ok(()) => Ok(Some(first)),
+        Err(error) if error.kind() == ErrorKind::UnexpectedEof => Ok(None),
         Err(error) => Err(error),
     }
+}
+
+/// Whether a file begins as a VM file does.
+fn begins_as_vm_file(rt: &HostRuntime, path: &str) -> io::Result<bool> {
+    Ok(first_of(rt, path)? == Some(VM_FILE))
+}
+
+/// Whether a file begins as a VM file or an image does.
+pub(crate) fn begins_as_saved(rt: &HostRuntime, path: &str) -> io::Result<bool> {
+    Ok(first_of(rt, path)?.is_some_and(|first| first == VM_FILE || first == IMAGE))
 }
 
 /// Whether the file with the path, which is there, is not to be changed: it is the one that the bytes are made of, by another name or

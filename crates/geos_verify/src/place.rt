@@ -4,7 +4,8 @@ ghost use Rattle.std.specs.Prelude.{◌≡◌, ◌<◌, ◌+◌, length, false, 
 ghost use Rattle.geos_verify.specs.Places.{places, or_row, RowAt};
 ghost use Rattle.geos_verify.specs.Rows.{after, HasEdge};
 
-use crate::edges::after;
+use crate::edges::go_along;
+use crate::uses::uses_at;
 use geos_image::{Image, Instr, Potential, Row};
 use std::alloc::{AllocError, Global};
 
@@ -16,6 +17,16 @@ pub struct Place {
     pub potential: Potential,
 }
 
+/// Makes the row, which is known at `pc`, what is known behind the instruction there.
+fn go_behind(image: &Image, pc: u16, row: &mut Row)
+    requires there { pc < length image.now.points }
+    requires edge { HasEdge image.now pc false }
+    ensures { row.new ≡ after image.now pc row.old false }
+{
+    let i = image.instr(pc);
+    go_along(image, i, uses_at(i), row);
+}
+
 /// Makes the row, which is known at `pc`, the one that is given behind it, or else what is known there.
 fn take_given(image: &Image, pc: u16, given: &Option<Row>, row: &mut Row)
     requires there { pc < length image.now.points }
@@ -24,7 +35,7 @@ fn take_given(image: &Image, pc: u16, given: &Option<Row>, row: &mut Row)
 {
     match given {
         Some(known) => *row = *known,
-        None => *row = after(image, pc, row, false),
+        None => go_behind(image, pc, row),
     }
 }
 

@@ -74,6 +74,8 @@ impl<D: Device + Drop> VmBlocks<D> {
     /// though every other block of the file that is neither marked nor locked was discarded;
     /// `Disk` where the device fails, or gives bytes that are no heap under this handle. Then the
     /// block is not in memory, and others may have been discarded.
+    // Cold, so that calls on blocks that are there are laid out as the usual way.
+    #[cold]
     pub fn bring(&mut self, blocks: &mut Blocks, handle: u16) -> Result<(), BringError>
         requires { IsTied D.medium self.old blocks.old }
         ensures brings { BringsBlock D.medium BringError.NoRoom BringError.Disk handle result self.old self.new blocks.old blocks.new }

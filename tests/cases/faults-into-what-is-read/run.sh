@@ -1,5 +1,5 @@
-# No command says a fault into what it reads, or into a VM file that it is to write: where standard error goes into one, by whatever path,
-# nothing is done or said, and the status tells.
+# No command says a fault into what it reads, or into a VM file or an image that it is to write: where standard error goes into one, by
+# whatever path, nothing is done or said, and the status tells.
 folder=$(mktemp -d)
 trap 'rm -rf "$folder"' EXIT
 cd "$folder" || exit 1
@@ -44,6 +44,8 @@ silent /dev/null wrong asm wrong image
 silent wrong wrong asm - image
 silent /dev/null book.vm asm wrong book.vm
 silent /dev/null book.vm budget wrong book.vm
+silent /dev/null kept.image asm wrong kept.image
+silent /dev/null kept.image asm text kept.image
 silent /dev/null wrong budget wrong
 for command in list check explain; do silent /dev/null wrong $command wrong; done
 silent /dev/null script explain text --script script
