@@ -5,7 +5,7 @@ use Rattle.block_handles.specs.declared.table.Row.{Row}
 
 -- the row of a free slot
 abbrev pub free_row : Row
-free_row = record { place = 0; size = 0; left = 0 }
+free_row = record { place = 0; size = 0; left = 0; padding = 0 }
 
 -- the entry of a row: none where the row has no byte and takes no lock
 abbrev pub entry_in : Row → Option Entry

@@ -23,6 +23,8 @@ struct Row {
     place: u32,
     size: u32,
     left: u16,
+    /// Says nothing: with it a row has 16 bytes, and a shift of the slot finds it.
+    padding: u32,
 }
 
 /// The row of a free slot.
@@ -30,6 +32,7 @@ const FREE: Row = Row {
     place: 0,
     size: 0,
     left: 0,
+    padding: 0,
 };
 
 /// What each slot has.
@@ -129,6 +132,7 @@ impl Table {
             place,
             size,
             left: u16::MAX,
+            padding: 0,
         };
     }
 
