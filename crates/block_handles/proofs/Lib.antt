@@ -7,6 +7,7 @@ pub mod Passes
 pub mod Passing
 pub mod Readies
 pub mod Rooms
+pub mod Rows
 pub mod Searches
 pub mod SlotBits
 pub mod Steps

@@ -1,7 +1,7 @@
 -- The region behind blocks, as one list of bytes.
 use Rattle.std.proofs.Common.{◌≡◌, ℕ, zero, suc, List, [], ◌∷◌, length, Option, Some, None, slice_index_or, refl, sym, ap}
 use Rattle.lmem_raw.specs.Bytes.{part, with_part}
-use Rattle.block_handles.specs.declared.arena.Entry.{Entry}
+use Rattle.block_handles.specs.declared.table.Entry.{Entry}
 use Rattle.block_handles.specs.Store.{bytes_in, bytes_of, place_of, size_of}
 use Rattle.block_handles.specs.Layout.{IsRegion}
 use Rattle.block_handles.specs.View.{block_in, store_in, place_in, Lies}

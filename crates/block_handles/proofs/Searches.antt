@@ -2,11 +2,12 @@
 use Rattle.std.proofs.Common.{◌≡◌, ◌≢◌, ℕ, ◌+◌, ◌/◌, ◌^◌, ◌≤◌, ◌<◌, List, length, replicate, Option, Some, None, slice_index_or, ap, sym, subst, ◌∙◌, arith, inl, inr}
 use Rattle.std.proofs.lemmas.List.{get_or_read, length-map, length-replicate}
 use Rattle.std.proofs.lemmas.Bool.{cases_eq, cases_lt}
-use Rattle.block_handles.specs.declared.arena.Entry.{Entry}
+use Rattle.block_handles.specs.declared.table.Entry.{Entry}
 use Rattle.block_handles.specs.Store.{Store, block_at, bytes_in, IsBlock, size_of, place_of}
 use Rattle.block_handles.specs.Layout.{IsLaidOut, IsEmpty}
 use Rattle.block_handles.specs.Search.{IsFirst, IsLast}
-use Rattle.block_handles.specs.View.{block_in, store_in, place_in, Lies, IsEntry, IsSound}
+use Rattle.block_handles.specs.Rows.{IsEntry}
+use Rattle.block_handles.specs.View.{block_in, store_in, place_in, Lies, IsSound}
 use Rattle.block_handles.proofs.Views.{at_slot, place_slot, entry_there, place_there}
 use Rattle.block_handles.proofs.Layouts.{there_of_size}
 

@@ -4,10 +4,11 @@ use Rattle.std.proofs.lemmas.List.{map-set, drop-drop}
 use Rattle.std.proofs.Math.Seq.{take-add}
 use Rattle.lmem_raw.specs.Bytes.{part, with_part}
 use Rattle.lmem_raw.proofs.Parts.{length-with_part, part-same, part-before, part-behind}
-use Rattle.block_handles.specs.declared.arena.Entry.{Entry}
+use Rattle.block_handles.specs.declared.table.Entry.{Entry}
 use Rattle.block_handles.specs.Store.{block_at, bytes_in, bytes_of, IsBlock, IsThere, size_of, place_of, end_of}
 use Rattle.block_handles.specs.Change.{with_block}
-use Rattle.block_handles.specs.View.{block_in, store_in, place_in, Lies, IsEntry}
+use Rattle.block_handles.specs.Rows.{IsEntry}
+use Rattle.block_handles.specs.View.{block_in, store_in, place_in, Lies}
 
 pub at_slot : (region : List ℕ) (table : List (Option Entry)) (i : ℕ) → block_at (store_in region table) i ≡ block_in
     region (slice_index_or table i None)

@@ -3,7 +3,7 @@ use Rattle.std.proofs.Common.{◌≡◌, ◌≢◌, ℕ, zero, suc, map, ◌+◌
 use Rattle.std.proofs.lemmas.List.{set-get_or, drop-drop, drop-take, take-take, get_or-take, get_or-drop}
 use Rattle.lmem_raw.specs.Bytes.{part, with_part}
 use Rattle.lmem_raw.proofs.Parts.{length-with_part}
-use Rattle.block_handles.specs.declared.arena.Entry.{Entry}
+use Rattle.block_handles.specs.declared.table.Entry.{Entry}
 use Rattle.block_handles.specs.Store.{Block, Store, bytes_in, bytes_of, IsBlock, place_of, end_of}
 use Rattle.block_handles.specs.Change.{with_block, blocks_with_bytes, with_bytes, block_after_write, blocks_after_write, after_write}
 use Rattle.block_handles.specs.Layout.{IsLaidOut}

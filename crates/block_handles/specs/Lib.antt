@@ -9,6 +9,7 @@ pub mod LendingBlocks
 pub mod Names
 pub mod Offsets
 pub mod Packing
+pub mod Rows
 pub mod Search
 pub mod Store
 pub mod Stretch

@@ -1,6 +1,6 @@
 -- The store that a region and a table of entries spell.
 use Rattle.std.specs.Prelude.{◌≡◌, ℕ, ◌+◌, ◌/◌, ◌^◌, ◌<◌, ◌≤◌, List, length, Option, Some, None, map, slice_index_or}
-use Rattle.block_handles.specs.declared.arena.Entry.{Entry}
+use Rattle.block_handles.specs.declared.table.Entry.{Entry}
 use Rattle.block_handles.specs.Store.{Block, Store, size_of, place_of}
 use Rattle.block_handles.specs.Layout.{IsLaidOut}
 use Rattle.lmem_raw.specs.Bytes.{part}
@@ -36,8 +36,3 @@ pub record IsSound (region : List ℕ) (table : List (Option Entry)) (index : Li
   pub laid : IsLaidOut (store_in region table)
   pub indexed : IsIndexed (store_in region table) index
   pub short : length region < 2 ^ 32
-
--- a slot of the table is in use
-abbrev pub IsEntry : Option Entry → Type 0
-IsEntry (Some entry) = Unit {0}
-IsEntry None = ⊥

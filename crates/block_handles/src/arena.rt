@@ -1,33 +1,22 @@
 //! Blocks by slots in a region: what a slot holds, where its block lies, and the one step by
 //! which a block moves or grows.
-ghost use Rattle.std.specs.Prelude.{◌≡◌, ℕ, ◌+◌, ◌*◌, ◌/◌, ◌%◌, ◌<◌, ◌≤◌, ◌↔◌, [], ◌∷◌, length, All, slice_index_or, slice_set, Some, None, IfOk, IfSome, IfNone, IsTrue};
+ghost use Rattle.std.specs.Prelude.{◌≡◌, ℕ, ◌+◌, ◌*◌, ◌/◌, ◌%◌, ◌<◌, ◌≤◌, ◌↔◌, [], ◌∷◌, length, All, slice_index_or, None, IfOk, IfSome, IfNone, IsFalse, IsTrue};
 ghost use Rattle.std.specs.Borrow.{sem};
 ghost use Rattle.lmem_raw.specs.Bytes.{part, with_part};
-ghost use Rattle.block_handles.specs.View.{IsEntry};
 
+use crate::table::{SLOTS, Table};
 use lmem_raw::Region;
 use std::alloc::{AllocError, Global};
 use std::marker::Model;
 
-/// How many slots there are.
-pub(crate) const SLOTS: usize = 2048;
-
 /// Each block has at least this many bytes, so no two begin in one granule.
 const GRANULE: u32 = 64;
-
-/// Where a block lies, and how often it is locked.
-#[derive(Clone, Copy)]
-pub(crate) struct Entry {
-    pub(crate) place: u32,
-    pub(crate) size: u32,
-    pub(crate) locks: u16,
-}
 
 /// A region and the blocks in it.
 #[derive(Drop)]
 pub(crate) struct Arena {
     region: Region,
-    table: Vec<Option<Entry>>,
+    table: Table,
     index: Vec<Option<u16>>,
 }
 
@@ -38,39 +27,9 @@ impl Model for Arena {
 
     ghost use Rattle.block_handles.specs.View.{store_in, IsSound};
 
-    ghost view = { λ a. store_in a.region a.table.items };
+    ghost view = { λ a. store_in a.region a.table };
 
-    ghost invariant = { λ a. IsSound a.region a.table.items a.index.items };
-}
-
-/// The entry of a slot that is in use.
-fn entry_of(table: &[Option<Entry>], slot: usize) -> Entry
-    requires { IsEntry (slice_index_or table.now slot None) }
-    ensures { slice_index_or table.now slot None ≡ Some result }
-{
-    table[slot].unwrap()
-}
-
-/// Writes how often the block of a slot in use is locked: that one number, in its place.
-fn put_locks(table: &mut Vec<Option<Entry>>, slot: usize, locks: u16)
-    requires { IsEntry (slice_index_or table.old.items slot None) }
-    ensures { IfSome (slice_index_or table.old.items slot None)
-        (λ entry. table.new.items ≡ slice_set table.old.items slot (Some (record entry { locks = locks }))) }
-{
-    if let Some(entry) = &mut table[slot] {
-        entry.locks = locks;
-    }
-}
-
-/// A table of free slots.
-fn empty_table(alloc: Global, n: usize) -> Result<Vec<Option<Entry>>, AllocError>
-    ensures { IfOk result (λ table. (length table.items ≡ n) × ((slot : ℕ) → slice_index_or table.items slot None ≡ None)) }
-{
-    let mut table = Vec::new(alloc);
-    for _ in 0..n {
-        table.push(None)?;
-    }
-    Ok(table)
+    ghost invariant = { λ a. IsSound a.region a.table a.index.items };
 }
 
 /// An index in which no block begins.
@@ -101,7 +60,7 @@ impl Arena {
     ghost use Rattle.block_handles.specs.Store.{IsThere, bytes_of, size_of, place_of, end_of, locks_of, region_len};
     ghost use Rattle.block_handles.specs.Layout.{IsLaidOut, IsFreeBut};
     ghost use Rattle.geos_terms.specs.Heap.{IsBlockSize, most_block_bytes};
-    ghost use Rattle.block_handles.specs.Change.{with_block, new_block, grown_block, with_place, with_locks, after_write};
+    ghost use Rattle.block_handles.specs.Change.{with_block, new_block, grown_block, with_place, with_lock_more, with_lock_less, after_write};
     ghost use Rattle.block_handles.specs.Lending.{LendsBytes};
     ghost use Rattle.block_handles.specs.Offsets.{Copies, ReadsAs, ReadsByte, ReadsWord};
 
@@ -111,7 +70,7 @@ impl Arena {
     {
         Ok(Arena {
             region: Region::new(alloc, len)?,
-            table: empty_table(alloc, SLOTS)?,
+            table: Table::new(alloc)?,
             index: empty_index(alloc, (len / GRANULE) as usize + 1)?,
         })
     }
@@ -135,28 +94,28 @@ impl Arena {
     pub(crate) fn has(&self, slot: usize) -> bool
         ensures { IsTrue result ↔ IsThere self.now slot }
     {
-        slot < SLOTS && self.table[slot].is_some()
+        slot < SLOTS && self.table.has(slot)
     }
 
     pub(crate) fn locks(&self, slot: usize) -> u16
         requires { IsThere self.now slot }
         ensures { result ≡ locks_of self.now slot }
     {
-        entry_of(&self.table, slot).locks
+        self.table.entry_of(slot).locks
     }
 
     pub(crate) fn place(&self, slot: usize) -> u32
         requires { IsThere self.now slot }
         ensures { result ≡ place_of self.now slot }
     {
-        entry_of(&self.table, slot).place
+        self.table.entry_of(slot).place
     }
 
     pub(crate) fn size(&self, slot: usize) -> u32
         requires { IsThere self.now slot }
         ensures { result ≡ size_of self.now slot }
     {
-        entry_of(&self.table, slot).size
+        self.table.entry_of(slot).size
     }
 
     /// Where a block ends.
@@ -164,7 +123,7 @@ impl Arena {
         requires { IsThere self.now slot }
         ensures { result ≡ end_of self.now slot }
     {
-        let entry = entry_of(&self.table, slot);
+        let entry = self.table.entry_of(slot);
         entry.place + entry.size
     }
 
@@ -172,7 +131,7 @@ impl Arena {
         requires { IsThere self.now slot }
         ensures { result.now ≡ bytes_of self.now slot }
     {
-        let entry = entry_of(&self.table, slot);
+        let entry = self.table.entry_of(slot);
         self.region.slice(entry.place, entry.size)
     }
 
@@ -181,7 +140,7 @@ impl Arena {
         ensures* writes_back { sem 𝓛 (LendsBytes self.entry slot result) }
         ensures value { result.now ≡ bytes_of self.old slot }
     {
-        let entry = entry_of(&self.table, slot);
+        let entry = self.table.entry_of(slot);
         self.region.slice_mut(entry.place, entry.size)
     }
 
@@ -248,11 +207,7 @@ impl Arena {
         ensures laid { IsLaidOut self.new }
     {
         self.region.fill(at, size, 0);
-        self.table[slot] = Some(Entry {
-            place: at,
-            size,
-            locks: 0,
-        });
+        self.table.put(slot, at, size);
         self.index[(at / GRANULE) as usize] = Some(slot as u16);
     }
 
@@ -266,14 +221,10 @@ impl Arena {
         ensures store { self.new ≡ with_block self.old slot (grown_block self.old slot size) to }
         ensures laid { IsLaidOut self.new }
     {
-        let entry = entry_of(&self.table, slot);
+        let entry = self.table.entry_of(slot);
         move_to(&mut self.region, entry.place, to, entry.size);
         self.region.fill(to + entry.size, size - entry.size, 0);
-        self.table[slot] = Some(Entry {
-            place: to,
-            size,
-            locks: entry.locks,
-        });
+        self.table.put_place(slot, to, size);
         self.index[(entry.place / GRANULE) as usize] = None;
         self.index[(to / GRANULE) as usize] = Some(slot as u16);
     }
@@ -284,17 +235,33 @@ impl Arena {
         ensures store { self.new ≡ with_block self.old slot None 0 }
         ensures laid { IsLaidOut self.new }
     {
-        let entry = entry_of(&self.table, slot);
-        self.table[slot] = None;
+        let entry = self.table.entry_of(slot);
+        self.table.free(slot);
         self.index[(entry.place / GRANULE) as usize] = None;
     }
 
-    pub(crate) fn set_locks(&mut self, slot: usize, locks: u16)
-        requires { IsThere self.old slot }
-        ensures store { self.new ≡ with_locks self.old slot locks }
-        ensures laid { IsLaidOut self.new }
+    /// Locks a block once more. `false` where the slot has none, or its count is 65,535; nothing changes then.
+    #[inline(always)]
+    pub(crate) fn lock(&mut self, slot: usize) -> bool
+        ensures taken { IsTrue result → IsThere self.old slot × (locks_of self.old slot < 65535)
+            × (self.new ≡ with_lock_more self.old slot) }
+        ensures refused { IsFalse result → IsThere self.old slot → locks_of self.old slot ≡ 65535 }
+        ensures same { IsFalse result → self.new ≡ self.old }
     {
-        put_locks(&mut self.table, slot, locks);
+        let table = &mut self.table;
+        if slot >= SLOTS {
+            return false;
+        }
+        table.lock(slot)
+    }
+
+    /// Takes back one lock of a block.
+    #[inline(always)]
+    pub(crate) fn unlock(&mut self, slot: usize)
+        requires { 0 < locks_of self.old slot }
+        ensures { self.new ≡ with_lock_less self.old slot }
+    {
+        self.table.unlock(slot);
     }
 
     /// Moves a block to where no other lies. It may overlap its own old place.
@@ -323,7 +290,7 @@ impl Arena {
         let mut granule = (from / GRANULE) as usize;
         while granule < end {
             if let Some(slot) = self.index[granule] {
-                let place = entry_of(&self.table, slot as usize).place;
+                let place = self.table.entry_of(slot as usize).place;
                 if from <= place && place < until {
                     return Some(slot as usize);
                 }
@@ -344,7 +311,7 @@ impl Arena {
         while granule > end {
             granule -= 1;
             if let Some(slot) = self.index[granule] {
-                let place = entry_of(&self.table, slot as usize).place;
+                let place = self.table.entry_of(slot as usize).place;
                 if from <= place && place < until {
                     return Some(slot as usize);
                 }

@@ -17,6 +17,7 @@ mod pack;
 mod room;
 mod slots;
 mod stretch;
+mod table;
 
 use arena::Arena;
 pub use error::{HandleError, RoomError};
@@ -267,16 +268,15 @@ impl Blocks {
         ensures err { OnErr result (self.new ≡ self.old) }
     {
         let slot = slot_of(name);
-        if !self.arena.has(slot) {
-            return Err(HandleError::BadHandle);
+        if self.arena.lock(slot) {
+            self.vm_locks += of_file(name.owner);
+            return Ok(());
         }
-        let locks = self.arena.locks(slot);
-        if locks == u16::MAX {
-            return Err(HandleError::Locked);
+        if self.arena.has(slot) {
+            Err(HandleError::Locked)
+        } else {
+            Err(HandleError::BadHandle)
         }
-        self.arena.set_locks(slot, locks + 1);
-        self.vm_locks += of_file(name.owner);
-        Ok(())
     }
 
     /// Takes back one lock of a block.
@@ -284,10 +284,7 @@ impl Blocks {
         requires { 0 < locks_of self.old (slot_of name) }
         ensures { self.new ≡ with_lock_less self.old (slot_of name) }
     {
-        let arena = &mut self.arena;
-        let slot = slot_in_use(name);
-        let locks = arena.locks(slot);
-        arena.set_locks(slot, locks - 1);
+        self.arena.unlock(slot_in_use(name));
         self.vm_locks -= of_file(name.owner);
     }
 

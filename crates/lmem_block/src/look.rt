@@ -1,5 +1,5 @@
 //! Calls that look at a heap.
-ghost use Rattle.std.specs.Prelude.{◌≡◌, ◌≢◌, ◌+◌, ◌<◌, ◌≤◌, length, MatchResult, MatchOption, IfOk, IsSomeAnd};
+ghost use Rattle.std.specs.Prelude.{◌≡◌, ◌≢◌, ◌+◌, ◌*◌, ◌/◌, ◌%◌, ◌<◌, ◌≤◌, length, MatchResult, MatchOption, IfOk, IsSomeAnd};
 ghost use Rattle.lmem_raw.specs.Bytes.{part};
 ghost use Rattle.geos_terms.specs.Chunks.{chunk_of, entry_bytes, used_bytes};
 ghost use Rattle.geos_terms.specs.Block.{chunks, entries, entry, place_of, place_at, IsPlaced};
@@ -15,6 +15,13 @@ use thiserror::Error;
 #[error("no chunk has this handle")]
 pub struct BadChunk;
 
+/// A word turned right by one bit: its lowest bit comes first.
+fn turned(word: u16) -> u16
+    ensures { result ≡ word / 2 + word % 2 * 32768 }
+{
+    word.rotate_right(1)
+}
+
 /// The entry of a chunk's handle. `BadChunk` where no chunk has it.
 pub fn find(block: &[u8], chunk: u16) -> Result<usize, BadChunk>
     requires { IsHeap block.now }
@@ -22,10 +29,9 @@ pub fn find(block: &[u8], chunk: u16) -> Result<usize, BadChunk>
         (λ _. place_of block.now chunk ≡ None) }
     ensures found { MatchResult result (λ i. HasEntry block.now chunk i) (λ _. chunk_of (chunks block.now) chunk ≡ None) }
 {
-    // below the table it wraps, and is past the last entry then
-    let at = chunk.wrapping_sub(TABLE as u16) as usize;
-    let i = at / 2;
-    if at % 2 != 0 || i >= entries(block) || entry(block, i) == 0 {
+    // Below the table the difference wraps, and of an odd handle its lowest bit comes first: one test finds both past the last entry.
+    let i = turned(chunk.wrapping_sub(TABLE as u16)) as usize;
+    if i >= entries(block) || entry(block, i) == 0 {
         return Err(BadChunk);
     }
     Ok(i)

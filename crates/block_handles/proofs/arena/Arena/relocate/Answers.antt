@@ -1,13 +1,13 @@
 use Rattle.std.proofs.Common.{◌+◌, ◌-◌, ◌∙◌, ap, length, replicate, arith}
 use Rattle.lmem_raw.specs.Bytes.{part, with_part}
 use Rattle.lmem_raw.proofs.Parts.{length-with_part}
-use Rattle.block_handles.proofs.Steps.{entry_seen, granule_seen, lies_seen, relocate_seen, size_seen, slot_seen}
+use Rattle.block_handles.proofs.Steps.{entry_seen, granule_seen, lies_seen, relocate_put, size_seen}
 use Rattle.block_handles.proofs.arena.Arena.relocate.Goals as goal
 
 pub fill-requires : goal.fill-requires
 fill-requires c =
-    let size = size_seen c.self.inside.region c.self.inside.table.items c.self.inside.index.items c.args.self.now
-    c.self.view_is c.self.invariant c.args.slot c.entry_of-entry.result (rw c.deref.ensures.value at c.entry_of-entry.ensures) in
+    let size = size_seen c.self.inside.region c.self.inside.table c.self.inside.index.items c.args.self.now
+    c.self.view_is c.self.invariant c.args.slot c.entry_of-entry.result c.entry_of-entry.ensures in
     omega (
       arith,
       size,
@@ -19,31 +19,31 @@ fill-requires c =
     )
 
 pub invariant_of-self : goal.invariant_of-self
-invariant_of-self c = (relocate_seen c.self.inside.region c.self.inside.table.items c.self.inside.index.items
+invariant_of-self c = (relocate_put c.self.inside.region c.self.inside.table c.self.inside.index.items
     c.args.self.now c.self.view_is c.self.invariant c.args.slot c.entry_of-entry.result
-    (rw c.deref.ensures.value at c.entry_of-entry.ensures) c.args.to c.args.size c.requires.legal c.requires.room
+    c.entry_of-entry.ensures c.args.to c.args.size c.requires.legal c.requires.room
     c.requires.free c.fill.new.self (c.fill.ensures
     ∙ ap (λ r. with_part r (c.args.to + c.entry_of-entry.result.size) (replicate (c.args.size - c.entry_of-entry.result.size) 0))
-    c.move_to.ensures)).sound
+    c.move_to.ensures) c.put_place.new.self c.put_place.ensures).sound
 
 pub returns-clause-store : goal.returns-clause-store
-returns-clause-store c = (relocate_seen c.self.inside.region c.self.inside.table.items c.self.inside.index.items
+returns-clause-store c = (relocate_put c.self.inside.region c.self.inside.table c.self.inside.index.items
     c.args.self.now c.self.view_is c.self.invariant c.args.slot c.entry_of-entry.result
-    (rw c.deref.ensures.value at c.entry_of-entry.ensures) c.args.to c.args.size c.requires.legal c.requires.room
+    c.entry_of-entry.ensures c.args.to c.args.size c.requires.legal c.requires.room
     c.requires.free c.fill.new.self (c.fill.ensures
     ∙ ap (λ r. with_part r (c.args.to + c.entry_of-entry.result.size) (replicate (c.args.size - c.entry_of-entry.result.size) 0))
-    c.move_to.ensures)).is
+    c.move_to.ensures) c.put_place.new.self c.put_place.ensures).is
 
 pub returns-clause-laid : goal.returns-clause-laid
-returns-clause-laid c = (relocate_seen c.self.inside.region c.self.inside.table.items c.self.inside.index.items
+returns-clause-laid c = (relocate_put c.self.inside.region c.self.inside.table c.self.inside.index.items
     c.args.self.now c.self.view_is c.self.invariant c.args.slot c.entry_of-entry.result
-    (rw c.deref.ensures.value at c.entry_of-entry.ensures) c.args.to c.args.size c.requires.legal c.requires.room
+    c.entry_of-entry.ensures c.args.to c.args.size c.requires.legal c.requires.room
     c.requires.free c.fill.new.self (c.fill.ensures
     ∙ ap (λ r. with_part r (c.args.to + c.entry_of-entry.result.size) (replicate (c.args.size - c.entry_of-entry.result.size) 0))
-    c.move_to.ensures)).sound.laid
+    c.move_to.ensures) c.put_place.new.self c.put_place.ensures).sound.laid
 
 pub entry_of-entry-requires : goal.entry_of-entry-requires
-entry_of-entry-requires c = rw c.deref.ensures.value (entry_seen c.self.inside.region c.self.inside.table.items
+entry_of-entry-requires c = (entry_seen c.self.inside.region c.self.inside.table
     c.self.inside.index.items c.args.self.now c.self.view_is c.self.invariant c.args.slot c.requires.there)
 
 pub move_to-requires : goal.move_to-requires
@@ -51,14 +51,14 @@ move_to-requires c =
     let len = ap (λ s. s.len) c.self.view_is in (
       omega (
         arith,
-        lies_seen c.self.inside.region c.self.inside.table.items c.self.inside.index.items c.args.self.now
-            c.self.view_is c.self.invariant c.args.slot c.entry_of-entry.result (rw c.deref.ensures.value at c.entry_of-entry.ensures),
+        lies_seen c.self.inside.region c.self.inside.table c.self.inside.index.items c.args.self.now
+            c.self.view_is c.self.invariant c.args.slot c.entry_of-entry.result c.entry_of-entry.ensures,
         len,
       ),
       omega (
         arith,
-        size_seen c.self.inside.region c.self.inside.table.items c.self.inside.index.items c.args.self.now
-            c.self.view_is c.self.invariant c.args.slot c.entry_of-entry.result (rw c.deref.ensures.value at c.entry_of-entry.ensures),
+        size_seen c.self.inside.region c.self.inside.table c.self.inside.index.items c.args.self.now
+            c.self.view_is c.self.invariant c.args.slot c.entry_of-entry.result c.entry_of-entry.ensures,
         c.requires.legal.0,
         c.requires.room,
         len,
@@ -68,8 +68,8 @@ move_to-requires c =
 pub overflow_add-to : goal.overflow_add-to
 overflow_add-to c = omega (
   arith,
-  size_seen c.self.inside.region c.self.inside.table.items c.self.inside.index.items
-      c.args.self.now c.self.view_is c.self.invariant c.args.slot c.entry_of-entry.result (rw c.deref.ensures.value at c.entry_of-entry.ensures),
+  size_seen c.self.inside.region c.self.inside.table c.self.inside.index.items
+      c.args.self.now c.self.view_is c.self.invariant c.args.slot c.entry_of-entry.result c.entry_of-entry.ensures,
   c.requires.legal.0,
   c.requires.room,
   c.self.invariant.short,
@@ -79,26 +79,18 @@ overflow_add-to c = omega (
 pub overflow_sub-size : goal.overflow_sub-size
 overflow_sub-size c = omega (
   arith,
-  size_seen c.self.inside.region c.self.inside.table.items c.self.inside.index.items
-      c.args.self.now c.self.view_is c.self.invariant c.args.slot c.entry_of-entry.result (rw c.deref.ensures.value at c.entry_of-entry.ensures),
+  size_seen c.self.inside.region c.self.inside.table c.self.inside.index.items
+      c.args.self.now c.self.view_is c.self.invariant c.args.slot c.entry_of-entry.result c.entry_of-entry.ensures,
   c.requires.legal.0,
 )
 
 pub index_mut-requires : goal.index_mut-requires
-index_mut-requires c = omega (
-  arith,
-  slot_seen c.self.inside.region c.self.inside.table.items c.self.inside.index.items
-      c.args.self.now c.self.view_is c.self.invariant c.args.slot c.entry_of-entry.result (rw c.deref.ensures.value at c.entry_of-entry.ensures),
-  c.self.inside.table.ok.0,
-)
-
-pub index_mut-requires-2 : goal.index_mut-requires-2
-index_mut-requires-2 c =
-    let low = lies_seen c.self.inside.region c.self.inside.table.items c.self.inside.index.items c.args.self.now
-    c.self.view_is c.self.invariant c.args.slot c.entry_of-entry.result (rw c.deref.ensures.value at c.entry_of-entry.ensures) in
+index_mut-requires c =
+    let low = lies_seen c.self.inside.region c.self.inside.table c.self.inside.index.items c.args.self.now
+    c.self.view_is c.self.invariant c.args.slot c.entry_of-entry.result c.entry_of-entry.ensures in
     omega (
       arith,
-      granule_seen c.self.inside.region c.self.inside.table.items c.self.inside.index.items c.args.self.now
+      granule_seen c.self.inside.region c.self.inside.table c.self.inside.index.items c.args.self.now
           c.self.view_is c.self.invariant c.args.slot c.entry_of-entry.result.place (omega (arith, low)),
       c.self.inside.index.ok.0,
     )
