@@ -12,7 +12,7 @@ use crate::instr::Instr;
 use crate::legal::MOST_INSTRS;
 use crate::point::Point;
 use crate::reader::numbers::{Fault, byte_at, byte_below, word_below};
-use crate::reader::rows::{entry_at, potential_at, row_at};
+use crate::reader::rows::{ROW_LEN, potential_at, row_like};
 use crate::row::Row;
 use geos_opcodes::{Opcode, Operand};
 use std::alloc::Global;
@@ -144,6 +144,7 @@ fn instr_at(routines: u32, instrs: u32, bytes: &[u8], at: usize) -> Result<Instr
     coded_at(routines, instrs, bytes, at)
 }
 
+#[inline(never)]
 pub(crate) fn instrs_at(
     alloc: Global,
     bytes: &[u8],
@@ -167,6 +168,7 @@ pub(crate) fn instrs_at(
 }
 
 /// Each instruction with the row and the potential that the bytes give it.
+#[inline(never)]
 pub(crate) fn points_at(
     alloc: Global,
     bytes: &[u8],
@@ -180,20 +182,25 @@ pub(crate) fn points_at(
     ensures len { IfOk result (λ v. length v.items ≡ length code.now) }
 {
     let mut points = Vec::with_capacity(alloc, code.len())?;
+    let mut row = Row::open();
+    let mut before = start;
     let mut at = start;
     for instr in code {
-        let (row, potential) = entry_at(bytes, at)?;
+        row_like(false, bytes, before, at, &mut row)?;
+        let potential = potential_at(bytes, at + ROW_LEN)?;
         points.push(Point {
             instr: *instr,
             row: Some(row),
             potential,
         })?;
+        before = at;
         at += 58;
     }
     Ok(points)
 }
 
 /// Each instruction with the potential that the bytes give it, and no row.
+#[inline(never)]
 pub(crate) fn bare_at(
     alloc: Global,
     bytes: &[u8],
@@ -221,6 +228,7 @@ pub(crate) fn bare_at(
 }
 
 /// So many rows.
+#[inline(never)]
 pub(crate) fn rows_at(
     alloc: Global,
     bytes: &[u8],
@@ -234,10 +242,13 @@ pub(crate) fn rows_at(
     ensures len { IfOk result (λ v. length v.items ≡ count) }
 {
     let mut rows = Vec::with_capacity(alloc, count)?;
+    let mut row = Row::open();
+    let mut before = start;
     let mut at = start;
     for _ in 0..count {
-        let row = row_at(true, bytes, at)?;
+        row_like(true, bytes, before, at, &mut row)?;
         rows.push(row)?;
+        before = at;
         at += 38;
     }
     Ok(rows)
