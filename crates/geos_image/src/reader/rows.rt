@@ -190,31 +190,22 @@ pub(crate) fn row_like(
     Ok(())
 }
 
-#[inline(always)]
-fn coefficients_at(bytes: &[u8], at: usize) -> Result<[u32; 4], Fault>
-    requires { at < 2 ^ 30 }
-    ensures { result ≡ items_at (long_at bytes.now) 4 4 at }
-{
-    Ok([
-        long_at(bytes, at)?,
-        long_at(bytes, at + 4)?,
-        long_at(bytes, at + 8)?,
-        long_at(bytes, at + 12)?,
-    ])
-}
-
 /// The numbers of a potential.
+// All at once: of a `Result` with the coefficients alone LLVM makes the potential by pieces in memory.
 #[tactic(auto, unfolding(crate::specs::Reading::potential_at))]
 #[inline(always)]
 fn numbers_at(bytes: &[u8], at: usize) -> Result<Potential, Fault>
     requires { at < 2 ^ 29 }
     ensures { result ≡ potential_at bytes.now at }
 {
-    let constant = long_at(bytes, at)?;
-    let coefficients = coefficients_at(bytes, at + 4)?;
     Ok(Potential {
-        constant,
-        coefficients,
+        constant: long_at(bytes, at)?,
+        coefficients: [
+            long_at(bytes, at + 4)?,
+            long_at(bytes, at + 8)?,
+            long_at(bytes, at + 12)?,
+            long_at(bytes, at + 16)?,
+        ],
     })
 }
 
