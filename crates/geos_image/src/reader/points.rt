@@ -1,6 +1,6 @@
 //! The instructions, and what the verifier is told at each of them.
 
-ghost use Rattle.std.specs.Prelude.{◌≡◌, ◌<◌, ◌≤◌, ◌^◌, length, true, false, IfOk};
+ghost use Rattle.std.specs.Prelude.{◌≡◌, ◌<◌, ◌≤◌, ◌^◌, length, true, false, Some, None, IfOk};
 ghost use Rattle.std.specs.List.{list_all};
 ghost use Rattle.geos_image.specs.Legal.{is_instr, is_row, LegalWhere};
 ghost use Rattle.geos_image.specs.Parts.{instrs_of};
@@ -11,6 +11,7 @@ use crate::error::ReadError;
 use crate::instr::Instr;
 use crate::legal::MOST_INSTRS;
 use crate::point::Point;
+use crate::potential::Potential;
 use crate::reader::numbers::{Fault, byte_at, byte_below, word_below};
 use crate::reader::rows::{ROW_LEN, potential_at, row_like};
 use crate::row::Row;
@@ -167,6 +168,31 @@ pub(crate) fn instrs_at(
     Ok(code)
 }
 
+/// A point with a row.
+// Apart, as is one without: LLVM copies the row once less than in the loop itself.
+#[inline(always)]
+fn told(instr: &Instr, row: &Row, potential: Potential) -> Point
+    ensures { result ≡ record { instr = instr.now; row = Some row.now; potential = potential } }
+{
+    Point {
+        instr: *instr,
+        row: Some(*row),
+        potential,
+    }
+}
+
+/// A point without a row.
+#[inline(always)]
+fn bare(instr: &Instr, potential: Potential) -> Point
+    ensures { result ≡ record { instr = instr.now; row = None; potential = potential } }
+{
+    Point {
+        instr: *instr,
+        row: None,
+        potential,
+    }
+}
+
 /// Each instruction with the row and the potential that the bytes give it.
 #[inline(never)]
 pub(crate) fn points_at(
@@ -188,11 +214,7 @@ pub(crate) fn points_at(
     for instr in code {
         row_like(false, bytes, before, at, &mut row)?;
         let potential = potential_at(bytes, at + ROW_LEN)?;
-        points.push(Point {
-            instr: *instr,
-            row: Some(row),
-            potential,
-        })?;
+        points.push(told(instr, &row, potential))?;
         before = at;
         at += 58;
     }
@@ -217,11 +239,7 @@ pub(crate) fn bare_at(
     let mut at = start;
     for instr in code {
         let potential = potential_at(bytes, at)?;
-        points.push(Point {
-            instr: *instr,
-            row: None,
-            potential,
-        })?;
+        points.push(bare(instr, potential))?;
         at += 20;
     }
     Ok(points)
