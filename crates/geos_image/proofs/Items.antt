@@ -1,5 +1,5 @@
 -- Things of one width, read one after another.
-use Rattle.std.proofs.Common.{Bool, ◌≡◌, ℕ, suc, ◌+◌, ◌*◌, ◌-◌, ◌≤◌, ◌<◌, List, [], ◌∷◌, ◌++◌, length, get_or, drop, Some, None, Result, Ok, Err, refl, sym, ap, ◌∙◌, append_assoc, arith, add-one}
+use Rattle.std.proofs.Common.{Bool, false, ◌≡◌, ℕ, suc, ◌+◌, ◌*◌, ◌-◌, ◌≤◌, ◌<◌, List, [], ◌∷◌, ◌++◌, length, get_or, drop, Some, None, Result, Ok, Err, refl, sym, ap, ◌∙◌, append_assoc, arith, add-one}
 use Rattle.std.proofs.lemmas.List.{append-nil, drop_all}
 use Rattle.std.proofs.Math.Seq.{drop-cons}
 use Rattle.geos_image.specs.declared.instr.Instr.{Instr}
@@ -7,7 +7,7 @@ use Rattle.geos_image.specs.declared.row.Row.{Row}
 use Rattle.geos_image.specs.declared.potential.Potential.{Potential}
 use Rattle.geos_image.specs.declared.routine.Routine.{Routine}
 use Rattle.geos_image.specs.declared.point.Point.{Point}
-use Rattle.geos_image.specs.Reading.{◌>>=◌, items_at, routine_at, routines_at, entry_at, points_at, potential_at, bare_points_at}
+use Rattle.geos_image.specs.Reading.{◌>>=◌, items_at, routine_at, routines_at, row_at, entry_at, points_at, potential_at, bare_points_at}
 
 -- four of them
 pub four_items : {A : Type 0} (read : ℕ → Result A ℕ) (width at second third fourth : ℕ) (a b c d : A) → at + width ≡ second
@@ -83,6 +83,23 @@ module _ (borrows : Bool) (bytes : List ℕ) (count : ℕ) (total : Result (List
       let k : count - i ≡ 0 = omega arith in
       let one : routines_at borrows bytes (count - i) at front ≡ Ok front = rw k refl in
       sym so_far ∙ one
+
+-- what an instruction is told is read where its row and its potential are
+pub entry_whole : (bytes : List ℕ) (at : ℕ) (row : Row) (potential : Potential) → row_at false bytes at ≡ Ok row
+    → potential_at bytes (at + 38) ≡ Ok potential → entry_at bytes at ≡ Ok (row, potential)
+unfolding entry_at
+entry_whole bytes at row potential h k = rw (h, k) refl
+
+-- a fault of its row
+pub entry_no_row : (bytes : List ℕ) (at fault : ℕ) → row_at false bytes at ≡ Err fault → entry_at bytes at ≡ Err fault
+unfolding entry_at
+entry_no_row bytes at fault h = rw h refl
+
+-- a fault of its potential
+pub entry_no_potential : (bytes : List ℕ) (at fault : ℕ) (row : Row) → row_at false bytes at ≡ Ok row
+    → potential_at bytes (at + 38) ≡ Err fault → entry_at bytes at ≡ Err fault
+unfolding entry_at
+entry_no_potential bytes at fault row h k = rw (h, k) refl
 
 module _ (bytes : List ℕ) (code : List Instr) (total : Result (List Point) ℕ) where
   pub points-more : (front : List Point) (k at : ℕ) (d : Instr) (row : Row) (potential : Potential) → k < length code

@@ -1,11 +1,14 @@
 -- Rows: what is read is spelled there, and what is spelled there is read.
-use Rattle.std.proofs.Common.{◌≡◌, ℕ, ◌+◌, ◌*◌, ◌^◌, ◌<◌, ◌≤◌, Bool, true, false, cond, List, [], ◌∷◌, ◌++◌, length, map, All, Option, Some, None, Ok, refl, sym, ap, subst, ◌∙◌, inl, inr, lit<, arith}
-use Rattle.std.specs.Prelude.{◌==◌, ◌||◌, ◌&&◌, nat_lt}
+use Rattle.std.proofs.Common.{◌≡◌, ℕ, zero, suc, Result, ◌+◌, ◌*◌, ◌^◌, ◌<◌, ◌≤◌, Bool, true, false, cond, List, [], ◌∷◌, ◌++◌, length, map, take, drop, All, Option, Some, None, Ok, refl, sym, ap, subst, ◌∙◌, inl, inr, lit<, arith}
+use Rattle.std.specs.Prelude.{◌==◌, ◌||◌, ◌&&◌, nat_lt, nat_le, nat_eq}
+use Rattle.std.specs.Cmp.Lexicographic.{pointwise, bytes_decides}
 use Rattle.std.specs.List.{flat_map, list_all}
-use Rattle.std.proofs.lemmas.Bool.{eqb-true, eq-eqb, ltb-true, lt-ltb, le-ltb, ne_eqb, cases_lt, and_parts, agree_below_at}
+use Rattle.std.proofs.lemmas.Bool.{eqb-true, eq-eqb, leb-true, ltb-true, lt-ltb, le-ltb, ne_eqb, cases_lt, and_parts, agree_below_at}
+use Rattle.std.proofs.lemmas.List.{length-append, length-drop, take-append-drop}
 use Rattle.std.proofs.lemmas.List.Concat.{flat_map_single}
 use Rattle.std.proofs.lemmas.List.Elements.{All-nil, All-cons, All-head, All-tail}
 use Rattle.std.proofs.Math.Nat.{pow-suc}
+use Rattle.std.proofs.Math.Seq.{take-append_seam}
 use Rattle.geos_image.specs.declared.row.Row.{Row}
 use Rattle.geos_image.specs.declared.row.Pointer.{Pointer}
 use Rattle.geos_image.specs.declared.row.SlotState.{SlotState}
@@ -14,7 +17,7 @@ use Rattle.geos_image.specs.Ranges.{IsWord, PointerFits, RowFits}
 use Rattle.geos_image.specs.Spelling.{word, flag, slot_code, pointer, pairs_byte, row}
 use Rattle.geos_image.specs.Reading.{guard, byte_at, word_at, byte_below, word_below, items_at, slot_states, slot_of, slot_at, pointer_at, pairs_of, row_at}
 use Rattle.geos_image.proofs.SlotLaws.{slot_of_again}
-use Rattle.geos_image.proofs.Steps.{ok_is, after, guard_ok, or_fault_ok, find_passes}
+use Rattle.geos_image.proofs.Steps.{ok_is, after, guard_ok, cond_ok, or_fault_ok, find_passes}
 use Rattle.geos_image.proofs.Places.{plus, IsBytes, Takes, Takes-then, Left, Left-as, four_texts}
 use Rattle.geos_image.proofs.NumberLaws.{byte_found, word_found, below_ok, unused_found, byte_again, word_again, byte_below_again, word_below_again}
 use Rattle.geos_image.proofs.RunLaws.{items_found, items_again}
@@ -221,3 +224,79 @@ row_again borrows bytes at next r rest e legal fits l =
     let pairs = byte_below_again 64 bytes (at + 36) (at + 37) (pairs_byte r.pairs) _ (plus at 36 1) six.0 pointers.1 in
     let unused = byte_below_again 1 bytes (at + 37) next 0 rest (e ∙ plus at 37 1) (lit< tt) pairs.1 in
     (rw (bounds.0, slots.0, pointers.0, pairs.0, unused.0, six.1) refl, unused.1)
+
+-- ---- numbers that were read
+
+-- what holds of each one that is read holds of a run of them
+items_fit : {A : Type 0} (read : ℕ → Result A ℕ) (width : ℕ) (P : A → Type 0) → ((at : ℕ) (x : A) → read at ≡ Ok x → P x)
+    → (n at : ℕ) (xs : List A) → items_at read width n at ≡ Ok xs → All P xs
+items_fit read width P each zero at xs h = subst (λ ys. All P ys) (ok_is [] xs h) (All-nil P)
+items_fit read width P each (suc n) at xs h =
+    after (read at) _ xs h (λ first read-first h.
+    after (items_at read width n (at + width)) _ xs h (λ others read-others h.
+    subst (λ ys. All P ys) (ok_is (first ∷ others) xs h)
+    (All-cons P first others (each at first read-first) (items_fit read width P each n (at + width) others read-others))))
+
+word_fits : (bytes : List ℕ) → IsBytes bytes → (at n : ℕ) → word_at bytes at ≡ Ok n → IsWord n
+word_fits bytes fits at n h =
+    let g = cond_ok _ _ _ n h in
+    subst IsWord g.1 (omega (arith, fits at, fits (at + 1)))
+
+pointer_made : (known : Bool) (slot least : ℕ) (p : Option Pointer) → IsWord least
+    → cond known (Some (record { slot = slot; least = least })) None ≡ p → PointerFits p
+pointer_made true slot least p fits made = subst PointerFits made fits
+pointer_made false slot least p fits made = subst PointerFits made tt
+
+pointer_fits : (bytes : List ℕ) → IsBytes bytes → (at : ℕ) (p : Option Pointer) → pointer_at bytes at ≡ Ok p → PointerFits p
+unfolding pointer_at
+pointer_fits bytes fits at p h =
+    after (byte_at bytes at) _ p h (λ slot read-slot h.
+    after (guard at (nat_lt slot 4 || slot == 255)) _ p h (λ known read-known h.
+    after (byte_below 1 bytes (at + 1)) _ p h (λ unused read-unused h.
+    after (word_below (cond (slot == 255) 1 65536) bytes (at + 2)) _ p h (λ least read-least h.
+    let below = below_ok _ (at + 2) (word_at bytes (at + 2)) least read-least in
+    pointer_made (nat_lt slot 4) slot least p (word_fits bytes fits (at + 2) least below.0) (ok_is _ p h)))))
+
+-- a row that was read has words for numbers
+pub row_fits : (borrows : Bool) (bytes : List ℕ) → IsBytes bytes → (at : ℕ) (r : Row) → row_at borrows bytes at ≡ Ok r → RowFits r
+unfolding row_at
+row_fits borrows bytes fits at r h =
+    after (items_at (word_at bytes) 2 8 at) _ r h (λ bounds read-bounds h.
+    after (items_at (slot_at borrows bytes) 1 4 (at + 16)) _ r h (λ slots read-slots h.
+    after (items_at (pointer_at bytes) 4 4 (at + 20)) _ r h (λ pointers read-pointers h.
+    after (byte_below 64 bytes (at + 36)) _ r h (λ pairs read-pairs h.
+    after (byte_below 1 bytes (at + 37)) _ r h (λ unused read-unused h.
+    let read : Row = record { bounds = bounds; slots = slots; pointers = pointers; pairs = pairs_of pairs } in
+    let fine : RowFits read = record {
+      bounds = items_fit (word_at bytes) 2 IsWord (word_fits bytes fits) 8 at bounds read-bounds;
+      pointers = items_fit (pointer_at bytes) 4 PointerFits (pointer_fits bytes fits) 4 (at + 20) pointers read-pointers;
+    } in
+    subst RowFits (ok_is read r h) fine)))))
+
+-- ---- bytes that are the same
+
+-- the bytes of a row stand at both offsets, and are the same
+abbrev pub are_alike : List ℕ → ℕ → ℕ → Bool
+are_alike bytes before at = nat_le (at + 38) (length bytes) && pointwise nat_eq (take 38 (drop before bytes)) (take 38 (drop at bytes))
+
+-- where they are, the row of the one offset stands at the other
+pub row_alike : (borrows : Bool) (bytes : List ℕ) → IsBytes bytes → (before at : ℕ) (r : Row) → before ≤ at → is_row borrows r ≡ true
+    → are_alike bytes before at ≡ true → row_at borrows bytes before ≡ Ok r → row_at borrows bytes at ≡ Ok r
+row_alike borrows bytes fits before at r order legal alike read =
+    let first = take 38 (drop before bytes) in
+    let second = take 38 (drop at bytes) in
+    let tests = and_parts (nat_le (at + 38) (length bytes)) (pointwise nat_eq first second) alike in
+    let within : at + 38 ≤ length bytes = leb-true (at + 38) (length bytes) tests.0 in
+    let same : first ≡ second = (bytes_decides first second).0 tests.1 in
+    let rest = drop (before + 38) bytes in
+    let behind = drop 38 (drop at bytes) in
+    let found : drop before bytes ≡ row r ++ rest = (row_found borrows bytes fits before (before + 38) r refl read).parts in
+    let len : length (row r) ≡ 38 =
+    omega (arith, order, within, length-drop before bytes, length-drop (before + 38) bytes, ap length found, length-append (row r) rest) in
+    let text : first ≡ row r = ap (take 38) found
+    ∙ subst (λ (k : ℕ). take k (row r ++ rest) ≡ row r) len (take-append_seam (row r) rest) in
+    let here : drop at bytes ≡ row r ++ behind = sym (take-append-drop 38 (drop at bytes))
+    ∙ ap (λ (t : List ℕ). t ++ behind) (sym same ∙ text) in
+    let within_bytes : at ≤ length bytes = omega (arith, within) in
+    (row_again borrows bytes at (at + 38) r behind refl legal (row_fits borrows bytes fits before r read)
+    (record { within = within_bytes; parts = here })).0

@@ -245,3 +245,8 @@ Fails (BadImage at) read = read ≡ Err at
 abbrev pub Gives : {X Y : Type 0} → (X → Y) → Result X ReadError → Result Y ℕ → Type 0
 Gives view (Ok x) read = read ≡ Ok (view x)
 Gives view (Err e) read = Fails e read
+
+-- the function puts what reading gives into its place, or gives the fault
+abbrev pub Puts : {Y : Type 0} → Result (Unit {0}) ℕ → Y → Result Y ℕ → Type 0
+Puts (Ok done) place read = read ≡ Ok place
+Puts (Err at) place read = read ≡ Err at

@@ -110,8 +110,8 @@ pub(crate) fn flag_count(flags: &Flags, points: &[Point]) -> usize
 fn set_row(point: &mut Point, flag: bool, rows: &[Row], next: usize)
     ensures { point.new ≡ record point.old { row = row_for flag rows.now next } }
 {
-    if flag {
-        point.row = rows.get(next).copied();
+    if flag && next < rows.len() {
+        point.row = Some(rows[next]);
     } else {
         point.row = None;
     }

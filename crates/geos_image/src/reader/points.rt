@@ -1,6 +1,6 @@
 //! The instructions, and what the verifier is told at each of them.
 
-ghost use Rattle.std.specs.Prelude.{◌≡◌, ◌<◌, ◌≤◌, ◌^◌, length, true, false, IfOk};
+ghost use Rattle.std.specs.Prelude.{◌≡◌, ◌<◌, ◌≤◌, ◌^◌, length, true, false, Some, None, IfOk};
 ghost use Rattle.std.specs.List.{list_all};
 ghost use Rattle.geos_image.specs.Legal.{is_instr, is_row, LegalWhere};
 ghost use Rattle.geos_image.specs.Parts.{instrs_of};
@@ -11,8 +11,9 @@ use crate::error::ReadError;
 use crate::instr::Instr;
 use crate::legal::MOST_INSTRS;
 use crate::point::Point;
+use crate::potential::Potential;
 use crate::reader::numbers::{Fault, byte_at, byte_below, word_below};
-use crate::reader::rows::{entry_at, potential_at, row_at};
+use crate::reader::rows::{ROW_LEN, potential_at, row_like};
 use crate::row::Row;
 use geos_opcodes::{Opcode, Operand};
 use std::alloc::Global;
@@ -144,6 +145,7 @@ fn instr_at(routines: u32, instrs: u32, bytes: &[u8], at: usize) -> Result<Instr
     coded_at(routines, instrs, bytes, at)
 }
 
+#[inline(never)]
 pub(crate) fn instrs_at(
     alloc: Global,
     bytes: &[u8],
@@ -166,7 +168,33 @@ pub(crate) fn instrs_at(
     Ok(code)
 }
 
+/// A point with a row.
+// Apart, as is one without: LLVM copies the row once less than in the loop itself.
+#[inline(always)]
+fn told(instr: &Instr, row: &Row, potential: Potential) -> Point
+    ensures { result ≡ record { instr = instr.now; row = Some row.now; potential = potential } }
+{
+    Point {
+        instr: *instr,
+        row: Some(*row),
+        potential,
+    }
+}
+
+/// A point without a row.
+#[inline(always)]
+fn bare(instr: &Instr, potential: Potential) -> Point
+    ensures { result ≡ record { instr = instr.now; row = None; potential = potential } }
+{
+    Point {
+        instr: *instr,
+        row: None,
+        potential,
+    }
+}
+
 /// Each instruction with the row and the potential that the bytes give it.
+#[inline(never)]
 pub(crate) fn points_at(
     alloc: Global,
     bytes: &[u8],
@@ -180,20 +208,21 @@ pub(crate) fn points_at(
     ensures len { IfOk result (λ v. length v.items ≡ length code.now) }
 {
     let mut points = Vec::with_capacity(alloc, code.len())?;
+    let mut row = Row::open();
+    let mut before = start;
     let mut at = start;
     for instr in code {
-        let (row, potential) = entry_at(bytes, at)?;
-        points.push(Point {
-            instr: *instr,
-            row: Some(row),
-            potential,
-        })?;
+        row_like(false, bytes, before, at, &mut row)?;
+        let potential = potential_at(bytes, at + ROW_LEN)?;
+        points.push(told(instr, &row, potential))?;
+        before = at;
         at += 58;
     }
     Ok(points)
 }
 
 /// Each instruction with the potential that the bytes give it, and no row.
+#[inline(never)]
 pub(crate) fn bare_at(
     alloc: Global,
     bytes: &[u8],
@@ -210,17 +239,14 @@ pub(crate) fn bare_at(
     let mut at = start;
     for instr in code {
         let potential = potential_at(bytes, at)?;
-        points.push(Point {
-            instr: *instr,
-            row: None,
-            potential,
-        })?;
+        points.push(bare(instr, potential))?;
         at += 20;
     }
     Ok(points)
 }
 
 /// So many rows.
+#[inline(never)]
 pub(crate) fn rows_at(
     alloc: Global,
     bytes: &[u8],
@@ -234,10 +260,13 @@ pub(crate) fn rows_at(
     ensures len { IfOk result (λ v. length v.items ≡ count) }
 {
     let mut rows = Vec::with_capacity(alloc, count)?;
+    let mut row = Row::open();
+    let mut before = start;
     let mut at = start;
     for _ in 0..count {
-        let row = row_at(true, bytes, at)?;
+        row_like(true, bytes, before, at, &mut row)?;
         rows.push(row)?;
+        before = at;
         at += 38;
     }
     Ok(rows)

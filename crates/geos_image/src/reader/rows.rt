@@ -1,9 +1,10 @@
 //! Rows and potentials.
 
-ghost use Rattle.std.specs.Prelude.{◌≡◌, ◌<◌, ◌^◌, ◌||◌, IfOk, true, false};
+ghost use Rattle.std.specs.Prelude.{◌≡◌, ◌<◌, ◌≤◌, ◌^◌, ◌+◌, ◌&&◌, ◌||◌, nat_eq, nat_le, length, take, drop, IfOk, Ok, true};
 ghost use Rattle.std.specs.List.{list_all};
+ghost use Rattle.std.specs.Cmp.Lexicographic.{pointwise};
 ghost use Rattle.geos_image.specs.Legal.{is_own, is_pointer, is_row};
-ghost use Rattle.geos_image.specs.Reading.{word_at, long_at, slot_at, pointer_at, pairs_of, items_at, row_at, potential_at, entry_at};
+ghost use Rattle.geos_image.specs.Reading.{word_at, long_at, slot_at, pointer_at, pairs_of, items_at, row_at, potential_at, Puts};
 
 use crate::potential::Potential;
 use crate::reader::numbers::{Fault, byte_at, byte_below, long_at, word_at, word_below};
@@ -19,7 +20,7 @@ fn slot_at(borrows: bool, bytes: &[u8], at: usize) -> Result<SlotState, Fault>
 }
 
 /// The bytes of a row.
-const ROW_LEN: usize = 38;
+pub(crate) const ROW_LEN: usize = 38;
 
 /// The bytes of a potential.
 const POTENTIAL_LEN: usize = 20;
@@ -139,9 +140,9 @@ fn row_at_end(borrows: bool, bytes: &[u8], at: usize) -> Result<Row, Fault>
 
 /// A row. `borrows` says whether its slots may be borrowed. The length is tested once: a number of 32 bits is one of which
 /// LLVM knows that no sum wraps.
-// In place, and with the cut row taken out of what its call returns: so the row is made in registers, and not byte by byte
-// in memory that is then read by words.
-#[inline(always)]
+// With the cut row taken out of what its call returns: so the row is made in registers, and not byte by byte in memory
+// that is then read by words.
+#[inline(never)]
 pub(crate) fn row_at(borrows: bool, bytes: &[u8], at: usize) -> Result<Row, Fault>
     requires { at < 2 ^ 29 }
     ensures exact { result ≡ row_at borrows bytes.now at }
@@ -155,30 +156,56 @@ pub(crate) fn row_at(borrows: bool, bytes: &[u8], at: usize) -> Result<Row, Faul
     fields_at(borrows, bytes, at)
 }
 
-fn coefficients_at(bytes: &[u8], at: usize) -> Result<[u32; 4], Fault>
-    requires { at < 2 ^ 30 }
-    ensures { result ≡ items_at (long_at bytes.now) 4 4 at }
+/// Whether the bytes of a row stand at both offsets, and are the same.
+#[inline(always)]
+fn are_same(bytes: &[u8], before: usize, at: usize) -> bool
+    requires order { before ≤ at }
+    requires place { at < 2 ^ 28 }
+    ensures { result ≡ (nat_le (at + 38) (length bytes.now)
+        && pointwise nat_eq (take 38 (drop before bytes.now)) (take 38 (drop at bytes.now))) }
 {
-    Ok([
-        long_at(bytes, at)?,
-        long_at(bytes, at + 4)?,
-        long_at(bytes, at + 8)?,
-        long_at(bytes, at + 12)?,
-    ])
+    at + ROW_LEN <= bytes.len() && bytes[before..before + ROW_LEN] == bytes[at..at + ROW_LEN]
+}
+
+/// Makes `row` the one that stands at `at`. Where `before` is another offset, `row` is what stands there: it is read anew only
+/// where the bytes differ, which between two instructions they mostly don't.
+#[inline(always)]
+pub(crate) fn row_like(
+    borrows: bool,
+    bytes: &[u8],
+    before: usize,
+    at: usize,
+    row: &mut Row,
+) -> Result<(), Fault>
+    requires order { before ≤ at }
+    requires place { at < 2 ^ 28 }
+    requires known { before < at → row_at borrows bytes.now before ≡ Ok row.old }
+    requires fine { before < at → is_row borrows row.old ≡ true }
+    ensures exact { Puts result row.new (row_at borrows bytes.now at) }
+    ensures legal { IfOk result (λ done. is_row borrows row.new ≡ true) }
+{
+    if before == at || !are_same(bytes, before, at) {
+        *row = row_at(borrows, bytes, at)?;
+    }
+    Ok(())
 }
 
 /// The numbers of a potential.
+// All at once: of a `Result` with the coefficients alone LLVM makes the potential by pieces in memory.
 #[tactic(auto, unfolding(crate::specs::Reading::potential_at))]
 #[inline(always)]
 fn numbers_at(bytes: &[u8], at: usize) -> Result<Potential, Fault>
     requires { at < 2 ^ 29 }
     ensures { result ≡ potential_at bytes.now at }
 {
-    let constant = long_at(bytes, at)?;
-    let coefficients = coefficients_at(bytes, at + 4)?;
     Ok(Potential {
-        constant,
-        coefficients,
+        constant: long_at(bytes, at)?,
+        coefficients: [
+            long_at(bytes, at + 4)?,
+            long_at(bytes, at + 8)?,
+            long_at(bytes, at + 12)?,
+            long_at(bytes, at + 16)?,
+        ],
     })
 }
 
@@ -204,16 +231,4 @@ pub(crate) fn potential_at(bytes: &[u8], at: usize) -> Result<Potential, Fault>
         return Ok(potential);
     }
     numbers_at(bytes, at)
-}
-
-#[tactic(auto, unfolding(crate::specs::Reading::entry_at))]
-#[inline(always)]
-pub(crate) fn entry_at(bytes: &[u8], at: usize) -> Result<(Row, Potential), Fault>
-    requires { at < 2 ^ 28 }
-    ensures exact { result ≡ entry_at bytes.now at }
-    ensures legal { IfOk result (λ e. is_row false e.0 ≡ true) }
-{
-    let row = row_at(false, bytes, at)?;
-    let potential = potential_at(bytes, at + ROW_LEN)?;
-    Ok((row, potential))
 }

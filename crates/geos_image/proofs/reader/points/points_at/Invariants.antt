@@ -1,7 +1,7 @@
-use Rattle.std.proofs.Common.{◌≡◌, ℕ, ◌+◌, ◌*◌, length, true, false, take, drop}
+use Rattle.std.proofs.Common.{◌≡◌, ℕ, ◌+◌, ◌*◌, ◌<◌, ◌≤◌, length, Ok, true, false, take, drop}
 use Rattle.std.specs.List.{list_all}
-use Rattle.geos_image.specs.Legal.{is_instr, is_point}
-use Rattle.geos_image.specs.Reading.{points_at}
+use Rattle.geos_image.specs.Legal.{is_instr, is_point, is_row}
+use Rattle.geos_image.specs.Reading.{row_at, points_at}
 use Rattle.geos_image.proofs.Items.{with_front}
 use Rattle.geos_image.proofs.reader.points.points_at.Given as goal
 
@@ -10,3 +10,4 @@ invariant-loop-instr l = (l.at ≡ l.start + 58 * l.instr-index) × (length l.po
     × ((routines instrs : ℕ) → list_all (is_instr routines instrs) (take l.instr-index l.code) ≡ true
     → list_all (is_point false routines instrs) l.points.items ≡ true)
     × (with_front l.points.items (points_at l.bytes (drop l.instr-index l.code) l.at) ≡ points_at l.bytes l.code l.start)
+    × (l.before ≤ l.at) × (l.before < l.at → row_at false l.bytes l.before ≡ Ok l.row) × (l.before < l.at → is_row false l.row ≡ true)

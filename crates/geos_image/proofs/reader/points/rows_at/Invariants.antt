@@ -1,4 +1,4 @@
-use Rattle.std.proofs.Common.{◌≡◌, ◌+◌, ◌-◌, ◌*◌, length, true}
+use Rattle.std.proofs.Common.{◌≡◌, ◌+◌, ◌-◌, ◌*◌, ◌<◌, ◌≤◌, length, Ok, true}
 use Rattle.std.specs.List.{list_all}
 use Rattle.geos_image.specs.Legal.{is_row}
 use Rattle.geos_image.specs.Reading.{row_at, items_at}
@@ -8,3 +8,4 @@ use Rattle.geos_image.proofs.reader.points.rows_at.Given as goal
 abbrev pub invariant-loop : goal.invariant-loop
 invariant-loop l = (l.at ≡ l.start + 38 * l.counter) × (length l.rows.items ≡ l.counter) × (list_all (is_row true) l.rows.items ≡ true)
     × (with_front l.rows.items (items_at (row_at true l.bytes) 38 (l.count - l.counter) l.at) ≡ items_at (row_at true l.bytes) 38 l.count l.start)
+    × (l.before ≤ l.at) × (l.before < l.at → row_at true l.bytes l.before ≡ Ok l.row) × (l.before < l.at → is_row true l.row ≡ true)
