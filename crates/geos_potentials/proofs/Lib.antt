@@ -26,3 +26,4 @@ pub mod Spending
 pub mod Freeing
 pub mod Sweeping
 pub mod Dearer
+pub mod Placing

@@ -27,3 +27,5 @@ pub mod Untouched
 pub mod Reasons
 pub mod Spent
 pub mod Paid
+pub mod Splits
+pub mod Cycles

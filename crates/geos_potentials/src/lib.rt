@@ -34,6 +34,7 @@ mod spent;
 mod spread;
 mod units;
 mod unpaid;
+mod ways;
 
 pub use arcs::{Arc, Counting};
 pub use asked::Potentials;

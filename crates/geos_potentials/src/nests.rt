@@ -1,10 +1,12 @@
 //! Nests: places among which control goes round, each with the LOOPs that pay for that.
 
-ghost use Rattle.std.specs.Prelude.{◌≡◌, ◌<◌, ◌≤◌, ◌+◌, ℕ, None, true, IfSome, IfErr, slice_index_or, slice_set};
+ghost use Rattle.std.specs.Prelude.{◌≡◌, ◌<◌, ◌≤◌, ◌+◌, ℕ, None, Some, true, false, min, IfOk, IfSome, IfErr, slice_index_or, slice_set};
 ghost use Rattle.geos_potentials.specs.Pieces.{NoneMayPay};
 ghost use Rattle.geos_potentials.specs.Spent.{AreFree, AreLeftOut, LoopsSpent, MayPayAt, StayFree};
+ghost use Rattle.geos_potentials.specs.Splits.{NoNests, HasRound};
 ghost use Rattle.geos_potentials.specs.Stuck.{StayNoted, GoesRoundIdle};
 ghost use Rattle.geos_potentials.specs.Untouched.{AreUntouched, StayUntouched};
+ghost use Rattle.geos_potentials.specs.declared.jumps.Jump.TheVariants.{Plain};
 ghost use Rattle.geos_potentials.specs.declared.nests.Nest.{Nest};
 
 use crate::choice::{Choice, Chosen, Tier, choose};
@@ -99,7 +101,10 @@ pub struct Nests {
 }
 
 impl Nests {
-    pub(crate) fn new(alloc: Global) -> Result<Nests, AllocError> {
+    /// There are none.
+    pub(crate) fn new(alloc: Global) -> Result<Nests, AllocError>
+        ensures { IfOk result NoNests }
+    {
         let waiting = Waiting {
             piece: Piece { begin: 0, end: 0 },
             around: None,
@@ -197,7 +202,11 @@ impl Nests {
     }
 
     /// How many nests are around one in a nest.
-    fn depth_in(&self, around: Option<u16>) -> u16 {
+    fn depth_in(&self, around: Option<u16>) -> u16
+        ensures none { around ≡ None → result ≡ 0 }
+        ensures some { (nest : ℕ) (other : Nest) → around ≡ Some nest → nest < 4096
+            → result ≡ min ((slice_index_or self.now.list nest other).depth + 1) 65535 }
+    {
         match around {
             Some(nest) if nest < MOST_INSTRS => self.list.at(nest).depth.saturating_add(1),
             _ => 0,
@@ -245,7 +254,11 @@ pub struct Splitting {
 }
 
 impl Splitting {
-    pub(crate) fn new(alloc: Global) -> Result<Splitting, AllocError> {
+    /// There are no nests, and nothing is found of LOOPs.
+    pub(crate) fn new(alloc: Global) -> Result<Splitting, AllocError>
+        ensures nests { IfOk result (λ splitting. NoNests splitting.nests) }
+        ensures jumps { IfOk result (λ splitting. (pc : ℕ) → slice_index_or splitting.jumps pc Plain ≡ Plain) }
+    {
         let order = Order::new(alloc)?;
         let jumps = Table::new(alloc, Jump::Plain)?;
         let nests = Nests::new(alloc)?;
@@ -259,7 +272,10 @@ impl Splitting {
     }
 
     /// Whether control goes round among the places of a piece, which are a component.
-    fn goes_round(&self, graph: &Graph, piece: &Piece) -> bool {
+    fn goes_round(&self, graph: &Graph, piece: &Piece) -> bool
+        ensures only { result ≡ true → HasRound graph.now.arcs self.now.jumps self.now.order piece.now }
+        ensures all { HasRound graph.now.arcs self.now.jumps self.now.order piece.now → result ≡ true }
+    {
         if MOST_INSTRS <= piece.begin || piece.length() == 0 {
             return false;
         }
