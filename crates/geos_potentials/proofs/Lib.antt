@@ -27,3 +27,4 @@ pub mod Freeing
 pub mod Sweeping
 pub mod Dearer
 pub mod Placing
+pub mod Wholes

@@ -29,3 +29,4 @@ pub mod Spent
 pub mod Paid
 pub mod Splits
 pub mod Cycles
+pub mod Whole

@@ -35,6 +35,7 @@ mod spread;
 mod units;
 mod unpaid;
 mod ways;
+mod whole;
 
 pub use arcs::{Arc, Counting};
 pub use asked::Potentials;

@@ -6,6 +6,7 @@ ghost use Rattle.geos_potentials.specs.Spent.{AreFree, AreLeftOut, LoopsSpent, M
 ghost use Rattle.geos_potentials.specs.Splits.{NoNests, HasRound};
 ghost use Rattle.geos_potentials.specs.Stuck.{StayNoted, GoesRoundIdle};
 ghost use Rattle.geos_potentials.specs.Untouched.{AreUntouched, StayUntouched};
+ghost use Rattle.geos_potentials.specs.Whole.{AreWhole};
 ghost use Rattle.geos_potentials.specs.declared.jumps.Jump.TheVariants.{Plain};
 ghost use Rattle.geos_potentials.specs.declared.nests.Nest.{Nest};
 
@@ -16,6 +17,7 @@ use crate::graph::Graph;
 use crate::idle::goes_round_idle;
 use crate::jumps::{Jump, Jumps, lead_within};
 use crate::pieces::{Order, Piece};
+use crate::whole::are_whole;
 use geos_code::{Body, Table, two_tables};
 use geos_image::MOST_INSTRS;
 use std::alloc::{AllocError, Global};
@@ -379,14 +381,9 @@ impl Splitting {
         }
     }
 
-    /// Finds the nests of a routine, or a component in which control goes round and no LOOP may pay. What is known of counters stays, but for
-    /// what is set in a piece.
-    pub(crate) fn find(
-        &mut self,
-        body: &Body,
-        graph: &Graph,
-        classes: &mut Classes,
-    ) -> Result<(), Piece>
+    /// Makes the nests of a routine, or finds a component in which control goes round and no LOOP may pay. What is known of counters stays,
+    /// but for what is set in a piece.
+    fn make_all(&mut self, body: &Body, graph: &Graph, classes: &mut Classes) -> Result<(), Piece>
         ensures noted { StayNoted classes.old classes.new }
         ensures none { IfErr result (NoneMayPay graph.now.arcs self.new.jumps self.new.order classes.new) }
         ensures round { IfErr result (GoesRoundIdle body.now.image.now body.now.r graph.now.arcs classes.new self.new.order) }
@@ -406,6 +403,40 @@ impl Splitting {
             };
             self.make(body, graph, classes, &waiting)?;
         }
+        Ok(())
+    }
+
+    /// Where places of some nest are no component, there are no nests. That has never come, but it is not proved of how they are made.
+    fn keep_whole(&mut self, graph: &Graph, classes: &mut Classes)
+        ensures noted { StayNoted classes.old classes.new }
+        ensures jumps { self.new.jumps ≡ self.old.jumps }
+        ensures whole { AreWhole graph.now.arcs self.new }
+    {
+        if !are_whole(graph, self, &mut classes.set_within, &mut classes.waits) {
+            self.nests.count = 0;
+        }
+    }
+
+    /// Finds the nests of a routine, each of which is a component, or a component in which control goes round and no LOOP may pay. What is
+    /// known of counters stays, but for what is set in a piece.
+    pub(crate) fn find(
+        &mut self,
+        body: &Body,
+        graph: &Graph,
+        classes: &mut Classes,
+    ) -> Result<(), Piece>
+        ensures noted { StayNoted classes.old classes.new }
+        ensures none { IfErr result (NoneMayPay graph.now.arcs self.new.jumps self.new.order classes.new) }
+        ensures round { IfErr result (GoesRoundIdle body.now.image.now body.now.r graph.now.arcs classes.new self.new.order) }
+        ensures untouched { AreUntouched body.now.start graph.now.arcs self.new.jumps classes.old.touched }
+        ensures free { AreFree graph.now.arcs self.new.jumps classes.old body.now.start body.now.end }
+        ensures whole { IfOk result (λ _. AreWhole graph.now.arcs self.new) }
+    {
+        match self.make_all(body, graph, classes) {
+            Ok(()) => {}
+            Err(piece) => return Err(piece),
+        }
+        self.keep_whole(graph, classes);
         Ok(())
     }
 
