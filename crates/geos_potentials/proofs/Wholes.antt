@@ -27,34 +27,37 @@ module _ (arcs : List (List (Option Arc))) (splitting : Splitting) (id : ℕ) (p
       (step ∷ rest.0, (B.0, B.1, B.2, rest.1))
 
   -- control comes from where an edge begins that stays in the nest, and leads to where it comes from
-  pub back-in : (to : ℕ) (old next : List (List ℕ)) (p : ℕ) (branch : Bool) (arc : Arc) → arc_at arcs p branch ≡ Some arc
+  pub back-in : (low to : ℕ) (old next : List (List ℕ)) (p : ℕ) (branch : Bool) (arc : Arc) → low ≤ arc.to → arc_at arcs p branch ≡ Some arc
       → StaysInNest splitting id piece p branch arc.to → AreRaised old next p (slice_index_or old arc.to [])
-      → AreCameFrom arcs splitting id piece to old → AreCameFrom arcs splitting id piece to next
-  back-in to old next p branch arc read stays R before pc k some =
-      raised-all (λ at c n. (steps : List Step) × AreSteps arcs splitting id piece at steps to) 0 old next p
+      → AreCameFrom arcs splitting id piece low to old → AreCameFrom arcs splitting id piece low to next
+  back-in low to old next p branch arc above read stays R before pc k up some =
+      raised-all (λ at c n. (steps : List Step) × AreSteps arcs splitting id piece at steps to) low old next p
       (slice_index_or old arc.to []) R
-      (λ at c above lt. before at c lt)
-      (λ c above lt. (let came = before arc.to c lt in
+      before
+      (λ c _ lt. (let came = before arc.to c above lt in
       both-ways p arc.to to (record { pc = p; branch = branch; arc = arc } ∷ []) came.0 (refl, read, stays, refl) came.1))
-      pc k (omega arith) some
+      pc k up some
 
   -- at first it is at one place alone
-  pub first-back : (to : ℕ) (old next : List (List ℕ)) (numbers : List ℕ) → ((pc k : ℕ) → 0 ≤ pc → unit_at old pc k ≡ 0)
-      → AreRaised old next to numbers → AreCameFrom arcs splitting id piece to next
-  first-back to old next numbers none R pc k some = elim (cases_eq pc to) [
+  pub first-back : (low to : ℕ) (old next : List (List ℕ)) (numbers : List ℕ) → ((pc k : ℕ) → low ≤ pc → unit_at old pc k ≡ 0)
+      → AreRaised old next to numbers → AreCameFrom arcs splitting id piece low to next
+  first-back low to old next numbers none R pc k up some = elim (cases_eq pc to) [
     | inl same ↦ ([], same)
     | inr ne ↦
         let other = R.others pc k ne in
-        let zero = none pc k (omega arith) in
+        let zero = none pc k up in
         absurd (omega (arith, some, other, zero))
   ]
 
   -- where it comes from one place to all, and from all to that, it comes from each to each
-  pub whole : (first : ℕ) (on back : List (List ℕ)) → AreCameTo arcs splitting id piece first on
-      → AreCameFrom arcs splitting id piece first back → AreAllNoted splitting.order piece on piece.end → AreAllNoted splitting.order piece back piece.end → IsWhole arcs splitting id piece
-  whole first on back C F N B from to here there =
-      let begins = F from 0 (B here.0 from here.1 here.2 here.3) in
-      let ends = C to 0 (N there.0 to there.1 there.2 there.3) in
+  pub whole : (low first : ℕ) (on back : List (List ℕ)) → AreCameTo arcs splitting id piece low first on
+      → AreCameFrom arcs splitting id piece low first back → AreAllNoted splitting.order piece low on piece.end
+      → AreAllNoted splitting.order piece low back piece.end → IsWhole arcs splitting id piece
+  whole low first on back C F N B from to here there =
+      let out = B here.0 from here.1 here.2 here.3 in
+      let in_ = N there.0 to there.1 there.2 there.3 in
+      let begins = F from 0 out.0 out.1 in
+      let ends = C to 0 in_.0 in_.1 in
       both-ways from first to begins.0 ends.0 begins.1 ends.1
 
 -- Nests stay

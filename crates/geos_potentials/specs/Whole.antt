@@ -9,14 +9,15 @@ use Rattle.geos_potentials.specs.declared.nests.Splitting.{Splitting}
 use Rattle.geos_potentials.specs.declared.pieces.Order.{Order}
 use Rattle.geos_potentials.specs.declared.pieces.Piece.{Piece}
 
--- within a nest control comes to a pc from each place at which some number is not 0
-abbrev pub AreCameFrom : List (List (Option Arc)) → Splitting → ℕ → Piece → ℕ → List (List ℕ) → Type 0
-AreCameFrom arcs splitting id piece to seen = (pc k : ℕ) → 0 < unit_at seen pc k
+-- within a nest control comes to a pc from each place, of those from a lowest one on, at which some number is not 0
+abbrev pub AreCameFrom : List (List (Option Arc)) → Splitting → ℕ → Piece → ℕ → ℕ → List (List ℕ) → Type 0
+AreCameFrom arcs splitting id piece low to seen = (pc k : ℕ) → low ≤ pc → 0 < unit_at seen pc k
     → (steps : List Step) × AreSteps arcs splitting id piece pc steps to
 
--- the first number is not 0 at places that stand in a piece before some place of it
-abbrev pub AreAllNoted : Order → Piece → List (List ℕ) → ℕ → Type 0
-AreAllNoted order piece seen end = (x pc : ℕ) → piece.begin ≤ x → x < end → StandsAt order x pc → 0 < unit_at seen pc 0
+-- the first number is not 0 at places that stand in a piece before some place of it, and none of them is below a lowest one
+abbrev pub AreAllNoted : Order → Piece → ℕ → List (List ℕ) → ℕ → Type 0
+AreAllNoted order piece low seen end = (x pc : ℕ) → piece.begin ≤ x → x < end → StandsAt order x pc
+    → (low ≤ pc) × (0 < unit_at seen pc 0)
 
 -- steps along noted edges that stay in a nest lead from each of its places to each other
 abbrev pub IsWhole : List (List (Option Arc)) → Splitting → ℕ → Piece → Type 0

@@ -406,7 +406,7 @@ impl Splitting {
         Ok(())
     }
 
-    /// Where places of some nest are no component, there are no nests. That has never come, but it is not proved of how they are made.
+    /// Were the places of some nest no component, there would be no nests: that it never comes to this is not proved of how they are made.
     fn keep_whole(&mut self, graph: &Graph, classes: &mut Classes)
         ensures noted { StayNoted classes.old classes.new }
         ensures jumps { self.new.jumps ≡ self.old.jumps }

@@ -22,20 +22,23 @@ fn come_back_over(
     splitting: &Splitting,
     id: u16,
     piece: &Piece,
+    low: u16,
     seen: &mut Spread,
     waits: &mut Pile,
     edge: Lead,
 )
-    ensures come { (to : ℕ) → AreCameFrom graph.now.arcs splitting.now id piece.now to seen.old
-        → AreCameFrom graph.now.arcs splitting.now id piece.now to seen.new }
+    ensures come { (to : ℕ) → AreCameFrom graph.now.arcs splitting.now id piece.now low to seen.old
+        → AreCameFrom graph.now.arcs splitting.now id piece.now low to seen.new }
     ensures work { 2 * left_in seen.new + waits.new.count ≤ 2 * left_in seen.old + waits.old.count }
 {
     if !splitting.order.has(piece, edge.from) {
         return;
     }
     if let Some(arc) = arc_in(graph, splitting, id, piece, edge.from, edge.branch) {
-        let there = *seen.get(arc.to);
-        raise(seen, waits, edge.from, &there);
+        if low <= arc.to {
+            let there = *seen.get(arc.to);
+            raise(seen, waits, edge.from, &there);
+        }
     }
 }
 
@@ -45,13 +48,14 @@ fn come_back_from(
     splitting: &Splitting,
     id: u16,
     piece: &Piece,
+    low: u16,
     seen: &mut Spread,
     waits: &mut Pile,
     pc: u16,
 )
     requires { pc < 4096 }
-    ensures come { (to : ℕ) → AreCameFrom graph.now.arcs splitting.now id piece.now to seen.old
-        → AreCameFrom graph.now.arcs splitting.now id piece.now to seen.new }
+    ensures come { (to : ℕ) → AreCameFrom graph.now.arcs splitting.now id piece.now low to seen.old
+        → AreCameFrom graph.now.arcs splitting.now id piece.now low to seen.new }
     ensures work { 2 * left_in seen.new + waits.new.count ≤ 2 * left_in seen.old + waits.old.count }
 {
     let mut lead = graph.first_into(pc);
@@ -59,7 +63,7 @@ fn come_back_from(
         let Some(edge) = lead else {
             return;
         };
-        come_back_over(graph, splitting, id, piece, seen, waits, edge);
+        come_back_over(graph, splitting, id, piece, low, seen, waits, edge);
         lead = graph.next_into(edge);
     }
 }
@@ -70,14 +74,15 @@ fn come_back(
     splitting: &Splitting,
     id: u16,
     piece: &Piece,
+    low: u16,
     seen: &mut Spread,
     waits: &mut Pile,
 )
-    ensures { (to : ℕ) → AreCameFrom graph.now.arcs splitting.now id piece.now to seen.old
-        → AreCameFrom graph.now.arcs splitting.now id piece.now to seen.new }
+    ensures { (to : ℕ) → AreCameFrom graph.now.arcs splitting.now id piece.now low to seen.old
+        → AreCameFrom graph.now.arcs splitting.now id piece.now low to seen.new }
 {
     while let Some(pc) = waits.take() {
-        come_back_from(graph, splitting, id, piece, seen, waits, pc);
+        come_back_from(graph, splitting, id, piece, low, seen, waits, pc);
     }
 }
 
@@ -87,19 +92,21 @@ fn note_onward(
     splitting: &Splitting,
     id: u16,
     piece: &Piece,
+    low: u16,
     from: u16,
     seen: &mut Spread,
     waits: &mut Pile,
 )
-    requires { from < 4096 }
-    ensures { AreCameTo graph.now.arcs splitting.now id piece.now from seen.new }
+    requires lowest { low < 4096 }
+    requires begins { from < 4096 }
+    ensures { AreCameTo graph.now.arcs splitting.now id piece.now low from seen.new }
 {
-    seen.fill_from(0, [0; 4]);
+    seen.fill_from(low, [0; 4]);
     // For what its law says.
     seen.lengths();
     let one = only(0, 1);
     raise(seen, waits, from, &one);
-    come_on(graph, splitting, id, piece, seen, waits);
+    come_on(graph, splitting, id, piece, low, seen, waits);
 }
 
 /// Notes from which places it comes to one.
@@ -108,31 +115,47 @@ fn note_back(
     splitting: &Splitting,
     id: u16,
     piece: &Piece,
+    low: u16,
     to: u16,
     seen: &mut Spread,
     waits: &mut Pile,
 )
-    requires { to < 4096 }
-    ensures { AreCameFrom graph.now.arcs splitting.now id piece.now to seen.new }
+    requires lowest { low < 4096 }
+    requires ends { to < 4096 }
+    ensures { AreCameFrom graph.now.arcs splitting.now id piece.now low to seen.new }
 {
-    seen.fill_from(0, [0; 4]);
+    seen.fill_from(low, [0; 4]);
     // For what its law says.
     seen.lengths();
     let one = only(0, 1);
     raise(seen, waits, to, &one);
-    come_back(graph, splitting, id, piece, seen, waits);
+    come_back(graph, splitting, id, piece, low, seen, waits);
 }
 
-/// Whether all places of a piece are noted.
-fn are_noted(order: &Order, piece: &Piece, seen: &Spread) -> bool
-    ensures { result ≡ true → AreAllNoted order.now piece.now seen.now piece.now.end }
+/// Whether all places of a piece are noted, and none is below the lowest.
+fn are_noted(order: &Order, piece: &Piece, low: u16, seen: &Spread) -> bool
+    ensures { result ≡ true → AreAllNoted order.now piece.now low seen.now piece.now.end }
 {
     for x in piece.begin..piece.end {
-        if number_of(seen.get(order.place(x)), 0) == 0 {
+        let pc = order.place(x);
+        if pc < low || number_of(seen.get(pc), 0) == 0 {
             return false;
         }
     }
     true
+}
+
+/// The lowest place of a piece.
+fn lowest(order: &Order, piece: &Piece) -> u16
+    requires { piece.now.begin < 4096 }
+    ensures inside { result < 4096 }
+    ensures least { (pc : ℕ) → IsIn order.now piece.now pc → result ≤ pc }
+{
+    let mut low = order.place(piece.begin);
+    for x in piece.begin..piece.end {
+        low = low.min(order.place(x));
+    }
+    low
 }
 
 /// Whether control comes within a nest from its first place to all others, and from these to that.
@@ -150,12 +173,14 @@ fn is_whole(
         return true;
     }
     let first = splitting.order.place(piece.begin);
-    note_onward(graph, splitting, id, piece, first, seen, waits);
-    if !are_noted(&splitting.order, piece, seen) {
+    // So that no more is written than from the first to the last of them.
+    let low = lowest(&splitting.order, piece);
+    note_onward(graph, splitting, id, piece, low, first, seen, waits);
+    if !are_noted(&splitting.order, piece, low, seen) {
         return false;
     }
-    note_back(graph, splitting, id, piece, first, seen, waits);
-    are_noted(&splitting.order, piece, seen)
+    note_back(graph, splitting, id, piece, low, first, seen, waits);
+    are_noted(&splitting.order, piece, low, seen)
 }
 
 /// Whether it does so in each nest.
