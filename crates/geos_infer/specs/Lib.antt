@@ -6,3 +6,4 @@ pub mod Turns
 pub mod Ahead
 pub mod Causes
 pub mod Tells
+pub mod Noted

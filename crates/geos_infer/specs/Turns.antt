@@ -1,5 +1,5 @@
 -- What is known of the ways to a place, and of the turns of loops: how many steps they take at least, and what counters are there.
-use Rattle.std.specs.Prelude.{◌≡◌, ◌≤◌, ◌<◌, ◌-◌, ℕ, Bool, true, false, ◌==◌, if◌then◌else◌, List, [], ◌∷◌, Option, Some, None, length, option_map, slice_get, slice_index, slice_index_or, slice_set}
+use Rattle.std.specs.Prelude.{◌≡◌, ◌≤◌, ◌<◌, ◌+◌, ◌*◌, ◌-◌, ℕ, Bool, true, false, ◌==◌, if◌then◌else◌, List, [], ◌∷◌, Option, Some, None, length, option_map, slice_get, slice_index, slice_index_or, slice_set}
 use Rattle.geos_opcodes.specs.declared.opcode.Opcode.{Opcode}
 use Rattle.geos_opcodes.specs.declared.opcode.Opcode.TheVariants.{Setk, Setkw, Loop, Call}
 use Rattle.geos_image.specs.declared.instr.Instr.{Instr}
@@ -38,6 +38,13 @@ pub record AreSo (known : List Counter) (begin now : List ℕ) : Type 0 where
 abbrev pub number_in : Counter → ℕ
 number_in (Is n) = n
 number_in _ = 0
+
+-- the steps of a way, with those of the turns that its counters may still take, where the longest turns of each take so many
+abbrev pub worth : Reach → List ℕ → ℕ
+worth reach longest = reach.steps + number_in (counter_at reach.counters 0) * slice_index longest 0
+    + number_in (counter_at reach.counters 1) * slice_index longest 1
+    + number_in (counter_at reach.counters 2) * slice_index longest 2
+    + number_in (counter_at reach.counters 3) * slice_index longest 3
 
 -- what is known of a counter behind a further way, on which it is kept or not
 abbrev pub unless_changed : Counter → Counter → Counter

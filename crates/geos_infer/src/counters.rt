@@ -1,9 +1,10 @@
 //! What is known of the counters behind a way.
 
-ghost use Rattle.std.specs.Prelude.{◌≡◌, ◌<◌, slice_set};
+ghost use Rattle.std.specs.Prelude.{◌≡◌, ◌<◌, ℕ, true, false, slice_index_or, slice_set};
 ghost use Rattle.geos_image.specs.Fields.{FieldsFit};
 ghost use Rattle.geos_verify.specs.Lists.{zip2};
 ghost use Rattle.geos_infer.specs.Turns.{counter_at, number_in, unless_changed, loop_after, counters_after};
+ghost use Rattle.geos_infer.specs.declared.counters.Counter.TheVariants.{Kept, Unknown};
 
 use geos_image::{Instr, Opcode};
 
@@ -70,7 +71,11 @@ pub(crate) fn unless_all_changed(way: &[Counter; 4], counters: &[Counter; 4]) ->
     ]
 }
 
-fn unless_touched(touches: bool) -> Counter {
+/// What is known of a counter behind a call that touches it or not.
+fn unless_touched(touches: bool) -> Counter
+    ensures touched { touches ≡ true → result ≡ Unknown }
+    ensures kept { touches ≡ false → result ≡ Kept }
+{
     if touches {
         Counter::Unknown
     } else {
@@ -79,7 +84,10 @@ fn unless_touched(touches: bool) -> Counter {
 }
 
 /// What is known of the counters behind a call of a routine that touches such ones.
-pub(crate) fn untouched(touched: &[bool; 4]) -> [Counter; 4] {
+pub(crate) fn untouched(touched: &[bool; 4]) -> [Counter; 4]
+    ensures touched { (k : ℕ) → slice_index_or touched.now k true ≡ true → counter_at result k ≡ Unknown }
+    ensures kept { (k : ℕ) → slice_index_or touched.now k true ≡ false → counter_at result k ≡ Kept }
+{
     let [t0, t1, t2, t3] = *touched;
     [
         unless_touched(t0),

@@ -15,6 +15,7 @@ ghost use Rattle.geos_infer.specs.Findings.{IsUnpaid, Stops};
 ghost use Rattle.geos_infer.specs.Tells.{IsOfLoop, IsOfPiece, TellsOf, TellsOfHalt, TellsOfLack, TellsOfPassing, TellsOfReason};
 ghost use Rattle.geos_infer.specs.Tells.{tells_of_looks, tells_of_waiting, tells_of_ways};
 ghost use Rattle.geos_rows.specs.Reached.{FitWhereReached};
+ghost use Rattle.geos_infer.specs.Noted.{NoTrails};
 ghost use Rattle.geos_infer.specs.Taken.{StepsPass};
 ghost use Rattle.geos_rows.specs.Why.{MeetAlike};
 
@@ -296,7 +297,10 @@ struct Tables {
 }
 
 impl Tables {
-    fn new(alloc: Global) -> Result<Tables, AllocError> {
+    /// Control is known to come to no place.
+    fn new(alloc: Global) -> Result<Tables, AllocError>
+        ensures { IfOk result (λ tables. NoTrails tables.trails) }
+    {
         let trails = Trails::new(alloc)?;
         let strongest = Strongest::new(alloc)?;
         Ok(Tables { trails, strongest })

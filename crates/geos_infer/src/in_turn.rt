@@ -1,9 +1,11 @@
 //! Loops that wait on each other: each sets the counter of the other, so that what a unit of either pays for grows with that of the
 //! other; or a loop that waits on itself.
 
-ghost use Rattle.std.specs.Prelude.{◌<◌, IfSome};
+ghost use Rattle.std.specs.Prelude.{◌≡◌, ◌<◌, true, Some, IfSome, slice_index_or};
 ghost use Rattle.geos_potentials.specs.Touching.{KnowsTouched};
 ghost use Rattle.geos_infer.specs.Causes.{WaitInTurn, SetsFor, SetsWithin};
+ghost use Rattle.geos_infer.specs.Noted.{PaysInSuch, WasPaidAgain, IsTightAt};
+ghost use Rattle.geos_potentials.specs.declared.jumps.Jump.TheVariants.{Plain, Pays};
 
 use crate::trails::Trails;
 use crate::within::{comes_round, find_set_within, kept_from, loop_at, note_set, sets_at};
@@ -51,7 +53,8 @@ pub(crate) fn set_for(
 /// The nest that the LOOP at a pc pays in.
 pub(crate) fn nest_of(splitting: &Splitting, pc: u16) -> Option<u16>
     requires { pc < 4096 }
-    ensures { IfSome result (λ nest. nest < 4096) }
+    ensures inside { IfSome result (λ nest. nest < 4096) }
+    ensures pays { IfSome result (λ nest. slice_index_or splitting.now.jumps pc Plain ≡ Pays nest) }
 {
     match splitting.jumps.at(pc) {
         Jump::Pays(nest) if nest < MOST_INSTRS => Some(nest),
@@ -115,6 +118,7 @@ fn find_pair(
 /// Whether the nest that the LOOP at a pc pays in was paid for again and again.
 fn was_paid_again(splitting: &Splitting, pc: u16) -> bool
     requires { pc < 4096 }
+    ensures { result ≡ true → PaysInSuch splitting.now pc WasPaidAgain }
 {
     match nest_of(splitting, pc) {
         Some(nest) => 2 < splitting.nests.at(nest).paid,
@@ -154,6 +158,7 @@ pub(crate) fn find_in_turn(
 /// The places of the nest that the LOOP at a pc pays in, if its counter is set there, and it was paid for again and again.
 fn tight_piece(splitting: &Splitting, pc: u16) -> Option<Piece>
     requires { pc < 4096 }
+    ensures { IfSome result (λ piece. PaysInSuch splitting.now pc (IsTightAt piece)) }
 {
     let nest = splitting.nests.at(nest_of(splitting, pc)?);
     if nest.tight && 2 < nest.paid {

@@ -1,6 +1,7 @@
 //! What is known of the ways to each place.
 
-ghost use Rattle.std.specs.Prelude.{◌≡◌, ◌<◌, ◌⊎◌, Some, slice_set};
+ghost use Rattle.std.specs.Prelude.{◌≡◌, ◌<◌, ◌⊎◌, ◌*◌, min, Some, slice_set};
+ghost use Rattle.geos_infer.specs.Turns.{number_in, worth};
 
 use crate::counters::{Counter, number_in};
 use geos_code::Table;
@@ -18,12 +19,16 @@ pub(crate) struct Reach {
 pub(crate) type Reached = Table<Option<Reach>>;
 
 /// The steps of all the turns that a counter may still take.
-fn steps_of_turns(counter: Counter, turn: u64) -> u64 {
+fn steps_of_turns(counter: Counter, turn: u64) -> u64
+    ensures { result ≡ min (number_in counter * turn) 18446744073709551615 }
+{
     u64::from(number_in(counter)).saturating_mul(turn)
 }
 
 /// The steps of a way, with those of the turns that its counters may still take, where the longest turns of each take so many.
-fn worth(reach: &Reach, longest: &[u64; 4]) -> u64 {
+fn worth(reach: &Reach, longest: &[u64; 4]) -> u64
+    ensures { result ≡ min (worth reach.now longest.now) 18446744073709551615 }
+{
     let [k0, k1, k2, k3] = reach.counters;
     let [t0, t1, t2, t3] = *longest;
     reach

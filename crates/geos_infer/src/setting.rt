@@ -1,6 +1,7 @@
 //! Counters that are set for loops at a price past what a potential can say.
 
-ghost use Rattle.std.specs.Prelude.{◌≡◌, ◌<◌, ◌≤◌, true, IfSome, IfOk};
+ghost use Rattle.std.specs.Prelude.{◌≡◌, ◌<◌, ◌≤◌, ◌-◌, ◌*◌, true, IfSome, IfOk};
+ghost use Rattle.geos_infer.specs.Noted.{loops_in};
 ghost use Rattle.geos_potentials.specs.Touching.{KnowsTouched};
 ghost use Rattle.geos_infer.specs.Causes.{LoopsTo, PaysForLoop, IsAtMost, Holds};
 ghost use Rattle.geos_potentials.specs.Idle.{IsKept};
@@ -169,15 +170,16 @@ fn setting_at(
 const MOST_LOOKS: usize = 1 << 21;
 
 /// Whether far ways are looked for: for each LOOP all instructions of its routine are looked at.
-fn may_go_far(body: &Body) -> bool {
+fn may_go_far(body: &Body) -> bool
+    ensures { result ≡ true → loops_in body.now.image.now body.now.start (body.now.end - body.now.start) * (body.now.end - body.now.start)
+        ≤ 2097152 }
+{
     let length = usize::from(body.end.saturating_sub(body.start));
-    let mut looks: usize = 0;
+    let mut loops: usize = 0;
     for pc in body.start..body.end {
-        if is_loop(body.image.instr(pc).opcode) {
-            looks = looks.saturating_add(length);
-        }
+        loops += usize::from(is_loop(body.image.instr(pc).opcode));
     }
-    looks <= MOST_LOOKS
+    loops * length <= MOST_LOOKS
 }
 
 /// Whether on some way more steps are taken than a potential can say, if words are as much as they may be by the strongest rows, which are

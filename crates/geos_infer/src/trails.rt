@@ -91,14 +91,28 @@ fn is_at(given: Option<u16>, pc: u16) -> bool
 }
 
 impl Trails {
-    pub(crate) fn new(alloc: Global) -> Result<Trails, AllocError> {
+    ghost use Rattle.std.specs.Prelude.{◌≡◌, ◌≢◌, ◌<◌, ◌≤◌, ℕ, true, false, None, Some, List, Bool, IfOk, IfSome};
+    ghost use Rattle.geos_potentials.specs.Arcs.{arc_at};
+    ghost use Rattle.geos_potentials.specs.Touching.{KnowsTouched};
+    ghost use Rattle.geos_potentials.specs.Waits.{Waits};
+    ghost use Rattle.geos_potentials.specs.declared.arcs.Arc.{Arc};
+    ghost use Rattle.geos_infer.specs.Causes.{IsTrailBut};
+    ghost use Rattle.geos_infer.specs.Noted.{comes_to, came_at, NoTrails, StayTrails, KeepsIt};
+
+    /// Control is known to come to no place.
+    pub(crate) fn new(alloc: Global) -> Result<Trails, AllocError>
+        ensures { IfOk result NoTrails }
+    {
         let (seen, came) = two_tables(alloc, false, None)?;
         let waits = Pile::new(alloc)?;
         Ok(Trails { seen, came, waits })
     }
 
     /// Control is known to come to no place of a routine.
-    pub(crate) fn clear(&mut self, body: &Body) {
+    pub(crate) fn clear(&mut self, body: &Body)
+        ensures seen { (pc : ℕ) → body.now.start ≤ pc → pc < 4096 → comes_to self.new pc ≡ false }
+        ensures came { (pc : ℕ) → body.now.start ≤ pc → pc < 4096 → came_at self.new pc ≡ None }
+    {
         self.seen.fill_from(body.start, false);
         self.came.fill_from(body.start, None);
     }
@@ -106,7 +120,16 @@ impl Trails {
     /// Control comes to a place, by this edge.
     pub(crate) fn note(&mut self, to: u16, came: Option<Came>)
         requires { to < 4096 }
+        ensures comes { comes_to self.new to ≡ true }
+        ensures stay { StayTrails self.old self.new }
+        ensures same { comes_to self.old to ≡ true → self.new ≡ self.old }
+        ensures came { comes_to self.old to ≡ false → came_at self.new to ≡ came }
+        ensures waits { comes_to self.old to ≡ false → Waits self.new.waits to }
+        ensures others { (pc : ℕ) → pc ≢ to → came_at self.new pc ≡ came_at self.old pc }
     {
+        // For what their law says.
+        self.seen.lengths();
+        self.came.lengths();
         if !self.seen.at(to) {
             self.seen.set(to, true);
             self.came.set(to, came);
@@ -117,6 +140,8 @@ impl Trails {
     /// It goes on along an edge.
     fn go_along(&mut self, graph: &Graph, counter: Option<u8>, from: u16, branch: bool)
         requires { from < 4096 }
+        ensures stay { StayTrails self.old self.new }
+        ensures comes { (arc : Arc) → arc_at graph.now.arcs from branch ≡ Some arc → KeepsIt counter arc → comes_to self.new arc.to ≡ true }
     {
         if let Some(arc) = graph.arc(from, branch) {
             let keeps = match counter {
@@ -135,7 +160,9 @@ impl Trails {
     }
 
     /// It goes on from the places that are noted, but one, along edges that keep the counter, if one is asked for.
-    pub(crate) fn go(&mut self, graph: &Graph, counter: Option<u8>, but: Option<u16>) {
+    pub(crate) fn go(&mut self, graph: &Graph, counter: Option<u8>, but: Option<u16>)
+        ensures { StayTrails self.old self.new }
+    {
         for _ in 0..MOST_INSTRS {
             let Some(pc) = self.waits.take() else {
                 return;
@@ -150,6 +177,7 @@ impl Trails {
     /// Whether control comes to a place.
     pub(crate) fn comes(&self, pc: u16) -> bool
         requires { pc < 4096 }
+        ensures { result ≡ comes_to self.now pc }
     {
         self.seen.at(pc)
     }

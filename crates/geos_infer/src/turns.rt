@@ -1,6 +1,6 @@
 //! The turns of loops, and ways on which more steps are taken than a potential can say. On all of them words are as much as rows say.
 
-ghost use Rattle.std.specs.Prelude.{◌≡◌, ◌<◌, ◌≤◌, ◌-◌, ℕ, true, false, IfSome, IfOk};
+ghost use Rattle.std.specs.Prelude.{◌≡◌, ◌<◌, ◌≤◌, ◌-◌, ℕ, true, false, max, slice_index, slice_set, IfSome, IfOk};
 ghost use Rattle.geos_infer.specs.Turns.{begin_at, begin_from, AlwaysComesTo, GoOn, AreReached, StayReached, IsTurn, AreTurns};
 ghost use Rattle.geos_infer.specs.Taken.{NoneIsAcceptedPast, StepsPassBy, word_at};
 ghost use Rattle.geos_code.specs.Edges.{LeadsTo};
@@ -114,6 +114,10 @@ fn go_along(loops: &Loops, pc: u16, branch: bool, reach: &Reach) -> Option<Reach
 /// target.
 fn is_followed(loops: &Loops, pc: u16, lead: Lead, high: u16) -> bool
     requires { pc < loops.now.body.end }
+    ensures ahead { result ≡ true → loops.now.far ≡ false → pc < lead.to }
+    ensures within { result ≡ true → loops.now.far ≡ false → lead.to ≤ high }
+    ensures all { loops.now.far ≡ false → pc < lead.to → lead.to ≤ high → result ≡ true }
+    ensures far { loops.now.far ≡ true → lead.edge.branch ≡ false → result ≡ true }
 {
     if loops.far {
         !lead.edge.branch || !is_loop(loops.body.image.instr(pc).opcode)
@@ -244,7 +248,9 @@ fn find_turn(loops: &Loops, reached: &mut Reached, pc: u16) -> Option<Reach>
 }
 
 /// The longest turns, where a loop on a counter has one of so many steps.
-fn with_turn(longest: &[u64; 4], counter: u8, steps: u64) -> [u64; 4] {
+fn with_turn(longest: &[u64; 4], counter: u8, steps: u64) -> [u64; 4]
+    ensures { result ≡ slice_set longest.now counter (max (slice_index longest.now counter) steps) }
+{
     let mut next = *longest;
     if counter < 4 {
         next[usize::from(counter)] = next[usize::from(counter)].max(steps);

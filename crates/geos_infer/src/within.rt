@@ -1,6 +1,11 @@
 //! Counters that are set, or that a call touches, where their own loops go round.
 
-ghost use Rattle.std.specs.Prelude.{◌≡◌, ◌<◌, ◌≤◌, true, Some, IfSome};
+ghost use Rattle.std.specs.Prelude.{◌≡◌, ◌<◌, ◌≤◌, ℕ, true, false, None, Some, IfSome};
+ghost use Rattle.geos_infer.specs.Noted.{comes_to, SetsIn, StayTrails};
+ghost use Rattle.geos_potentials.specs.Arcs.{arc_at};
+ghost use Rattle.geos_potentials.specs.Demands.{forgets};
+ghost use Rattle.geos_potentials.specs.Stuck.{HasPlace, StandsAt};
+ghost use Rattle.geos_potentials.specs.declared.arcs.Arc.{Arc};
 ghost use Rattle.geos_potentials.specs.Touching.{KnowsTouched};
 ghost use Rattle.geos_infer.specs.Causes.{LoopsTo, ComesRound, IsKeptBut, ComesBut, sets_counter};
 ghost use Rattle.geos_infer.specs.Causes.{SetsWithin, SetsInTurn, TouchesWithin, TouchesBefore};
@@ -148,6 +153,35 @@ pub(crate) fn kept_from(
     }
 }
 
+/// Control comes to where the edge of a place leads, if that sets a counter and stays in a piece.
+fn note_set_at(
+    graph: &Graph,
+    order: &Order,
+    piece: &Piece,
+    counter: u8,
+    pc: u16,
+    trails: &mut Trails,
+)
+    requires { pc < 4096 }
+    ensures stay { StayTrails trails.old trails.new }
+    ensures comes { (arc : Arc) → SetsIn graph.now.arcs order.now piece.now counter pc arc → comes_to trails.new arc.to ≡ true }
+{
+    let Some(arc) = graph.arc(pc, false) else {
+        return;
+    };
+    let Some((set, _)) = arc.sets() else {
+        return;
+    };
+    if set == counter && order.has(piece, arc.to) {
+        let came = Came {
+            from: pc,
+            branch: false,
+            begins: true,
+        };
+        trails.note(arc.to, Some(came));
+    }
+}
+
 /// Notes where control comes with a counter as it is set in a piece, on ways that end where they come to a place.
 pub(crate) fn note_set(
     body: &Body,
@@ -157,51 +191,66 @@ pub(crate) fn note_set(
     counter: u8,
     but: Option<u16>,
     trails: &mut Trails,
-) {
+)
+    ensures { (x pc : ℕ) (arc : Arc) → piece.now.begin ≤ x → x < piece.now.end → StandsAt order.now x pc
+        → SetsIn graph.now.arcs order.now piece.now counter pc arc → comes_to trails.new arc.to ≡ true }
+{
     trails.clear(body);
     for x in piece.begin..piece.end {
-        let pc = order.place(x);
-        if let Some(arc) = graph.arc(pc, false) {
-            match arc.sets() {
-                Some((set, _)) if set == counter && order.has(piece, arc.to) => {
-                    let came = Came {
-                        from: pc,
-                        branch: false,
-                        begins: true,
-                    };
-                    trails.note(arc.to, Some(came));
-                }
-                _ => {}
-            }
-        }
+        note_set_at(graph, order, piece, counter, order.place(x), trails);
     }
     trails.go(graph, Some(counter), but);
 }
 
-/// Notes where control comes with a counter as calls leave it that touch it: those in a piece, or all where there is none.
-fn note_touched(
+/// Control comes to where a call at a place leaves a counter that touches it.
+fn note_touched_at(graph: &Graph, counter: u8, pc: u16, trails: &mut Trails)
+    requires { pc < 4096 }
+    ensures stay { StayTrails trails.old trails.new }
+    ensures comes { (arc : Arc) → arc_at graph.now.arcs pc false ≡ Some arc → forgets arc.counting counter ≡ true
+        → comes_to trails.new arc.to ≡ true }
+{
+    let Some(arc) = graph.arc(pc, false) else {
+        return;
+    };
+    if arc.forgets(counter) {
+        let came = Came {
+            from: pc,
+            branch: false,
+            begins: true,
+        };
+        trails.note(arc.to, Some(came));
+    }
+}
+
+/// Notes where control comes with a counter as calls in a piece leave it that touch it.
+fn note_touched_in(
     body: &Body,
     graph: &Graph,
-    piece: Option<(&Order, Piece)>,
+    order: &Order,
+    piece: &Piece,
     counter: u8,
     trails: &mut Trails,
-) {
+)
+    ensures { (pc : ℕ) (arc : Arc) → body.now.start ≤ pc → pc < body.now.end → HasPlace order.now piece.now pc
+        → arc_at graph.now.arcs pc false ≡ Some arc → forgets arc.counting counter ≡ true → comes_to trails.new arc.to ≡ true }
+{
     trails.clear(body);
     for pc in body.start..body.end {
-        if let Some(arc) = graph.arc(pc, false) {
-            let inside = match piece {
-                Some((order, piece)) => order.has(&piece, pc),
-                None => true,
-            };
-            if inside && arc.forgets(counter) {
-                let came = Came {
-                    from: pc,
-                    branch: false,
-                    begins: true,
-                };
-                trails.note(arc.to, Some(came));
-            }
+        if order.has(piece, pc) {
+            note_touched_at(graph, counter, pc, trails);
         }
+    }
+    trails.go(graph, Some(counter), None);
+}
+
+/// Notes where it comes with it as all calls leave it that touch it.
+fn note_touched(body: &Body, graph: &Graph, counter: u8, trails: &mut Trails)
+    ensures { (pc : ℕ) (arc : Arc) → body.now.start ≤ pc → pc < body.now.end → arc_at graph.now.arcs pc false ≡ Some arc
+        → forgets arc.counting counter ≡ true → comes_to trails.new arc.to ≡ true }
+{
+    trails.clear(body);
+    for pc in body.start..body.end {
+        note_touched_at(graph, counter, pc, trails);
     }
     trails.go(graph, Some(counter), None);
 }
@@ -278,7 +327,7 @@ pub(crate) fn find_touched_within(
     ensures at { IfSome result (λ within. within.back.from ≡ from) }
 {
     let (back, counter) = loop_at(body, from)?;
-    note_touched(body, graph, Some((order, *piece)), counter, trails);
+    note_touched_in(body, graph, order, piece, counter, trails);
     let at = kept_from(body, touching, trails, counter, None, from)?;
     if calls_touching(body, touching, counter, at)
         && comes_round(body, touching, graph, trails, None, back.to, at)
@@ -303,7 +352,7 @@ pub(crate) fn find_touched_before(
     ensures at { IfSome result (λ within. within.back.from ≡ from) }
 {
     let (back, counter) = loop_at(body, from)?;
-    note_touched(body, graph, None, counter, trails);
+    note_touched(body, graph, counter, trails);
     let at = kept_from(body, touching, trails, counter, None, from)?;
     if calls_touching(body, touching, counter, at)
         && comes_round(body, touching, graph, trails, None, back.to, from)

@@ -15,22 +15,22 @@ module _ (arcs : List (List (Option Arc))) (splitting : Splitting) (id : ℕ) (p
   Comes pc = (steps : List Step) × AreSteps arcs splitting id piece from steps pc
 
   -- control comes where an edge leads that stays in the nest
-  pub along-in : (old next : List (List ℕ)) (p : ℕ) (branch : Bool) (arc : Arc) → arc_at arcs p branch ≡ Some arc
+  pub along-in : (low : ℕ) (old next : List (List ℕ)) (p : ℕ) (branch : Bool) (arc : Arc) → low ≤ p → arc_at arcs p branch ≡ Some arc
       → StaysInNest splitting id piece p branch arc.to → AreRaised old next arc.to (slice_index_or old p [])
-      → AreCameTo arcs splitting id piece from old → AreCameTo arcs splitting id piece from next
-  along-in old next p branch arc read stays R before pc k some =
-      raised-all (λ at c n. Comes at) 0 old next arc.to (slice_index_or old p []) R (λ at c above lt. before at c lt)
-      (λ c above lt. (let came = before p c lt in
+      → AreCameTo arcs splitting id piece low from old → AreCameTo arcs splitting id piece low from next
+  along-in low old next p branch arc above read stays R before pc k up some =
+      raised-all (λ at c n. Comes at) low old next arc.to (slice_index_or old p []) R before
+      (λ c _ lt. (let came = before p c above lt in
       (record { pc = p; branch = branch; arc = arc } ∷ came.0, (refl, read, stays, came.1))))
-      pc k (omega arith) some
+      pc k up some
 
   -- at first it is at one place alone
-  pub first-in : (old next : List (List ℕ)) (numbers : List ℕ) → ((pc k : ℕ) → 0 ≤ pc → unit_at old pc k ≡ 0)
-      → AreRaised old next from numbers → AreCameTo arcs splitting id piece from next
-  first-in old next numbers none R pc k some = elim (cases_eq pc from) [
+  pub first-in : (low : ℕ) (old next : List (List ℕ)) (numbers : List ℕ) → ((pc k : ℕ) → low ≤ pc → unit_at old pc k ≡ 0)
+      → AreRaised old next from numbers → AreCameTo arcs splitting id piece low from next
+  first-in low old next numbers none R pc k up some = elim (cases_eq pc from) [
     | inl same ↦ ([], sym same)
     | inr ne ↦
         let other = R.others pc k ne in
-        let zero = none pc k (omega arith) in
+        let zero = none pc k up in
         absurd (omega (arith, some, other, zero))
   ]

@@ -26,3 +26,5 @@ pub mod Spending
 pub mod Freeing
 pub mod Sweeping
 pub mod Dearer
+pub mod Placing
+pub mod Wholes

@@ -8,6 +8,7 @@ use Rattle.geos_potentials.specs.Lacks.{IsLack}
 use Rattle.geos_potentials.specs.Least.{SomePasses}
 use Rattle.geos_potentials.specs.Stuck.{HasPlace}
 use Rattle.geos_potentials.specs.Accepted.{HasAccepted}
+use Rattle.geos_potentials.specs.Whole.{AreWhole}
 use Rattle.geos_potentials.specs.declared.search.Halt.{Halt}
 use Rattle.geos_potentials.specs.declared.search.Halt.TheVariants.{Stuck, Unpaid, Passes}
 use Rattle.geos_potentials.specs.declared.search.Search.{Search}
@@ -23,10 +24,10 @@ abbrev pub NeverPay : Parts → ℕ → List (Option Row) → List (List ℕ) �
 NeverPay image r known coefficients = (steps : ℕ → ℕ) → ConstantsPay image r (row_known known) (coefficients_at coefficients) steps → ⊥
 
 -- where the search of routine r is stuck, control goes round in the piece, and no LOOP on the way may pay, so that no image with that code is
--- accepted; where nests are not paid for, it lacks what it says, and where that is a share, no steps pay with its coefficients; where
--- constants pass, none pay that a potential can say
+-- accepted; where nests are not paid for, it lacks what it says, and where that is a share, no steps pay with its coefficients, and each
+-- nest is a component; where constants pass, none pay that a potential can say
 abbrev pub IsInTheWay : Parts → ℕ → List (Option Row) → Search → Halt → Type 0
 IsInTheWay image r known search (Stuck piece) = IsNeverPaidBy image r (HasPlace search.splitting.order piece) × (HasAccepted image → ⊥)
 IsInTheWay image r known search (Unpaid lack) = IsLack search.graph.arcs search.splitting search.units lack
-    × (lack ≡ NoShare → NeverPay image r known search.units.pay)
+    × (lack ≡ NoShare → NeverPay image r known search.units.pay) × AreWhole search.graph.arcs search.splitting
 IsInTheWay image r known search Passes = NonePayWith image r known search.units.pay

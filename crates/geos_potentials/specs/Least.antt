@@ -10,6 +10,7 @@ use Rattle.geos_potentials.specs.Numbers.{Numbers}
 use Rattle.geos_potentials.specs.declared.arcs.Arc.{Arc}
 use Rattle.geos_potentials.specs.declared.jumps.Jump.{Jump}
 use Rattle.geos_potentials.specs.declared.jumps.Jump.TheVariants.{Plain, Free}
+use Rattle.geos_potentials.specs.declared.lengths.Lengths.{Lengths}
 use Rattle.geos_potentials.specs.declared.lengths.Link.{Link}
 use Rattle.geos_potentials.specs.declared.lengths.Way.{Way}
 
@@ -21,9 +22,23 @@ no_way = record { steps = 0; first = None; passed = 0 }
 abbrev pub steps_at : List Way → ℕ → ℕ
 steps_at ways pc = (slice_index_or ways pc no_way).steps
 
+-- which edge made it so long, if that is known; true for the one to the target
+abbrev pub first_at : List Way → ℕ → Option Bool
+first_at ways pc = (slice_index_or ways pc no_way).first
+
 -- the edge of a pc that is looked at
 abbrev pub link_at : List (List (Option Link)) → ℕ → Bool → Option Link
 link_at links pc branch = slice_index_or (slice_index_or links pc []) (if branch then 1 else 0) None
+
+-- no edge is looked at, and no way is known
+pub record NoLengths (lengths : Lengths) : Type 0 where
+  pub links : (pc : ℕ) (branch : Bool) → link_at lengths.links pc branch ≡ None
+  pub steps : (pc : ℕ) → steps_at lengths.ways pc ≡ 0
+  pub first : (pc : ℕ) → first_at lengths.ways pc ≡ None
+
+-- it is known that the way from a pc begins with this edge
+abbrev pub BeginsWith : List (List (Option Link)) → List Way → ℕ → Link → Type 0
+BeginsWith links ways pc link = (branch : Bool) × (first_at ways pc ≡ Some branch) × (link_at links pc branch ≡ Some link)
 
 -- so many steps at each pc pay for an edge from this one, if there is one, with what a unit pays of it
 abbrev pub PaysLink : (ℕ → ℕ) → ℕ → Option Link → Type 0

@@ -17,6 +17,11 @@ IsAmong behind (suc n) None pc branch = ⊥
 IsAmong behind (suc n) (Some lead) pc branch = ((lead.from ≡ pc) × (lead.branch ≡ branch))
     ⊎ IsAmong behind n (behind_at behind lead.from lead.branch) pc branch
 
+-- there are no edges, and none is listed
+pub record NoEdges (graph : Graph) : Type 0 where
+  pub arcs : (pc : ℕ) (branch : Bool) → arc_at graph.arcs pc branch ≡ None
+  pub first : (to : ℕ) → slice_index_or graph.leads.first to None ≡ None
+
 -- it is among so many, at most
 abbrev pub IsAmongFew : ℕ → List (List (Option Lead)) → Option Lead → ℕ → Bool → Type 0
 IsAmongFew most behind lead pc branch = (n : ℕ) × (n ≤ most) × IsAmong behind n lead pc branch

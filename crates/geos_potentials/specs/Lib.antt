@@ -27,3 +27,6 @@ pub mod Untouched
 pub mod Reasons
 pub mod Spent
 pub mod Paid
+pub mod Splits
+pub mod Cycles
+pub mod Whole

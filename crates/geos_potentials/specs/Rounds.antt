@@ -38,9 +38,9 @@ AreSteps arcs splitting id piece from [] to = from ≡ to
 AreSteps arcs splitting id piece from (step ∷ before) to = (step.arc.to ≡ to) × (arc_at arcs step.pc step.branch ≡ Some step.arc)
     × StaysInNest splitting id piece step.pc step.branch step.arc.to × AreSteps arcs splitting id piece from before step.pc
 
--- control comes so, within a nest, from a pc to each at which some number is not 0
-abbrev pub AreCameTo : List (List (Option Arc)) → Splitting → ℕ → Piece → ℕ → List (List ℕ) → Type 0
-AreCameTo arcs splitting id piece from seen = (pc k : ℕ) → 0 < unit_at seen pc k
+-- control comes so, within a nest, from a pc to each, of those from a lowest one on, at which some number is not 0
+abbrev pub AreCameTo : List (List (Option Arc)) → Splitting → ℕ → Piece → ℕ → ℕ → List (List ℕ) → Type 0
+AreCameTo arcs splitting id piece low from seen = (pc k : ℕ) → low ≤ pc → 0 < unit_at seen pc k
     → (steps : List Step) × AreSteps arcs splitting id piece from steps pc
 
 -- the sum of a number of each

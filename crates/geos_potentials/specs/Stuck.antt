@@ -5,7 +5,9 @@ use Rattle.geos_potentials.specs.Arcs.{arc_at}
 use Rattle.geos_potentials.specs.Idle.{MayNotPay}
 use Rattle.geos_code.specs.Code.{IsPcOf}
 use Rattle.geos_potentials.specs.Demands.{taken_from}
+use Rattle.geos_potentials.specs.Numbers.{zeros}
 use Rattle.geos_potentials.specs.Ranks.{noted_idle}
+use Rattle.geos_potentials.specs.Waits.{Waits}
 use Rattle.geos_potentials.specs.declared.arcs.Arc.{Arc}
 use Rattle.geos_potentials.specs.declared.classes.Classes.{Classes}
 use Rattle.geos_potentials.specs.declared.pieces.Order.{Order}
@@ -33,6 +35,14 @@ pub record StayNoted (old next : Classes) : Type 0 where
   pub touched : next.touched ≡ old.touched
   pub unset : next.unset ≡ old.unset
   pub prices : next.prices ≡ old.prices
+
+-- nothing is known of counters
+pub record NothingNoted (classes : Classes) : Type 0 where
+  pub touched : (pc : ℕ) → slice_index_or classes.touched pc zeros ≡ zeros
+  pub unset : (pc : ℕ) → slice_index_or classes.unset pc zeros ≡ zeros
+  pub prices : (pc : ℕ) → slice_index_or classes.prices pc zeros ≡ zeros
+  pub set_within : (pc : ℕ) → slice_index_or classes.set_within pc zeros ≡ zeros
+  pub waits : (pc : ℕ) → Waits classes.waits pc → ⊥
 
 -- where it is noted in routine r that a counter may not pay, it may not
 abbrev pub NotesIdle : Parts → ℕ → Classes → Type 0

@@ -1,10 +1,10 @@
 //! Which LOOPs are to pay for ways round among the places of a component.
 
-ghost use Rattle.std.specs.Prelude.{◌≡◌, ◌<◌, ◌==◌, ◌+◌, ℕ, true, false, not, min, None, Some, IfNone, MatchOption, slice_index_or};
+ghost use Rattle.std.specs.Prelude.{◌≡◌, ◌<◌, ◌≤◌, ◌==◌, ◌+◌, ◌⊎◌, ℕ, true, false, not, min, None, Some, IfSome, IfNone, MatchOption, slice_index_or};
 ghost use Rattle.geos_potentials.specs.Arcs.{arc_at, unit_at};
 ghost use Rattle.geos_potentials.specs.Demands.{taken_from};
 ghost use Rattle.geos_potentials.specs.Least.{is_free};
-ghost use Rattle.geos_potentials.specs.Pieces.{TakesWithin, ArePriced, NoneMayPay};
+ghost use Rattle.geos_potentials.specs.Pieces.{TakesWithin, ArePriced, NoneMayPay, SumsUp, set_within};
 ghost use Rattle.geos_potentials.specs.Ranks.{noted_idle};
 ghost use Rattle.geos_potentials.specs.Untouched.{untouched};
 ghost use Rattle.geos_potentials.specs.Within.{HoldsAt};
@@ -165,24 +165,44 @@ fn prices(
     prices
 }
 
+/// How much the edge of a place to the next instruction sets a counter to, if it stays in a component; else 0.
+fn set_at(graph: &Graph, order: &Order, piece: &Piece, counter: u8, pc: u16) -> u16
+    requires { pc < 4096 }
+    ensures { result ≡ set_within order.now piece.now counter (arc_at graph.now.arcs pc false) }
+{
+    let Some(arc) = graph.arc(pc, false) else {
+        return 0;
+    };
+    if !order.has(piece, arc.to) {
+        return 0;
+    }
+    match arc.sets() {
+        Some((set, most)) if set == counter => most,
+        _ => 0,
+    }
+}
+
 /// How much a counter is set to in all in a component.
-fn sum_set(graph: &Graph, order: &Order, piece: &Piece, counter: u8) -> u32 {
+fn sum_set(graph: &Graph, order: &Order, piece: &Piece, counter: u8) -> u32
+    ensures { SumsUp graph.now.arcs order.now piece.now counter result }
+{
+    // For what its law says.
+    order.places.lengths();
     let mut sum: u32 = 0;
     for x in piece.begin..piece.end {
-        if let Some(arc) = graph.arc(order.place(x), false) {
-            match arc.sets() {
-                Some((set, most)) if set == counter && order.has(piece, arc.to) => {
-                    sum = sum.saturating_add(u32::from(most));
-                }
-                _ => {}
-            }
-        }
+        let set = set_at(graph, order, piece, counter, order.place(x));
+        sum = sum.saturating_add(u32::from(set));
     }
     sum
 }
 
 /// The cheaper choice; the first one where both are as cheap.
-fn cheaper(found: Option<Choice>, choice: Choice) -> Choice {
+fn cheaper(found: Option<Choice>, choice: Choice) -> Choice
+    ensures either { (result ≡ choice) ⊎ (found ≡ Some result) }
+    ensures cheap { result.price ≤ choice.price }
+    ensures least { IfSome found (λ other. result.price ≤ other.price) }
+    ensures first { IfSome found (λ other. other.price ≤ choice.price → result ≡ other) }
+{
     match found {
         Some(other) if other.price <= choice.price => other,
         _ => choice,

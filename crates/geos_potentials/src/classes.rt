@@ -1,6 +1,6 @@
 //! Where the unit of a counter may not be wanted, and what it costs.
 
-ghost use Rattle.std.specs.Prelude.{◌≡◌, ◌≤◌, ◌<◌, ◌==◌, ◌&&◌, ℕ, true, false, not, slice_index, slice_index_or};
+ghost use Rattle.std.specs.Prelude.{◌≡◌, ◌≤◌, ◌<◌, ◌==◌, ◌&&◌, ℕ, true, false, not, slice_index, slice_index_or, IfOk};
 ghost use Rattle.geos_potentials.specs.Arcs.{unit_at};
 ghost use Rattle.geos_potentials.specs.Carried.{AreSpread};
 ghost use Rattle.geos_potentials.specs.Demands.{forgets};
@@ -8,7 +8,7 @@ ghost use Rattle.geos_code.specs.Code.{IsPcOf};
 ghost use Rattle.geos_potentials.specs.Ranks.{noted_idle};
 ghost use Rattle.geos_potentials.specs.Spreads.{ComeBehind, ComeFrom, ForgetsIt, SetsTo, SetsSome, AllStandAt};
 ghost use Rattle.geos_potentials.specs.Spent.{spent_at, AreNotedSet};
-ghost use Rattle.geos_potentials.specs.Stuck.{IsIn, StayNoted};
+ghost use Rattle.geos_potentials.specs.Stuck.{IsIn, StayNoted, NothingNoted};
 ghost use Rattle.geos_potentials.specs.Untouched.{AreNotedBehind};
 ghost use Rattle.geos_potentials.specs.declared.arcs.Counting.TheVariants.{Sets};
 
@@ -30,8 +30,8 @@ pub(crate) struct Classes {
     /// The greatest number that the counter is set to from where it comes with it; 0 where there is none.
     prices: Spread,
     /// 1 where it comes with the counter as it was set among the places that were looked at last.
-    set_within: Spread,
-    waits: Pile,
+    pub(crate) set_within: Spread,
+    pub(crate) waits: Pile,
 }
 
 /// 1 of each of these counters.
@@ -167,7 +167,10 @@ fn note_set(
 }
 
 impl Classes {
-    pub(crate) fn new(alloc: Global) -> Result<Classes, AllocError> {
+    /// Nothing is noted.
+    pub(crate) fn new(alloc: Global) -> Result<Classes, AllocError>
+        ensures { IfOk result NothingNoted }
+    {
         let (touched, unset) = two_tables(alloc, [0; 4], [0; 4])?;
         let (prices, set_within) = two_tables(alloc, [0; 4], [0; 4])?;
         let waits = Pile::new(alloc)?;

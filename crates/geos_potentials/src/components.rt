@@ -1,6 +1,8 @@
 //! Components of a piece: the places from each of which control comes to each other.
 
-ghost use Rattle.std.specs.Prelude.{◌≡◌, ◌<◌, ◌≤◌};
+ghost use Rattle.std.specs.Prelude.{◌≡◌, ◌≢◌, ◌<◌, ◌≤◌, ◌+◌, ℕ, min, IfOk, slice_index, slice_set};
+ghost use Rattle.geos_potentials.specs.Splits.{IsOf, AreOf, StayPlaced, ArePlaced, OthersStand};
+ghost use Rattle.geos_potentials.specs.Waits.{Waits};
 
 use crate::depth::Depth;
 use crate::graph::Graph;
@@ -24,7 +26,12 @@ pub(crate) struct Components {
 }
 
 impl Components {
-    pub(crate) fn new(alloc: Global) -> Result<Components, AllocError> {
+    /// There are none.
+    pub(crate) fn new(alloc: Global) -> Result<Components, AllocError>
+        ensures count { IfOk result (λ components. components.count ≡ 0) }
+        ensures of { IfOk result (λ components. (pc : ℕ) → slice_index components.of pc ≡ 0) }
+        ensures none { IfOk result (λ components. (pc : ℕ) → Waits components.waits pc → ⊥) }
+    {
         let (of, next) = two_tables(alloc, 0, 0)?;
         let waits = Pile::new(alloc)?;
         let depth = Depth::new(alloc)?;
@@ -40,7 +47,14 @@ impl Components {
     /// A place is of the last component, if it is not of another.
     fn add(&mut self, pc: u16)
         requires { pc < 4096 }
+        ensures count { self.new.count ≡ self.old.count }
+        ensures depth { self.new.depth ≡ self.old.depth }
+        ensures stay { StayPlaced self.old.count self.old.of self.new.of }
+        ensures has { slice_index self.old.of pc ≡ 0 → slice_index self.new.of pc ≡ self.old.count }
+        ensures waits { slice_index self.old.of pc ≡ 0 → Waits self.new.waits pc }
     {
+        // For what its law says.
+        self.of.lengths();
         if self.of.at(pc) == 0 {
             self.of.set(pc, self.count);
             self.waits.put(pc);
@@ -50,6 +64,9 @@ impl Components {
     /// The places from which an edge leads to a place are of the last component.
     fn add_before(&mut self, graph: &Graph, jumps: &Jumps, order: &Order, piece: &Piece, to: u16)
         requires { to < 4096 }
+        ensures count { self.new.count ≡ self.old.count }
+        ensures depth { self.new.depth ≡ self.old.depth }
+        ensures stay { StayPlaced self.old.count self.old.of self.new.of }
     {
         let mut lead = graph.first_into(to);
         for _ in 0..2 * u32::from(MOST_INSTRS) {
@@ -68,6 +85,10 @@ impl Components {
     /// A component begins with a place, and has what leads there.
     fn begin(&mut self, graph: &Graph, jumps: &Jumps, order: &Order, piece: &Piece, pc: u16)
         requires { pc < 4096 }
+        ensures count { self.new.count ≡ min (self.old.count + 1) 65535 }
+        ensures more { self.old.count ≤ self.new.count }
+        ensures depth { self.new.depth ≡ self.old.depth }
+        ensures stay { StayPlaced self.new.count self.old.of self.new.of }
     {
         self.count = self.count.saturating_add(1);
         self.add(pc);
@@ -80,7 +101,10 @@ impl Components {
     }
 
     /// Finds the component of each place of a piece; those that lead to others come first.
-    fn find(&mut self, graph: &Graph, jumps: &Jumps, order: &Order, piece: &Piece) {
+    fn find(&mut self, graph: &Graph, jumps: &Jumps, order: &Order, piece: &Piece)
+        ensures left { AreOf order.now piece.now self.new.depth.left self.new.depth.count }
+        ensures of { ArePlaced order.now piece.now self.new.of piece.now.end self.new.count }
+    {
         self.depth.search(graph, jumps, order, piece);
         self.count = 0;
         for x in piece.begin..piece.end {
@@ -95,7 +119,13 @@ impl Components {
     }
 
     /// How many places a component has so far, with one more.
-    fn count_place(&mut self, component: u16) {
+    fn count_place(&mut self, component: u16)
+        ensures next { component < 4096
+            → self.new.next ≡ slice_set self.old.next component (min (slice_index self.old.next component + 1) 65535) }
+        ensures count { self.new.count ≡ self.old.count }
+        ensures depth { self.new.depth ≡ self.old.depth }
+        ensures of { self.new.of ≡ self.old.of }
+    {
         if component < MOST_INSTRS {
             let count = self.next.at(component);
             self.next.set(component, count.saturating_add(1));
@@ -103,7 +133,11 @@ impl Components {
     }
 
     /// Counts the places of each component, and notes where each begins in the order; the last one first.
-    fn note_begins(&mut self, order: &Order, piece: &Piece) {
+    fn note_begins(&mut self, order: &Order, piece: &Piece)
+        ensures count { self.new.count ≡ self.old.count }
+        ensures depth { self.new.depth ≡ self.old.depth }
+        ensures of { self.new.of ≡ self.old.of }
+    {
         self.next.fill_from(0, 0);
         for x in piece.begin..piece.end {
             let component = self.of.at(order.place(x));
@@ -120,6 +154,8 @@ impl Components {
     /// Puts a place behind those of its component.
     fn put(&mut self, order: &mut Order, pc: u16)
         requires { pc < 4096 }
+        ensures depth { self.new.depth ≡ self.old.depth }
+        ensures others { (at : ℕ) → at ≢ pc → slice_index order.new.at at ≡ slice_index order.old.at at }
     {
         let component = self.of.at(pc).saturating_sub(1);
         if MOST_INSTRS <= component {
@@ -133,14 +169,10 @@ impl Components {
     }
 
     /// Orders the places of a piece by their components, those that lead to others behind these; each in the order in which a search in
-    /// depth leaves its places.
-    pub(crate) fn arrange(
-        &mut self,
-        graph: &Graph,
-        jumps: &Jumps,
-        order: &mut Order,
-        piece: &Piece,
-    ) {
+    /// depth leaves its places. All others stand where they did.
+    pub(crate) fn arrange(&mut self, graph: &Graph, jumps: &Jumps, order: &mut Order, piece: &Piece)
+        ensures { OthersStand order.old piece.now order.new }
+    {
         self.find(graph, jumps, order, piece);
         self.note_begins(order, piece);
         for n in 0..self.depth.count().min(MOST_INSTRS) {

@@ -1,9 +1,12 @@
 //! Cycles that no counter pays for.
 
-ghost use Rattle.std.specs.Prelude.{◌≡◌, ◌<◌, false};
+ghost use Rattle.std.specs.Prelude.{◌≡◌, ◌<◌, ◌≤◌, ◌+◌, ℕ, Bool, false, slice_set};
 ghost use Rattle.geos_code.specs.Code.{ForwardIn};
+ghost use Rattle.geos_potentials.specs.Cycles.{left_at};
+ghost use Rattle.geos_potentials.specs.Idle.{LeadsUnpaid};
 
-use crate::unpaid::{WaysIn, lead_unpaid};
+use crate::unpaid::lead_unpaid;
+use crate::ways::WaysIn;
 use geos_code::{Body, Table, is_loop, leads_back};
 use geos_image::MOST_INSTRS;
 
@@ -19,25 +22,70 @@ fn leads_back_unpaid(body: &Body) -> bool
     false
 }
 
-/// Counts the edges into each place of a routine.
-fn count_edges(body: &Body, into: &mut Table<WaysIn>) {
+/// One more edge leads to where one does.
+fn count_edge(body: &Body, into: &mut Table<WaysIn>, pc: u16, branch: bool)
+    requires { pc < body.now.end }
+    ensures more { (at : ℕ) → left_at into.old at ≤ left_at into.new at }
+    ensures counted { (to : ℕ) → LeadsUnpaid body.now.image.now body.now.r pc branch to → 0 < left_at into.new to }
+{
+    // For what its law says.
+    into.lengths();
+    if let Some(to) = lead_unpaid(body, pc, branch) {
+        into.set(to, WaysIn::with_left(into.at(to).left.saturating_add(1)));
+    }
+}
+
+/// Counts the edges into each place of a routine: there are some where one leads.
+fn count_edges(body: &Body, into: &mut Table<WaysIn>)
+    ensures { (pc to : ℕ) (branch : Bool) → body.now.start ≤ pc → pc < body.now.end
+        → LeadsUnpaid body.now.image.now body.now.r pc branch to → 0 < left_at into.new to }
+{
     into.fill_from(body.start, WaysIn::with_left(0));
     for pc in body.start..body.end {
-        for branch in [false, true] {
-            if let Some(to) = lead_unpaid(body, pc, branch) {
-                into.set(to, WaysIn::with_left(into.at(to).left.saturating_add(1)));
-            }
-        }
+        count_edge(body, into, pc, false);
+        count_edge(body, into, pc, true);
     }
 }
 
 /// Puts a pc behind those that are listed; how many are listed then.
-fn list(listed: &mut Table<u16>, count: u16, pc: u16) -> u16 {
+fn list(listed: &mut Table<u16>, count: u16, pc: u16) -> u16
+    ensures listed { count < 4096 → (result ≡ count + 1) × (listed.new ≡ slice_set listed.old count pc) }
+    ensures full { 4096 ≤ count → (result ≡ count) × (listed.new ≡ listed.old) }
+{
     if MOST_INSTRS <= count {
         return count;
     }
     listed.set(count, pc);
     count + 1
+}
+
+/// Takes an edge from a listed place away, and lists the place where it leads, if no edge is left into
+/// that; how many are listed then.
+fn take_edge(
+    body: &Body,
+    pc: u16,
+    branch: bool,
+    into: &mut Table<WaysIn>,
+    listed: &mut Table<u16>,
+    count: u16,
+) -> u16
+    requires { pc < body.now.end }
+    ensures less { (at : ℕ) → left_at into.new at ≤ left_at into.old at }
+    ensures more { count ≤ result }
+    ensures one { result ≤ count + 1 }
+{
+    // For what its law says.
+    into.lengths();
+    let Some(to) = lead_unpaid(body, pc, branch) else {
+        return count;
+    };
+    let left = into.at(to).left.saturating_sub(1);
+    into.set(to, WaysIn::with_left(left));
+    if left == 0 {
+        list(listed, count, to)
+    } else {
+        count
+    }
 }
 
 /// Takes the edges from a listed place away, and lists the places that no edge is left into; how
@@ -50,18 +98,12 @@ fn take_edges(
     count: u16,
 ) -> u16
     requires { pc < body.now.end }
+    ensures less { (at : ℕ) → left_at into.new at ≤ left_at into.old at }
+    ensures more { count ≤ result }
+    ensures two { result ≤ count + 2 }
 {
-    let mut count = count;
-    for branch in [false, true] {
-        if let Some(to) = lead_unpaid(body, pc, branch) {
-            let left = into.at(to).left.saturating_sub(1);
-            into.set(to, WaysIn::with_left(left));
-            if left == 0 {
-                count = list(listed, count, to);
-            }
-        }
-    }
-    count
+    let count = take_edge(body, pc, false, into, listed, count);
+    take_edge(body, pc, true, into, listed, count)
 }
 
 /// Whether control can go round in a routine and never take a LOOP's way to its target: no number

@@ -1,8 +1,8 @@
 //! The edges of a routine with what they cost, from each place and into it.
 
-ghost use Rattle.std.specs.Prelude.{◌≡◌, ◌<◌, None, slice_index_or};
+ghost use Rattle.std.specs.Prelude.{◌≡◌, ◌<◌, None, slice_index_or, IfOk};
 ghost use Rattle.geos_potentials.specs.Arcs.{AreArcs, NoArcsOutside, arc_at};
-ghost use Rattle.geos_potentials.specs.Led.{AreLed, behind_at};
+ghost use Rattle.geos_potentials.specs.Led.{NoEdges, AreLed, behind_at};
 
 use crate::arcs::Arc;
 use crate::counting::arc_of;
@@ -21,7 +21,9 @@ pub struct Graph {
 
 impl Graph {
     /// There are no edges.
-    pub(crate) fn new(alloc: Global) -> Result<Graph, AllocError> {
+    pub(crate) fn new(alloc: Global) -> Result<Graph, AllocError>
+        ensures { IfOk result NoEdges }
+    {
         let arcs = Table::new(alloc, [None, None])?;
         let leads = Leads::new(alloc)?;
         Ok(Graph { arcs, leads })

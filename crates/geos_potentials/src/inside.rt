@@ -48,8 +48,8 @@ fn come_along(
     branch: bool,
 )
     requires { pc < 4096 }
-    ensures come { (from : ℕ) → AreCameTo graph.now.arcs splitting.now id piece.now from seen.old
-        → AreCameTo graph.now.arcs splitting.now id piece.now from seen.new }
+    ensures come { (low from : ℕ) → low ≤ pc → AreCameTo graph.now.arcs splitting.now id piece.now low from seen.old
+        → AreCameTo graph.now.arcs splitting.now id piece.now low from seen.new }
     ensures work { 2 * left_in seen.new + waits.new.count ≤ 2 * left_in seen.old + waits.old.count }
 {
     if let Some(arc) = arc_in(graph, splitting, id, piece, pc, branch) {
@@ -58,21 +58,24 @@ fn come_along(
     }
 }
 
-/// Control goes on within a nest from the places that wait.
-fn come_on(
+/// Control goes on within a nest from the places that wait, of those from a lowest one on.
+pub(crate) fn come_on(
     graph: &Graph,
     splitting: &Splitting,
     id: u16,
     piece: &Piece,
+    low: u16,
     seen: &mut Spread,
     waits: &mut Pile,
 )
-    ensures { (from : ℕ) → AreCameTo graph.now.arcs splitting.now id piece.now from seen.old
-        → AreCameTo graph.now.arcs splitting.now id piece.now from seen.new }
+    ensures { (from : ℕ) → AreCameTo graph.now.arcs splitting.now id piece.now low from seen.old
+        → AreCameTo graph.now.arcs splitting.now id piece.now low from seen.new }
 {
     while let Some(pc) = waits.take() {
-        come_along(graph, splitting, id, piece, seen, waits, pc, false);
-        come_along(graph, splitting, id, piece, seen, waits, pc, true);
+        if low <= pc {
+            come_along(graph, splitting, id, piece, seen, waits, pc, false);
+            come_along(graph, splitting, id, piece, seen, waits, pc, true);
+        }
     }
 }
 
@@ -96,6 +99,6 @@ pub(crate) fn comes_in(
     seen.lengths();
     let one = only(0, 1);
     raise(seen, waits, from, &one);
-    come_on(graph, splitting, id, piece, seen, waits);
+    come_on(graph, splitting, id, piece, 0, seen, waits);
     0 < number_of(seen.get(to), 0)
 }

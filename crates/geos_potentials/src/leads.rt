@@ -23,11 +23,13 @@ pub(crate) struct Leads {
 }
 
 impl Leads {
-    ghost use Rattle.std.specs.Prelude.{◌≡◌, ◌<◌, ◌≤◌, ℕ, None, slice_index_or};
+    ghost use Rattle.std.specs.Prelude.{◌≡◌, ◌<◌, ◌≤◌, ℕ, None, slice_index_or, IfOk};
     ghost use Rattle.geos_potentials.specs.Led.{behind_at, IsPutIf, AreAdded};
 
     /// There are no edges.
-    pub(crate) fn new(alloc: Global) -> Result<Leads, AllocError> {
+    pub(crate) fn new(alloc: Global) -> Result<Leads, AllocError>
+        ensures { IfOk result (λ leads. (to : ℕ) → slice_index_or leads.first to None ≡ None) }
+    {
         let (first, behind) = two_tables(alloc, None, [None, None])?;
         Ok(Leads { first, behind })
     }

@@ -57,11 +57,14 @@ pub(crate) struct Lengths {
 }
 
 impl Lengths {
-    ghost use Rattle.std.specs.Prelude.{◌≡◌, ◌<◌, ◌≤◌, ℕ, Bool, None, true, false, length, slice_set};
-    ghost use Rattle.geos_potentials.specs.Least.{steps_at, link_at, PaysLink, AtMost, StayAtMost, Covers, AreCovered, AreLonger};
+    ghost use Rattle.std.specs.Prelude.{◌≡◌, ◌<◌, ◌≤◌, ℕ, Bool, None, Some, true, false, length, slice_set, IfOk, IfSome, IfNone};
+    ghost use Rattle.geos_potentials.specs.Least.{steps_at, first_at, link_at, NoLengths, BeginsWith, PaysLink, AtMost, StayAtMost, Covers, AreCovered, AreLonger};
     ghost use Rattle.geos_potentials.specs.Looks.{SomeIsLonger, AreCoveredIn};
 
-    pub(crate) fn new(alloc: Global) -> Result<Lengths, AllocError> {
+    /// No edge is looked at, and no way is known.
+    pub(crate) fn new(alloc: Global) -> Result<Lengths, AllocError>
+        ensures { IfOk result NoLengths }
+    {
         let (links, ways) = two_tables(alloc, [None, None], Way::NOTHING)?;
         Ok(Lengths {
             links,
@@ -140,6 +143,7 @@ impl Lengths {
     /// Which edge made the way from a place so long; `true` for the one to the target.
     pub(crate) fn first(&self, pc: u16) -> Option<bool>
         requires { pc < 4096 }
+        ensures { result ≡ first_at self.now.ways pc }
     {
         self.ways.get(pc).first
     }
@@ -147,6 +151,8 @@ impl Lengths {
     /// The edge that made the way from a place so long.
     fn next(&self, pc: u16) -> Option<Link>
         requires { pc < 4096 }
+        ensures some { IfSome result (BeginsWith self.now.links self.now.ways pc) }
+        ensures none { IfNone result ((link : Link) → BeginsWith self.now.links self.now.ways pc link → ⊥) }
     {
         let branch = self.first(pc)?;
         self.link(pc, branch)
@@ -294,6 +300,10 @@ impl Lengths {
     /// No way was followed.
     pub(crate) fn clear(&mut self, start: u16)
         requires { start < 4096 }
+        ensures links { self.new.links ≡ self.old.links }
+        ensures steps { (pc : ℕ) → start ≤ pc → pc < 4096 → steps_at self.new.ways pc ≡ 0 }
+        ensures first { (pc : ℕ) → start ≤ pc → pc < 4096 → first_at self.new.ways pc ≡ None }
+        ensures mark { self.new.mark ≡ 0 }
     {
         self.mark = 0;
         self.ways.fill_from(start, Way::NOTHING);

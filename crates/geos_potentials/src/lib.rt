@@ -34,6 +34,8 @@ mod spent;
 mod spread;
 mod units;
 mod unpaid;
+mod ways;
+mod whole;
 
 pub use arcs::{Arc, Counting};
 pub use asked::Potentials;

@@ -1,10 +1,13 @@
 //! Nests: places among which control goes round, each with the LOOPs that pay for that.
 
-ghost use Rattle.std.specs.Prelude.{◌≡◌, ◌<◌, ◌≤◌, ◌+◌, ℕ, None, true, IfSome, IfErr, slice_index_or, slice_set};
+ghost use Rattle.std.specs.Prelude.{◌≡◌, ◌<◌, ◌≤◌, ◌+◌, ℕ, None, Some, true, false, min, IfOk, IfSome, IfErr, slice_index_or, slice_set};
 ghost use Rattle.geos_potentials.specs.Pieces.{NoneMayPay};
 ghost use Rattle.geos_potentials.specs.Spent.{AreFree, AreLeftOut, LoopsSpent, MayPayAt, StayFree};
+ghost use Rattle.geos_potentials.specs.Splits.{NoNests, HasRound};
 ghost use Rattle.geos_potentials.specs.Stuck.{StayNoted, GoesRoundIdle};
 ghost use Rattle.geos_potentials.specs.Untouched.{AreUntouched, StayUntouched};
+ghost use Rattle.geos_potentials.specs.Whole.{AreWhole};
+ghost use Rattle.geos_potentials.specs.declared.jumps.Jump.TheVariants.{Plain};
 ghost use Rattle.geos_potentials.specs.declared.nests.Nest.{Nest};
 
 use crate::choice::{Choice, Chosen, Tier, choose};
@@ -14,6 +17,7 @@ use crate::graph::Graph;
 use crate::idle::goes_round_idle;
 use crate::jumps::{Jump, Jumps, lead_within};
 use crate::pieces::{Order, Piece};
+use crate::whole::are_whole;
 use geos_code::{Body, Table, two_tables};
 use geos_image::MOST_INSTRS;
 use std::alloc::{AllocError, Global};
@@ -99,7 +103,10 @@ pub struct Nests {
 }
 
 impl Nests {
-    pub(crate) fn new(alloc: Global) -> Result<Nests, AllocError> {
+    /// There are none.
+    pub(crate) fn new(alloc: Global) -> Result<Nests, AllocError>
+        ensures { IfOk result NoNests }
+    {
         let waiting = Waiting {
             piece: Piece { begin: 0, end: 0 },
             around: None,
@@ -197,7 +204,11 @@ impl Nests {
     }
 
     /// How many nests are around one in a nest.
-    fn depth_in(&self, around: Option<u16>) -> u16 {
+    fn depth_in(&self, around: Option<u16>) -> u16
+        ensures none { around ≡ None → result ≡ 0 }
+        ensures some { (nest : ℕ) (other : Nest) → around ≡ Some nest → nest < 4096
+            → result ≡ min ((slice_index_or self.now.list nest other).depth + 1) 65535 }
+    {
         match around {
             Some(nest) if nest < MOST_INSTRS => self.list.at(nest).depth.saturating_add(1),
             _ => 0,
@@ -245,7 +256,11 @@ pub struct Splitting {
 }
 
 impl Splitting {
-    pub(crate) fn new(alloc: Global) -> Result<Splitting, AllocError> {
+    /// There are no nests, and nothing is found of LOOPs.
+    pub(crate) fn new(alloc: Global) -> Result<Splitting, AllocError>
+        ensures nests { IfOk result (λ splitting. NoNests splitting.nests) }
+        ensures jumps { IfOk result (λ splitting. (pc : ℕ) → slice_index_or splitting.jumps pc Plain ≡ Plain) }
+    {
         let order = Order::new(alloc)?;
         let jumps = Table::new(alloc, Jump::Plain)?;
         let nests = Nests::new(alloc)?;
@@ -259,7 +274,10 @@ impl Splitting {
     }
 
     /// Whether control goes round among the places of a piece, which are a component.
-    fn goes_round(&self, graph: &Graph, piece: &Piece) -> bool {
+    fn goes_round(&self, graph: &Graph, piece: &Piece) -> bool
+        ensures only { result ≡ true → HasRound graph.now.arcs self.now.jumps self.now.order piece.now }
+        ensures all { HasRound graph.now.arcs self.now.jumps self.now.order piece.now → result ≡ true }
+    {
         if MOST_INSTRS <= piece.begin || piece.length() == 0 {
             return false;
         }
@@ -363,14 +381,9 @@ impl Splitting {
         }
     }
 
-    /// Finds the nests of a routine, or a component in which control goes round and no LOOP may pay. What is known of counters stays, but for
-    /// what is set in a piece.
-    pub(crate) fn find(
-        &mut self,
-        body: &Body,
-        graph: &Graph,
-        classes: &mut Classes,
-    ) -> Result<(), Piece>
+    /// Makes the nests of a routine, or finds a component in which control goes round and no LOOP may pay. What is known of counters stays,
+    /// but for what is set in a piece.
+    fn make_all(&mut self, body: &Body, graph: &Graph, classes: &mut Classes) -> Result<(), Piece>
         ensures noted { StayNoted classes.old classes.new }
         ensures none { IfErr result (NoneMayPay graph.now.arcs self.new.jumps self.new.order classes.new) }
         ensures round { IfErr result (GoesRoundIdle body.now.image.now body.now.r graph.now.arcs classes.new self.new.order) }
@@ -390,6 +403,40 @@ impl Splitting {
             };
             self.make(body, graph, classes, &waiting)?;
         }
+        Ok(())
+    }
+
+    /// Were the places of some nest no component, there would be no nests: that it never comes to this is not proved of how they are made.
+    fn keep_whole(&mut self, graph: &Graph, classes: &mut Classes)
+        ensures noted { StayNoted classes.old classes.new }
+        ensures jumps { self.new.jumps ≡ self.old.jumps }
+        ensures whole { AreWhole graph.now.arcs self.new }
+    {
+        if !are_whole(graph, self, &mut classes.set_within, &mut classes.waits) {
+            self.nests.count = 0;
+        }
+    }
+
+    /// Finds the nests of a routine, each of which is a component, or a component in which control goes round and no LOOP may pay. What is
+    /// known of counters stays, but for what is set in a piece.
+    pub(crate) fn find(
+        &mut self,
+        body: &Body,
+        graph: &Graph,
+        classes: &mut Classes,
+    ) -> Result<(), Piece>
+        ensures noted { StayNoted classes.old classes.new }
+        ensures none { IfErr result (NoneMayPay graph.now.arcs self.new.jumps self.new.order classes.new) }
+        ensures round { IfErr result (GoesRoundIdle body.now.image.now body.now.r graph.now.arcs classes.new self.new.order) }
+        ensures untouched { AreUntouched body.now.start graph.now.arcs self.new.jumps classes.old.touched }
+        ensures free { AreFree graph.now.arcs self.new.jumps classes.old body.now.start body.now.end }
+        ensures whole { IfOk result (λ _. AreWhole graph.now.arcs self.new) }
+    {
+        match self.make_all(body, graph, classes) {
+            Ok(()) => {}
+            Err(piece) => return Err(piece),
+        }
+        self.keep_whole(graph, classes);
         Ok(())
     }
 

@@ -34,17 +34,26 @@ pub struct Order {
 }
 
 impl Order {
-    ghost use Rattle.std.specs.Prelude.{◌≡◌, ◌<◌, ◌≤◌, ◌↔◌, IsTrue, slice_index, slice_set};
+    ghost use Rattle.std.specs.Prelude.{◌≡◌, ◌<◌, ◌≢◌, ◌≤◌, ◌↔◌, ℕ, IsTrue, slice_index, slice_set, IfOk};
     ghost use Rattle.geos_potentials.specs.Stuck.{StandsAt};
 
     /// There are no places.
-    pub(crate) fn new(alloc: Global) -> Result<Order, AllocError> {
+    pub(crate) fn new(alloc: Global) -> Result<Order, AllocError>
+        ensures { IfOk result (λ order. (pc : ℕ) → slice_index order.at pc ≡ 0) }
+    {
         let (places, at) = two_tables(alloc, Place { pc: 0 }, 0)?;
         Ok(Order { places, at })
     }
 
     /// The places of a routine stand in the order of their pcs; the piece that they are.
-    pub(crate) fn begin(&mut self, body: &Body) -> Piece {
+    pub(crate) fn begin(&mut self, body: &Body) -> Piece
+        ensures begin { result.begin ≡ body.now.start }
+        ensures end { result.end ≡ body.now.end }
+        ensures stand { (pc : ℕ) → body.now.start ≤ pc → pc < body.now.end → StandsAt self.new pc pc }
+        ensures at { (pc : ℕ) → body.now.start ≤ pc → pc < body.now.end → slice_index self.new.at pc ≡ pc }
+    {
+        // For what its law says.
+        self.at.lengths();
         for pc in body.start..body.end {
             self.put(pc, pc);
         }
@@ -58,8 +67,12 @@ impl Order {
     pub(crate) fn put(&mut self, x: u16, pc: u16)
         requires here { x < 4096 }
         requires place { pc < 4096 }
-        ensures { self.new.at ≡ slice_set self.old.at pc x }
+        ensures at { self.new.at ≡ slice_set self.old.at pc x }
+        ensures stands { StandsAt self.new x pc }
+        ensures others { (y place : ℕ) → y ≢ x → StandsAt self.old y place → StandsAt self.new y place }
     {
+        // For what its law says.
+        self.places.lengths();
         self.places.set(x, Place { pc });
         self.at.set(pc, x);
     }

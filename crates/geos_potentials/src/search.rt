@@ -15,6 +15,7 @@ ghost use Rattle.geos_potentials.specs.Least.{steps_at};
 ghost use Rattle.geos_potentials.specs.Numbers.{numbers_of};
 ghost use Rattle.geos_potentials.specs.Paid.{HavePaid};
 ghost use Rattle.geos_potentials.specs.Untouched.{is_found, AreSpentIn};
+ghost use Rattle.geos_potentials.specs.Whole.{StayNests};
 ghost use Rattle.geos_potentials.specs.Within.{StayWithinLoops};
 
 use crate::asked::Potentials;
@@ -76,6 +77,7 @@ impl Search {
             self.new.units.lengths.ways) }
         ensures lack { IfErr result (IsLack self.new.graph.arcs self.new.splitting self.new.units) }
         ensures graph { self.new.graph ≡ self.old.graph }
+        ensures nests { StayNests self.old.splitting self.new.splitting }
     {
         self.units
             .pay_all(body.start, &self.graph, &mut self.splitting)?;

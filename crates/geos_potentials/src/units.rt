@@ -9,6 +9,7 @@ ghost use Rattle.geos_potentials.specs.Least.{StayAtLoops, StayAtMost, AreLonger
 ghost use Rattle.geos_potentials.specs.Led.{AreLed};
 ghost use Rattle.geos_potentials.specs.Looks.{RisesBy, SomeIsLonger, AreCoveredIn};
 ghost use Rattle.geos_potentials.specs.Waits.{HaveRisen};
+ghost use Rattle.geos_potentials.specs.Whole.{StayNests};
 ghost use Rattle.geos_potentials.specs.Within.{StayWithin, StayWithinAt, StayWithinLoops, pays};
 ghost use Rattle.geos_potentials.specs.declared.arcs.Arc.{Arc};
 
@@ -17,7 +18,7 @@ use crate::graph::Graph;
 use crate::jumps::Jumps;
 use crate::lengths::{Lengths, Link, Share};
 use crate::looks::{LOOKS, Looked};
-use crate::nests::{Splitting, Wait};
+use crate::nests::{Nest, Splitting, Wait};
 use crate::paying::Paying;
 use crate::pieces::{Order, Piece};
 use crate::pile::Pile;
@@ -55,6 +56,21 @@ pub struct Units {
     pub(crate) before: Spread,
     waits: Pile,
     looked: Looked,
+}
+
+/// Why a nest was last to be paid for again, where that is for another one, whose counter is set at a place in it.
+fn due_by(paying: &Paying, id: u16, nest: &Nest, at: u16, round: u32) -> Option<Wait>
+    ensures own { id ≡ paying.now.id → result ≡ nest.now.due_by }
+    ensures other { id ≢ paying.now.id → result ≡ Some (record { on = paying.now.id; at = at; round = round }) }
+{
+    if id == paying.id {
+        return nest.due_by;
+    }
+    Some(Wait {
+        on: paying.id,
+        at,
+        round,
+    })
 }
 
 impl Units {
@@ -213,6 +229,7 @@ impl Units {
         requires { pc < 4096 }
         ensures jumps { splitting.new.jumps ≡ splitting.old.jumps }
         ensures count { splitting.new.nests.count ≡ splitting.old.nests.count }
+        ensures nests { StayNests splitting.old splitting.new }
     {
         let mut left = false;
         let mut inner = true;
@@ -224,25 +241,15 @@ impl Units {
             if MOST_INSTRS <= id {
                 return;
             }
-            let mut nest = splitting.nests.at(id);
+            let nest = splitting.nests.at(id);
             if nest.is_due_by(paying.id, round) && (!left || nest.put_off == round) {
                 return;
             }
-            if left {
-                nest.put_off = round;
-            }
-            if !(inner && nest.tight && id == paying.id) {
-                nest.due = true;
-            }
-            if id != paying.id {
-                let wait = Wait {
-                    on: paying.id,
-                    at: pc,
-                    round,
-                };
-                nest.due_by = Some(wait);
-            }
-            splitting.nests.set(id, nest);
+            let mut next = nest;
+            next.put_off = if left { round } else { nest.put_off };
+            next.due = nest.due || !(inner && nest.tight && id == paying.id);
+            next.due_by = due_by(paying, id, &nest, pc, round);
+            splitting.nests.set(id, next);
             left |= paying.id < id;
             inner = false;
             around = nest.around;
@@ -263,6 +270,7 @@ impl Units {
         ensures past { result ≡ false → PricePasses graph.now.arcs self.now.pay }
         ensures jumps { splitting.new.jumps ≡ splitting.old.jumps }
         ensures count { splitting.new.nests.count ≡ splitting.old.nests.count }
+        ensures nests { StayNests splitting.old splitting.new }
     {
         let mut lead = graph.first_into(to);
         for _ in 0..2 * u32::from(MOST_INSTRS) {
@@ -299,6 +307,7 @@ impl Units {
         ensures lack { IfErr result (IsLack graph.now.arcs splitting.new self.new) }
         ensures jumps { splitting.new.jumps ≡ splitting.old.jumps }
         ensures count { splitting.new.nests.count ≡ splitting.old.nests.count }
+        ensures nests { StayNests splitting.old splitting.new }
     {
         let mut fits = true;
         while let Some(pc) = self.looked.take(&mut self.waits) {
@@ -323,6 +332,7 @@ impl Units {
         ensures lack { IfErr result (IsLack graph.now.arcs splitting.new self.new) }
         ensures jumps { splitting.new.jumps ≡ splitting.old.jumps }
         ensures count { splitting.new.nests.count ≡ splitting.old.nests.count }
+        ensures nests { StayNests splitting.old splitting.new }
     {
         let piece = &paying.nest.piece;
         for x in piece.begin..piece.end {
@@ -351,6 +361,7 @@ impl Units {
         ensures lack { IfErr result (IsLack graph.now.arcs splitting.new self.new) }
         ensures jumps { splitting.new.jumps ≡ splitting.old.jumps }
         ensures count { splitting.new.nests.count ≡ splitting.old.nests.count }
+        ensures nests { StayNests splitting.old splitting.new }
     {
         let mut nest = splitting.nests.at(id);
         nest.due = false;
@@ -380,6 +391,7 @@ impl Units {
         ensures some { IfOk result (λ some. some ≡ true → min (self.old.looked.count + 1) 4294967295 ≤ self.new.looked.count) }
         ensures lack { IfErr result (IsLack graph.now.arcs splitting.new self.new) }
         ensures jumps { splitting.new.jumps ≡ splitting.old.jumps }
+        ensures nests { StayNests splitting.old splitting.new }
     {
         let mut some = false;
         for id in (0..splitting.nests.count().min(MOST_INSTRS)).rev() {
@@ -408,6 +420,7 @@ impl Units {
         ensures within { StayWithinLoops graph.now.arcs splitting.old.jumps pays [] self.new.pay }
         ensures lack { IfErr result (IsLack graph.now.arcs splitting.new self.new) }
         ensures jumps { splitting.new.jumps ≡ splitting.old.jumps }
+        ensures nests { StayNests splitting.old splitting.new }
     {
         self.looked = Looked::new();
         self.pay.fill_from(0, [0; 4]);

@@ -1,35 +1,13 @@
 //! Ways round that no counter pays for.
 
 ghost use Rattle.std.specs.Prelude.{◌≡◌, ◌<◌, ℕ, true, Some, List, Bool, IfSome};
+ghost use Rattle.geos_potentials.specs.Cycles.{left_at, AreWaysIn};
 ghost use Rattle.geos_potentials.specs.Idle.{LeadsUnpaid, IsUnpaidWay, GoesRound};
 
 use crate::cycles::has_unpaid_cycle;
+use crate::ways::{Came, WaysIn};
 use geos_causes::BackWay;
 use geos_code::{Body, Table, edge_in, is_loop};
-
-/// An edge by which control comes to a place.
-#[derive(Clone, Copy)]
-struct Came {
-    from: u16,
-    branch: bool,
-    ghost inside: { from < 4096 },
-}
-
-/// The edges into a place.
-#[derive(Clone, Copy)]
-pub(crate) struct WaysIn {
-    /// How many are left; those from a place into which none is are taken away.
-    pub(crate) left: u16,
-    /// One of those that are left, once such are noted.
-    came: Option<Came>,
-}
-
-impl WaysIn {
-    /// So many are left, and none is noted.
-    pub(crate) fn with_left(left: u16) -> WaysIn {
-        WaysIn { left, came: None }
-    }
-}
 
 /// Where an edge of the instruction leads, if it has it, it stays in the routine, and it is no LOOP's way to its target.
 pub(crate) fn lead_unpaid(body: &Body, pc: u16, branch: bool) -> Option<u16>
@@ -50,7 +28,11 @@ pub(crate) fn lead_unpaid(body: &Body, pc: u16, branch: bool) -> Option<u16>
 /// Notes where an edge leads, if it is a place into which edges are left, and no edge was noted there before.
 fn note(body: &Body, into: &mut Table<WaysIn>, pc: u16, branch: bool)
     requires { pc < body.now.end }
+    ensures left { (at : ℕ) → left_at into.new at ≡ left_at into.old at }
+    ensures came { AreWaysIn body.now.image.now body.now.r into.old into.new }
 {
+    // For what its law says.
+    into.lengths();
     if let Some(to) = lead_unpaid(body, pc, branch) {
         let WaysIn { left, came } = into.at(to);
         if left != 0 && came.is_none() {
@@ -61,7 +43,10 @@ fn note(body: &Body, into: &mut Table<WaysIn>, pc: u16, branch: bool)
 }
 
 /// Notes an edge into each place into which edges are left, from such a place.
-fn note_all(body: &Body, into: &mut Table<WaysIn>) {
+fn note_all(body: &Body, into: &mut Table<WaysIn>)
+    ensures left { (at : ℕ) → left_at into.new at ≡ left_at into.old at }
+    ensures came { AreWaysIn body.now.image.now body.now.r into.old into.new }
+{
     for pc in body.start..body.end {
         if into.at(pc).left != 0 {
             note(body, into, pc, false);

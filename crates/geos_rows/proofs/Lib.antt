@@ -12,3 +12,5 @@ pub mod Strong
 pub mod Joinable
 pub mod Held
 pub mod Weakening
+pub mod Turning
+pub mod Guessing

@@ -6,3 +6,6 @@ pub mod Why
 pub mod Meeting
 pub mod Alike
 pub mod Weakest
+pub mod Turns
+pub mod Unreached
+pub mod Widening

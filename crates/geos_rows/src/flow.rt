@@ -7,6 +7,7 @@ ghost use Rattle.geos_rows.specs.Alike.{StaysAlike};
 ghost use Rattle.geos_code.specs.Edges.{IsInside};
 ghost use Rattle.geos_code.specs.Known.{clean};
 ghost use Rattle.geos_rows.specs.Flow.{has_joined, IsJoin, HaveNoJoin, Arrives, Spreads, Seeded, FlowsBelow, FitAhead, StaysBefore};
+ghost use Rattle.geos_rows.specs.Unreached.{StaysKnown};
 
 use crate::common::join;
 use geos_code::{Body, Known, Lead, clean, edge_in};
@@ -51,8 +52,11 @@ impl Arrival {
 fn arrive(known: &mut Known, to: u16, row: &Row) -> Arrival
     requires { to < 4096 }
     ensures arrives { Arrives result known.old to row.now known.new }
+    ensures there { StaysKnown known.old known.new }
     ensures stays { StaysBefore to known.old known.new }
 {
+    // For what its law says.
+    known.lengths();
     let old = known.at(to);
     let Some(joined) = join_known(&old, row) else {
         return Arrival::Apart;
@@ -69,6 +73,7 @@ fn arrive(known: &mut Known, to: u16, row: &Row) -> Arrival
 pub(crate) fn spread(body: &Body, lead: Lead, row: &Row, known: &mut Known) -> Arrival
     requires { IsInside body.now.image.now body.now.end lead.edge.from lead.edge.branch lead }
     ensures arrives { Arrives result known.old lead.to (after body.now.image.now lead.edge.from (clean row.now) lead.edge.branch) known.new }
+    ensures there { StaysKnown known.old known.new }
     ensures stays { StaysBefore lead.to known.old known.new }
 {
     let next = after(body.image, lead.edge.from, &clean(row), lead.edge.branch);

@@ -1,6 +1,6 @@
 //! The order in which rows flow through the places of a routine.
 
-ghost use Rattle.std.specs.Prelude.{◌<◌, IfSome};
+ghost use Rattle.std.specs.Prelude.{◌<◌, ◌≤◌, IfSome};
 
 use geos_code::{Body, Lead, Table, edge_in, two_tables};
 use geos_image::MOST_INSTRS;
@@ -43,6 +43,7 @@ pub(crate) struct Order {
     seen: Table<bool>,
     /// How many turns are left, the first ones.
     left: u16,
+    ghost short: { length ≤ 4096 },
 }
 
 /// Where one of the two edges leads from a pc, if it is there and stays in the routine. Of both that which leads further on in the text
@@ -60,8 +61,14 @@ fn end_at(body: &Body, pc: u16, followed: u8) -> Option<u16>
 }
 
 impl Order {
+    ghost use Rattle.std.specs.Prelude.{◌≡◌, ◌<◌, ◌≤◌, ◌-◌, ℕ, true, false, nat_le, IfOk};
+    ghost use Rattle.geos_rows.specs.Turns.{place_at, turn_at, is_seen, StaySeen, TurnsWithin};
+
     /// An order of no places.
-    pub(crate) fn new(alloc: Global) -> Result<Order, AllocError> {
+    pub(crate) fn new(alloc: Global) -> Result<Order, AllocError>
+        ensures length { IfOk result (λ order. order.length ≡ 0) }
+        ensures none { IfOk result (λ order. (pc : ℕ) → is_seen order pc ≡ false) }
+    {
         let (places, turns) = two_tables(alloc, Place { pc: 0 }, Turn { turn: 0 })?;
         let none = Step { pc: 0, followed: 0 };
         let (way, seen) = two_tables(alloc, none, false)?;
@@ -78,16 +85,22 @@ impl Order {
     /// The place that has its turn.
     pub(crate) fn place(&self, turn: u16) -> u16
         requires { turn < 4096 }
-        ensures { result < 4096 }
+        ensures inside { result < 4096 }
+        ensures value { result ≡ place_at self.now turn }
     {
+        // For what its law says.
+        self.places.lengths();
         self.places.at(turn).pc
     }
 
     /// When the place has its turn.
     pub(crate) fn turn(&self, pc: u16) -> u16
         requires { pc < 4096 }
-        ensures { result < 4096 }
+        ensures inside { result < 4096 }
+        ensures value { result ≡ turn_at self.now pc }
     {
+        // For what its law says.
+        self.turns.lengths();
         self.turns.at(pc).turn
     }
 
@@ -95,6 +108,7 @@ impl Order {
     pub(crate) fn leads_back(&self, lead: Lead) -> bool
         requires from { lead.edge.from < 4096 }
         requires to { lead.to < 4096 }
+        ensures { result ≡ nat_le (turn_at self.now lead.to) (turn_at self.now lead.edge.from) }
     {
         self.turn(lead.to) <= self.turn(lead.edge.from)
     }
@@ -102,7 +116,13 @@ impl Order {
     /// A way comes to a place, unless one did before.
     fn come(&mut self, pc: u16)
         requires { pc < 4096 }
+        ensures seen { StaySeen self.old self.new }
+        ensures comes { self.old.length < 4096 → is_seen self.new pc ≡ true }
+        ensures turns { self.new.turns ≡ self.old.turns }
+        ensures left { self.new.left ≡ self.old.left }
     {
+        // For what its law says.
+        self.seen.lengths();
         if self.seen.at(pc) || MOST_INSTRS <= self.length {
             return;
         }
@@ -114,7 +134,16 @@ impl Order {
     /// All ways from the last place of the way were followed: of the turns that are left it has the last.
     fn go_back(&mut self, pc: u16)
         requires { pc < 4096 }
+        ensures seen { self.new.seen ≡ self.old.seen }
+        ensures length { self.new.length ≡ self.old.length - 1 }
+        ensures left { self.new.left ≡ self.old.left - 1 }
+        ensures turn { self.new.left < 4096 → turn_at self.new pc ≡ self.new.left }
+        ensures place { self.new.left < 4096 → place_at self.new self.new.left ≡ pc }
+        ensures within { (n : ℕ) → 0 < n → self.old.left ≤ n → TurnsWithin n self.old self.new }
     {
+        // For what their law says.
+        self.places.lengths();
+        self.turns.lengths();
         self.length = self.length.saturating_sub(1);
         self.left = self.left.saturating_sub(1);
         if self.left < MOST_INSTRS {
@@ -124,7 +153,11 @@ impl Order {
     }
 
     /// The way is followed on along one more edge of its last place, or back where there is none; `false` where it has no place.
-    fn follow(&mut self, body: &Body) -> bool {
+    fn follow(&mut self, body: &Body) -> bool
+        ensures ends { result ≡ false → self.old.length ≡ 0 }
+        ensures seen { StaySeen self.old self.new }
+        ensures within { (n : ℕ) → 0 < n → self.old.left ≤ n → TurnsWithin n self.old self.new }
+    {
         let Some(last) = self.length.checked_sub(1) else {
             return false;
         };
@@ -147,8 +180,11 @@ impl Order {
         true
     }
 
-    /// The order of a routine's places: ways are followed from its beginning, and from each place to which none came.
-    pub(crate) fn arrange(&mut self, body: &Body) {
+    /// The order of a routine's places: ways are followed from its beginning, and from each place to which none came. There are as many
+    /// turns as places.
+    pub(crate) fn arrange(&mut self, body: &Body)
+        ensures { TurnsWithin (body.now.end - body.now.start) self.old self.new }
+    {
         self.seen.fill_from(body.start, false);
         self.length = 0;
         self.left = body.end - body.start;

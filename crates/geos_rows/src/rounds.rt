@@ -4,6 +4,7 @@ ghost use Rattle.std.specs.Prelude.{◌<◌, true};
 ghost use Rattle.geos_rows.specs.Alike.{AllComeAlike, GoesAlike, StaysAlike};
 ghost use Rattle.geos_code.specs.Edges.{IsInside};
 ghost use Rattle.geos_rows.specs.Flow.{has_joined};
+ghost use Rattle.geos_rows.specs.Unreached.{StaysKnown};
 
 use crate::flow::{Arrival, spread};
 use crate::waiting::Waiting;
@@ -18,8 +19,11 @@ pub(crate) const PASSES: u32 = 4096 * 256;
 /// A place was weakened: so much is kept of the join.
 fn widen(body: &Body, kept: Kept, old: &Option<Row>, to: u16, known: &mut Known)
     requires { to < 4096 }
-    ensures { AllComeAlike body.now.image.now body.now.r known.old → AllComeAlike body.now.image.now body.now.r known.new }
+    ensures there { StaysKnown known.old known.new }
+    ensures alike { AllComeAlike body.now.image.now body.now.r known.old → AllComeAlike body.now.image.now body.now.r known.new }
 {
+    // For what its law says.
+    known.lengths();
     if let (Some(old), Some(joined)) = (old, known.at(to)) {
         known.set(to, Some(widened(body, kept, old, &joined)));
     }
@@ -34,7 +38,8 @@ pub(crate) fn pass(
     known: &mut Known,
 ) -> Arrival
     requires { IsInside body.now.image.now body.now.end lead.edge.from lead.edge.branch lead }
-    ensures { GoesAlike body.now.image.now body.now.r lead row.now
+    ensures there { StaysKnown known.old known.new }
+    ensures alike { GoesAlike body.now.image.now body.now.r lead row.now
         → StaysAlike body.now.image.now body.now.r known.old known.new (has_joined result) }
 {
     let old = known.at(lead.to);

@@ -1,9 +1,12 @@
 //! What is known at each instruction.
 
-ghost use Rattle.std.specs.Prelude.{◌≡◌, ◌<◌, ◌≤◌, ℕ, true, is_none, length, IfOk, IfSome, IfNone};
+ghost use Rattle.std.specs.Prelude.{◌≡◌, ◌<◌, ◌≤◌, ◌⊎◌, ℕ, true, None, is_none, length, IfOk, IfSome, IfNone};
+ghost use Rattle.geos_code.specs.Code.{TargetAhead};
+ghost use Rattle.geos_code.specs.Known.{known_at};
 ghost use Rattle.geos_rows.specs.Flow.{FlowsAnew, HaveFlowed, StaysBefore};
 ghost use Rattle.geos_rows.specs.Reached.{AllFit, FitWhereReached, Keeps};
 ghost use Rattle.geos_rows.specs.Solutions.{NoRowsHoldIn};
+ghost use Rattle.geos_rows.specs.Turns.{Waits};
 ghost use Rattle.geos_rows.specs.Why.{AreApart, MeetAlike};
 
 use crate::descent::descend;
@@ -31,7 +34,10 @@ struct Tables {
 }
 
 impl Tables {
-    fn new(alloc: Global) -> Result<Tables, AllocError> {
+    /// Nothing is known.
+    fn new(alloc: Global) -> Result<Tables, AllocError>
+        ensures { IfOk result (λ tables. (pc : ℕ) → known_at tables.flowing pc ≡ None) }
+    {
         let waiting = Waiting::new(alloc)?;
         let flowing = Known::new(alloc, None)?;
         let (others, from) = two_tables(alloc, None, None)?;
@@ -45,7 +51,9 @@ impl Tables {
 }
 
 /// What is known where an edge leads back has yet to go along it; along the others it has gone.
-fn wait_to_go_back(body: &Body, waiting: &mut Waiting) {
+fn wait_to_go_back(body: &Body, waiting: &mut Waiting)
+    ensures { (pc : ℕ) → body.now.start ≤ pc → pc < body.now.end → TargetAhead body.now.image.now body.now.r pc ⊎ Waits waiting.new pc }
+{
     waiting.clear(body);
     for pc in body.start..body.end {
         if leads_back(body, pc) {

@@ -1,6 +1,6 @@
 //! The strongest rows that can hold in a routine: rows flow along all its edges, and each is joined with others as it is.
 
-ghost use Rattle.std.specs.Prelude.{◌≡◌, ◌<◌, ◌≤◌};
+ghost use Rattle.std.specs.Prelude.{◌≡◌, ◌<◌, ◌≤◌, ℕ, None, IfOk};
 ghost use Rattle.geos_code.specs.Known.{known_at};
 ghost use Rattle.geos_rows.specs.Reached.{AreAtMostAny};
 
@@ -59,7 +59,9 @@ fn go_all(body: &Body, rows: &mut Known, waiting: &mut Waiting)
 
 impl Strongest {
     /// Nothing is known at any place.
-    pub fn new(alloc: Global) -> Result<Strongest, AllocError> {
+    pub fn new(alloc: Global) -> Result<Strongest, AllocError>
+        ensures { IfOk result (λ strongest. (pc : ℕ) → known_at strongest.rows pc ≡ None) }
+    {
         let rows = Known::new(alloc, None)?;
         let waiting = Waiting::new(alloc)?;
         Ok(Strongest { rows, waiting })

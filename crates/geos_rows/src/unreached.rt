@@ -1,12 +1,17 @@
 //! Rows at places that nothing reaches: the rules are tried there too.
 
-ghost use Rattle.std.specs.Prelude.{◌≡◌, ◌<◌, true, false};
+ghost use Rattle.std.specs.Prelude.{◌≡◌, ◌<◌, ℕ, true, false, Some, IfSome, IfNone, MatchOption, slice_index_or};
 ghost use Rattle.geos_image.specs.Fields.{FieldsFit};
+ghost use Rattle.geos_image.specs.declared.row.SlotState.TheVariants.{Empty};
+ghost use Rattle.geos_opcodes.specs.Facts.{uses_of};
+ghost use Rattle.geos_verify.specs.Lists.{all2};
+ghost use Rattle.geos_verify.specs.Rows.{fits, pointer_fits};
 ghost use Rattle.geos_rows.specs.Flow.{AllKnown};
+ghost use Rattle.geos_rows.specs.Unreached.{IsFirstHeld, AreBefore, IsWantedBehind, StaysKnown, IsGuess};
 
 use crate::rounds::{PASSES, pass};
 use crate::waiting::Waiting;
-use geos_code::{Body, Known, clean, edge_in};
+use geos_code::{Body, Known, clean, edge_in, shape};
 use geos_image::{Instr, Opcode, Pointer, Row, SlotState};
 use geos_opcodes::{Kind, SlotUse};
 use geos_verify::uses_at;
@@ -24,7 +29,10 @@ fn all_known(body: &Body, known: &Known) -> bool
 }
 
 /// The first slot that is held, with as many bytes as can be.
-fn first_held(slots: &[SlotState; 4]) -> Option<Pointer> {
+fn first_held(slots: &[SlotState; 4]) -> Option<Pointer>
+    ensures some { IfSome result (IsFirstHeld slots.now) }
+    ensures none { IfNone result ((k : ℕ) → k < 4 → slice_index_or slots.now k Empty ≡ Empty) }
+{
     for slot in 0..4 {
         match slots[usize::from(slot)] {
             SlotState::Empty => (),
@@ -40,7 +48,10 @@ fn first_held(slots: &[SlotState; 4]) -> Option<Pointer> {
 }
 
 /// A pointer as it is wanted, with as many bytes as can be; any, where none is wanted.
-fn strongest_pointer(wanted: Option<Pointer>, any: Option<Pointer>) -> Option<Pointer> {
+fn strongest_pointer(wanted: Option<Pointer>, any: Option<Pointer>) -> Option<Pointer>
+    ensures value { MatchOption wanted (result ≡ any) (λ pointer. result ≡ Some (record { slot = pointer.slot; least = 65535 })) }
+    ensures fits { pointer_fits result wanted ≡ true }
+{
     match wanted {
         Some(pointer) => Some(Pointer {
             slot: pointer.slot,
@@ -50,19 +61,31 @@ fn strongest_pointer(wanted: Option<Pointer>, any: Option<Pointer>) -> Option<Po
     }
 }
 
+/// Pointers as they are wanted.
+fn strongest_pointers(wanted: &[Option<Pointer>; 4], any: Option<Pointer>) -> [Option<Pointer>; 4]
+    ensures { all2 pointer_fits result wanted.now ≡ true }
+{
+    let [p0, p1, p2, p3] = *wanted;
+    [
+        strongest_pointer(p0, any),
+        strongest_pointer(p1, any),
+        strongest_pointer(p2, any),
+        strongest_pointer(p3, any),
+    ]
+}
+
 /// The strongest row that fits another, but for marks.
-fn strongest(row: &Row) -> Row {
+fn strongest(row: &Row) -> Row
+    ensures slots { result.slots ≡ row.now.slots }
+    ensures fits { fits result row.now ≡ true }
+{
+    // For what its law says.
+    shape(row);
     let any = first_held(&row.slots);
-    let [p0, p1, p2, p3] = row.pointers;
     Row {
         bounds: [0; 8],
         slots: row.slots,
-        pointers: [
-            strongest_pointer(p0, any),
-            strongest_pointer(p1, any),
-            strongest_pointer(p2, any),
-            strongest_pointer(p3, any),
-        ],
+        pointers: strongest_pointers(&row.pointers, any),
         pairs: [true; 6],
     }
 }
@@ -70,6 +93,7 @@ fn strongest(row: &Row) -> Row {
 /// The slots before an instruction, where those behind it are such.
 fn slots_before(i: &Instr, behind: &[SlotState; 4]) -> [SlotState; 4]
     requires { FieldsFit i.now.opcode i.now }
+    ensures { AreBefore (uses_of i.now.opcode).slot i.now.a behind.now result }
 {
     let mut slots = *behind;
     match uses_at(i).slot {
@@ -93,6 +117,7 @@ fn slots_before(i: &Instr, behind: &[SlotState; 4]) -> [SlotState; 4]
 /// it as far as it is known, or that of the target; else the exit row.
 fn wanted_behind(body: &Body, pc: u16, from: &Known) -> Row
     requires { pc < body.now.end }
+    ensures { IsWantedBehind body.now.image.now body.now.r pc from.now result }
 {
     let i = body.image.instr(pc);
     if let Opcode::Call = i.opcode {
@@ -114,7 +139,11 @@ fn wanted_behind(body: &Body, pc: u16, from: &Known) -> Row
 }
 
 /// The strongest rows, from behind, at places where nothing is known.
-fn guess(body: &Body, known: &Known, from: &mut Known) {
+fn guess(body: &Body, known: &Known, from: &mut Known)
+    ensures { IsGuess body.now.image.now body.now.r known.now from.new }
+{
+    // For what its law says.
+    from.lengths();
     for pc in body.start..body.end {
         from.set(pc, known.at(pc));
     }
@@ -128,6 +157,7 @@ fn guess(body: &Body, known: &Known, from: &mut Known) {
 /// What is known at a place goes along the edges to places that nothing reaches.
 fn pass_lone(body: &Body, pc: u16, known: &Known, waiting: &mut Waiting, others: &mut Known)
     requires { pc < body.now.end }
+    ensures { StaysKnown others.old others.new }
 {
     let Some(row) = others.at(pc) else {
         return;
@@ -142,7 +172,9 @@ fn pass_lone(body: &Body, pc: u16, known: &Known, waiting: &mut Waiting, others:
 }
 
 /// What waits of the places that nothing reaches goes along its edges, until nothing new comes to any of them.
-fn flow_lone(body: &Body, known: &Known, from: &Known, waiting: &mut Waiting, others: &mut Known) {
+fn flow_lone(body: &Body, known: &Known, from: &Known, waiting: &mut Waiting, others: &mut Known)
+    ensures { StaysKnown others.old others.new }
+{
     for _ in 0..PASSES {
         let Some(pc) = waiting.take() else {
             return;

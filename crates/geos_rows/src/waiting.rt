@@ -1,6 +1,6 @@
 //! Which places of a routine have yet to go along their edges.
 
-ghost use Rattle.std.specs.Prelude.{◌<◌, IfSome};
+ghost use Rattle.std.specs.Prelude.{◌<◌};
 
 use crate::order::Order;
 use crate::widening::Kept;
@@ -41,7 +41,14 @@ pub(crate) struct Waiting {
 }
 
 impl Waiting {
-    pub(crate) fn new(alloc: Global) -> Result<Waiting, AllocError> {
+    ghost use Rattle.std.specs.Prelude.{◌≡◌, ◌<◌, ◌||◌, ℕ, not, IfOk, IfSome};
+    ghost use Rattle.geos_rows.specs.Turns.{Waits, NoneWaits};
+    ghost use Rattle.geos_rows.specs.Widening.{is_join};
+
+    /// Nothing waits.
+    pub(crate) fn new(alloc: Global) -> Result<Waiting, AllocError>
+        ensures { IfOk result NoneWaits }
+    {
         let order = Order::new(alloc)?;
         let (waits, times) = two_tables(alloc, false, Times::NONE)?;
         Ok(Waiting {
@@ -56,12 +63,16 @@ impl Waiting {
     }
 
     /// Nothing waits in a routine, and no place was weakened.
-    pub(crate) fn clear(&mut self, body: &Body) {
+    pub(crate) fn clear(&mut self, body: &Body)
+        ensures { NoneWaits self.new }
+    {
         if self.routine != Some(body.r) {
             self.order.arrange(body);
             self.routine = Some(body.r);
         }
         self.waits.fill_from(0, false);
+        // For what its law says.
+        self.waits.lengths();
         self.some = [false; 64];
         self.turn = 0;
         self.times.fill_from(body.start, Times::NONE);
@@ -71,7 +82,12 @@ impl Waiting {
     /// A place is to go along its edges.
     pub(crate) fn wait(&mut self, pc: u16)
         requires { pc < 4096 }
+        ensures waits { Waits self.new pc }
+        ensures others { (at : ℕ) → Waits self.old at → Waits self.new at }
+        ensures widened { self.new.widened ≡ self.old.widened }
     {
+        // For what its law says.
+        self.waits.lengths();
         let turn = self.order.turn(pc);
         self.waits.set(turn, true);
         self.some[usize::from(turn / GROUP)] = true;
@@ -132,6 +148,8 @@ impl Waiting {
     pub(crate) fn weaken(&mut self, lead: Lead) -> Kept
         requires from { lead.edge.from < 4096 }
         requires to { lead.to < 4096 }
+        ensures widened { self.new.widened ≡ (self.old.widened || not (is_join result)) }
+        ensures others { (at : ℕ) → Waits self.old at → Waits self.new at }
     {
         let leads_back = self.order.leads_back(lead);
         let Times { gone, back } = self.times.at(lead.to);
@@ -143,7 +161,9 @@ impl Waiting {
     }
 
     /// Whether less than a join was kept of some place, since it had been weakened too often.
-    pub(crate) fn has_widened(&self) -> bool {
+    pub(crate) fn has_widened(&self) -> bool
+        ensures { result ≡ self.now.widened }
+    {
         self.widened
     }
 }

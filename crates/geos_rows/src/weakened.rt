@@ -1,8 +1,9 @@
 //! Rows at places that are reached, weakened by what flows into them from places that nothing reaches.
 
-ghost use Rattle.std.specs.Prelude.{◌≡◌, ◌<◌, true};
+ghost use Rattle.std.specs.Prelude.{◌≡◌, ◌<◌, true, slice_get, IfSome};
 ghost use Rattle.geos_rows.specs.Flow.{AllKnown};
 ghost use Rattle.geos_rows.specs.Reached.{AllFit};
+ghost use Rattle.geos_rows.specs.Unreached.{is_refused, CountsAlike, IsAsGood, AreAsGood};
 
 use crate::fitted::all_fit;
 use crate::rounds::flow_on;
@@ -16,6 +17,8 @@ use geos_verify::{fits, misuses};
 /// routine that it calls, or on its return.
 fn is_refused(body: &Body, pc: u16, row: &Row) -> bool
     requires { pc < body.now.end }
+    ensures { IfSome (slice_get body.now.image.now.points pc)
+        (λ point. result ≡ is_refused body.now.image.now body.now.r point.instr point.instr.opcode row.now) }
 {
     let i = body.image.instr(pc);
     match i.opcode {
@@ -26,23 +29,37 @@ fn is_refused(body: &Body, pc: u16, row: &Row) -> bool
 }
 
 /// Whether what the instruction sets a counter to has one bound in both rows.
-fn counts_alike(i: &Instr, row: &Row, weaker: &Row) -> bool {
+fn counts_alike(i: &Instr, row: &Row, weaker: &Row) -> bool
+    ensures { result ≡ true → CountsAlike i.now row.now weaker.now }
+{
     match i.opcode {
         Opcode::Setkw => bound_of(row, i.b) == bound_of(weaker, i.b),
         _ => true,
     }
 }
 
+/// Whether a weaker row is as good for the instruction at a pc.
+fn is_as_good(body: &Body, pc: u16, row: &Row, weaker: &Row) -> bool
+    requires { pc < body.now.end }
+    ensures { result ≡ true → IfSome (slice_get body.now.image.now.points pc)
+        (λ point. IsAsGood body.now.image.now body.now.r row.now weaker.now point.instr) }
+{
+    if !counts_alike(body.image.instr(pc), row, weaker) {
+        return false;
+    }
+    is_refused(body, pc, row) || !is_refused(body, pc, weaker)
+}
+
 /// Whether the weaker rows are as good at each place that is reached: what is refused there is refused with both, and a counter is
 /// set to as much.
-fn all_as_good(body: &Body, found: &Known, weaker: &Known) -> bool {
+fn all_as_good(body: &Body, found: &Known, weaker: &Known) -> bool
+    ensures { result ≡ true → AreAsGood body.now.image.now body.now.r found.now weaker.now }
+{
     for pc in body.start..body.end {
         if let Some(row) = found.at(pc) {
             let row = clean(&row);
             let weaker = row_of(&weaker.at(pc));
-            if !counts_alike(body.image.instr(pc), &row, &weaker)
-                || is_refused(body, pc, &weaker) && !is_refused(body, pc, &row)
-            {
+            if !is_as_good(body, pc, &row, &weaker) {
                 return false;
             }
         }
@@ -61,6 +78,7 @@ pub(crate) fn weaken(
     others: &mut Known,
 ) -> bool
     ensures some { result ≡ true → AllKnown body.now.image.now body.now.r found.now → ⊥ }
+    ensures good { result ≡ true → AreAsGood body.now.image.now body.now.r found.now weaker.new }
     ensures fit { result ≡ true → AllFit body.now.image.now body.now.r weaker.new }
 {
     if !fill(body, found, weaker, waiting, others) {

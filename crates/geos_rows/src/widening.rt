@@ -1,6 +1,9 @@
 //! What is weakened again and again is given up.
 
-ghost use Rattle.std.specs.Prelude.{◌≡◌, ◌<◌};
+ghost use Rattle.std.specs.Prelude.{◌≡◌, ◌<◌, ◌≤◌, ◌⊎◌, ℕ, true, false, IfSome, IfNone};
+ghost use Rattle.geos_code.specs.Code.{IsPcOf};
+ghost use Rattle.geos_rows.specs.Widening.{is_join, IsConstantAt, IsBound};
+ghost use Rattle.geos_rows.specs.declared.widening.Kept.TheVariants.{Join, Constants, Unchanged};
 
 use geos_code::Body;
 use geos_image::{Opcode, Row};
@@ -14,8 +17,11 @@ const STEPPED: u8 = 8;
 /// So often a place goes along its edges at most before what changes there is given up, whichever edges weaken it.
 const MOST_GONE: u8 = 100;
 
-/// The greatest byte, and the greatest number of a refusal: bounds that instructions bring.
-const BROUGHT: [u16; 2] = [255, 15];
+/// The greatest byte: a bound that instructions bring.
+const MOST_BYTE: u16 = 255;
+
+/// The greatest number of a refusal: another one.
+const MOST_REFUSAL: u16 = 15;
 
 /// How much is kept of a row that was weakened.
 #[derive(Clone, Copy)]
@@ -31,7 +37,11 @@ pub(crate) enum Kept {
 impl Kept {
     /// How much is kept of the row at a place that went along its edges so often, and is weakened now by an edge that leads back or
     /// not, where such edges have weakened it so many times.
-    pub(crate) fn after(gone: u8, leads_back: bool, times: u8) -> Kept {
+    pub(crate) fn after(gone: u8, leads_back: bool, times: u8) -> Kept
+        ensures join { gone < 100 → (leads_back ≡ false) ⊎ (times ≤ 16) → result ≡ Join }
+        ensures constants { gone < 100 → leads_back ≡ true → 16 < times → times ≤ 24 → result ≡ Constants }
+        ensures unchanged { (100 ≤ gone) ⊎ ((leads_back ≡ true) × (24 < times)) → result ≡ Unchanged }
+    {
         if MOST_GONE <= gone || leads_back && JOINED + STEPPED < times {
             Kept::Unchanged
         } else if leads_back && JOINED < times {
@@ -42,7 +52,9 @@ impl Kept {
     }
 
     /// Whether the join is kept as it is.
-    pub(crate) fn is_join(self) -> bool {
+    pub(crate) fn is_join(self) -> bool
+        ensures { result ≡ is_join self }
+    {
         matches!(self, Kept::Join)
     }
 }
@@ -50,6 +62,8 @@ impl Kept {
 /// A constant that the instruction at a pc bounds a word by, if it does.
 fn constant_at(body: &Body, pc: u16) -> Option<u16>
     requires { pc < body.now.end }
+    ensures some { IfSome result (IsConstantAt body.now.image.now pc) }
+    ensures none { IfNone result ((n : ℕ) → IsConstantAt body.now.image.now pc n → ⊥) }
 {
     let i = body.image.instr(pc);
     match i.opcode {
@@ -58,27 +72,41 @@ fn constant_at(body: &Body, pc: u16) -> Option<u16>
     }
 }
 
+/// The less of two constants, where the second one is not below the bound; else the first.
+fn nearer(bound: u16, next: u16, constant: u16) -> u16
+    ensures above { bound ≤ next → bound ≤ result }
+    ensures less { result ≤ next }
+    ensures either { (result ≡ next) ⊎ (result ≡ constant) }
+    ensures least { bound ≤ constant → result ≤ constant }
+{
+    if bound <= constant {
+        next.min(constant)
+    } else {
+        next
+    }
+}
+
 /// The least constant of a routine that is not below the bound; that of any word, where there is
 /// none.
-fn next_constant(body: &Body, bound: u16) -> u16 {
-    let mut next = u16::MAX;
-    for constant in BROUGHT {
-        if bound <= constant {
-            next = next.min(constant);
-        }
-    }
+fn next_constant(body: &Body, bound: u16) -> u16
+    ensures above { bound ≤ result }
+    ensures is { IsBound body.now.image.now body.now.r result }
+    ensures least { (pc n : ℕ) → IsPcOf body.now.image.now body.now.r pc → IsConstantAt body.now.image.now pc n → bound ≤ n → result ≤ n }
+{
+    let mut next = nearer(bound, nearer(bound, u16::MAX, MOST_BYTE), MOST_REFUSAL);
     for pc in body.start..body.end {
         if let Some(constant) = constant_at(body, pc) {
-            if bound <= constant {
-                next = next.min(constant);
-            }
+            next = nearer(bound, next, constant);
         }
     }
     next
 }
 
 /// The bound of a word that changes.
-fn wide_bound(body: &Body, kept: Kept, joined: u16) -> u16 {
+fn wide_bound(body: &Body, kept: Kept, joined: u16) -> u16
+    ensures above { joined ≤ result }
+    ensures join { kept ≡ Join → result ≡ joined }
+{
     match kept {
         Kept::Join => joined,
         Kept::Constants => next_constant(body, joined),

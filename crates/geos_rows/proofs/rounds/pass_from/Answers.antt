@@ -12,4 +12,4 @@ returns c = λ meet all.
     let within = in-body body c.args.pc (omega arith) (omega arith) in
     let comes = all c.args.pc c.in-Some.row within (sym (c.at.ensures None) ∙ c.in-Some.is) in
     let goes = goes-alike image body.r c.args.pc c.args.branch lead c.in-Some.row said.inside.from said.inside.way said.leads said.stays comes in
-    rw c.has_joined.ensures (c.pass.ensures goes meet all)
+    rw c.has_joined.ensures (c.pass.ensures.alike goes meet all)

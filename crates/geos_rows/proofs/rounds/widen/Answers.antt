@@ -4,8 +4,8 @@ use Rattle.geos_rows.specs.Alike.{AllComeAlike}
 use Rattle.geos_rows.proofs.Joinable.{alike-set, comes-slots}
 use Rattle.geos_rows.proofs.rounds.widen.Goals as goal
 
-pub returns-in-Some-Some : goal.returns-in-Some-Some
-returns-in-Some-Some c = λ all.
+pub returns-in-Some-Some-clause-alike : goal.returns-in-Some-Some-clause-alike
+returns-in-Some-Some-clause-alike c = λ all.
     let body = c.args.body.now in
     let image = body.image.now in
     let known = c.args.known.now in

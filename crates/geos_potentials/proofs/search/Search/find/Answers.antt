@@ -13,6 +13,8 @@ use Rattle.geos_potentials.proofs.Demand.{for-loops}
 use Rattle.geos_potentials.proofs.Unpayable.{none-accepted-round}
 use Rattle.geos_potentials.proofs.Priced.{found-least, none-pay}
 use Rattle.geos_potentials.proofs.Untouched.{spent-in}
+use Rattle.geos_potentials.specs.Whole.{AreWhole}
+use Rattle.geos_potentials.proofs.Wholes.{whole-stays}
 use Rattle.geos_potentials.proofs.search.Search.find.Goals as goal
 
 pub returns-in-Err-clause-way : goal.returns-in-Err-clause-way
@@ -43,6 +45,8 @@ returns-in-Err-pay-clause-way c = λ notes.
       c.in-Err-pay.ensures.lack,
       λ is. never-pay image body.r c.args.known.now c.args.touched.now arcs noted outside search.units.pay search.splitting
           (subst (IsLack arcs search.splitting search.units) is c.in-Err-pay.ensures.lack),
+      subst (λ (g : Graph). AreWhole g.arcs search.splitting) (sym c.pay.ensures.graph)
+          (whole-stays c.note.new.self.arcs c.find.new.self search.splitting c.pay.ensures.nests c.in_default.ensures.whole),
     )
 
 pub returns-then-put_potentials-clause-least : goal.returns-then-put_potentials-clause-least

@@ -4,6 +4,7 @@ use Rattle.geos_potentials.specs.Lacks.{PricePasses}
 use Rattle.geos_potentials.specs.Waits.{Waits}
 use Rattle.geos_potentials.proofs.Carrying.{take-carried, but-less}
 use Rattle.geos_potentials.proofs.Growing.{price-passes-on, either-false}
+use Rattle.geos_potentials.proofs.Wholes.{stay-trans}
 use Rattle.geos_potentials.proofs.units.Units.carry.Goals as goal
 
 pub loop-pc-preserved : goal.loop-pc-preserved
@@ -21,6 +22,8 @@ loop-pc-preserved c =
       looked = (let rises = c.in-Some.ensures.counts.up in let before = c.loop-pc.invariant.looked in omega (arith, rises, before));
       jumps = c.note_dearer-fits.ensures.jumps ∙ c.loop-pc.invariant.jumps;
       count = c.note_dearer-fits.ensures.count ∙ c.loop-pc.invariant.count;
+      nests = stay-trans c.args.splitting.now c.loop-pc.splitting c.note_dearer-fits.new.splitting c.loop-pc.invariant.nests
+          c.note_dearer-fits.ensures.nests;
     }
 
 pub returns-else-fits-clause-lack : goal.returns-else-fits-clause-lack

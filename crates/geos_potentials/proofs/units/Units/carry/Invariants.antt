@@ -5,6 +5,7 @@ use Rattle.geos_potentials.specs.Lacks.{PricePasses}
 use Rattle.geos_potentials.specs.Led.{AreLed}
 use Rattle.geos_potentials.specs.Waits.{Waits}
 use Rattle.geos_potentials.specs.Within.{StayWithin}
+use Rattle.geos_potentials.specs.Whole.{StayNests}
 use Rattle.geos_potentials.proofs.units.Units.carry.Given as goal
 
 -- what was wanted at first still is, what was carried still is, and some price passes where one did
@@ -18,6 +19,7 @@ invariant-loop-pc l = record {
   looked : l.fn.self.looked.count ≤ l.self.looked.count;
   jumps : l.splitting.jumps ≡ l.fn.splitting.jumps;
   count : l.splitting.nests.count ≡ l.fn.splitting.nests.count;
+  nests : StayNests l.fn.splitting l.splitting;
 }
 
 abbrev pub decreases-loop-pc : goal.decreases-loop-pc

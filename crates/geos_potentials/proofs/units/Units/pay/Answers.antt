@@ -1,9 +1,11 @@
-use Rattle.std.proofs.Common.{◌≡◌, ◌≤◌, sym, ap, ◌∙◌, subst, arith}
+use Rattle.std.proofs.Common.{◌≡◌, ◌≤◌, refl, sym, ap, ◌∙◌, subst, arith}
 use Rattle.geos_potentials.specs.Carried.{AreCarried, NoneHeld}
 use Rattle.geos_potentials.specs.Demands.{AreWanted}
 use Rattle.geos_potentials.specs.Within.{ExceedWithin}
 use Rattle.geos_potentials.specs.declared.units.Units.{Units}
 use Rattle.geos_potentials.proofs.units.Units.pay.Goals.{then-nest, else-nest}
+use Rattle.geos_potentials.specs.declared.nests.Nest.{Nest}
+use Rattle.geos_potentials.proofs.Wholes.{stay-trans, stay-set}
 use Rattle.geos_potentials.proofs.units.Units.pay.Goals as goal
 
 pub returns-clause-wanted : goal.returns-clause-wanted
@@ -60,3 +62,13 @@ returns-clause-looked c =
     let found = c.find_unit.ensures.looked in
     let set = c.set_unit.ensures.looked in
     omega (arith, noted, found, set)
+
+pub returns-in-Err-clause-nests : goal.returns-in-Err-clause-nests
+returns-in-Err-clause-nests c = stay-set c.args.splitting.now _ c.args.id _ refl refl c.set.ensures.count c.set.ensures.list
+    (λ other. ap (λ (n : Nest). n.piece) (c.at-nest.ensures other))
+
+pub returns-clause-nests : goal.returns-clause-nests
+returns-clause-nests c = stay-trans c.args.splitting.now _ c.set_unit.new.splitting
+    (stay-set c.args.splitting.now _ c.args.id _ refl refl c.set.ensures.count c.set.ensures.list
+    (λ other. ap (λ (n : Nest). n.piece) (c.at-nest.ensures other)))
+    c.set_unit.ensures.nests

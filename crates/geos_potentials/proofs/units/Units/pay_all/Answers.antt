@@ -4,6 +4,7 @@ use Rattle.geos_potentials.specs.Demands.{AreWanted}
 use Rattle.geos_potentials.specs.Within.{StayWithinLoops, pays}
 use Rattle.geos_potentials.specs.declared.units.Units.{Units}
 use Rattle.geos_potentials.proofs.Demand.{filled-wanted}
+use Rattle.geos_potentials.proofs.Wholes.{stay-refl, stay-trans}
 use Rattle.geos_potentials.proofs.Within.{filled-carried, filled-within, paid-more}
 use Rattle.geos_potentials.proofs.units.Units.pay_all.Goals.{then-round-look_at+in_default, else-round-look_at}
 use Rattle.geos_potentials.proofs.units.Units.pay_all.Goals as goal
@@ -18,6 +19,7 @@ loop-init c =
       round = refl;
       looked = omega arith;
       jumps = refl;
+      nests = stay-refl c.args.splitting.now;
     }
 
 pub returns-in_err-pay_round-clause-within : goal.returns-in_err-pay_round-clause-within
@@ -62,4 +64,5 @@ loop-preserved c =
           (let few = c.may_look.ensures.few c.if-not-may_look.false in let more = c.in_ok-pay_round.ensures.some c.if-not-branch.false in
           let before = inv.looked in omega (arith, few, more, before, same));
       jumps = c.pay_round.ensures.jumps ∙ inv.jumps;
+      nests = stay-trans c.args.splitting.now c.loop.splitting c.pay_round.new.splitting inv.nests c.pay_round.ensures.nests;
     }

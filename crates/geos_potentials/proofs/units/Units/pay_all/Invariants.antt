@@ -2,6 +2,7 @@ use Rattle.std.proofs.Common.{◌≡◌, ◌≤◌, ◌+◌, []}
 use Rattle.geos_potentials.specs.Carried.{AreCarried, NoneHeld}
 use Rattle.geos_potentials.specs.Demands.{AreWanted}
 use Rattle.geos_potentials.specs.Led.{AreLed}
+use Rattle.geos_potentials.specs.Whole.{StayNests}
 use Rattle.geos_potentials.specs.Within.{StayWithinLoops, pays}
 use Rattle.geos_potentials.proofs.units.Units.pay_all.Given as goal
 
@@ -14,4 +15,5 @@ invariant-loop l = record {
   round : l.round ≡ l.counter + 1;
   looked : l.counter ≤ l.self.looked.count;
   jumps : l.splitting.jumps ≡ l.fn.splitting.jumps;
+  nests : StayNests l.fn.splitting l.splitting;
 }

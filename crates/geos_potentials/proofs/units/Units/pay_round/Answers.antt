@@ -1,5 +1,6 @@
 use Rattle.std.proofs.Common.{refl, ◌∙◌, arith}
 use Rattle.std.proofs.lemmas.Bool.{false≢true}
+use Rattle.geos_potentials.proofs.Wholes.{stay-refl, stay-trans}
 use Rattle.geos_potentials.proofs.Within.{pay-none, pay-more}
 use Rattle.geos_potentials.proofs.units.Units.pay_round.Goals as goal
 
@@ -9,6 +10,7 @@ loop-id-init c = record {
   looked = omega arith;
   some = λ is. absurd (false≢true is);
   count = refl;
+  nests = stay-refl c.args.splitting.now;
 }
 
 pub loop-id-preserved-in-Continue-1 : goal.loop-id-preserved-in-Continue-1
@@ -21,6 +23,7 @@ loop-id-preserved-in-Continue-1 c = record {
   some = λ is. (let counts = c.nest-nest.ensures.counts in let more = c.pay.ensures.looked in let before = c.loop-id.invariant.looked in
       omega (arith, counts, more, before));
   count = c.pay.ensures.count ∙ c.loop-id.invariant.count;
+  nests = stay-trans c.args.splitting.now c.loop-id.splitting c.pay.new.splitting c.loop-id.invariant.nests c.pay.ensures.nests;
 }
 
 pub returns-in_err-pay-clause-wanted : goal.returns-in_err-pay-clause-wanted

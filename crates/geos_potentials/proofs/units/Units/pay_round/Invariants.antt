@@ -1,5 +1,6 @@
 use Rattle.std.proofs.Common.{◌≡◌, ◌≤◌, ◌+◌, true}
 use Rattle.std.specs.Prelude.{min}
+use Rattle.geos_potentials.specs.Whole.{StayNests}
 use Rattle.geos_potentials.proofs.Within.{PayOn}
 use Rattle.geos_potentials.proofs.units.Units.pay_round.Given as goal
 
@@ -10,4 +11,5 @@ invariant-loop-id l = record {
   looked : l.fn.self.looked.count ≤ l.self.looked.count;
   some : l.some ≡ true → min (l.fn.self.looked.count + 1) 4294967295 ≤ l.self.looked.count;
   count : l.splitting.nests.count ≡ l.fn.splitting.nests.count;
+  nests : StayNests l.fn.splitting l.splitting;
 }

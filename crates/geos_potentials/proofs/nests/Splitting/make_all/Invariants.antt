@@ -2,7 +2,7 @@ use Rattle.std.proofs.Common.{◌≤◌}
 use Rattle.geos_potentials.specs.Spent.{AreFree}
 use Rattle.geos_potentials.specs.Stuck.{StayNoted}
 use Rattle.geos_potentials.specs.Untouched.{AreUntouched}
-use Rattle.geos_potentials.proofs.nests.Splitting.find.Given as goal
+use Rattle.geos_potentials.proofs.nests.Splitting.make_all.Given as goal
 
 -- as much is known of counters as at first, there is at most one nest for each piece so far, no call has touched the counters of LOOPs of
 -- which something is found, and just these are left out whose counter is 0

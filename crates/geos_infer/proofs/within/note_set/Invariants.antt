@@ -1,0 +1,10 @@
+use Rattle.std.proofs.Common.{◌≡◌, ◌≤◌, ◌<◌, ℕ, true}
+use Rattle.geos_potentials.specs.Stuck.{StandsAt}
+use Rattle.geos_potentials.specs.declared.arcs.Arc.{Arc}
+use Rattle.geos_infer.specs.Noted.{comes_to, SetsIn}
+use Rattle.geos_infer.proofs.within.note_set.Given as goal
+
+-- control comes to where the counter is set behind the places before x
+abbrev pub invariant-loop-x : goal.invariant-loop-x
+invariant-loop-x l = (x pc : ℕ) (arc : Arc) → l.piece.begin ≤ x → x < l.x → StandsAt l.order x pc
+    → SetsIn l.graph.arcs l.order l.piece l.counter pc arc → comes_to l.trails arc.to ≡ true

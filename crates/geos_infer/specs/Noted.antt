@@ -1,0 +1,67 @@
+-- To which places ways are noted to come, and by which edge.
+use Rattle.std.specs.Prelude.{◌≡◌, ◌<◌, ◌+◌, ℕ, zero, suc, Bool, true, false, if◌then◌else◌, None, Some, List, Option, slice_get, slice_index_or}
+use Rattle.geos_image.specs.Parts.{Parts}
+use Rattle.geos_code.specs.Code.{is_loop}
+use Rattle.geos_potentials.specs.Waits.{Waits}
+use Rattle.geos_potentials.specs.Arcs.{arc_at}
+use Rattle.geos_potentials.specs.Demands.{keeps}
+use Rattle.geos_potentials.specs.declared.arcs.Arc.{Arc}
+use Rattle.geos_potentials.specs.declared.jumps.Jump.TheVariants.{Plain, Pays}
+use Rattle.geos_potentials.specs.declared.nests.Splitting.{Splitting}
+use Rattle.geos_potentials.specs.declared.nests.Nest.{Nest}
+use Rattle.geos_potentials.specs.declared.arcs.Counting.TheVariants.{Sets}
+use Rattle.geos_potentials.specs.declared.pieces.Order.{Order}
+use Rattle.geos_potentials.specs.declared.pieces.Piece.{Piece}
+use Rattle.geos_potentials.specs.Stuck.{HasPlace}
+use Rattle.geos_infer.specs.declared.trails.Came.{Came}
+use Rattle.geos_infer.specs.declared.trails.Trails.{Trails}
+
+-- how many LOOPs are among so many instructions from a pc on
+abbrev pub loops_in : Parts → ℕ → ℕ → ℕ
+loops_in image start zero = 0
+loops_in image start (suc n) = loops_in image start n
+    + elim (slice_get image.points (start + n)) [ None ↦ 0 | Some point ↦ if is_loop point.instr.opcode then 1 else 0 ]
+
+-- control comes to a place
+abbrev pub comes_to : Trails → ℕ → Bool
+comes_to trails pc = slice_index_or trails.seen pc false
+
+-- the edge by which it does at first, if one is noted
+abbrev pub came_at : Trails → ℕ → Option Came
+came_at trails pc = slice_index_or trails.came pc None
+
+-- it comes to no place
+pub record NoTrails (trails : Trails) : Type 0 where
+  pub seen : (pc : ℕ) → comes_to trails pc ≡ false
+  pub came : (pc : ℕ) → came_at trails pc ≡ None
+  pub waits : (pc : ℕ) → Waits trails.waits pc → ⊥
+
+-- it comes next to each place to which it did
+abbrev pub StayTrails : Trails → Trails → Type 0
+StayTrails old next = (pc : ℕ) → comes_to old pc ≡ true → comes_to next pc ≡ true
+
+-- an edge keeps the counter, if one is asked for
+abbrev pub KeepsIt : Option ℕ → Arc → Type 0
+KeepsIt None arc = Unit {0}
+KeepsIt (Some k) arc = keeps arc.counting k ≡ true
+
+-- the edge of a pc to the next instruction sets a counter to more than 0, and leads to a place of a piece
+pub record SetsIn (arcs : List (List (Option Arc))) (order : Order) (piece : Piece) (k pc : ℕ) (arc : Arc) : Type 0 where
+  pub read : arc_at arcs pc false ≡ Some arc
+  pub stays : HasPlace order piece arc.to
+  pub n : ℕ
+  pub sets : arc.counting ≡ Sets k n
+  pub some : 0 < n
+
+-- the LOOP at a pc pays in a nest of which this is so
+abbrev pub PaysInSuch : Splitting → ℕ → (Nest → Type 0) → Type 0
+PaysInSuch splitting pc such = (id : ℕ) × (slice_index_or splitting.jumps pc Plain ≡ Pays id)
+    × ((other : Nest) → such (slice_index_or splitting.nests.list id other))
+
+-- it was paid for again and again
+abbrev pub WasPaidAgain : Nest → Type 0
+WasPaidAgain nest = 2 < nest.paid
+
+-- so it was, these are its places, and its counter is set there
+abbrev pub IsTightAt : Piece → Nest → Type 0
+IsTightAt piece nest = WasPaidAgain nest × (nest.tight ≡ true) × (nest.piece ≡ piece)

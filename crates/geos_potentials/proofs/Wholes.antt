@@ -1,0 +1,131 @@
+-- Nests whose places are a component.
+use Rattle.std.proofs.Common.{◌≡◌, ◌≤◌, ◌<◌, ℕ, Bool, List, [], ◌∷◌, length, Option, Some, refl, sym, ap, ◌∙◌, subst, arith, inl, inr}
+use Rattle.std.specs.Prelude.{slice_index_or, slice_set}
+use Rattle.std.proofs.lemmas.Bool.{cases_eq, cases_lt}
+use Rattle.std.proofs.lemmas.List.{length-set, get_or_past, get_or-set_same, get_or-set_other}
+use Rattle.geos_potentials.specs.declared.arcs.Arc.{Arc}
+use Rattle.geos_potentials.specs.declared.jumps.Jump.{Jump}
+use Rattle.geos_potentials.specs.declared.jumps.Jump.TheVariants.{Plain}
+use Rattle.geos_potentials.specs.declared.nests.Nest.{Nest}
+use Rattle.geos_potentials.specs.declared.nests.Splitting.{Splitting}
+use Rattle.geos_potentials.specs.declared.pieces.Order.{Order}
+use Rattle.geos_potentials.specs.declared.pieces.Piece.{Piece}
+use Rattle.geos_potentials.specs.Arcs.{arc_at, unit_at}
+use Rattle.geos_potentials.specs.Demands.{AreRaised}
+use Rattle.geos_potentials.specs.Rounds.{Step, StaysInNest, AreSteps, AreCameTo, is_left_out_in}
+use Rattle.geos_potentials.specs.Stuck.{HasPlace, IsIn}
+use Rattle.geos_potentials.specs.Whole.{AreCameFrom, AreAllNoted, IsWhole, AreWhole, StayNests}
+use Rattle.geos_potentials.proofs.Spreading.{raised-all}
+
+module _ (arcs : List (List (Option Arc))) (splitting : Splitting) (id : ℕ) (piece : Piece) where
+  -- steps go on by others
+  pub both-ways : (from mid to : ℕ) (first second : List Step) → AreSteps arcs splitting id piece from first mid
+      → AreSteps arcs splitting id piece mid second to → (steps : List Step) × AreSteps arcs splitting id piece from steps to
+  both-ways from mid to first [] A same = (first, subst (AreSteps arcs splitting id piece from first) same A)
+  both-ways from mid to first (step ∷ before) A B =
+      let rest = both-ways from mid step.pc first before A B.3 in
+      (step ∷ rest.0, (B.0, B.1, B.2, rest.1))
+
+  -- control comes from where an edge begins that stays in the nest, and leads to where it comes from
+  pub back-in : (low to : ℕ) (old next : List (List ℕ)) (p : ℕ) (branch : Bool) (arc : Arc) → low ≤ arc.to → arc_at arcs p branch ≡ Some arc
+      → StaysInNest splitting id piece p branch arc.to → AreRaised old next p (slice_index_or old arc.to [])
+      → AreCameFrom arcs splitting id piece low to old → AreCameFrom arcs splitting id piece low to next
+  back-in low to old next p branch arc above read stays R before pc k up some =
+      raised-all (λ at c n. (steps : List Step) × AreSteps arcs splitting id piece at steps to) low old next p
+      (slice_index_or old arc.to []) R
+      before
+      (λ c _ lt. (let came = before arc.to c above lt in
+      both-ways p arc.to to (record { pc = p; branch = branch; arc = arc } ∷ []) came.0 (refl, read, stays, refl) came.1))
+      pc k up some
+
+  -- at first it is at one place alone
+  pub first-back : (low to : ℕ) (old next : List (List ℕ)) (numbers : List ℕ) → ((pc k : ℕ) → low ≤ pc → unit_at old pc k ≡ 0)
+      → AreRaised old next to numbers → AreCameFrom arcs splitting id piece low to next
+  first-back low to old next numbers none R pc k up some = elim (cases_eq pc to) [
+    | inl same ↦ ([], same)
+    | inr ne ↦
+        let other = R.others pc k ne in
+        let zero = none pc k up in
+        absurd (omega (arith, some, other, zero))
+  ]
+
+  -- where it comes from one place to all, and from all to that, it comes from each to each
+  pub whole : (low first : ℕ) (on back : List (List ℕ)) → AreCameTo arcs splitting id piece low first on
+      → AreCameFrom arcs splitting id piece low first back → AreAllNoted splitting.order piece low on piece.end
+      → AreAllNoted splitting.order piece low back piece.end → IsWhole arcs splitting id piece
+  whole low first on back C F N B from to here there =
+      let out = B here.0 from here.1 here.2 here.3 in
+      let in_ = N there.0 to there.1 there.2 there.3 in
+      let begins = F from 0 out.0 out.1 in
+      let ends = C to 0 in_.0 in_.1 in
+      both-ways from first to begins.0 ends.0 begins.1 ends.1
+
+-- Nests stay
+
+pub stay-refl : (s : Splitting) → StayNests s s
+stay-refl s = record { order = refl; jumps = refl; count = refl; pieces = λ id other. refl }
+
+pub stay-trans : (a b c : Splitting) → StayNests a b → StayNests b c → StayNests a c
+stay-trans a b c S T = record {
+  order = T.order ∙ S.order;
+  jumps = T.jumps ∙ S.jumps;
+  count = T.count ∙ S.count;
+  pieces = λ id other. T.pieces id other ∙ S.pieces id other;
+}
+
+-- where one is set that has the same places
+pub stay-set : (old next : Splitting) (id : ℕ) (nest : Nest) → next.order ≡ old.order → next.jumps ≡ old.jumps
+    → next.nests.count ≡ old.nests.count → next.nests.list ≡ slice_set old.nests.list id nest
+    → ((other : Nest) → nest.piece ≡ (slice_index_or old.nests.list id other).piece) → StayNests old next
+stay-set old next id nest order jumps count is same = record {
+  order = order;
+  jumps = jumps;
+  count = count;
+  pieces = λ at other. elim (cases_eq at id) [
+    | inl here ↦ elim (cases_lt id (length old.nests.list)) [
+      | inl inside ↦
+          ap (λ (l : List Nest). (slice_index_or l at other).piece) is
+          ∙ ap (λ (n : ℕ). (slice_index_or (slice_set old.nests.list id nest) n other).piece) here
+          ∙ ap (λ (n : Nest). n.piece) (get_or-set_same old.nests.list id nest other inside)
+          ∙ same other ∙ ap (λ (n : ℕ). (slice_index_or old.nests.list n other).piece) (sym here)
+      | inr past ↦
+          let more = length-set old.nests.list id nest in
+          ap (λ (l : List Nest). (slice_index_or l at other).piece) is
+          ∙ ap (λ (n : Nest). n.piece) (get_or_past (slice_set old.nests.list id nest) at other (omega (arith, past, more, here)))
+          ∙ sym (ap (λ (n : Nest). n.piece) (get_or_past old.nests.list at other (omega (arith, past, here))))
+    ]
+    | inr ne ↦ ap (λ (l : List Nest). (slice_index_or l at other).piece) is
+        ∙ ap (λ (n : Nest). n.piece) (get_or-set_other old.nests.list id at nest other ne)
+  ];
+}
+
+-- nests that are whole are, as long as they stay
+pub whole-stays : (arcs : List (List (Option Arc))) (old next : Splitting) → StayNests old next → AreWhole arcs old → AreWhole arcs next
+whole-stays arcs old next S W id other few from to here there =
+    let came = W id other (subst (λ (n : ℕ). id < n) S.count few) from to
+    (was from here) (was to there) in
+    (came.0, steps-stay from to came.0 came.1)
+  where
+    piece : Piece
+    piece = (slice_index_or old.nests.list id other).piece
+
+    same : (slice_index_or next.nests.list id other).piece ≡ piece
+    same = S.pieces id other
+
+    was : (pc : ℕ) → IsIn next.order (slice_index_or next.nests.list id other).piece pc → IsIn old.order piece pc
+    was pc is = subst (λ (p : Piece). IsIn old.order p pc) same
+        (subst (λ (o : Order). IsIn o (slice_index_or next.nests.list id other).piece pc) S.order is)
+
+    steps-stay : (from to : ℕ) (steps : List Step) → AreSteps arcs old id piece from steps to
+        → AreSteps arcs next id (slice_index_or next.nests.list id other).piece from steps to
+    steps-stay from to [] is = is
+    steps-stay from to (step ∷ before) is = (
+      is.0,
+      is.1,
+      record {
+        stays = subst (λ (p : Piece). HasPlace next.order p step.arc.to) (sym same)
+            (subst (λ (o : Order). HasPlace o piece step.arc.to) (sym S.order) is.2.stays);
+        kept = λ b. ap (λ (j : List Jump). is_left_out_in id (slice_index_or j step.pc Plain)) S.jumps ∙ is.2.kept b;
+      },
+      steps-stay from step.pc before is.3,
+    )

@@ -1,0 +1,30 @@
+-- How much is kept of rows that are weakened again and again.
+use Rattle.std.specs.Prelude.{◌≡◌, ◌⊎◌, ℕ, Bool, true, false, slice_get, Some}
+use Rattle.geos_opcodes.specs.declared.opcode.Opcode.{Opcode}
+use Rattle.geos_opcodes.specs.declared.opcode.Opcode.TheVariants.{Chk, And, Ldi}
+use Rattle.geos_image.specs.declared.point.Point.{Point}
+use Rattle.geos_image.specs.Parts.{Parts}
+use Rattle.geos_code.specs.Code.{IsPcOf}
+use Rattle.geos_rows.specs.declared.widening.Kept.{Kept}
+use Rattle.geos_rows.specs.declared.widening.Kept.TheVariants.{Join}
+
+-- the join is kept as it is
+abbrev pub is_join : Kept → Bool
+is_join Join = true
+is_join _ = false
+
+-- such an instruction bounds a word by a constant
+abbrev pub bounds_word : Opcode → Bool
+bounds_word Chk = true
+bounds_word And = true
+bounds_word Ldi = true
+bounds_word _ = false
+
+-- the instruction at a pc bounds a word by this constant
+abbrev pub IsConstantAt : Parts → ℕ → ℕ → Type 0
+IsConstantAt image pc n = (point : Point) × (slice_get image.points pc ≡ Some point) × (bounds_word point.instr.opcode ≡ true)
+    × (point.instr.imm ≡ n)
+
+-- an instruction of routine r does, or it is the greatest byte, the greatest number of a refusal, or the greatest word
+abbrev pub IsBound : Parts → ℕ → ℕ → Type 0
+IsBound image r n = (n ≡ 255) ⊎ (n ≡ 15) ⊎ (n ≡ 65535) ⊎ ((pc : ℕ) × IsPcOf image r pc × IsConstantAt image pc n)
