@@ -11,7 +11,6 @@ use crate::place::Place;
 use crate::routines::first_or;
 use crate::unset::put_unset_items;
 use geos_image::Instr;
-use geos_text::{Part, put_parts};
 use geos_verify::calls;
 use std::alloc::AllocError;
 
@@ -53,13 +52,9 @@ fn calling_on(place: &Place) -> Option<u16>
 fn put_none_serves(out: &mut Vec<u8>, place: &Place, from: u16) -> Result<(), AllocError>
     ensures { OnOk result (out.new.items ≡ out.old.items ++ none_serves (place_of place.now) from) }
 {
-    put_parts(
-        out,
-        &[
-            Part::Text(": no budget serves while CALL at"),
-            pc_part(place.lines, from),
-            Part::Text(" names a routine that does not stand before this one"),
-        ],
+    put!(out;
+        ": no budget serves while CALL at" (pc_part(place.lines, from))
+        " names a routine that does not stand before this one"
     )
 }
 

@@ -14,7 +14,6 @@ use crate::stale::name_at;
 use crate::uses::put_state;
 use geos_image::{Routine, Row};
 use geos_listing::{put_items, state_word};
-use geos_text::{Part, put_parts};
 use geos_verify::{Place as KnownPlace, is_empty, pointer_at, slot_state};
 use std::alloc::AllocError;
 
@@ -35,30 +34,10 @@ fn put_item(out: &mut Vec<u8>, row: &Row, item: Item) -> Result<(), AllocError>
     ensures { OnOk result (out.new.items ≡ out.old.items ++ item_text row.now item) }
 {
     match item {
-        Item::Bound(w, most) => put_parts(
-            out,
-            &[
-                Part::Numbered(" w", w as u64),
-                Part::Numbered("<=", most as u64),
-            ],
-        ),
-        Item::Slot(a, state) => put_parts(
-            out,
-            &[
-                Part::Numbered(" s", a as u64),
-                Part::Text("="),
-                Part::Text(state_word(state)),
-            ],
-        ),
+        Item::Bound(w, most) => put!(out; " w" {w} "<=" {most}),
+        Item::Slot(a, state) => put!(out; " s" {a} "=" [state_word(state)]),
         Item::Held(a) => put_state(out, a, row),
-        Item::Leads(p, pointer) => put_parts(
-            out,
-            &[
-                Part::Numbered(" p", p as u64),
-                Part::Numbered("=s", pointer.slot as u64),
-                Part::Numbered(":", pointer.least as u64),
-            ],
-        ),
+        Item::Leads(p, pointer) => put!(out; " p" {p} "=s" {pointer.slot} ":" {pointer.least}),
         Item::Apart(pair) => put_items(out, &only_pair(pair)),
     }
 }
@@ -68,13 +47,7 @@ fn put_item(out: &mut Vec<u8>, row: &Row, item: Item) -> Result<(), AllocError>
 fn put_lines_of(out: &mut Vec<u8>, name: &[u8]) -> Result<(), AllocError>
     ensures { OnOk result (out.new.items ≡ out.old.items ++ lines_of name.now) }
 {
-    put_parts(
-        out,
-        &[
-            Part::Text(" in the in and out lines of "),
-            Part::Bytes(name),
-        ],
-    )
+    put!(out; " in the in and out lines of " bytes(name))
 }
 
 /// A call of a routine leaves only what its `out` line says.
@@ -82,15 +55,9 @@ fn put_lines_of(out: &mut Vec<u8>, name: &[u8]) -> Result<(), AllocError>
 fn put_call_head(out: &mut Vec<u8>, place: &Place, from: u16, r: u16) -> Result<(), AllocError>
     ensures { OnOk result (out.new.items ≡ out.old.items ++ call_head (place_of place.now) from r) }
 {
-    put_parts(
-        out,
-        &[
-            Part::Text("; CALL at"),
-            pc_part(place.lines, from),
-            Part::Text(" leaves what the out line of "),
-            Part::Bytes(name_at(place.image, r)),
-            Part::Text(" says"),
-        ],
+    put!(out;
+        "; CALL at" (pc_part(place.lines, from)) " leaves what the out line of "
+        bytes(name_at(place.image, r)) " says"
     )
 }
 

@@ -16,7 +16,7 @@ use geos_causes::{
 use geos_flow::Edge;
 use geos_image::{Instr, SlotState};
 use geos_listing::state_word;
-use geos_text::{Part, put_parts};
+use geos_text::Part;
 use geos_verify::is_empty;
 use std::alloc::{AllocError, Global};
 
@@ -33,9 +33,9 @@ fn put_differing(
     if slots_agree(state, other) {
         Ok(())
     } else if is_empty(state) {
-        put_parts(out, &[slot, Part::Text(" empty")])
+        put!(out; (slot) " empty")
     } else {
-        put_parts(out, &[slot, Part::Text("="), Part::Text(state_word(state))])
+        put!(out; (slot) "=" [state_word(state)])
     }
 }
 
@@ -76,12 +76,9 @@ fn put_edge(
 {
     let place = pc_part(lines, edge.from);
     if edge.branch && is_refusable(instrs, edge.from) {
-        put_parts(
-            out,
-            &[Part::Text(" where"), place, Part::Text(" is refused:")],
-        )
+        put!(out; " where" (place) " is refused:")
     } else {
-        put_parts(out, &[place, Part::Text(":")])
+        put!(out; (place) ":")
     }
 }
 
@@ -127,10 +124,7 @@ fn put_ways(
 ) -> Result<(), AllocError>
     ensures { OnOk result (out.new.items ≡ out.old.items ++ ways_text lines.now instrs.now apart.now) }
 {
-    put_parts(
-        out,
-        &[Part::Text("at"), pc_part(lines, apart.to), Part::Text(",")],
-    )?;
+    put!(out; "at" (pc_part(lines, apart.to)) ",")?;
     put_coming(out, lines, instrs, &apart.first, &apart.second)?;
     out.extend_from_slice(b";")?;
     put_coming(out, lines, instrs, &apart.second, &apart.first)
@@ -178,15 +172,7 @@ fn leads_text(back: &BackWay) -> &'static str
 fn put_back(out: &mut Vec<u8>, text: &str, lines: &[u32], back: &BackWay) -> Result<(), AllocError>
     ensures { OnOk result (out.new.items ≡ out.old.items ++ (text.now ++ back_text lines.now back.now)) }
 {
-    put_parts(
-        out,
-        &[
-            Part::Text(text),
-            pc_part(lines, back.from),
-            Part::Text(leads_text(back)),
-            pc_part(lines, back.to),
-        ],
-    )
+    put!(out; [text] (pc_part(lines, back.from)) [leads_text(back)] (pc_part(lines, back.to)))
 }
 
 /// A counter is set within its loop.
@@ -194,14 +180,7 @@ fn put_back(out: &mut Vec<u8>, text: &str, lines: &[u32], back: &BackWay) -> Res
 fn put_within(out: &mut Vec<u8>, lines: &[u32], within: &Within) -> Result<(), AllocError>
     ensures { OnOk result (out.new.items ≡ out.old.items ++ within_text lines.now within.now) }
 {
-    put_parts(
-        out,
-        &[
-            Part::Numbered("k", within.counter as u64),
-            Part::Text(" is set at"),
-            pc_part(lines, within.at),
-        ],
-    )?;
+    put!(out; "k" {within.counter} " is set at" (pc_part(lines, within.at)))?;
     put_back(out, ", within its own loop:", lines, &within.back)
 }
 
@@ -210,14 +189,7 @@ fn put_within(out: &mut Vec<u8>, lines: &[u32], within: &Within) -> Result<(), A
 fn put_call(out: &mut Vec<u8>, lines: &[u32], within: &Within) -> Result<(), AllocError>
     ensures { OnOk result (out.new.items ≡ out.old.items ++ call_text lines.now within.now) }
 {
-    put_parts(
-        out,
-        &[
-            Part::Text("the call at"),
-            pc_part(lines, within.at),
-            Part::Numbered(" touches k", within.counter as u64),
-        ],
-    )
+    put!(out; "the call at" (pc_part(lines, within.at)) " touches k" {within.counter})
 }
 
 /// A call touches a counter within its loop.
@@ -248,7 +220,7 @@ fn put_touched_before(out: &mut Vec<u8>, lines: &[u32], within: &Within) -> Resu
 fn put_not_set(out: &mut Vec<u8>, lines: &[u32], own: &LoopOn) -> Result<(), AllocError>
     ensures { OnOk result (out.new.items ≡ out.old.items ++ not_set_text lines.now own.now) }
 {
-    put_parts(out, &[Part::Numbered("nothing sets k", own.counter as u64)])?;
+    put!(out; "nothing sets k" {own.counter})?;
     put_back(out, " on a way to its loop:", lines, &own.back)
 }
 
@@ -263,14 +235,7 @@ fn put_set_in(
 ) -> Result<(), AllocError>
     ensures { OnOk result (out.new.items ≡ out.old.items ++ set_in_text lines.now counter at back.now) }
 {
-    put_parts(
-        out,
-        &[
-            Part::Numbered("k", counter as u64),
-            Part::Text(" at"),
-            pc_part(lines, at),
-        ],
-    )?;
+    put!(out; "k" {counter} " at" (pc_part(lines, at)))?;
     put_back(out, " in the loop where", lines, back)
 }
 
@@ -302,18 +267,9 @@ fn put_in_ring(out: &mut Vec<u8>, lines: &[u32], ring: &LoopRing) -> Result<(), 
 fn put_by_word(out: &mut Vec<u8>, lines: &[u32], by_word: &ByWord) -> Result<(), AllocError>
     ensures { OnOk result (out.new.items ≡ out.old.items ++ by_word_text lines.now by_word.now) }
 {
-    put_parts(
-        out,
-        &[
-            Part::Numbered(
-                "the steps may pass 4,294,967,295, since w",
-                by_word.word as u64,
-            ),
-            Part::Numbered(" may be ", by_word.most as u64),
-            Part::Text(" at"),
-            pc_part(lines, by_word.at),
-            Part::Text(": CHK it"),
-        ],
+    put!(out;
+        "the steps may pass 4,294,967,295, since w" {by_word.word} " may be " {by_word.most} " at"
+        (pc_part(lines, by_word.at)) ": CHK it"
     )
 }
 
@@ -322,19 +278,9 @@ fn put_by_word(out: &mut Vec<u8>, lines: &[u32], by_word: &ByWord) -> Result<(),
 fn put_dear_word(out: &mut Vec<u8>, lines: &[u32], by_word: &ByWord) -> Result<(), AllocError>
     ensures { OnOk result (out.new.items ≡ out.old.items ++ dear_word_text lines.now by_word.now) }
 {
-    put_parts(
-        out,
-        &[
-            Part::Numbered(
-                "no steps up to 4,294,967,295 were found; w",
-                by_word.word as u64,
-            ),
-            Part::Numbered(" may be ", by_word.most as u64),
-            Part::Text(" at"),
-            pc_part(lines, by_word.at),
-            Part::Numbered(", which sets k", by_word.counter as u64),
-            Part::Text(": CHK it"),
-        ],
+    put!(out;
+        "no steps up to 4,294,967,295 were found; w" {by_word.word} " may be " {by_word.most} " at"
+        (pc_part(lines, by_word.at)) ", which sets k" {by_word.counter} ": CHK it"
     )
 }
 
@@ -348,15 +294,9 @@ fn put_set_to(
 ) -> Result<(), AllocError>
     ensures { OnOk result (out.new.items ≡ out.old.items ++ (text.now ++ set_to_text lines.now by_number.now)) }
 {
-    put_parts(
-        out,
-        &[
-            Part::Text(text),
-            Part::Numbered("k", by_number.counter as u64),
-            Part::Numbered(" is set to ", by_number.number as u64),
-            Part::Text(" at"),
-            pc_part(lines, by_number.at),
-        ],
+    put!(out;
+        [text] "k" {by_number.counter} " is set to " {by_number.number} " at"
+        (pc_part(lines, by_number.at))
     )
 }
 

@@ -8,7 +8,6 @@ use crate::filled::Filled;
 use crate::forgotten::Item;
 use geos_image::{Instr, Point};
 use geos_opcodes::SlotUse;
-use geos_text::{Part, put_parts};
 use std::alloc::AllocError;
 
 /// Whether an instruction that does this with the slot that it names leaves another block in it, or none.
@@ -74,13 +73,5 @@ pub(crate) fn changed_by(image: &Filled, r: u16, item: Item) -> Option<u8>
 pub(crate) fn put_changed(out: &mut Vec<u8>, name: &[u8], a: u8) -> Result<(), AllocError>
     ensures { OnOk result (out.new.items ≡ out.old.items ++ changed_words name.now a) }
 {
-    put_parts(
-        out,
-        &[
-            Part::Text(" "),
-            Part::Bytes(name),
-            Part::Numbered(" locks or unlocks s", a as u64),
-            Part::Text(" itself: hold the block in another slot"),
-        ],
-    )
+    put!(out; " " bytes(name) " locks or unlocks s" {a} " itself: hold the block in another slot")
 }

@@ -10,7 +10,6 @@ use crate::numbers::pc_part;
 use geos_causes::{Emptied, slots_agree};
 use geos_image::SlotState;
 use geos_listing::state_word;
-use geos_text::{Part, put_parts};
 use std::alloc::AllocError;
 
 /// Where the text of a padded name ends, if zeros follow it.
@@ -34,15 +33,9 @@ fn name_text(name: &[u8; 16]) -> &[u8]
 fn put_emptying(out: &mut Vec<u8>, lines: &[u32], emptied: &Emptied) -> Result<(), AllocError>
     ensures { OnOk result (out.new.items ≡ out.old.items ++ emptying_text lines.now emptied.now) }
 {
-    put_parts(
-        out,
-        &[
-            Part::Text("; CALL at"),
-            pc_part(lines, emptied.at),
-            Part::Text(" leaves what the out line of "),
-            Part::Bytes(name_text(&emptied.callee)),
-            Part::Text(" says"),
-        ],
+    put!(out;
+        "; CALL at" (pc_part(lines, emptied.at)) " leaves what the out line of "
+        bytes(name_text(&emptied.callee)) " says"
     )
 }
 
@@ -51,15 +44,9 @@ fn put_emptying(out: &mut Vec<u8>, lines: &[u32], emptied: &Emptied) -> Result<(
 fn put_held_wish(out: &mut Vec<u8>, a: usize, emptied: &Emptied) -> Result<(), AllocError>
     ensures { OnOk result (out.new.items ≡ out.old.items ++ held_wish a emptied.now) }
 {
-    put_parts(
-        out,
-        &[
-            Part::Numbered(": say s", a as u64),
-            Part::Text("="),
-            Part::Text(state_word(emptied.state)),
-            Part::Text(" in the in and out lines of "),
-            Part::Bytes(name_text(&emptied.callee)),
-        ],
+    put!(out;
+        ": say s" {a} "=" [state_word(emptied.state)] " in the in and out lines of "
+        bytes(name_text(&emptied.callee))
     )
 }
 
@@ -68,14 +55,9 @@ fn put_held_wish(out: &mut Vec<u8>, a: usize, emptied: &Emptied) -> Result<(), A
 fn put_other_wish(out: &mut Vec<u8>, a: usize, emptied: &Emptied) -> Result<(), AllocError>
     ensures { OnOk result (out.new.items ≡ out.old.items ++ other_wish a emptied.now) }
 {
-    put_parts(
-        out,
-        &[
-            Part::Text("; where "),
-            Part::Bytes(name_text(&emptied.callee)),
-            Part::Numbered(" locks or unlocks s", a as u64),
-            Part::Text(" itself, hold the block in another slot"),
-        ],
+    put!(out;
+        "; where " bytes(name_text(&emptied.callee)) " locks or unlocks s" {a}
+        " itself, hold the block in another slot"
     )
 }
 

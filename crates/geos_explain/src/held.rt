@@ -12,7 +12,7 @@ use crate::place::Place;
 use crate::public::put_missing;
 use crate::since::{Since, held_since};
 use crate::uses::put_state;
-use geos_text::{Part, put_parts};
+use geos_text::Part;
 use geos_verify::{is_empty, is_of_file, slot_state};
 use std::alloc::AllocError;
 
@@ -91,15 +91,7 @@ fn put_since(out: &mut Vec<u8>, lines: &[u32], a: u8, since: Since) -> Result<()
     if let Since::Unknown = since {
         return Ok(());
     }
-    put_parts(
-        out,
-        &[
-            Part::Numbered("; s", a as u64),
-            Part::Text(" is held since"),
-            since_part(lines, since),
-            Part::Text(or_another(since)),
-        ],
-    )
+    put!(out; "; s" {a} " is held since" (since_part(lines, since)) [or_another(since)])
 }
 
 /// The same of a slot that is held and must not be.

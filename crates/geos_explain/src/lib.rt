@@ -4,6 +4,27 @@
 //! docs/FORMATS.md has the form.
 #![tactic(auto)]
 
+/// Appends the parts of a sentence: `"text"`, `"text" {number}`, `[text]`, `bytes(name)` and `(part)`.
+macro_rules! put {
+    (@parts $out:expr, [$($parts:tt)*]) => { geos_text::put_parts($out, &[$($parts)*]) };
+    (@parts $out:expr, [$($parts:tt)*] $text:literal {$n:expr} $($rest:tt)*) => {
+        put!(@parts $out, [$($parts)* geos_text::Part::Numbered($text, $n as u64),] $($rest)*)
+    };
+    (@parts $out:expr, [$($parts:tt)*] $text:literal $($rest:tt)*) => {
+        put!(@parts $out, [$($parts)* geos_text::Part::Text($text),] $($rest)*)
+    };
+    (@parts $out:expr, [$($parts:tt)*] [$text:expr] $($rest:tt)*) => {
+        put!(@parts $out, [$($parts)* geos_text::Part::Text($text),] $($rest)*)
+    };
+    (@parts $out:expr, [$($parts:tt)*] bytes($bytes:expr) $($rest:tt)*) => {
+        put!(@parts $out, [$($parts)* geos_text::Part::Bytes($bytes),] $($rest)*)
+    };
+    (@parts $out:expr, [$($parts:tt)*] ($part:expr) $($rest:tt)*) => {
+        put!(@parts $out, [$($parts)* $part,] $($rest)*)
+    };
+    ($out:expr; $($parts:tt)*) => { put!(@parts $out, [] $($parts)*) };
+}
+
 mod arrivals;
 mod budgets;
 mod calls;

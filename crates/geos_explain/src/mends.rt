@@ -7,7 +7,6 @@ ghost use Rattle.geos_explain.specs.Mends.{bounding, bound_mend, lacks_mark, mar
 use crate::lacks::lacking;
 use crate::uses::mark_word;
 use geos_image::{Row, SlotState};
-use geos_text::{Part, put_parts};
 use geos_verify::{slot_fits, slot_state};
 use std::alloc::AllocError;
 
@@ -16,14 +15,7 @@ use std::alloc::AllocError;
 pub(crate) fn put_bounding(out: &mut Vec<u8>, w: u8, most: u16) -> Result<(), AllocError>
     ensures { OnOk result (out.new.items ≡ out.old.items ++ bounding w most) }
 {
-    put_parts(
-        out,
-        &[
-            Part::Numbered("; CHK w", w as u64),
-            Part::Numbered(" ", most as u64),
-            Part::Text(" L in front of this bounds it"),
-        ],
-    )
+    put!(out; "; CHK w" {w} " " {most} " L in front of this bounds it")
 }
 
 /// The same of a word whose bound is wanted, if it is.
@@ -75,15 +67,7 @@ fn put_mark_mend(
     if !lacks_mark(known, wanted) {
         return Ok(());
     }
-    put_parts(
-        out,
-        &[
-            Part::Text("; "),
-            Part::Text(mark_word(known)),
-            Part::Numbered(" s", a as u64),
-            Part::Text(" marks it"),
-        ],
-    )
+    put!(out; "; " [mark_word(known)] " s" {a} " marks it")
 }
 
 /// What helps of the word and the slot with a number.

@@ -12,7 +12,6 @@ use crate::numbers::pc_part;
 use crate::place::Place;
 use geos_flow::{Marks, is_marked};
 use geos_image::{Instr, Opcode};
-use geos_text::{Part, put_parts};
 use std::alloc::AllocError;
 
 /// Whether the instruction puts into the word what it makes of it.
@@ -93,18 +92,9 @@ fn put_moved_words(
 ) -> Result<(), AllocError>
     ensures { OnOk result (out.new.items ≡ out.old.items ++ moved_words (place_of place.now) w most from i.now) }
 {
-    put_parts(
-        out,
-        &[
-            Part::Text("; "),
-            Part::Text(i.opcode.word()),
-            Part::Text(" at"),
-            pc_part(place.lines, from),
-            Part::Numbered(" moves w", w as u64),
-            Part::Numbered(" going round, and w", w as u64),
-            Part::Numbered("<=", most as u64),
-            Part::Text(" is not known then"),
-        ],
+    put!(out;
+        "; " [i.opcode.word()] " at" (pc_part(place.lines, from)) " moves w" {w}
+        " going round, and w" {w} "<=" {most} " is not known then"
     )
 }
 

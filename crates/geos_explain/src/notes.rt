@@ -10,7 +10,7 @@ use crate::numbers::either;
 use crate::place::Place;
 use geos_image::{Potential, Routine};
 use geos_listing::put_items;
-use geos_text::{Part, put_numbered, put_parts};
+use geos_text::put_numbered;
 use std::alloc::AllocError;
 
 /// So many steps for each that is on counter k, unless there are none.
@@ -70,15 +70,7 @@ fn put_potential(out: &mut Vec<u8>, potential: &Potential) -> Result<(), AllocEr
 fn put_where(out: &mut Vec<u8>, routine: &Routine, pc: u16) -> Result<(), AllocError>
     ensures { OnOk result (out.new.items ≡ out.old.items ++ where_text routine.now pc) }
 {
-    put_parts(
-        out,
-        &[
-            Part::Text(" ; "),
-            Part::Bytes(routine.name_text()),
-            Part::Numbered(" ", pc as u64),
-            Part::Text(":"),
-        ],
-    )
+    put!(out; " ; " bytes(routine.name_text()) " " {pc} ":")
 }
 
 /// How a note begins: in an author's text by nothing, else by the routine and the pc.
@@ -131,14 +123,9 @@ pub(crate) fn put_budget(
     ensures { OnOk result (out.new.items ≡ out.old.items ++ budget_words routine.now potential.now) }
 {
     put_potential(out, potential)?;
-    put_parts(
-        out,
-        &[
-            Part::Text(either(is_one(potential), " is", " are")),
-            Part::Text(" owed at the start of "),
-            Part::Bytes(routine.name_text()),
-            Part::Numbered(", the budget is ", routine.budget as u64),
-        ],
+    put!(out;
+        [either(is_one(potential), " is", " are")] " owed at the start of "
+        bytes(routine.name_text()) ", the budget is " {routine.budget}
     )
 }
 
@@ -157,11 +144,5 @@ pub(crate) fn put_budget_wish(out: &mut Vec<u8>, potential: &Potential) -> Resul
     if !has_no_coefficient(potential) {
         return Ok(());
     }
-    put_parts(
-        out,
-        &[
-            Part::Numbered(": budget ", potential.constant as u64),
-            Part::Text(" is the least that serves"),
-        ],
-    )
+    put!(out; ": budget " {potential.constant} " is the least that serves")
 }

@@ -7,7 +7,7 @@ ghost use Rattle.geos_explain.specs.Numbers.{either, items_in, is_or_are, are_be
 
 use geos_image::Row;
 use geos_listing::put_items;
-use geos_text::{Part, put_parts};
+use geos_text::Part;
 use std::alloc::AllocError;
 
 /// One text where there is just one thing, else the other.
@@ -75,7 +75,7 @@ pub(crate) fn put_are(out: &mut Vec<u8>, before: usize, what: &str) -> Result<()
     ensures { OnOk result (out.new.items ≡ out.old.items ++ are_behind (drop before out.old.items) what.now) }
 {
     let verb = is_or_are(written_from(out, before));
-    put_parts(out, &[Part::Text(verb), Part::Text(what)])
+    put!(out; [verb] [what])
 }
 
 /// The items of the row behind a semicolon, that it is or that they are, and what; nothing for the open row.

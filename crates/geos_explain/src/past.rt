@@ -12,7 +12,6 @@ use crate::mends::put_bounding;
 use crate::uses::slot_behind;
 use geos_image::{Instr, Pointer, Row};
 use geos_opcodes::{Offset, PointerUse, Width};
-use geos_text::{Part, put_parts};
 use geos_verify::{bytes_in, least_at, reach, uses_at};
 use std::alloc::AllocError;
 
@@ -44,14 +43,7 @@ fn put_ask_wish(out: &mut Vec<u8>, p: u8, wanted: u32) -> Result<(), AllocError>
     if wanted >= 65_536 {
         return out.extend_from_slice(b"; no chunk is so long");
     }
-    put_parts(
-        out,
-        &[
-            Part::Numbered("; ask for ", wanted as u64),
-            Part::Numbered(" where p", p as u64),
-            Part::Text(" is set"),
-        ],
-    )
+    put!(out; "; ask for " {wanted} " where p" {p} " is set")
 }
 
 /// The index is to be bounded, or else more bytes asked for; or an instruction that tests it serves.
@@ -67,24 +59,10 @@ fn put_index_wish(
 {
     if wide <= least {
         put_bounding(out, i.c, least - wide)?;
-        put_parts(
-            out,
-            &[
-                Part::Text(", "),
-                Part::Text(tested),
-                Part::Text(" tests it"),
-            ],
-        )
+        put!(out; ", " [tested] " tests it")
     } else {
-        put_parts(
-            out,
-            &[
-                Part::Numbered("; ask for ", wide as u64),
-                Part::Numbered(" or more where p", i.b as u64),
-                Part::Text(" is set, or "),
-                Part::Text(tested),
-                Part::Text(" tests the index"),
-            ],
+        put!(out;
+            "; ask for " {wide} " or more where p" {i.b} " is set, or " [tested] " tests the index"
         )
     }
 }

@@ -10,7 +10,6 @@ use crate::place::Place;
 use crate::routines::{ExplainedRoutine, place_at};
 use crate::words::put_refusal_line;
 use geos_image::Routine;
-use geos_text::{Part, put_parts};
 use geos_verify::{Rule, over_budget};
 use std::alloc::AllocError;
 
@@ -87,13 +86,7 @@ pub(crate) fn first_untold(refused: &[Option<Rule>], most: usize) -> usize
 fn put_more(out: &mut Vec<u8>, more: usize) -> Result<(), AllocError>
     ensures { OnOk result (out.new.items ≡ out.old.items ++ more_line more) }
 {
-    put_parts(
-        out,
-        &[
-            Part::Numbered("; .. and ", more as u64),
-            Part::Text(" more from here on\n"),
-        ],
-    )
+    put!(out; "; .. and " {more} " more from here on\n")
 }
 
 /// What is told where the rule refuses the place: what is wrong, or that others are not told.

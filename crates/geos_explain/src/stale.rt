@@ -15,7 +15,7 @@ use crate::ways::{Followed, Way, forgets, is_stale, sets, with_hint};
 use geos_flow::Edge;
 use geos_image::{Instr, Routine, Row};
 use geos_opcodes::{PointerUse, SlotUse};
-use geos_text::{Part, put_numbered, put_parts};
+use geos_text::{Part, put_numbered};
 use geos_verify::{Place as KnownPlace, pointer_at, uses_at};
 use std::alloc::AllocError;
 
@@ -71,18 +71,10 @@ fn put_way(out: &mut Vec<u8>, front: &str, place: &Place, way: Way) -> Result<()
 {
     let front = Part::Text(front);
     match refused_on(place.image, way) {
-        Some(from) => put_parts(
-            out,
-            &[
-                front,
-                Part::Text(" where"),
-                pc_part(place.lines, from),
-                Part::Text(" is refused"),
-            ],
-        ),
+        Some(from) => put!(out; (front) " where" (pc_part(place.lines, from)) " is refused"),
         None => match way {
-            Way::Entry => put_parts(out, &[front, Part::Text(" the in line")]),
-            Way::Along(edge) => put_parts(out, &[front, pc_part(place.lines, edge.from)]),
+            Way::Entry => put!(out; (front) " the in line"),
+            Way::Along(edge) => put!(out; (front) (pc_part(place.lines, edge.from))),
         },
     }
 }
@@ -95,12 +87,9 @@ fn put_meeting_head(out: &mut Vec<u8>, place: &Place, p: u8, to: u16) -> Result<
     let pointer = Part::Numbered(" p", p as u64);
     let known = Part::Text(" is known from");
     if to == place.pc {
-        return put_parts(out, &[Part::Text(";"), pointer, known]);
+        return put!(out; ";" (pointer) (known));
     }
-    put_parts(
-        out,
-        &[Part::Text("; at"), pc_part(place.lines, to), pointer, known],
-    )
+    put!(out; "; at" (pc_part(place.lines, to)) (pointer) (known))
 }
 
 /// Where ways meet, if they do, of which one brings the pointer, and another does not.
@@ -133,15 +122,7 @@ fn put_named(
 ) -> Result<(), AllocError>
     ensures { OnOk result (out.new.items ≡ out.old.items ++ named lines.now from point.now) }
 {
-    put_parts(
-        out,
-        &[
-            Part::Text("; "),
-            Part::Text(point.instr.opcode.word()),
-            Part::Text(" at"),
-            pc_part(lines, from),
-        ],
-    )
+    put!(out; "; " [point.instr.opcode.word()] " at" (pc_part(lines, from)))
 }
 
 /// The name of a routine, if there is one.
@@ -161,14 +142,9 @@ pub(crate) fn name_at<'a>(image: &'a Filled, r: u16) -> &'a [u8]
 fn put_call_loss(out: &mut Vec<u8>, image: &Filled, p: u8, r: u16) -> Result<(), AllocError>
     ensures { OnOk result (out.new.items ≡ out.old.items ++ call_loss image.now p r) }
 {
-    put_parts(
-        out,
-        &[
-            Part::Text(" leaves what the out line of "),
-            Part::Bytes(name_at(image, r)),
-            Part::Numbered(" says, and it does not say p", p as u64),
-            Part::Text(": say it in the out line, or fetch it again"),
-        ],
+    put!(out;
+        " leaves what the out line of " bytes(name_at(image, r)) " says, and it does not say p" {p}
+        ": say it in the out line, or fetch it again"
     )
 }
 
@@ -179,20 +155,11 @@ fn put_moved(out: &mut Vec<u8>, p: u8, a: u8, b: u8) -> Result<(), AllocError>
 {
     let moved = Part::Numbered(" may have moved what is behind p", p as u64);
     if a == b {
-        return put_parts(out, &[moved, Part::Text(": fetch it again")]);
+        return put!(out; (moved) ": fetch it again");
     }
-    put_parts(
-        out,
-        &[
-            moved,
-            Part::Numbered(", since s", a as u64),
-            Part::Numbered(" and s", b as u64),
-            Part::Numbered(
-                " may hold one block: fetch it again, or tell them apart by SNE s",
-                a as u64,
-            ),
-            Part::Numbered(" s", b as u64),
-        ],
+    put!(out;
+        (moved) ", since s" {a} " and s" {b}
+        " may hold one block: fetch it again, or tell them apart by SNE s" {a} " s" {b}
     )
 }
 
@@ -213,7 +180,7 @@ fn put_use_loss(out: &mut Vec<u8>, i: &Instr, slot: SlotUse, p: u8, b: u8) -> Re
         ),
         _ => (" leaves p", " stale: fetch it again"),
     };
-    put_parts(out, &[Part::Numbered(before, p as u64), Part::Text(behind)])
+    put!(out; (Part::Numbered(before, p as u64)) [behind])
 }
 
 /// How the instruction lost the pointer, at its target or else on the next instruction.
@@ -233,15 +200,9 @@ fn put_how_lost(
     if forgets(i.opcode) {
         put_call_loss(out, image, p, i.imm)
     } else if branch && sets(i, uses.pointer, p) {
-        put_parts(
-            out,
-            &[
-                Part::Numbered(
-                    " goes to its label where it is refused, and has not set p",
-                    p as u64,
-                ),
-                Part::Text(": give it another label"),
-            ],
+        put!(out;
+            " goes to its label where it is refused, and has not set p" {p}
+            ": give it another label"
         )
     } else {
         let b = slot_behind(&with_hint(&point.row, followed), p);
@@ -280,14 +241,7 @@ fn put_label_wish(
         return Ok(());
     };
     match refused_on(place.image, m.lost) {
-        Some(from) => put_parts(
-            out,
-            &[
-                Part::Text(", or give"),
-                pc_part(place.lines, from),
-                Part::Text(" another label"),
-            ],
-        ),
+        Some(from) => put!(out; ", or give" (pc_part(place.lines, from)) " another label"),
         None => Ok(()),
     }
 }
@@ -302,24 +256,12 @@ fn put_unset(
 ) -> Result<(), AllocError>
     ensures { OnOk result (out.new.items ≡ out.old.items ++ unset_words (place_of place.now) p meeting) }
 {
-    put_parts(
-        out,
-        &[
-            Part::Numbered("; p", p as u64),
-            Part::Text(" is not set on the way from the start of the routine: fetch it first"),
-        ],
-    )?;
+    put!(out; "; p" {p} " is not set on the way from the start of the routine: fetch it first")?;
     put_label_wish(out, place, meeting)?;
     if place.routine.public {
         return Ok(());
     }
-    put_parts(
-        out,
-        &[
-            Part::Numbered(", or say p", p as u64),
-            Part::Text(" in the in line"),
-        ],
-    )
+    put!(out; ", or say p" {p} " in the in line")
 }
 
 /// No way leads to a pc, or here.
@@ -330,14 +272,7 @@ fn put_unreached(out: &mut Vec<u8>, place: &Place, to: u16) -> Result<(), AllocE
     if to == place.pc {
         return out.extend_from_slice(b"; nothing leads here: take it out");
     }
-    put_parts(
-        out,
-        &[
-            Part::Text("; nothing leads to"),
-            pc_part(place.lines, to),
-            Part::Text(": take it out"),
-        ],
-    )
+    put!(out; "; nothing leads to" (pc_part(place.lines, to)) ": take it out")
 }
 
 /// Each way to a pc brings the pointer, which is not known there.
@@ -345,16 +280,9 @@ fn put_unreached(out: &mut Vec<u8>, place: &Place, to: u16) -> Result<(), AllocE
 fn put_merged(out: &mut Vec<u8>, place: &Place, p: u8, to: u16) -> Result<(), AllocError>
     ensures { OnOk result (out.new.items ≡ out.old.items ++ merged_words (place_of place.now) p to) }
 {
-    put_parts(
-        out,
-        &[
-            Part::Text("; each way to"),
-            pc_part(place.lines, to),
-            Part::Numbered(" knows p", p as u64),
-            Part::Text(
-                ", and it is not known there, as where it leads into two slots: fetch it again",
-            ),
-        ],
+    put!(out;
+        "; each way to" (pc_part(place.lines, to)) " knows p" {p}
+        ", and it is not known there, as where it leads into two slots: fetch it again"
     )
 }
 
@@ -363,13 +291,8 @@ fn put_into_empty_wish(out: &mut Vec<u8>, p: u8, way: Way, slot: u8) -> Result<(
     ensures { OnOk result (out.new.items ≡ out.old.items ++ into_empty_wish p way slot) }
 {
     match way {
-        Way::Entry => put_parts(
-            out,
-            &[
-                Part::Numbered(": say in the in line what s", slot as u64),
-                Part::Numbered(" holds, or fetch p", p as u64),
-                Part::Text(" first"),
-            ],
+        Way::Entry => put!(out;
+            ": say in the in line what s" {slot} " holds, or fetch p" {p} " first"
         ),
         Way::Along(_) => out.extend_from_slice(b": fetch it again"),
     }
@@ -387,14 +310,7 @@ fn put_into_empty(
     ensures { OnOk result (out.new.items ≡ out.old.items ++ into_empty_words (place_of place.now) p way slot) }
 {
     put_way(out, "; from", place, way)?;
-    put_parts(
-        out,
-        &[
-            Part::Numbered(" p", p as u64),
-            Part::Numbered(" leads into s", slot as u64),
-            Part::Text(", which is empty there"),
-        ],
-    )?;
+    put!(out; " p" {p} " leads into s" {slot} ", which is empty there")?;
     put_into_empty_wish(out, p, way, slot)
 }
 

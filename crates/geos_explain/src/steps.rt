@@ -9,7 +9,7 @@ use crate::notes::put_steps;
 use crate::numbers::either;
 use crate::place::Place;
 use geos_image::{Opcode, Potential, Routine};
-use geos_text::{Part, put_numbered, put_parts};
+use geos_text::put_numbered;
 use geos_verify::{Asked, asked_along, asked_branching, branches, falls_through};
 use std::alloc::AllocError;
 
@@ -31,16 +31,10 @@ fn put_asked(out: &mut Vec<u8>, asked: &Asked, p: &Potential) -> Result<(), Allo
     if asked.steps <= left {
         return put_whole(out, asked, p);
     }
-    put_parts(
-        out,
-        &[
-            Part::Numbered(" ", asked.steps),
-            Part::Text(either(asked.steps == 1, " step", " steps")),
-            Part::Text(either(asked.steps == 1, " is", " are")),
-            Part::Numbered(" owed from here, ", left),
-            Part::Text(either(left == 1, " is", " are")),
-            Part::Text(" left"),
-        ],
+    put!(out;
+        " " {asked.steps} [either(asked.steps == 1, " step", " steps")]
+        [either(asked.steps == 1, " is", " are")] " owed from here, " {left}
+        [either(left == 1, " is", " are")] " left"
     )
 }
 
@@ -97,14 +91,7 @@ fn put_all_paying(out: &mut Vec<u8>, coefficients: &[u32; 4]) -> Result<(), Allo
 fn put_touched(out: &mut Vec<u8>, callee: &Routine, q: &Potential) -> Result<(), AllocError>
     ensures { OnOk result (out.new.items ≡ out.old.items ++ touched_words callee.now q.now) }
 {
-    put_parts(
-        out,
-        &[
-            Part::Text(" "),
-            Part::Bytes(callee.name_text()),
-            Part::Text(" touches a counter that still pays behind the call:"),
-        ],
-    )?;
+    put!(out; " " bytes(callee.name_text()) " touches a counter that still pays behind the call:")?;
     put_all_paying(out, &q.coefficients)
 }
 

@@ -14,7 +14,7 @@ use crate::refusals::{first_untold, most_told};
 use crate::repeated::told_once;
 use crate::routines::{ExplainedRoutine, place_at};
 use geos_image::Image;
-use geos_text::{Part, first_line, put_parts};
+use geos_text::first_line;
 use geos_verify::Rule;
 use std::alloc::{AllocError, Global};
 
@@ -78,14 +78,7 @@ struct Line<'a> {
 fn put_numbered_line(out: &mut Vec<u8>, line: &Line) -> Result<(), AllocError>
     ensures { OnOk result (out.new.items ≡ out.old.items ++ numbered line.now.number line.now.text.now) }
 {
-    put_parts(
-        out,
-        &[
-            Part::Numbered("", line.number as u64),
-            Part::Text("\t"),
-            Part::Bytes(line.text),
-        ],
-    )
+    put!(out; "" {line.number} "\t" bytes(line.text))
 }
 
 /// A line with its number, and what stands behind it, where `pc` is the next instruction: what is said of it, where the line is

@@ -14,7 +14,6 @@ use crate::routines::{first_or, is_inside};
 use geos_flow::{Counting, Edge, Heading, Marks, is_marked};
 use geos_image::Instr;
 use geos_opcodes::CounterUse;
-use geos_text::{Part, put_parts};
 use std::alloc::AllocError;
 
 /// Whether the instruction takes from the counter.
@@ -139,14 +138,9 @@ fn put_unset_item(out: &mut Vec<u8>, place: &Place, k: u8) -> Result<(), AllocEr
         return Ok(());
     }
     match unset_loop(place, k) {
-        Some(pc) => put_parts(
-            out,
-            &[
-                Part::Numbered("; k", k as u64),
-                Part::Text(" is not set on the way to LOOP at"),
-                pc_part(place.lines, pc),
-                Part::Text(": set it first by SETK or SETKW"),
-            ],
+        Some(pc) => put!(out;
+            "; k" {k} " is not set on the way to LOOP at" (pc_part(place.lines, pc))
+            ": set it first by SETK or SETKW"
         ),
         None => Ok(()),
     }

@@ -12,7 +12,6 @@ use crate::numbers::{either, is_one_item, written_from};
 use geos_image::{Instr, Pointer, Row, SlotState};
 use geos_listing::{put_items, state_word};
 use geos_opcodes::{Kind, Offset, PointerUse, SlotUse, Width};
-use geos_text::{Part, put_parts};
 use geos_verify::{bytes_in, leads_nowhere, least_at, pointer_at, reach, slot_state, uses_at};
 use std::alloc::AllocError;
 
@@ -21,14 +20,7 @@ use std::alloc::AllocError;
 pub(crate) fn put_state(out: &mut Vec<u8>, a: u8, row: &Row) -> Result<(), AllocError>
     ensures { OnOk result (out.new.items ≡ out.old.items ++ state_item a row.now) }
 {
-    put_parts(
-        out,
-        &[
-            Part::Numbered(" s", a as u64),
-            Part::Text("="),
-            Part::Text(state_word(slot_state(row, a))),
-        ],
-    )
+    put!(out; " s" {a} "=" [state_word(slot_state(row, a))])
 }
 
 /// The pointer, where it leads into an empty slot.
@@ -78,17 +70,9 @@ fn put_short(out: &mut Vec<u8>, p: u8, wanted: u32, row: &Row) -> Result<(), All
     ensures { OnOk result (out.new.items ≡ out.old.items ++ short_words p wanted row.now) }
 {
     let least = least_at(row, p);
-    put_parts(
-        out,
-        &[
-            Part::Numbered(" ", wanted as u64),
-            Part::Text(either(wanted == 1, " byte", " bytes")),
-            Part::Text(either(wanted == 1, " is", " are")),
-            Part::Numbered(" wanted behind p", p as u64),
-            Part::Numbered(", and ", least as u64),
-            Part::Text(either(least == 1, " is", " are")),
-            Part::Text(" known there"),
-        ],
+    put!(out;
+        " " {wanted} [either(wanted == 1, " byte", " bytes")] [either(wanted == 1, " is", " are")]
+        " wanted behind p" {p} ", and " {least} [either(least == 1, " is", " are")] " known there"
     )
 }
 
@@ -105,22 +89,9 @@ fn put_index_known(out: &mut Vec<u8>, index: Index) -> Result<(), AllocError>
     ensures { OnOk result (out.new.items ≡ out.old.items ++ index_known index.w index.most) }
 {
     if index.most == u16::MAX {
-        return put_parts(
-            out,
-            &[
-                Part::Numbered(" nothing is known of w", index.w as u64),
-                Part::Text(", the index"),
-            ],
-        );
+        return put!(out; " nothing is known of w" {index.w} ", the index");
     }
-    put_parts(
-        out,
-        &[
-            Part::Numbered(" w", index.w as u64),
-            Part::Numbered("<=", index.most as u64),
-            Part::Text(" is known of the index"),
-        ],
-    )
+    put!(out; " w" {index.w} "<=" {index.most} " is known of the index")
 }
 
 /// What must be known of it for a read or a write so wide; nothing serves where fewer bytes are there.
@@ -129,14 +100,7 @@ fn put_index_wanted(out: &mut Vec<u8>, w: u8, wide: u16, least: u16) -> Result<(
     ensures { OnOk result (out.new.items ≡ out.old.items ++ index_wanted w wide least) }
 {
     if wide <= least {
-        put_parts(
-            out,
-            &[
-                Part::Numbered(", and w", w as u64),
-                Part::Numbered("<=", (least - wide) as u64),
-                Part::Text(" is wanted"),
-            ],
-        )
+        put!(out; ", and w" {w} "<=" {least - wide} " is wanted")
     } else {
         out.extend_from_slice(b", and none is low enough")
     }
@@ -147,14 +111,7 @@ fn put_index_wanted(out: &mut Vec<u8>, w: u8, wide: u16, least: u16) -> Result<(
 fn put_known_bytes(out: &mut Vec<u8>, p: u8, least: u16) -> Result<(), AllocError>
     ensures { OnOk result (out.new.items ≡ out.old.items ++ known_bytes p least) }
 {
-    put_parts(
-        out,
-        &[
-            Part::Numbered(": p", p as u64),
-            Part::Numbered(" is known to have ", least as u64),
-            Part::Text(either(least == 1, " byte", " bytes")),
-        ],
-    )
+    put!(out; ": p" {p} " is known to have " {least} [either(least == 1, " byte", " bytes")])
 }
 
 /// An index may be too high for the bytes behind its pointer.
@@ -249,17 +206,9 @@ pub(crate) fn put_unmarked(out: &mut Vec<u8>, i: &Instr, row: &Row) -> Result<()
 {
     let a = changed_slot(i, i.opcode.uses().pointer, row);
     let state = slot_state(row, a);
-    put_parts(
-        out,
-        &[
-            Part::Numbered(" s", a as u64),
-            Part::Text("="),
-            Part::Text(state_word(state)),
-            Part::Text(" is changed here, and may not be marked yet: "),
-            Part::Text(mark_word(state)),
-            Part::Numbered(" s", a as u64),
-            Part::Text(" marks it"),
-        ],
+    put!(out;
+        " s" {a} "=" [state_word(state)] " is changed here, and may not be marked yet: "
+        [mark_word(state)] " s" {a} " marks it"
     )
 }
 
@@ -280,15 +229,7 @@ pub(crate) fn put_held(out: &mut Vec<u8>, i: &Instr, row: &Row) -> Result<(), Al
     ensures { OnOk result (out.new.items ≡ out.old.items ++ held_words i.now row.now) }
 {
     let state = slot_state(row, i.a);
-    put_parts(
-        out,
-        &[
-            Part::Numbered(" s", i.a as u64),
-            Part::Text("="),
-            Part::Text(state_word(state)),
-            Part::Text(not_empty(state)),
-        ],
-    )
+    put!(out; " s" {i.a} "=" [state_word(state)] [not_empty(state)])
 }
 
 /// A block of this kind is wanted.
@@ -383,5 +324,5 @@ pub(crate) fn put_slot(out: &mut Vec<u8>, i: &Instr, row: &Row) -> Result<(), Al
     let state = slot_state(row, i.a);
     let wish = slot_wish(slot, state);
     let serving = serving(slot, state);
-    put_parts(out, &[Part::Text(wish), Part::Text(serving)])
+    put!(out; [wish] [serving])
 }

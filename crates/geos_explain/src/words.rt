@@ -27,7 +27,7 @@ use crate::steps::put_unpaid;
 use crate::uses::{changed_slot, put_held, put_nowhere, put_past, put_slot, put_unmarked};
 use crate::written::put_written;
 use geos_image::{Instr, Opcode, Routine, Row};
-use geos_text::{Part, put_parts};
+use geos_text::Part;
 use geos_verify::{Rule, after, falls_through, has_edge, has_place, is_empty, slot_state};
 use std::alloc::AllocError;
 
@@ -42,13 +42,7 @@ fn put_leaves(out: &mut Vec<u8>, place: &Place) -> Result<(), AllocError>
     if falls_through(place.i.opcode) && !has_place(start, place.routine, next) {
         out.extend_from_slice(b" control goes on past the end of the routine")
     } else {
-        put_parts(
-            out,
-            &[
-                label_part(place.lines, place.i.target),
-                Part::Text(" stands outside of the routine"),
-            ],
-        )
+        put!(out; (label_part(place.lines, place.i.target)) " stands outside of the routine")
     }
 }
 
@@ -77,15 +71,7 @@ fn put_wanted<'a>(
     ensures { OnOk result (out.new.items ≡ out.old.items ++ wanted_behind_items (drop before out.old.items) at.now (part_text what.entry)) }
 {
     let verb = is_or_are(written_from(out, before));
-    put_parts(
-        out,
-        &[
-            Part::Text(verb),
-            Part::Text(at),
-            what,
-            Part::Text(", and not known here"),
-        ],
-    )
+    put!(out; [verb] [at] (what) ", and not known here")
 }
 
 /// The routine that a call names does not stand before that of the place, or its entry row wants more than the row says.
@@ -103,14 +89,7 @@ fn put_call(out: &mut Vec<u8>, place: &Place) -> Result<(), AllocError>
         put_lacking(out, place.row, &callee.entry)?;
         return put_wanted(out, before, " wanted by ", Part::Bytes(callee.name_text()));
     }
-    put_parts(
-        out,
-        &[
-            Part::Text(" "),
-            Part::Bytes(callee.name_text()),
-            Part::Text(" does not stand before this routine"),
-        ],
-    )
+    put!(out; " " bytes(callee.name_text()) " does not stand before this routine")
 }
 
 /// What the row at the pc to which the instruction goes along an edge wants, and what is known behind it does not say; nothing
@@ -331,10 +310,7 @@ fn put_refusal_head(out: &mut Vec<u8>, rule: Rule) -> Result<(), AllocError>
     ensures { OnOk result (out.new.items ≡ out.old.items ++ refusal_head rule) }
 {
     let number = rule_number(rule);
-    put_parts(
-        out,
-        &[Part::Numbered("; refused by V", number), Part::Text(":")],
-    )
+    put!(out; "; refused by V" {number} ":")
 }
 
 /// The line of the refusal by the rule.

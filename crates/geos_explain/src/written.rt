@@ -8,7 +8,6 @@ use crate::held::{HeldAt, put_sinces_at, put_slots_at};
 use crate::numbers::{either, is_one_item, is_or_are, written_from};
 use crate::place::Place;
 use geos_image::Row;
-use geos_text::{Part, put_parts};
 use std::alloc::AllocError;
 
 /// Whether some slot is borrowed.
@@ -41,14 +40,7 @@ fn put_written_behind(out: &mut Vec<u8>, before: usize, borrowed: bool) -> Resul
     let items = written_from(out, before);
     let verb = is_or_are(items);
     let wish = held_wish(borrowed, items);
-    put_parts(
-        out,
-        &[
-            Part::Text(verb),
-            Part::Text(" held where the file is written"),
-            Part::Text(wish),
-        ],
-    )
+    put!(out; [verb] " held where the file is written" [wish])
 }
 
 /// The VM file is written while slots hold blocks of it.
