@@ -5,6 +5,7 @@ ghost use Rattle.geos_explain.specs.Places.{IsPlace, place_of, first_of};
 ghost use Rattle.geos_explain.specs.Budgets.{calls_on, calls_on_at, calling_on, none_serves, serving_words, over_words};
 ghost use Rattle.geos_explain.specs.Budgets.{WhatIsSaidOfBudgetsHolds};
 
+use crate::Done;
 use crate::notes::{put_budget, put_budget_wish};
 use crate::numbers::pc_part;
 use crate::place::Place;
@@ -12,7 +13,6 @@ use crate::routines::first_or;
 use crate::unset::put_unset_items;
 use geos_image::Instr;
 use geos_verify::calls;
-use std::alloc::AllocError;
 
 /// Whether the instruction calls a routine that does not stand before that of the place.
 fn calls_on(place: &Place, i: &Instr) -> bool
@@ -49,7 +49,7 @@ fn calling_on(place: &Place) -> Option<u16>
 
 /// No budget serves, since of such a call.
 #[tactic(auto, unfolding(crate::specs::Budgets::none_serves))]
-fn put_none_serves(out: &mut Vec<u8>, place: &Place, from: u16) -> Result<(), AllocError>
+fn put_none_serves(out: &mut Vec<u8>, place: &Place, from: u16) -> Done
     ensures { OnOk result (out.new.items ≡ out.old.items ++ none_serves (place_of place.now) from) }
 {
     put!(out;
@@ -60,7 +60,7 @@ fn put_none_serves(out: &mut Vec<u8>, place: &Place, from: u16) -> Result<(), Al
 
 /// Which budget serves: none where there is such a call, else the least that the potential is within.
 #[tactic(auto, unfolding(crate::specs::Budgets::serving_words))]
-fn put_serving(out: &mut Vec<u8>, place: &Place) -> Result<(), AllocError>
+fn put_serving(out: &mut Vec<u8>, place: &Place) -> Done
     requires { IsPlace (place_of place.now) }
     ensures { OnOk result (out.new.items ≡ out.old.items ++ serving_words (place_of place.now)) }
 {
@@ -72,7 +72,7 @@ fn put_serving(out: &mut Vec<u8>, place: &Place) -> Result<(), AllocError>
 
 /// The potential is above the budget, which budget serves, and which counters are never set.
 #[tactic(auto, unfolding(crate::specs::Budgets::over_words))]
-pub(crate) fn put_over(out: &mut Vec<u8>, place: &Place) -> Result<(), AllocError>
+pub(crate) fn put_over(out: &mut Vec<u8>, place: &Place) -> Done
     requires { IsPlace (place_of place.now) }
     ensures { OnOk result (out.new.items ≡ out.old.items ++ over_words (place_of place.now)) }
 {

@@ -6,6 +6,7 @@ ghost use Rattle.geos_explain.specs.Calls.{only_pair, item_text, lines_of, call_
 ghost use Rattle.geos_explain.specs.Calls.{forgotten_at, forgotten_text, forgotten_item, bound_wanted, slot_wanted};
 ghost use Rattle.geos_explain.specs.Calls.{pointer_wanted, pair_wanted, forgotten_of, forgotten_items, lent_item, lent_of, lent_items};
 
+use crate::Done;
 use crate::changed::{changed_by, put_changed};
 use crate::forgotten::{Item, forgetting_call};
 use crate::numbers::pc_part;
@@ -15,7 +16,6 @@ use crate::uses::put_state;
 use geos_image::{Routine, Row};
 use geos_listing::{put_items, state_word};
 use geos_verify::{Place as KnownPlace, is_empty, pointer_at, slot_state};
-use std::alloc::AllocError;
 
 /// The row that knows only that two slots hold different blocks.
 fn only_pair(pair: u8) -> Row
@@ -30,7 +30,7 @@ fn only_pair(pair: u8) -> Row
 
 /// The item as it stands in a line `in` or `out`; of a slot that is to be held, what the row says that it holds.
 #[tactic(auto, unfolding(crate::specs::Calls::item_text))]
-fn put_item(out: &mut Vec<u8>, row: &Row, item: Item) -> Result<(), AllocError>
+fn put_item(out: &mut Vec<u8>, row: &Row, item: Item) -> Done
     ensures { OnOk result (out.new.items ≡ out.old.items ++ item_text row.now item) }
 {
     match item {
@@ -44,7 +44,7 @@ fn put_item(out: &mut Vec<u8>, row: &Row, item: Item) -> Result<(), AllocError>
 
 /// The lines of a routine in which something is to be said.
 #[tactic(auto, unfolding(crate::specs::Calls::lines_of))]
-fn put_lines_of(out: &mut Vec<u8>, name: &[u8]) -> Result<(), AllocError>
+fn put_lines_of(out: &mut Vec<u8>, name: &[u8]) -> Done
     ensures { OnOk result (out.new.items ≡ out.old.items ++ lines_of name.now) }
 {
     put!(out; " in the in and out lines of " bytes(name))
@@ -52,7 +52,7 @@ fn put_lines_of(out: &mut Vec<u8>, name: &[u8]) -> Result<(), AllocError>
 
 /// A call of a routine leaves only what its `out` line says.
 #[tactic(auto, unfolding(crate::specs::Calls::call_head))]
-fn put_call_head(out: &mut Vec<u8>, place: &Place, from: u16, r: u16) -> Result<(), AllocError>
+fn put_call_head(out: &mut Vec<u8>, place: &Place, from: u16, r: u16) -> Done
     ensures { OnOk result (out.new.items ≡ out.old.items ++ call_head (place_of place.now) from r) }
 {
     put!(out;
@@ -64,13 +64,7 @@ fn put_call_head(out: &mut Vec<u8>, place: &Place, from: u16, r: u16) -> Result<
 /// What helps where a call of routine r forgets the item, which the row knows: to say it in the lines of that routine, or, where the
 /// routine changes its slot, to take another slot.
 #[tactic(auto, unfolding(crate::specs::Calls::kept_wish))]
-fn put_kept_wish(
-    out: &mut Vec<u8>,
-    place: &Place,
-    item: Item,
-    r: u16,
-    row: &Row,
-) -> Result<(), AllocError>
+fn put_kept_wish(out: &mut Vec<u8>, place: &Place, item: Item, r: u16, row: &Row) -> Done
     ensures { OnOk result (out.new.items ≡ out.old.items ++ kept_wish (place_of place.now) item r row.now) }
 {
     if let Some(a) = changed_by(place.image, r, item) {
@@ -90,7 +84,7 @@ fn put_forgotten_at(
     item: Item,
     from: u16,
     point: &KnownPlace,
-) -> Result<(), AllocError>
+) -> Done
     ensures { OnOk result (out.new.items ≡ out.old.items ++ forgotten_at (place_of place.now) item from point.now) }
 {
     put_call_head(out, place, from, point.instr.imm)?;
@@ -99,7 +93,7 @@ fn put_forgotten_at(
 
 /// The call that forgets the item on a way to the place, if there is one.
 #[tactic(auto, unfolding(crate::specs::Calls::forgotten_text))]
-pub(crate) fn put_forgotten(out: &mut Vec<u8>, place: &Place, item: Item) -> Result<(), AllocError>
+pub(crate) fn put_forgotten(out: &mut Vec<u8>, place: &Place, item: Item) -> Done
     requires { IsPlace (place_of place.now) }
     ensures { OnOk result (out.new.items ≡ out.old.items ++ forgotten_text (place_of place.now) item) }
 {
@@ -113,11 +107,7 @@ pub(crate) fn put_forgotten(out: &mut Vec<u8>, place: &Place, item: Item) -> Res
 }
 
 /// The same, if there is an item.
-pub(crate) fn put_forgotten_item(
-    out: &mut Vec<u8>,
-    place: &Place,
-    item: Option<Item>,
-) -> Result<(), AllocError>
+pub(crate) fn put_forgotten_item(out: &mut Vec<u8>, place: &Place, item: Option<Item>) -> Done
     requires { IsPlace (place_of place.now) }
     ensures { OnOk result (out.new.items ≡ out.old.items ++ forgotten_item (place_of place.now) item) }
 {
@@ -175,7 +165,7 @@ fn pair_wanted(row: &Row, k: u8) -> Option<Item>
 
 /// The calls that forget the items with a number that a row wants.
 #[tactic(auto, unfolding(crate::specs::Calls::forgotten_of))]
-fn put_forgotten_of(out: &mut Vec<u8>, place: &Place, wanted: &Row, k: u8) -> Result<(), AllocError>
+fn put_forgotten_of(out: &mut Vec<u8>, place: &Place, wanted: &Row, k: u8) -> Done
     requires place { IsPlace (place_of place.now) }
     requires few { k < 8 }
     ensures { OnOk result (out.new.items ≡ out.old.items ++ forgotten_of (place_of place.now) wanted.now k) }
@@ -188,11 +178,7 @@ fn put_forgotten_of(out: &mut Vec<u8>, place: &Place, wanted: &Row, k: u8) -> Re
 
 /// The calls that forget what a row wants, for each item.
 #[tactic(auto, unfolding(geos_listing::specs::Rows::texts_below))]
-pub(crate) fn put_forgotten_items(
-    out: &mut Vec<u8>,
-    place: &Place,
-    wanted: &Row,
-) -> Result<(), AllocError>
+pub(crate) fn put_forgotten_items(out: &mut Vec<u8>, place: &Place, wanted: &Row) -> Done
     requires { IsPlace (place_of place.now) }
     ensures { OnOk result (out.new.items ≡ out.old.items ++ forgotten_items (place_of place.now) wanted.now) }
 {
@@ -205,13 +191,7 @@ pub(crate) fn put_forgotten_items(
 /// What a slot holds that is held at a call of routine r, and what helps: to say it in the lines of that routine, or, where the routine
 /// changes the slot, to take another slot.
 #[tactic(auto, unfolding(crate::specs::Calls::lent_item))]
-fn put_lent(
-    out: &mut Vec<u8>,
-    place: &Place,
-    r: u16,
-    callee: &Routine,
-    a: u8,
-) -> Result<(), AllocError>
+fn put_lent(out: &mut Vec<u8>, place: &Place, r: u16, callee: &Routine, a: u8) -> Done
     ensures { OnOk result (out.new.items ≡ out.old.items ++ lent_item (place_of place.now) r callee.now a) }
 {
     if let Some(a) = changed_by(place.image, r, Item::Held(a)) {
@@ -225,13 +205,7 @@ fn put_lent(
 
 /// The same, where the routine wants the slot empty.
 #[tactic(auto, unfolding(crate::specs::Calls::lent_of))]
-fn put_lent_of(
-    out: &mut Vec<u8>,
-    place: &Place,
-    r: u16,
-    callee: &Routine,
-    a: u8,
-) -> Result<(), AllocError>
+fn put_lent_of(out: &mut Vec<u8>, place: &Place, r: u16, callee: &Routine, a: u8) -> Done
     ensures { OnOk result (out.new.items ≡ out.old.items ++ lent_of (place_of place.now) r callee.now a) }
 {
     if is_empty(slot_state(&callee.entry, a)) && !is_empty(slot_state(place.row, a)) {
@@ -243,12 +217,7 @@ fn put_lent_of(
 
 /// The same of each slot.
 #[tactic(auto, unfolding(geos_listing::specs::Rows::texts_below))]
-pub(crate) fn put_lent_items(
-    out: &mut Vec<u8>,
-    place: &Place,
-    r: u16,
-    callee: &Routine,
-) -> Result<(), AllocError>
+pub(crate) fn put_lent_items(out: &mut Vec<u8>, place: &Place, r: u16, callee: &Routine) -> Done
     ensures { OnOk result (out.new.items ≡ out.old.items ++ lent_items (place_of place.now) r callee.now) }
 {
     for a in 0..4 {

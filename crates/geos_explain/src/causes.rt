@@ -7,6 +7,7 @@ ghost use Rattle.geos_explain.specs.Causes.{set_in_text, in_turn_text, in_ring_t
 ghost use Rattle.geos_explain.specs.Causes.{by_word_text, dear_word_text, set_to_text, ways_text, calls_text, apart_text};
 ghost use Rattle.geos_explain.specs.Causes.{back_text, leads_text, within_text, cause_words, cause_text};
 
+use crate::Done;
 use crate::emptied::put_emptied_items;
 use crate::numbers::pc_part;
 use geos_causes::{
@@ -21,12 +22,7 @@ use geos_verify::is_empty;
 use std::alloc::{AllocError, Global};
 
 /// A slot, where two states of it differ in more than the mark, and what it holds in the first.
-fn put_differing(
-    out: &mut Vec<u8>,
-    i: usize,
-    state: SlotState,
-    other: SlotState,
-) -> Result<(), AllocError>
+fn put_differing(out: &mut Vec<u8>, i: usize, state: SlotState, other: SlotState) -> Done
     ensures { OnOk result (out.new.items ≡ out.old.items ++ differing_item i state other) }
 {
     let slot = Part::Numbered(" s", i as u64);
@@ -41,11 +37,7 @@ fn put_differing(
 
 /// The slots of a row that differ in more than marks from those of another.
 #[tactic(auto, unfolding(geos_listing::specs::Rows::texts_below))]
-fn put_all_differing(
-    out: &mut Vec<u8>,
-    slots: &[SlotState; 4],
-    others: &[SlotState; 4],
-) -> Result<(), AllocError>
+fn put_all_differing(out: &mut Vec<u8>, slots: &[SlotState; 4], others: &[SlotState; 4]) -> Done
     ensures { OnOk result (out.new.items ≡ out.old.items ++ differing_items 4 slots.now others.now) }
 {
     for i in 0..slots.len() {
@@ -66,12 +58,7 @@ fn is_refusable(instrs: &[Instr], from: u16) -> bool
 
 /// Where an edge comes from, and that its instruction is refused there, if it is that of a refusal.
 #[tactic(auto, unfolding(crate::specs::Causes::refusal_text))]
-fn put_edge(
-    out: &mut Vec<u8>,
-    lines: &[u32],
-    instrs: &[Instr],
-    edge: Edge,
-) -> Result<(), AllocError>
+fn put_edge(out: &mut Vec<u8>, lines: &[u32], instrs: &[Instr], edge: Edge) -> Done
     ensures { OnOk result (out.new.items ≡ out.old.items ++ edge_text lines.now instrs.now edge) }
 {
     let place = pc_part(lines, edge.from);
@@ -84,12 +71,7 @@ fn put_edge(
 
 /// Where control comes from.
 #[tactic(auto, unfolding(crate::specs::Causes::coming_from))]
-fn put_coming_from(
-    out: &mut Vec<u8>,
-    lines: &[u32],
-    instrs: &[Instr],
-    coming: &Coming,
-) -> Result<(), AllocError>
+fn put_coming_from(out: &mut Vec<u8>, lines: &[u32], instrs: &[Instr], coming: &Coming) -> Done
     ensures { OnOk result (out.new.items ≡ out.old.items ++ coming_from lines.now instrs.now coming.now) }
 {
     match coming.from {
@@ -106,7 +88,7 @@ fn put_coming(
     instrs: &[Instr],
     coming: &Coming,
     other: &Coming,
-) -> Result<(), AllocError>
+) -> Done
     ensures { OnOk result (out.new.items ≡ out.old.items ++ coming_text lines.now instrs.now coming.now other.now) }
 {
     out.extend_from_slice(b" from")?;
@@ -116,12 +98,7 @@ fn put_coming(
 
 /// Slots differ where ways meet.
 #[tactic(auto, unfolding(crate::specs::Causes::meeting_text, crate::specs::Causes::other_text, crate::specs::Causes::ways_text))]
-fn put_ways(
-    out: &mut Vec<u8>,
-    lines: &[u32],
-    instrs: &[Instr],
-    apart: &Apart,
-) -> Result<(), AllocError>
+fn put_ways(out: &mut Vec<u8>, lines: &[u32], instrs: &[Instr], apart: &Apart) -> Done
     ensures { OnOk result (out.new.items ≡ out.old.items ++ ways_text lines.now instrs.now apart.now) }
 {
     put!(out; "at" (pc_part(lines, apart.to)) ",")?;
@@ -131,24 +108,14 @@ fn put_ways(
 }
 
 /// The CALLs by which slots are empty on a way that agreed with those of another.
-fn put_calls(
-    out: &mut Vec<u8>,
-    lines: &[u32],
-    coming: &Coming,
-    other: &Coming,
-) -> Result<(), AllocError>
+fn put_calls(out: &mut Vec<u8>, lines: &[u32], coming: &Coming, other: &Coming) -> Done
     ensures { OnOk result (out.new.items ≡ out.old.items ++ calls_text lines.now coming.now other.now) }
 {
     put_emptied_items(out, lines, &coming.emptied, &other.row.slots)
 }
 
 /// Slots differ where ways meet, and the CALLs by which they do.
-fn put_apart(
-    out: &mut Vec<u8>,
-    lines: &[u32],
-    instrs: &[Instr],
-    apart: &Apart,
-) -> Result<(), AllocError>
+fn put_apart(out: &mut Vec<u8>, lines: &[u32], instrs: &[Instr], apart: &Apart) -> Done
     ensures { OnOk result (out.new.items ≡ out.old.items ++ apart_text lines.now instrs.now apart.now) }
 {
     put_ways(out, lines, instrs, apart)?;
@@ -169,7 +136,7 @@ fn leads_text(back: &BackWay) -> &'static str
 
 /// A text, and a way that leads back.
 #[tactic(auto, unfolding(crate::specs::Causes::back_text))]
-fn put_back(out: &mut Vec<u8>, text: &str, lines: &[u32], back: &BackWay) -> Result<(), AllocError>
+fn put_back(out: &mut Vec<u8>, text: &str, lines: &[u32], back: &BackWay) -> Done
     ensures { OnOk result (out.new.items ≡ out.old.items ++ (text.now ++ back_text lines.now back.now)) }
 {
     put!(out; [text] (pc_part(lines, back.from)) [leads_text(back)] (pc_part(lines, back.to)))
@@ -177,7 +144,7 @@ fn put_back(out: &mut Vec<u8>, text: &str, lines: &[u32], back: &BackWay) -> Res
 
 /// A counter is set within its loop.
 #[tactic(auto, unfolding(crate::specs::Causes::set_text, crate::specs::Causes::within_text))]
-fn put_within(out: &mut Vec<u8>, lines: &[u32], within: &Within) -> Result<(), AllocError>
+fn put_within(out: &mut Vec<u8>, lines: &[u32], within: &Within) -> Done
     ensures { OnOk result (out.new.items ≡ out.old.items ++ within_text lines.now within.now) }
 {
     put!(out; "k" {within.counter} " is set at" (pc_part(lines, within.at)))?;
@@ -186,7 +153,7 @@ fn put_within(out: &mut Vec<u8>, lines: &[u32], within: &Within) -> Result<(), A
 
 /// A call touches a counter.
 #[tactic(auto, unfolding(crate::specs::Causes::call_text))]
-fn put_call(out: &mut Vec<u8>, lines: &[u32], within: &Within) -> Result<(), AllocError>
+fn put_call(out: &mut Vec<u8>, lines: &[u32], within: &Within) -> Done
     ensures { OnOk result (out.new.items ≡ out.old.items ++ call_text lines.now within.now) }
 {
     put!(out; "the call at" (pc_part(lines, within.at)) " touches k" {within.counter})
@@ -194,7 +161,7 @@ fn put_call(out: &mut Vec<u8>, lines: &[u32], within: &Within) -> Result<(), All
 
 /// A call touches a counter within its loop.
 #[tactic(auto, unfolding(crate::specs::Causes::touched_text))]
-fn put_touched(out: &mut Vec<u8>, lines: &[u32], within: &Within) -> Result<(), AllocError>
+fn put_touched(out: &mut Vec<u8>, lines: &[u32], within: &Within) -> Done
     ensures { OnOk result (out.new.items ≡ out.old.items ++ touched_text lines.now within.now) }
 {
     put_call(out, lines, within)?;
@@ -203,7 +170,7 @@ fn put_touched(out: &mut Vec<u8>, lines: &[u32], within: &Within) -> Result<(), 
 
 /// A call touches a counter that is not set behind it.
 #[tactic(auto, unfolding(crate::specs::Causes::touched_before_text))]
-fn put_touched_before(out: &mut Vec<u8>, lines: &[u32], within: &Within) -> Result<(), AllocError>
+fn put_touched_before(out: &mut Vec<u8>, lines: &[u32], within: &Within) -> Done
     ensures { OnOk result (out.new.items ≡ out.old.items ++ touched_before_text lines.now within.now) }
 {
     put_call(out, lines, within)?;
@@ -217,7 +184,7 @@ fn put_touched_before(out: &mut Vec<u8>, lines: &[u32], within: &Within) -> Resu
 
 /// Nothing sets a counter on a way to its loop.
 #[tactic(auto, unfolding(crate::specs::Causes::nothing_sets_text, crate::specs::Causes::not_set_text))]
-fn put_not_set(out: &mut Vec<u8>, lines: &[u32], own: &LoopOn) -> Result<(), AllocError>
+fn put_not_set(out: &mut Vec<u8>, lines: &[u32], own: &LoopOn) -> Done
     ensures { OnOk result (out.new.items ≡ out.old.items ++ not_set_text lines.now own.now) }
 {
     put!(out; "nothing sets k" {own.counter})?;
@@ -226,13 +193,7 @@ fn put_not_set(out: &mut Vec<u8>, lines: &[u32], own: &LoopOn) -> Result<(), All
 
 /// A counter is set in the loop of a way that leads back.
 #[tactic(auto, unfolding(crate::specs::Causes::set_at_text, crate::specs::Causes::set_in_text))]
-fn put_set_in(
-    out: &mut Vec<u8>,
-    lines: &[u32],
-    counter: u8,
-    at: u16,
-    back: &BackWay,
-) -> Result<(), AllocError>
+fn put_set_in(out: &mut Vec<u8>, lines: &[u32], counter: u8, at: u16, back: &BackWay) -> Done
     ensures { OnOk result (out.new.items ≡ out.old.items ++ set_in_text lines.now counter at back.now) }
 {
     put!(out; "k" {counter} " at" (pc_part(lines, at)))?;
@@ -241,7 +202,7 @@ fn put_set_in(
 
 /// Two loops set the counters of each other.
 #[tactic(auto, unfolding(crate::specs::Causes::in_turn_text))]
-fn put_in_turn(out: &mut Vec<u8>, lines: &[u32], both: &LoopPair) -> Result<(), AllocError>
+fn put_in_turn(out: &mut Vec<u8>, lines: &[u32], both: &LoopPair) -> Done
     ensures { OnOk result (out.new.items ≡ out.old.items ++ in_turn_text lines.now both.now) }
 {
     out.extend_from_slice(b"two loops set the counters of each other: ")?;
@@ -252,7 +213,7 @@ fn put_in_turn(out: &mut Vec<u8>, lines: &[u32], both: &LoopPair) -> Result<(), 
 
 /// Loops set the counters of each other in a ring.
 #[tactic(auto, unfolding(crate::specs::Causes::in_ring_text))]
-fn put_in_ring(out: &mut Vec<u8>, lines: &[u32], ring: &LoopRing) -> Result<(), AllocError>
+fn put_in_ring(out: &mut Vec<u8>, lines: &[u32], ring: &LoopRing) -> Done
     ensures { OnOk result (out.new.items ≡ out.old.items ++ in_ring_text lines.now ring.now) }
 {
     out.extend_from_slice(b"loops set the counters of each other in a ring: ")?;
@@ -264,7 +225,7 @@ fn put_in_ring(out: &mut Vec<u8>, lines: &[u32], ring: &LoopRing) -> Result<(), 
 
 /// The steps pass the limit where a word is so large as it may be.
 #[tactic(auto, unfolding(crate::specs::Causes::by_word_text))]
-fn put_by_word(out: &mut Vec<u8>, lines: &[u32], by_word: &ByWord) -> Result<(), AllocError>
+fn put_by_word(out: &mut Vec<u8>, lines: &[u32], by_word: &ByWord) -> Done
     ensures { OnOk result (out.new.items ≡ out.old.items ++ by_word_text lines.now by_word.now) }
 {
     put!(out;
@@ -275,7 +236,7 @@ fn put_by_word(out: &mut Vec<u8>, lines: &[u32], by_word: &ByWord) -> Result<(),
 
 /// No steps that fit were found where a word is so large as it may be.
 #[tactic(auto, unfolding(crate::specs::Causes::dear_word_text))]
-fn put_dear_word(out: &mut Vec<u8>, lines: &[u32], by_word: &ByWord) -> Result<(), AllocError>
+fn put_dear_word(out: &mut Vec<u8>, lines: &[u32], by_word: &ByWord) -> Done
     ensures { OnOk result (out.new.items ≡ out.old.items ++ dear_word_text lines.now by_word.now) }
 {
     put!(out;
@@ -286,12 +247,7 @@ fn put_dear_word(out: &mut Vec<u8>, lines: &[u32], by_word: &ByWord) -> Result<(
 
 /// A text, and that a counter is set to a number.
 #[tactic(auto, unfolding(crate::specs::Causes::set_to_text))]
-fn put_set_to(
-    out: &mut Vec<u8>,
-    text: &str,
-    lines: &[u32],
-    by_number: &ByNumber,
-) -> Result<(), AllocError>
+fn put_set_to(out: &mut Vec<u8>, text: &str, lines: &[u32], by_number: &ByNumber) -> Done
     ensures { OnOk result (out.new.items ≡ out.old.items ++ (text.now ++ set_to_text lines.now by_number.now)) }
 {
     put!(out;
@@ -301,12 +257,7 @@ fn put_set_to(
 }
 
 /// Why no rows or no numbers of steps are found.
-fn put_cause(
-    out: &mut Vec<u8>,
-    lines: &[u32],
-    instrs: &[Instr],
-    cause: &Cause,
-) -> Result<(), AllocError>
+fn put_cause(out: &mut Vec<u8>, lines: &[u32], instrs: &[Instr], cause: &Cause) -> Done
     ensures { OnOk result (out.new.items ≡ out.old.items ++ cause_words lines.now instrs.now cause.now) }
 {
     match cause {

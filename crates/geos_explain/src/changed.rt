@@ -4,11 +4,11 @@ ghost use Rattle.std.specs.Prelude.{◌≡◌, ◌<◌, ◌++◌, length, OnOk};
 ghost use Rattle.std.specs.List.{list_any};
 ghost use Rattle.geos_explain.specs.Changed.{changes, changes_here, changes_slot, slot_kept, changed_by, changed_words};
 
+use crate::Done;
 use crate::filled::Filled;
 use crate::forgotten::Item;
 use geos_image::{Instr, Point};
 use geos_opcodes::SlotUse;
-use std::alloc::AllocError;
 
 /// Whether an instruction that does this with the slot that it names leaves another block in it, or none.
 fn changes(slot: SlotUse) -> bool
@@ -70,7 +70,7 @@ pub(crate) fn changed_by(image: &Filled, r: u16, item: Item) -> Option<u8>
 
 /// The routine of this name changes the slot, and what helps.
 #[tactic(auto, unfolding(crate::specs::Changed::changed_words))]
-pub(crate) fn put_changed(out: &mut Vec<u8>, name: &[u8], a: u8) -> Result<(), AllocError>
+pub(crate) fn put_changed(out: &mut Vec<u8>, name: &[u8], a: u8) -> Done
     ensures { OnOk result (out.new.items ≡ out.old.items ++ changed_words name.now a) }
 {
     put!(out; " " bytes(name) " locks or unlocks s" {a} " itself: hold the block in another slot")

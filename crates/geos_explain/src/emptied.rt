@@ -6,11 +6,11 @@ ghost use Rattle.geos_causes.specs.Slots.{slots_agree};
 ghost use Rattle.geos_explain.specs.Emptied.{name_text, emptying_text, held_wish, other_wish};
 ghost use Rattle.geos_explain.specs.Emptied.{emptied_text, emptied_item, emptied_items};
 
+use crate::Done;
 use crate::numbers::pc_part;
 use geos_causes::{Emptied, slots_agree};
 use geos_image::SlotState;
 use geos_listing::state_word;
-use std::alloc::AllocError;
 
 /// Where the text of a padded name ends, if zeros follow it.
 fn text_end(name: &[u8]) -> Option<usize>
@@ -30,7 +30,7 @@ fn name_text(name: &[u8; 16]) -> &[u8]
 
 /// A CALL leaves only what the lines of its routine say.
 #[tactic(auto, unfolding(crate::specs::Emptied::emptying_text))]
-fn put_emptying(out: &mut Vec<u8>, lines: &[u32], emptied: &Emptied) -> Result<(), AllocError>
+fn put_emptying(out: &mut Vec<u8>, lines: &[u32], emptied: &Emptied) -> Done
     ensures { OnOk result (out.new.items ≡ out.old.items ++ emptying_text lines.now emptied.now) }
 {
     put!(out;
@@ -41,7 +41,7 @@ fn put_emptying(out: &mut Vec<u8>, lines: &[u32], emptied: &Emptied) -> Result<(
 
 /// That the slot is held is to be said in these lines.
 #[tactic(auto, unfolding(crate::specs::Emptied::held_wish))]
-fn put_held_wish(out: &mut Vec<u8>, a: usize, emptied: &Emptied) -> Result<(), AllocError>
+fn put_held_wish(out: &mut Vec<u8>, a: usize, emptied: &Emptied) -> Done
     ensures { OnOk result (out.new.items ≡ out.old.items ++ held_wish a emptied.now) }
 {
     put!(out;
@@ -52,7 +52,7 @@ fn put_held_wish(out: &mut Vec<u8>, a: usize, emptied: &Emptied) -> Result<(), A
 
 /// Or, where that routine changes the slot, another is to be taken.
 #[tactic(auto, unfolding(crate::specs::Emptied::other_wish))]
-fn put_other_wish(out: &mut Vec<u8>, a: usize, emptied: &Emptied) -> Result<(), AllocError>
+fn put_other_wish(out: &mut Vec<u8>, a: usize, emptied: &Emptied) -> Done
     ensures { OnOk result (out.new.items ≡ out.old.items ++ other_wish a emptied.now) }
 {
     put!(out;
@@ -62,12 +62,7 @@ fn put_other_wish(out: &mut Vec<u8>, a: usize, emptied: &Emptied) -> Result<(), 
 }
 
 /// A CALL leaves a slot empty, and what helps.
-fn put_emptied(
-    out: &mut Vec<u8>,
-    lines: &[u32],
-    a: usize,
-    emptied: &Emptied,
-) -> Result<(), AllocError>
+fn put_emptied(out: &mut Vec<u8>, lines: &[u32], a: usize, emptied: &Emptied) -> Done
     ensures { OnOk result (out.new.items ≡ out.old.items ++ emptied_text lines.now a emptied.now) }
 {
     put_emptying(out, lines, emptied)?;
@@ -82,7 +77,7 @@ fn put_emptied_item(
     a: usize,
     named: Option<Emptied>,
     other: SlotState,
-) -> Result<(), AllocError>
+) -> Done
     ensures { OnOk result (out.new.items ≡ out.old.items ++ emptied_item lines.now a named other) }
 {
     match named {
@@ -98,7 +93,7 @@ pub(crate) fn put_emptied_items(
     lines: &[u32],
     named: &[Option<Emptied>; 4],
     others: &[SlotState; 4],
-) -> Result<(), AllocError>
+) -> Done
     ensures { OnOk result (out.new.items ≡ out.old.items ++ emptied_items 4 lines.now named.now others.now) }
 {
     for a in 0..named.len() {

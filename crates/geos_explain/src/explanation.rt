@@ -7,6 +7,7 @@ ghost use Rattle.geos_listing.specs.Instrs.{MarksTargets};
 ghost use Rattle.geos_explain.specs.Places.{IsPlace, explained_of, place_of};
 ghost use Rattle.geos_explain.specs.Explanation.{noted, place_text, head_text, numbered_routine, IsExplanationBy, IsExplanationOf};
 
+use crate::Done;
 use crate::explained::Explained;
 use crate::filled::Filled;
 use crate::findings::all_found;
@@ -23,11 +24,7 @@ use std::alloc::{AllocError, Global};
 
 /// What is known at the instruction, up to the end of the line, and what is wrong with it, and with the budget of its routine.
 #[tactic(auto, unfolding(crate::specs::Explanation::noted))]
-pub(crate) fn put_noted(
-    out: &mut Vec<u8>,
-    within: &ExplainedRoutine,
-    place: &Place,
-) -> Result<(), AllocError>
+pub(crate) fn put_noted(out: &mut Vec<u8>, within: &ExplainedRoutine, place: &Place) -> Done
     requires place { IsPlace (place_of place.now) }
     requires image { place.now.image.now ≡ within.now.explained.now.image.now }
     ensures { OnOk result (out.new.items
@@ -40,12 +37,7 @@ pub(crate) fn put_noted(
 }
 
 /// The instruction at a pc, behind its label where another leads to it, with what is known there, and what is wrong with it.
-fn put_place(
-    out: &mut Vec<u8>,
-    targets: &Targets,
-    within: &ExplainedRoutine,
-    pc: u16,
-) -> Result<(), AllocError>
+fn put_place(out: &mut Vec<u8>, targets: &Targets, within: &ExplainedRoutine, pc: u16) -> Done
     requires within { pc < length within.now.explained.now.image.now.points }
     requires targets { MarksTargets within.now.explained.now.image.now.points targets.now }
     ensures { OnOk result (out.new.items
@@ -59,12 +51,7 @@ fn put_place(
 
 /// So many of the routine's instructions, from a pc.
 #[tactic(auto, unfolding(geos_listing::specs::Rows::texts_below))]
-fn put_places(
-    out: &mut Vec<u8>,
-    targets: &Targets,
-    within: &ExplainedRoutine,
-    start: u16,
-) -> Result<(), AllocError>
+fn put_places(out: &mut Vec<u8>, targets: &Targets, within: &ExplainedRoutine, start: u16) -> Done
     requires within { start + within.now.routine.now.count ≤ length within.now.explained.now.image.now.points }
     requires targets { MarksTargets within.now.explained.now.image.now.points targets.now }
     ensures { OnOk result (out.new.items ≡ out.old.items ++ texts_below within.now.routine.now.count
@@ -78,7 +65,7 @@ fn put_places(
 
 /// The routine's line, its entry row and its exit row.
 #[tactic(auto, unfolding(crate::specs::Explanation::head_text))]
-fn put_head(out: &mut Vec<u8>, routine: &Routine) -> Result<(), AllocError>
+fn put_head(out: &mut Vec<u8>, routine: &Routine) -> Done
     ensures { OnOk result (out.new.items ≡ out.old.items ++ head_text routine.now) }
 {
     put_routine_line(out, routine)?;
@@ -87,12 +74,7 @@ fn put_head(out: &mut Vec<u8>, routine: &Routine) -> Result<(), AllocError>
 }
 
 /// The same, and its instructions.
-fn put_routine(
-    out: &mut Vec<u8>,
-    targets: &Targets,
-    explained: &Explained,
-    r: u16,
-) -> Result<(), AllocError>
+fn put_routine(out: &mut Vec<u8>, targets: &Targets, explained: &Explained, r: u16) -> Done
     requires within { r < length explained.now.image.now.routines }
     requires legal { is_image explained.now.image.now ≡ true }
     requires targets { MarksTargets explained.now.image.now.points targets.now }

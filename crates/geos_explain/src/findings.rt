@@ -6,6 +6,7 @@ ghost use Rattle.geos_image.specs.Parts.{start_of};
 ghost use Rattle.geos_explain.specs.Findings.{AreFound, AllFound, AllFoundSoFar, FoundAt, IsFound, IsToldAt, told_pointers};
 ghost use Rattle.geos_explain.specs.Places.{IsPlace, explained_of, place_of};
 
+use crate::Done;
 use crate::explained::Explained;
 use crate::finding::{Finding, Findings};
 use crate::place::Place;
@@ -78,7 +79,7 @@ fn found_at(within: &ExplainedRoutine, pc: u16) -> Findings
 }
 
 /// The same of each of the routine's instructions.
-fn put_found(all: &mut Vec<Findings>, explained: &Explained, r: u16) -> Result<(), AllocError>
+fn put_found(all: &mut Vec<Findings>, explained: &Explained, r: u16) -> Done
     requires within { r < length explained.now.image.now.routines }
     requires legal { is_image explained.now.image.now ≡ true }
     requires long { length all.old.items ≡ start_of explained.now.image.now.routines r }

@@ -6,6 +6,7 @@ ghost use Rattle.geos_explain.specs.Places.{IsPlace, place_of};
 ghost use Rattle.geos_explain.specs.Held.{is_held_at, slot_at, slots_at, since_place, or_another, since_text};
 ghost use Rattle.geos_explain.specs.Held.{since_at, sinces_at, else_wanted, kept_behind, unmet_words, exit_words};
 
+use crate::Done;
 use crate::lacks::{lacking, put_lacking};
 use crate::numbers::{pc_part, put_also, put_are};
 use crate::place::Place;
@@ -14,7 +15,6 @@ use crate::since::{Since, held_since};
 use crate::uses::put_state;
 use geos_text::Part;
 use geos_verify::{is_empty, is_of_file, slot_state};
-use std::alloc::AllocError;
 
 /// Where slots are held that must not be.
 #[derive(Clone, Copy)]
@@ -38,7 +38,7 @@ fn is_held_at(which: HeldAt, place: &Place, a: u8) -> bool
 
 /// Such a slot, and what it holds.
 #[tactic(auto, unfolding(crate::specs::Held::slot_at))]
-fn put_slot_at(out: &mut Vec<u8>, which: HeldAt, place: &Place, a: u8) -> Result<(), AllocError>
+fn put_slot_at(out: &mut Vec<u8>, which: HeldAt, place: &Place, a: u8) -> Done
     ensures { OnOk result (out.new.items ≡ out.old.items ++ slot_at which (place_of place.now) a) }
 {
     if is_held_at(which, place, a) {
@@ -50,11 +50,7 @@ fn put_slot_at(out: &mut Vec<u8>, which: HeldAt, place: &Place, a: u8) -> Result
 
 /// The same of each slot.
 #[tactic(auto, unfolding(geos_listing::specs::Rows::texts_below))]
-pub(crate) fn put_slots_at(
-    out: &mut Vec<u8>,
-    which: HeldAt,
-    place: &Place,
-) -> Result<(), AllocError>
+pub(crate) fn put_slots_at(out: &mut Vec<u8>, which: HeldAt, place: &Place) -> Done
     ensures { OnOk result (out.new.items ≡ out.old.items ++ slots_at which (place_of place.now)) }
 {
     for a in 0..4 {
@@ -85,7 +81,7 @@ fn or_another(since: Since) -> &'static str
 }
 
 /// Since where a slot is held, if that is known; of several places, one.
-fn put_since(out: &mut Vec<u8>, lines: &[u32], a: u8, since: Since) -> Result<(), AllocError>
+fn put_since(out: &mut Vec<u8>, lines: &[u32], a: u8, since: Since) -> Done
     ensures { OnOk result (out.new.items ≡ out.old.items ++ since_text lines.now a since) }
 {
     if let Since::Unknown = since {
@@ -96,7 +92,7 @@ fn put_since(out: &mut Vec<u8>, lines: &[u32], a: u8, since: Since) -> Result<()
 
 /// The same of a slot that is held and must not be.
 #[tactic(auto, unfolding(crate::specs::Held::since_at))]
-fn put_since_at(out: &mut Vec<u8>, which: HeldAt, place: &Place, a: u8) -> Result<(), AllocError>
+fn put_since_at(out: &mut Vec<u8>, which: HeldAt, place: &Place, a: u8) -> Done
     requires { IsPlace (place_of place.now) }
     ensures { OnOk result (out.new.items ≡ out.old.items ++ since_at which (place_of place.now) a) }
 {
@@ -109,11 +105,7 @@ fn put_since_at(out: &mut Vec<u8>, which: HeldAt, place: &Place, a: u8) -> Resul
 
 /// The same of each slot.
 #[tactic(auto, unfolding(geos_listing::specs::Rows::texts_below))]
-pub(crate) fn put_sinces_at(
-    out: &mut Vec<u8>,
-    which: HeldAt,
-    place: &Place,
-) -> Result<(), AllocError>
+pub(crate) fn put_sinces_at(out: &mut Vec<u8>, which: HeldAt, place: &Place) -> Done
     requires { IsPlace (place_of place.now) }
     ensures { OnOk result (out.new.items ≡ out.old.items ++ sinces_at which (place_of place.now)) }
 {
@@ -125,7 +117,7 @@ pub(crate) fn put_sinces_at(
 
 /// What else the exit row wants.
 #[tactic(auto, unfolding(crate::specs::Held::else_wanted))]
-fn put_else_wanted(out: &mut Vec<u8>, place: &Place) -> Result<(), AllocError>
+fn put_else_wanted(out: &mut Vec<u8>, place: &Place) -> Done
     ensures { OnOk result (out.new.items ≡ out.old.items ++ else_wanted (place_of place.now)) }
 {
     put_also(
@@ -137,7 +129,7 @@ fn put_else_wanted(out: &mut Vec<u8>, place: &Place) -> Result<(), AllocError>
 
 /// Slots are still held at the return, since where, which of them are borrowed, and what else the exit row wants.
 #[tactic(auto, unfolding(crate::specs::Held::kept_words))]
-fn put_kept_words(out: &mut Vec<u8>, place: &Place, before: usize) -> Result<(), AllocError>
+fn put_kept_words(out: &mut Vec<u8>, place: &Place, before: usize) -> Done
     requires place { IsPlace (place_of place.now) }
     requires before { before ≤ length out.old.items }
     requires kept { drop before out.old.items ≡ slots_at HeldAt.Return (place_of place.now) }
@@ -151,7 +143,7 @@ fn put_kept_words(out: &mut Vec<u8>, place: &Place, before: usize) -> Result<(),
 
 /// The exit row wants more than the row says.
 #[tactic(auto, unfolding(crate::specs::Held::unmet_words))]
-fn put_unmet(out: &mut Vec<u8>, place: &Place) -> Result<(), AllocError>
+fn put_unmet(out: &mut Vec<u8>, place: &Place) -> Done
     ensures { OnOk result (out.new.items ≡ out.old.items ++ unmet_words (place_of place.now)) }
 {
     let before = out.len();
@@ -161,7 +153,7 @@ fn put_unmet(out: &mut Vec<u8>, place: &Place) -> Result<(), AllocError>
 
 /// The row does not fit the exit row: slots are still held, or else it wants more.
 #[tactic(auto, unfolding(crate::specs::Held::exit_words))]
-pub(crate) fn put_exit(out: &mut Vec<u8>, place: &Place) -> Result<(), AllocError>
+pub(crate) fn put_exit(out: &mut Vec<u8>, place: &Place) -> Done
     requires { IsPlace (place_of place.now) }
     ensures { OnOk result (out.new.items ≡ out.old.items ++ exit_words (place_of place.now)) }
 {

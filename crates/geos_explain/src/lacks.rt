@@ -5,11 +5,11 @@ ghost use Rattle.geos_verify.specs.Lists.{zip2};
 ghost use Rattle.geos_explain.specs.Lacks.{lacking_bound, lacking_slot, lacking_pointer, lacking_pair};
 ghost use Rattle.geos_explain.specs.Lacks.{lacking, held_item, held_items, lacking_items, LacksNothingWhereItFits};
 
+use crate::Done;
 use geos_image::{Pointer, Row, SlotState};
 use geos_listing::put_items;
 use geos_text::put_numbered;
 use geos_verify::{is_empty, pointer_fits, slot_fits};
-use std::alloc::AllocError;
 
 /// The bound that is wanted where it is not kept, else that of any word.
 fn lacking_bound(known: u16, wanted: u16) -> u16
@@ -121,12 +121,7 @@ pub(crate) fn lacking(known: &Row, wanted: &Row) -> Row
 }
 
 /// A slot that is wanted empty and is held.
-fn put_held(
-    out: &mut Vec<u8>,
-    i: usize,
-    known: SlotState,
-    wanted: SlotState,
-) -> Result<(), AllocError>
+fn put_held(out: &mut Vec<u8>, i: usize, known: SlotState, wanted: SlotState) -> Done
     ensures { OnOk result (out.new.items ≡ out.old.items ++ held_item i known wanted) }
 {
     if !is_empty(wanted) || is_empty(known) {
@@ -137,11 +132,7 @@ fn put_held(
 }
 
 #[tactic(auto, unfolding(geos_listing::specs::Rows::texts_below))]
-fn put_all_held(
-    out: &mut Vec<u8>,
-    known: &[SlotState; 4],
-    wanted: &[SlotState; 4],
-) -> Result<(), AllocError>
+fn put_all_held(out: &mut Vec<u8>, known: &[SlotState; 4], wanted: &[SlotState; 4]) -> Done
     ensures { OnOk result (out.new.items ≡ out.old.items ++ held_items 4 known.now wanted.now) }
 {
     for i in 0..known.len() {
@@ -153,7 +144,7 @@ fn put_all_held(
 /// The items of the row that is wanted which the row that is known does not meet; none where it
 /// fits.
 #[tactic(auto, unfolding(crate::specs::Lacks::lacking_items))]
-pub(crate) fn put_lacking(out: &mut Vec<u8>, known: &Row, wanted: &Row) -> Result<(), AllocError>
+pub(crate) fn put_lacking(out: &mut Vec<u8>, known: &Row, wanted: &Row) -> Done
     ensures { OnOk result (out.new.items ≡ out.old.items ++ lacking_items known.now wanted.now) }
 {
     put_items(out, &lacking(known, wanted))?;

@@ -4,6 +4,8 @@
 //! docs/FORMATS.md has the form.
 #![tactic(auto)]
 
+use std::alloc::AllocError;
+
 /// Appends the parts of a sentence: `"text"`, `"text" {number}`, `[text]`, `bytes(name)` and `(part)`.
 macro_rules! put {
     (@parts $out:expr, [$($parts:tt)*]) => { geos_text::put_parts($out, &[$($parts)*]) };
@@ -24,6 +26,9 @@ macro_rules! put {
     };
     ($out:expr; $($parts:tt)*) => { put!(@parts $out, [] $($parts)*) };
 }
+
+/// What was to be written was, or an allocation was refused.
+type Done = Result<(), AllocError>;
 
 mod arrivals;
 mod budgets;

@@ -4,22 +4,22 @@ ghost use Rattle.std.specs.Prelude.{◌≡◌, ◌<◌, ◌++◌, OnOk};
 ghost use Rattle.geos_verify.specs.Rows.{marked_state};
 ghost use Rattle.geos_explain.specs.Mends.{bounding, bound_mend, lacks_mark, mark_mend, mend_of, mends};
 
+use crate::Done;
 use crate::lacks::lacking;
 use crate::uses::mark_word;
 use geos_image::{Row, SlotState};
 use geos_verify::{slot_fits, slot_state};
-use std::alloc::AllocError;
 
 /// The word is to be bounded in front of the instruction.
 #[tactic(auto, unfolding(crate::specs::Mends::bounding))]
-pub(crate) fn put_bounding(out: &mut Vec<u8>, w: u8, most: u16) -> Result<(), AllocError>
+pub(crate) fn put_bounding(out: &mut Vec<u8>, w: u8, most: u16) -> Done
     ensures { OnOk result (out.new.items ≡ out.old.items ++ bounding w most) }
 {
     put!(out; "; CHK w" {w} " " {most} " L in front of this bounds it")
 }
 
 /// The same of a word whose bound is wanted, if it is.
-fn put_bound_mend(out: &mut Vec<u8>, lacked: &Row, k: u8) -> Result<(), AllocError>
+fn put_bound_mend(out: &mut Vec<u8>, lacked: &Row, k: u8) -> Done
     requires { k < 8 }
     ensures { OnOk result (out.new.items ≡ out.old.items ++ bound_mend lacked.now k) }
 {
@@ -56,12 +56,7 @@ fn lacks_mark(known: SlotState, wanted: SlotState) -> bool
 
 /// The block of a slot is to be marked, if that is so.
 #[tactic(auto, unfolding(crate::specs::Mends::mark_mend))]
-fn put_mark_mend(
-    out: &mut Vec<u8>,
-    a: u8,
-    known: SlotState,
-    wanted: SlotState,
-) -> Result<(), AllocError>
+fn put_mark_mend(out: &mut Vec<u8>, a: u8, known: SlotState, wanted: SlotState) -> Done
     ensures { OnOk result (out.new.items ≡ out.old.items ++ mark_mend a known wanted) }
 {
     if !lacks_mark(known, wanted) {
@@ -72,7 +67,7 @@ fn put_mark_mend(
 
 /// What helps of the word and the slot with a number.
 #[tactic(auto, unfolding(crate::specs::Mends::mend_of))]
-fn put_mend_of(out: &mut Vec<u8>, known: &Row, wanted: &Row, k: u8) -> Result<(), AllocError>
+fn put_mend_of(out: &mut Vec<u8>, known: &Row, wanted: &Row, k: u8) -> Done
     requires { k < 8 }
     ensures { OnOk result (out.new.items ≡ out.old.items ++ mend_of known.now wanted.now k) }
 {
@@ -82,7 +77,7 @@ fn put_mend_of(out: &mut Vec<u8>, known: &Row, wanted: &Row, k: u8) -> Result<()
 
 /// What makes known the bounds and the marks that the row lacks of those that the other wants.
 #[tactic(auto, unfolding(geos_listing::specs::Rows::texts_below))]
-pub(crate) fn put_mends(out: &mut Vec<u8>, known: &Row, wanted: &Row) -> Result<(), AllocError>
+pub(crate) fn put_mends(out: &mut Vec<u8>, known: &Row, wanted: &Row) -> Done
     ensures { OnOk result (out.new.items ≡ out.old.items ++ mends known.now wanted.now) }
 {
     for k in 0..8 {

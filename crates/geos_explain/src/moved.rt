@@ -7,12 +7,12 @@ ghost use Rattle.geos_explain.specs.Places.{IsPlace, last_of, place_of};
 ghost use Rattle.geos_explain.specs.Moved.{moves, moves_at, if_round};
 ghost use Rattle.geos_explain.specs.Moved.{moving, moved_words, moved_text, WhatIsSaidOfRoundsHolds};
 
+use crate::Done;
 use crate::forgotten::{Item, is_lacked_from, lacked_from};
 use crate::numbers::pc_part;
 use crate::place::Place;
 use geos_flow::{Marks, is_marked};
 use geos_image::{Instr, Opcode};
-use std::alloc::AllocError;
 
 /// Whether the instruction puts into the word what it makes of it.
 fn moves(i: &Instr, w: u8) -> bool
@@ -82,14 +82,7 @@ fn moving(place: &Place, item: Item, w: u8) -> Option<u16>
 
 /// The instruction moves the word going round, and it is not known then to be at most so much.
 #[tactic(auto, unfolding(crate::specs::Moved::moved_words))]
-fn put_moved_words(
-    out: &mut Vec<u8>,
-    place: &Place,
-    w: u8,
-    most: u16,
-    from: u16,
-    i: &Instr,
-) -> Result<(), AllocError>
+fn put_moved_words(out: &mut Vec<u8>, place: &Place, w: u8, most: u16, from: u16, i: &Instr) -> Done
     ensures { OnOk result (out.new.items ≡ out.old.items ++ moved_words (place_of place.now) w most from i.now) }
 {
     put!(out;
@@ -100,11 +93,7 @@ fn put_moved_words(
 
 /// Which instruction moves the index going round, where a bound of it is wanted, if one does.
 #[tactic(auto, unfolding(crate::specs::Moved::moved_text))]
-pub(crate) fn put_moved_round(
-    out: &mut Vec<u8>,
-    place: &Place,
-    item: Item,
-) -> Result<(), AllocError>
+pub(crate) fn put_moved_round(out: &mut Vec<u8>, place: &Place, item: Item) -> Done
     requires { IsPlace (place_of place.now) }
     ensures { OnOk result (out.new.items ≡ out.old.items ++ moved_text (place_of place.now) item) }
 {

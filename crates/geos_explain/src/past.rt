@@ -7,13 +7,13 @@ ghost use Rattle.geos_verify.specs.Uses.{OffsetFits};
 ghost use Rattle.geos_explain.specs.Past.{load_tested, store_tested, leads_item, index_item, reach_item};
 ghost use Rattle.geos_explain.specs.Past.{past_item, ask_wish, index_wish, reach_wish, past_wish};
 
+use crate::Done;
 use crate::forgotten::Item;
 use crate::mends::put_bounding;
 use crate::uses::slot_behind;
 use geos_image::{Instr, Pointer, Row};
 use geos_opcodes::{Offset, PointerUse, Width};
 use geos_verify::{bytes_in, least_at, reach, uses_at};
-use std::alloc::AllocError;
 
 /// The read of this width that tests its index.
 fn load_tested(width: Width) -> &'static str
@@ -37,7 +37,7 @@ fn store_tested(width: Width) -> &'static str
 
 /// More bytes are to be asked for where the pointer is set.
 #[tactic(auto, unfolding(crate::specs::Past::ask_wish))]
-fn put_ask_wish(out: &mut Vec<u8>, p: u8, wanted: u32) -> Result<(), AllocError>
+fn put_ask_wish(out: &mut Vec<u8>, p: u8, wanted: u32) -> Done
     ensures { OnOk result (out.new.items ≡ out.old.items ++ ask_wish p wanted) }
 {
     if wanted >= 65_536 {
@@ -48,13 +48,7 @@ fn put_ask_wish(out: &mut Vec<u8>, p: u8, wanted: u32) -> Result<(), AllocError>
 
 /// The index is to be bounded, or else more bytes asked for; or an instruction that tests it serves.
 #[tactic(auto, unfolding(crate::specs::Past::index_wish))]
-fn put_index_wish(
-    out: &mut Vec<u8>,
-    tested: &str,
-    i: &Instr,
-    wide: u16,
-    least: u16,
-) -> Result<(), AllocError>
+fn put_index_wish(out: &mut Vec<u8>, tested: &str, i: &Instr, wide: u16, least: u16) -> Done
     ensures { OnOk result (out.new.items ≡ out.old.items ++ index_wish tested.now i.now wide least) }
 {
     if wide <= least {
@@ -127,7 +121,7 @@ fn put_reach_wish(
     width: Width,
     offset: Offset,
     row: &Row,
-) -> Result<(), AllocError>
+) -> Done
     requires { OffsetFits offset i.now }
     ensures { OnOk result (out.new.items ≡ out.old.items ++ reach_wish tested.now i.now width offset row.now) }
 {
@@ -139,7 +133,7 @@ fn put_reach_wish(
 
 /// What helps where a read or a write may reach past the bytes behind its pointer.
 #[tactic(auto, unfolding(crate::specs::Past::past_wish))]
-pub(crate) fn put_past_wish(out: &mut Vec<u8>, i: &Instr, row: &Row) -> Result<(), AllocError>
+pub(crate) fn put_past_wish(out: &mut Vec<u8>, i: &Instr, row: &Row) -> Done
     requires { FieldsFit i.now.opcode i.now }
     ensures { OnOk result (out.new.items ≡ out.old.items ++ past_wish i.now (uses_of i.now.opcode).pointer row.now) }
 {

@@ -6,10 +6,10 @@ ghost use Rattle.geos_explain.specs.Public.{own_only, own_slots, marked_only, ma
 ghost use Rattle.geos_explain.specs.Public.{known_pointers, missing_only, missing_slots, kept_only, kept_slots};
 ghost use Rattle.geos_explain.specs.Public.{entry_faults, missing_words, exit_faults, public_words, NoFaultsWhereItMayEnterAndLeave};
 
+use crate::Done;
 use crate::numbers::put_also;
 use geos_image::{Routine, Row, SlotState};
 use geos_verify::is_empty;
-use std::alloc::AllocError;
 
 /// The slot where it is held and not borrowed, else an empty one.
 fn own_only(state: SlotState) -> SlotState
@@ -151,7 +151,7 @@ fn kept_slots(entry: &Row, exit: &Row) -> Row
 
 /// What the entry row wants that not every caller from outside has.
 #[tactic(auto, unfolding(crate::specs::Public::entry_faults))]
-fn put_entry_faults(out: &mut Vec<u8>, entry: &Row) -> Result<(), AllocError>
+fn put_entry_faults(out: &mut Vec<u8>, entry: &Row) -> Done
     ensures { OnOk result (out.new.items ≡ out.old.items ++ entry_faults entry.now) }
 {
     put_also(
@@ -174,7 +174,7 @@ fn put_entry_faults(out: &mut Vec<u8>, entry: &Row) -> Result<(), AllocError>
 
 /// Slots that the row has borrowed are missing in the exit row.
 #[tactic(auto, unfolding(crate::specs::Public::missing_words))]
-pub(crate) fn put_missing(out: &mut Vec<u8>, row: &Row, exit: &Row) -> Result<(), AllocError>
+pub(crate) fn put_missing(out: &mut Vec<u8>, row: &Row, exit: &Row) -> Done
     ensures { OnOk result (out.new.items ≡ out.old.items ++ missing_words row.now exit.now) }
 {
     put_also(
@@ -186,7 +186,7 @@ pub(crate) fn put_missing(out: &mut Vec<u8>, row: &Row, exit: &Row) -> Result<()
 
 /// What the exit row lacks of what was borrowed, and what else it holds or knows.
 #[tactic(auto, unfolding(crate::specs::Public::exit_faults))]
-fn put_exit_faults(out: &mut Vec<u8>, entry: &Row, exit: &Row) -> Result<(), AllocError>
+fn put_exit_faults(out: &mut Vec<u8>, entry: &Row, exit: &Row) -> Done
     ensures { OnOk result (out.new.items ≡ out.old.items ++ exit_faults entry.now exit.now) }
 {
     put_missing(out, entry, exit)?;
@@ -200,7 +200,7 @@ fn put_exit_faults(out: &mut Vec<u8>, entry: &Row, exit: &Row) -> Result<(), All
 
 /// How a public routine begins and ends, and what the rows of this one say otherwise.
 #[tactic(auto, unfolding(crate::specs::Public::public_words))]
-pub(crate) fn put_public(out: &mut Vec<u8>, routine: &Routine) -> Result<(), AllocError>
+pub(crate) fn put_public(out: &mut Vec<u8>, routine: &Routine) -> Done
     ensures { OnOk result (out.new.items ≡ out.old.items ++ public_words routine.now) }
 {
     out.extend_from_slice(

@@ -4,6 +4,7 @@ ghost use Rattle.std.specs.Prelude.{◌≡◌, ◌++◌, OnOk};
 ghost use Rattle.geos_explain.specs.Places.{IsPlace, place_of};
 ghost use Rattle.geos_explain.specs.Returned.{if_wanted, first_wanted, forgetting_pointer, unknown_words, unknown_item};
 
+use crate::Done;
 use crate::finding::findings_at;
 use crate::forgotten::{Item, forgetting_call};
 use crate::place::Place;
@@ -11,7 +12,6 @@ use crate::stale::{if_stale, put_finding_item};
 use crate::ways::is_stale;
 use geos_image::Row;
 use geos_verify::pointer_at;
-use std::alloc::AllocError;
 
 /// The pointer that the exit row wants, where the row knows nothing of it.
 fn if_wanted(row: &Row, exit: &Row, p: u8) -> Option<u8>
@@ -46,7 +46,7 @@ fn forgetting_pointer(place: &Place, p: u8) -> Option<u16>
 }
 
 /// Why the pointer is not known, unless a call is said to forget it.
-fn put_unknown(out: &mut Vec<u8>, place: &Place, p: u8) -> Result<(), AllocError>
+fn put_unknown(out: &mut Vec<u8>, place: &Place, p: u8) -> Done
     requires { IsPlace (place_of place.now) }
     ensures { OnOk result (out.new.items ≡ out.old.items ++ unknown_words (place_of place.now) p) }
 {
@@ -59,7 +59,7 @@ fn put_unknown(out: &mut Vec<u8>, place: &Place, p: u8) -> Result<(), AllocError
 
 /// The same of the first pointer that the exit row wants and that is not known, if there is one.
 #[tactic(auto, unfolding(crate::specs::Returned::unknown_item))]
-pub(crate) fn put_unknown_item(out: &mut Vec<u8>, place: &Place) -> Result<(), AllocError>
+pub(crate) fn put_unknown_item(out: &mut Vec<u8>, place: &Place) -> Done
     requires { IsPlace (place_of place.now) }
     ensures { OnOk result (out.new.items ≡ out.old.items ++ unknown_item (place_of place.now)) }
 {

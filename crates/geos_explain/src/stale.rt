@@ -6,6 +6,7 @@ ghost use Rattle.geos_explain.specs.Stale.{if_stale, stale_used, pointer_item, r
 ghost use Rattle.geos_explain.specs.Stale.{name_at, call_loss, moved_words, use_loss, how_lost, lost_by, label_wish, refused_at, unset_words};
 ghost use Rattle.geos_explain.specs.Stale.{unreached_words, merged_words, into_empty_wish, into_empty_words, loss_words, finding_item, stale_words};
 
+use crate::Done;
 use crate::filled::Filled;
 use crate::finding::{End, Finding, Meeting, findings_at};
 use crate::numbers::pc_part;
@@ -17,7 +18,6 @@ use geos_image::{Instr, Routine, Row};
 use geos_opcodes::{PointerUse, SlotUse};
 use geos_text::{Part, put_numbered};
 use geos_verify::{Place as KnownPlace, pointer_at, uses_at};
-use std::alloc::AllocError;
 
 /// The pointer, where the row knows nothing of it.
 pub(crate) fn if_stale(row: &Row, p: u8) -> Option<u8>
@@ -41,7 +41,7 @@ pub(crate) fn stale_used(i: &Instr, pointer: PointerUse, row: &Row) -> (Option<u
 }
 
 /// The pointer, if there is one.
-fn put_pointer(out: &mut Vec<u8>, pointer: Option<u8>) -> Result<(), AllocError>
+fn put_pointer(out: &mut Vec<u8>, pointer: Option<u8>) -> Done
     ensures { OnOk result (out.new.items ≡ out.old.items ++ pointer_item pointer) }
 {
     match pointer {
@@ -66,7 +66,7 @@ fn refused_on(image: &Filled, way: Way) -> Option<u16>
 
 /// A text, and where a way comes from, and whether its instruction is refused there.
 #[tactic(auto, unfolding(crate::specs::Stale::way_text))]
-fn put_way(out: &mut Vec<u8>, front: &str, place: &Place, way: Way) -> Result<(), AllocError>
+fn put_way(out: &mut Vec<u8>, front: &str, place: &Place, way: Way) -> Done
     ensures { OnOk result (out.new.items ≡ out.old.items ++ (front.now ++ way_text (place_of place.now) way)) }
 {
     let front = Part::Text(front);
@@ -81,7 +81,7 @@ fn put_way(out: &mut Vec<u8>, front: &str, place: &Place, way: Way) -> Result<()
 
 /// Where ways meet, unless it is here, and that one brings the pointer.
 #[tactic(auto, unfolding(crate::specs::Stale::meeting_head))]
-fn put_meeting_head(out: &mut Vec<u8>, place: &Place, p: u8, to: u16) -> Result<(), AllocError>
+fn put_meeting_head(out: &mut Vec<u8>, place: &Place, p: u8, to: u16) -> Done
     ensures { OnOk result (out.new.items ≡ out.old.items ++ meeting_head (place_of place.now) p to) }
 {
     let pointer = Part::Numbered(" p", p as u64);
@@ -94,12 +94,7 @@ fn put_meeting_head(out: &mut Vec<u8>, place: &Place, p: u8, to: u16) -> Result<
 
 /// Where ways meet, if they do, of which one brings the pointer, and another does not.
 #[tactic(auto, unfolding(crate::specs::Stale::meeting_words))]
-fn put_meeting_item(
-    out: &mut Vec<u8>,
-    place: &Place,
-    p: u8,
-    meeting: Option<Meeting>,
-) -> Result<(), AllocError>
+fn put_meeting_item(out: &mut Vec<u8>, place: &Place, p: u8, meeting: Option<Meeting>) -> Done
     ensures { OnOk result (out.new.items ≡ out.old.items ++ meeting_item (place_of place.now) p meeting) }
 {
     match meeting {
@@ -114,12 +109,7 @@ fn put_meeting_item(
 
 /// The instruction at a pc.
 #[tactic(auto, unfolding(crate::specs::Stale::named))]
-fn put_named(
-    out: &mut Vec<u8>,
-    lines: &[u32],
-    from: u16,
-    point: &KnownPlace,
-) -> Result<(), AllocError>
+fn put_named(out: &mut Vec<u8>, lines: &[u32], from: u16, point: &KnownPlace) -> Done
     ensures { OnOk result (out.new.items ≡ out.old.items ++ named lines.now from point.now) }
 {
     put!(out; "; " [point.instr.opcode.word()] " at" (pc_part(lines, from)))
@@ -139,7 +129,7 @@ pub(crate) fn name_at<'a>(image: &'a Filled, r: u16) -> &'a [u8]
 
 /// A call leaves nothing but the exit row, which does not know the pointer.
 #[tactic(auto, unfolding(crate::specs::Stale::call_loss))]
-fn put_call_loss(out: &mut Vec<u8>, image: &Filled, p: u8, r: u16) -> Result<(), AllocError>
+fn put_call_loss(out: &mut Vec<u8>, image: &Filled, p: u8, r: u16) -> Done
     ensures { OnOk result (out.new.items ≡ out.old.items ++ call_loss image.now p r) }
 {
     put!(out;
@@ -150,7 +140,7 @@ fn put_call_loss(out: &mut Vec<u8>, image: &Filled, p: u8, r: u16) -> Result<(),
 
 /// An instruction that moves chunks moves what a pointer into slot b leads to, if the blocks of its slot a and of b may be one.
 #[tactic(auto, unfolding(crate::specs::Stale::moved_words))]
-fn put_moved(out: &mut Vec<u8>, p: u8, a: u8, b: u8) -> Result<(), AllocError>
+fn put_moved(out: &mut Vec<u8>, p: u8, a: u8, b: u8) -> Done
     ensures { OnOk result (out.new.items ≡ out.old.items ++ moved_words p a b) }
 {
     let moved = Part::Numbered(" may have moved what is behind p", p as u64);
@@ -165,7 +155,7 @@ fn put_moved(out: &mut Vec<u8>, p: u8, a: u8, b: u8) -> Result<(), AllocError>
 
 /// What the instruction did to a pointer into slot b by what it does to its slot.
 #[tactic(auto, unfolding(crate::specs::Stale::use_loss))]
-fn put_use_loss(out: &mut Vec<u8>, i: &Instr, slot: SlotUse, p: u8, b: u8) -> Result<(), AllocError>
+fn put_use_loss(out: &mut Vec<u8>, i: &Instr, slot: SlotUse, p: u8, b: u8) -> Done
     ensures { OnOk result (out.new.items ≡ out.old.items ++ use_loss i.now slot p b) }
 {
     let (before, behind) = match slot {
@@ -191,7 +181,7 @@ fn put_how_lost(
     followed: Followed,
     branch: bool,
     point: &KnownPlace,
-) -> Result<(), AllocError>
+) -> Done
     ensures { OnOk result (out.new.items ≡ out.old.items ++ how_lost image.now followed branch point.now) }
 {
     let i = &point.instr;
@@ -212,12 +202,7 @@ fn put_how_lost(
 
 /// The instruction lost the pointer on an edge, if there is an instruction.
 #[tactic(auto, unfolding(crate::specs::Stale::lost_by, crate::specs::Stale::lost_point))]
-fn put_lost_by(
-    out: &mut Vec<u8>,
-    place: &Place,
-    followed: Followed,
-    edge: Edge,
-) -> Result<(), AllocError>
+fn put_lost_by(out: &mut Vec<u8>, place: &Place, followed: Followed, edge: Edge) -> Done
     ensures { OnOk result (out.new.items ≡ out.old.items ++ lost_by (place_of place.now) followed edge) }
 {
     match place.image.place(edge.from) {
@@ -230,11 +215,7 @@ fn put_lost_by(
 }
 
 /// Another label, if ways meet and an instruction's refusal is the one that does not bring the pointer.
-fn put_label_wish(
-    out: &mut Vec<u8>,
-    place: &Place,
-    meeting: Option<Meeting>,
-) -> Result<(), AllocError>
+fn put_label_wish(out: &mut Vec<u8>, place: &Place, meeting: Option<Meeting>) -> Done
     ensures { OnOk result (out.new.items ≡ out.old.items ++ label_wish (place_of place.now).lines (refused_at (place_of place.now).image meeting)) }
 {
     let Some(m) = meeting else {
@@ -248,12 +229,7 @@ fn put_label_wish(
 
 /// The pointer is not set from the routine's beginning on; a caller that is a routine may bring it.
 #[tactic(auto, unfolding(crate::specs::Stale::unset_words))]
-fn put_unset(
-    out: &mut Vec<u8>,
-    place: &Place,
-    p: u8,
-    meeting: Option<Meeting>,
-) -> Result<(), AllocError>
+fn put_unset(out: &mut Vec<u8>, place: &Place, p: u8, meeting: Option<Meeting>) -> Done
     ensures { OnOk result (out.new.items ≡ out.old.items ++ unset_words (place_of place.now) p meeting) }
 {
     put!(out; "; p" {p} " is not set on the way from the start of the routine: fetch it first")?;
@@ -266,7 +242,7 @@ fn put_unset(
 
 /// No way leads to a pc, or here.
 #[tactic(auto, unfolding(crate::specs::Stale::unreached_words))]
-fn put_unreached(out: &mut Vec<u8>, place: &Place, to: u16) -> Result<(), AllocError>
+fn put_unreached(out: &mut Vec<u8>, place: &Place, to: u16) -> Done
     ensures { OnOk result (out.new.items ≡ out.old.items ++ unreached_words (place_of place.now) to) }
 {
     if to == place.pc {
@@ -277,7 +253,7 @@ fn put_unreached(out: &mut Vec<u8>, place: &Place, to: u16) -> Result<(), AllocE
 
 /// Each way to a pc brings the pointer, which is not known there.
 #[tactic(auto, unfolding(crate::specs::Stale::merged_words))]
-fn put_merged(out: &mut Vec<u8>, place: &Place, p: u8, to: u16) -> Result<(), AllocError>
+fn put_merged(out: &mut Vec<u8>, place: &Place, p: u8, to: u16) -> Done
     ensures { OnOk result (out.new.items ≡ out.old.items ++ merged_words (place_of place.now) p to) }
 {
     put!(out;
@@ -287,7 +263,7 @@ fn put_merged(out: &mut Vec<u8>, place: &Place, p: u8, to: u16) -> Result<(), Al
 }
 
 /// What is to be done where a way brings the pointer into an empty slot.
-fn put_into_empty_wish(out: &mut Vec<u8>, p: u8, way: Way, slot: u8) -> Result<(), AllocError>
+fn put_into_empty_wish(out: &mut Vec<u8>, p: u8, way: Way, slot: u8) -> Done
     ensures { OnOk result (out.new.items ≡ out.old.items ++ into_empty_wish p way slot) }
 {
     match way {
@@ -300,13 +276,7 @@ fn put_into_empty_wish(out: &mut Vec<u8>, p: u8, way: Way, slot: u8) -> Result<(
 
 /// A way brings the pointer into an empty slot.
 #[tactic(auto, unfolding(crate::specs::Stale::into_empty_words))]
-fn put_into_empty(
-    out: &mut Vec<u8>,
-    place: &Place,
-    p: u8,
-    way: Way,
-    slot: u8,
-) -> Result<(), AllocError>
+fn put_into_empty(out: &mut Vec<u8>, place: &Place, p: u8, way: Way, slot: u8) -> Done
     ensures { OnOk result (out.new.items ≡ out.old.items ++ into_empty_words (place_of place.now) p way slot) }
 {
     put_way(out, "; from", place, way)?;
@@ -315,7 +285,7 @@ fn put_into_empty(
 }
 
 /// By what the pointer was lost, or else why it is not known.
-fn put_loss(out: &mut Vec<u8>, place: &Place, p: u8, found: Finding) -> Result<(), AllocError>
+fn put_loss(out: &mut Vec<u8>, place: &Place, p: u8, found: Finding) -> Done
     ensures { OnOk result (out.new.items ≡ out.old.items ++ loss_words (place_of place.now) p found) }
 {
     match found.lost {
@@ -337,7 +307,7 @@ pub(crate) fn put_finding_item(
     place: &Place,
     pointer: Option<u8>,
     finding: Option<Finding>,
-) -> Result<(), AllocError>
+) -> Done
     ensures { OnOk result (out.new.items ≡ out.old.items ++ finding_item (place_of place.now) pointer finding) }
 {
     let Some(p) = pointer else {
@@ -354,7 +324,7 @@ pub(crate) fn put_finding_item(
 
 /// A pointer that the instruction uses may be stale, and where and by what it became so.
 #[tactic(auto, unfolding(crate::specs::Stale::stale_words))]
-pub(crate) fn put_stale(out: &mut Vec<u8>, place: &Place) -> Result<(), AllocError>
+pub(crate) fn put_stale(out: &mut Vec<u8>, place: &Place) -> Done
     requires { IsPlace (place_of place.now) }
     ensures { OnOk result (out.new.items ≡ out.old.items ++ stale_words (place_of place.now)) }
 {

@@ -5,16 +5,16 @@ ghost use Rattle.geos_explain.specs.Places.{IsPlace, place_of};
 ghost use Rattle.geos_explain.specs.Steps.{whole_words, asked_words, asks_along, asks_branching};
 ghost use Rattle.geos_explain.specs.Steps.{paying_item, paying_items, touched_words, last_words, unpaid_words};
 
+use crate::Done;
 use crate::notes::put_steps;
 use crate::numbers::either;
 use crate::place::Place;
 use geos_image::{Opcode, Potential, Routine};
 use geos_text::put_numbered;
 use geos_verify::{Asked, asked_along, asked_branching, branches, falls_through};
-use std::alloc::AllocError;
 
 /// What is asked and left in whole, with what each counter must pay, and pays.
-fn put_whole(out: &mut Vec<u8>, asked: &Asked, p: &Potential) -> Result<(), AllocError>
+fn put_whole(out: &mut Vec<u8>, asked: &Asked, p: &Potential) -> Done
     ensures { OnOk result (out.new.items ≡ out.old.items ++ whole_words asked.now p.now) }
 {
     put_steps(out, asked.steps, &asked.coefficients)?;
@@ -24,7 +24,7 @@ fn put_whole(out: &mut Vec<u8>, asked: &Asked, p: &Potential) -> Result<(), Allo
 }
 
 /// What is asked and not left: steps, or else what counters pay, which is told with what each must pay, and pays.
-fn put_asked(out: &mut Vec<u8>, asked: &Asked, p: &Potential) -> Result<(), AllocError>
+fn put_asked(out: &mut Vec<u8>, asked: &Asked, p: &Potential) -> Done
     ensures { OnOk result (out.new.items ≡ out.old.items ++ asked_words asked.now p.now) }
 {
     let left = asked.left(p);
@@ -67,7 +67,7 @@ fn asks_branching(place: &Place) -> Option<Asked>
 }
 
 /// Counter k, where it has a coefficient.
-fn put_paying(out: &mut Vec<u8>, k: usize, n: u32) -> Result<(), AllocError>
+fn put_paying(out: &mut Vec<u8>, k: usize, n: u32) -> Done
     ensures { OnOk result (out.new.items ≡ out.old.items ++ paying_item k n) }
 {
     if n == 0 {
@@ -78,7 +78,7 @@ fn put_paying(out: &mut Vec<u8>, k: usize, n: u32) -> Result<(), AllocError>
 
 /// The counters that have a coefficient.
 #[tactic(auto, unfolding(geos_listing::specs::Rows::texts_below))]
-fn put_all_paying(out: &mut Vec<u8>, coefficients: &[u32; 4]) -> Result<(), AllocError>
+fn put_all_paying(out: &mut Vec<u8>, coefficients: &[u32; 4]) -> Done
     ensures { OnOk result (out.new.items ≡ out.old.items ++ paying_items 4 coefficients.now) }
 {
     for k in 0..coefficients.len() {
@@ -88,7 +88,7 @@ fn put_all_paying(out: &mut Vec<u8>, coefficients: &[u32; 4]) -> Result<(), Allo
 }
 
 /// The routine that is called touches one of the counters that pay behind the call.
-fn put_touched(out: &mut Vec<u8>, callee: &Routine, q: &Potential) -> Result<(), AllocError>
+fn put_touched(out: &mut Vec<u8>, callee: &Routine, q: &Potential) -> Done
     ensures { OnOk result (out.new.items ≡ out.old.items ++ touched_words callee.now q.now) }
 {
     put!(out; " " bytes(callee.name_text()) " touches a counter that still pays behind the call:")?;
@@ -97,7 +97,7 @@ fn put_touched(out: &mut Vec<u8>, callee: &Routine, q: &Potential) -> Result<(),
 
 /// What is said where neither edge is unpaid: a return wants a step; a call wants no coefficient
 /// behind it on a counter that the routine touches.
-fn put_last(out: &mut Vec<u8>, place: &Place) -> Result<(), AllocError>
+fn put_last(out: &mut Vec<u8>, place: &Place) -> Done
     requires { IsPlace (place_of place.now) }
     ensures { OnOk result (out.new.items ≡ out.old.items ++ last_words (place_of place.now) place.now.i.now.opcode) }
 {
@@ -113,7 +113,7 @@ fn put_last(out: &mut Vec<u8>, place: &Place) -> Result<(), AllocError>
 
 /// An edge, or the return, is not paid for: the edge to the next instruction is tried first.
 #[tactic(auto, unfolding(crate::specs::Steps::unpaid_words))]
-pub(crate) fn put_unpaid(out: &mut Vec<u8>, place: &Place) -> Result<(), AllocError>
+pub(crate) fn put_unpaid(out: &mut Vec<u8>, place: &Place) -> Done
     requires { IsPlace (place_of place.now) }
     ensures { OnOk result (out.new.items ≡ out.old.items ++ unpaid_words (place_of place.now)) }
 {

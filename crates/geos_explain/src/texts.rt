@@ -5,6 +5,7 @@ ghost use Rattle.std.specs.Str.Lines.{lines};
 ghost use Rattle.geos_explain.specs.Places.{explained_of};
 ghost use Rattle.geos_explain.specs.Texts.{last_begun, noted_at, is_line_of, numbered, line_text, lines_text, next_pc, IsTextExplanationBy, IsTextExplanationOf};
 
+use crate::Done;
 use crate::explained::Explained;
 use crate::explanation::put_noted;
 use crate::filled::Filled;
@@ -34,7 +35,7 @@ fn last_begun(image: &Filled, pc: u16) -> Option<u16>
 
 /// What is said of the instruction at a pc of the routine that it lies in.
 #[tactic(auto, unfolding(crate::specs::Texts::noted_at, crate::specs::Texts::noted_of))]
-fn put_noted_at(out: &mut Vec<u8>, explained: &Explained, pc: u16) -> Result<(), AllocError>
+fn put_noted_at(out: &mut Vec<u8>, explained: &Explained, pc: u16) -> Done
     requires { pc < length explained.now.image.now.points }
     ensures { OnOk result (out.new.items ≡ out.old.items ++ noted_at (explained_of explained.now) pc) }
 {
@@ -75,7 +76,7 @@ struct Line<'a> {
 
 /// A line with its number.
 #[tactic(auto, unfolding(crate::specs::Texts::numbered))]
-fn put_numbered_line(out: &mut Vec<u8>, line: &Line) -> Result<(), AllocError>
+fn put_numbered_line(out: &mut Vec<u8>, line: &Line) -> Done
     ensures { OnOk result (out.new.items ≡ out.old.items ++ numbered line.now.number line.now.text.now) }
 {
     put!(out; "" {line.number} "\t" bytes(line.text))
@@ -84,12 +85,7 @@ fn put_numbered_line(out: &mut Vec<u8>, line: &Line) -> Result<(), AllocError>
 /// A line with its number, and what stands behind it, where `pc` is the next instruction: what is said of it, where the line is
 /// its own, or nothing.
 #[tactic(auto, unfolding(crate::specs::Texts::line_text))]
-fn put_line(
-    out: &mut Vec<u8>,
-    explained: &Explained,
-    pc: u16,
-    line: &Line,
-) -> Result<(), AllocError>
+fn put_line(out: &mut Vec<u8>, explained: &Explained, pc: u16, line: &Line) -> Done
     ensures { OnOk result (out.new.items ≡ out.old.items ++ line_text (explained_of explained.now) pc line.now.number line.now.text.now) }
 {
     put_numbered_line(out, line)?;

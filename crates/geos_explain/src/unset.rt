@@ -6,6 +6,7 @@ ghost use Rattle.geos_explain.specs.Places.{IsPlace, place_of, first_of};
 ghost use Rattle.geos_explain.specs.Unset.{takes, gives, pays_at, leaves_alone, is_unset_at, takes_at, unset_loop};
 ghost use Rattle.geos_explain.specs.Unset.{unset_item, unset_items, WhatIsSaidOfCountersHolds};
 
+use crate::Done;
 use crate::filled::Filled;
 use crate::led::led_from;
 use crate::numbers::pc_part;
@@ -14,7 +15,6 @@ use crate::routines::{first_or, is_inside};
 use geos_flow::{Counting, Edge, Heading, Marks, is_marked};
 use geos_image::Instr;
 use geos_opcodes::CounterUse;
-use std::alloc::AllocError;
 
 /// Whether the instruction takes from the counter.
 fn takes(counter: CounterUse, i: &Instr, k: u8) -> bool
@@ -129,7 +129,7 @@ fn unset_loop(place: &Place, k: u8) -> Option<u16>
 /// A counter that still pays at a place is not set on the way to an instruction that takes from it, where there is such an
 /// instruction.
 #[tactic(auto, unfolding(crate::specs::Unset::unset_item))]
-fn put_unset_item(out: &mut Vec<u8>, place: &Place, k: u8) -> Result<(), AllocError>
+fn put_unset_item(out: &mut Vec<u8>, place: &Place, k: u8) -> Done
     requires place { IsPlace (place_of place.now) }
     requires counter { k < 4 }
     ensures { OnOk result (out.new.items ≡ out.old.items ++ unset_item (place_of place.now) k) }
@@ -148,7 +148,7 @@ fn put_unset_item(out: &mut Vec<u8>, place: &Place, k: u8) -> Result<(), AllocEr
 
 /// The same of each counter.
 #[tactic(auto, unfolding(geos_listing::specs::Rows::texts_below))]
-pub(crate) fn put_unset_items(out: &mut Vec<u8>, place: &Place) -> Result<(), AllocError>
+pub(crate) fn put_unset_items(out: &mut Vec<u8>, place: &Place) -> Done
     requires { IsPlace (place_of place.now) }
     ensures { OnOk result (out.new.items ≡ out.old.items ++ unset_items (place_of place.now)) }
 {

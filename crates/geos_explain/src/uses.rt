@@ -8,16 +8,16 @@ ghost use Rattle.geos_explain.specs.Uses.{state_item, nowhere_only, leading_nowh
 ghost use Rattle.geos_explain.specs.Uses.{known_bytes, index_words, reach_words, past_words, slot_behind, changed_slot, mark_word, unmarked_words};
 ghost use Rattle.geos_explain.specs.Uses.{not_empty, held_words, kind_wish, mark_wish, unlock_wish, slot_wish, serving, other_item, slot_words};
 
+use crate::Done;
 use crate::numbers::{either, is_one_item, written_from};
 use geos_image::{Instr, Pointer, Row, SlotState};
 use geos_listing::{put_items, state_word};
 use geos_opcodes::{Kind, Offset, PointerUse, SlotUse, Width};
 use geos_verify::{bytes_in, leads_nowhere, least_at, pointer_at, reach, slot_state, uses_at};
-use std::alloc::AllocError;
 
 /// A slot, and what the row says that it holds.
 #[tactic(auto, unfolding(crate::specs::Uses::state_item))]
-pub(crate) fn put_state(out: &mut Vec<u8>, a: u8, row: &Row) -> Result<(), AllocError>
+pub(crate) fn put_state(out: &mut Vec<u8>, a: u8, row: &Row) -> Done
     ensures { OnOk result (out.new.items ≡ out.old.items ++ state_item a row.now) }
 {
     put!(out; " s" {a} "=" [state_word(slot_state(row, a))])
@@ -51,7 +51,7 @@ pub(crate) fn leading_nowhere(row: &Row) -> Row
 
 /// The pointers of the row that lead into empty slots do so.
 #[tactic(auto, unfolding(crate::specs::Uses::nowhere_words, crate::specs::Uses::nowhere_items))]
-pub(crate) fn put_nowhere(out: &mut Vec<u8>, row: &Row) -> Result<(), AllocError>
+pub(crate) fn put_nowhere(out: &mut Vec<u8>, row: &Row) -> Done
     ensures { OnOk result (out.new.items ≡ out.old.items ++ nowhere_words row.now) }
 {
     let before = out.len();
@@ -66,7 +66,7 @@ pub(crate) fn put_nowhere(out: &mut Vec<u8>, row: &Row) -> Result<(), AllocError
 
 /// So many bytes are wanted behind a pointer, and how many are known there.
 #[tactic(auto, unfolding(crate::specs::Uses::short_words))]
-fn put_short(out: &mut Vec<u8>, p: u8, wanted: u32, row: &Row) -> Result<(), AllocError>
+fn put_short(out: &mut Vec<u8>, p: u8, wanted: u32, row: &Row) -> Done
     ensures { OnOk result (out.new.items ≡ out.old.items ++ short_words p wanted row.now) }
 {
     let least = least_at(row, p);
@@ -85,7 +85,7 @@ pub(crate) struct Index {
 
 /// What is known of the word that is the index.
 #[tactic(auto, unfolding(crate::specs::Uses::index_known))]
-fn put_index_known(out: &mut Vec<u8>, index: Index) -> Result<(), AllocError>
+fn put_index_known(out: &mut Vec<u8>, index: Index) -> Done
     ensures { OnOk result (out.new.items ≡ out.old.items ++ index_known index.w index.most) }
 {
     if index.most == u16::MAX {
@@ -96,7 +96,7 @@ fn put_index_known(out: &mut Vec<u8>, index: Index) -> Result<(), AllocError>
 
 /// What must be known of it for a read or a write so wide; nothing serves where fewer bytes are there.
 #[tactic(auto, unfolding(crate::specs::Uses::index_wanted))]
-fn put_index_wanted(out: &mut Vec<u8>, w: u8, wide: u16, least: u16) -> Result<(), AllocError>
+fn put_index_wanted(out: &mut Vec<u8>, w: u8, wide: u16, least: u16) -> Done
     ensures { OnOk result (out.new.items ≡ out.old.items ++ index_wanted w wide least) }
 {
     if wide <= least {
@@ -108,7 +108,7 @@ fn put_index_wanted(out: &mut Vec<u8>, w: u8, wide: u16, least: u16) -> Result<(
 
 /// How many bytes are known behind a pointer.
 #[tactic(auto, unfolding(crate::specs::Uses::known_bytes))]
-fn put_known_bytes(out: &mut Vec<u8>, p: u8, least: u16) -> Result<(), AllocError>
+fn put_known_bytes(out: &mut Vec<u8>, p: u8, least: u16) -> Done
     ensures { OnOk result (out.new.items ≡ out.old.items ++ known_bytes p least) }
 {
     put!(out; ": p" {p} " is known to have " {least} [either(least == 1, " byte", " bytes")])
@@ -116,13 +116,7 @@ fn put_known_bytes(out: &mut Vec<u8>, p: u8, least: u16) -> Result<(), AllocErro
 
 /// An index may be too high for the bytes behind its pointer.
 #[tactic(auto, unfolding(crate::specs::Uses::index_words))]
-fn put_index_words(
-    out: &mut Vec<u8>,
-    index: Index,
-    wide: u16,
-    p: u8,
-    least: u16,
-) -> Result<(), AllocError>
+fn put_index_words(out: &mut Vec<u8>, index: Index, wide: u16, p: u8, least: u16) -> Done
     ensures { OnOk result (out.new.items ≡ out.old.items ++ index_words index.w index.most wide p least) }
 {
     put_index_known(out, index)?;
@@ -131,13 +125,7 @@ fn put_index_words(
 }
 
 /// A read or a write at the offset may reach past the bytes behind its pointer.
-fn put_reach(
-    out: &mut Vec<u8>,
-    i: &Instr,
-    width: Width,
-    offset: Offset,
-    row: &Row,
-) -> Result<(), AllocError>
+fn put_reach(out: &mut Vec<u8>, i: &Instr, width: Width, offset: Offset, row: &Row) -> Done
     requires { OffsetFits offset i.now }
     ensures { OnOk result (out.new.items ≡ out.old.items ++ reach_words i.now width offset row.now) }
 {
@@ -153,7 +141,7 @@ fn put_reach(
 
 /// A read or a write may reach past the bytes behind its pointer.
 #[tactic(auto, unfolding(crate::specs::Uses::past_words))]
-pub(crate) fn put_past(out: &mut Vec<u8>, i: &Instr, row: &Row) -> Result<(), AllocError>
+pub(crate) fn put_past(out: &mut Vec<u8>, i: &Instr, row: &Row) -> Done
     requires { FieldsFit i.now.opcode i.now }
     ensures { OnOk result (out.new.items ≡ out.old.items ++ past_words i.now (uses_of i.now.opcode).pointer row.now) }
 {
@@ -201,7 +189,7 @@ pub(crate) fn mark_word(state: SlotState) -> &'static str
 
 /// A block is changed that may not be marked, and what marks it.
 #[tactic(auto, unfolding(crate::specs::Uses::unmarked_words))]
-pub(crate) fn put_unmarked(out: &mut Vec<u8>, i: &Instr, row: &Row) -> Result<(), AllocError>
+pub(crate) fn put_unmarked(out: &mut Vec<u8>, i: &Instr, row: &Row) -> Done
     ensures { OnOk result (out.new.items ≡ out.old.items ++ unmarked_words i.now (uses_of i.now.opcode).pointer row.now) }
 {
     let a = changed_slot(i, i.opcode.uses().pointer, row);
@@ -225,7 +213,7 @@ fn not_empty(state: SlotState) -> &'static str
 
 /// A block is locked into a slot that is held.
 #[tactic(auto, unfolding(crate::specs::Uses::held_words, crate::specs::Uses::state_item))]
-pub(crate) fn put_held(out: &mut Vec<u8>, i: &Instr, row: &Row) -> Result<(), AllocError>
+pub(crate) fn put_held(out: &mut Vec<u8>, i: &Instr, row: &Row) -> Done
     ensures { OnOk result (out.new.items ≡ out.old.items ++ held_words i.now row.now) }
 {
     let state = slot_state(row, i.a);
@@ -304,7 +292,7 @@ fn serving(slot: SlotUse, state: SlotState) -> &'static str
 
 /// The second slot, where there are two.
 #[tactic(auto, unfolding(crate::specs::Uses::other_item))]
-fn put_other(out: &mut Vec<u8>, i: &Instr, slot: SlotUse, row: &Row) -> Result<(), AllocError>
+fn put_other(out: &mut Vec<u8>, i: &Instr, slot: SlotUse, row: &Row) -> Done
     ensures { OnOk result (out.new.items ≡ out.old.items ++ other_item i.now slot row.now) }
 {
     match slot {
@@ -315,7 +303,7 @@ fn put_other(out: &mut Vec<u8>, i: &Instr, slot: SlotUse, row: &Row) -> Result<(
 
 /// A slot is not held as the instruction wants it, and what serves in its place.
 #[tactic(auto, unfolding(crate::specs::Uses::slot_words))]
-pub(crate) fn put_slot(out: &mut Vec<u8>, i: &Instr, row: &Row) -> Result<(), AllocError>
+pub(crate) fn put_slot(out: &mut Vec<u8>, i: &Instr, row: &Row) -> Done
     ensures { OnOk result (out.new.items ≡ out.old.items ++ slot_words i.now (uses_of i.now.opcode).slot row.now) }
 {
     let slot = i.opcode.uses().slot;

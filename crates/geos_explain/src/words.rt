@@ -9,6 +9,7 @@ ghost use Rattle.geos_explain.specs.Words.{mark_item, unmarked_here, slot_item, 
 ghost use Rattle.geos_opcodes.specs.Facts.{uses_of};
 ghost use Rattle.geos_verify.specs.RuleText.{rule_number};
 
+use crate::Done;
 use crate::budgets::put_over;
 use crate::calls::{put_forgotten, put_forgotten_item, put_forgotten_items, put_lent_items};
 use crate::forgotten::Item;
@@ -29,11 +30,10 @@ use crate::written::put_written;
 use geos_image::{Instr, Opcode, Routine, Row};
 use geos_text::Part;
 use geos_verify::{Rule, after, falls_through, has_edge, has_place, is_empty, slot_state};
-use std::alloc::AllocError;
 
 /// Control leaves the routine.
 #[tactic(auto, unfolding(crate::specs::Words::leaves_words))]
-fn put_leaves(out: &mut Vec<u8>, place: &Place) -> Result<(), AllocError>
+fn put_leaves(out: &mut Vec<u8>, place: &Place) -> Done
     requires { IsPlace (place_of place.now) }
     ensures { OnOk result (out.new.items ≡ out.old.items ++ leaves_words (place_of place.now)) }
 {
@@ -49,7 +49,7 @@ fn put_leaves(out: &mut Vec<u8>, place: &Place) -> Result<(), AllocError>
 /// The row wants more than the routine's entry row says, or the routine is public and wants or
 /// leaves what a caller from outside does not have.
 #[tactic(auto, unfolding(crate::specs::Words::entry_words))]
-fn put_entry(out: &mut Vec<u8>, routine: &Routine, row: &Row) -> Result<(), AllocError>
+fn put_entry(out: &mut Vec<u8>, routine: &Routine, row: &Row) -> Done
     ensures { OnOk result (out.new.items ≡ out.old.items ++ entry_words routine.now row.now) }
 {
     let before = out.len();
@@ -61,12 +61,7 @@ fn put_entry(out: &mut Vec<u8>, routine: &Routine, row: &Row) -> Result<(), Allo
 }
 
 /// The items that were written from a place on are wanted by a routine or at a pc.
-fn put_wanted<'a>(
-    out: &mut Vec<u8>,
-    before: usize,
-    at: &'a str,
-    what: Part<'a>,
-) -> Result<(), AllocError>
+fn put_wanted<'a>(out: &mut Vec<u8>, before: usize, at: &'a str, what: Part<'a>) -> Done
     requires { before ≤ length out.old.items }
     ensures { OnOk result (out.new.items ≡ out.old.items ++ wanted_behind_items (drop before out.old.items) at.now (part_text what.entry)) }
 {
@@ -76,7 +71,7 @@ fn put_wanted<'a>(
 
 /// The routine that a call names does not stand before that of the place, or its entry row wants more than the row says.
 #[tactic(auto, unfolding(crate::specs::Words::call_here))]
-fn put_call(out: &mut Vec<u8>, place: &Place) -> Result<(), AllocError>
+fn put_call(out: &mut Vec<u8>, place: &Place) -> Done
     requires { IsPlace (place_of place.now) }
     ensures { OnOk result (out.new.items ≡ out.old.items ++ call_here (place_of place.now)) }
 {
@@ -95,12 +90,7 @@ fn put_call(out: &mut Vec<u8>, place: &Place) -> Result<(), AllocError>
 /// What the row at the pc to which the instruction goes along an edge wants, and what is known behind it does not say; nothing
 /// where it has no such edge.
 #[tactic(auto, unfolding(crate::specs::Words::wanted_at, crate::specs::Words::wanted_behind))]
-fn put_wanted_behind(
-    out: &mut Vec<u8>,
-    place: &Place,
-    branch: bool,
-    to: u16,
-) -> Result<(), AllocError>
+fn put_wanted_behind(out: &mut Vec<u8>, place: &Place, branch: bool, to: u16) -> Done
     requires { IsPlace (place_of place.now) }
     ensures { OnOk result (out.new.items ≡ out.old.items ++ wanted_behind (place_of place.now) branch to) }
 {
@@ -119,7 +109,7 @@ fn put_wanted_behind(
 
 /// A row does not fit that at the end of the edge to the target.
 #[tactic(auto, unfolding(crate::specs::Words::branching_words))]
-fn put_branching(out: &mut Vec<u8>, place: &Place) -> Result<(), AllocError>
+fn put_branching(out: &mut Vec<u8>, place: &Place) -> Done
     requires { IsPlace (place_of place.now) }
     ensures { OnOk result (out.new.items ≡ out.old.items ++ branching_words (place_of place.now)) }
 {
@@ -135,7 +125,7 @@ fn put_branching(out: &mut Vec<u8>, place: &Place) -> Result<(), AllocError>
 
 /// A row does not fit that at the end of an edge: the edge to the next instruction is tried first.
 #[tactic(auto, unfolding(crate::specs::Words::edge_words))]
-fn put_edge(out: &mut Vec<u8>, place: &Place) -> Result<(), AllocError>
+fn put_edge(out: &mut Vec<u8>, place: &Place) -> Done
     requires { IsPlace (place_of place.now) }
     ensures { OnOk result (out.new.items ≡ out.old.items ++ edge_words (place_of place.now)) }
 {
@@ -154,7 +144,7 @@ fn put_edge(out: &mut Vec<u8>, place: &Place) -> Result<(), AllocError>
 }
 
 /// Where nothing leads to the instruction, it is to be taken out.
-fn put_dead_wish(out: &mut Vec<u8>, place: &Place) -> Result<(), AllocError>
+fn put_dead_wish(out: &mut Vec<u8>, place: &Place) -> Done
     ensures { OnOk result (out.new.items ≡ out.old.items ++ dead_wish (place_of place.now)) }
 {
     if is_reached(place.image, place.marks, place.pc) {
@@ -166,7 +156,7 @@ fn put_dead_wish(out: &mut Vec<u8>, place: &Place) -> Result<(), AllocError>
 
 /// A row does not fit that at the end of an edge, and what helps.
 #[tactic(auto, unfolding(crate::specs::Words::edge_here))]
-fn put_edge_here(out: &mut Vec<u8>, place: &Place) -> Result<(), AllocError>
+fn put_edge_here(out: &mut Vec<u8>, place: &Place) -> Done
     requires { IsPlace (place_of place.now) }
     ensures { OnOk result (out.new.items ≡ out.old.items ++ edge_here (place_of place.now)) }
 {
@@ -176,7 +166,7 @@ fn put_edge_here(out: &mut Vec<u8>, place: &Place) -> Result<(), AllocError>
 
 /// Why what is wanted is not known: an instruction moves the index going round, or a call forgets it.
 #[tactic(auto, unfolding(crate::specs::Words::why_past))]
-fn put_why_past(out: &mut Vec<u8>, place: &Place, item: Item) -> Result<(), AllocError>
+fn put_why_past(out: &mut Vec<u8>, place: &Place, item: Item) -> Done
     requires { IsPlace (place_of place.now) }
     ensures { OnOk result (out.new.items ≡ out.old.items ++ why_past (place_of place.now) item) }
 {
@@ -186,7 +176,7 @@ fn put_why_past(out: &mut Vec<u8>, place: &Place, item: Item) -> Result<(), Allo
 
 /// A read or a write may pass the end of what its pointer leads to, why that is not known to be wide enough, and what helps.
 #[tactic(auto, unfolding(crate::specs::Words::past_here))]
-fn put_past_here(out: &mut Vec<u8>, place: &Place) -> Result<(), AllocError>
+fn put_past_here(out: &mut Vec<u8>, place: &Place) -> Done
     requires { IsPlace (place_of place.now) }
     ensures { OnOk result (out.new.items ≡ out.old.items ++ past_here (place_of place.now)) }
 {
@@ -205,7 +195,7 @@ fn mark_item(i: &Instr, row: &Row) -> Item
 
 /// A block is changed that may not be marked, what marks it, and which call forgets the mark.
 #[tactic(auto, unfolding(crate::specs::Words::unmarked_here))]
-fn put_unmarked_here(out: &mut Vec<u8>, place: &Place) -> Result<(), AllocError>
+fn put_unmarked_here(out: &mut Vec<u8>, place: &Place) -> Done
     requires { IsPlace (place_of place.now) }
     ensures { OnOk result (out.new.items ≡ out.old.items ++ unmarked_here (place_of place.now)) }
 {
@@ -226,7 +216,7 @@ fn slot_item(i: &Instr, row: &Row) -> Option<Item>
 
 /// A slot is not held as the instruction wants it, and which call forgets what it held.
 #[tactic(auto, unfolding(crate::specs::Words::slot_here))]
-fn put_slot_here(out: &mut Vec<u8>, place: &Place) -> Result<(), AllocError>
+fn put_slot_here(out: &mut Vec<u8>, place: &Place) -> Done
     requires { IsPlace (place_of place.now) }
     ensures { OnOk result (out.new.items ≡ out.old.items ++ slot_here (place_of place.now)) }
 {
@@ -236,7 +226,7 @@ fn put_slot_here(out: &mut Vec<u8>, place: &Place) -> Result<(), AllocError>
 
 /// What is to be said of the routine that a call names, which call forgets what that wants, and what makes it known.
 #[tactic(auto, unfolding(crate::specs::Words::call_wish))]
-fn put_call_wish(out: &mut Vec<u8>, place: &Place) -> Result<(), AllocError>
+fn put_call_wish(out: &mut Vec<u8>, place: &Place) -> Done
     requires { IsPlace (place_of place.now) }
     ensures { OnOk result (out.new.items ≡ out.old.items ++ call_wish (place_of place.now)) }
 {
@@ -253,7 +243,7 @@ fn put_call_wish(out: &mut Vec<u8>, place: &Place) -> Result<(), AllocError>
 }
 
 /// What is wrong at a call, and what helps.
-fn put_call_here(out: &mut Vec<u8>, place: &Place) -> Result<(), AllocError>
+fn put_call_here(out: &mut Vec<u8>, place: &Place) -> Done
     requires { IsPlace (place_of place.now) }
     ensures { OnOk result (out.new.items ≡ out.old.items ++ (call_here (place_of place.now) ++ call_wish (place_of place.now))) }
 {
@@ -263,7 +253,7 @@ fn put_call_here(out: &mut Vec<u8>, place: &Place) -> Result<(), AllocError>
 
 /// A row does not fit the exit row, which call forgets what that wants, what makes it known, and why a pointer is not.
 #[tactic(auto, unfolding(crate::specs::Words::exit_here))]
-fn put_exit_here(out: &mut Vec<u8>, place: &Place) -> Result<(), AllocError>
+fn put_exit_here(out: &mut Vec<u8>, place: &Place) -> Done
     requires { IsPlace (place_of place.now) }
     ensures { OnOk result (out.new.items ≡ out.old.items ++ exit_here (place_of place.now)) }
 {
@@ -275,7 +265,7 @@ fn put_exit_here(out: &mut Vec<u8>, place: &Place) -> Result<(), AllocError>
 
 /// What is wrong at the place, by the rule.
 #[tactic(auto, unfolding(crate::specs::Words::words))]
-fn put_words(out: &mut Vec<u8>, place: &Place, rule: Rule) -> Result<(), AllocError>
+fn put_words(out: &mut Vec<u8>, place: &Place, rule: Rule) -> Done
     requires { IsPlace (place_of place.now) }
     ensures { OnOk result (out.new.items ≡ out.old.items ++ words (place_of place.now) rule) }
 {
@@ -306,7 +296,7 @@ fn rule_number(rule: Rule) -> u64
 }
 
 /// How the line of the refusal by the rule begins.
-fn put_refusal_head(out: &mut Vec<u8>, rule: Rule) -> Result<(), AllocError>
+fn put_refusal_head(out: &mut Vec<u8>, rule: Rule) -> Done
     ensures { OnOk result (out.new.items ≡ out.old.items ++ refusal_head rule) }
 {
     let number = rule_number(rule);
@@ -315,11 +305,7 @@ fn put_refusal_head(out: &mut Vec<u8>, rule: Rule) -> Result<(), AllocError>
 
 /// The line of the refusal by the rule.
 #[tactic(auto, unfolding(crate::specs::Words::refusal_line))]
-pub(crate) fn put_refusal_line(
-    out: &mut Vec<u8>,
-    place: &Place,
-    rule: Rule,
-) -> Result<(), AllocError>
+pub(crate) fn put_refusal_line(out: &mut Vec<u8>, place: &Place, rule: Rule) -> Done
     requires { IsPlace (place_of place.now) }
     ensures { OnOk result (out.new.items ≡ out.old.items ++ refusal_line (place_of place.now) rule) }
 {

@@ -4,11 +4,11 @@ ghost use Rattle.std.specs.Prelude.{◌≡◌, ◌≤◌, ◌++◌, drop, length
 ghost use Rattle.geos_explain.specs.Places.{IsPlace, place_of};
 ghost use Rattle.geos_explain.specs.Written.{has_borrowed, held_wish, written_behind, written_words};
 
+use crate::Done;
 use crate::held::{HeldAt, put_sinces_at, put_slots_at};
 use crate::numbers::{either, is_one_item, is_or_are, written_from};
 use crate::place::Place;
 use geos_image::Row;
-use std::alloc::AllocError;
 
 /// Whether some slot is borrowed.
 fn has_borrowed(row: &Row) -> bool
@@ -33,7 +33,7 @@ fn held_wish(borrowed: bool, items: &[u8]) -> &'static str
 
 /// That the slots that were written from a place on are held where the file is written; and whether one is borrowed.
 #[tactic(auto, unfolding(crate::specs::Written::written_behind))]
-fn put_written_behind(out: &mut Vec<u8>, before: usize, borrowed: bool) -> Result<(), AllocError>
+fn put_written_behind(out: &mut Vec<u8>, before: usize, borrowed: bool) -> Done
     requires { before ≤ length out.old.items }
     ensures { OnOk result (out.new.items ≡ out.old.items ++ written_behind borrowed (drop before out.old.items)) }
 {
@@ -45,7 +45,7 @@ fn put_written_behind(out: &mut Vec<u8>, before: usize, borrowed: bool) -> Resul
 
 /// The VM file is written while slots hold blocks of it.
 #[tactic(auto, unfolding(crate::specs::Written::written_words))]
-pub(crate) fn put_written(out: &mut Vec<u8>, place: &Place) -> Result<(), AllocError>
+pub(crate) fn put_written(out: &mut Vec<u8>, place: &Place) -> Done
     requires { IsPlace (place_of place.now) }
     ensures { OnOk result (out.new.items ≡ out.old.items ++ written_words (place_of place.now)) }
 {
