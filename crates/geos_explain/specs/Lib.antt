@@ -3,6 +3,7 @@ pub mod Public
 pub mod Edges
 pub mod Leads
 pub mod Led
+pub mod Standing
 pub mod Places
 pub mod Notes
 pub mod Lacks

@@ -4,16 +4,10 @@ use Rattle.geos_flow.specs.declared.edge.Edge.{Edge}
 use Rattle.geos_explain.specs.declared.finding.Finding.{Finding}
 use Rattle.geos_explain.specs.declared.trace.FirstWays.{FirstWays}
 use Rattle.geos_explain.specs.declared.trace.Trace.{Trace}
-use Rattle.geos_explain.specs.declared.trace.Tracing.{Tracing}
 use Rattle.geos_explain.specs.declared.ways.Way.TheVariants.{Along}
-use Rattle.geos_explain.specs.Lost.{AreHints, LacksFrom, NoWay, FindsWay, IsBringing, IsWay, Holds}
-use Rattle.geos_explain.specs.Places.{Place, IsPlace, comes_alike, place_of}
+use Rattle.geos_explain.specs.Lost.{LacksFrom, NoWay, FindsWay, IsBringing, IsWay, Holds}
+use Rattle.geos_explain.specs.Places.{Place, comes_alike}
 use Rattle.geos_flow.specs.Waiting.{Has}
-
--- the place from where a pointer is followed back is an image's, and what is said of the pointer at each pc is so on some way
-pub record CanFollow (tracing : Tracing) : Type 0 where
-  pub place : IsPlace (place_of tracing.place.now)
-  pub hints : AreHints (place_of tracing.place.now) tracing.p tracing.arrivals
 
 -- ways to a pc from where the pointer can be lacking: one brings it, and one does not, if there are such
 pub record AreWays (place : Place) (p : ℕ) (ways : FirstWays) : Type 0 where

@@ -1,7 +1,7 @@
 //! Which budget serves a routine.
 
 ghost use Rattle.std.specs.Prelude.{◌≡◌, ◌++◌, OnOk};
-ghost use Rattle.geos_explain.specs.Places.{IsPlace, place_of, first_of};
+ghost use Rattle.geos_explain.specs.Places.{place_of};
 ghost use Rattle.geos_explain.specs.Budgets.{calls_on, calls_on_at, calling_on, none_serves, serving_words, over_words};
 ghost use Rattle.geos_explain.specs.Budgets.{WhatIsSaidOfBudgetsHolds};
 
@@ -35,7 +35,6 @@ fn calls_on_at(place: &Place, from: u16) -> bool
 /// The first such instruction of the routine.
 #[tactic(auto, unfolding(crate::specs::Places::first_of))]
 fn calling_on(place: &Place) -> Option<u16>
-    requires { IsPlace (place_of place.now) }
     ensures { result ≡ calling_on (place_of place.now) }
 {
     let start = place.image.start(place.r);
@@ -61,7 +60,6 @@ fn put_none_serves(out: &mut Vec<u8>, place: &Place, from: u16) -> Done
 /// Which budget serves: none where there is such a call, else the least that the potential is within.
 #[tactic(auto, unfolding(crate::specs::Budgets::serving_words))]
 fn put_serving(out: &mut Vec<u8>, place: &Place) -> Done
-    requires { IsPlace (place_of place.now) }
     ensures { OnOk result (out.new.items ≡ out.old.items ++ serving_words (place_of place.now)) }
 {
     match calling_on(place) {
@@ -73,7 +71,6 @@ fn put_serving(out: &mut Vec<u8>, place: &Place) -> Done
 /// The potential is above the budget, which budget serves, and which counters are never set.
 #[tactic(auto, unfolding(crate::specs::Budgets::over_words))]
 pub(crate) fn put_over(out: &mut Vec<u8>, place: &Place) -> Done
-    requires { IsPlace (place_of place.now) }
     ensures { OnOk result (out.new.items ≡ out.old.items ++ over_words (place_of place.now)) }
 {
     put_budget(out, place.routine, place.potential)?;

@@ -1,7 +1,7 @@
 //! What is said of a call that forgets what is to be known at a place.
 
 ghost use Rattle.std.specs.Prelude.{◌≡◌, ◌<◌, ◌++◌, OnOk};
-ghost use Rattle.geos_explain.specs.Places.{IsPlace, place_of};
+ghost use Rattle.geos_explain.specs.Places.{place_of};
 ghost use Rattle.geos_explain.specs.Calls.{only_pair, item_text, lines_of, call_head, kept_wish};
 ghost use Rattle.geos_explain.specs.Calls.{forgotten_at, forgotten_text, forgotten_item, bound_wanted, slot_wanted};
 ghost use Rattle.geos_explain.specs.Calls.{pointer_wanted, pair_wanted, forgotten_of, forgotten_items, lent_item, lent_of, lent_items};
@@ -94,7 +94,6 @@ fn put_forgotten_at(
 /// The call that forgets the item on a way to the place, if there is one.
 #[tactic(auto, unfolding(crate::specs::Calls::forgotten_text))]
 pub(crate) fn put_forgotten(out: &mut Vec<u8>, place: &Place, item: Item) -> Done
-    requires { IsPlace (place_of place.now) }
     ensures { OnOk result (out.new.items ≡ out.old.items ++ forgotten_text (place_of place.now) item) }
 {
     match forgetting_call(place, item) {
@@ -108,7 +107,6 @@ pub(crate) fn put_forgotten(out: &mut Vec<u8>, place: &Place, item: Item) -> Don
 
 /// The same, if there is an item.
 pub(crate) fn put_forgotten_item(out: &mut Vec<u8>, place: &Place, item: Option<Item>) -> Done
-    requires { IsPlace (place_of place.now) }
     ensures { OnOk result (out.new.items ≡ out.old.items ++ forgotten_item (place_of place.now) item) }
 {
     match item {
@@ -166,8 +164,7 @@ fn pair_wanted(row: &Row, k: u8) -> Option<Item>
 /// The calls that forget the items with a number that a row wants.
 #[tactic(auto, unfolding(crate::specs::Calls::forgotten_of))]
 fn put_forgotten_of(out: &mut Vec<u8>, place: &Place, wanted: &Row, k: u8) -> Done
-    requires place { IsPlace (place_of place.now) }
-    requires few { k < 8 }
+    requires { k < 8 }
     ensures { OnOk result (out.new.items ≡ out.old.items ++ forgotten_of (place_of place.now) wanted.now k) }
 {
     put_forgotten_item(out, place, bound_wanted(wanted, k))?;
@@ -179,7 +176,6 @@ fn put_forgotten_of(out: &mut Vec<u8>, place: &Place, wanted: &Row, k: u8) -> Do
 /// The calls that forget what a row wants, for each item.
 #[tactic(auto, unfolding(geos_listing::specs::Rows::texts_below))]
 pub(crate) fn put_forgotten_items(out: &mut Vec<u8>, place: &Place, wanted: &Row) -> Done
-    requires { IsPlace (place_of place.now) }
     ensures { OnOk result (out.new.items ≡ out.old.items ++ forgotten_items (place_of place.now) wanted.now) }
 {
     for k in 0..8 {

@@ -1,6 +1,6 @@
 //! Which slots a routine locks blocks into, or unlocks, by its own instructions: it can't keep what its caller holds there.
 
-ghost use Rattle.std.specs.Prelude.{◌≡◌, ◌<◌, ◌++◌, length, OnOk};
+ghost use Rattle.std.specs.Prelude.{◌≡◌, ◌<◌, ◌++◌, OnOk};
 ghost use Rattle.std.specs.List.{list_any};
 ghost use Rattle.geos_explain.specs.Changed.{changes, changes_here, changes_slot, slot_kept, changed_by, changed_words};
 

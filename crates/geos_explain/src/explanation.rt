@@ -4,7 +4,7 @@ ghost use Rattle.std.specs.Prelude.{◌≡◌, ◌<◌, ◌≤◌, ◌+◌, ◌+
 ghost use Rattle.geos_image.specs.Legal.{is_image};
 ghost use Rattle.geos_listing.specs.Rows.{texts_below};
 ghost use Rattle.geos_listing.specs.Instrs.{MarksTargets};
-ghost use Rattle.geos_explain.specs.Places.{IsPlace, explained_of, place_of};
+ghost use Rattle.geos_explain.specs.Places.{explained_of, place_of};
 ghost use Rattle.geos_explain.specs.Explanation.{noted, place_text, head_text, numbered_routine, IsExplanationBy, IsExplanationOf};
 
 use crate::Done;
@@ -25,8 +25,7 @@ use std::alloc::{AllocError, Global};
 /// What is known at the instruction, up to the end of the line, and what is wrong with it, and with the budget of its routine.
 #[tactic(auto, unfolding(crate::specs::Explanation::noted))]
 pub(crate) fn put_noted(out: &mut Vec<u8>, within: &ExplainedRoutine, place: &Place) -> Done
-    requires place { IsPlace (place_of place.now) }
-    requires image { place.now.image.now ≡ within.now.explained.now.image.now }
+    requires { place.now.image.now ≡ within.now.explained.now.image.now }
     ensures { OnOk result (out.new.items
         ≡ out.old.items ++ noted (explained_of within.now.explained.now) within.now.r within.now.routine.now (place_of place.now)) }
 {

@@ -4,7 +4,7 @@ ghost use Rattle.std.specs.Prelude.{◌≡◌, ◌<◌, true, Some, suc, length,
 ghost use Rattle.geos_image.specs.Legal.{is_image};
 ghost use Rattle.geos_image.specs.Parts.{start_of};
 ghost use Rattle.geos_explain.specs.Findings.{AreFound, AllFound, AllFoundSoFar, FoundAt, IsFound, IsToldAt, told_pointers};
-ghost use Rattle.geos_explain.specs.Places.{IsPlace, explained_of, place_of};
+ghost use Rattle.geos_explain.specs.Places.{explained_of, place_of};
 
 use crate::Done;
 use crate::explained::Explained;
@@ -31,7 +31,6 @@ fn rule_told(explained: &Explained, pc: u16) -> Option<Rule>
 
 /// The pointers that are not known where the rule is told: those that the instruction uses, or the first that the exit row wants.
 fn told_pointers(place: &Place, rule: Rule) -> (Option<u8>, Option<u8>)
-    requires { IsPlace (place_of place.now) }
     ensures { result ≡ told_pointers (place_of place.now) rule }
 {
     match rule {
@@ -43,7 +42,6 @@ fn told_pointers(place: &Place, rule: Rule) -> (Option<u8>, Option<u8>)
 
 /// What is found of the pointer, if there is one.
 fn finding_of(place: &Place, pointer: Option<u8>) -> Option<Finding>
-    requires { IsPlace (place_of place.now) }
     ensures { IsFound (place_of place.now) pointer result }
 {
     match pointer {
@@ -54,7 +52,6 @@ fn finding_of(place: &Place, pointer: Option<u8>) -> Option<Finding>
 
 /// What is found of these pointers.
 fn findings_of(place: &Place, rule: Rule) -> Findings
-    requires { IsPlace (place_of place.now) }
     ensures { AreFound (place_of place.now) rule result }
 {
     let (first, second) = told_pointers(place, rule);

@@ -1,7 +1,7 @@
 //! The first way to an instruction that brings a pointer, and the first that does not.
 
-ghost use Rattle.std.specs.Prelude.{◌≡◌, ◌<◌, false, length};
-ghost use Rattle.geos_explain.specs.Places.{IsPlace, place_of};
+ghost use Rattle.std.specs.Prelude.{◌<◌, false, length};
+ghost use Rattle.geos_explain.specs.Places.{place_of};
 ghost use Rattle.geos_explain.specs.Lost.{FindsWay, IsBringing, IsSought, IsWay};
 
 use crate::led::is_reached;
@@ -15,7 +15,6 @@ use geos_flow::{Counting, Edge};
 struct Seeking<'a> {
     place: &'a Place<'a>,
     sought: Sought,
-    ghost within: { place.now.r < length place.now.image.now.routines },
 }
 
 impl<'a> Counting for Seeking<'a> {
@@ -39,8 +38,7 @@ impl<'a> Counting for Seeking<'a> {
 /// The first way that is sought: from the caller, where the pc is the routine's first, and the caller brings the pointer as is
 /// asked, or else from an instruction of the routine.
 fn way_to(place: &Place, sought: Sought, to: u16) -> Option<Way>
-    requires place { IsPlace (place_of place.now) }
-    requires there { to < length place.now.image.now.points }
+    requires { to < length place.now.image.now.points }
     ensures { FindsWay (place_of place.now) (λ way. IsSought (place_of place.now) sought to way) result }
 {
     if to == place.image.start(place.r)
@@ -60,8 +58,7 @@ fn way_to(place: &Place, sought: Sought, to: u16) -> Option<Way>
 
 /// The first way to a pc that brings the pointer, from where control comes as it comes to the place.
 pub(crate) fn bringing(place: &Place, p: u8, to: u16) -> Option<Way>
-    requires place { IsPlace (place_of place.now) }
-    requires there { to < length place.now.image.now.points }
+    requires { to < length place.now.image.now.points }
     ensures { FindsWay (place_of place.now) (λ way. IsBringing (place_of place.now) p to way) result }
 {
     let sought = Sought {
@@ -74,8 +71,7 @@ pub(crate) fn bringing(place: &Place, p: u8, to: u16) -> Option<Way>
 
 /// The first way to a pc that does not; where there is none, the first from where control does not come so.
 pub(crate) fn losing(place: &Place, p: u8, to: u16) -> Option<Way>
-    requires place { IsPlace (place_of place.now) }
-    requires there { to < length place.now.image.now.points }
+    requires { to < length place.now.image.now.points }
     ensures { FindsWay (place_of place.now) (λ way. IsWay (place_of place.now) p false way to) result }
 {
     let sought = Sought {

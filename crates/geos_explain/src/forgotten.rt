@@ -1,8 +1,8 @@
 //! Which call forgets what is to be known at a place: behind it only what its routine's `out` line says is known.
 
-ghost use Rattle.std.specs.Prelude.{◌≡◌, ◌<◌, length, Some};
+ghost use Rattle.std.specs.Prelude.{◌≡◌, ◌<◌, Some};
 ghost use Rattle.geos_flow.specs.Marks.{Marking};
-ghost use Rattle.geos_explain.specs.Places.{IsPlace, place_of};
+ghost use Rattle.geos_explain.specs.Places.{place_of};
 ghost use Rattle.geos_explain.specs.Forgotten.{knows, comes_lacked, is_lacked_from};
 ghost use Rattle.geos_explain.specs.Forgotten.{forgets_at, forgetting_call, WhatIsSaidOfCallsHolds};
 
@@ -49,7 +49,6 @@ pub(crate) fn knows(row: &Row, item: Item) -> bool
 struct Lacking<'a> {
     place: &'a Place<'a>,
     item: Item,
-    ghost within: { place.now.r < length place.now.image.now.routines },
 }
 
 impl<'a> Counting for Lacking<'a> {
@@ -73,8 +72,7 @@ impl<'a> Counting for Lacking<'a> {
 
 /// The pcs from which a way leads to another on which the item is not known all along.
 pub(crate) fn lacked_from(place: &Place, item: Item, to: u16) -> Marks
-    requires place { IsPlace (place_of place.now) }
-    requires low { to < 4096 }
+    requires { to < 4096 }
     ensures { Marking result (is_lacked_from (place_of place.now) item to) }
 {
     let lacking = Lacking { place, item };
@@ -124,7 +122,6 @@ fn forgets_at(place: &Place, item: Item, marks: &Marks, from: u16) -> bool
 /// The last call of the routine that forgets the item on a way to the place on which it is not known again.
 #[tactic(auto, unfolding(crate::specs::Places::last_of))]
 pub(crate) fn forgetting_call(place: &Place, item: Item) -> Option<u16>
-    requires { IsPlace (place_of place.now) }
     ensures { result ≡ forgetting_call (place_of place.now) item }
 {
     let marks = lacked_from(place, item, place.pc);

@@ -2,7 +2,7 @@
 
 ghost use Rattle.std.specs.Prelude.{◌≡◌, ◌≤◌, ◌++◌, OnOk, drop, length};
 ghost use Rattle.geos_text.specs.Parts.{part_text};
-ghost use Rattle.geos_explain.specs.Places.{IsPlace, place_of};
+ghost use Rattle.geos_explain.specs.Places.{place_of};
 ghost use Rattle.geos_explain.specs.Held.{is_held_at, slot_at, slots_at, since_place, or_another, since_text};
 ghost use Rattle.geos_explain.specs.Held.{since_at, sinces_at, else_wanted, kept_behind, unmet_words, exit_words};
 
@@ -93,7 +93,6 @@ fn put_since(out: &mut Vec<u8>, lines: &[u32], a: u8, since: Since) -> Done
 /// The same of a slot that is held and must not be.
 #[tactic(auto, unfolding(crate::specs::Held::since_at))]
 fn put_since_at(out: &mut Vec<u8>, which: HeldAt, place: &Place, a: u8) -> Done
-    requires { IsPlace (place_of place.now) }
     ensures { OnOk result (out.new.items ≡ out.old.items ++ since_at which (place_of place.now) a) }
 {
     if is_held_at(which, place, a) {
@@ -106,7 +105,6 @@ fn put_since_at(out: &mut Vec<u8>, which: HeldAt, place: &Place, a: u8) -> Done
 /// The same of each slot.
 #[tactic(auto, unfolding(geos_listing::specs::Rows::texts_below))]
 pub(crate) fn put_sinces_at(out: &mut Vec<u8>, which: HeldAt, place: &Place) -> Done
-    requires { IsPlace (place_of place.now) }
     ensures { OnOk result (out.new.items ≡ out.old.items ++ sinces_at which (place_of place.now)) }
 {
     for a in 0..4 {
@@ -130,7 +128,6 @@ fn put_else_wanted(out: &mut Vec<u8>, place: &Place) -> Done
 /// Slots are still held at the return, since where, which of them are borrowed, and what else the exit row wants.
 #[tactic(auto, unfolding(crate::specs::Held::kept_words))]
 fn put_kept_words(out: &mut Vec<u8>, place: &Place, before: usize) -> Done
-    requires place { IsPlace (place_of place.now) }
     requires before { before ≤ length out.old.items }
     requires kept { drop before out.old.items ≡ slots_at HeldAt.Return (place_of place.now) }
     ensures { OnOk result (out.new.items ≡ out.old.items ++ kept_behind (place_of place.now)) }
@@ -154,7 +151,6 @@ fn put_unmet(out: &mut Vec<u8>, place: &Place) -> Done
 /// The row does not fit the exit row: slots are still held, or else it wants more.
 #[tactic(auto, unfolding(crate::specs::Held::exit_words))]
 pub(crate) fn put_exit(out: &mut Vec<u8>, place: &Place) -> Done
-    requires { IsPlace (place_of place.now) }
     ensures { OnOk result (out.new.items ≡ out.old.items ++ exit_words (place_of place.now)) }
 {
     let before = out.len();

@@ -3,7 +3,7 @@
 ghost use Rattle.std.specs.Prelude.{◌≡◌, ◌<◌, ◌++◌, OnOk, IfSome};
 ghost use Rattle.geos_flow.specs.Marks.{Marking};
 ghost use Rattle.geos_explain.specs.Forgotten.{is_lacked_from};
-ghost use Rattle.geos_explain.specs.Places.{IsPlace, last_of, place_of};
+ghost use Rattle.geos_explain.specs.Places.{last_of, place_of};
 ghost use Rattle.geos_explain.specs.Moved.{moves, moves_at, if_round};
 ghost use Rattle.geos_explain.specs.Moved.{moving, moved_words, moved_text, WhatIsSaidOfRoundsHolds};
 
@@ -41,7 +41,6 @@ fn moves_at(place: &Place, item: Item, w: u8, marks: &Marks, from: u16) -> bool
 /// The last such instruction of the routine.
 #[tactic(auto, unfolding(crate::specs::Places::last_of))]
 fn last_moving(place: &Place, item: Item, w: u8) -> Option<u16>
-    requires { IsPlace (place_of place.now) }
     ensures last { result ≡ last_of (place_of place.now) (moves_at (place_of place.now) item w) place.now.routine.now.count }
     ensures low { IfSome result (λ from. from < 4096) }
 {
@@ -59,8 +58,7 @@ fn last_moving(place: &Place, item: Item, w: u8) -> Option<u16>
 
 /// The instruction, if a way leads from the place to it on which the item is not known all along.
 fn if_round(place: &Place, item: Item, from: Option<u16>) -> Option<u16>
-    requires place { IsPlace (place_of place.now) }
-    requires low { IfSome from (λ from. from < 4096) }
+    requires { IfSome from (λ from. from < 4096) }
     ensures { result ≡ if_round (place_of place.now) item from }
 {
     match from {
@@ -74,7 +72,6 @@ fn if_round(place: &Place, item: Item, from: Option<u16>) -> Option<u16>
 /// The last instruction of the routine that moves the word on a way to the place on which the item is not known, if such a
 /// way leads back to it.
 fn moving(place: &Place, item: Item, w: u8) -> Option<u16>
-    requires { IsPlace (place_of place.now) }
     ensures { result ≡ moving (place_of place.now) item w }
 {
     if_round(place, item, last_moving(place, item, w))
@@ -94,7 +91,6 @@ fn put_moved_words(out: &mut Vec<u8>, place: &Place, w: u8, most: u16, from: u16
 /// Which instruction moves the index going round, where a bound of it is wanted, if one does.
 #[tactic(auto, unfolding(crate::specs::Moved::moved_text))]
 pub(crate) fn put_moved_round(out: &mut Vec<u8>, place: &Place, item: Item) -> Done
-    requires { IsPlace (place_of place.now) }
     ensures { OnOk result (out.new.items ≡ out.old.items ++ moved_text (place_of place.now) item) }
 {
     let Item::Bound(w, most) = item else {

@@ -1,7 +1,7 @@
 //! What stands behind an instruction.
 
 ghost use Rattle.std.specs.Prelude.{◌≡◌, ◌++◌, OnOk};
-ghost use Rattle.geos_explain.specs.Places.{IsPlace, place_of};
+ghost use Rattle.geos_explain.specs.Places.{place_of};
 ghost use Rattle.geos_explain.specs.Notes.{coefficient_text, coefficients_text, steps_text, is_one};
 ghost use Rattle.geos_explain.specs.Notes.{potential_text, where_text, note_head, known_here, note, budget_words, has_no_coefficient, budget_wish};
 
@@ -101,7 +101,6 @@ fn put_known_here(out: &mut Vec<u8>, place: &Place) -> Done
 /// What is known at the place, and its potential.
 #[tactic(auto, unfolding(crate::specs::Notes::note))]
 pub(crate) fn put_note(out: &mut Vec<u8>, place: &Place) -> Done
-    requires { IsPlace (place_of place.now) }
     ensures { OnOk result (out.new.items ≡ out.old.items ++ note (place_of place.now)) }
 {
     put_note_head(out, place)?;

@@ -2,6 +2,7 @@
 
 ghost use Rattle.geos_flow.specs.Marks.{Marking};
 ghost use Rattle.geos_explain.specs.Led.{is_reached};
+ghost use Rattle.geos_explain.specs.Standing.{IsPlace};
 
 use crate::filled::Filled;
 use crate::finding::Findings;
@@ -25,4 +26,5 @@ pub(crate) struct Place<'a> {
     /// What control reaches.
     pub marks: &'a Marks,
     ghost marked: { Marking marks.now (is_reached image.now) },
+    ghost is: { IsPlace image.now r routine.now pc i.now },
 }

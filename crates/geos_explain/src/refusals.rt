@@ -1,7 +1,7 @@
 //! Which refusals are told at a place.
 
 ghost use Rattle.std.specs.Prelude.{◌≡◌, ◌<◌, ◌++◌, OnOk, Some, count_by, length};
-ghost use Rattle.geos_explain.specs.Places.{IsPlace, explained_of, place_of};
+ghost use Rattle.geos_explain.specs.Places.{explained_of, place_of};
 ghost use Rattle.geos_explain.specs.Told.{is_of_budget, told_rule, is_told, rule_at, most_told, IsFirstUntold};
 ghost use Rattle.geos_explain.specs.Refusals.{more_line, refused_text, refusal_text, is_last, over_line, over_from, over_text, ToldWhereRefused};
 
@@ -91,7 +91,6 @@ fn put_more(out: &mut Vec<u8>, more: usize) -> Done
 
 /// What is told where the rule refuses the place: what is wrong, or that others are not told.
 fn put_refused(out: &mut Vec<u8>, explained: &Explained, place: &Place, rule: Rule) -> Done
-    requires place { IsPlace (place_of place.now) }
     requires image { place.now.image.now ≡ explained.now.image.now }
     requires told { rule_at explained.now.refused.now place.now.pc ≡ Some rule }
     ensures { OnOk result (out.new.items ≡ out.old.items ++ refused_text explained.now.refused.now (place_of place.now) rule) }
@@ -109,8 +108,7 @@ fn put_refused(out: &mut Vec<u8>, explained: &Explained, place: &Place, rule: Ru
 
 /// The same, if a rule refuses the place.
 pub(crate) fn put_refusal(out: &mut Vec<u8>, explained: &Explained, place: &Place) -> Done
-    requires place { IsPlace (place_of place.now) }
-    requires image { place.now.image.now ≡ explained.now.image.now }
+    requires { place.now.image.now ≡ explained.now.image.now }
     ensures { OnOk result (out.new.items ≡ out.old.items ++ refusal_text explained.now.refused.now (place_of place.now)) }
 {
     match rule_at(explained.refused, place.pc) {
@@ -128,7 +126,6 @@ fn is_last(start: u16, routine: &Routine, pc: u16) -> bool
 
 /// The line of the refusal by the rule on the budget, where it refuses the first place of a routine.
 fn put_over_line(out: &mut Vec<u8>, first: &Place) -> Done
-    requires { IsPlace (place_of first.now) }
     ensures { OnOk result (out.new.items ≡ out.old.items ++ over_line (place_of first.now)) }
 {
     if over_budget(first.pc, first.routine, first.pc, first.potential) {

@@ -1,7 +1,7 @@
 //! Why a pointer is not known at a return that the exit row wants.
 
 ghost use Rattle.std.specs.Prelude.{◌≡◌, ◌++◌, OnOk};
-ghost use Rattle.geos_explain.specs.Places.{IsPlace, place_of};
+ghost use Rattle.geos_explain.specs.Places.{place_of};
 ghost use Rattle.geos_explain.specs.Returned.{if_wanted, first_wanted, forgetting_pointer, unknown_words, unknown_item};
 
 use crate::Done;
@@ -36,7 +36,6 @@ pub(crate) fn first_wanted(row: &Row, exit: &Row) -> Option<u8>
 
 /// The call that forgets a pointer that the exit row wants, if there is one.
 fn forgetting_pointer(place: &Place, p: u8) -> Option<u16>
-    requires { IsPlace (place_of place.now) }
     ensures { result ≡ forgetting_pointer (place_of place.now) p }
 {
     match pointer_at(&place.routine.exit, p) {
@@ -47,7 +46,6 @@ fn forgetting_pointer(place: &Place, p: u8) -> Option<u16>
 
 /// Why the pointer is not known, unless a call is said to forget it.
 fn put_unknown(out: &mut Vec<u8>, place: &Place, p: u8) -> Done
-    requires { IsPlace (place_of place.now) }
     ensures { OnOk result (out.new.items ≡ out.old.items ++ unknown_words (place_of place.now) p) }
 {
     if forgetting_pointer(place, p).is_some() {
@@ -60,7 +58,6 @@ fn put_unknown(out: &mut Vec<u8>, place: &Place, p: u8) -> Done
 /// The same of the first pointer that the exit row wants and that is not known, if there is one.
 #[tactic(auto, unfolding(crate::specs::Returned::unknown_item))]
 pub(crate) fn put_unknown_item(out: &mut Vec<u8>, place: &Place) -> Done
-    requires { IsPlace (place_of place.now) }
     ensures { OnOk result (out.new.items ≡ out.old.items ++ unknown_item (place_of place.now)) }
 {
     match first_wanted(place.row, &place.routine.exit) {

@@ -1,8 +1,8 @@
 //! Since where a slot is held at a place.
 
-ghost use Rattle.std.specs.Prelude.{◌≡◌, ◌<◌, length, Some, slice_get};
+ghost use Rattle.std.specs.Prelude.{◌≡◌, ◌<◌, Some, slice_get};
 ghost use Rattle.geos_flow.specs.Marks.{Marking};
-ghost use Rattle.geos_explain.specs.Places.{IsPlace, place_of};
+ghost use Rattle.geos_explain.specs.Places.{place_of};
 ghost use Rattle.geos_explain.specs.Since.{holds, keeps_along, is_held_from, leads_held, leads_on};
 ghost use Rattle.geos_explain.specs.Since.{fills_at, also, since_entry, held_since, WhatIsSaidOfSlotsHolds};
 ghost use Rattle.geos_verify.specs.Places.{places};
@@ -51,7 +51,6 @@ fn keeps_along(place: &Place, a: u8, edge: Edge, point: &KnownPlace) -> bool
 struct Holding<'a> {
     place: &'a Place<'a>,
     a: u8,
-    ghost within: { place.now.r < length place.now.image.now.routines },
 }
 
 impl<'a> Counting for Holding<'a> {
@@ -75,7 +74,6 @@ impl<'a> Counting for Holding<'a> {
 
 /// The pcs from which a way leads to the place on which the slot is held all along.
 fn held_from(place: &Place, a: u8) -> Marks
-    requires { IsPlace (place_of place.now) }
     ensures { Marking result (is_held_from (place_of place.now) a) }
 {
     let holding = Holding { place, a };
@@ -142,8 +140,7 @@ fn also(pc: u16, since: Since, from: u16, here: bool) -> Since
 
 /// Whether the caller has the slot held, and a way leads so from the routine's beginning.
 fn since_entry(place: &Place, a: u8, marks: &Marks) -> Since
-    requires place { IsPlace (place_of place.now) }
-    requires held { Marking marks.now (is_held_from (place_of place.now) a) }
+    requires { Marking marks.now (is_held_from (place_of place.now) a) }
     ensures { result ≡ since_entry (place_of place.now) a }
 {
     let start = usize::from(place.image.start(place.r));
@@ -157,7 +154,6 @@ fn since_entry(place: &Place, a: u8, marks: &Marks) -> Since
 /// Since where the slot is held at the place.
 #[tactic(auto, unfolding(crate::specs::Since::since_below))]
 pub(crate) fn held_since(place: &Place, a: u8) -> Since
-    requires { IsPlace (place_of place.now) }
     ensures { result ≡ held_since (place_of place.now) a }
 {
     let marks = held_from(place, a);

@@ -1,7 +1,7 @@
 //! Which pointers may be stale where they are used, and where and by what they became so.
 
 ghost use Rattle.std.specs.Prelude.{◌≡◌, ◌++◌, OnOk};
-ghost use Rattle.geos_explain.specs.Places.{IsPlace, place_of};
+ghost use Rattle.geos_explain.specs.Places.{place_of};
 ghost use Rattle.geos_explain.specs.Stale.{if_stale, stale_used, pointer_item, refused_on, way_text, meeting_head, meeting_item, named};
 ghost use Rattle.geos_explain.specs.Stale.{name_at, call_loss, moved_words, use_loss, how_lost, lost_by, label_wish, refused_at, unset_words};
 ghost use Rattle.geos_explain.specs.Stale.{unreached_words, merged_words, into_empty_wish, into_empty_words, loss_words, finding_item, stale_words};
@@ -325,7 +325,6 @@ pub(crate) fn put_finding_item(
 /// A pointer that the instruction uses may be stale, and where and by what it became so.
 #[tactic(auto, unfolding(crate::specs::Stale::stale_words))]
 pub(crate) fn put_stale(out: &mut Vec<u8>, place: &Place) -> Done
-    requires { IsPlace (place_of place.now) }
     ensures { OnOk result (out.new.items ≡ out.old.items ++ stale_words (place_of place.now)) }
 {
     let (first, second) = stale_used(place.i, uses_at(place.i).pointer, place.row);

@@ -1,7 +1,7 @@
 //! What is said where an edge is not paid for.
 
 ghost use Rattle.std.specs.Prelude.{◌≡◌, ◌++◌, OnOk};
-ghost use Rattle.geos_explain.specs.Places.{IsPlace, place_of};
+ghost use Rattle.geos_explain.specs.Places.{place_of};
 ghost use Rattle.geos_explain.specs.Steps.{whole_words, asked_words, asks_along, asks_branching};
 ghost use Rattle.geos_explain.specs.Steps.{paying_item, paying_items, touched_words, last_words, unpaid_words};
 
@@ -40,7 +40,6 @@ fn put_asked(out: &mut Vec<u8>, asked: &Asked, p: &Potential) -> Done
 
 /// What the edge to the next instruction asks, if there is one.
 fn asks_along(place: &Place) -> Option<Asked>
-    requires { IsPlace (place_of place.now) }
     ensures { result ≡ asks_along (place_of place.now) }
 {
     if !falls_through(place.i.opcode) {
@@ -54,7 +53,6 @@ fn asks_along(place: &Place) -> Option<Asked>
 
 /// What the edge to the target asks, if there is one.
 fn asks_branching(place: &Place) -> Option<Asked>
-    requires { IsPlace (place_of place.now) }
     ensures { result ≡ asks_branching (place_of place.now) }
 {
     if !branches(place.i.opcode) {
@@ -98,7 +96,6 @@ fn put_touched(out: &mut Vec<u8>, callee: &Routine, q: &Potential) -> Done
 /// What is said where neither edge is unpaid: a return wants a step; a call wants no coefficient
 /// behind it on a counter that the routine touches.
 fn put_last(out: &mut Vec<u8>, place: &Place) -> Done
-    requires { IsPlace (place_of place.now) }
     ensures { OnOk result (out.new.items ≡ out.old.items ++ last_words (place_of place.now) place.now.i.now.opcode) }
 {
     match place.i.opcode {
@@ -114,7 +111,6 @@ fn put_last(out: &mut Vec<u8>, place: &Place) -> Done
 /// An edge, or the return, is not paid for: the edge to the next instruction is tried first.
 #[tactic(auto, unfolding(crate::specs::Steps::unpaid_words))]
 pub(crate) fn put_unpaid(out: &mut Vec<u8>, place: &Place) -> Done
-    requires { IsPlace (place_of place.now) }
     ensures { OnOk result (out.new.items ≡ out.old.items ++ unpaid_words (place_of place.now)) }
 {
     let p = place.potential;

@@ -1,14 +1,14 @@
 //! How far a pointer that is not known was followed back: which places were passed, where ways met, and where it was lost.
 
-ghost use Rattle.std.specs.Prelude.{◌≡◌, ◌<◌, ◌⊎◌, ℕ, Bool, true, false, Some, None, IfSome, length, slice_get};
+ghost use Rattle.std.specs.Prelude.{◌≡◌, ◌<◌, ◌⊎◌, Bool, true, false, Some, None, IfSome, length, slice_get};
 ghost use Rattle.geos_flow.specs.declared.edge.Edge.{Edge};
 ghost use Rattle.geos_flow.specs.Edges.{end_of};
 ghost use Rattle.geos_verify.specs.Places.{places};
-ghost use Rattle.geos_explain.specs.Places.{IsPlace, comes_alike, place_of};
+ghost use Rattle.geos_explain.specs.Places.{comes_alike, place_of};
 ghost use Rattle.geos_explain.specs.declared.ways.Way.TheVariants.{Along};
 ghost use Rattle.geos_explain.specs.Ways.{empty_on};
-ghost use Rattle.geos_explain.specs.Lost.{IsHint, LacksBehind, LacksFrom, IsWay, IsMeeting, IsEnd};
-ghost use Rattle.geos_explain.specs.Trace.{CanFollow, AreWays, IsFinding, IsSound};
+ghost use Rattle.geos_explain.specs.Lost.{AreHints, IsHint, LacksBehind, LacksFrom, IsWay, IsMeeting, IsEnd};
+ghost use Rattle.geos_explain.specs.Trace.{AreWays, IsFinding, IsSound};
 
 use crate::arrivals::{Arrivals, all_arrivals, arrival};
 use crate::finding::{End, Finding, Loss, Meeting};
@@ -25,6 +25,7 @@ pub(crate) struct Tracing<'a> {
     pub place: &'a Place<'a>,
     pub p: u8,
     pub arrivals: Arrivals,
+    ghost hints: { AreHints (place_of place.now) p arrivals },
 }
 
 /// The first ways to a pc: one that brings the pointer, and one that does not.
@@ -117,7 +118,6 @@ fn note(trace: &mut Trace, tracing: &Tracing, ways: FirstWays)
 
 /// The first ways to a pc, from where the pointer can be lacking; where edges to it begin waits.
 fn ways_to(tracing: &Tracing, waits: &mut Pending, to: u16) -> FirstWays
-    requires tracing { CanFollow tracing.now }
     requires there { to < length tracing.now.place.now.image.now.points }
     requires lacks { LacksFrom (place_of tracing.now.place.now) tracing.now.p to }
     ensures to { result.to ≡ to }
@@ -155,7 +155,6 @@ fn begun(tracing: &Tracing, ways: FirstWays) -> Trace
 
 /// One more place is passed, and where edges to it begin waits.
 fn pass(trace: &mut Trace, tracing: &Tracing, waits: &mut Pending, at: u16)
-    requires tracing { CanFollow tracing.now }
     requires there { at < length tracing.now.place.now.image.now.points }
     requires lacks { LacksFrom (place_of tracing.now.place.now) tracing.now.p at }
     requires sound { IsSound (place_of tracing.now.place.now) tracing.now.p trace.old }
@@ -167,7 +166,6 @@ fn pass(trace: &mut Trace, tracing: &Tracing, waits: &mut Pending, at: u16)
 
 /// The pointer, and what is known of it on some way to the pc.
 fn hint_at(tracing: &Tracing, from: u16) -> Followed
-    requires { CanFollow tracing.now }
     ensures pointer { result.p ≡ tracing.now.p }
     ensures hint { IsHint (place_of tracing.now.place.now) tracing.now.p from result.hint }
 {
@@ -195,7 +193,6 @@ fn step_by(
     edge: Edge,
     point: &KnownPlace,
 )
-    requires tracing { CanFollow tracing.now }
     requires there { slice_get (places tracing.now.place.now.image.now) edge.from ≡ Some point.now }
     requires lacks { LacksFrom (place_of tracing.now.place.now) tracing.now.p (end_of edge point.now.instr) }
     requires sound { IsSound (place_of tracing.now.place.now) tracing.now.p trace.old }
@@ -224,7 +221,6 @@ fn step_along(
     edge: Edge,
     point: &KnownPlace,
 )
-    requires tracing { CanFollow tracing.now }
     requires there { slice_get (places tracing.now.place.now.image.now) edge.from ≡ Some point.now }
     requires sound { IsSound (place_of tracing.now.place.now) tracing.now.p trace.old }
     ensures { IsSound (place_of tracing.now.place.now) tracing.now.p trace.new }
@@ -236,7 +232,6 @@ fn step_along(
 
 /// The same along both edges of the instruction at a pc, which no longer waits.
 fn step_from(trace: &mut Trace, tracing: &Tracing, waits: &mut Pending, from: u16)
-    requires tracing { CanFollow tracing.now }
     requires low { from < 4096 }
     requires sound { IsSound (place_of tracing.now.place.now) tracing.now.p trace.old }
     ensures { IsSound (place_of tracing.now.place.now) tracing.now.p trace.new }
@@ -255,7 +250,6 @@ fn step_from(trace: &mut Trace, tracing: &Tracing, waits: &mut Pending, from: u1
 
 /// The same of those of the routine's instructions that wait, the last of them first, and whether one of them did.
 fn sweep_back(trace: &mut Trace, tracing: &Tracing, waits: &mut Pending) -> bool
-    requires tracing { CanFollow tracing.now }
     requires sound { IsSound (place_of tracing.now.place.now) tracing.now.p trace.old }
     ensures { IsSound (place_of tracing.now.place.now) tracing.now.p trace.new }
 {
@@ -275,7 +269,6 @@ fn sweep_back(trace: &mut Trace, tracing: &Tracing, waits: &mut Pending) -> bool
 /// Steps back until none waits. Each sweep but the last passes one place more at least, so there are at most as many as the
 /// routine has instructions.
 fn step_back(trace: &mut Trace, tracing: &Tracing, waits: &mut Pending)
-    requires tracing { CanFollow tracing.now }
     requires sound { IsSound (place_of tracing.now.place.now) tracing.now.p trace.old }
     ensures { IsSound (place_of tracing.now.place.now) tracing.now.p trace.new }
 {
@@ -289,7 +282,6 @@ fn step_back(trace: &mut Trace, tracing: &Tracing, waits: &mut Pending)
 /// A step back along the way of a meeting that does not bring the pointer, unless it is known why not; nothing else was passed
 /// before.
 fn step_aside(trace: &mut Trace, tracing: &Tracing, waits: &mut Pending, meeting: Meeting)
-    requires tracing { CanFollow tracing.now }
     requires meets { IsMeeting (place_of tracing.now.place.now) tracing.now.p meeting }
     requires sound { IsSound (place_of tracing.now.place.now) tracing.now.p trace.old }
     ensures { IsSound (place_of tracing.now.place.now) tracing.now.p trace.new }
@@ -309,7 +301,6 @@ fn step_aside(trace: &mut Trace, tracing: &Tracing, waits: &mut Pending, meeting
 /// What is found of the pointer: it is followed back from the place until it was lost or ways meet, and from there along the way
 /// that does not bring it until it was lost.
 pub(crate) fn traced(place: &Place, p: u8) -> Finding
-    requires { IsPlace (place_of place.now) }
     ensures { IsFinding (place_of place.now) p result }
 {
     let tracing = Tracing {

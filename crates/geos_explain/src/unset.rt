@@ -1,8 +1,8 @@
 //! Which counters are still to pay at a routine's beginning, and which LOOP takes from them though nothing sets them.
 
-ghost use Rattle.std.specs.Prelude.{◌≡◌, ◌<◌, ◌++◌, OnOk, length};
+ghost use Rattle.std.specs.Prelude.{◌≡◌, ◌<◌, ◌++◌, OnOk};
 ghost use Rattle.geos_flow.specs.Marks.{Marking};
-ghost use Rattle.geos_explain.specs.Places.{IsPlace, place_of, first_of};
+ghost use Rattle.geos_explain.specs.Places.{place_of};
 ghost use Rattle.geos_explain.specs.Unset.{takes, gives, pays_at, leaves_alone, is_unset_at, takes_at, unset_loop};
 ghost use Rattle.geos_explain.specs.Unset.{unset_item, unset_items, WhatIsSaidOfCountersHolds};
 
@@ -61,7 +61,6 @@ fn leaves_alone(i: &Instr, k: u8) -> bool
 struct Unset<'a> {
     place: &'a Place<'a>,
     k: u8,
-    ghost within: { place.now.r < length place.now.image.now.routines },
     ghost counter: { k < 4 },
 }
 
@@ -86,8 +85,7 @@ impl<'a> Counting for Unset<'a> {
 
 /// The pcs to which a way leads from the place that leaves the counter alone, and on which it still pays.
 fn unset_from(place: &Place, k: u8) -> Marks
-    requires place { IsPlace (place_of place.now) }
-    requires counter { k < 4 }
+    requires { k < 4 }
     ensures { Marking result (is_unset_at (place_of place.now) k) }
 {
     let unset = Unset { place, k };
@@ -112,8 +110,7 @@ fn takes_at(place: &Place, k: u8, marks: &Marks, from: u16) -> bool
 /// The first instruction of the routine that takes from the counter, to which such a way leads.
 #[tactic(auto, unfolding(crate::specs::Places::first_of))]
 fn unset_loop(place: &Place, k: u8) -> Option<u16>
-    requires place { IsPlace (place_of place.now) }
-    requires counter { k < 4 }
+    requires { k < 4 }
     ensures { result ≡ unset_loop (place_of place.now) k }
 {
     let marks = unset_from(place, k);
@@ -130,8 +127,7 @@ fn unset_loop(place: &Place, k: u8) -> Option<u16>
 /// instruction.
 #[tactic(auto, unfolding(crate::specs::Unset::unset_item))]
 fn put_unset_item(out: &mut Vec<u8>, place: &Place, k: u8) -> Done
-    requires place { IsPlace (place_of place.now) }
-    requires counter { k < 4 }
+    requires { k < 4 }
     ensures { OnOk result (out.new.items ≡ out.old.items ++ unset_item (place_of place.now) k) }
 {
     if !pays_at(place.image, k, place.pc) {
@@ -149,7 +145,6 @@ fn put_unset_item(out: &mut Vec<u8>, place: &Place, k: u8) -> Done
 /// The same of each counter.
 #[tactic(auto, unfolding(geos_listing::specs::Rows::texts_below))]
 pub(crate) fn put_unset_items(out: &mut Vec<u8>, place: &Place) -> Done
-    requires { IsPlace (place_of place.now) }
     ensures { OnOk result (out.new.items ≡ out.old.items ++ unset_items (place_of place.now)) }
 {
     for k in 0..4 {

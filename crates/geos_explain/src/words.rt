@@ -2,7 +2,7 @@
 
 ghost use Rattle.std.specs.Prelude.{◌≡◌, ◌≤◌, ◌+◌, ◌++◌, drop, length, OnOk};
 ghost use Rattle.geos_text.specs.Parts.{part_text};
-ghost use Rattle.geos_explain.specs.Places.{IsPlace, place_of};
+ghost use Rattle.geos_explain.specs.Places.{place_of};
 ghost use Rattle.geos_explain.specs.Words.{leaves_words, entry_words, call_here, wanted_behind};
 ghost use Rattle.geos_explain.specs.Words.{wanted_behind_items, branching_words, edge_words, dead_wish, edge_here, why_past, past_here};
 ghost use Rattle.geos_explain.specs.Words.{mark_item, unmarked_here, slot_item, slot_here, call_wish, exit_here, words, refusal_head, refusal_line};
@@ -34,7 +34,6 @@ use geos_verify::{Rule, after, falls_through, has_edge, has_place, is_empty, slo
 /// Control leaves the routine.
 #[tactic(auto, unfolding(crate::specs::Words::leaves_words))]
 fn put_leaves(out: &mut Vec<u8>, place: &Place) -> Done
-    requires { IsPlace (place_of place.now) }
     ensures { OnOk result (out.new.items ≡ out.old.items ++ leaves_words (place_of place.now)) }
 {
     let start = u32::from(place.image.start(place.r));
@@ -72,7 +71,6 @@ fn put_wanted<'a>(out: &mut Vec<u8>, before: usize, at: &'a str, what: Part<'a>)
 /// The routine that a call names does not stand before that of the place, or its entry row wants more than the row says.
 #[tactic(auto, unfolding(crate::specs::Words::call_here))]
 fn put_call(out: &mut Vec<u8>, place: &Place) -> Done
-    requires { IsPlace (place_of place.now) }
     ensures { OnOk result (out.new.items ≡ out.old.items ++ call_here (place_of place.now)) }
 {
     let Opcode::Call = place.i.opcode else {
@@ -91,7 +89,6 @@ fn put_call(out: &mut Vec<u8>, place: &Place) -> Done
 /// where it has no such edge.
 #[tactic(auto, unfolding(crate::specs::Words::wanted_at, crate::specs::Words::wanted_behind))]
 fn put_wanted_behind(out: &mut Vec<u8>, place: &Place, branch: bool, to: u16) -> Done
-    requires { IsPlace (place_of place.now) }
     ensures { OnOk result (out.new.items ≡ out.old.items ++ wanted_behind (place_of place.now) branch to) }
 {
     if !has_edge(place.i, branch) {
@@ -110,7 +107,6 @@ fn put_wanted_behind(out: &mut Vec<u8>, place: &Place, branch: bool, to: u16) ->
 /// A row does not fit that at the end of the edge to the target.
 #[tactic(auto, unfolding(crate::specs::Words::branching_words))]
 fn put_branching(out: &mut Vec<u8>, place: &Place) -> Done
-    requires { IsPlace (place_of place.now) }
     ensures { OnOk result (out.new.items ≡ out.old.items ++ branching_words (place_of place.now)) }
 {
     let before = out.len();
@@ -126,7 +122,6 @@ fn put_branching(out: &mut Vec<u8>, place: &Place) -> Done
 /// A row does not fit that at the end of an edge: the edge to the next instruction is tried first.
 #[tactic(auto, unfolding(crate::specs::Words::edge_words))]
 fn put_edge(out: &mut Vec<u8>, place: &Place) -> Done
-    requires { IsPlace (place_of place.now) }
     ensures { OnOk result (out.new.items ≡ out.old.items ++ edge_words (place_of place.now)) }
 {
     let before = out.len();
@@ -157,7 +152,6 @@ fn put_dead_wish(out: &mut Vec<u8>, place: &Place) -> Done
 /// A row does not fit that at the end of an edge, and what helps.
 #[tactic(auto, unfolding(crate::specs::Words::edge_here))]
 fn put_edge_here(out: &mut Vec<u8>, place: &Place) -> Done
-    requires { IsPlace (place_of place.now) }
     ensures { OnOk result (out.new.items ≡ out.old.items ++ edge_here (place_of place.now)) }
 {
     put_edge(out, place)?;
@@ -167,7 +161,6 @@ fn put_edge_here(out: &mut Vec<u8>, place: &Place) -> Done
 /// Why what is wanted is not known: an instruction moves the index going round, or a call forgets it.
 #[tactic(auto, unfolding(crate::specs::Words::why_past))]
 fn put_why_past(out: &mut Vec<u8>, place: &Place, item: Item) -> Done
-    requires { IsPlace (place_of place.now) }
     ensures { OnOk result (out.new.items ≡ out.old.items ++ why_past (place_of place.now) item) }
 {
     put_moved_round(out, place, item)?;
@@ -177,7 +170,6 @@ fn put_why_past(out: &mut Vec<u8>, place: &Place, item: Item) -> Done
 /// A read or a write may pass the end of what its pointer leads to, why that is not known to be wide enough, and what helps.
 #[tactic(auto, unfolding(crate::specs::Words::past_here))]
 fn put_past_here(out: &mut Vec<u8>, place: &Place) -> Done
-    requires { IsPlace (place_of place.now) }
     ensures { OnOk result (out.new.items ≡ out.old.items ++ past_here (place_of place.now)) }
 {
     put_past(out, place.i, place.row)?;
@@ -196,7 +188,6 @@ fn mark_item(i: &Instr, row: &Row) -> Item
 /// A block is changed that may not be marked, what marks it, and which call forgets the mark.
 #[tactic(auto, unfolding(crate::specs::Words::unmarked_here))]
 fn put_unmarked_here(out: &mut Vec<u8>, place: &Place) -> Done
-    requires { IsPlace (place_of place.now) }
     ensures { OnOk result (out.new.items ≡ out.old.items ++ unmarked_here (place_of place.now)) }
 {
     put_unmarked(out, place.i, place.row)?;
@@ -217,7 +208,6 @@ fn slot_item(i: &Instr, row: &Row) -> Option<Item>
 /// A slot is not held as the instruction wants it, and which call forgets what it held.
 #[tactic(auto, unfolding(crate::specs::Words::slot_here))]
 fn put_slot_here(out: &mut Vec<u8>, place: &Place) -> Done
-    requires { IsPlace (place_of place.now) }
     ensures { OnOk result (out.new.items ≡ out.old.items ++ slot_here (place_of place.now)) }
 {
     put_slot(out, place.i, place.row)?;
@@ -227,7 +217,6 @@ fn put_slot_here(out: &mut Vec<u8>, place: &Place) -> Done
 /// What is to be said of the routine that a call names, which call forgets what that wants, and what makes it known.
 #[tactic(auto, unfolding(crate::specs::Words::call_wish))]
 fn put_call_wish(out: &mut Vec<u8>, place: &Place) -> Done
-    requires { IsPlace (place_of place.now) }
     ensures { OnOk result (out.new.items ≡ out.old.items ++ call_wish (place_of place.now)) }
 {
     let Opcode::Call = place.i.opcode else {
@@ -244,7 +233,6 @@ fn put_call_wish(out: &mut Vec<u8>, place: &Place) -> Done
 
 /// What is wrong at a call, and what helps.
 fn put_call_here(out: &mut Vec<u8>, place: &Place) -> Done
-    requires { IsPlace (place_of place.now) }
     ensures { OnOk result (out.new.items ≡ out.old.items ++ (call_here (place_of place.now) ++ call_wish (place_of place.now))) }
 {
     put_call(out, place)?;
@@ -254,7 +242,6 @@ fn put_call_here(out: &mut Vec<u8>, place: &Place) -> Done
 /// A row does not fit the exit row, which call forgets what that wants, what makes it known, and why a pointer is not.
 #[tactic(auto, unfolding(crate::specs::Words::exit_here))]
 fn put_exit_here(out: &mut Vec<u8>, place: &Place) -> Done
-    requires { IsPlace (place_of place.now) }
     ensures { OnOk result (out.new.items ≡ out.old.items ++ exit_here (place_of place.now)) }
 {
     put_exit(out, place)?;
@@ -266,7 +253,6 @@ fn put_exit_here(out: &mut Vec<u8>, place: &Place) -> Done
 /// What is wrong at the place, by the rule.
 #[tactic(auto, unfolding(crate::specs::Words::words))]
 fn put_words(out: &mut Vec<u8>, place: &Place, rule: Rule) -> Done
-    requires { IsPlace (place_of place.now) }
     ensures { OnOk result (out.new.items ≡ out.old.items ++ words (place_of place.now) rule) }
 {
     let (i, row) = (place.i, place.row);
@@ -306,7 +292,6 @@ fn put_refusal_head(out: &mut Vec<u8>, rule: Rule) -> Done
 /// The line of the refusal by the rule.
 #[tactic(auto, unfolding(crate::specs::Words::refusal_line))]
 pub(crate) fn put_refusal_line(out: &mut Vec<u8>, place: &Place, rule: Rule) -> Done
-    requires { IsPlace (place_of place.now) }
     ensures { OnOk result (out.new.items ≡ out.old.items ++ refusal_line (place_of place.now) rule) }
 {
     put_refusal_head(out, rule)?;

@@ -1,7 +1,7 @@
 //! Which blocks of the VM file are held where the file is written, and since where.
 
 ghost use Rattle.std.specs.Prelude.{◌≡◌, ◌≤◌, ◌++◌, drop, length, OnOk};
-ghost use Rattle.geos_explain.specs.Places.{IsPlace, place_of};
+ghost use Rattle.geos_explain.specs.Places.{place_of};
 ghost use Rattle.geos_explain.specs.Written.{has_borrowed, held_wish, written_behind, written_words};
 
 use crate::Done;
@@ -46,7 +46,6 @@ fn put_written_behind(out: &mut Vec<u8>, before: usize, borrowed: bool) -> Done
 /// The VM file is written while slots hold blocks of it.
 #[tactic(auto, unfolding(crate::specs::Written::written_words))]
 pub(crate) fn put_written(out: &mut Vec<u8>, place: &Place) -> Done
-    requires { IsPlace (place_of place.now) }
     ensures { OnOk result (out.new.items ≡ out.old.items ++ written_words (place_of place.now)) }
 {
     let before = out.len();

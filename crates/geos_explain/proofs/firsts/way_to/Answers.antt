@@ -28,5 +28,5 @@ returns-in-None c =
       | else-to-start-via-else-to-start w ↦ absurd (w.if-to-start.false (is.0 ∙ sym c.start.ensures.start))
     ] in
     let first = subst (λ o. IsFirstInto c.graph.result.now.image.now (λ edge end. is_sought place sought edge) to o) c.in-None.is c.first_into.ensures in
-    none-sought place sought to c.requires.there not_entry
+    none-sought place sought to c.requires not_entry
     (subst (λ image. IsFirstInto image (λ edge end. is_sought place sought edge) to None) c.graph.ensures first)

@@ -1,0 +1,28 @@
+-- That a routine is one of an image, and an instruction one of the routine.
+use Rattle.std.specs.Prelude.{◌≡◌, ◌<◌, ◌≤◌, ℕ, ◌+◌, true, length, slice_get, IfSome}
+use Rattle.geos_image.specs.declared.instr.Instr.{Instr}
+use Rattle.geos_image.specs.declared.routine.Routine.{Routine}
+use Rattle.geos_image.specs.Fields.{FieldsFit, CalleeFits}
+use Rattle.geos_image.specs.Legal.{is_image}
+use Rattle.geos_image.specs.Parts.{Parts, start_of}
+use Rattle.geos_listing.specs.Instrs.{KeepsLimits}
+
+-- there is a routine r in the image, whose instructions are some of the image's, which is no longer than images may be
+pub record HasRoutine (image : Parts) (r : ℕ) (routine : Routine) : Type 0 where
+  pub within : r < length image.routines
+  pub room : start_of image.routines r + routine.count ≤ length image.points
+  pub start : start_of image.routines r ≤ 4096
+  pub short : length image.points ≤ 4096
+  pub legal : is_image image ≡ true
+
+-- the instruction at a pc is the image's, and the routine is one of its routines
+pub record IsPlace (image : Parts) (r : ℕ) (routine : Routine) (pc : ℕ) (i : Instr) : Type 0 where
+  pub within : r < length image.routines
+  pub room : start_of image.routines r + routine.count ≤ length image.points
+  pub start : start_of image.routines r ≤ 4096
+  pub there : pc < length image.points
+  pub short : length image.points ≤ 4096
+  pub here : IfSome (slice_get image.points pc) (λ point. i ≡ point.instr)
+  pub fields : FieldsFit i.opcode i
+  pub callee : CalleeFits (length image.routines) i
+  pub limits : KeepsLimits image i
