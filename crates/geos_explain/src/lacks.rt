@@ -21,18 +21,7 @@ fn lacking_bound(known: u16, wanted: u16) -> u16
 fn lacking_bounds(known: &[u16; 8], wanted: &[u16; 8]) -> [u16; 8]
     ensures { result ≡ zip2 lacking_bound known.now wanted.now }
 {
-    let [r0, r1, r2, r3, r4, r5, r6, r7] = *known;
-    let [s0, s1, s2, s3, s4, s5, s6, s7] = *wanted;
-    [
-        lacking_bound(r0, s0),
-        lacking_bound(r1, s1),
-        lacking_bound(r2, s2),
-        lacking_bound(r3, s3),
-        lacking_bound(r4, s4),
-        lacking_bound(r5, s5),
-        lacking_bound(r6, s6),
-        lacking_bound(r7, s7),
-    ]
+    zipped!(lacking_bound; *known, *wanted; r0 s0, r1 s1, r2 s2, r3 s3, r4 s4, r5 s5, r6 s6, r7 s7)
 }
 
 /// The state that is wanted where it is not met, else that of the open row.
@@ -49,14 +38,7 @@ fn lacking_slot(known: SlotState, wanted: SlotState) -> SlotState
 fn lacking_slots(known: &[SlotState; 4], wanted: &[SlotState; 4]) -> [SlotState; 4]
     ensures { result ≡ zip2 lacking_slot known.now wanted.now }
 {
-    let [r0, r1, r2, r3] = *known;
-    let [s0, s1, s2, s3] = *wanted;
-    [
-        lacking_slot(r0, s0),
-        lacking_slot(r1, s1),
-        lacking_slot(r2, s2),
-        lacking_slot(r3, s3),
-    ]
+    zipped!(lacking_slot; *known, *wanted; r0 s0, r1 s1, r2 s2, r3 s3)
 }
 
 /// The pointer that is wanted where it is not known, else none.
@@ -76,14 +58,7 @@ fn lacking_pointers(
 ) -> [Option<Pointer>; 4]
     ensures { result ≡ zip2 lacking_pointer known.now wanted.now }
 {
-    let [r0, r1, r2, r3] = *known;
-    let [s0, s1, s2, s3] = *wanted;
-    [
-        lacking_pointer(r0, s0),
-        lacking_pointer(r1, s1),
-        lacking_pointer(r2, s2),
-        lacking_pointer(r3, s3),
-    ]
+    zipped!(lacking_pointer; *known, *wanted; r0 s0, r1 s1, r2 s2, r3 s3)
 }
 
 /// Whether the pair is wanted and not known.
@@ -96,16 +71,7 @@ fn lacking_pair(known: bool, wanted: bool) -> bool
 fn lacking_pairs(known: &[bool; 6], wanted: &[bool; 6]) -> [bool; 6]
     ensures { result ≡ zip2 lacking_pair known.now wanted.now }
 {
-    let [r0, r1, r2, r3, r4, r5] = *known;
-    let [s0, s1, s2, s3, s4, s5] = *wanted;
-    [
-        lacking_pair(r0, s0),
-        lacking_pair(r1, s1),
-        lacking_pair(r2, s2),
-        lacking_pair(r3, s3),
-        lacking_pair(r4, s4),
-        lacking_pair(r5, s5),
-    ]
+    zipped!(lacking_pair; *known, *wanted; r0 s0, r1 s1, r2 s2, r3 s3, r4 s4, r5 s5)
 }
 
 /// Of the row that is wanted, what the row that is known does not meet; else the open row.

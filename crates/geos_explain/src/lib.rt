@@ -27,6 +27,15 @@ macro_rules! put {
     ($out:expr; $($parts:tt)*) => { put!(@parts $out, [] $($parts)*) };
 }
 
+/// The array of what a function gives of the items of two arrays, pair by pair.
+macro_rules! zipped {
+    ($f:ident; $left:expr, $right:expr; $($a:ident $b:ident),+) => {{
+        let [$($a),+] = $left;
+        let [$($b),+] = $right;
+        [$($f($a, $b)),+]
+    }};
+}
+
 /// What was to be written was, or an allocation was refused.
 type Done = Result<(), AllocError>;
 

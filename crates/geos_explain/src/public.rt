@@ -110,15 +110,8 @@ fn missing_only(entry: SlotState, exit: SlotState) -> SlotState
 fn missing_slots(row: &Row, exit: &Row) -> Row
     ensures { result ≡ missing_slots row.now exit.now }
 {
-    let [r0, r1, r2, r3] = row.slots;
-    let [x0, x1, x2, x3] = exit.slots;
     let mut missing = Row::open();
-    missing.slots = [
-        missing_only(r0, x0),
-        missing_only(r1, x1),
-        missing_only(r2, x2),
-        missing_only(r3, x3),
-    ];
+    missing.slots = zipped!(missing_only; row.slots, exit.slots; r0 x0, r1 x1, r2 x2, r3 x3);
     missing
 }
 
@@ -137,15 +130,8 @@ fn kept_only(entry: SlotState, exit: SlotState) -> SlotState
 fn kept_slots(entry: &Row, exit: &Row) -> Row
     ensures { result ≡ kept_slots entry.now exit.now }
 {
-    let [e0, e1, e2, e3] = entry.slots;
-    let [x0, x1, x2, x3] = exit.slots;
     let mut kept = Row::open();
-    kept.slots = [
-        kept_only(e0, x0),
-        kept_only(e1, x1),
-        kept_only(e2, x2),
-        kept_only(e3, x3),
-    ];
+    kept.slots = zipped!(kept_only; entry.slots, exit.slots; e0 x0, e1 x1, e2 x2, e3 x3);
     kept
 }
 
