@@ -24,15 +24,13 @@ calls_on_at place from = elim (slice_get place.image.points from) [ None ↦ fal
 abbrev pub calling_on : Place → Option ℕ
 calling_on place = first_of place (calls_on_at place) place.routine.count
 
--- no budget serves, since the instruction at a pc is such a call
-unfoldable pub none_serves : Place → ℕ → List ℕ
-none_serves place from =
-    concat (codes ": no budget serves while CALL at" ∷ pc_text place.lines from
-    ∷ codes " names a routine that does not stand before this one" ∷ [])
-
 -- which budget serves: none where there is such a call, else the least that the potential is within
 unfoldable pub serving_words : Place → List ℕ
-serving_words place = elim (calling_on place) [ None ↦ budget_wish place.potential | Some from ↦ none_serves place from ]
+serving_words place = elim (calling_on place) [
+  | None ↦ budget_wish place.potential
+  | Some from ↦ concat (codes ": no budget serves while CALL at" ∷ pc_text place.lines from
+      ∷ codes " names a routine that does not stand before this one" ∷ [])
+]
 
 -- a potential is above the budget, which budget serves, and which counters are never set
 unfoldable pub over_words : Place → List ℕ

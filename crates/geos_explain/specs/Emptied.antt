@@ -1,5 +1,5 @@
 -- CALLs that leave slots empty, in an author's words.
-use Rattle.std.specs.Prelude.{ℕ, if◌then◌else◌, List, [], ◌∷◌, ◌++◌, Option, Some, None, slice_index_or, codes, decimal, take, unwrap_or}
+use Rattle.std.specs.Prelude.{ℕ, if◌then◌else◌, List, [], ◌∷◌, Option, Some, None, slice_index_or, codes, decimal, take, unwrap_or}
 use Rattle.std.specs.List.{concat}
 use Rattle.geos_image.specs.declared.row.SlotState.{SlotState}
 use Rattle.geos_image.specs.declared.row.SlotState.TheVariants.{Empty}
@@ -13,27 +13,15 @@ use Rattle.geos_explain.specs.Numbers.{pc_text}
 abbrev pub name_text : List ℕ → List ℕ
 name_text name = take (unwrap_or (text_end name) 16) name
 
--- a CALL leaves only what the lines of its routine say
-unfoldable pub emptying_text : List ℕ → Emptied → List ℕ
-emptying_text lines emptied =
+-- a CALL leaves a slot empty: that it is held is to be said in the lines of its routine, or, where that changes the slot, another is
+-- to be taken
+unfoldable pub emptied_text : List ℕ → ℕ → Emptied → List ℕ
+emptied_text lines a emptied =
     concat (codes "; CALL at" ∷ pc_text lines emptied.at ∷ codes " leaves what the out line of " ∷ name_text emptied.callee
-    ∷ codes " says" ∷ [])
-
--- that a slot is held is to be said in these lines
-unfoldable pub held_wish : ℕ → Emptied → List ℕ
-held_wish a emptied =
-    concat (codes ": say s" ∷ decimal a ∷ codes "=" ∷ state_word emptied.state
-    ∷ codes " in the in and out lines of " ∷ name_text emptied.callee ∷ [])
-
--- or, where that routine changes the slot, another is to be taken
-unfoldable pub other_wish : ℕ → Emptied → List ℕ
-other_wish a emptied =
-    concat (codes "; where " ∷ name_text emptied.callee ∷ codes " locks or unlocks s" ∷ decimal a
+    ∷ codes " says: say s" ∷ decimal a ∷ codes "=" ∷ state_word emptied.state
+    ∷ codes " in the in and out lines of " ∷ name_text emptied.callee
+    ∷ codes "; where " ∷ name_text emptied.callee ∷ codes " locks or unlocks s" ∷ decimal a
     ∷ codes " itself, hold the block in another slot" ∷ [])
-
--- a CALL leaves a slot empty, and what helps
-abbrev pub emptied_text : List ℕ → ℕ → Emptied → List ℕ
-emptied_text lines a emptied = emptying_text lines emptied ++ held_wish a emptied ++ other_wish a emptied
 
 -- the same, where what the slot held agrees with what it holds on the other way
 abbrev pub emptied_item : List ℕ → ℕ → Option Emptied → SlotState → List ℕ

@@ -21,10 +21,6 @@ MarksStarts image n marks = (pc : ℕ) → (is_marked marks pc ≡ true) ↔ ((r
 abbrev pub LeadsFrom : Parts → ℕ → ℕ → Type 0
 LeadsFrom image pc r = Leads (step_by image Ahead (stays image)) (start_of image.routines r) pc
 
--- control reaches a pc: such edges lead there from the first instruction of one
-abbrev pub IsReached : Parts → ℕ → Type 0
-IsReached image pc = (r : ℕ) × (r < length image.routines) × LeadsFrom image pc r
-
 -- whether it does
 unfoldable pub is_reached : Parts → ℕ → Bool
 is_reached image pc =

@@ -6,7 +6,6 @@ use Rattle.geos_image.specs.declared.instr.Instr.{Instr}
 use Rattle.geos_image.specs.declared.row.Row.{Row}
 use Rattle.geos_verify.specs.declared.place.Place.{Place as KnownPlace}
 use Rattle.geos_verify.specs.Places.{places}
-use Rattle.geos_image.specs.declared.routine.Routine.{Routine}
 use Rattle.geos_image.specs.Parts.{Parts}
 use Rattle.geos_listing.specs.Instrs.{name_of}
 use Rattle.geos_opcodes.specs.Facts.{word_of, uses_of, operands_of}
@@ -94,10 +93,6 @@ call_loss image p r =
     concat (codes " leaves what the out line of " ∷ name_at image r ∷ codes " says, and it does not say p" ∷ decimal p
     ∷ codes ": say it in the out line, or fetch it again" ∷ [])
 
--- the instruction was to set the pointer and was refused
-unfoldable pub refused_loss : ℕ → List ℕ
-refused_loss p = codes " goes to its label where it is refused, and has not set p" ++ decimal p ++ codes ": give it another label"
-
 -- an instruction that moves chunks moves what a pointer into slot b leads to, if the blocks of its slot a and of b may be one
 unfoldable pub moved_words : ℕ → ℕ → ℕ → List ℕ
 moved_words p a b =
@@ -117,20 +112,16 @@ use_loss i _ p b = codes " leaves p" ++ decimal p ++ codes " stale: fetch it aga
 unfoldable pub how_lost : Parts → Followed → Bool → KnownPlace → List ℕ
 how_lost image followed branch point =
     if forgets point.instr.opcode then call_loss image followed.p point.instr.imm
-    else if branch && sets point.instr (uses_of point.instr.opcode).pointer followed.p then refused_loss followed.p
+    else if branch && sets point.instr (uses_of point.instr.opcode).pointer followed.p
+    then codes " goes to its label where it is refused, and has not set p" ++ decimal followed.p ++ codes ": give it another label"
     else use_loss point.instr (uses_of point.instr.opcode).slot followed.p (slot_behind (with_hint point.row followed) followed.p)
 
--- an instruction lost a pointer on an edge
-unfoldable pub lost_point : Place → Followed → Edge → KnownPlace → List ℕ
-lost_point place followed edge point = named place.lines edge.from point ++ how_lost place.image followed edge.branch point
-
--- the same, if there is an instruction
+-- an instruction lost a pointer on an edge, if there is an instruction
 unfoldable pub lost_by : Place → Followed → Edge → List ℕ
-lost_by place followed edge = elim (slice_get (places place.image) edge.from) [ None ↦ [] | Some point ↦ lost_point place followed edge point ]
-
--- what a caller may bring, where the caller is a routine
-abbrev pub in_wish : Routine → ℕ → List ℕ
-in_wish routine p = if routine.public then [] else codes ", or say p" ++ decimal p ++ codes " in the in line"
+lost_by place followed edge = elim (slice_get (places place.image) edge.from) [
+  | None ↦ []
+  | Some point ↦ named place.lines edge.from point ++ how_lost place.image followed edge.branch point
+]
 
 -- another label, if an instruction is one whose refusal does not bring the pointer
 abbrev pub label_wish : List ℕ → Option ℕ → List ℕ
@@ -146,7 +137,8 @@ refused_at image (Some m) = refused_on image m.lost
 unfoldable pub unset_words : Place → ℕ → Option Meeting → List ℕ
 unset_words place p meeting =
     (codes "; p" ++ decimal p ++ codes " is not set on the way from the start of the routine: fetch it first")
-    ++ label_wish place.lines (refused_at place.image meeting) ++ in_wish place.routine p
+    ++ label_wish place.lines (refused_at place.image meeting)
+    ++ (if place.routine.public then [] else codes ", or say p" ++ decimal p ++ codes " in the in line")
 
 -- no way leads to a pc, or here
 unfoldable pub unreached_words : Place → ℕ → List ℕ

@@ -15,12 +15,6 @@ use Rattle.geos_explain.specs.Notes.{steps_text}
 use Rattle.geos_explain.specs.Numbers.{steps_word, verb}
 use Rattle.geos_explain.specs.Places.{Place}
 
--- so many steps are owed, and so many are left
-abbrev pub owed_words : ℕ → ℕ → List ℕ
-owed_words owed left =
-    concat (codes " " ∷ decimal owed ∷ steps_word (owed == 1) ∷ verb (owed == 1) ∷ codes " owed from here, "
-    ∷ decimal left ∷ verb (left == 1) ∷ codes " left" ∷ [])
-
 -- the same in whole, with what each counter must pay, and pays
 abbrev pub whole_words : Asked → Potential → List ℕ
 whole_words asked p =
@@ -32,7 +26,8 @@ abbrev pub asked_words : Asked → Potential → List ℕ
 asked_words asked p =
     if nat_le asked.steps (left_with asked.counter p)
     then whole_words asked p
-    else owed_words asked.steps (left_with asked.counter p)
+    else concat (codes " " ∷ decimal asked.steps ∷ steps_word (asked.steps == 1) ∷ verb (asked.steps == 1) ∷ codes " owed from here, "
+    ∷ decimal (left_with asked.counter p) ∷ verb (left_with asked.counter p == 1) ∷ codes " left" ∷ [])
 
 -- what the edge asks, if there is one
 abbrev pub asks_along : Place → Option Asked

@@ -1,5 +1,5 @@
 -- What is wrong with the slots and pointers that an instruction uses, rule by rule.
-use Rattle.std.specs.Prelude.{ℕ, Bool, true, false, ◌-◌, nat_lt, nat_le, ◌==◌, if◌then◌else◌, List, [], ◌∷◌, map, ◌++◌, Option, Some, None, codes, decimal}
+use Rattle.std.specs.Prelude.{ℕ, true, false, ◌-◌, nat_lt, nat_le, ◌==◌, if◌then◌else◌, List, [], ◌∷◌, map, ◌++◌, Option, Some, None, codes, decimal}
 use Rattle.std.specs.List.{concat}
 use Rattle.geos_image.specs.declared.instr.Instr.{Instr}
 use Rattle.geos_image.specs.declared.row.Row.{Row}
@@ -50,14 +50,10 @@ short_words p wanted row =
     concat (codes " " ∷ decimal wanted ∷ bytes_word (wanted == 1) ∷ verb (wanted == 1) ∷ codes " wanted behind p" ∷ decimal p
     ∷ codes ", and " ∷ decimal (least_at row p) ∷ verb (least_at row p == 1) ∷ codes " known there" ∷ [])
 
--- a word may be any number
-abbrev pub is_any : ℕ → Bool
-is_any most = most == 65535
-
 -- what is known of the word that is the index
 unfoldable pub index_known : ℕ → ℕ → List ℕ
 index_known w most =
-    if is_any most
+    if most == 65535
     then codes " nothing is known of w" ++ decimal w ++ codes ", the index"
     else concat (codes " w" ∷ decimal w ∷ codes "<=" ∷ decimal most ∷ codes " is known of the index" ∷ [])
 

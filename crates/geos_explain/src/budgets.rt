@@ -2,7 +2,7 @@
 
 ghost use Rattle.std.specs.Prelude.{◌≡◌, ◌++◌, OnOk};
 ghost use Rattle.geos_explain.specs.Places.{place_of};
-ghost use Rattle.geos_explain.specs.Budgets.{calls_on, calls_on_at, calling_on, none_serves, serving_words, over_words};
+ghost use Rattle.geos_explain.specs.Budgets.{calls_on, calls_on_at, calling_on, serving_words, over_words};
 ghost use Rattle.geos_explain.specs.Budgets.{WhatIsSaidOfBudgetsHolds};
 
 use crate::Done;
@@ -46,24 +46,16 @@ fn calling_on(place: &Place) -> Option<u16>
     first
 }
 
-/// No budget serves, since of such a call.
-#[tactic(auto, unfolding(crate::specs::Budgets::none_serves))]
-fn put_none_serves(out: &mut Vec<u8>, place: &Place, from: u16) -> Done
-    ensures { OnOk result (out.new.items ≡ out.old.items ++ none_serves (place_of place.now) from) }
-{
-    put!(out;
-        ": no budget serves while CALL at" (pc_part(place.lines, from))
-        " names a routine that does not stand before this one"
-    )
-}
-
 /// Which budget serves: none where there is such a call, else the least that the potential is within.
 #[tactic(auto, unfolding(crate::specs::Budgets::serving_words))]
 fn put_serving(out: &mut Vec<u8>, place: &Place) -> Done
     ensures { OnOk result (out.new.items ≡ out.old.items ++ serving_words (place_of place.now)) }
 {
     match calling_on(place) {
-        Some(from) => put_none_serves(out, place, from),
+        Some(from) => put!(out;
+            ": no budget serves while CALL at" (pc_part(place.lines, from))
+            " names a routine that does not stand before this one"
+        ),
         None => put_budget_wish(out, place.potential),
     }
 }

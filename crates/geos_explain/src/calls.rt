@@ -106,7 +106,7 @@ pub(crate) fn put_forgotten(out: &mut Vec<u8>, place: &Place, item: Item) -> Don
 }
 
 /// The same, if there is an item.
-pub(crate) fn put_forgotten_item(out: &mut Vec<u8>, place: &Place, item: Option<Item>) -> Done
+fn put_forgotten_item(out: &mut Vec<u8>, place: &Place, item: Option<Item>) -> Done
     ensures { OnOk result (out.new.items ≡ out.old.items ++ forgotten_item (place_of place.now) item) }
 {
     match item {

@@ -4,7 +4,7 @@ ghost use Rattle.std.specs.Prelude.{◌≡◌, ◌++◌, OnOk, IfOk};
 ghost use Rattle.geos_explain.specs.Causes.{differing_item, differing_items, is_refusable, edge_text, coming_from};
 ghost use Rattle.geos_explain.specs.Causes.{coming_text, call_text, touched_text, touched_before_text, not_set_text};
 ghost use Rattle.geos_explain.specs.Causes.{set_in_text, in_turn_text, in_ring_text};
-ghost use Rattle.geos_explain.specs.Causes.{by_word_text, dear_word_text, set_to_text, ways_text, calls_text, apart_text};
+ghost use Rattle.geos_explain.specs.Causes.{by_word_text, dear_word_text, set_to_text, ways_text, apart_text};
 ghost use Rattle.geos_explain.specs.Causes.{back_text, leads_text, within_text, cause_words, cause_text};
 
 use crate::Done;
@@ -57,7 +57,6 @@ fn is_refusable(instrs: &[Instr], from: u16) -> bool
 }
 
 /// Where an edge comes from, and that its instruction is refused there, if it is that of a refusal.
-#[tactic(auto, unfolding(crate::specs::Causes::refusal_text))]
 fn put_edge(out: &mut Vec<u8>, lines: &[u32], instrs: &[Instr], edge: Edge) -> Done
     ensures { OnOk result (out.new.items ≡ out.old.items ++ edge_text lines.now instrs.now edge) }
 {
@@ -97,7 +96,7 @@ fn put_coming(
 }
 
 /// Slots differ where ways meet.
-#[tactic(auto, unfolding(crate::specs::Causes::meeting_text, crate::specs::Causes::other_text, crate::specs::Causes::ways_text))]
+#[tactic(auto, unfolding(crate::specs::Causes::ways_text))]
 fn put_ways(out: &mut Vec<u8>, lines: &[u32], instrs: &[Instr], apart: &Apart) -> Done
     ensures { OnOk result (out.new.items ≡ out.old.items ++ ways_text lines.now instrs.now apart.now) }
 {
@@ -107,20 +106,13 @@ fn put_ways(out: &mut Vec<u8>, lines: &[u32], instrs: &[Instr], apart: &Apart) -
     put_coming(out, lines, instrs, &apart.second, &apart.first)
 }
 
-/// The CALLs by which slots are empty on a way that agreed with those of another.
-fn put_calls(out: &mut Vec<u8>, lines: &[u32], coming: &Coming, other: &Coming) -> Done
-    ensures { OnOk result (out.new.items ≡ out.old.items ++ calls_text lines.now coming.now other.now) }
-{
-    put_emptied_items(out, lines, &coming.emptied, &other.row.slots)
-}
-
 /// Slots differ where ways meet, and the CALLs by which they do.
 fn put_apart(out: &mut Vec<u8>, lines: &[u32], instrs: &[Instr], apart: &Apart) -> Done
     ensures { OnOk result (out.new.items ≡ out.old.items ++ apart_text lines.now instrs.now apart.now) }
 {
     put_ways(out, lines, instrs, apart)?;
-    put_calls(out, lines, &apart.first, &apart.second)?;
-    put_calls(out, lines, &apart.second, &apart.first)
+    put_emptied_items(out, lines, &apart.first.emptied, &apart.second.row.slots)?;
+    put_emptied_items(out, lines, &apart.second.emptied, &apart.first.row.slots)
 }
 
 /// What the way of a LOOP to its target does, which may lie ahead.
@@ -143,7 +135,7 @@ fn put_back(out: &mut Vec<u8>, text: &str, lines: &[u32], back: &BackWay) -> Don
 }
 
 /// A counter is set within its loop.
-#[tactic(auto, unfolding(crate::specs::Causes::set_text, crate::specs::Causes::within_text))]
+#[tactic(auto, unfolding(crate::specs::Causes::within_text))]
 fn put_within(out: &mut Vec<u8>, lines: &[u32], within: &Within) -> Done
     ensures { OnOk result (out.new.items ≡ out.old.items ++ within_text lines.now within.now) }
 {
@@ -183,7 +175,7 @@ fn put_touched_before(out: &mut Vec<u8>, lines: &[u32], within: &Within) -> Done
 }
 
 /// Nothing sets a counter on a way to its loop.
-#[tactic(auto, unfolding(crate::specs::Causes::nothing_sets_text, crate::specs::Causes::not_set_text))]
+#[tactic(auto, unfolding(crate::specs::Causes::not_set_text))]
 fn put_not_set(out: &mut Vec<u8>, lines: &[u32], own: &LoopOn) -> Done
     ensures { OnOk result (out.new.items ≡ out.old.items ++ not_set_text lines.now own.now) }
 {
@@ -192,7 +184,7 @@ fn put_not_set(out: &mut Vec<u8>, lines: &[u32], own: &LoopOn) -> Done
 }
 
 /// A counter is set in the loop of a way that leads back.
-#[tactic(auto, unfolding(crate::specs::Causes::set_at_text, crate::specs::Causes::set_in_text))]
+#[tactic(auto, unfolding(crate::specs::Causes::set_in_text))]
 fn put_set_in(out: &mut Vec<u8>, lines: &[u32], counter: u8, at: u16, back: &BackWay) -> Done
     ensures { OnOk result (out.new.items ≡ out.old.items ++ set_in_text lines.now counter at back.now) }
 {

@@ -3,8 +3,7 @@
 ghost use Rattle.std.specs.Prelude.{◌≡◌, ◌<◌, ◌++◌, length, IfSome, OnOk};
 ghost use Rattle.geos_image.specs.Legal.{text_end};
 ghost use Rattle.geos_causes.specs.Slots.{slots_agree};
-ghost use Rattle.geos_explain.specs.Emptied.{name_text, emptying_text, held_wish, other_wish};
-ghost use Rattle.geos_explain.specs.Emptied.{emptied_text, emptied_item, emptied_items};
+ghost use Rattle.geos_explain.specs.Emptied.{name_text, emptied_text, emptied_item, emptied_items};
 
 use crate::Done;
 use crate::numbers::pc_part;
@@ -28,46 +27,19 @@ fn name_text(name: &[u8; 16]) -> &[u8]
     &name[..end]
 }
 
-/// A CALL leaves only what the lines of its routine say.
-#[tactic(auto, unfolding(crate::specs::Emptied::emptying_text))]
-fn put_emptying(out: &mut Vec<u8>, lines: &[u32], emptied: &Emptied) -> Done
-    ensures { OnOk result (out.new.items ≡ out.old.items ++ emptying_text lines.now emptied.now) }
-{
-    put!(out;
-        "; CALL at" (pc_part(lines, emptied.at)) " leaves what the out line of "
-        bytes(name_text(&emptied.callee)) " says"
-    )
-}
-
-/// That the slot is held is to be said in these lines.
-#[tactic(auto, unfolding(crate::specs::Emptied::held_wish))]
-fn put_held_wish(out: &mut Vec<u8>, a: usize, emptied: &Emptied) -> Done
-    ensures { OnOk result (out.new.items ≡ out.old.items ++ held_wish a emptied.now) }
-{
-    put!(out;
-        ": say s" {a} "=" [state_word(emptied.state)] " in the in and out lines of "
-        bytes(name_text(&emptied.callee))
-    )
-}
-
-/// Or, where that routine changes the slot, another is to be taken.
-#[tactic(auto, unfolding(crate::specs::Emptied::other_wish))]
-fn put_other_wish(out: &mut Vec<u8>, a: usize, emptied: &Emptied) -> Done
-    ensures { OnOk result (out.new.items ≡ out.old.items ++ other_wish a emptied.now) }
-{
-    put!(out;
-        "; where " bytes(name_text(&emptied.callee)) " locks or unlocks s" {a}
-        " itself, hold the block in another slot"
-    )
-}
-
-/// A CALL leaves a slot empty, and what helps.
+/// A CALL leaves a slot empty: that it is held is to be said in the lines of its routine, or, where that changes the slot, another
+/// is to be taken.
+#[tactic(auto, unfolding(crate::specs::Emptied::emptied_text))]
 fn put_emptied(out: &mut Vec<u8>, lines: &[u32], a: usize, emptied: &Emptied) -> Done
     ensures { OnOk result (out.new.items ≡ out.old.items ++ emptied_text lines.now a emptied.now) }
 {
-    put_emptying(out, lines, emptied)?;
-    put_held_wish(out, a, emptied)?;
-    put_other_wish(out, a, emptied)
+    let name = name_text(&emptied.callee);
+    put!(out;
+        "; CALL at" (pc_part(lines, emptied.at)) " leaves what the out line of " bytes(name)
+        " says: say s" {a} "=" [state_word(emptied.state)] " in the in and out lines of "
+        bytes(name) "; where " bytes(name) " locks or unlocks s" {a}
+        " itself, hold the block in another slot"
+    )
 }
 
 /// The same, where what the slot held agrees with what it holds on the other way.

@@ -14,7 +14,7 @@ use crate::place::Place;
 use crate::uses::slot_behind;
 use crate::ways::{Followed, Way, forgets, is_stale, sets, with_hint};
 use geos_flow::Edge;
-use geos_image::{Instr, Routine, Row};
+use geos_image::{Instr, Row};
 use geos_opcodes::{PointerUse, SlotUse};
 use geos_text::{Part, put_numbered};
 use geos_verify::{Place as KnownPlace, pointer_at, uses_at};
@@ -174,7 +174,7 @@ fn put_use_loss(out: &mut Vec<u8>, i: &Instr, slot: SlotUse, p: u8, b: u8) -> Do
 }
 
 /// How the instruction lost the pointer, at its target or else on the next instruction.
-#[tactic(auto, unfolding(crate::specs::Stale::how_lost, crate::specs::Stale::refused_loss))]
+#[tactic(auto, unfolding(crate::specs::Stale::how_lost))]
 fn put_how_lost(
     out: &mut Vec<u8>,
     image: &Filled,
@@ -201,7 +201,7 @@ fn put_how_lost(
 }
 
 /// The instruction lost the pointer on an edge, if there is an instruction.
-#[tactic(auto, unfolding(crate::specs::Stale::lost_by, crate::specs::Stale::lost_point))]
+#[tactic(auto, unfolding(crate::specs::Stale::lost_by))]
 fn put_lost_by(out: &mut Vec<u8>, place: &Place, followed: Followed, edge: Edge) -> Done
     ensures { OnOk result (out.new.items ≡ out.old.items ++ lost_by (place_of place.now) followed edge) }
 {

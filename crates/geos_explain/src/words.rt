@@ -4,14 +4,13 @@ ghost use Rattle.std.specs.Prelude.{◌≡◌, ◌≤◌, ◌+◌, ◌++◌, dro
 ghost use Rattle.geos_text.specs.Parts.{part_text};
 ghost use Rattle.geos_explain.specs.Places.{place_of};
 ghost use Rattle.geos_explain.specs.Words.{leaves_words, entry_words, call_here, wanted_behind};
-ghost use Rattle.geos_explain.specs.Words.{wanted_behind_items, branching_words, edge_words, dead_wish, edge_here, why_past, past_here};
-ghost use Rattle.geos_explain.specs.Words.{mark_item, unmarked_here, slot_item, slot_here, call_wish, exit_here, words, refusal_head, refusal_line};
-ghost use Rattle.geos_opcodes.specs.Facts.{uses_of};
+ghost use Rattle.geos_explain.specs.Words.{wanted_behind_items, branching_words, edge_words, edge_here, past_here};
+ghost use Rattle.geos_explain.specs.Words.{unmarked_here, slot_here, call_wish, exit_here, words, refusal_head, refusal_line};
 ghost use Rattle.geos_verify.specs.RuleText.{rule_number};
 
 use crate::Done;
 use crate::budgets::put_over;
-use crate::calls::{put_forgotten, put_forgotten_item, put_forgotten_items, put_lent_items};
+use crate::calls::{put_forgotten, put_forgotten_items, put_lent_items};
 use crate::forgotten::Item;
 use crate::held::put_exit;
 use crate::lacks::{lacking, put_lacking};
@@ -27,7 +26,7 @@ use crate::stale::put_stale;
 use crate::steps::put_unpaid;
 use crate::uses::{changed_slot, put_held, put_nowhere, put_past, put_slot, put_unmarked};
 use crate::written::put_written;
-use geos_image::{Instr, Opcode, Routine, Row};
+use geos_image::{Opcode, Routine, Row};
 use geos_text::Part;
 use geos_verify::{Rule, after, falls_through, has_edge, has_place, is_empty, slot_state};
 
@@ -138,10 +137,12 @@ fn put_edge(out: &mut Vec<u8>, place: &Place) -> Done
     }
 }
 
-/// Where nothing leads to the instruction, it is to be taken out.
-fn put_dead_wish(out: &mut Vec<u8>, place: &Place) -> Done
-    ensures { OnOk result (out.new.items ≡ out.old.items ++ dead_wish (place_of place.now)) }
+/// A row does not fit that at the end of an edge; where nothing leads to the instruction, it is to be taken out.
+#[tactic(auto, unfolding(crate::specs::Words::edge_here))]
+fn put_edge_here(out: &mut Vec<u8>, place: &Place) -> Done
+    ensures { OnOk result (out.new.items ≡ out.old.items ++ edge_here (place_of place.now)) }
 {
+    put_edge(out, place)?;
     if is_reached(place.image, place.marks, place.pc) {
         Ok(())
     } else {
@@ -149,40 +150,17 @@ fn put_dead_wish(out: &mut Vec<u8>, place: &Place) -> Done
     }
 }
 
-/// A row does not fit that at the end of an edge, and what helps.
-#[tactic(auto, unfolding(crate::specs::Words::edge_here))]
-fn put_edge_here(out: &mut Vec<u8>, place: &Place) -> Done
-    ensures { OnOk result (out.new.items ≡ out.old.items ++ edge_here (place_of place.now)) }
-{
-    put_edge(out, place)?;
-    put_dead_wish(out, place)
-}
-
-/// Why what is wanted is not known: an instruction moves the index going round, or a call forgets it.
-#[tactic(auto, unfolding(crate::specs::Words::why_past))]
-fn put_why_past(out: &mut Vec<u8>, place: &Place, item: Item) -> Done
-    ensures { OnOk result (out.new.items ≡ out.old.items ++ why_past (place_of place.now) item) }
-{
-    put_moved_round(out, place, item)?;
-    put_forgotten(out, place, item)
-}
-
-/// A read or a write may pass the end of what its pointer leads to, why that is not known to be wide enough, and what helps.
+/// A read or a write may pass the end of what its pointer leads to; why that is not known to be wide enough: an instruction moves
+/// the index going round, or a call forgets it; and what helps.
 #[tactic(auto, unfolding(crate::specs::Words::past_here))]
 fn put_past_here(out: &mut Vec<u8>, place: &Place) -> Done
     ensures { OnOk result (out.new.items ≡ out.old.items ++ past_here (place_of place.now)) }
 {
+    let item = past_item(place.i, place.row);
     put_past(out, place.i, place.row)?;
-    put_why_past(out, place, past_item(place.i, place.row))?;
+    put_moved_round(out, place, item)?;
+    put_forgotten(out, place, item)?;
     put_past_wish(out, place.i, place.row)
-}
-
-/// The mark of the slot whose block the instruction changes.
-fn mark_item(i: &Instr, row: &Row) -> Item
-    ensures { result ≡ mark_item i.now (uses_of i.now.opcode).pointer row.now }
-{
-    let a = changed_slot(i, i.opcode.uses().pointer, row);
-    Item::Slot(a, as_marked(slot_state(row, a)))
 }
 
 /// A block is changed that may not be marked, what marks it, and which call forgets the mark.
@@ -191,18 +169,9 @@ fn put_unmarked_here(out: &mut Vec<u8>, place: &Place) -> Done
     ensures { OnOk result (out.new.items ≡ out.old.items ++ unmarked_here (place_of place.now)) }
 {
     put_unmarked(out, place.i, place.row)?;
-    put_forgotten(out, place, mark_item(place.i, place.row))
-}
-
-/// The slot of the instruction, where it is empty.
-fn slot_item(i: &Instr, row: &Row) -> Option<Item>
-    ensures { result ≡ slot_item i.now row.now }
-{
-    if is_empty(slot_state(row, i.a)) {
-        Some(Item::Held(i.a))
-    } else {
-        None
-    }
+    let a = changed_slot(place.i, place.i.opcode.uses().pointer, place.row);
+    let mark = Item::Slot(a, as_marked(slot_state(place.row, a)));
+    put_forgotten(out, place, mark)
 }
 
 /// A slot is not held as the instruction wants it, and which call forgets what it held.
@@ -211,7 +180,11 @@ fn put_slot_here(out: &mut Vec<u8>, place: &Place) -> Done
     ensures { OnOk result (out.new.items ≡ out.old.items ++ slot_here (place_of place.now)) }
 {
     put_slot(out, place.i, place.row)?;
-    put_forgotten_item(out, place, slot_item(place.i, place.row))
+    if is_empty(slot_state(place.row, place.i.a)) {
+        put_forgotten(out, place, Item::Held(place.i.a))
+    } else {
+        Ok(())
+    }
 }
 
 /// What is to be said of the routine that a call names, which call forgets what that wants, and what makes it known.
@@ -229,14 +202,6 @@ fn put_call_wish(out: &mut Vec<u8>, place: &Place) -> Done
     put_lent_items(out, place, place.i.imm, callee)?;
     put_forgotten_items(out, place, &lacking(place.row, &callee.entry))?;
     put_mends(out, place.row, &callee.entry)
-}
-
-/// What is wrong at a call, and what helps.
-fn put_call_here(out: &mut Vec<u8>, place: &Place) -> Done
-    ensures { OnOk result (out.new.items ≡ out.old.items ++ (call_here (place_of place.now) ++ call_wish (place_of place.now))) }
-{
-    put_call(out, place)?;
-    put_call_wish(out, place)
 }
 
 /// A row does not fit the exit row, which call forgets what that wants, what makes it known, and why a pointer is not.
@@ -266,7 +231,10 @@ fn put_words(out: &mut Vec<u8>, place: &Place, rule: Rule) -> Done
         Rule::LocksIntoHeld => put_held(out, i, row),
         Rule::WrongSlot => put_slot_here(out, place),
         Rule::CommitsHeld => put_written(out, place),
-        Rule::CallMisfit => put_call_here(out, place),
+        Rule::CallMisfit => {
+            put_call(out, place)?;
+            put_call_wish(out, place)
+        }
         Rule::ExitMisfit => put_exit_here(out, place),
         Rule::EdgeMisfit => put_edge_here(out, place),
         Rule::EdgeUnpaid => put_unpaid(out, place),

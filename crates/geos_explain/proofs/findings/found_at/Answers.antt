@@ -1,4 +1,4 @@
-use Rattle.std.proofs.Common.{◌≡◌, Some, None, Option, subst, sym, ◌∙◌}
+use Rattle.std.proofs.Common.{◌≡◌, Some, None, subst, sym, ◌∙◌}
 use Rattle.geos_verify.specs.declared.rule.Rule.{Rule}
 use Rattle.geos_explain.specs.Findings.{AreFound}
 use Rattle.geos_explain.specs.Places.{explained_of, place_at, place_of}
