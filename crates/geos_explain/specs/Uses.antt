@@ -1,5 +1,5 @@
 -- What is wrong with the slots and pointers that an instruction uses, rule by rule.
-use Rattle.std.specs.Prelude.{ℕ, true, false, ◌-◌, nat_lt, nat_le, ◌==◌, if◌then◌else◌, List, [], ◌∷◌, map, ◌++◌, Option, Some, None, codes, decimal}
+use Rattle.std.specs.Prelude.{ℕ, true, false, ◌-◌, nat_le, ◌==◌, if◌then◌else◌, List, [], ◌∷◌, map, ◌++◌, Option, Some, None, codes, decimal}
 use Rattle.std.specs.List.{concat}
 use Rattle.geos_image.specs.declared.instr.Instr.{Instr}
 use Rattle.geos_image.specs.declared.row.Row.{Row}
@@ -13,15 +13,11 @@ use Rattle.geos_opcodes.specs.declared.uses.Kind.{Kind}
 use Rattle.geos_opcodes.specs.declared.uses.Kind.TheVariants.{MemBlock, VmBlock, DbGroup}
 use Rattle.geos_opcodes.specs.declared.uses.SlotUse.{SlotUse}
 use Rattle.geos_opcodes.specs.declared.uses.SlotUse.TheVariants.{Unlocks, Marks, Compares}
-use Rattle.geos_opcodes.specs.declared.uses.Width.{Width}
-use Rattle.geos_opcodes.specs.declared.uses.Offset.{Offset}
-use Rattle.geos_opcodes.specs.declared.uses.Offset.TheVariants.{Indexed}
 use Rattle.geos_opcodes.specs.declared.uses.PointerUse.{PointerUse}
-use Rattle.geos_opcodes.specs.declared.uses.PointerUse.TheVariants.{Loads, Stores, Copies}
+use Rattle.geos_opcodes.specs.declared.uses.PointerUse.TheVariants.{Stores, Copies}
 use Rattle.geos_listing.specs.Rows.{state_word}
-use Rattle.geos_verify.specs.Uses.{bytes_in}
-use Rattle.geos_verify.specs.Rows.{bound, slot_state, pointer_at, leads_nowhere}
-use Rattle.geos_verify.specs.Rules.{reach, least_at}
+use Rattle.geos_verify.specs.Rows.{slot_state, pointer_at, leads_nowhere}
+use Rattle.geos_verify.specs.Rules.{least_at}
 use Rattle.geos_explain.specs.Numbers.{either, bytes_word, verb, items_in}
 
 -- a slot, and what the row says that it holds
@@ -71,17 +67,6 @@ known_bytes p least = concat (codes ": p" ∷ decimal p ∷ codes " is known to 
 -- an index may be too high for the bytes behind its pointer
 unfoldable pub index_words : ℕ → ℕ → ℕ → ℕ → ℕ → List ℕ
 index_words w most wide p least = index_known w most ++ index_wanted w wide least ++ known_bytes p least
-
--- a read or a write at an offset may reach past the bytes behind its pointer
-abbrev pub reach_words : Instr → Width → Offset → Row → List ℕ
-reach_words i width Indexed row = index_words i.c (bound row i.c) (bytes_in width) i.b (least_at row i.b)
-reach_words i width offset row = short_words i.b (reach i width offset row) row
-
--- a read or a write may reach past the bytes behind its pointer
-unfoldable pub past_words : Instr → PointerUse → Row → List ℕ
-past_words i (Loads width offset) row = reach_words i width offset row
-past_words i (Stores width offset) row = reach_words i width offset row
-past_words i _ row = if nat_lt (least_at row i.a) i.imm then short_words i.a i.imm row else short_words i.b i.imm row
 
 -- the slot that a pointer leads into
 abbrev pub slot_behind : Row → ℕ → ℕ

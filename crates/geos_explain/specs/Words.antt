@@ -22,11 +22,11 @@ use Rattle.geos_explain.specs.Numbers.{is_or_are, are_text, label_text, pc_text}
 use Rattle.geos_explain.specs.Held.{exit_words}
 use Rattle.geos_explain.specs.Public.{public_words}
 use Rattle.geos_explain.specs.Written.{written_words}
-use Rattle.geos_explain.specs.Uses.{changed_slot, nowhere_words, past_words, unmarked_words, held_words, slot_words}
+use Rattle.geos_explain.specs.Uses.{changed_slot, nowhere_words, unmarked_words, held_words, slot_words}
 use Rattle.geos_explain.specs.declared.forgotten.Item.TheVariants.{Slot, Held}
 use Rattle.geos_explain.specs.Calls.{forgotten_text, forgotten_items, lent_items}
 use Rattle.geos_explain.specs.Moved.{moved_text}
-use Rattle.geos_explain.specs.Past.{past_item, past_wish}
+use Rattle.geos_explain.specs.Past.{past_at, past_words, past_item, past_wish}
 use Rattle.geos_explain.specs.Mends.{mends}
 use Rattle.geos_explain.specs.Stale.{stale_words}
 use Rattle.geos_explain.specs.Returned.{unknown_item}
@@ -99,9 +99,9 @@ edge_here place = edge_words place ++ (if is_reached place.image place.pc then [
 -- the index going round, or a call forgets it; and what helps
 unfoldable pub past_here : Place → List ℕ
 past_here place =
-    let pointer = (uses_of place.i.opcode).pointer in
-    let item = past_item place.i pointer place.row in
-    past_words place.i pointer place.row ++ moved_text place item ++ forgotten_text place item ++ past_wish place.i pointer place.row
+    let past = past_at place.i (uses_of place.i.opcode).pointer place.row in
+    let item = past_item place.i place.row past in
+    past_words place.i place.row past ++ moved_text place item ++ forgotten_text place item ++ past_wish place.i place.row past
 
 -- a block is changed that may not be marked, what marks it, and which call forgets the mark
 unfoldable pub unmarked_here : Place → List ℕ

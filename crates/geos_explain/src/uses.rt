@@ -1,19 +1,17 @@
 //! What is wrong with the slots and pointers that an instruction uses.
 
 ghost use Rattle.std.specs.Prelude.{◌≡◌, ◌++◌, OnOk};
-ghost use Rattle.geos_image.specs.Fields.{FieldsFit};
 ghost use Rattle.geos_opcodes.specs.Facts.{uses_of};
-ghost use Rattle.geos_verify.specs.Uses.{OffsetFits};
 ghost use Rattle.geos_explain.specs.Uses.{state_item, nowhere_only, leading_nowhere, nowhere_words, short_words, index_known, index_wanted};
-ghost use Rattle.geos_explain.specs.Uses.{known_bytes, index_words, reach_words, past_words, slot_behind, changed_slot, mark_word, unmarked_words};
+ghost use Rattle.geos_explain.specs.Uses.{known_bytes, index_words, slot_behind, changed_slot, mark_word, unmarked_words};
 ghost use Rattle.geos_explain.specs.Uses.{not_empty, held_words, kind_wish, mark_wish, unlock_wish, slot_wish, serving, other_item, slot_words};
 
 use crate::Done;
 use crate::numbers::{either, is_one_item, written_from};
 use geos_image::{Instr, Pointer, Row, SlotState};
 use geos_listing::{put_items, state_word};
-use geos_opcodes::{Kind, Offset, PointerUse, SlotUse, Width};
-use geos_verify::{bytes_in, leads_nowhere, least_at, pointer_at, reach, slot_state, uses_at};
+use geos_opcodes::{Kind, PointerUse, SlotUse};
+use geos_verify::{leads_nowhere, least_at, pointer_at, slot_state};
 
 /// A slot, and what the row says that it holds.
 #[tactic(auto, unfolding(crate::specs::Uses::state_item))]
@@ -66,7 +64,7 @@ pub(crate) fn put_nowhere(out: &mut Vec<u8>, row: &Row) -> Done
 
 /// So many bytes are wanted behind a pointer, and how many are known there.
 #[tactic(auto, unfolding(crate::specs::Uses::short_words))]
-fn put_short(out: &mut Vec<u8>, p: u8, wanted: u32, row: &Row) -> Done
+pub(crate) fn put_short(out: &mut Vec<u8>, p: u8, wanted: u32, row: &Row) -> Done
     ensures { OnOk result (out.new.items ≡ out.old.items ++ short_words p wanted row.now) }
 {
     let least = least_at(row, p);
@@ -116,44 +114,12 @@ fn put_known_bytes(out: &mut Vec<u8>, p: u8, least: u16) -> Done
 
 /// An index may be too high for the bytes behind its pointer.
 #[tactic(auto, unfolding(crate::specs::Uses::index_words))]
-fn put_index_words(out: &mut Vec<u8>, index: Index, wide: u16, p: u8, least: u16) -> Done
+pub(crate) fn put_index_words(out: &mut Vec<u8>, index: Index, wide: u16, p: u8, least: u16) -> Done
     ensures { OnOk result (out.new.items ≡ out.old.items ++ index_words index.w index.most wide p least) }
 {
     put_index_known(out, index)?;
     put_index_wanted(out, index.w, wide, least)?;
     put_known_bytes(out, p, least)
-}
-
-/// A read or a write at the offset may reach past the bytes behind its pointer.
-fn put_reach(out: &mut Vec<u8>, i: &Instr, width: Width, offset: Offset, row: &Row) -> Done
-    requires { OffsetFits offset i.now }
-    ensures { OnOk result (out.new.items ≡ out.old.items ++ reach_words i.now width offset row.now) }
-{
-    match offset {
-        Offset::Indexed => {
-            let most = row.bounds[usize::from(i.c)];
-            let index = Index { w: i.c, most };
-            put_index_words(out, index, bytes_in(width), i.b, least_at(row, i.b))
-        }
-        _ => put_short(out, i.b, reach(i, width, offset, row), row),
-    }
-}
-
-/// A read or a write may reach past the bytes behind its pointer.
-#[tactic(auto, unfolding(crate::specs::Uses::past_words))]
-pub(crate) fn put_past(out: &mut Vec<u8>, i: &Instr, row: &Row) -> Done
-    requires { FieldsFit i.now.opcode i.now }
-    ensures { OnOk result (out.new.items ≡ out.old.items ++ past_words i.now (uses_of i.now.opcode).pointer row.now) }
-{
-    match uses_at(i).pointer {
-        PointerUse::Loads(width, offset) | PointerUse::Stores(width, offset) => {
-            put_reach(out, i, width, offset, row)
-        }
-        _ => {
-            let p = if least_at(row, i.a) < i.imm { i.a } else { i.b };
-            put_short(out, p, u32::from(i.imm), row)
-        }
-    }
 }
 
 /// The slot that a pointer leads into.

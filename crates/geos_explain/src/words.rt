@@ -18,13 +18,13 @@ use crate::led::is_reached;
 use crate::mends::{as_marked, put_mends};
 use crate::moved::put_moved_round;
 use crate::numbers::{is_or_are, label_part, pc_part, put_are, written_from};
-use crate::past::{past_item, put_past_wish};
+use crate::past::{past_at, past_item, put_past, put_past_wish};
 use crate::place::Place;
 use crate::public::put_public;
 use crate::returned::put_unknown_item;
 use crate::stale::put_stale;
 use crate::steps::put_unpaid;
-use crate::uses::{changed_slot, put_held, put_nowhere, put_past, put_slot, put_unmarked};
+use crate::uses::{changed_slot, put_held, put_nowhere, put_slot, put_unmarked};
 use crate::written::put_written;
 use geos_image::{Opcode, Routine, Row};
 use geos_text::Part;
@@ -156,11 +156,12 @@ fn put_edge_here(out: &mut Vec<u8>, place: &Place) -> Done
 fn put_past_here(out: &mut Vec<u8>, place: &Place) -> Done
     ensures { OnOk result (out.new.items ≡ out.old.items ++ past_here (place_of place.now)) }
 {
-    let item = past_item(place.i, place.row);
-    put_past(out, place.i, place.row)?;
+    let past = past_at(place.i, place.row);
+    let item = past_item(place.i, place.row, past);
+    put_past(out, place.i, place.row, past)?;
     put_moved_round(out, place, item)?;
     put_forgotten(out, place, item)?;
-    put_past_wish(out, place.i, place.row)
+    put_past_wish(out, place.i, place.row, past)
 }
 
 /// A block is changed that may not be marked, what marks it, and which call forgets the mark.
