@@ -1,11 +1,6 @@
 -- Which budget serves a routine.
 use Rattle.std.specs.Prelude.{◌≡◌, ℕ, Bool, true, false, ◌&&◌, not, nat_lt, List, [], ◌∷◌, ◌++◌, Option, Some, None, slice_get, codes}
-use Rattle.std.specs.List.{concat}
-use Rattle.geos_image.specs.declared.instr.Instr.{Instr}
-use Rattle.geos_image.specs.declared.point.Point.{Point}
-use Rattle.geos_image.specs.declared.row.Row.{Row}
-use Rattle.geos_verify.specs.Rules.{call_misfits}
-use Rattle.geos_verify.specs.Touched.{calls}
+use Rattle.geos_explain.specs.Below.{concat, Instr, Point, Row, call_misfits, calls}
 use Rattle.geos_explain.specs.Notes.{budget_words, budget_wish}
 use Rattle.geos_explain.specs.Numbers.{pc_text}
 use Rattle.geos_explain.specs.Places.{Place, first_of}

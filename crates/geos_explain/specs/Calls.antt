@@ -1,14 +1,6 @@
 -- What is said of a call that forgets what is to be known at a place.
 use Rattle.std.specs.Prelude.{ℕ, true, ◌&&◌, not, nat_lt, ◌==◌, false, if◌then◌else◌, List, [], ◌∷◌, ◌++◌, Option, Some, None, slice_get, slice_index_or, slice_set, codes, decimal}
-use Rattle.std.specs.List.{concat}
-use Rattle.geos_verify.specs.declared.place.Place.{Place as KnownPlace}
-use Rattle.geos_verify.specs.Places.{places}
-use Rattle.geos_image.specs.declared.row.Row.{Row}
-use Rattle.geos_image.specs.declared.routine.Routine.{Routine}
-use Rattle.geos_image.specs.Open.{open_row}
-use Rattle.geos_listing.specs.Rows.{texts_below, row_items, state_word}
-use Rattle.geos_listing.specs.Instrs.{name_of}
-use Rattle.geos_verify.specs.Rows.{bound, is_empty, pointer_at, slot_state}
+use Rattle.geos_explain.specs.Below.{concat, KnownPlace, places, Row, Routine, open_row, texts_below, row_items, state_word, name_of, bound, is_empty, pointer_at, slot_state}
 use Rattle.geos_explain.specs.declared.forgotten.Item.{Item}
 use Rattle.geos_explain.specs.declared.forgotten.Item.TheVariants.{Bound, Slot, Held, Leads, Apart}
 use Rattle.geos_explain.specs.Changed.{changed_by, changed_words}

@@ -1,25 +1,6 @@
 -- Why no rows or no numbers of steps are found, in an author's words.
 use Rattle.std.specs.Prelude.{ℕ, Bool, false, ◌&&◌, nat_lt, if◌then◌else◌, List, [], ◌∷◌, ◌++◌, Some, None, slice_get, slice_index_or, codes, decimal}
-use Rattle.std.specs.List.{concat}
-use Rattle.geos_opcodes.specs.Facts.{operands_of}
-use Rattle.geos_image.specs.declared.instr.Instr.{Instr}
-use Rattle.geos_image.specs.declared.row.SlotState.{SlotState}
-use Rattle.geos_image.specs.declared.row.SlotState.TheVariants.{Empty}
-use Rattle.geos_listing.specs.Rows.{texts_below, state_word}
-use Rattle.geos_verify.specs.Rows.{is_empty}
-use Rattle.geos_causes.specs.Slots.{slots_agree}
-use Rattle.geos_flow.specs.declared.edge.Edge.{Edge}
-use Rattle.geos_causes.specs.declared.apart.Apart.{Apart}
-use Rattle.geos_causes.specs.declared.apart.Coming.{Coming}
-use Rattle.geos_causes.specs.declared.back_way.BackWay.{BackWay}
-use Rattle.geos_causes.specs.declared.cause.Within.{Within}
-use Rattle.geos_causes.specs.declared.cause.LoopOn.{LoopOn}
-use Rattle.geos_causes.specs.declared.cause.LoopPair.{LoopPair}
-use Rattle.geos_causes.specs.declared.cause.LoopRing.{LoopRing}
-use Rattle.geos_causes.specs.declared.cause.ByWord.{ByWord}
-use Rattle.geos_causes.specs.declared.cause.ByNumber.{ByNumber}
-use Rattle.geos_causes.specs.declared.cause.Cause.{Cause}
-use Rattle.geos_causes.specs.declared.cause.Cause.TheVariants.{SlotsDiffer, NoLoop, SetWithin, SetAgain, TouchedWithin, TouchedBefore, NotSet, InTurn, InRing, StepsPass, WordUnbounded, NumberHigh, WordDear, NumberDear, GivenUp, StepsMayPass, NoSteps, Unfound, Unknown}
+use Rattle.geos_explain.specs.Below.{concat, operands_of, Instr, SlotState, Empty, texts_below, state_word, is_empty, slots_agree, Edge, Apart, Coming, BackWay, Within, LoopOn, LoopPair, LoopRing, ByWord, ByNumber, Cause, SlotsDiffer, NoLoop, SetWithin, SetAgain, TouchedWithin, TouchedBefore, NotSet, InTurn, InRing, StepsPass, WordUnbounded, NumberHigh, WordDear, NumberDear, GivenUp, StepsMayPass, NoSteps, Unfound, Unknown}
 use Rattle.geos_explain.specs.Numbers.{pc_text}
 use Rattle.geos_explain.specs.Emptied.{emptied_items}
 

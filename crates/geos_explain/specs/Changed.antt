@@ -1,12 +1,6 @@
 -- Which slots a routine locks blocks into, or unlocks, by its own instructions.
 use Rattle.std.specs.Prelude.{ℕ, Bool, true, false, ◌&&◌, ◌==◌, if◌then◌else◌, List, [], ◌∷◌, Option, Some, None, codes, decimal}
-use Rattle.std.specs.List.{concat, list_any}
-use Rattle.geos_image.specs.declared.instr.Instr.{Instr}
-use Rattle.geos_image.specs.Parts.{Parts}
-use Rattle.geos_opcodes.specs.declared.uses.SlotUse.{SlotUse}
-use Rattle.geos_opcodes.specs.declared.uses.SlotUse.TheVariants.{LocksNew, Locks, Unlocks}
-use Rattle.geos_opcodes.specs.Facts.{uses_of}
-use Rattle.geos_verify.specs.Touched.{points_of}
+use Rattle.geos_explain.specs.Below.{concat, list_any, Instr, Parts, SlotUse, LocksNew, Locks, Unlocks, uses_of, points_of}
 use Rattle.geos_explain.specs.declared.forgotten.Item.{Item}
 use Rattle.geos_explain.specs.declared.forgotten.Item.TheVariants.{Slot, Held, Leads}
 

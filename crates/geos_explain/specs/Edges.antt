@@ -1,8 +1,6 @@
 -- Which pcs are those of instructions of one routine.
 use Rattle.std.specs.Prelude.{ℕ, zero, suc, Bool, false, ◌&&◌, ◌||◌, slice_get}
-use Rattle.std.specs.Option.{option_map_or}
-use Rattle.geos_image.specs.Parts.{Parts, start_of}
-use Rattle.geos_verify.specs.Rules.{has_place}
+use Rattle.geos_explain.specs.Below.{option_map_or, Parts, start_of, has_place}
 
 -- a pc is that of an instruction of routine r
 abbrev pub lies_in : Parts → ℕ → ℕ → Bool

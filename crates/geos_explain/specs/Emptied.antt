@@ -1,12 +1,6 @@
 -- CALLs that leave slots empty, in an author's words.
 use Rattle.std.specs.Prelude.{ℕ, if◌then◌else◌, List, [], ◌∷◌, Option, Some, None, slice_index_or, codes, decimal, take, unwrap_or}
-use Rattle.std.specs.List.{concat}
-use Rattle.geos_image.specs.declared.row.SlotState.{SlotState}
-use Rattle.geos_image.specs.declared.row.SlotState.TheVariants.{Empty}
-use Rattle.geos_image.specs.Legal.{text_end}
-use Rattle.geos_listing.specs.Rows.{texts_below, state_word}
-use Rattle.geos_causes.specs.Slots.{slots_agree}
-use Rattle.geos_causes.specs.declared.apart.Emptied.{Emptied}
+use Rattle.geos_explain.specs.Below.{concat, SlotState, Empty, text_end, texts_below, state_word, slots_agree, Emptied}
 use Rattle.geos_explain.specs.Numbers.{pc_text}
 
 -- a routine's name without the zeros behind it

@@ -1,12 +1,6 @@
 -- What is found of the pointers that are not known, for each place where that is told.
 use Rattle.std.specs.Prelude.{◌≡◌, ◌<◌, ◌+◌, ℕ, List, [], take, count_by, Option, Some, None, length, slice_get}
-use Rattle.geos_image.specs.declared.routine.Routine.{Routine}
-use Rattle.geos_image.specs.Parts.{Parts, start_of}
-use Rattle.geos_opcodes.specs.Facts.{uses_of}
-use Rattle.geos_verify.specs.declared.place.Place.{Place as KnownPlace}
-use Rattle.geos_verify.specs.declared.rule.Rule.{Rule}
-use Rattle.geos_verify.specs.declared.rule.Rule.TheVariants.{StalePointer, ExitMisfit}
-use Rattle.geos_verify.specs.Places.{places}
+use Rattle.geos_explain.specs.Below.{Routine, Parts, start_of, uses_of, KnownPlace, Rule, StalePointer, ExitMisfit, places}
 use Rattle.geos_explain.specs.declared.finding.Finding.{Finding}
 use Rattle.geos_explain.specs.declared.finding.Findings.{Findings}
 use Rattle.geos_explain.specs.Places.{Place, Explained, place_at}

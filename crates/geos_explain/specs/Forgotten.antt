@@ -1,15 +1,8 @@
 -- Which call forgets what is to be known at a place: behind it only what its routine's `out` line says is known.
 use Rattle.std.specs.Prelude.{◌≡◌, ℕ, Bool, true, false, ◌&&◌, not, nat_lt, nat_le, Option, Some, None, slice_get, slice_index_or}
-use Rattle.geos_verify.specs.declared.place.Place.{Place as KnownPlace}
-use Rattle.geos_verify.specs.Places.{places}
-use Rattle.geos_image.specs.declared.row.Row.{Row}
-use Rattle.geos_verify.specs.Rows.{after, bound, has_edge, is_empty, pointer_at, pointer_fits, slot_fits, slot_state}
-use Rattle.geos_flow.specs.declared.edge.Edge.{Edge}
+use Rattle.geos_explain.specs.Below.{KnownPlace, places, Row, after, bound, has_edge, is_empty, pointer_at, pointer_fits, slot_fits, slot_state, Edge, Back, end_of, step_by, IsLedFrom}
 use Rattle.geos_explain.specs.declared.forgotten.Item.{Item}
 use Rattle.geos_explain.specs.declared.forgotten.Item.TheVariants.{Bound, Slot, Held, Leads, Apart}
-use Rattle.geos_flow.specs.declared.search.Heading.TheVariants.{Back}
-use Rattle.geos_flow.specs.Edges.{end_of}
-use Rattle.geos_flow.specs.Flow.{step_by, Leads as IsLedFrom}
 use Rattle.geos_explain.specs.Leads.{leads}
 use Rattle.geos_explain.specs.Lost.{ComesTo}
 use Rattle.geos_explain.specs.Places.{Place, comes_alike, is_inside, last_of}

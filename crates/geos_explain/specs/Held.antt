@@ -1,9 +1,6 @@
 -- Which slots are still held at a return, and since where.
 use Rattle.std.specs.Prelude.{ℕ, Bool, ◌&&◌, not, if◌then◌else◌, ◌==◌, List, [], ◌∷◌, ◌++◌, length, codes, decimal}
-use Rattle.std.specs.List.{concat}
-use Rattle.geos_listing.specs.Rows.{texts_below, row_items}
-use Rattle.geos_verify.specs.Rows.{is_empty, slot_state}
-use Rattle.geos_verify.specs.Rules.{is_of_file}
+use Rattle.geos_explain.specs.Below.{concat, texts_below, row_items, is_empty, slot_state, is_of_file}
 use Rattle.geos_explain.specs.Lacks.{lacking, lacking_items}
 use Rattle.geos_explain.specs.Numbers.{are_behind, are_text, also_are, pc_text}
 use Rattle.geos_explain.specs.Places.{Place}

@@ -1,13 +1,6 @@
 -- What a row lacks to fit another.
 use Rattle.std.specs.Prelude.{◌≡◌, ◌≤◌, ◌↔◌, ℕ, Bool, true, ◌&&◌, not, nat_le, if◌then◌else◌, List, [], ◌++◌, Option, None, slice_index_or, codes, decimal}
-use Rattle.geos_image.specs.declared.row.Row.{Row}
-use Rattle.geos_image.specs.declared.row.Pointer.{Pointer}
-use Rattle.geos_image.specs.declared.row.SlotState.{SlotState}
-use Rattle.geos_image.specs.declared.row.SlotState.TheVariants.{Empty}
-use Rattle.geos_image.specs.Legal.{is_shaped}
-use Rattle.geos_listing.specs.Rows.{texts_below, row_items}
-use Rattle.geos_verify.specs.Lists.{zip2}
-use Rattle.geos_verify.specs.Rows.{bound, slot_fits, pointer_fits, pair_fits, fits, is_empty}
+use Rattle.geos_explain.specs.Below.{Row, Pointer, SlotState, Empty, is_shaped, texts_below, row_items, zip2, bound, slot_fits, pointer_fits, pair_fits, fits, is_empty}
 
 -- a bound that is wanted and not kept, else any word's
 abbrev pub lacking_bound : ℕ → ℕ → ℕ

@@ -1,9 +1,7 @@
 -- Whether ways lead from one pc to another.
 use Rattle.std.specs.Prelude.{◌⊎◌, ℕ, Bool, true, false}
 use Rattle.std.proofs.Common.{inl, inr}
-use Rattle.geos_image.specs.Parts.{Parts}
-use Rattle.geos_flow.specs.declared.edge.Edge.{Edge}
-use Rattle.geos_flow.specs.declared.search.Heading.{Heading}
+use Rattle.geos_explain.specs.Below.{Parts, Edge, Heading}
 use Rattle.geos_flow.proofs.Deciding.{leads-or-not}
 
 -- whether something is so, where that is decided

@@ -1,11 +1,7 @@
 -- Which instructions control reaches.
 use Rattle.std.specs.Prelude.{◌≡◌, ◌<◌, ◌↔◌, ℕ, Bool, true, List, length}
-use Rattle.geos_image.specs.Parts.{Parts, start_of}
-use Rattle.geos_flow.specs.declared.edge.Edge.{Edge}
-use Rattle.geos_flow.specs.declared.search.Heading.TheVariants.{Ahead}
-use Rattle.geos_flow.specs.Flow.{step_by, Leads}
+use Rattle.geos_explain.specs.Below.{Parts, start_of, Edge, Ahead, step_by, Leads, is_marked}
 use Rattle.geos_explain.specs.Leads.{decided}
-use Rattle.geos_flow.specs.Marks.{is_marked}
 use Rattle.geos_flow.proofs.Deciding.{below-or-not, leads-or-not}
 use Rattle.geos_explain.specs.Edges.{are_in_one}
 

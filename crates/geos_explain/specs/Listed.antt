@@ -1,15 +1,6 @@
 -- What is left of an explanation where its notes are taken away.
 use Rattle.std.specs.Prelude.{◌≡◌, ◌<◌, ◌+◌, ◌⊎◌, ℕ, true, List, [], ◌∷◌, ◌++◌, Option, length, slice_get, codes, All}
-use Rattle.std.specs.List.{concat}
-use Rattle.std.specs.Option.{option_map_or}
-use Rattle.std.specs.Str.Lines.{lines}
-use Rattle.geos_image.specs.declared.routine.Routine.{Routine}
-use Rattle.geos_image.specs.Parts.{Parts, start_of}
-use Rattle.geos_image.specs.Legal.{is_image}
-use Rattle.geos_listing.specs.Rows.{texts_below}
-use Rattle.geos_listing.specs.Instrs.{label_line, instr_code}
-use Rattle.geos_listing.specs.Listing.{listing}
-use Rattle.geos_verify.specs.declared.rule.Rule.{Rule}
+use Rattle.geos_explain.specs.Below.{concat, option_map_or, lines, Routine, Parts, start_of, is_image, texts_below, label_line, instr_code, listing, Rule}
 use Rattle.geos_explain.specs.declared.finding.Findings.{Findings}
 use Rattle.geos_explain.specs.Explanation.{head_text, explanation}
 use Rattle.geos_explain.specs.Texts.{numbered, text_explanation}

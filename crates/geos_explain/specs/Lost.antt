@@ -1,12 +1,7 @@
 -- What is said of a pointer that is not known: where it was lost, where ways meet, that it is not set, and that it comes into an
 -- empty slot.
 use Rattle.std.specs.Prelude.{◌≡◌, ◌⊎◌, ℕ, Bool, true, false, if◌then◌else◌, nat_lt, List, [], ◌∷◌, Option, Some, None, IfSome, MatchOption, slice_get, slice_index_or}
-use Rattle.geos_verify.specs.declared.place.Place.{Place as KnownPlace}
-use Rattle.geos_verify.specs.Places.{places}
-use Rattle.geos_image.specs.declared.row.Pointer.{Pointer}
-use Rattle.geos_image.specs.Parts.{start_of}
-use Rattle.geos_verify.specs.Rows.{pointer_at, is_stale, after, has_edge}
-use Rattle.geos_flow.specs.declared.edge.Edge.{Edge}
+use Rattle.geos_explain.specs.Below.{KnownPlace, places, Pointer, start_of, pointer_at, is_stale, after, has_edge, Edge, end_of}
 use Rattle.geos_explain.specs.declared.ways.Sought.{Sought}
 use Rattle.geos_explain.specs.declared.ways.Way.{Way}
 use Rattle.geos_explain.specs.declared.ways.Way.TheVariants.{Entry, Along}
@@ -15,7 +10,6 @@ use Rattle.geos_explain.specs.declared.finding.End.TheVariants.{Unset, Unreached
 use Rattle.geos_explain.specs.declared.finding.Finding.{Finding}
 use Rattle.geos_explain.specs.declared.finding.Loss.{Loss}
 use Rattle.geos_explain.specs.declared.finding.Meeting.{Meeting}
-use Rattle.geos_flow.specs.Edges.{end_of}
 use Rattle.geos_explain.specs.Led.{is_reached}
 use Rattle.geos_explain.specs.Places.{Place, agrees, comes_alike, is_inside}
 use Rattle.geos_explain.specs.Ways.{is_as, entry_pointer, empty_slot, behind, loses}

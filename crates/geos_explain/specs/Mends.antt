@@ -1,10 +1,6 @@
 -- What makes known what a row lacks of another: an instruction that bounds a word, or one that marks a block.
 use Rattle.std.specs.Prelude.{ℕ, Bool, ◌&&◌, not, if◌then◌else◌, ◌==◌, List, [], ◌∷◌, ◌++◌, codes, decimal}
-use Rattle.std.specs.List.{concat}
-use Rattle.geos_image.specs.declared.row.Row.{Row}
-use Rattle.geos_image.specs.declared.row.SlotState.{SlotState}
-use Rattle.geos_listing.specs.Rows.{texts_below}
-use Rattle.geos_verify.specs.Rows.{bound, marked_state, slot_fits, slot_state}
+use Rattle.geos_explain.specs.Below.{concat, Row, SlotState, texts_below, bound, marked_state, slot_fits, slot_state}
 use Rattle.geos_explain.specs.Lacks.{lacking}
 use Rattle.geos_explain.specs.Uses.{mark_word}
 

@@ -1,12 +1,6 @@
 -- Which instruction moves an index going round a loop.
 use Rattle.std.specs.Prelude.{◌≡◌, ℕ, Bool, true, false, ◌&&◌, ◌||◌, ◌==◌, if◌then◌else◌, List, [], ◌∷◌, Option, Some, None, slice_get, codes, decimal}
-use Rattle.std.specs.List.{concat}
-use Rattle.geos_verify.specs.declared.place.Place.{Place as KnownPlace}
-use Rattle.geos_verify.specs.Places.{places}
-use Rattle.geos_image.specs.declared.instr.Instr.{Instr}
-use Rattle.geos_opcodes.specs.declared.opcode.Opcode.{Opcode}
-use Rattle.geos_opcodes.specs.declared.opcode.Opcode.TheVariants.{Add, Sub, Muli}
-use Rattle.geos_opcodes.specs.Facts.{word_of}
+use Rattle.geos_explain.specs.Below.{concat, KnownPlace, places, Instr, Opcode, Add, Sub, Muli, word_of}
 use Rattle.geos_explain.specs.declared.forgotten.Item.{Item}
 use Rattle.geos_explain.specs.declared.forgotten.Item.TheVariants.{Bound}
 use Rattle.geos_explain.specs.Forgotten.{is_lacked_from, IsLackedFrom}

@@ -1,20 +1,6 @@
 -- What is to be known where a read or a write may pass the end of what a pointer leads to, and what helps there.
 use Rattle.std.specs.Prelude.{ℕ, ◌-◌, nat_le, nat_lt, if◌then◌else◌, List, [], ◌∷◌, ◌++◌, codes, decimal}
-use Rattle.std.specs.List.{concat}
-use Rattle.geos_image.specs.declared.instr.Instr.{Instr}
-use Rattle.geos_image.specs.declared.row.Row.{Row}
-use Rattle.geos_opcodes.specs.declared.opcode.Opcode.{Opcode}
-use Rattle.geos_opcodes.specs.declared.opcode.Opcode.TheVariants.{Ldcb, Ldcw, Stcb, Stcw}
-use Rattle.geos_opcodes.specs.declared.uses.Width.{Width}
-use Rattle.geos_opcodes.specs.declared.uses.Width.TheVariants.{Byte, Both}
-use Rattle.geos_opcodes.specs.declared.uses.Offset.{Offset}
-use Rattle.geos_opcodes.specs.declared.uses.Offset.TheVariants.{Indexed}
-use Rattle.geos_opcodes.specs.declared.uses.PointerUse.{PointerUse}
-use Rattle.geos_opcodes.specs.declared.uses.PointerUse.TheVariants.{Loads, Stores}
-use Rattle.geos_opcodes.specs.Facts.{word_of}
-use Rattle.geos_verify.specs.Uses.{bytes_in}
-use Rattle.geos_verify.specs.Rows.{bound}
-use Rattle.geos_verify.specs.Rules.{reach, least_at}
+use Rattle.geos_explain.specs.Below.{concat, Instr, Row, Opcode, Ldcb, Ldcw, Stcb, Stcw, Width, Byte, Both, Offset, Indexed, PointerUse, Loads, Stores, word_of, bytes_in, bound, reach, least_at}
 use Rattle.geos_explain.specs.declared.forgotten.Item.{Item}
 use Rattle.geos_explain.specs.declared.forgotten.Item.TheVariants.{Bound, Leads}
 use Rattle.geos_explain.specs.declared.past.Past.{Past}

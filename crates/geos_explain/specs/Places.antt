@@ -1,13 +1,6 @@
 -- An instruction of a routine, with what is known there.
 use Rattle.std.specs.Prelude.{◌<◌, ◌≤◌, ℕ, zero, suc, ◌+◌, Bool, not, if◌then◌else◌, List, Option, Some, None}
-use Rattle.geos_image.specs.declared.instr.Instr.{Instr}
-use Rattle.geos_image.specs.declared.row.Row.{Row}
-use Rattle.geos_image.specs.declared.potential.Potential.{Potential}
-use Rattle.geos_image.specs.declared.routine.Routine.{Routine}
-use Rattle.geos_image.specs.Parts.{Parts, start_of}
-use Rattle.geos_verify.specs.declared.place.Place.{Place as KnownPlace}
-use Rattle.geos_verify.specs.declared.rule.Rule.{Rule}
-use Rattle.geos_verify.specs.Rules.{has_place}
+use Rattle.geos_explain.specs.Below.{Instr, Row, Potential, Routine, Parts, start_of, KnownPlace, Rule, has_place}
 use Rattle.geos_explain.specs.declared.finding.Findings.{Findings}
 use Rattle.geos_explain.specs.Led.{is_reached}
 use Rattle.geos_explain.specs.declared.place.Place as code

@@ -1,8 +1,6 @@
 -- Why a pointer is not known at a return that the exit row wants.
 use Rattle.std.specs.Prelude.{ℕ, if◌then◌else◌, List, [], Option, Some, None, is_some}
-use Rattle.std.specs.Option.{option_or}
-use Rattle.geos_image.specs.declared.row.Row.{Row}
-use Rattle.geos_verify.specs.Rows.{pointer_at, is_stale}
+use Rattle.geos_explain.specs.Below.{option_or, Row, pointer_at, is_stale}
 use Rattle.geos_explain.specs.declared.forgotten.Item.TheVariants.{Leads}
 use Rattle.geos_explain.specs.Forgotten.{forgetting_call}
 use Rattle.geos_explain.specs.Places.{Place}

@@ -1,17 +1,9 @@
 -- Since where a slot is held at a place: from which instructions of its routine, or from the caller, a way leads there on which it
 -- is held all along.
 use Rattle.std.specs.Prelude.{◌≡◌, ℕ, zero, suc, ◌+◌, Bool, true, false, ◌&&◌, ◌||◌, not, nat_lt, if◌then◌else◌, Some, None, slice_get}
-use Rattle.geos_verify.specs.declared.place.Place.{Place as KnownPlace}
-use Rattle.geos_verify.specs.Places.{places}
-use Rattle.geos_image.specs.declared.row.Row.{Row}
-use Rattle.geos_image.specs.Parts.{start_of}
-use Rattle.geos_verify.specs.Rows.{after, has_edge, is_empty, slot_state}
-use Rattle.geos_flow.specs.declared.edge.Edge.{Edge}
+use Rattle.geos_explain.specs.Below.{KnownPlace, places, Row, start_of, after, has_edge, is_empty, slot_state, Edge, Back, end_of, step_by, Leads}
 use Rattle.geos_explain.specs.declared.since.Since.{Since}
 use Rattle.geos_explain.specs.declared.since.Since.TheVariants.{Unknown, Entry, EntryOrOther, Once, Often}
-use Rattle.geos_flow.specs.declared.search.Heading.TheVariants.{Back}
-use Rattle.geos_flow.specs.Edges.{end_of}
-use Rattle.geos_flow.specs.Flow.{step_by, Leads}
 use Rattle.geos_explain.specs.Leads.{leads}
 use Rattle.geos_explain.specs.Lost.{ComesTo}
 use Rattle.geos_explain.specs.Places.{Place, comes_alike, is_inside}

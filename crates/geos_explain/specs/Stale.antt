@@ -1,23 +1,9 @@
 -- Which pointers may be stale where they are used, and where and by what they became so.
 use Rattle.std.specs.Prelude.{ℕ, ◌==◌, Bool, false, ◌&&◌, if◌then◌else◌, List, [], ◌∷◌, ◌++◌, Option, Some, None, slice_get, slice_index_or, codes, decimal}
-use Rattle.std.specs.List.{concat}
-use Rattle.std.specs.Option.{option_map_or}
-use Rattle.geos_image.specs.declared.instr.Instr.{Instr}
-use Rattle.geos_image.specs.declared.row.Row.{Row}
-use Rattle.geos_verify.specs.declared.place.Place.{Place as KnownPlace}
-use Rattle.geos_verify.specs.Places.{places}
-use Rattle.geos_image.specs.Parts.{Parts}
-use Rattle.geos_listing.specs.Instrs.{name_of}
-use Rattle.geos_opcodes.specs.Facts.{word_of, uses_of, operands_of}
-use Rattle.geos_opcodes.specs.declared.uses.SlotUse.{SlotUse}
-use Rattle.geos_opcodes.specs.declared.uses.SlotUse.TheVariants.{Moves, Unlocks, MovesGroup}
-use Rattle.geos_opcodes.specs.declared.uses.PointerUse.{PointerUse}
-use Rattle.geos_opcodes.specs.declared.uses.PointerUse.TheVariants.{Copies}
-use Rattle.geos_verify.specs.Rows.{pointer_at, is_stale}
+use Rattle.geos_explain.specs.Below.{concat, option_map_or, Instr, Row, KnownPlace, places, Parts, name_of, word_of, uses_of, operands_of, SlotUse, Moves, Unlocks, MovesGroup, PointerUse, Copies, pointer_at, is_stale, Edge}
 use Rattle.geos_explain.specs.Numbers.{pc_text}
 use Rattle.geos_explain.specs.Places.{Place}
 use Rattle.geos_explain.specs.Uses.{slot_behind}
-use Rattle.geos_flow.specs.declared.edge.Edge.{Edge}
 use Rattle.geos_explain.specs.declared.ways.Followed.{Followed}
 use Rattle.geos_explain.specs.declared.ways.Way.{Way}
 use Rattle.geos_explain.specs.declared.ways.Way.TheVariants.{Entry, Along}

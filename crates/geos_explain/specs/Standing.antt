@@ -1,11 +1,6 @@
 -- That a routine is one of an image, and an instruction one of the routine.
 use Rattle.std.specs.Prelude.{◌≡◌, ◌<◌, ◌≤◌, ℕ, ◌+◌, true, length, slice_get, IfSome}
-use Rattle.geos_image.specs.declared.instr.Instr.{Instr}
-use Rattle.geos_image.specs.declared.routine.Routine.{Routine}
-use Rattle.geos_image.specs.Fields.{FieldsFit, CalleeFits}
-use Rattle.geos_image.specs.Legal.{is_image}
-use Rattle.geos_image.specs.Parts.{Parts, start_of}
-use Rattle.geos_listing.specs.Instrs.{KeepsLimits}
+use Rattle.geos_explain.specs.Below.{Instr, Routine, FieldsFit, CalleeFits, is_image, Parts, start_of, KeepsLimits}
 
 -- there is a routine r in the image, whose instructions are some of the image's, which is no longer than images may be
 pub record HasRoutine (image : Parts) (r : ℕ) (routine : Routine) : Type 0 where

@@ -1,16 +1,6 @@
 -- What is said where an edge is not paid for.
 use Rattle.std.specs.Prelude.{ℕ, ◌+◌, nat_le, ◌==◌, if◌then◌else◌, List, [], ◌∷◌, ◌++◌, Option, Some, None, slice_index, slice_get, codes, decimal}
-use Rattle.std.specs.List.{concat}
-use Rattle.geos_opcodes.specs.declared.opcode.Opcode.{Opcode}
-use Rattle.geos_opcodes.specs.declared.opcode.Opcode.TheVariants.{Call, Ret}
-use Rattle.geos_image.specs.declared.potential.Potential.{Potential}
-use Rattle.std.specs.Option.{option_map_or}
-use Rattle.geos_image.specs.declared.routine.Routine.{Routine}
-use Rattle.geos_listing.specs.Rows.{texts_below}
-use Rattle.geos_listing.specs.Instrs.{name_of}
-use Rattle.geos_image.specs.Keys.{falls_through, branches}
-use Rattle.geos_verify.specs.declared.asked.Asked.{Asked}
-use Rattle.geos_verify.specs.Potentials.{asked_along, asked_branching, left_with, is_paid}
+use Rattle.geos_explain.specs.Below.{concat, Opcode, Call, Ret, Potential, option_map_or, Routine, texts_below, name_of, falls_through, branches, Asked, asked_along, asked_branching, left_with, is_paid}
 use Rattle.geos_explain.specs.Notes.{steps_text}
 use Rattle.geos_explain.specs.Numbers.{steps_word, verb}
 use Rattle.geos_explain.specs.Places.{Place}

@@ -1,11 +1,6 @@
 -- An author's text with what is known at each instruction, and what is wrong where a rule refuses.
 use Rattle.std.specs.Prelude.{◌≡◌, ℕ, zero, suc, ◌+◌, Bool, false, ◌&&◌, nat_le, nat_lt, ◌==◌, if◌then◌else◌, List, [], ◌∷◌, ◌++◌, Option, Some, None, length, slice_get, codes, decimal}
-use Rattle.std.specs.Option.{option_map_or}
-use Rattle.std.specs.Str.Lines.{lines}
-use Rattle.geos_image.specs.declared.routine.Routine.{Routine}
-use Rattle.geos_image.specs.Parts.{Parts, start_of}
-use Rattle.geos_verify.specs.Places.{places}
-use Rattle.geos_verify.specs.declared.rule.Rule.{Rule}
+use Rattle.geos_explain.specs.Below.{option_map_or, lines, Routine, Parts, start_of, places, Rule}
 use Rattle.geos_explain.specs.declared.finding.Findings.{Findings}
 use Rattle.geos_explain.specs.Findings.{FindingsHold}
 use Rattle.geos_explain.specs.Places.{Explained, place_at}

@@ -1,13 +1,12 @@
 -- How far a pointer that is not known was followed back.
 use Rattle.std.specs.Prelude.{◌≡◌, ℕ, true, false, None}
-use Rattle.geos_flow.specs.declared.edge.Edge.{Edge}
+use Rattle.geos_explain.specs.Below.{Edge, Has}
 use Rattle.geos_explain.specs.declared.finding.Finding.{Finding}
 use Rattle.geos_explain.specs.declared.trace.FirstWays.{FirstWays}
 use Rattle.geos_explain.specs.declared.trace.Trace.{Trace}
 use Rattle.geos_explain.specs.declared.ways.Way.TheVariants.{Along}
 use Rattle.geos_explain.specs.Lost.{LacksFrom, NoWay, FindsWay, IsBringing, IsWay, Holds}
 use Rattle.geos_explain.specs.Places.{Place, comes_alike}
-use Rattle.geos_flow.specs.Waiting.{Has}
 
 -- ways to a pc from where the pointer can be lacking: one brings it, and one does not, if there are such
 pub record AreWays (place : Place) (p : ℕ) (ways : FirstWays) : Type 0 where

@@ -1,17 +1,7 @@
 -- Which counters are still to pay at a routine's beginning, and which LOOP takes from them though nothing sets them.
 use Rattle.std.specs.Prelude.{◌≡◌, ℕ, Bool, true, false, ◌&&◌, not, if◌then◌else◌, ◌==◌, List, [], ◌∷◌, Option, Some, None, slice_get, slice_index, codes, decimal}
-use Rattle.std.specs.List.{concat}
-use Rattle.geos_opcodes.specs.declared.facts.CounterUse.{CounterUse}
-use Rattle.geos_opcodes.specs.declared.facts.CounterUse.TheVariants.{SetTo, SetToWord, CountsDown}
-use Rattle.geos_opcodes.specs.Facts.{facts}
-use Rattle.geos_image.specs.declared.instr.Instr.{Instr}
-use Rattle.geos_image.specs.declared.point.Point.{Point}
-use Rattle.geos_image.specs.Parts.{Parts}
-use Rattle.geos_flow.specs.declared.edge.Edge.{Edge}
-use Rattle.geos_flow.specs.declared.search.Heading.TheVariants.{Ahead}
-use Rattle.geos_flow.specs.Flow.{step_by, Leads}
+use Rattle.geos_explain.specs.Below.{concat, CounterUse, SetTo, SetToWord, CountsDown, facts, Instr, Point, Parts, Edge, Ahead, step_by, Leads, texts_below}
 use Rattle.geos_explain.specs.Leads.{leads}
-use Rattle.geos_listing.specs.Rows.{texts_below}
 use Rattle.geos_explain.specs.Numbers.{pc_text}
 use Rattle.geos_explain.specs.Places.{Place, is_inside, first_of}
 use Rattle.geos_explain.specs.Since.{IsInside}

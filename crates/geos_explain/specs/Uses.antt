@@ -1,23 +1,6 @@
 -- What is wrong with the slots and pointers that an instruction uses, rule by rule.
 use Rattle.std.specs.Prelude.{ℕ, true, false, ◌-◌, nat_le, ◌==◌, if◌then◌else◌, List, [], ◌∷◌, map, ◌++◌, Option, Some, None, codes, decimal}
-use Rattle.std.specs.List.{concat}
-use Rattle.geos_image.specs.declared.instr.Instr.{Instr}
-use Rattle.geos_image.specs.declared.row.Row.{Row}
-use Rattle.geos_image.specs.declared.row.Pointer.{Pointer}
-use Rattle.geos_image.specs.declared.row.SlotState.{SlotState}
-use Rattle.geos_image.specs.declared.row.SlotState.TheVariants.{Empty, Mem, Vm, Db}
-use Rattle.geos_image.specs.Legal.{is_own}
-use Rattle.geos_image.specs.Open.{open_row}
-use Rattle.geos_listing.specs.Rows.{row_items}
-use Rattle.geos_opcodes.specs.declared.uses.Kind.{Kind}
-use Rattle.geos_opcodes.specs.declared.uses.Kind.TheVariants.{MemBlock, VmBlock, DbGroup}
-use Rattle.geos_opcodes.specs.declared.uses.SlotUse.{SlotUse}
-use Rattle.geos_opcodes.specs.declared.uses.SlotUse.TheVariants.{Unlocks, Marks, Compares}
-use Rattle.geos_opcodes.specs.declared.uses.PointerUse.{PointerUse}
-use Rattle.geos_opcodes.specs.declared.uses.PointerUse.TheVariants.{Stores, Copies}
-use Rattle.geos_listing.specs.Rows.{state_word}
-use Rattle.geos_verify.specs.Rows.{slot_state, pointer_at, leads_nowhere}
-use Rattle.geos_verify.specs.Rules.{least_at}
+use Rattle.geos_explain.specs.Below.{concat, Instr, Row, Pointer, SlotState, Empty, Mem, Vm, Db, is_own, open_row, row_items, Kind, MemBlock, VmBlock, DbGroup, SlotUse, Unlocks, Marks, Compares, PointerUse, Stores, Copies, state_word, slot_state, pointer_at, leads_nowhere, least_at}
 use Rattle.geos_explain.specs.Numbers.{either, bytes_word, verb, items_in}
 
 -- a slot, and what the row says that it holds

@@ -1,19 +1,6 @@
 -- What is wrong at a point that is refused, in a line of plain words, rule by rule.
 use Rattle.std.specs.Prelude.{ℕ, Bool, ◌+◌, true, false, ◌&&◌, not, nat_lt, if◌then◌else◌, ◌==◌, List, [], ◌∷◌, ◌++◌, Some, None, length, slice_get, codes, decimal}
-use Rattle.std.specs.List.{concat}
-use Rattle.geos_opcodes.specs.declared.opcode.Opcode.{Opcode}
-use Rattle.geos_opcodes.specs.declared.opcode.Opcode.TheVariants.{Call}
-use Rattle.geos_image.specs.declared.row.Row.{Row}
-use Rattle.geos_image.specs.declared.routine.Routine.{Routine}
-use Rattle.geos_image.specs.Parts.{Parts, start_of}
-use Rattle.geos_listing.specs.Instrs.{name_of}
-use Rattle.geos_verify.specs.declared.rule.Rule.{Rule}
-use Rattle.geos_verify.specs.declared.rule.Rule.TheVariants.{LeavesRoutine, NamesEmptySlot, EntryMisfit, StalePointer, PassesEnd, ChangesUnmarked, LocksIntoHeld, WrongSlot, CommitsHeld, CallMisfit, ExitMisfit, EdgeMisfit, EdgeUnpaid, OverBudget}
-use Rattle.geos_opcodes.specs.Facts.{uses_of}
-use Rattle.geos_image.specs.Keys.{falls_through}
-use Rattle.geos_verify.specs.Rows.{has_edge, after, is_empty, marked_state, slot_state}
-use Rattle.geos_verify.specs.Rules.{has_place}
-use Rattle.geos_verify.specs.RuleText.{rule_number}
+use Rattle.geos_explain.specs.Below.{concat, Opcode, Call, Row, Routine, Parts, start_of, name_of, Rule, LeavesRoutine, NamesEmptySlot, EntryMisfit, StalePointer, PassesEnd, ChangesUnmarked, LocksIntoHeld, WrongSlot, CommitsHeld, CallMisfit, ExitMisfit, EdgeMisfit, EdgeUnpaid, OverBudget, uses_of, falls_through, has_edge, after, is_empty, marked_state, slot_state, has_place, rule_number, places}
 use Rattle.geos_explain.specs.Places.{Place}
 use Rattle.geos_explain.specs.Budgets.{over_words}
 use Rattle.geos_explain.specs.Led.{is_reached}
@@ -31,7 +18,6 @@ use Rattle.geos_explain.specs.Mends.{mends}
 use Rattle.geos_explain.specs.Stale.{stale_words}
 use Rattle.geos_explain.specs.Returned.{unknown_item}
 use Rattle.geos_explain.specs.Steps.{unpaid_words}
-use Rattle.geos_verify.specs.Places.{places}
 
 -- control leaves the routine
 unfoldable pub leaves_words : Place → List ℕ

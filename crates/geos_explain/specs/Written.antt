@@ -1,8 +1,6 @@
 -- Which blocks of the VM file are held where the file is written, and since where.
 use Rattle.std.specs.Prelude.{ℕ, Bool, true, false, not, ◌==◌, List, [], ◌∷◌, ◌++◌, codes}
-use Rattle.std.specs.List.{concat, list_any}
-use Rattle.geos_image.specs.declared.row.Row.{Row}
-use Rattle.geos_image.specs.Legal.{is_own}
+use Rattle.geos_explain.specs.Below.{concat, list_any, Row, is_own}
 use Rattle.geos_explain.specs.Places.{Place}
 use Rattle.geos_explain.specs.declared.held.HeldAt.TheVariants.{Write}
 use Rattle.geos_explain.specs.Held.{slots_at, sinces_at}
