@@ -8,7 +8,7 @@ use Rattle.geos_flow.specs.Flow.{step_by, Lead, Leads, MarksWhatIsLed}
 use Rattle.geos_flow.specs.Marks.{no_marks, marked, is_marked, Marking}
 use Rattle.geos_flow.proofs.Deciding.{IsDecided, leads-or-not}
 use Rattle.geos_flow.proofs.Marked.{has-marked, is-marked, mark-there, mark-was, none-full, none-marked}
-use Rattle.geos_explain.specs.Leads.{decided, leads}
+use Rattle.geos_explain.specs.Led.{decided, leads}
 
 -- a test that says just whether something is so says what is decided
 pub is-decided : {P : Type 0} (is : Bool) (so : IsDecided P) → (is ≡ true) ↔ P → is ≡ decided so

@@ -21,10 +21,9 @@ use Rattle.geos_listing.specs.Instrs.{name_of, label_line, instr_code}
 use Rattle.geos_verify.specs.declared.rule.Rule.{Rule}
 use Rattle.geos_verify.specs.declared.rule.Rule.TheVariants.{OverBudget}
 use Rattle.geos_verify.specs.RuleText.{rule_number}
-use Rattle.geos_verify.proofs.Places.{item_at}
+use Rattle.geos_verify.proofs.Places.{item_at, places-length, place-at, point-of}
 use Rattle.geos_verify.specs.declared.place.Place.{Place as KnownPlace}
 use Rattle.geos_verify.specs.Places.{places}
-use Rattle.geos_verify.proofs.Places.{places-length, place-at, point-of}
 use Rattle.geos_flow.proofs.Choices.{elim_both}
 use Rattle.geos_explain.specs.Places.{Place, Explained, place_at}
 use Rattle.geos_explain.specs.Notes.{where_text, note_head, known_here, potential_text, note}

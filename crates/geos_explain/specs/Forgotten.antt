@@ -3,7 +3,7 @@ use Rattle.std.specs.Prelude.{◌≡◌, ℕ, Bool, true, false, ◌&&◌, not, 
 use Rattle.geos_explain.specs.Below.{KnownPlace, places, Row, after, bound, has_edge, is_empty, pointer_at, pointer_fits, slot_fits, slot_state, Edge, Back, end_of, step_by, IsLedFrom}
 use Rattle.geos_explain.specs.declared.forgotten.Item.{Item}
 use Rattle.geos_explain.specs.declared.forgotten.Item.TheVariants.{Bound, Slot, Held, Leads, Apart}
-use Rattle.geos_explain.specs.Leads.{leads}
+use Rattle.geos_explain.specs.Led.{leads}
 use Rattle.geos_explain.specs.Lost.{ComesTo}
 use Rattle.geos_explain.specs.Places.{Place, comes_alike, is_inside, last_of}
 use Rattle.geos_explain.specs.Since.{IsInside}

@@ -1,8 +1,6 @@
 pub mod Below
 pub mod Numbers
 pub mod Public
-pub mod Edges
-pub mod Leads
 pub mod Led
 pub mod Standing
 pub mod Places

@@ -4,7 +4,7 @@ use Rattle.std.specs.Prelude.{◌≡◌, ℕ, zero, suc, ◌+◌, Bool, true, fa
 use Rattle.geos_explain.specs.Below.{KnownPlace, places, Row, start_of, after, has_edge, is_empty, slot_state, Edge, Back, end_of, step_by, Leads}
 use Rattle.geos_explain.specs.declared.since.Since.{Since}
 use Rattle.geos_explain.specs.declared.since.Since.TheVariants.{Unknown, Entry, EntryOrOther, Once, Often}
-use Rattle.geos_explain.specs.Leads.{leads}
+use Rattle.geos_explain.specs.Led.{leads}
 use Rattle.geos_explain.specs.Lost.{ComesTo}
 use Rattle.geos_explain.specs.Places.{Place, comes_alike, is_inside}
 

@@ -1,7 +1,7 @@
 -- Which counters are still to pay at a routine's beginning, and which LOOP takes from them though nothing sets them.
 use Rattle.std.specs.Prelude.{◌≡◌, ℕ, Bool, true, false, ◌&&◌, not, if◌then◌else◌, ◌==◌, List, [], ◌∷◌, Option, Some, None, slice_get, slice_index, codes, decimal}
 use Rattle.geos_explain.specs.Below.{concat, CounterUse, SetTo, SetToWord, CountsDown, facts, Instr, Point, Parts, Edge, Ahead, step_by, Leads, texts_below}
-use Rattle.geos_explain.specs.Leads.{leads}
+use Rattle.geos_explain.specs.Led.{leads}
 use Rattle.geos_explain.specs.Numbers.{pc_text}
 use Rattle.geos_explain.specs.Places.{Place, is_inside, first_of}
 use Rattle.geos_explain.specs.Since.{IsInside}

@@ -44,7 +44,6 @@ mod budgets;
 mod calls;
 mod causes;
 mod changed;
-mod edges;
 mod emptied;
 mod explained;
 mod explanation;
