@@ -1,8 +1,8 @@
--- Which slots are still held at a return, and since where.
-use Rattle.std.specs.Prelude.{ℕ, Bool, ◌&&◌, not, if◌then◌else◌, ◌==◌, List, [], ◌∷◌, ◌++◌, length, codes, decimal}
-use Rattle.geos_explain.specs.Below.{concat, texts_below, row_items, is_empty, slot_state, is_of_file}
+-- Which slots are held that must not be, at a return or where the VM file is written, and since where.
+use Rattle.std.specs.Prelude.{ℕ, Bool, true, false, ◌&&◌, not, if◌then◌else◌, ◌==◌, List, [], ◌∷◌, ◌++◌, length, codes, decimal}
+use Rattle.geos_explain.specs.Below.{concat, list_any, Row, is_own, texts_below, row_items, is_empty, slot_state, is_of_file}
 use Rattle.geos_explain.specs.Lacks.{lacking, lacking_items}
-use Rattle.geos_explain.specs.Numbers.{are_behind, are_text, also_are, pc_text}
+use Rattle.geos_explain.specs.Numbers.{either, items_in, is_or_are, are_behind, are_text, also_are, pc_text}
 use Rattle.geos_explain.specs.Places.{Place}
 use Rattle.geos_explain.specs.Public.{missing_words}
 use Rattle.geos_explain.specs.Uses.{state_item}
@@ -81,3 +81,20 @@ unmet_words place = are_text (lacking_items place.row place.routine.exit) (codes
 -- a row does not fit the exit row: slots are still held, or else it wants more
 unfoldable pub exit_words : Place → List ℕ
 exit_words place = if length (slots_at Return place) == 0 then unmet_words place else kept_words place
+
+-- some slot is borrowed
+abbrev pub has_borrowed : Row → Bool
+has_borrowed row = list_any (λ state. not (is_own state)) row.slots
+
+-- what is to be done with slots that are held there; what is borrowed stays held
+abbrev pub held_wish : Bool → List ℕ → List ℕ
+held_wish true items = codes ": what is borrowed from the caller can't be unlocked here"
+held_wish false items = either (items_in items == 1) (codes ": unlock it before") (codes ": unlock them before")
+
+-- that slots are held where the file is written
+unfoldable pub written_behind : Bool → List ℕ → List ℕ
+written_behind borrowed items = concat (is_or_are items ∷ codes " held where the file is written" ∷ held_wish borrowed items ∷ [])
+
+-- the VM file is written while slots hold blocks of it
+unfoldable pub written_words : Place → List ℕ
+written_words place = slots_at Write place ++ written_behind (has_borrowed place.row) (slots_at Write place) ++ sinces_at Write place

@@ -22,7 +22,6 @@ pub mod Moved
 pub mod Steps
 pub mod Unset
 pub mod Budgets
-pub mod Written
 pub mod Returned
 pub mod Words
 pub mod Told

@@ -6,9 +6,8 @@ use Rattle.geos_explain.specs.Budgets.{over_words}
 use Rattle.geos_explain.specs.Led.{is_reached}
 use Rattle.geos_explain.specs.Lacks.{lacking, lacking_items}
 use Rattle.geos_explain.specs.Numbers.{is_or_are, are_text, label_text, pc_text}
-use Rattle.geos_explain.specs.Held.{exit_words}
+use Rattle.geos_explain.specs.Held.{exit_words, written_words}
 use Rattle.geos_explain.specs.Public.{public_words}
-use Rattle.geos_explain.specs.Written.{written_words}
 use Rattle.geos_explain.specs.Uses.{changed_slot, nowhere_words, unmarked_words, held_words, slot_words}
 use Rattle.geos_explain.specs.declared.forgotten.Item.TheVariants.{Slot, Held}
 use Rattle.geos_explain.specs.Calls.{forgotten_text, forgotten_items, lent_items}

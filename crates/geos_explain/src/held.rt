@@ -5,14 +5,16 @@ ghost use Rattle.geos_text.specs.Parts.{part_text};
 ghost use Rattle.geos_explain.specs.Places.{place_of};
 ghost use Rattle.geos_explain.specs.Held.{is_held_at, slot_at, slots_at, since_place, or_another, since_text};
 ghost use Rattle.geos_explain.specs.Held.{since_at, sinces_at, else_wanted, kept_behind, unmet_words, exit_words};
+ghost use Rattle.geos_explain.specs.Held.{has_borrowed, held_wish, written_behind, written_words};
 
 use crate::Done;
 use crate::lacks::{lacking, put_lacking};
-use crate::numbers::{pc_part, put_also, put_are};
+use crate::numbers::{either, is_one_item, is_or_are, pc_part, put_also, put_are, written_from};
 use crate::place::Place;
 use crate::public::put_missing;
 use crate::since::{Since, held_since};
 use crate::uses::put_state;
+use geos_image::Row;
 use geos_text::Part;
 use geos_verify::{is_empty, is_of_file, slot_state};
 
@@ -159,4 +161,48 @@ pub(crate) fn put_exit(out: &mut Vec<u8>, place: &Place) -> Done
         return put_unmet(out, place);
     }
     put_kept_words(out, place, before)
+}
+
+/// Whether some slot is borrowed.
+fn has_borrowed(row: &Row) -> bool
+    ensures { result ≡ has_borrowed row.now }
+{
+    row.slots.iter().any(|state| !state.is_own())
+}
+
+/// What is to be done with the slots that are held there; what is borrowed stays held.
+fn held_wish(borrowed: bool, items: &[u8]) -> &'static str
+    ensures { result.now ≡ held_wish borrowed items.now }
+{
+    if borrowed {
+        return ": what is borrowed from the caller can't be unlocked here";
+    }
+    either(
+        is_one_item(items),
+        ": unlock it before",
+        ": unlock them before",
+    )
+}
+
+/// That the slots that were written from a place on are held where the file is written; and whether one is borrowed.
+#[tactic(auto, unfolding(crate::specs::Held::written_behind))]
+fn put_written_behind(out: &mut Vec<u8>, before: usize, borrowed: bool) -> Done
+    requires { before ≤ length out.old.items }
+    ensures { OnOk result (out.new.items ≡ out.old.items ++ written_behind borrowed (drop before out.old.items)) }
+{
+    let items = written_from(out, before);
+    let verb = is_or_are(items);
+    let wish = held_wish(borrowed, items);
+    put!(out; [verb] " held where the file is written" [wish])
+}
+
+/// The VM file is written while slots hold blocks of it.
+#[tactic(auto, unfolding(crate::specs::Held::written_words))]
+pub(crate) fn put_written(out: &mut Vec<u8>, place: &Place) -> Done
+    ensures { OnOk result (out.new.items ≡ out.old.items ++ written_words (place_of place.now)) }
+{
+    let before = out.len();
+    put_slots_at(out, HeldAt::Write, place)?;
+    put_written_behind(out, before, has_borrowed(place.row))?;
+    put_sinces_at(out, HeldAt::Write, place)
 }

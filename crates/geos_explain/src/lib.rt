@@ -76,7 +76,6 @@ mod unset;
 mod uses;
 mod ways;
 mod words;
-mod written;
 
 pub use budgets::what_is_said_of_budgets_holds;
 pub use causes::explain_cause;

@@ -1,6 +1,6 @@
 use Rattle.std.proofs.Common.{sym}
-use Rattle.geos_explain.specs.Written.{written_behind}
-use Rattle.geos_explain.proofs.written.put_written_behind.Goals as goal
+use Rattle.geos_explain.specs.Held.{written_behind}
+use Rattle.geos_explain.proofs.held.put_written_behind.Goals as goal
 
 pub returns : goal.returns
 unfolding written_behind
