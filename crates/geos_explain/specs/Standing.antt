@@ -1,5 +1,9 @@
 -- That a routine is one of an image, and an instruction one of the routine.
 use Rattle.std.specs.Prelude.{◌≡◌, ◌<◌, ◌≤◌, ℕ, ◌+◌, true, length, slice_get, IfSome}
+use Rattle.std.specs.Coded.{Unit-prop, le_prop}
+use Rattle.geos_image.specs.Fields.{OperandFits}
+use Rattle.geos_opcodes.specs.declared.opcode.Operand.{Operand}
+use Rattle.geos_opcodes.specs.declared.opcode.Operand.TheVariants.{Unused, Word, Counter, Slot, Pointer, Number, Shift, Routine as OfRoutine, Label}
 use Rattle.geos_explain.specs.Below.{Instr, Routine, FieldsFit, CalleeFits, is_image, Parts, start_of, KeepsLimits}
 
 -- there is a routine r in the image, whose instructions are some of the image's, which is no longer than images may be
@@ -21,3 +25,15 @@ pub record IsPlace (image : Parts) (r : ℕ) (routine : Routine) (pc : ℕ) (i :
   pub fields : FieldsFit i.opcode i
   pub callee : CalleeFits (length image.routines) i
   pub limits : KeepsLimits image i
+
+-- that an operand fits has one proof at most
+pub OperandFits-prop : (operand : Operand) (n : ℕ) → IsProp (OperandFits operand n)
+OperandFits-prop Unused n = Unit-prop
+OperandFits-prop Word n = le_prop
+OperandFits-prop Counter n = le_prop
+OperandFits-prop Slot n = le_prop
+OperandFits-prop Pointer n = le_prop
+OperandFits-prop Number n = le_prop
+OperandFits-prop Shift n = le_prop
+OperandFits-prop OfRoutine n = Unit-prop
+OperandFits-prop Label n = Unit-prop

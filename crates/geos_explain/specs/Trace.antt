@@ -4,9 +4,14 @@ use Rattle.geos_explain.specs.Below.{Edge, Has}
 use Rattle.geos_explain.specs.declared.finding.Finding.{Finding}
 use Rattle.geos_explain.specs.declared.trace.FirstWays.{FirstWays}
 use Rattle.geos_explain.specs.declared.trace.Trace.{Trace}
+use Rattle.geos_explain.specs.declared.trace.Tracing.{Tracing}
 use Rattle.geos_explain.specs.declared.ways.Way.TheVariants.{Along}
-use Rattle.geos_explain.specs.Lost.{LacksFrom, NoWay, FindsWay, IsBringing, IsWay, Holds}
-use Rattle.geos_explain.specs.Places.{Place, comes_alike}
+use Rattle.geos_explain.specs.Lost.{AreHints, LacksFrom, NoWay, FindsWay, IsBringing, IsWay, Holds}
+use Rattle.geos_explain.specs.Places.{Place, comes_alike, place_of}
+
+-- what is said of a pointer that is followed back is so, at each pc on some way
+pub record CanFollow (tracing : Tracing) : Type 0 where
+  pub hints : AreHints (place_of tracing.place.now) tracing.p tracing.arrivals
 
 -- ways to a pc from where the pointer can be lacking: one brings it, and one does not, if there are such
 pub record AreWays (place : Place) (p : ℕ) (ways : FirstWays) : Type 0 where

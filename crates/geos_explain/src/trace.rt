@@ -7,8 +7,8 @@ ghost use Rattle.geos_verify.specs.Places.{places};
 ghost use Rattle.geos_explain.specs.Places.{comes_alike, place_of};
 ghost use Rattle.geos_explain.specs.declared.ways.Way.TheVariants.{Along};
 ghost use Rattle.geos_explain.specs.Ways.{empty_on};
-ghost use Rattle.geos_explain.specs.Lost.{AreHints, IsHint, LacksBehind, LacksFrom, IsWay, IsMeeting, IsEnd};
-ghost use Rattle.geos_explain.specs.Trace.{AreWays, IsFinding, IsSound};
+ghost use Rattle.geos_explain.specs.Lost.{IsHint, LacksBehind, LacksFrom, IsWay, IsMeeting, IsEnd};
+ghost use Rattle.geos_explain.specs.Trace.{CanFollow, AreWays, IsFinding, IsSound};
 
 use crate::arrivals::{Arrivals, all_arrivals, arrival};
 use crate::finding::{End, Finding, Loss, Meeting};
@@ -25,7 +25,6 @@ pub(crate) struct Tracing<'a> {
     pub place: &'a Place<'a>,
     pub p: u8,
     pub arrivals: Arrivals,
-    ghost hints: { AreHints (place_of place.now) p arrivals },
 }
 
 /// The first ways to a pc: one that brings the pointer, and one that does not.
@@ -166,6 +165,7 @@ fn pass(trace: &mut Trace, tracing: &Tracing, waits: &mut Pending, at: u16)
 
 /// The pointer, and what is known of it on some way to the pc.
 fn hint_at(tracing: &Tracing, from: u16) -> Followed
+    requires { CanFollow tracing.now }
     ensures pointer { result.p ≡ tracing.now.p }
     ensures hint { IsHint (place_of tracing.now.place.now) tracing.now.p from result.hint }
 {
@@ -193,6 +193,7 @@ fn step_by(
     edge: Edge,
     point: &KnownPlace,
 )
+    requires tracing { CanFollow tracing.now }
     requires there { slice_get (places tracing.now.place.now.image.now) edge.from ≡ Some point.now }
     requires lacks { LacksFrom (place_of tracing.now.place.now) tracing.now.p (end_of edge point.now.instr) }
     requires sound { IsSound (place_of tracing.now.place.now) tracing.now.p trace.old }
@@ -221,6 +222,7 @@ fn step_along(
     edge: Edge,
     point: &KnownPlace,
 )
+    requires tracing { CanFollow tracing.now }
     requires there { slice_get (places tracing.now.place.now.image.now) edge.from ≡ Some point.now }
     requires sound { IsSound (place_of tracing.now.place.now) tracing.now.p trace.old }
     ensures { IsSound (place_of tracing.now.place.now) tracing.now.p trace.new }
@@ -232,6 +234,7 @@ fn step_along(
 
 /// The same along both edges of the instruction at a pc, which no longer waits.
 fn step_from(trace: &mut Trace, tracing: &Tracing, waits: &mut Pending, from: u16)
+    requires tracing { CanFollow tracing.now }
     requires low { from < 4096 }
     requires sound { IsSound (place_of tracing.now.place.now) tracing.now.p trace.old }
     ensures { IsSound (place_of tracing.now.place.now) tracing.now.p trace.new }
@@ -250,6 +253,7 @@ fn step_from(trace: &mut Trace, tracing: &Tracing, waits: &mut Pending, from: u1
 
 /// The same of those of the routine's instructions that wait, the last of them first, and whether one of them did.
 fn sweep_back(trace: &mut Trace, tracing: &Tracing, waits: &mut Pending) -> bool
+    requires tracing { CanFollow tracing.now }
     requires sound { IsSound (place_of tracing.now.place.now) tracing.now.p trace.old }
     ensures { IsSound (place_of tracing.now.place.now) tracing.now.p trace.new }
 {
@@ -269,6 +273,7 @@ fn sweep_back(trace: &mut Trace, tracing: &Tracing, waits: &mut Pending) -> bool
 /// Steps back until none waits. Each sweep but the last passes one place more at least, so there are at most as many as the
 /// routine has instructions.
 fn step_back(trace: &mut Trace, tracing: &Tracing, waits: &mut Pending)
+    requires tracing { CanFollow tracing.now }
     requires sound { IsSound (place_of tracing.now.place.now) tracing.now.p trace.old }
     ensures { IsSound (place_of tracing.now.place.now) tracing.now.p trace.new }
 {
@@ -282,6 +287,7 @@ fn step_back(trace: &mut Trace, tracing: &Tracing, waits: &mut Pending)
 /// A step back along the way of a meeting that does not bring the pointer, unless it is known why not; nothing else was passed
 /// before.
 fn step_aside(trace: &mut Trace, tracing: &Tracing, waits: &mut Pending, meeting: Meeting)
+    requires tracing { CanFollow tracing.now }
     requires meets { IsMeeting (place_of tracing.now.place.now) tracing.now.p meeting }
     requires sound { IsSound (place_of tracing.now.place.now) tracing.now.p trace.old }
     ensures { IsSound (place_of tracing.now.place.now) tracing.now.p trace.new }
