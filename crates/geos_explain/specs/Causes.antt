@@ -93,7 +93,7 @@ in_ring_text lines ring = codes "loops set the counters of each other in a ring:
 
 -- the steps pass the limit where a word is so large as it may be
 unfoldable pub by_word_text : List ℕ → ByWord → List ℕ
-by_word_text lines by_word = concat (codes "the steps may pass 4,294,967,295, since w" ∷ decimal by_word.word ∷ codes " may be " ∷ decimal by_word.most ∷ codes " at" ∷ pc_text lines by_word.at ∷ codes ": CHK it" ∷ [])
+by_word_text lines by_word = concat (codes "the steps may pass 4,294,967,295, since w" ∷ decimal by_word.word ∷ codes " may be " ∷ decimal by_word.most ∷ codes " at" ∷ pc_text lines by_word.at ∷ codes ": CHK it by a lower number" ∷ [])
 
 -- a counter is set to a number
 unfoldable pub set_to_text : List ℕ → ByNumber → List ℕ
@@ -101,7 +101,7 @@ set_to_text lines by_number = concat (codes "k" ∷ decimal by_number.counter �
 
 -- none were found that fit, where a word is so large as it may be
 unfoldable pub dear_word_text : List ℕ → ByWord → List ℕ
-dear_word_text lines by_word = concat (codes "no steps up to 4,294,967,295 were found; w" ∷ decimal by_word.word ∷ codes " may be " ∷ decimal by_word.most ∷ codes " at" ∷ pc_text lines by_word.at ∷ codes ", which sets k" ∷ decimal by_word.counter ∷ codes ": CHK it" ∷ [])
+dear_word_text lines by_word = concat (codes "no steps up to 4,294,967,295 were found; w" ∷ decimal by_word.word ∷ codes " may be " ∷ decimal by_word.most ∷ codes " at" ∷ pc_text lines by_word.at ∷ codes ", which sets k" ∷ decimal by_word.counter ∷ codes ": CHK it by a lower number" ∷ [])
 
 -- why no rows or no numbers of steps are found
 abbrev pub cause_words : List ℕ → List Instr → Cause → List ℕ

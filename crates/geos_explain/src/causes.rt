@@ -222,7 +222,7 @@ fn put_by_word(out: &mut Vec<u8>, lines: &[u32], by_word: &ByWord) -> Done
 {
     put!(out;
         "the steps may pass 4,294,967,295, since w" {by_word.word} " may be " {by_word.most} " at"
-        (pc_part(lines, by_word.at)) ": CHK it"
+        (pc_part(lines, by_word.at)) ": CHK it by a lower number"
     )
 }
 
@@ -233,7 +233,7 @@ fn put_dear_word(out: &mut Vec<u8>, lines: &[u32], by_word: &ByWord) -> Done
 {
     put!(out;
         "no steps up to 4,294,967,295 were found; w" {by_word.word} " may be " {by_word.most} " at"
-        (pc_part(lines, by_word.at)) ", which sets k" {by_word.counter} ": CHK it"
+        (pc_part(lines, by_word.at)) ", which sets k" {by_word.counter} ": CHK it by a lower number"
     )
 }
 
