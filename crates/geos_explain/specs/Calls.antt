@@ -31,12 +31,12 @@ unfoldable pub call_head : Place → ℕ → ℕ → List ℕ
 call_head place from r =
     concat (codes "; CALL at" ∷ pc_text place.lines from ∷ codes " leaves what the out line of " ∷ name_at place.image r ∷ codes " says" ∷ [])
 
--- what helps where a call of routine r forgets an item, which a row knows: to say it in the lines of that routine, or, where the
--- routine changes its slot, to take another slot
+-- what helps where a call of routine r forgets an item, which a row knows: to say it in the lines of that routine, unless the routine
+-- changes its slot: where it locks a block into it, to take another slot
 unfoldable pub kept_wish : Place → Item → ℕ → Row → List ℕ
 kept_wish place item r row = elim (changed_by place.image r item) [
   | None ↦ codes ": say" ++ item_text row item ++ lines_of (name_at place.image r)
-  | Some a ↦ codes ", and" ++ changed_words (name_at place.image r) a
+  | Some a ↦ codes ", and" ++ changed_words place.image r (name_at place.image r) a
 ]
 
 -- a call forgets an item, and what helps
@@ -82,12 +82,12 @@ forgotten_of place wanted k =
 abbrev pub forgotten_items : Place → Row → List ℕ
 forgotten_items place wanted = texts_below 8 (λ k. forgotten_of place wanted k)
 
--- what a slot holds that is held at a call of routine r, and what helps: to say it in the lines of that routine, or, where the
--- routine changes the slot, to take another slot
+-- what a slot holds that is held at a call of routine r, and what helps: to say it in the lines of that routine, unless the routine
+-- changes the slot: where it locks a block into it, to take another slot
 unfoldable pub lent_item : Place → ℕ → Routine → ℕ → List ℕ
 lent_item place r callee a = elim (changed_by place.image r (Held a)) [
   | None ↦ codes "; say" ++ state_item a place.row ++ lines_of (name_of callee)
-  | Some a ↦ codes ";" ++ changed_words (name_of callee) a
+  | Some a ↦ codes ";" ++ changed_words place.image r (name_of callee) a
 ]
 
 -- the same, where the routine wants the slot empty

@@ -7,14 +7,14 @@ use Rattle.geos_explain.specs.Numbers.{pc_text}
 abbrev pub name_text : List ℕ → List ℕ
 name_text name = take (unwrap_or (text_end name) 16) name
 
--- a CALL leaves a slot empty: that it is held is to be said in the lines of its routine, or, where that changes the slot, another is
--- to be taken
+-- a CALL leaves a slot empty: that it is held is to be said in the lines of its routine, or, where that locks a block into the slot,
+-- another is to be taken
 unfoldable pub emptied_text : List ℕ → ℕ → Emptied → List ℕ
 emptied_text lines a emptied =
     concat (codes "; CALL at" ∷ pc_text lines emptied.at ∷ codes " leaves what the out line of " ∷ name_text emptied.callee
     ∷ codes " says: say s" ∷ decimal a ∷ codes "=" ∷ state_word emptied.state
     ∷ codes " in the in and out lines of " ∷ name_text emptied.callee
-    ∷ codes "; where " ∷ name_text emptied.callee ∷ codes " locks or unlocks s" ∷ decimal a
+    ∷ codes "; where " ∷ name_text emptied.callee ∷ codes " locks a block into s" ∷ decimal a
     ∷ codes " itself, hold the block in another slot" ∷ [])
 
 -- the same, where what the slot held agrees with what it holds on the other way

@@ -61,15 +61,15 @@ fn put_call_head(out: &mut Vec<u8>, place: &Place, from: u16, r: u16) -> Done
     )
 }
 
-/// What helps where a call of routine r forgets the item, which the row knows: to say it in the lines of that routine, or, where the
-/// routine changes its slot, to take another slot.
+/// What helps where a call of routine r forgets the item, which the row knows: to say it in the lines of that routine, unless the
+/// routine changes its slot: where it locks a block into it, to take another slot.
 #[tactic(auto, unfolding(crate::specs::Calls::kept_wish))]
 fn put_kept_wish(out: &mut Vec<u8>, place: &Place, item: Item, r: u16, row: &Row) -> Done
     ensures { OnOk result (out.new.items ≡ out.old.items ++ kept_wish (place_of place.now) item r row.now) }
 {
     if let Some(a) = changed_by(place.image, r, item) {
         out.extend_from_slice(b", and")?;
-        return put_changed(out, name_at(place.image, r), a);
+        return put_changed(out, place.image, r, name_at(place.image, r), a);
     }
     out.extend_from_slice(b": say")?;
     put_item(out, row, item)?;
@@ -184,15 +184,15 @@ pub(crate) fn put_forgotten_items(out: &mut Vec<u8>, place: &Place, wanted: &Row
     Ok(())
 }
 
-/// What a slot holds that is held at a call of routine r, and what helps: to say it in the lines of that routine, or, where the routine
-/// changes the slot, to take another slot.
+/// What a slot holds that is held at a call of routine r, and what helps: to say it in the lines of that routine, unless the routine
+/// changes the slot: where it locks a block into it, to take another slot.
 #[tactic(auto, unfolding(crate::specs::Calls::lent_item))]
 fn put_lent(out: &mut Vec<u8>, place: &Place, r: u16, callee: &Routine, a: u8) -> Done
     ensures { OnOk result (out.new.items ≡ out.old.items ++ lent_item (place_of place.now) r callee.now a) }
 {
     if let Some(a) = changed_by(place.image, r, Item::Held(a)) {
         out.extend_from_slice(b";")?;
-        return put_changed(out, callee.name_text(), a);
+        return put_changed(out, place.image, r, callee.name_text(), a);
     }
     out.extend_from_slice(b"; say")?;
     put_state(out, a, place.row)?;

@@ -27,8 +27,8 @@ fn name_text(name: &[u8; 16]) -> &[u8]
     &name[..end]
 }
 
-/// A CALL leaves a slot empty: that it is held is to be said in the lines of its routine, or, where that changes the slot, another
-/// is to be taken.
+/// A CALL leaves a slot empty: that it is held is to be said in the lines of its routine, or, where that locks a block into the
+/// slot, another is to be taken.
 #[tactic(auto, unfolding(crate::specs::Emptied::emptied_text))]
 fn put_emptied(out: &mut Vec<u8>, lines: &[u32], a: usize, emptied: &Emptied) -> Done
     ensures { OnOk result (out.new.items ≡ out.old.items ++ emptied_text lines.now a emptied.now) }
@@ -37,7 +37,7 @@ fn put_emptied(out: &mut Vec<u8>, lines: &[u32], a: usize, emptied: &Emptied) ->
     put!(out;
         "; CALL at" (pc_part(lines, emptied.at)) " leaves what the out line of " bytes(name)
         " says: say s" {a} "=" [state_word(emptied.state)] " in the in and out lines of "
-        bytes(name) "; where " bytes(name) " locks or unlocks s" {a}
+        bytes(name) "; where " bytes(name) " locks a block into s" {a}
         " itself, hold the block in another slot"
     )
 }
