@@ -1,21 +1,13 @@
 -- A call that is said to forget an item does.
 use Rattle.std.proofs.Common.{◌≡◌, ◌+◌, ◌≤◌, ℕ, zero, suc, Bool, true, false, not, Option, Some, None, slice_get, refl, subst, arith}
 use Rattle.std.specs.Prelude.{◌&&◌}
-use Rattle.std.proofs.lemmas.Bool.{and_parts, cond_both, not-true}
-use Rattle.geos_verify.specs.declared.place.Place.{Place as KnownPlace}
-use Rattle.geos_verify.specs.Places.{places}
-use Rattle.geos_image.specs.Parts.{start_of}
-use Rattle.geos_verify.specs.Rows.{after, has_edge}
-use Rattle.geos_flow.specs.declared.edge.Edge.{Edge}
+use Rattle.geos_explain.proofs.Below.{and_parts, cond_both, not-true, KnownPlace, places, start_of, after, has_edge, Edge, Back, end_of, elim_both}
 use Rattle.geos_explain.specs.declared.forgotten.Item.{Item}
-use Rattle.geos_flow.specs.declared.search.Heading.TheVariants.{Back}
-use Rattle.geos_flow.specs.Edges.{end_of}
 use Rattle.geos_explain.specs.Forgotten.{knows, comes_lacked, stays_lacked, is_lacked_from, forgets_item, forgets_at, IsLackedFrom, IsForgottenBy, WhatIsSaidOfCallsHolds}
 use Rattle.geos_explain.specs.Moved.{moves, moves_at, if_round, IsMovedRound, WhatIsSaidOfRoundsHolds}
 use Rattle.geos_explain.specs.Places.{Place, comes_alike, last_of}
 use Rattle.geos_explain.specs.Since.{IsInside}
 use Rattle.geos_explain.specs.Ways.{forgets}
-use Rattle.geos_flow.proofs.Choices.{elim_both}
 use Rattle.geos_explain.proofs.Leads.{leads-is}
 use Rattle.geos_explain.proofs.Holding.{inside-at}
 

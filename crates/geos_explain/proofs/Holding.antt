@@ -1,19 +1,11 @@
 -- What is said of a slot that is held is so, and all that is so is said.
 use Rattle.std.proofs.Common.{◌≡◌, ◌+◌, ◌-◌, ◌<◌, ◌≤◌, ℕ, zero, suc, Bool, true, false, not, cond, Some, slice_get, refl, sym, ◌∙◌, subst, inl, inr, arith}
 use Rattle.std.specs.Prelude.{◌&&◌, ◌↔◌, nat_le, nat_lt}
-use Rattle.std.proofs.lemmas.Bool.{and_parts, and_from, or_cases, or_left, or_right, not-true, not_from_false, cond_both, cases_lt, le-leb, leb-true, lt-ltb, ltb-true}
-use Rattle.geos_verify.specs.declared.place.Place.{Place as KnownPlace}
-use Rattle.geos_verify.specs.Places.{places}
-use Rattle.geos_image.specs.Parts.{start_of}
-use Rattle.geos_verify.specs.Rows.{after, has_edge}
-use Rattle.geos_flow.specs.declared.edge.Edge.{Edge}
-use Rattle.geos_flow.specs.declared.search.Heading.TheVariants.{Back}
-use Rattle.geos_flow.specs.Edges.{end_of}
+use Rattle.geos_explain.proofs.Below.{and_parts, and_from, or_cases, or_left, or_right, not-true, not_from_false, cond_both, cases_lt, le-leb, leb-true, lt-ltb, ltb-true, KnownPlace, places, start_of, after, has_edge, Edge, Back, end_of, elim_both}
 use Rattle.geos_explain.specs.declared.since.Since.{Since}
 use Rattle.geos_explain.specs.declared.since.Since.TheVariants.{Unknown, Entry, EntryOrOther, Once, Often}
 use Rattle.geos_explain.specs.Places.{Place, comes_alike}
 use Rattle.geos_explain.specs.Since.{holds, keeps_along, leads_held, leads_on, stays_held, is_held_from, fills_at, one_more, also, since_entry, since_below, IsInside, IsHeldFrom, IsSince, IsSinceEntry, IsSaidOf, IsAllOf, WhatIsSaidOfSlotsHolds}
-use Rattle.geos_flow.proofs.Choices.{elim_both}
 use Rattle.geos_explain.proofs.Leads.{leads-is}
 
 module _ (place : Place) (a : ℕ) where

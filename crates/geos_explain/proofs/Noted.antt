@@ -1,30 +1,9 @@
 -- Explanations without their notes are the listing, or the author's text.
 use Rattle.std.proofs.Common.{◌≡◌, ◌<◌, ◌+◌, ◌-◌, inl, inr, ℕ, zero, suc, Bool, true, false, cond, List, [], ◌∷◌, ◌++◌, length, Option, Some, None, slice_get, refl, ap, arith, append_assoc, take, sym, ◌∙◌}
 use Rattle.std.specs.Prelude.{◌&&◌, if◌then◌else◌, nat_le, nat_lt, ◌==◌, codes, count_by, decimal, All}
-use Rattle.std.specs.List.{concat}
-use Rattle.std.proofs.lemmas.List.{append-nil}
-use Rattle.std.proofs.lemmas.List.Folds.{concat-append}
-use Rattle.geos_verify.specs.Rules.{over_budget}
-use Rattle.std.proofs.lemmas.Bool.{and_parts, cond_both, ltb-true}
-use Rattle.std.proofs.lemmas.List.Elements.{All-nil, All-cons, All-append}
-use Rattle.std.proofs.lemmas.Bool.Decides.{nat_tests}
-use Rattle.std.specs.Option.{option_map_or}
-use Rattle.std.specs.Str.Lines.{lines}
-use Rattle.geos_image.specs.declared.point.Point.{Point}
-use Rattle.geos_image.specs.declared.instr.Instr.{Instr}
-use Rattle.geos_image.specs.declared.routine.Routine.{Routine}
-use Rattle.geos_image.specs.Parts.{Parts, start_of}
-use Rattle.geos_image.specs.Legal.{is_image}
-use Rattle.geos_image.proofs.Instrs.{image_parts}
+use Rattle.geos_explain.proofs.Below.{concat, append-nil, concat-append, over_budget, and_parts, cond_both, ltb-true, All-nil, All-cons, All-append, nat_tests, option_map_or, lines, Point, Instr, Routine, Parts, start_of, is_image, image_parts, name_of, label_line, instr_code, Rule, OverBudget, rule_number, KnownPlace, places, elim_both}
 use Rattle.geos_listing.specs.Rows.{texts_below}
-use Rattle.geos_listing.specs.Instrs.{name_of, label_line, instr_code}
-use Rattle.geos_verify.specs.declared.rule.Rule.{Rule}
-use Rattle.geos_verify.specs.declared.rule.Rule.TheVariants.{OverBudget}
-use Rattle.geos_verify.specs.RuleText.{rule_number}
 use Rattle.geos_verify.proofs.Places.{item_at, places-length, place-at, point-of}
-use Rattle.geos_verify.specs.declared.place.Place.{Place as KnownPlace}
-use Rattle.geos_verify.specs.Places.{places}
-use Rattle.geos_flow.proofs.Choices.{elim_both}
 use Rattle.geos_explain.specs.Places.{Place, Explained, place_at}
 use Rattle.geos_explain.specs.Notes.{where_text, note_head, known_here, potential_text, note}
 use Rattle.geos_explain.specs.Words.{words, refusal_line}

@@ -1,16 +1,8 @@
 -- What is said where a potential is above its budget is so.
 use Rattle.std.proofs.Common.{◌≡◌, ◌+◌, ◌≤◌, ◌⊎◌, ℕ, zero, suc, Bool, true, false, not, Option, Some, None, slice_get, refl, subst, inl, inr, arith}
 use Rattle.std.specs.Prelude.{◌&&◌, nat_lt}
-use Rattle.std.proofs.lemmas.Bool.{and_parts}
-use Rattle.geos_image.specs.declared.instr.Instr.{Instr}
-use Rattle.geos_image.specs.declared.point.Point.{Point}
-use Rattle.geos_image.specs.declared.row.Row.{Row}
-use Rattle.geos_image.specs.Parts.{Parts, start_of}
-use Rattle.geos_opcodes.specs.Facts.{facts}
+use Rattle.geos_explain.proofs.Below.{and_parts, Instr, Point, Row, Parts, start_of, facts, calls, Ahead, elim_both}
 use Rattle.geos_verify.specs.Rules.{call_misfits}
-use Rattle.geos_verify.specs.Touched.{calls}
-use Rattle.geos_flow.specs.declared.search.Heading.TheVariants.{Ahead}
-use Rattle.geos_flow.proofs.Choices.{elim_both}
 use Rattle.geos_explain.proofs.Leads.{leads-is}
 use Rattle.geos_explain.specs.Budgets.{calls_on, calls_on_at, IsNeverServed, WhatIsSaidOfBudgetsHolds}
 use Rattle.geos_explain.specs.Places.{Place, first_or, first_of}

@@ -1,7 +1,5 @@
 use Rattle.std.proofs.Common.{◌≤◌, length, refl, arith}
-use Rattle.std.proofs.lemmas.List.{take_rest}
-use Rattle.std.proofs.lemmas.Option.{slice_get_past}
-use Rattle.geos_image.specs.Parts.{start_of}
+use Rattle.geos_explain.proofs.Below.{take_rest, slice_get_past, start_of}
 use Rattle.geos_explain.specs.Changed.{changes_slot}
 use Rattle.geos_explain.proofs.changed.changes_slot.Goals as goal
 

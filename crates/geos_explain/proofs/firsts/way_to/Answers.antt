@@ -1,6 +1,5 @@
 use Rattle.std.proofs.Common.{◌≡◌, true, false, Some, None, sym, ap, ◌∙◌, subst}
-use Rattle.geos_flow.specs.Edges.{end_in}
-use Rattle.geos_flow.specs.Graphs.{IsFirstInto}
+use Rattle.geos_explain.proofs.Below.{end_in, IsFirstInto}
 use Rattle.geos_explain.specs.declared.ways.Way.TheVariants.{Entry}
 use Rattle.geos_explain.specs.Lost.{IsWay}
 use Rattle.geos_explain.specs.Places.{place_of}

@@ -1,7 +1,5 @@
 use Rattle.std.proofs.Common.{◌≡◌, refl}
-use Rattle.geos_verify.specs.declared.place.Place.{Place as KnownPlace}
-use Rattle.geos_verify.proofs.Known.{by-parts}
-use Rattle.geos_listing.proofs.Limits.{KeepsLimits-at}
+use Rattle.geos_explain.proofs.Below.{KnownPlace, by-parts, KeepsLimits-at}
 use Rattle.geos_explain.specs.Places.{Place, explained_of, place_at}
 use Rattle.geos_explain.proofs.routines.place_at.Goals as goal
 

@@ -1,7 +1,6 @@
 use Rattle.std.proofs.Common.{◌≡◌, ℕ, None, sym, ap, ◌∙◌, subst}
 use Rattle.std.specs.Prelude.{IfSome}
-use Rattle.geos_flow.specs.Marks.{marked}
-use Rattle.geos_flow.specs.Waiting.{Has}
+use Rattle.geos_explain.proofs.Below.{marked, Has}
 use Rattle.geos_explain.specs.declared.trace.Trace.{Trace}
 use Rattle.geos_explain.specs.Lost.{LacksFrom, IsEnd, IsLost, IsMeeting}
 use Rattle.geos_explain.specs.Places.{place_of}
