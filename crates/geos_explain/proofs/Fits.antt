@@ -150,9 +150,9 @@ lengths row shaped =
       pairs = eqb-true _ _ pairs.1;
     }
 
-pub lacks-nothing : LacksNothingWhereItFits
+pub lacks_nothing : LacksNothingWhereItFits
 unfolding lacking_items row_items
-lacks-nothing known wanted shaped shaped_wanted words = (
+lacks_nothing known wanted shaped shaped_wanted words = (
   λ none. (let held = none-append (bounds ++ slots ++ pointers ++ pairs) held_slots none in
       let fourth = none-append (bounds ++ slots ++ pointers) pairs held.0 in
       let third = none-append (bounds ++ slots) pointers fourth.0 in

@@ -67,13 +67,13 @@ last-of place is from (suc n) short =
     (subst (λ k. is k ≡ true) is_from here, subst (IsInside place) is_from (inside-at place 0 n (omega arith)))))
     (λ not_so. last-of place is from n (omega arith))
 
-pub said-of-calls : WhatIsSaidOfCallsHolds
-said-of-calls place item from said =
+pub said_of_calls : WhatIsSaidOfCallsHolds
+said_of_calls place item from said =
     let found = last-of place (forgets_at place item) from place.routine.count (omega arith) said in
     forgets-forgotten place item from found.1 found.0
 
-pub said-of-rounds : WhatIsSaidOfRoundsHolds
-said-of-rounds place item w from = by_last (last_of place (moves_at place item w) place.routine.count) refl
+pub said_of_rounds : WhatIsSaidOfRoundsHolds
+said_of_rounds place item w from = by_last (last_of place (moves_at place item w) place.routine.count) refl
   where
     by_last : (last : Option ℕ) → last_of place (moves_at place item w) place.routine.count ≡ last
         → if_round place item last ≡ Some from → IsMovedRound place item w from

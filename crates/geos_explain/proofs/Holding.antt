@@ -194,7 +194,7 @@ module _ (place : Place) (a : ℕ) where
   )
   all-of (Often last) all = all
 
-pub said-of-slots : WhatIsSaidOfSlotsHolds
-said-of-slots place a =
+pub said_of_slots : WhatIsSaidOfSlotsHolds
+said_of_slots place a =
     let said = below-said place a place.routine.count (omega arith) in
     (said.is, all-of place a (since_below place a place.routine.count) said.all)

@@ -155,9 +155,9 @@ routine-with explained r = by_routine (slice_get explained.image.routines r) ref
         let listed : ℕ → List ℕ = λ k. place_with (note_at explained r) explained.image (start + k) in
         ap (λ text. head_text routine ++ text) (texts_below-same routine.count told listed (λ k. place-with explained r (start + k) routine is))
 
-pub explanation-listed : ExplanationIsListingWithNotes
+pub explanation_listed : ExplanationIsListingWithNotes
 unfolding head_text
-explanation-listed image refused findings =
+explanation_listed image refused findings =
     let explained : Explained = record { image = image; lines = []; refused = refused; findings = findings } in
     let listed : IsListingWithNotes image (explanation image refused findings) = record {
       note = note_at explained;
@@ -219,7 +219,7 @@ lines-behind explained legal pc number (line ∷ texts) =
     let here = behind_line explained pc number in
     (here ∷ rest.0, All-cons IsBehind here rest.0 (line-behind explained pc number legal) rest.1, omega (arith, rest.2), rw rest.3 refl)
 
-pub text-listed : ExplanationIsTextWithNotes
-text-listed text table image refused findings legal =
+pub text_listed : ExplanationIsTextWithNotes
+text_listed text table image refused findings legal =
     let told = lines-behind (record { image = image; lines = table; refused = refused; findings = findings }) legal 0 1 (lines text) in
     record { behind = told.0; each = told.1; many = told.2; is = told.3 }

@@ -221,8 +221,8 @@ leaves entry exit whole whole_exit enter =
           ) refl),
     )
 
-pub no-faults : NoFaultsWhereItMayEnterAndLeave
-no-faults entry exit shaped shaped_exit =
+pub no_faults : NoFaultsWhereItMayEnterAndLeave
+no_faults entry exit shaped shaped_exit =
     let whole = lengths entry shaped in
     let enter = enters entry whole in
     let leave = leaves entry exit whole (lengths exit shaped_exit) in (

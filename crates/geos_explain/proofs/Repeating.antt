@@ -131,5 +131,5 @@ told-below image refused told once (suc n) pc lt repeated =
       }
     ]
 
-pub repeated-told : RepeatedIsToldBefore
-repeated-told image refused told pc once repeated = told-below image refused told once (suc pc) pc (omega arith) repeated
+pub repeated_told : RepeatedIsToldBefore
+repeated_told image refused told pc once repeated = told-below image refused told once (suc pc) pc (omega arith) repeated

@@ -64,12 +64,12 @@ module _ (place : Place) where
         refused = λ row. ahead-refused place.image place.r point.instr row tests.0 tests.1;
       }))
 
-pub said-of-counters : WhatIsSaidOfCountersHolds
-said-of-counters place k from said =
+pub said_of_counters : WhatIsSaidOfCountersHolds
+said_of_counters place k from said =
     let found = first-of place (takes_at place k) from place.routine.count (omega arith) said in
     takes-unset place k from found.1 found.0
 
-pub said-of-budgets : WhatIsSaidOfBudgetsHolds
-said-of-budgets place from said =
+pub said_of_budgets : WhatIsSaidOfBudgetsHolds
+said_of_budgets place from said =
     let found = first-of place (calls_on_at place) from place.routine.count (omega arith) said in
     calls-refused place from found.1 found.0

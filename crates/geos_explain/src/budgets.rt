@@ -72,6 +72,7 @@ pub(crate) fn put_over(out: &mut Vec<u8>, place: &Place) -> Done
 
 /// A law: a call for which no budget is said to serve is one of the routine, and the rule on calls refuses it whatever the
 /// budget is.
+#[tactic(auto, using(crate::proofs::Serving::said_of_budgets))]
 pub fn what_is_said_of_budgets_holds()
     ensures { WhatIsSaidOfBudgetsHolds }
 {}

@@ -118,6 +118,7 @@ pub(crate) fn put_lacking(out: &mut Vec<u8>, known: &Row, wanted: &Row) -> Done
 }
 
 /// Where a row does not fit another, some item is named that it lacks, and where it fits, none.
+#[tactic(auto, using(crate::proofs::Fits::lacks_nothing))]
 pub fn rows_that_fit_lack_nothing()
     ensures { LacksNothingWhereItFits }
 {}

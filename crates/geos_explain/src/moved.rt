@@ -107,6 +107,7 @@ pub(crate) fn put_moved_round(out: &mut Vec<u8>, place: &Place, item: Item) -> D
 
 /// A law: an instruction that is said to move an index going round does; ways lead from it to the place and from there back
 /// to it, and no row on them knows the bound that is wanted.
+#[tactic(auto, using(crate::proofs::Forgetting::said_of_rounds))]
 pub fn what_is_said_of_rounds_holds()
     ensures { WhatIsSaidOfRoundsHolds }
 {}

@@ -197,6 +197,7 @@ pub(crate) fn put_public(out: &mut Vec<u8>, routine: &Routine) -> Done
 }
 
 /// Something is said against the rows of a public routine exactly where a caller from outside may not enter or leave by them.
+#[tactic(auto, using(crate::proofs::Outside::no_faults))]
 pub fn rows_without_faults_may_be_public()
     ensures { NoFaultsWhereItMayEnterAndLeave }
 {}

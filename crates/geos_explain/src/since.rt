@@ -170,6 +170,7 @@ pub(crate) fn held_since(place: &Place, a: u8) -> Since
 /// way leads to the place on which it is held all along; where another one is said to be, there is another such; and where the
 /// `in` line is named, the entry row has the slot held, and such a way leads there from the routine's beginning. Where the `in`
 /// line is not named, or no other place is said to be, it is not so.
+#[tactic(auto, using(crate::proofs::Holding::said_of_slots))]
 pub fn what_is_said_of_a_held_slot_holds()
     ensures { WhatIsSaidOfSlotsHolds }
 {}

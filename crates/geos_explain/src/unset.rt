@@ -155,6 +155,7 @@ pub(crate) fn put_unset_items(out: &mut Vec<u8>, place: &Place) -> Done
 
 /// A law: an instruction that is named takes from the counter, and a way leads to it from the place on which no instruction
 /// sets the counter or takes from it, and on which the counter pays all along.
+#[tactic(auto, using(crate::proofs::Serving::said_of_counters))]
 pub fn what_is_said_of_counters_holds()
     ensures { WhatIsSaidOfCountersHolds }
 {}

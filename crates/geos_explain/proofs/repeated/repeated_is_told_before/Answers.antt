@@ -1,5 +1,0 @@
-use Rattle.geos_explain.proofs.Repeating.{repeated-told}
-use Rattle.geos_explain.proofs.repeated.repeated_is_told_before.Goals as goal
-
-pub returns : goal.returns
-returns c = repeated-told
