@@ -55,11 +55,17 @@ leads_text back = if nat_lt back.from back.to then codes " leads on to" else cod
 unfoldable pub back_text : List ℕ → BackWay → List ℕ
 back_text lines back = concat (pc_text lines back.from ∷ leads_text back ∷ pc_text lines back.to ∷ [])
 
+-- that this is within the loop of a way that leads back
+abbrev pub own_loop_text : List ℕ → BackWay → List ℕ
+own_loop_text lines back = codes ", within its own loop:" ++ back_text lines back
+
+-- a counter is set
+unfoldable pub set_text : List ℕ → Within → List ℕ
+set_text lines within = concat (codes "k" ∷ decimal within.counter ∷ codes " is set at" ∷ pc_text lines within.at ∷ [])
+
 -- a counter is set within its loop
 unfoldable pub within_text : List ℕ → Within → List ℕ
-within_text lines within =
-    concat (codes "k" ∷ decimal within.counter ∷ codes " is set at" ∷ pc_text lines within.at ∷ [])
-    ++ codes ", within its own loop:" ++ back_text lines within.back
+within_text lines within = set_text lines within ++ own_loop_text lines within.back
 
 -- a call touches a counter
 unfoldable pub call_text : List ℕ → Within → List ℕ
@@ -67,21 +73,32 @@ call_text lines within = concat (codes "the call at" ∷ pc_text lines within.at
 
 -- a call touches a counter within its loop
 unfoldable pub touched_text : List ℕ → Within → List ℕ
-touched_text lines within = call_text lines within ++ codes ", within its own loop:" ++ back_text lines within.back
+touched_text lines within = call_text lines within ++ own_loop_text lines within.back
+
+-- that nothing sets a counter before the loop of a way that leads back
+abbrev pub before_loop_text : List ℕ → BackWay → List ℕ
+before_loop_text lines back = codes ", which nothing sets before its loop:" ++ back_text lines back
 
 -- a call touches a counter that is not set behind it
 unfoldable pub touched_before_text : List ℕ → Within → List ℕ
-touched_before_text lines within = call_text lines within ++ codes ", which nothing sets before its loop:" ++ back_text lines within.back
+touched_before_text lines within = call_text lines within ++ before_loop_text lines within.back
 
 -- nothing sets a counter on a way to its loop
 unfoldable pub not_set_text : List ℕ → LoopOn → List ℕ
 not_set_text lines own =
     concat (codes "nothing sets k" ∷ decimal own.counter ∷ []) ++ codes " on a way to its loop:" ++ back_text lines own.back
 
+-- that this is in the loop of a way that leads back
+abbrev pub in_loop_text : List ℕ → BackWay → List ℕ
+in_loop_text lines back = codes " in the loop where" ++ back_text lines back
+
+-- a counter and where it is set
+unfoldable pub set_at_text : List ℕ → ℕ → ℕ → List ℕ
+set_at_text lines counter at = concat (codes "k" ∷ decimal counter ∷ codes " at" ∷ pc_text lines at ∷ [])
+
 -- a counter is set in the loop of a way that leads back
 unfoldable pub set_in_text : List ℕ → ℕ → ℕ → BackWay → List ℕ
-set_in_text lines counter at back =
-    concat (codes "k" ∷ decimal counter ∷ codes " at" ∷ pc_text lines at ∷ []) ++ codes " in the loop where" ++ back_text lines back
+set_in_text lines counter at back = set_at_text lines counter at ++ in_loop_text lines back
 
 -- two loops set the counters of each other
 unfoldable pub in_turn_text : List ℕ → LoopPair → List ℕ

@@ -135,7 +135,7 @@ fn put_back(out: &mut Vec<u8>, text: &str, lines: &[u32], back: &BackWay) -> Don
 }
 
 /// A counter is set within its loop.
-#[tactic(auto, unfolding(crate::specs::Causes::within_text))]
+#[tactic(auto, unfolding(crate::specs::Causes::set_text, crate::specs::Causes::within_text))]
 fn put_within(out: &mut Vec<u8>, lines: &[u32], within: &Within) -> Done
     ensures { OnOk result (out.new.items ≡ out.old.items ++ within_text lines.now within.now) }
 {
@@ -184,7 +184,7 @@ fn put_not_set(out: &mut Vec<u8>, lines: &[u32], own: &LoopOn) -> Done
 }
 
 /// A counter is set in the loop of a way that leads back.
-#[tactic(auto, unfolding(crate::specs::Causes::set_in_text))]
+#[tactic(auto, unfolding(crate::specs::Causes::set_at_text, crate::specs::Causes::set_in_text))]
 fn put_set_in(out: &mut Vec<u8>, lines: &[u32], counter: u8, at: u16, back: &BackWay) -> Done
     ensures { OnOk result (out.new.items ≡ out.old.items ++ set_in_text lines.now counter at back.now) }
 {
