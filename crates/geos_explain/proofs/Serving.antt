@@ -4,10 +4,9 @@ use Rattle.std.specs.Prelude.{◌&&◌, nat_lt}
 use Rattle.geos_explain.proofs.Below.{and_parts, Instr, Point, Row, Parts, start_of, facts, calls, Ahead, elim_both}
 use Rattle.geos_verify.specs.Rules.{call_misfits}
 use Rattle.geos_explain.proofs.Leads.{leads-is}
-use Rattle.geos_explain.specs.Budgets.{calls_on, calls_on_at, IsNeverServed, WhatIsSaidOfBudgetsHolds}
+use Rattle.geos_explain.specs.Budgets.{calls_on, calls_on_at, IsNeverServed, WhatIsSaidOfBudgetsHolds, takes, stays_unset, is_unset_at, takes_at, IsTakenUnset, WhatIsSaidOfCountersHolds}
 use Rattle.geos_explain.specs.Places.{Place, first_or, first_of}
 use Rattle.geos_explain.specs.Since.{IsInside}
-use Rattle.geos_explain.specs.Unset.{takes, stays_unset, is_unset_at, takes_at, IsTakenUnset, WhatIsSaidOfCountersHolds}
 use Rattle.geos_explain.proofs.Holding.{inside-at}
 
 -- what is found was found before, or is here

@@ -4,8 +4,7 @@ use Rattle.geos_explain.specs.Below.{Routine, Parts, start_of, uses_of, KnownPla
 use Rattle.geos_explain.specs.declared.finding.Finding.{Finding}
 use Rattle.geos_explain.specs.declared.finding.Findings.{Findings}
 use Rattle.geos_explain.specs.Places.{Place, Explained, place_at}
-use Rattle.geos_explain.specs.Returned.{first_wanted}
-use Rattle.geos_explain.specs.Stale.{stale_used, findings_at}
+use Rattle.geos_explain.specs.Stale.{first_wanted, stale_used, findings_at}
 use Rattle.geos_explain.specs.Told.{is_told, rule_at, most_told}
 use Rattle.geos_explain.specs.Trace.{IsFinding}
 

@@ -16,13 +16,10 @@ pub mod Since
 pub mod Held
 pub mod Stale
 pub mod Forgotten
-pub mod Changed
 pub mod Calls
 pub mod Moved
 pub mod Steps
-pub mod Unset
 pub mod Budgets
-pub mod Returned
 pub mod Words
 pub mod Told
 pub mod Repeated
@@ -31,5 +28,4 @@ pub mod Refusals
 pub mod Explanation
 pub mod Texts
 pub mod Listed
-pub mod Emptied
 pub mod Causes

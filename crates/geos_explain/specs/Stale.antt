@@ -1,6 +1,6 @@
 -- Which pointers may be stale where they are used, and where and by what they became so.
-use Rattle.std.specs.Prelude.{ℕ, ◌==◌, Bool, false, ◌&&◌, if◌then◌else◌, List, [], ◌∷◌, ◌++◌, Option, Some, None, slice_get, slice_index_or, codes, decimal}
-use Rattle.geos_explain.specs.Below.{concat, option_map_or, Instr, Row, KnownPlace, places, Parts, name_of, word_of, uses_of, operands_of, SlotUse, Moves, Unlocks, MovesGroup, PointerUse, Copies, pointer_at, is_stale, Edge}
+use Rattle.std.specs.Prelude.{ℕ, ◌==◌, Bool, false, ◌&&◌, if◌then◌else◌, List, [], ◌∷◌, ◌++◌, Option, Some, None, slice_get, slice_index_or, codes, decimal, is_some}
+use Rattle.geos_explain.specs.Below.{concat, option_map_or, Instr, Row, KnownPlace, places, Parts, name_of, word_of, uses_of, operands_of, SlotUse, Moves, Unlocks, MovesGroup, PointerUse, Copies, pointer_at, is_stale, Edge, option_or}
 use Rattle.geos_explain.specs.Numbers.{pc_text}
 use Rattle.geos_explain.specs.Places.{Place}
 use Rattle.geos_explain.specs.Uses.{slot_behind}
@@ -13,6 +13,8 @@ use Rattle.geos_explain.specs.declared.finding.Finding.{Finding}
 use Rattle.geos_explain.specs.declared.finding.Findings.{Findings}
 use Rattle.geos_explain.specs.declared.finding.Meeting.{Meeting}
 use Rattle.geos_explain.specs.Ways.{with_hint, forgets, sets}
+use Rattle.geos_explain.specs.declared.forgotten.Item.TheVariants.{Leads}
+use Rattle.geos_explain.specs.Forgotten.{forgetting_call}
 
 -- a pointer, where the row knows nothing of it
 abbrev pub if_stale : Row → ℕ → Option ℕ
@@ -190,3 +192,25 @@ stale_words place =
     let found = findings_at place.findings place.pc in
     pointer_item stale.0 ++ pointer_item stale.1 ++ codes " may be stale here" ++ finding_item place stale.0 found.first
     ++ finding_item place stale.1 found.second
+
+-- a pointer that an exit row wants, where a row knows nothing of it
+abbrev pub if_wanted : Row → Row → ℕ → Option ℕ
+if_wanted row exit p = if is_stale (pointer_at exit p) then None else if_stale row p
+
+-- the first of these
+abbrev pub first_wanted : Row → Row → Option ℕ
+first_wanted row exit =
+    option_or (option_or (option_or (if_wanted row exit 0) (if_wanted row exit 1)) (if_wanted row exit 2)) (if_wanted row exit 3)
+
+-- the call that forgets a pointer that the exit row wants, if there is one
+abbrev pub forgetting_pointer : Place → ℕ → Option ℕ
+forgetting_pointer place p = elim (pointer_at place.routine.exit p) [ None ↦ None | Some pointer ↦ forgetting_call place (Leads p pointer) ]
+
+-- why a pointer is not known, unless a call is said to forget it
+abbrev pub unknown_words : Place → ℕ → List ℕ
+unknown_words place p =
+    if is_some (forgetting_pointer place p) then [] else finding_item place (Some p) (findings_at place.findings place.pc).first
+
+-- the same of the first pointer that the exit row wants and that is not known, if there is one
+unfoldable pub unknown_item : Place → List ℕ
+unknown_item place = elim (first_wanted place.row place.routine.exit) [ None ↦ [] | Some p ↦ unknown_words place p ]

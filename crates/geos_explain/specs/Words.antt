@@ -14,8 +14,7 @@ use Rattle.geos_explain.specs.Calls.{forgotten_text, forgotten_items, lent_items
 use Rattle.geos_explain.specs.Moved.{moved_text}
 use Rattle.geos_explain.specs.Past.{past_at, past_words, past_item, past_wish}
 use Rattle.geos_explain.specs.Mends.{mends}
-use Rattle.geos_explain.specs.Stale.{stale_words}
-use Rattle.geos_explain.specs.Returned.{unknown_item}
+use Rattle.geos_explain.specs.Stale.{stale_words, unknown_item}
 use Rattle.geos_explain.specs.Steps.{unpaid_words}
 
 -- control leaves the routine

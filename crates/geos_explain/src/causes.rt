@@ -1,17 +1,17 @@
 //! Why no rows or no numbers of steps are found, in an author's words.
 
-ghost use Rattle.std.specs.Prelude.{◌≡◌, ◌++◌, OnOk, IfOk};
-ghost use Rattle.geos_explain.specs.Causes.{differing_item, differing_items, is_refusable, edge_text, coming_from};
-ghost use Rattle.geos_explain.specs.Causes.{coming_text, call_text, touched_text, touched_before_text, not_set_text};
-ghost use Rattle.geos_explain.specs.Causes.{set_in_text, in_turn_text, in_ring_text};
-ghost use Rattle.geos_explain.specs.Causes.{by_word_text, dear_word_text, set_to_text, ways_text, apart_text};
-ghost use Rattle.geos_explain.specs.Causes.{back_text, leads_text, within_text, cause_words, cause_text};
+ghost use Rattle.std.specs.Prelude.{◌≡◌, ◌++◌, OnOk, IfOk, ◌<◌, length, IfSome};
+ghost use Rattle.geos_explain.specs.Causes.{differing_item, differing_items, is_refusable, edge_text, coming_from, coming_text, call_text};
+ghost use Rattle.geos_explain.specs.Causes.{touched_text, touched_before_text, not_set_text, set_in_text, in_turn_text, in_ring_text};
+ghost use Rattle.geos_explain.specs.Causes.{by_word_text, dear_word_text, set_to_text, ways_text, apart_text, back_text, leads_text};
+ghost use Rattle.geos_explain.specs.Causes.{within_text, cause_words, cause_text, name_text, emptied_text, emptied_item, emptied_items};
+ghost use Rattle.geos_image.specs.Legal.{text_end};
+ghost use Rattle.geos_causes.specs.Slots.{slots_agree};
 
 use crate::Done;
-use crate::emptied::put_emptied_items;
 use crate::numbers::pc_part;
 use geos_causes::{
-    Apart, BackWay, ByNumber, ByWord, Cause, Coming, LoopOn, LoopPair, LoopRing, Within,
+    Apart, BackWay, ByNumber, ByWord, Cause, Coming, Emptied, LoopOn, LoopPair, LoopRing, Within,
     slots_agree,
 };
 use geos_flow::Edge;
@@ -20,6 +20,69 @@ use geos_listing::state_word;
 use geos_text::Part;
 use geos_verify::is_empty;
 use std::alloc::{AllocError, Global};
+
+/// Where the text of a padded name ends, if zeros follow it.
+fn text_end(name: &[u8]) -> Option<usize>
+    ensures place { result ≡ text_end name.now }
+    ensures within { IfSome result (λ end. end < length name.now) }
+{
+    name.iter().position(|byte| *byte == 0)
+}
+
+/// A routine's name without the zeros behind it.
+fn name_text(name: &[u8; 16]) -> &[u8]
+    ensures { result.now ≡ name_text name.now }
+{
+    let end = text_end(name).unwrap_or(16);
+    &name[..end]
+}
+
+/// A CALL leaves a slot empty: that it is held is to be said in the lines of its routine, or, where that locks a block into the
+/// slot, another is to be taken.
+#[tactic(auto, unfolding(crate::specs::Causes::emptied_text))]
+fn put_emptied(out: &mut Vec<u8>, lines: &[u32], a: usize, emptied: &Emptied) -> Done
+    ensures { OnOk result (out.new.items ≡ out.old.items ++ emptied_text lines.now a emptied.now) }
+{
+    let name = name_text(&emptied.callee);
+    put!(out;
+        "; CALL at" (pc_part(lines, emptied.at)) " leaves what the out line of " bytes(name)
+        " says: say s" {a} "=" [state_word(emptied.state)] " in the in and out lines of "
+        bytes(name) "; where " bytes(name) " locks a block into s" {a}
+        " itself, hold the block in another slot"
+    )
+}
+
+/// The same, where what the slot held agrees with what it holds on the other way.
+fn put_emptied_item(
+    out: &mut Vec<u8>,
+    lines: &[u32],
+    a: usize,
+    named: Option<Emptied>,
+    other: SlotState,
+) -> Done
+    ensures { OnOk result (out.new.items ≡ out.old.items ++ emptied_item lines.now a named other) }
+{
+    match named {
+        Some(emptied) if slots_agree(emptied.state, other) => put_emptied(out, lines, a, &emptied),
+        _ => Ok(()),
+    }
+}
+
+/// The same of each slot for which a CALL is named.
+#[tactic(auto, unfolding(geos_listing::specs::Rows::texts_below))]
+pub(crate) fn put_emptied_items(
+    out: &mut Vec<u8>,
+    lines: &[u32],
+    named: &[Option<Emptied>; 4],
+    others: &[SlotState; 4],
+) -> Done
+    ensures { OnOk result (out.new.items ≡ out.old.items ++ emptied_items 4 lines.now named.now others.now) }
+{
+    for a in 0..named.len() {
+        put_emptied_item(out, lines, a, named[a], others[a])?;
+    }
+    Ok(())
+}
 
 /// A slot, where two states of it differ in more than the mark, and what it holds in the first.
 fn put_differing(out: &mut Vec<u8>, i: usize, state: SlotState, other: SlotState) -> Done

@@ -10,7 +10,7 @@ ghost use Rattle.geos_explain.specs.Explanation.{noted, place_text, head_text, n
 use crate::Done;
 use crate::explained::Explained;
 use crate::filled::Filled;
-use crate::findings::all_found;
+use crate::finding::all_found;
 use crate::led::reached;
 use crate::notes::put_note;
 use crate::place::Place;

@@ -9,7 +9,7 @@ use crate::Done;
 use crate::explained::Explained;
 use crate::explanation::put_noted;
 use crate::filled::Filled;
-use crate::findings::all_found;
+use crate::finding::all_found;
 use crate::led::reached;
 use crate::refusals::{first_untold, most_told};
 use crate::repeated::told_once;

@@ -12,10 +12,9 @@ ghost use Rattle.geos_explain.specs.Trace.{CanFollow, AreWays, IsFinding, IsSoun
 
 use crate::arrivals::{Arrivals, all_arrivals, arrival};
 use crate::finding::{End, Finding, Loss, Meeting};
-use crate::firsts::{bringing, losing};
 use crate::place::Place;
 use crate::routines::comes_alike;
-use crate::ways::{Followed, Way, empty_on, is_stale, loses};
+use crate::ways::{Followed, Way, bringing, empty_on, is_stale, loses, losing};
 use geos_flow::{Edge, Marks, Pending, end_of, is_marked, mark, no_marks};
 use geos_verify::{Place as KnownPlace, has_edge, pointer_at};
 
