@@ -159,7 +159,6 @@ pub(crate) fn put_unset_items(out: &mut Vec<u8>, place: &Place) -> Done
 
 /// A law: an instruction that is named takes from the counter, and a way leads to it from the place on which no instruction
 /// sets the counter or takes from it, and on which the counter pays all along.
-#[tactic(auto, using(crate::proofs::Serving::said_of_counters))]
 pub fn what_is_said_of_counters_holds()
     ensures { WhatIsSaidOfCountersHolds }
 {}
@@ -222,7 +221,6 @@ pub(crate) fn put_over(out: &mut Vec<u8>, place: &Place) -> Done
 
 /// A law: a call for which no budget is said to serve is one of the routine, and the rule on calls refuses it whatever the
 /// budget is.
-#[tactic(auto, using(crate::proofs::Serving::said_of_budgets))]
 pub fn what_is_said_of_budgets_holds()
     ensures { WhatIsSaidOfBudgetsHolds }
 {}

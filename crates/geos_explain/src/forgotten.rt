@@ -138,7 +138,6 @@ pub(crate) fn forgetting_call(place: &Place, item: Item) -> Option<u16>
 
 /// A law: a call that is said to forget something is one of the routine; the row before it knows that, the row behind it
 /// does not, and from there a way leads to the place on which no row knows it.
-#[tactic(auto, using(crate::proofs::Forgetting::said_of_calls))]
 pub fn what_is_said_of_calls_holds()
     ensures { WhatIsSaidOfCallsHolds }
 {}

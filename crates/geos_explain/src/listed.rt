@@ -4,7 +4,6 @@ ghost use Rattle.geos_explain.specs.Listed.{ExplanationIsListingWithNotes, Expla
 
 /// A law: the explanation of an image is its listing with notes, each behind a ` ;` and behind an instruction, and without them it
 /// is the listing.
-#[tactic(auto, using(crate::proofs::Noted::explanation_listed))]
 pub fn explanation_is_listing_with_notes()
     ensures { ExplanationIsListingWithNotes }
 {}

@@ -126,7 +126,6 @@ pub(crate) fn told_once(
 }
 
 /// A law: each refusal that is not told again is told before, of the same pointers.
-#[tactic(auto, using(crate::proofs::Repeating::repeated_told))]
 pub fn repeated_is_told_before()
     ensures { RepeatedIsToldBefore }
 {}
