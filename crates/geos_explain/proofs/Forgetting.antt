@@ -3,8 +3,7 @@ use Rattle.std.proofs.Common.{◌≡◌, ◌+◌, ◌≤◌, ℕ, zero, suc, Boo
 use Rattle.std.specs.Prelude.{◌&&◌}
 use Rattle.geos_explain.proofs.Below.{and_parts, cond_both, not-true, KnownPlace, places, start_of, after, has_edge, Edge, Back, end_of, elim_both}
 use Rattle.geos_explain.specs.declared.forgotten.Item.{Item}
-use Rattle.geos_explain.specs.Forgotten.{knows, comes_lacked, stays_lacked, is_lacked_from, forgets_item, forgets_at, IsLackedFrom, IsForgottenBy, WhatIsSaidOfCallsHolds}
-use Rattle.geos_explain.specs.Moved.{moves, moves_at, if_round, IsMovedRound, WhatIsSaidOfRoundsHolds}
+use Rattle.geos_explain.specs.Forgotten.{knows, comes_lacked, stays_lacked, is_lacked_from, forgets_item, forgets_at, IsLackedFrom, IsForgottenBy, WhatIsSaidOfCallsHolds, moves, moves_at, if_round, IsMovedRound, WhatIsSaidOfRoundsHolds}
 use Rattle.geos_explain.specs.Places.{Place, comes_alike, last_of}
 use Rattle.geos_explain.specs.Since.{IsInside}
 use Rattle.geos_explain.specs.Ways.{forgets}

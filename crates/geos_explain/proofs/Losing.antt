@@ -10,8 +10,7 @@ use Rattle.geos_explain.specs.declared.trace.FirstWays.{FirstWays}
 use Rattle.geos_explain.specs.declared.trace.Trace.{Trace}
 use Rattle.geos_explain.specs.Places.{Place, comes_alike}
 use Rattle.geos_explain.specs.Ways.{empty_slot, empty_along, empty_from, empty_on}
-use Rattle.geos_explain.specs.Lost.{LacksFrom, FindsWay, IsBringing, IsWay, NoWay, BringsNowhere}
-use Rattle.geos_explain.specs.Trace.{AreWays, IsFinding, IsOpen, IsSound}
+use Rattle.geos_explain.specs.Lost.{LacksFrom, FindsWay, IsBringing, IsWay, NoWay, BringsNowhere, AreWays, IsFinding, IsOpen, IsSound}
 use Rattle.geos_explain.proofs.Arriving.{cond-some}
 
 -- of two things, if there are such, the first

@@ -6,7 +6,7 @@ use Rattle.geos_explain.specs.declared.finding.Findings.{Findings}
 use Rattle.geos_explain.specs.Places.{Place, Explained, place_at}
 use Rattle.geos_explain.specs.Stale.{first_wanted, stale_used, findings_at}
 use Rattle.geos_explain.specs.Told.{is_told, rule_at, most_told}
-use Rattle.geos_explain.specs.Trace.{IsFinding}
+use Rattle.geos_explain.specs.Lost.{IsFinding}
 
 -- the pointers that are not known where a rule is told: those that the instruction uses, or the first that the exit row wants
 abbrev pub told_pointers : Place → Rule → Option ℕ × Option ℕ

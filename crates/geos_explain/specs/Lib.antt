@@ -11,13 +11,11 @@ pub mod Mends
 pub mod Past
 pub mod Ways
 pub mod Lost
-pub mod Trace
 pub mod Since
 pub mod Held
 pub mod Stale
 pub mod Forgotten
 pub mod Calls
-pub mod Moved
 pub mod Steps
 pub mod Budgets
 pub mod Words

@@ -11,7 +11,7 @@ use Rattle.geos_explain.specs.Public.{public_words}
 use Rattle.geos_explain.specs.Uses.{changed_slot, nowhere_words, unmarked_words, held_words, slot_words}
 use Rattle.geos_explain.specs.declared.forgotten.Item.TheVariants.{Slot, Held}
 use Rattle.geos_explain.specs.Calls.{forgotten_text, forgotten_items, lent_items}
-use Rattle.geos_explain.specs.Moved.{moved_text}
+use Rattle.geos_explain.specs.Forgotten.{moved_text}
 use Rattle.geos_explain.specs.Past.{past_at, past_words, past_item, past_wish}
 use Rattle.geos_explain.specs.Mends.{mends}
 use Rattle.geos_explain.specs.Stale.{stale_words, unknown_item}

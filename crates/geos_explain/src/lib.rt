@@ -51,9 +51,7 @@ mod forgotten;
 mod held;
 mod lacks;
 mod led;
-mod listed;
 mod mends;
-mod moved;
 mod notes;
 mod numbers;
 mod past;
@@ -65,7 +63,6 @@ mod routines;
 mod since;
 mod stale;
 mod steps;
-mod texts;
 mod trace;
 mod uses;
 mod ways;
@@ -73,13 +70,12 @@ mod words;
 
 pub use budgets::{what_is_said_of_budgets_holds, what_is_said_of_counters_holds};
 pub use causes::explain_cause;
-pub use explanation::explain;
-pub use forgotten::what_is_said_of_calls_holds;
+pub use explanation::{
+    explain, explain_text, explanation_is_listing_with_notes, explanation_is_text_with_notes,
+};
+pub use forgotten::{what_is_said_of_calls_holds, what_is_said_of_rounds_holds};
 pub use lacks::rows_that_fit_lack_nothing;
-pub use listed::{explanation_is_listing_with_notes, explanation_is_text_with_notes};
-pub use moved::what_is_said_of_rounds_holds;
 pub use public::rows_without_faults_may_be_public;
 pub use refusals::told_where_refused;
 pub use repeated::repeated_is_told_before;
 pub use since::what_is_said_of_a_held_slot_holds;
-pub use texts::explain_text;

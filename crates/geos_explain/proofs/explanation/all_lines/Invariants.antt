@@ -2,7 +2,7 @@ use Rattle.std.proofs.Common.{◌≡◌, ◌≤◌, ◌+◌, ◌++◌, length}
 use Rattle.std.specs.Str.Lines.{lines}
 use Rattle.geos_explain.specs.Places.{explained_of}
 use Rattle.geos_explain.specs.Texts.{lines_text}
-use Rattle.geos_explain.proofs.texts.all_lines.Given as goal
+use Rattle.geos_explain.proofs.explanation.all_lines.Given as goal
 
 abbrev pub invariant-loop-rest : goal.invariant-loop-rest
 invariant-loop-rest l =

@@ -1,6 +1,6 @@
 use Rattle.std.proofs.Common.{ap, ◌∙◌}
 use Rattle.geos_explain.specs.Texts.{text_explanation}
-use Rattle.geos_explain.proofs.texts.text_explanation_by.Goals as goal
+use Rattle.geos_explain.proofs.explanation.text_explanation_by.Goals as goal
 
 pub returns : goal.returns
 returns c = record {

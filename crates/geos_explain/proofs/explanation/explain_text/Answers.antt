@@ -1,7 +1,7 @@
 use Rattle.std.proofs.Common.{subst}
 use Rattle.geos_explain.specs.Repeated.{TellsOnce}
 use Rattle.geos_explain.specs.Texts.{IsTextExplanationBy}
-use Rattle.geos_explain.proofs.texts.explain_text.Goals as goal
+use Rattle.geos_explain.proofs.explanation.explain_text.Goals as goal
 
 pub returns : goal.returns
 returns c =

@@ -4,7 +4,7 @@ use Rattle.geos_explain.specs.Places.{explained_of, place_at, place_of}
 use Rattle.geos_explain.specs.Explanation.{noted}
 use Rattle.geos_explain.specs.Texts.{last_begun, noted_in, noted_of, noted_at}
 use Rattle.geos_explain.proofs.Told.{told-at}
-use Rattle.geos_explain.proofs.texts.put_noted_at.Goals as goal
+use Rattle.geos_explain.proofs.explanation.put_noted_at.Goals as goal
 
 pub returns : goal.returns
 unfolding noted_at noted_of noted_in last_begun
