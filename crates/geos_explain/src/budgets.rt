@@ -5,7 +5,7 @@ ghost use Rattle.std.specs.Prelude.{◌≡◌, ◌++◌, OnOk, ◌<◌};
 ghost use Rattle.geos_explain.specs.Places.{place_of};
 ghost use Rattle.geos_explain.specs.Budgets.{calls_on, calls_on_at, calling_on, serving_words, over_words, WhatIsSaidOfBudgetsHolds, takes};
 ghost use Rattle.geos_explain.specs.Budgets.{gives, pays_at, leaves_alone, is_unset_at, takes_at, unset_loop, unset_item, unset_items};
-ghost use Rattle.geos_explain.specs.Budgets.{WhatIsSaidOfCountersHolds};
+ghost use Rattle.geos_explain.specs.Budgets.{WhatIsSaidOfCountersHolds, stays_unset};
 ghost use Rattle.geos_flow.specs.Marks.{Marking};
 
 use crate::Done;
@@ -69,9 +69,6 @@ struct Unset<'a> {
 }
 
 impl<'a> Counting for Unset<'a> {
-    ghost use Rattle.geos_explain.specs.Places.{place_of};
-    ghost use Rattle.geos_explain.specs.Budgets.{stays_unset};
-
     ghost counted = { λ s edge end. stays_unset (place_of s.place.now) s.k edge end };
 
     #[tactic(auto, unfolding(crate::specs::Budgets::stays_unset))]

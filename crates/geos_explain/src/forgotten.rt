@@ -6,6 +6,7 @@ ghost use Rattle.geos_flow.specs.Marks.{Marking};
 ghost use Rattle.geos_explain.specs.Places.{place_of, last_of};
 ghost use Rattle.geos_explain.specs.Forgotten.{knows, comes_lacked, is_lacked_from, forgets_at, forgetting_call, WhatIsSaidOfCallsHolds};
 ghost use Rattle.geos_explain.specs.Forgotten.{moves, moves_at, if_round, moving, moved_words, moved_text, WhatIsSaidOfRoundsHolds};
+ghost use Rattle.geos_explain.specs.Forgotten.{stays_lacked};
 
 use crate::Done;
 use crate::led::led_from;
@@ -55,9 +56,6 @@ struct Lacking<'a> {
 }
 
 impl<'a> Counting for Lacking<'a> {
-    ghost use Rattle.geos_explain.specs.Places.{place_of};
-    ghost use Rattle.geos_explain.specs.Forgotten.{stays_lacked};
-
     ghost counted = { λ s edge end. stays_lacked (place_of s.place.now) s.item edge };
 
     #[tactic(auto, unfolding(crate::specs::Forgotten::stays_lacked))]

@@ -2,7 +2,7 @@
 
 ghost use Rattle.std.specs.Prelude.{◌≡◌, ◌<◌, length};
 ghost use Rattle.geos_flow.specs.Marks.{Marking};
-ghost use Rattle.geos_explain.specs.Led.{MarksStarts, are_in_one, is_reached, leads, lies_in};
+ghost use Rattle.geos_explain.specs.Led.{MarksStarts, are_in_one, is_reached, leads, lies_in, stays};
 
 use crate::filled::Filled;
 use geos_flow::{Counting, Edge, Heading, Marks, follow, is_marked, mark, no_marks};
@@ -35,8 +35,6 @@ struct Staying<'a> {
 }
 
 impl<'a> Counting for Staying<'a> {
-    ghost use Rattle.geos_explain.specs.Led.{leads, stays};
-
     ghost counted = { λ s edge end. stays s.image.now edge end };
 
     fn counts(&self, edge: Edge, end: u16) -> bool {

@@ -3,8 +3,8 @@
 ghost use Rattle.std.specs.Prelude.{◌≡◌, ◌<◌, Some, slice_get};
 ghost use Rattle.geos_flow.specs.Marks.{Marking};
 ghost use Rattle.geos_explain.specs.Places.{place_of};
-ghost use Rattle.geos_explain.specs.Since.{holds, keeps_along, is_held_from, leads_held, leads_on};
-ghost use Rattle.geos_explain.specs.Since.{fills_at, also, since_entry, held_since, WhatIsSaidOfSlotsHolds};
+ghost use Rattle.geos_explain.specs.Since.{holds, keeps_along, is_held_from, leads_held, leads_on, fills_at, also, since_entry, held_since};
+ghost use Rattle.geos_explain.specs.Since.{WhatIsSaidOfSlotsHolds, stays_held};
 ghost use Rattle.geos_verify.specs.Places.{places};
 
 use crate::led::led_from;
@@ -54,9 +54,6 @@ struct Holding<'a> {
 }
 
 impl<'a> Counting for Holding<'a> {
-    ghost use Rattle.geos_explain.specs.Places.{place_of};
-    ghost use Rattle.geos_explain.specs.Since.{stays_held};
-
     ghost counted = { λ s edge end. stays_held (place_of s.place.now) s.a edge };
 
     #[tactic(auto, unfolding(crate::specs::Since::stays_held))]

@@ -4,7 +4,7 @@ ghost use Rattle.std.specs.Prelude.{◌≡◌, Some, slice_get, ◌<◌, false, 
 ghost use Rattle.geos_verify.specs.Rows.{is_stale};
 ghost use Rattle.geos_explain.specs.Places.{place_of};
 ghost use Rattle.geos_explain.specs.Ways.{is_as, entry_pointer, empty_slot, empty_along, empty_on, is_as_sought, with_hint, sets, forgets};
-ghost use Rattle.geos_explain.specs.Ways.{loses};
+ghost use Rattle.geos_explain.specs.Ways.{loses, is_sought};
 ghost use Rattle.geos_verify.specs.Places.{places};
 ghost use Rattle.geos_explain.specs.Lost.{FindsWay, IsBringing, IsSought, IsWay};
 
@@ -185,9 +185,6 @@ struct Seeking<'a> {
 }
 
 impl<'a> Counting for Seeking<'a> {
-    ghost use Rattle.geos_explain.specs.Places.{place_of};
-    ghost use Rattle.geos_explain.specs.Ways.{is_sought};
-
     ghost counted = { λ s edge end. is_sought (place_of s.place.now) s.sought edge };
 
     #[tactic(auto, unfolding(crate::specs::Ways::is_sought))]
