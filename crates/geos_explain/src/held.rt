@@ -3,7 +3,7 @@
 ghost use Rattle.std.specs.Prelude.{◌≡◌, ◌≤◌, ◌++◌, OnOk, drop, length};
 ghost use Rattle.geos_text.specs.Parts.{part_text};
 ghost use Rattle.geos_explain.specs.Places.{place_of};
-ghost use Rattle.geos_explain.specs.Held.{is_held_at, slot_at, slots_at, since_place, or_another, since_text};
+ghost use Rattle.geos_explain.specs.Held.{is_held_at, slot_at, slots_at, since_words, since_text};
 ghost use Rattle.geos_explain.specs.Held.{since_at, sinces_at, else_wanted, kept_behind, unmet_words, exit_words};
 ghost use Rattle.geos_explain.specs.Held.{has_borrowed, held_wish, written_behind, written_words};
 
@@ -61,35 +61,25 @@ pub(crate) fn put_slots_at(out: &mut Vec<u8>, which: HeldAt, place: &Place) -> D
     Ok(())
 }
 
-/// Since where a slot is held; of several places, one.
-fn since_part(lines: &[u32], since: Since) -> Part<'static>
-    ensures { part_text result ≡ since_place lines.now since }
+/// That a slot is held since a place, and whether since another one too.
+fn put_since_words(out: &mut Vec<u8>, a: u8, place: Part, other: bool) -> Done
+    ensures { OnOk result (out.new.items ≡ out.old.items ++ since_words a (part_text place.entry) other) }
 {
-    match since {
-        Since::Unknown => Part::Text(""),
-        Since::Entry | Since::EntryOrOther => Part::Text(" the in line"),
-        Since::Once(from) | Since::Often(from) => pc_part(lines, from),
-    }
+    let another = either(other, " or another place", "");
+    put!(out; "; s" {a} " is held since" (place) [another])
 }
 
-/// That there are others, if there are.
-fn or_another(since: Since) -> &'static str
-    ensures { result.now ≡ or_another since }
-{
-    match since {
-        Since::EntryOrOther | Since::Often(_) => " or another place",
-        _ => "",
-    }
-}
-
-/// Since where a slot is held, if that is known; of several places, one.
+/// The same, if it is known since where; of several places, one.
 fn put_since(out: &mut Vec<u8>, lines: &[u32], a: u8, since: Since) -> Done
     ensures { OnOk result (out.new.items ≡ out.old.items ++ since_text lines.now a since) }
 {
-    if let Since::Unknown = since {
-        return Ok(());
+    if since.entry {
+        return put_since_words(out, a, Part::Text(" the in line"), since.from.is_some());
     }
-    put!(out; "; s" {a} " is held since" (since_part(lines, since)) [or_another(since)])
+    match since.from {
+        Some(from) => put_since_words(out, a, pc_part(lines, from), since.again),
+        None => Ok(()),
+    }
 }
 
 /// The same of a slot that is held and must not be.
