@@ -10,8 +10,7 @@ use Rattle.geos_explain.specs.Words.{words, refusal_line}
 use Rattle.geos_explain.specs.Told.{is_told, rule_at, most_told}
 use Rattle.geos_explain.specs.Refusals.{more_line, told_text, refused_text, refusal_text, is_last, over_line, over_from, over_text}
 use Rattle.geos_explain.specs.Explanation.{noted, point_text, place_text, head_text, routine_text, numbered_routine, explanation}
-use Rattle.geos_explain.specs.Texts.{last_begun, noted_in, noted_of, noted_at, is_line_of, behind_line, line_text, next_pc, lines_text}
-use Rattle.geos_explain.specs.Listed.{IsComment, IsNote, place_with, routine_with, numbered_with, IsListingWithNotes, ExplanationIsListingWithNotes, lines_with, IsBehind, ExplanationIsTextWithNotes}
+use Rattle.geos_explain.specs.Texts.{last_begun, noted_in, noted_of, noted_at, is_line_of, behind_line, line_text, next_pc, lines_text, IsComment, IsNote, place_with, routine_with, numbered_with, IsListingWithNotes, ExplanationIsListingWithNotes, lines_with, IsBehind, ExplanationIsTextWithNotes}
 
 -- texts that are the same at each number are the same together
 texts_below-same : (n : ℕ) (text other : ℕ → List ℕ) → ((k : ℕ) → text k ≡ other k) → texts_below n text ≡ texts_below n other

@@ -7,8 +7,6 @@ pub mod Places
 pub mod Notes
 pub mod Lacks
 pub mod Uses
-pub mod Mends
-pub mod Past
 pub mod Ways
 pub mod Lost
 pub mod Since
@@ -25,5 +23,4 @@ pub mod Findings
 pub mod Refusals
 pub mod Explanation
 pub mod Texts
-pub mod Listed
 pub mod Causes

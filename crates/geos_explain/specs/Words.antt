@@ -4,16 +4,14 @@ use Rattle.geos_explain.specs.Below.{concat, Opcode, Call, Row, Routine, Parts, 
 use Rattle.geos_explain.specs.Places.{Place}
 use Rattle.geos_explain.specs.Budgets.{over_words}
 use Rattle.geos_explain.specs.Led.{is_reached}
-use Rattle.geos_explain.specs.Lacks.{lacking, lacking_items}
+use Rattle.geos_explain.specs.Lacks.{lacking, lacking_items, mends}
 use Rattle.geos_explain.specs.Numbers.{is_or_are, are_text, label_text, pc_text}
 use Rattle.geos_explain.specs.Held.{exit_words, written_words}
 use Rattle.geos_explain.specs.Public.{public_words}
-use Rattle.geos_explain.specs.Uses.{changed_slot, nowhere_words, unmarked_words, held_words, slot_words}
+use Rattle.geos_explain.specs.Uses.{changed_slot, nowhere_words, unmarked_words, held_words, slot_words, past_at, past_words, past_item, past_wish}
 use Rattle.geos_explain.specs.declared.forgotten.Item.TheVariants.{Slot, Held}
 use Rattle.geos_explain.specs.Calls.{forgotten_text, forgotten_items, lent_items}
 use Rattle.geos_explain.specs.Forgotten.{moved_text}
-use Rattle.geos_explain.specs.Past.{past_at, past_words, past_item, past_wish}
-use Rattle.geos_explain.specs.Mends.{mends}
 use Rattle.geos_explain.specs.Stale.{stale_words, unknown_item}
 use Rattle.geos_explain.specs.Steps.{unpaid_words}
 

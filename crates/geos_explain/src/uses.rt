@@ -1,17 +1,22 @@
-//! What is wrong with the slots and pointers that an instruction uses.
+//! What is wrong with the slots and pointers that an instruction uses, and what helps.
 
 ghost use Rattle.std.specs.Prelude.{◌≡◌, ◌++◌, OnOk};
 ghost use Rattle.geos_opcodes.specs.Facts.{uses_of};
 ghost use Rattle.geos_explain.specs.Uses.{state_item, nowhere_only, leading_nowhere, nowhere_words, short_words, index_known, index_wanted};
-ghost use Rattle.geos_explain.specs.Uses.{known_bytes, index_words, slot_behind, changed_slot, mark_word, unmarked_words};
-ghost use Rattle.geos_explain.specs.Uses.{not_empty, held_words, kind_wish, mark_wish, unlock_wish, slot_wish, serving, other_item, slot_words};
+ghost use Rattle.geos_explain.specs.Uses.{known_bytes, index_words, slot_behind, changed_slot, mark_word, unmarked_words, not_empty};
+ghost use Rattle.geos_explain.specs.Uses.{held_words, kind_wish, mark_wish, unlock_wish, slot_wish, serving, other_item, slot_words};
+ghost use Rattle.geos_explain.specs.Uses.{bounding, load_tested, store_tested, past_along, past_at, past_words, leads_item, past_item};
+ghost use Rattle.geos_explain.specs.Uses.{ask_wish, index_wish, past_wish};
+ghost use Rattle.geos_image.specs.Fields.{FieldsFit};
+ghost use Rattle.geos_verify.specs.Uses.{OffsetFits};
 
 use crate::Done;
+use crate::forgotten::Item;
 use crate::numbers::{either, is_one_item, written_from};
-use geos_image::{Instr, Pointer, Row, SlotState};
+use geos_image::{Instr, Opcode, Pointer, Row, SlotState};
 use geos_listing::{put_items, state_word};
-use geos_opcodes::{Kind, PointerUse, SlotUse};
-use geos_verify::{leads_nowhere, least_at, pointer_at, slot_state};
+use geos_opcodes::{Kind, Offset, PointerUse, SlotUse, Width};
+use geos_verify::{bytes_in, leads_nowhere, least_at, pointer_at, reach, slot_state, uses_at};
 
 /// A slot, and what the row says that it holds.
 #[tactic(auto, unfolding(crate::specs::Uses::state_item))]
@@ -64,7 +69,7 @@ pub(crate) fn put_nowhere(out: &mut Vec<u8>, row: &Row) -> Done
 
 /// So many bytes are wanted behind a pointer, and how many are known there.
 #[tactic(auto, unfolding(crate::specs::Uses::short_words))]
-pub(crate) fn put_short(out: &mut Vec<u8>, p: u8, wanted: u32, row: &Row) -> Done
+fn put_short(out: &mut Vec<u8>, p: u8, wanted: u32, row: &Row) -> Done
     ensures { OnOk result (out.new.items ≡ out.old.items ++ short_words p wanted row.now) }
 {
     let least = least_at(row, p);
@@ -74,22 +79,15 @@ pub(crate) fn put_short(out: &mut Vec<u8>, p: u8, wanted: u32, row: &Row) -> Don
     )
 }
 
-/// The word that is the index of a read or a write, and how high it is at most.
-#[derive(Clone, Copy)]
-pub(crate) struct Index {
-    pub w: u8,
-    pub most: u16,
-}
-
 /// What is known of the word that is the index.
 #[tactic(auto, unfolding(crate::specs::Uses::index_known))]
-fn put_index_known(out: &mut Vec<u8>, index: Index) -> Done
-    ensures { OnOk result (out.new.items ≡ out.old.items ++ index_known index.w index.most) }
+fn put_index_known(out: &mut Vec<u8>, w: u8, most: u16) -> Done
+    ensures { OnOk result (out.new.items ≡ out.old.items ++ index_known w most) }
 {
-    if index.most == u16::MAX {
-        return put!(out; " nothing is known of w" {index.w} ", the index");
+    if most == u16::MAX {
+        return put!(out; " nothing is known of w" {w} ", the index");
     }
-    put!(out; " w" {index.w} "<=" {index.most} " is known of the index")
+    put!(out; " w" {w} "<=" {most} " is known of the index")
 }
 
 /// What must be known of it for a read or a write so wide; nothing serves where fewer bytes are there.
@@ -114,11 +112,11 @@ fn put_known_bytes(out: &mut Vec<u8>, p: u8, least: u16) -> Done
 
 /// An index may be too high for the bytes behind its pointer.
 #[tactic(auto, unfolding(crate::specs::Uses::index_words))]
-pub(crate) fn put_index_words(out: &mut Vec<u8>, index: Index, wide: u16, p: u8, least: u16) -> Done
-    ensures { OnOk result (out.new.items ≡ out.old.items ++ index_words index.w index.most wide p least) }
+fn put_index_words(out: &mut Vec<u8>, w: u8, most: u16, wide: u16, p: u8, least: u16) -> Done
+    ensures { OnOk result (out.new.items ≡ out.old.items ++ index_words w most wide p least) }
 {
-    put_index_known(out, index)?;
-    put_index_wanted(out, index.w, wide, least)?;
+    put_index_known(out, w, most)?;
+    put_index_wanted(out, w, wide, least)?;
     put_known_bytes(out, p, least)
 }
 
@@ -279,4 +277,150 @@ pub(crate) fn put_slot(out: &mut Vec<u8>, i: &Instr, row: &Row) -> Done
     let wish = slot_wish(slot, state);
     let serving = serving(slot, state);
     put!(out; [wish] [serving])
+}
+
+/// The word is to be bounded in front of the instruction.
+#[tactic(auto, unfolding(crate::specs::Uses::bounding))]
+pub(crate) fn put_bounding(out: &mut Vec<u8>, w: u8, most: u16) -> Done
+    ensures { OnOk result (out.new.items ≡ out.old.items ++ bounding w most) }
+{
+    put!(out; "; CHK w" {w} " " {most} " L in front of this bounds it")
+}
+
+/// What a read or a write wants that may reach past the bytes behind its pointer.
+#[derive(Clone, Copy)]
+pub(crate) enum Past {
+    /// So many bytes behind the pointer.
+    Bytes(u8, u32),
+    /// An index low enough for so many bytes, which is at most so high; this instruction does the same and tests it.
+    Index(Opcode, u16, u16),
+}
+
+/// The read of this width that tests its index.
+fn load_tested(width: Width) -> Opcode
+    ensures { result ≡ load_tested width }
+{
+    match width {
+        Width::Byte => Opcode::Ldcb,
+        Width::Both => Opcode::Ldcw,
+    }
+}
+
+/// The write of this width that tests its index.
+fn store_tested(width: Width) -> Opcode
+    ensures { result ≡ store_tested width }
+{
+    match width {
+        Width::Byte => Opcode::Stcb,
+        Width::Both => Opcode::Stcw,
+    }
+}
+
+/// What a read or a write at the offset wants, where this instruction does the same and tests its index.
+fn past_along(tested: Opcode, i: &Instr, width: Width, offset: Offset, row: &Row) -> Past
+    requires { OffsetFits offset i.now }
+    ensures { result ≡ past_along tested i.now width offset row.now }
+{
+    match offset {
+        Offset::Indexed => {
+            let most = row.bounds[usize::from(i.c)];
+            Past::Index(tested, bytes_in(width), most)
+        }
+        _ => Past::Bytes(i.b, reach(i, width, offset, row)),
+    }
+}
+
+/// What an instruction wants that may reach past the bytes behind its pointer.
+pub(crate) fn past_at(i: &Instr, row: &Row) -> Past
+    requires { FieldsFit i.now.opcode i.now }
+    ensures { result ≡ past_at i.now (uses_of i.now.opcode).pointer row.now }
+{
+    match uses_at(i).pointer {
+        PointerUse::Loads(width, offset) => past_along(load_tested(width), i, width, offset, row),
+        PointerUse::Stores(width, offset) => past_along(store_tested(width), i, width, offset, row),
+        _ => {
+            let p = if least_at(row, i.a) < i.imm { i.a } else { i.b };
+            Past::Bytes(p, u32::from(i.imm))
+        }
+    }
+}
+
+/// That it may reach past them.
+pub(crate) fn put_past(out: &mut Vec<u8>, i: &Instr, row: &Row, past: Past) -> Done
+    ensures { OnOk result (out.new.items ≡ out.old.items ++ past_words i.now row.now past) }
+{
+    match past {
+        Past::Bytes(p, wanted) => put_short(out, p, wanted, row),
+        Past::Index(_, wide, most) => {
+            put_index_words(out, i.c, most, wide, i.b, least_at(row, i.b))
+        }
+    }
+}
+
+/// What is to be known of the bytes behind a pointer.
+fn leads_item(row: &Row, p: u8, wanted: u32) -> Item
+    ensures { result ≡ leads_item row.now p wanted }
+{
+    let least = if wanted < 65_536 {
+        wanted as u16
+    } else {
+        u16::MAX
+    };
+    let slot = slot_behind(row, p);
+    Item::Leads(p, Pointer { slot, least })
+}
+
+/// What is to be known there: of the index, if some bound of it serves, or else of the bytes behind the pointer.
+pub(crate) fn past_item(i: &Instr, row: &Row, past: Past) -> Item
+    ensures { result ≡ past_item i.now row.now past }
+{
+    let least = least_at(row, i.b);
+    match past {
+        Past::Bytes(p, wanted) => leads_item(row, p, wanted),
+        Past::Index(_, wide, _) => {
+            if wide <= least {
+                Item::Bound(i.c, least - wide)
+            } else {
+                leads_item(row, i.b, u32::from(wide))
+            }
+        }
+    }
+}
+
+/// More bytes are to be asked for where the pointer is set.
+#[tactic(auto, unfolding(crate::specs::Uses::ask_wish))]
+fn put_ask_wish(out: &mut Vec<u8>, p: u8, wanted: u32) -> Done
+    ensures { OnOk result (out.new.items ≡ out.old.items ++ ask_wish p wanted) }
+{
+    if wanted >= 65_536 {
+        return out.extend_from_slice(b"; no chunk is so long");
+    }
+    put!(out; "; ask for " {wanted} " where p" {p} " is set")
+}
+
+/// The index is to be bounded, or else more bytes asked for; or an instruction that tests it serves.
+#[tactic(auto, unfolding(crate::specs::Uses::index_wish))]
+fn put_index_wish(out: &mut Vec<u8>, tested: &str, i: &Instr, wide: u16, least: u16) -> Done
+    ensures { OnOk result (out.new.items ≡ out.old.items ++ index_wish tested.now i.now wide least) }
+{
+    if wide <= least {
+        put_bounding(out, i.c, least - wide)?;
+        put!(out; ", " [tested] " tests it")
+    } else {
+        put!(out;
+            "; ask for " {wide} " or more where p" {i.b} " is set, or " [tested] " tests the index"
+        )
+    }
+}
+
+/// What helps there.
+pub(crate) fn put_past_wish(out: &mut Vec<u8>, i: &Instr, row: &Row, past: Past) -> Done
+    ensures { OnOk result (out.new.items ≡ out.old.items ++ past_wish i.now row.now past) }
+{
+    match past {
+        Past::Bytes(p, wanted) => put_ask_wish(out, p, wanted),
+        Past::Index(tested, wide, _) => {
+            put_index_wish(out, tested.word(), i, wide, least_at(row, i.b))
+        }
+    }
 }

@@ -13,16 +13,17 @@ use crate::budgets::put_over;
 use crate::calls::{put_forgotten, put_forgotten_items, put_lent_items};
 use crate::forgotten::{Item, put_moved_round};
 use crate::held::{put_exit, put_written};
-use crate::lacks::{lacking, put_lacking};
+use crate::lacks::{as_marked, lacking, put_lacking, put_mends};
 use crate::led::is_reached;
-use crate::mends::{as_marked, put_mends};
 use crate::numbers::{is_or_are, label_part, pc_part, put_are, written_from};
-use crate::past::{past_at, past_item, put_past, put_past_wish};
 use crate::place::Place;
 use crate::public::put_public;
 use crate::stale::{put_stale, put_unknown_item};
 use crate::steps::put_unpaid;
-use crate::uses::{changed_slot, put_held, put_nowhere, put_slot, put_unmarked};
+use crate::uses::{
+    changed_slot, past_at, past_item, put_held, put_nowhere, put_past, put_past_wish, put_slot,
+    put_unmarked,
+};
 use geos_image::{Opcode, Routine, Row};
 use geos_text::Part;
 use geos_verify::{Rule, after, falls_through, has_edge, has_place, is_empty, slot_state};
