@@ -3,7 +3,7 @@
 
 ghost use Rattle.std.specs.Prelude.{◌≡◌, ◌++◌, OnOk, ◌<◌};
 ghost use Rattle.geos_explain.specs.Places.{place_of};
-ghost use Rattle.geos_explain.specs.Budgets.{calls_on, calls_on_at, calling_on, serving_words, over_words, WhatIsSaidOfBudgetsHolds, takes};
+ghost use Rattle.geos_explain.specs.Budgets.{calls_on_at, calling_on, serving_words, over_words, WhatIsSaidOfBudgetsHolds, takes};
 ghost use Rattle.geos_explain.specs.Budgets.{gives, pays_at, leaves_alone, is_unset_at, takes_at, unset_loop, unset_item, unset_items};
 ghost use Rattle.geos_explain.specs.Budgets.{WhatIsSaidOfCountersHolds, stays_unset};
 ghost use Rattle.geos_flow.specs.Marks.{Marking};
@@ -160,20 +160,13 @@ pub fn what_is_said_of_counters_holds()
     ensures { WhatIsSaidOfCountersHolds }
 {}
 
-/// Whether the instruction calls a routine that does not stand before that of the place.
-fn calls_on(place: &Place, i: &Instr) -> bool
-    ensures { result ≡ calls_on (place_of place.now) i.now }
-{
-    calls(i.opcode) && i.imm >= place.r
-}
-
-/// Whether the instruction at a pc does.
+/// Whether the instruction at a pc calls a routine that does not stand before that of the place.
 #[tactic(auto, unfolding(crate::specs::Budgets::calls_on_at))]
 fn calls_on_at(place: &Place, from: u16) -> bool
     ensures { result ≡ calls_on_at (place_of place.now) from }
 {
     match place.image.point(from) {
-        Some(point) => calls_on(place, &point.instr),
+        Some(point) => calls(point.instr.opcode) && point.instr.imm >= place.r,
         None => false,
     }
 }

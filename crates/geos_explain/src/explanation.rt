@@ -6,10 +6,9 @@ ghost use Rattle.geos_listing.specs.Rows.{texts_below};
 ghost use Rattle.geos_listing.specs.Instrs.{MarksTargets};
 ghost use Rattle.geos_explain.specs.Places.{explained_of, place_of};
 ghost use Rattle.geos_explain.specs.Explanation.{noted, place_text, head_text, numbered_routine, IsExplanationBy, IsExplanationOf};
-ghost use Rattle.geos_explain.specs.Texts.{ExplanationIsListingWithNotes, ExplanationIsTextWithNotes};
+ghost use Rattle.geos_explain.specs.Texts.{ExplanationIsListingWithNotes, ExplanationIsTextWithNotes, last_begun, noted_at, is_line_of};
+ghost use Rattle.geos_explain.specs.Texts.{numbered, line_text, lines_text, next_pc, IsTextExplanationBy, IsTextExplanationOf};
 ghost use Rattle.std.specs.Str.Lines.{lines};
-ghost use Rattle.geos_explain.specs.Texts.{last_begun, noted_at, is_line_of, numbered, line_text, lines_text, next_pc, IsTextExplanationBy};
-ghost use Rattle.geos_explain.specs.Texts.{IsTextExplanationOf};
 
 use crate::Done;
 use crate::explained::Explained;

@@ -5,8 +5,7 @@ ghost use Rattle.std.specs.Prelude.{◌≡◌, ◌<◌, Some, ◌++◌, OnOk, If
 ghost use Rattle.geos_flow.specs.Marks.{Marking};
 ghost use Rattle.geos_explain.specs.Places.{place_of, last_of};
 ghost use Rattle.geos_explain.specs.Forgotten.{knows, comes_lacked, is_lacked_from, forgets_at, forgetting_call, WhatIsSaidOfCallsHolds};
-ghost use Rattle.geos_explain.specs.Forgotten.{moves, moves_at, if_round, moving, moved_words, moved_text, WhatIsSaidOfRoundsHolds};
-ghost use Rattle.geos_explain.specs.Forgotten.{stays_lacked};
+ghost use Rattle.geos_explain.specs.Forgotten.{moves, moves_at, if_round, moved_words, moved_text, WhatIsSaidOfRoundsHolds, stays_lacked};
 
 use crate::Done;
 use crate::led::led_from;
@@ -198,14 +197,6 @@ fn if_round(place: &Place, item: Item, from: Option<u16>) -> Option<u16>
     }
 }
 
-/// The last instruction of the routine that moves the word on a way to the place on which the item is not known, if such a
-/// way leads back to it.
-fn moving(place: &Place, item: Item, w: u8) -> Option<u16>
-    ensures { result ≡ moving (place_of place.now) item w }
-{
-    if_round(place, item, last_moving(place, item, w))
-}
-
 /// The instruction moves the word going round, and it is not known then to be at most so much.
 #[tactic(auto, unfolding(crate::specs::Forgotten::moved_words))]
 fn put_moved_words(out: &mut Vec<u8>, place: &Place, w: u8, most: u16, from: u16, i: &Instr) -> Done
@@ -225,7 +216,7 @@ pub(crate) fn put_moved_round(out: &mut Vec<u8>, place: &Place, item: Item) -> D
     let Item::Bound(w, most) = item else {
         return Ok(());
     };
-    match moving(place, item, w) {
+    match if_round(place, item, last_moving(place, item, w)) {
         Some(from) => match place.image.place(from) {
             Some(point) => put_moved_words(out, place, w, most, from, &point.instr),
             None => Ok(()),

@@ -3,9 +3,8 @@
 ghost use Rattle.std.specs.Prelude.{◌≡◌, ◌≤◌, ◌++◌, OnOk, drop, length};
 ghost use Rattle.geos_text.specs.Parts.{part_text};
 ghost use Rattle.geos_explain.specs.Places.{place_of};
-ghost use Rattle.geos_explain.specs.Held.{is_held_at, slot_at, slots_at, since_words, since_text};
-ghost use Rattle.geos_explain.specs.Held.{since_at, sinces_at, else_wanted, kept_behind, unmet_words, exit_words};
-ghost use Rattle.geos_explain.specs.Held.{has_borrowed, held_wish, written_behind, written_words};
+ghost use Rattle.geos_explain.specs.Held.{is_held_at, slot_at, slots_at, since_words, since_text, since_at, sinces_at, else_wanted};
+ghost use Rattle.geos_explain.specs.Held.{kept_behind, unmet_words, exit_words, has_borrowed, held_wish, written_behind, written_words};
 
 use crate::Done;
 use crate::lacks::{lacking, put_lacking};

@@ -7,8 +7,7 @@ ghost use Rattle.geos_verify.specs.Places.{places};
 ghost use Rattle.geos_explain.specs.Places.{comes_alike, place_of};
 ghost use Rattle.geos_explain.specs.declared.ways.Way.TheVariants.{Along};
 ghost use Rattle.geos_explain.specs.Ways.{empty_on};
-ghost use Rattle.geos_explain.specs.Lost.{IsHint, LacksBehind, LacksFrom, IsWay, IsMeeting, IsEnd};
-ghost use Rattle.geos_explain.specs.Lost.{CanFollow, AreWays, IsFinding, IsSound};
+ghost use Rattle.geos_explain.specs.Lost.{IsHint, LacksBehind, LacksFrom, IsWay, IsMeeting, IsEnd, CanFollow, AreWays, IsFinding, IsSound};
 
 use crate::arrivals::{Arrivals, all_arrivals, arrival};
 use crate::finding::{End, Finding, Loss, Meeting};
