@@ -1,17 +1,8 @@
 -- What the search finds to come to a pc does come to it.
 use Rattle.std.proofs.Common.{◌≡◌, ℕ, Bool, true, false, cond, List, [], ◌∷◌, length, replicate, Option, Some, None, slice_get, get_or, set, refl, sym, ap, ◌∙◌, subst, ◌⊎◌, inl, inr}
 use Rattle.std.specs.Prelude.{nat_lt}
-use Rattle.std.proofs.lemmas.Bool.{cases_eq, cases_lt, cond_both}
-use Rattle.std.proofs.lemmas.List.{get_or-set_same, get_or-set_other, set_past}
-use Rattle.geos_verify.specs.declared.place.Place.{Place as KnownPlace}
-use Rattle.geos_verify.specs.Places.{places}
-use Rattle.geos_image.specs.declared.row.Pointer.{Pointer}
-use Rattle.geos_verify.specs.Rows.{pointer_at, after, has_edge}
-use Rattle.geos_flow.specs.declared.edge.Edge.{Edge}
-use Rattle.geos_flow.specs.Edges.{end_of}
-use Rattle.geos_flow.proofs.Into.{replicate-at}
+use Rattle.geos_explain.proofs.Below.{cases_eq, cases_lt, cond_both, get_or-set_same, get_or-set_other, set_past, KnownPlace, places, Pointer, pointer_at, after, has_edge, Edge, end_of, replicate-at, start_of}
 use Rattle.geos_explain.specs.Places.{Place, comes_alike}
-use Rattle.geos_image.specs.Parts.{start_of}
 use Rattle.geos_explain.specs.Ways.{entry_pointer, behind, with_hint}
 use Rattle.geos_explain.specs.Lost.{ComesTo, IsHint, AreHints}
 

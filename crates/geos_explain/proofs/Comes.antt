@@ -1,14 +1,6 @@
 -- Edges of an image, by what is known at its places.
 use Rattle.std.proofs.Common.{◌≡◌, ◌<◌, ℕ, true, length, Some, slice_get, sym, ap, ◌∙◌}
-use Rattle.geos_image.specs.declared.instr.Instr.{Instr}
-use Rattle.geos_image.specs.Parts.{Parts}
-use Rattle.geos_verify.specs.declared.place.Place.{Place as KnownPlace}
-use Rattle.geos_verify.specs.Places.{places}
-use Rattle.geos_verify.specs.Rows.{has_edge}
-use Rattle.geos_verify.proofs.Places.{point-of}
-use Rattle.geos_flow.specs.declared.edge.Edge.{Edge}
-use Rattle.geos_flow.specs.Edges.{end_of, end_in}
-use Rattle.geos_flow.proofs.Steps.{end-is, end-there}
+use Rattle.geos_explain.proofs.Below.{Instr, Parts, KnownPlace, places, has_edge, point-of, Edge, end_of, end_in, end-is, end-there}
 
 -- where an edge leads, and that the instruction has it
 pub known-end : (image : Parts) (edge : Edge) (known : KnownPlace) (end : ℕ) → slice_get (places image) edge.from ≡ Some known

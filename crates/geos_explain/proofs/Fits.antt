@@ -1,16 +1,8 @@
 -- A row lacks nothing exactly where it fits.
 use Rattle.std.proofs.Common.{◌≡◌, ◌<◌, ◌≤◌, ℕ, zero, suc, Bool, true, false, cond, ◌&&◌, List, [], ◌∷◌, ◌++◌, Option, Some, None, length, get_or, refl, ◌∙◌, ap, arith, inl, inr}
 use Rattle.std.specs.Prelude.{◌↔◌, nat_le, ◌==◌}
-use Rattle.std.proofs.lemmas.Bool.{and_parts, cases_lt, eqb-true}
-use Rattle.std.proofs.lemmas.Bool.Decides.{nat_tests}
-use Rattle.geos_image.specs.declared.row.Row.{Row}
-use Rattle.geos_image.specs.declared.row.Pointer.{Pointer}
-use Rattle.geos_image.specs.declared.row.SlotState.{SlotState}
-use Rattle.geos_image.specs.declared.row.SlotState.TheVariants.{Empty, Mem, Vm, Db}
+use Rattle.geos_explain.proofs.Below.{and_parts, cases_lt, eqb-true, nat_tests, Row, Pointer, SlotState, Empty, Mem, Vm, Db, zip2, all2, is_shaped, slot_fits, pointer_fits, pair_fits}
 use Rattle.geos_listing.specs.Rows.{texts_below, bound_item, slot_item, pointer_item, pair_item, pair_slots, row_items}
-use Rattle.geos_verify.specs.Lists.{zip2, all2}
-use Rattle.geos_image.specs.Legal.{is_shaped}
-use Rattle.geos_verify.specs.Rows.{slot_fits, pointer_fits, pair_fits}
 use Rattle.geos_explain.specs.Lacks.{lacking_bound, lacking_slot, lacking_pointer, lacking_pair, held_item, lacking_items, LacksNothingWhereItFits}
 
 -- ---- Texts and tests, by index
@@ -158,9 +150,9 @@ lengths row shaped =
       pairs = eqb-true _ _ pairs.1;
     }
 
-pub lacks-nothing : LacksNothingWhereItFits
+pub lacks_nothing : LacksNothingWhereItFits
 unfolding lacking_items row_items
-lacks-nothing known wanted shaped shaped_wanted words = (
+lacks_nothing known wanted shaped shaped_wanted words = (
   λ none. (let held = none-append (bounds ++ slots ++ pointers ++ pairs) held_slots none in
       let fourth = none-append (bounds ++ slots ++ pointers) pairs held.0 in
       let third = none-append (bounds ++ slots) pointers fourth.0 in

@@ -1,21 +1,12 @@
 -- A call that is said to forget an item does.
 use Rattle.std.proofs.Common.{◌≡◌, ◌+◌, ◌≤◌, ℕ, zero, suc, Bool, true, false, not, Option, Some, None, slice_get, refl, subst, arith}
 use Rattle.std.specs.Prelude.{◌&&◌}
-use Rattle.std.proofs.lemmas.Bool.{and_parts, cond_both, not-true}
-use Rattle.geos_verify.specs.declared.place.Place.{Place as KnownPlace}
-use Rattle.geos_verify.specs.Places.{places}
-use Rattle.geos_image.specs.Parts.{start_of}
-use Rattle.geos_verify.specs.Rows.{after, has_edge}
-use Rattle.geos_flow.specs.declared.edge.Edge.{Edge}
+use Rattle.geos_explain.proofs.Below.{and_parts, cond_both, not-true, KnownPlace, places, start_of, after, has_edge, Edge, Back, end_of, elim_both}
 use Rattle.geos_explain.specs.declared.forgotten.Item.{Item}
-use Rattle.geos_flow.specs.declared.search.Heading.TheVariants.{Back}
-use Rattle.geos_flow.specs.Edges.{end_of}
-use Rattle.geos_explain.specs.Forgotten.{knows, comes_lacked, stays_lacked, is_lacked_from, forgets_item, forgets_at, IsLackedFrom, IsForgottenBy, WhatIsSaidOfCallsHolds}
-use Rattle.geos_explain.specs.Moved.{moves, moves_at, if_round, IsMovedRound, WhatIsSaidOfRoundsHolds}
+use Rattle.geos_explain.specs.Forgotten.{knows, comes_lacked, stays_lacked, is_lacked_from, forgets_item, forgets_at, IsLackedFrom, IsForgottenBy, WhatIsSaidOfCallsHolds, moves, moves_at, if_round, IsMovedRound, WhatIsSaidOfRoundsHolds}
 use Rattle.geos_explain.specs.Places.{Place, comes_alike, last_of}
 use Rattle.geos_explain.specs.Since.{IsInside}
 use Rattle.geos_explain.specs.Ways.{forgets}
-use Rattle.geos_flow.proofs.Choices.{elim_both}
 use Rattle.geos_explain.proofs.Leads.{leads-is}
 use Rattle.geos_explain.proofs.Holding.{inside-at}
 
@@ -75,13 +66,13 @@ last-of place is from (suc n) short =
     (subst (λ k. is k ≡ true) is_from here, subst (IsInside place) is_from (inside-at place 0 n (omega arith)))))
     (λ not_so. last-of place is from n (omega arith))
 
-pub said-of-calls : WhatIsSaidOfCallsHolds
-said-of-calls place item from said =
+pub said_of_calls : WhatIsSaidOfCallsHolds
+said_of_calls place item from said =
     let found = last-of place (forgets_at place item) from place.routine.count (omega arith) said in
     forgets-forgotten place item from found.1 found.0
 
-pub said-of-rounds : WhatIsSaidOfRoundsHolds
-said-of-rounds place item w from = by_last (last_of place (moves_at place item w) place.routine.count) refl
+pub said_of_rounds : WhatIsSaidOfRoundsHolds
+said_of_rounds place item w from = by_last (last_of place (moves_at place item w) place.routine.count) refl
   where
     by_last : (last : Option ℕ) → last_of place (moves_at place item w) place.routine.count ≡ last
         → if_round place item last ≡ Some from → IsMovedRound place item w from

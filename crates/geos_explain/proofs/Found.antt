@@ -1,12 +1,6 @@
 -- What is found of the instructions of an image, one after another.
 use Rattle.std.proofs.Common.{◌≡◌, ◌<◌, ◌+◌, ℕ, suc, List, [], ◌∷◌, ◌++◌, length, length-append, Some, slice_get, get_or, sym, ap, ◌∙◌, subst, inl, inr, arith}
-use Rattle.std.proofs.lemmas.Bool.{cases_lt}
-use Rattle.std.proofs.lemmas.List.{get_or_append_left}
-use Rattle.std.proofs.Math.Seq.{get_or-append_seam}
-use Rattle.geos_image.specs.declared.routine.Routine.{Routine}
-use Rattle.geos_image.specs.Parts.{start_of}
-use Rattle.geos_image.proofs.Starts.{some_routine, start_of-next, start_of-le}
-use Rattle.geos_verify.proofs.Places.{found-within}
+use Rattle.geos_explain.proofs.Below.{cases_lt, get_or_append_left, get_or-append_seam, Routine, start_of, some_routine, start_of-next, start_of-le, found-within}
 use Rattle.geos_explain.specs.declared.finding.Findings.{Findings}
 use Rattle.geos_explain.specs.Findings.{AllFound, AllFoundSoFar, FoundAt}
 use Rattle.geos_explain.specs.Places.{Explained}

@@ -1,17 +1,10 @@
 -- A way that is found is as was sought.
 use Rattle.std.proofs.Common.{◌≡◌, ◌<◌, ◌⊎◌, ℕ, Bool, true, false, not, Option, Some, None, length, slice_get, refl, ap, ◌∙◌, inl, inr}
 use Rattle.std.specs.Prelude.{◌&&◌}
-use Rattle.std.proofs.lemmas.Bool.{and_parts}
-use Rattle.geos_verify.specs.declared.place.Place.{Place as KnownPlace}
-use Rattle.geos_verify.specs.Places.{places}
-use Rattle.geos_verify.specs.Rows.{pointer_at, after, has_edge}
-use Rattle.geos_flow.specs.declared.edge.Edge.{Edge}
+use Rattle.geos_explain.proofs.Below.{and_parts, KnownPlace, places, pointer_at, after, has_edge, Edge, end_in, IsFirstInto, IsInto, elim_both}
 use Rattle.geos_explain.specs.declared.ways.Way.{Way}
 use Rattle.geos_explain.specs.declared.ways.Way.TheVariants.{Entry, Along}
 use Rattle.geos_explain.specs.declared.ways.Sought.{Sought}
-use Rattle.geos_flow.specs.Edges.{end_in}
-use Rattle.geos_flow.specs.Graphs.{IsFirstInto, IsInto}
-use Rattle.geos_flow.proofs.Choices.{elim_both}
 use Rattle.geos_explain.specs.Led.{is_reached}
 use Rattle.geos_explain.specs.Places.{Place, agrees, is_inside}
 use Rattle.geos_explain.specs.Ways.{is_as, is_as_sought, is_sought}

@@ -1,19 +1,10 @@
 -- What is said of a slot that is held is so, and all that is so is said.
-use Rattle.std.proofs.Common.{◌≡◌, ◌+◌, ◌-◌, ◌<◌, ◌≤◌, ℕ, zero, suc, Bool, true, false, not, cond, Some, slice_get, refl, sym, ◌∙◌, subst, inl, inr, arith}
-use Rattle.std.specs.Prelude.{◌&&◌, ◌↔◌, nat_le, nat_lt}
-use Rattle.std.proofs.lemmas.Bool.{and_parts, and_from, or_cases, or_left, or_right, not-true, not_from_false, cond_both, cases_lt, le-leb, leb-true, lt-ltb, ltb-true}
-use Rattle.geos_verify.specs.declared.place.Place.{Place as KnownPlace}
-use Rattle.geos_verify.specs.Places.{places}
-use Rattle.geos_image.specs.Parts.{start_of}
-use Rattle.geos_verify.specs.Rows.{after, has_edge}
-use Rattle.geos_flow.specs.declared.edge.Edge.{Edge}
-use Rattle.geos_flow.specs.declared.search.Heading.TheVariants.{Back}
-use Rattle.geos_flow.specs.Edges.{end_of}
+use Rattle.std.proofs.Common.{◌≡◌, ◌+◌, ◌-◌, ◌<◌, ◌≤◌, ℕ, zero, suc, Bool, true, false, not, cond, Some, slice_get, refl, sym, ◌∙◌, subst, inl, inr, arith, Option, None, ap}
+use Rattle.std.specs.Prelude.{◌&&◌, ◌↔◌, nat_le, nat_lt, IfSome, is_some}
+use Rattle.geos_explain.proofs.Below.{and_parts, and_from, or_cases, or_left, or_right, not-true, not_from_false, cases_lt, le-leb, leb-true, lt-ltb, ltb-true, KnownPlace, places, start_of, after, has_edge, Edge, Back, end_of, elim_both}
 use Rattle.geos_explain.specs.declared.since.Since.{Since}
-use Rattle.geos_explain.specs.declared.since.Since.TheVariants.{Unknown, Entry, EntryOrOther, Once, Often}
 use Rattle.geos_explain.specs.Places.{Place, comes_alike}
-use Rattle.geos_explain.specs.Since.{holds, keeps_along, leads_held, leads_on, stays_held, is_held_from, fills_at, one_more, also, since_entry, since_below, IsInside, IsHeldFrom, IsSince, IsSinceEntry, IsSaidOf, IsAllOf, WhatIsSaidOfSlotsHolds}
-use Rattle.geos_flow.proofs.Choices.{elim_both}
+use Rattle.geos_explain.specs.Since.{holds, keeps_along, leads_held, leads_on, stays_held, is_held_from, fills_at, named_of, also, since_entry, since_below, IsInside, IsHeldFrom, IsSince, IsSinceEntry, WhatIsSaidOfSlotsHolds}
 use Rattle.geos_explain.proofs.Leads.{leads-is}
 
 module _ (place : Place) (a : ℕ) where
@@ -29,83 +20,73 @@ module _ (place : Place) (a : ℕ) where
   abbrev edge_at : ℕ → Bool → Edge
   edge_at from branch = record { from = from; branch = branch }
 
-  -- the instruction that is named stands before a pc
-  abbrev Below : ℕ → Since → Type 0
-  Below pc Unknown = Unit {0}
-  Below pc Entry = Unit {0}
-  Below pc EntryOrOther = Unit {0}
-  Below pc (Once from) = from < pc
-  Below pc (Often from) = from < pc
+  -- what is said of the caller and the first n instructions of the routine is so, and is all
+  record Said (n : ℕ) (entry : Bool) (from : Option ℕ) (again : Bool) : Type 0 where
+    by_caller : (entry ≡ true) ↔ IsSinceEntry place a
+    named : IfSome from (λ k. IsSince place a k)
+    before : IfSome from (λ k. k < start + n)
+    more : again ≡ true → (k other : ℕ) × (from ≡ Some k) × IsSince place a other × ((other ≡ k) → ⊥)
+    once : again ≡ false → (k : ℕ) → k < n → IsSince place a (start + k) → from ≡ Some (start + k)
 
-  -- where it is not said of the first n instructions of the routine, it is not so
-  abbrev AllBelow : ℕ → Since → Type 0
-  AllBelow n Unknown = (IsSinceEntry place a → ⊥) × ((k : ℕ) → k < n → IsSince place a (start + k) → ⊥)
-  AllBelow n Entry = (k : ℕ) → k < n → IsSince place a (start + k) → ⊥
-  AllBelow n EntryOrOther = Unit {0}
-  AllBelow n (Once from) = (IsSinceEntry place a → ⊥) × ((k : ℕ) → k < n → IsSince place a (start + k) → start + k ≡ from)
-  AllBelow n (Often from) = IsSinceEntry place a → ⊥
-
-  -- what is said of them is so, and is all
-  record Said (n : ℕ) (since : Since) : Type 0 where
-    is : IsSaidOf place a since
-    below : Below (start + n) since
-    all : AllBelow n since
+  abbrev SaidOf : ℕ → Since → Type 0
+  SaidOf n since = Said n since.entry since.from since.again
 
   -- of two instructions one is named
-  often-said : (n first : ℕ) (b : Bool) → first < start + n → IsSince place a first → IsSince place a (start + n) → (IsSinceEntry place a → ⊥)
-      → Said (suc n) (Often (cond b (start + n) first))
-  often-said n first true less was here none = record {
-    is = (here, (first, (λ same. omega (arith, same, less)), was));
-    below = omega arith;
-    all = none;
+  two-said : (n last : ℕ) (entry : Bool) (b : Bool) → (entry ≡ true) ↔ IsSinceEntry place a → last < start + n → IsSince place a last
+      → IsSince place a (start + n) → Said (suc n) entry (Some (cond b (start + n) last)) true
+  two-said n last entry true caller less was here = record {
+    by_caller = caller;
+    named = here;
+    before = omega arith;
+    more = λ so. (start + n, last, refl, was, λ same. omega (arith, same, less));
+    once = λ wrong. absurd cc;
   }
-  often-said n first false less was here none = record {
-    is = (was, (start + n, (λ same. omega (arith, same, less)), here));
-    below = omega arith;
-    all = none;
+  two-said n last entry false caller less was here = record {
+    by_caller = caller;
+    named = was;
+    before = omega arith;
+    more = λ so. (last, start + n, refl, here, λ same. omega (arith, same, less));
+    once = λ wrong. absurd cc;
   }
 
   -- one more is so
-  more-said : (since : Since) (n : ℕ) → Said n since → IsSince place a (start + n) → Said (suc n) (one_more place.pc since (start + n))
-  more-said Unknown n said here = record {
-    is = here;
-    below = omega arith;
-    all = (
-      said.all.0,
-      λ k less since. elim (cases_lt k n) [
-        | inl within ↦ absurd (said.all.1 k within since)
-        | inr past ↦ omega arith
-      ],
-    );
+  more-said : (n : ℕ) (entry : Bool) (from : Option ℕ) (again : Bool) → Said n entry from again → IsSince place a (start + n)
+      → Said (suc n) entry (Some (named_of place.pc from (start + n))) (is_some from)
+  more-said n entry None true said here = let wrong = (said.more refl).2 in absurd cc
+  more-said n entry None false said here = record {
+    by_caller = said.by_caller;
+    named = here;
+    before = omega arith;
+    more = λ so. absurd cc;
+    once = λ single k less since. elim (cases_lt k n) [
+      | inl within ↦ (let wrong = said.once refl k within since in absurd cc)
+      | inr past ↦ (let same : n ≡ k = omega arith in ap (λ m. Some (start + m)) same)
+    ];
   }
-  more-said Entry n said here = record { is = (said.is, (start + n, here)); below = tt; all = tt }
-  more-said EntryOrOther n said here = record { is = said.is; below = tt; all = tt }
-  more-said (Once first) n said here = often-said n first (nat_lt (start + n) place.pc) said.below said.is here said.all.0
-  more-said (Often last) n said here = often-said n last (nat_lt (start + n) place.pc) said.below said.is.0 here said.all
+  more-said n entry (Some last) again said here = two-said n last entry (nat_lt (start + n) place.pc) said.by_caller said.before said.named here
 
-  -- what is so of the first n, and where the next is none, is so of one more
-  none-more : (P : ℕ → Type 0) (n : ℕ) → (IsSince place a (start + n) → ⊥) → ((k : ℕ) → k < n → IsSince place a (start + k) → P k)
-      → (k : ℕ) → k < suc n → IsSince place a (start + k) → P k
-  none-more P n none before k less since = elim (cases_lt k n) [
-    | inl within ↦ before k within since
-    | inr past ↦ (let same : k ≡ n = omega arith in absurd (none (subst (λ m. IsSince place a (start + m)) same since)))
-  ]
-
-  no-more : (since : Since) (n : ℕ) → Said n since → (IsSince place a (start + n) → ⊥) → Said (suc n) since
-  no-more Unknown n said none = record { is = tt; below = tt; all = (said.all.0, none-more (λ k. ⊥) n none said.all.1) }
-  no-more Entry n said none = record { is = said.is; below = tt; all = none-more (λ k. ⊥) n none said.all }
-  no-more EntryOrOther n said none = record { is = said.is; below = tt; all = tt }
-  no-more (Once first) n said none = record {
-    is = said.is;
-    below = let before = said.below in omega arith;
-    all = (said.all.0, none-more (λ k. start + k ≡ first) n none said.all.1);
+  -- no more is so
+  no-more : (n : ℕ) (entry : Bool) (from : Option ℕ) (again : Bool) → Said n entry from again → (IsSince place a (start + n) → ⊥)
+      → Said (suc n) entry from again
+  no-more n entry from again said none = record {
+    by_caller = said.by_caller;
+    named = said.named;
+    before = further from said.before;
+    more = said.more;
+    once = λ single k less since. elim (cases_lt k n) [
+      | inl within ↦ said.once single k within since
+      | inr past ↦ (let same : k ≡ n = omega arith in absurd (none (subst (λ m. IsSince place a (start + m)) same since)))
+    ];
   }
-  no-more (Often last) n said none = record { is = said.is; below = let before = said.below in omega arith; all = said.all }
+    where
+      further : (from : Option ℕ) → IfSome from (λ k. k < start + n) → IfSome from (λ k. k < start + suc n)
+      further None less = tt
+      further (Some k) less = omega (arith, less)
 
-  also-said : (since : Since) (n : ℕ) (here : Bool) → Said n since → (here ≡ true → IsSince place a (start + n))
-      → (IsSince place a (start + n) → here ≡ true) → Said (suc n) (also place.pc since (start + n) here)
-  also-said since n true said is all = more-said since n said (is refl)
-  also-said since n false said is all = no-more since n said (λ since. (let wrong = all since in absurd cc))
+  also-said : (since : Since) (n : ℕ) (here : Bool) → SaidOf n since → (here ≡ true → IsSince place a (start + n))
+      → (IsSince place a (start + n) → here ≡ true) → SaidOf (suc n) (also place.pc since (start + n) here)
+  also-said since n true said is all = more-said n since.entry since.from since.again said (is refl)
+  also-said since n false said is all = no-more n since.entry since.from since.again said (λ so. (let wrong = all so in absurd cc))
 
   held-from : (pc : ℕ) → (is_held_from place a pc ≡ true) ↔ IsHeldFrom place a pc
   held-from pc = leads-is place.image Back (λ edge end. stays_held place a edge) place.pc pc
@@ -162,22 +143,21 @@ module _ (place : Place) (a : ℕ) where
       on false is = or_left _ (leads_held place a (edge_at from true) point) (leads false is)
       on true is = or_right (leads_held place a (edge_at from false) point) _ (leads true is)
 
-  entry-said : Said zero (since_entry place a)
+  entry-said : Said zero (since_entry place a) None false
   entry-said =
       let held = holds place.routine.entry a in
-      cond_both (held && is_held_from place a start) Entry Unknown (Said zero)
-      (λ is. (let tests = and_parts held (is_held_from place a start) is in
-      record { is = record { held = tests.0; way = (held-from start).0 tests.1 }; below = tt; all = λ k less since. omega arith }))
-      (λ not_so. record {
-        is = tt;
-        below = tt;
-        all = (
-          λ since. (let so = and_from held (is_held_from place a start) since.held ((held-from start).1 since.way) in absurd cc),
-          λ k less since. omega arith,
+      record {
+        by_caller = (
+          λ is. (let tests = and_parts held (is_held_from place a start) is in record { held = tests.0; way = (held-from start).0 tests.1 }),
+          λ since. and_from held (is_held_from place a start) since.held ((held-from start).1 since.way),
         );
-      })
+        named = tt;
+        before = tt;
+        more = λ so. absurd cc;
+        once = λ single k less since. absurd (omega (arith, less));
+      }
 
-  below-said : (n : ℕ) → n ≤ place.routine.count → Said n (since_below place a n)
+  below-said : (n : ℕ) → n ≤ place.routine.count → SaidOf n (since_below place a n)
   unfolding since_below
   below-said zero short = entry-said
   below-said (suc n) short = also-said (since_below place a n) n (fills_at place a (start + n)) (below-said n (omega arith))
@@ -191,18 +171,13 @@ module _ (place : Place) (a : ℕ) where
       let below = ltb-true from (start + place.routine.count) parts.1 in
       (from - start, omega (arith, above, below), omega (arith, above, below))
 
-  all-of : (since : Since) → AllBelow place.routine.count since → IsAllOf place a since
-  all-of Unknown all = (all.0, λ from since. (let n = nth from since in all.1 n.0 n.1 (subst (λ m. IsSince place a m) (sym n.2) since)))
-  all-of Entry all = λ from since. (let n = nth from since in all n.0 n.1 (subst (λ m. IsSince place a m) (sym n.2) since))
-  all-of EntryOrOther all = tt
-  all-of (Once first) all = (
-    all.0,
-    λ from since. (let n = nth from since in sym n.2
-        ∙ all.1 n.0 n.1 (subst (λ m. IsSince place a m) (sym n.2) since)),
-  )
-  all-of (Often last) all = all
-
-pub said-of-slots : WhatIsSaidOfSlotsHolds
-said-of-slots place a =
+pub said_of_slots : WhatIsSaidOfSlotsHolds
+said_of_slots place a =
     let said = below-said place a place.routine.count (omega arith) in
-    (said.is, all-of place a (since_below place a place.routine.count) said.all)
+    record {
+      entry = said.by_caller;
+      from = said.named;
+      again = said.more;
+      once = λ single other since. (let n = nth place a other since in
+          said.once single n.0 n.1 (subst (λ m. IsSince place a m) (sym n.2) since) ∙ ap (λ m. Some m) n.2);
+    }

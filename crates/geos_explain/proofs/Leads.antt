@@ -1,14 +1,8 @@
 -- What is decided of ways is so, and the marks of a search from one pc say it.
 use Rattle.std.proofs.Common.{◌≡◌, ◌<◌, ℕ, Bool, true, false, List, refl, subst, inl, inr}
 use Rattle.std.specs.Prelude.{◌↔◌}
-use Rattle.geos_image.specs.Parts.{Parts}
-use Rattle.geos_flow.specs.declared.edge.Edge.{Edge}
-use Rattle.geos_flow.specs.declared.search.Heading.{Heading}
-use Rattle.geos_flow.specs.Flow.{step_by, Lead, Leads, MarksWhatIsLed}
-use Rattle.geos_flow.specs.Marks.{no_marks, marked, is_marked, Marking}
-use Rattle.geos_flow.proofs.Deciding.{IsDecided, leads-or-not}
-use Rattle.geos_flow.proofs.Marked.{has-marked, is-marked, mark-there, mark-was, none-full, none-marked}
-use Rattle.geos_explain.specs.Leads.{decided, leads}
+use Rattle.geos_explain.proofs.Below.{Parts, Edge, Heading, step_by, Lead, Leads, MarksWhatIsLed, no_marks, marked, is_marked, Marking, IsDecided, leads-or-not, has-marked, is-marked, mark-there, mark-was, none-full, none-marked}
+use Rattle.geos_explain.specs.Led.{decided, leads}
 
 -- a test that says just whether something is so says what is decided
 pub is-decided : {P : Type 0} (is : Bool) (so : IsDecided P) → (is ≡ true) ↔ P → is ≡ decided so

@@ -1,4 +1,5 @@
 mod Arriving
+mod Below
 mod Comes
 mod Fits
 mod Forgetting

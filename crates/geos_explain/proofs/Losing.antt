@@ -1,11 +1,7 @@
 -- What the search for why a pointer is not known finds is so.
 use Rattle.std.proofs.Common.{is_some, ◌≡◌, ◌⊎◌, ℕ, Bool, true, false, List, Option, Some, None, slice_get, refl, sym, subst, inl, inr}
 use Rattle.std.specs.Prelude.{IfSome}
-use Rattle.std.specs.Option.{option_or}
-use Rattle.geos_verify.specs.declared.place.Place.{Place as KnownPlace}
-use Rattle.geos_verify.specs.Places.{places}
-use Rattle.geos_verify.specs.Rows.{after, has_edge}
-use Rattle.geos_flow.specs.declared.edge.Edge.{Edge}
+use Rattle.geos_explain.proofs.Below.{option_or, KnownPlace, places, after, has_edge, Edge, no_marks, marked, Has, mark-was, none-marked}
 use Rattle.geos_explain.specs.declared.ways.Way.{Way}
 use Rattle.geos_explain.specs.declared.ways.Way.TheVariants.{Entry, Along}
 use Rattle.geos_explain.specs.declared.finding.End.{End}
@@ -14,11 +10,7 @@ use Rattle.geos_explain.specs.declared.trace.FirstWays.{FirstWays}
 use Rattle.geos_explain.specs.declared.trace.Trace.{Trace}
 use Rattle.geos_explain.specs.Places.{Place, comes_alike}
 use Rattle.geos_explain.specs.Ways.{empty_slot, empty_along, empty_from, empty_on}
-use Rattle.geos_explain.specs.Lost.{LacksFrom, FindsWay, IsBringing, IsWay, NoWay, BringsNowhere}
-use Rattle.geos_explain.specs.Trace.{AreWays, IsFinding, IsOpen, IsSound}
-use Rattle.geos_flow.specs.Marks.{no_marks, marked}
-use Rattle.geos_flow.specs.Waiting.{Has}
-use Rattle.geos_flow.proofs.Marked.{mark-was, none-marked}
+use Rattle.geos_explain.specs.Lost.{LacksFrom, FindsWay, IsBringing, IsWay, NoWay, BringsNowhere, AreWays, IsFinding, IsOpen, IsSound}
 use Rattle.geos_explain.proofs.Arriving.{cond-some}
 
 -- of two things, if there are such, the first

@@ -1,39 +1,16 @@
 -- Explanations without their notes are the listing, or the author's text.
 use Rattle.std.proofs.Common.{◌≡◌, ◌<◌, ◌+◌, ◌-◌, inl, inr, ℕ, zero, suc, Bool, true, false, cond, List, [], ◌∷◌, ◌++◌, length, Option, Some, None, slice_get, refl, ap, arith, append_assoc, take, sym, ◌∙◌}
 use Rattle.std.specs.Prelude.{◌&&◌, if◌then◌else◌, nat_le, nat_lt, ◌==◌, codes, count_by, decimal, All}
-use Rattle.std.specs.List.{concat}
-use Rattle.std.proofs.lemmas.List.{append-nil}
-use Rattle.std.proofs.lemmas.List.Folds.{concat-append}
-use Rattle.geos_verify.specs.Rules.{over_budget}
-use Rattle.std.proofs.lemmas.Bool.{and_parts, cond_both, ltb-true}
-use Rattle.std.proofs.lemmas.List.Elements.{All-nil, All-cons, All-append}
-use Rattle.std.proofs.lemmas.Bool.Decides.{nat_tests}
-use Rattle.std.specs.Option.{option_map_or}
-use Rattle.std.specs.Str.Lines.{lines}
-use Rattle.geos_image.specs.declared.point.Point.{Point}
-use Rattle.geos_image.specs.declared.instr.Instr.{Instr}
-use Rattle.geos_image.specs.declared.routine.Routine.{Routine}
-use Rattle.geos_image.specs.Parts.{Parts, start_of}
-use Rattle.geos_image.specs.Legal.{is_image}
-use Rattle.geos_image.proofs.Instrs.{image_parts}
+use Rattle.geos_explain.proofs.Below.{concat, append-nil, concat-append, over_budget, and_parts, cond_both, ltb-true, All-nil, All-cons, All-append, nat_tests, option_map_or, lines, Point, Instr, Routine, Parts, start_of, is_image, image_parts, name_of, label_line, instr_code, Rule, OverBudget, rule_number, KnownPlace, places, elim_both}
 use Rattle.geos_listing.specs.Rows.{texts_below}
-use Rattle.geos_listing.specs.Instrs.{name_of, label_line, instr_code}
-use Rattle.geos_verify.specs.declared.rule.Rule.{Rule}
-use Rattle.geos_verify.specs.declared.rule.Rule.TheVariants.{OverBudget}
-use Rattle.geos_verify.specs.RuleText.{rule_number}
-use Rattle.geos_verify.proofs.Places.{item_at}
-use Rattle.geos_verify.specs.declared.place.Place.{Place as KnownPlace}
-use Rattle.geos_verify.specs.Places.{places}
-use Rattle.geos_verify.proofs.Places.{places-length, place-at, point-of}
-use Rattle.geos_flow.proofs.Choices.{elim_both}
+use Rattle.geos_verify.proofs.Places.{item_at, places-length, place-at, point-of}
 use Rattle.geos_explain.specs.Places.{Place, Explained, place_at}
 use Rattle.geos_explain.specs.Notes.{where_text, note_head, known_here, potential_text, note}
 use Rattle.geos_explain.specs.Words.{words, refusal_line}
 use Rattle.geos_explain.specs.Told.{is_told, rule_at, most_told}
 use Rattle.geos_explain.specs.Refusals.{more_line, told_text, refused_text, refusal_text, is_last, over_line, over_from, over_text}
 use Rattle.geos_explain.specs.Explanation.{noted, point_text, place_text, head_text, routine_text, numbered_routine, explanation}
-use Rattle.geos_explain.specs.Texts.{last_begun, noted_in, noted_of, noted_at, is_line_of, behind_line, line_text, next_pc, lines_text}
-use Rattle.geos_explain.specs.Listed.{IsComment, IsNote, place_with, routine_with, numbered_with, IsListingWithNotes, ExplanationIsListingWithNotes, lines_with, IsBehind, ExplanationIsTextWithNotes}
+use Rattle.geos_explain.specs.Texts.{last_begun, noted_in, noted_of, noted_at, is_line_of, behind_line, line_text, next_pc, lines_text, IsComment, IsNote, place_with, routine_with, numbered_with, IsListingWithNotes, ExplanationIsListingWithNotes, lines_with, IsBehind, ExplanationIsTextWithNotes}
 
 -- texts that are the same at each number are the same together
 texts_below-same : (n : ℕ) (text other : ℕ → List ℕ) → ((k : ℕ) → text k ≡ other k) → texts_below n text ≡ texts_below n other
@@ -177,9 +154,9 @@ routine-with explained r = by_routine (slice_get explained.image.routines r) ref
         let listed : ℕ → List ℕ = λ k. place_with (note_at explained r) explained.image (start + k) in
         ap (λ text. head_text routine ++ text) (texts_below-same routine.count told listed (λ k. place-with explained r (start + k) routine is))
 
-pub explanation-listed : ExplanationIsListingWithNotes
+pub explanation_listed : ExplanationIsListingWithNotes
 unfolding head_text
-explanation-listed image refused findings =
+explanation_listed image refused findings =
     let explained : Explained = record { image = image; lines = []; refused = refused; findings = findings } in
     let listed : IsListingWithNotes image (explanation image refused findings) = record {
       note = note_at explained;
@@ -241,7 +218,7 @@ lines-behind explained legal pc number (line ∷ texts) =
     let here = behind_line explained pc number in
     (here ∷ rest.0, All-cons IsBehind here rest.0 (line-behind explained pc number legal) rest.1, omega (arith, rest.2), rw rest.3 refl)
 
-pub text-listed : ExplanationIsTextWithNotes
-text-listed text table image refused findings legal =
+pub text_listed : ExplanationIsTextWithNotes
+text_listed text table image refused findings legal =
     let told = lines-behind (record { image = image; lines = table; refused = refused; findings = findings }) legal 0 1 (lines text) in
     record { behind = told.0; each = told.1; many = told.2; is = told.3 }

@@ -1,18 +1,8 @@
 -- Nothing is said against a public routine's rows exactly where a caller from outside may enter and leave by them.
 use Rattle.std.proofs.Common.{◌≡◌, ◌<◌, ℕ, zero, suc, Bool, true, false, ◌&&◌, List, [], ◌∷◌, ◌++◌, Option, Some, None, length, map, get_or, refl, arith}
 use Rattle.std.specs.Prelude.{◌↔◌, ◌==◌, ◌||◌, not, slice_index}
-use Rattle.std.specs.List.{list_all}
-use Rattle.std.proofs.lemmas.Bool.{and_parts, ne_eqb}
-use Rattle.std.proofs.lemmas.List.{get_or-map}
-use Rattle.geos_image.specs.declared.row.Row.{Row}
-use Rattle.geos_image.specs.declared.row.Pointer.{Pointer}
-use Rattle.geos_image.specs.declared.row.SlotState.{SlotState}
-use Rattle.geos_image.specs.declared.row.SlotState.TheVariants.{Empty, Mem, Vm, Db}
-use Rattle.geos_image.specs.Open.{open_row}
+use Rattle.geos_explain.proofs.Below.{list_all, and_parts, ne_eqb, get_or-map, Row, Pointer, SlotState, Empty, Mem, Vm, Db, open_row, all2, slot_pairs, each_pair, is_empty, is_stale, may_be_given, may_be_one, may_enter, is_left, may_leave}
 use Rattle.geos_listing.specs.Rows.{texts_below, bound_item, slot_item, pointer_item, pair_item, pair_slots, row_items}
-use Rattle.geos_verify.specs.Lists.{all2}
-use Rattle.geos_verify.specs.Pairs.{slot_pairs, each_pair}
-use Rattle.geos_verify.specs.Rows.{is_empty, is_stale, may_be_given, may_be_one, may_enter, is_left, may_leave}
 use Rattle.geos_explain.specs.Numbers.{also_are}
 use Rattle.geos_explain.specs.Public.{own_only, own_slots, marked_only, marked_slots, differ_held, held_pairs, known_pointers, missing_only, missing_slots, kept_only, kept_slots, entry_faults, missing_words, exit_faults, NoFaultsWhereItMayEnterAndLeave}
 use Rattle.geos_explain.proofs.Fits.{Each, none-append, none-each, each-tests, none-tests, zip2-get, HasLengths, lengths}
@@ -231,8 +221,8 @@ leaves entry exit whole whole_exit enter =
           ) refl),
     )
 
-pub no-faults : NoFaultsWhereItMayEnterAndLeave
-no-faults entry exit shaped shaped_exit =
+pub no_faults : NoFaultsWhereItMayEnterAndLeave
+no_faults entry exit shaped shaped_exit =
     let whole = lengths entry shaped in
     let enter = enters entry whole in
     let leave = leaves entry exit whole (lengths exit shaped_exit) in (

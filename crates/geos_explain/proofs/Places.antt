@@ -1,8 +1,6 @@
 -- Lists of as many elements as a row has, by index.
 use Rattle.std.proofs.Common.{◌≡◌, ℕ, zero, suc, ◌+◌, List, [], ◌∷◌, length, get_or, drop, ap, ◌∙◌, arith}
-use Rattle.std.proofs.Math.ListN.{drop_of_length-le}
-use Rattle.std.proofs.Math.Seq.{drop-cons}
-use Rattle.geos_verify.specs.Lists.{zip2}
+use Rattle.geos_explain.proofs.Below.{drop_of_length-le, drop-cons, zip2}
 
 -- so many elements of a list from a place on
 abbrev pub elements : {X : Type 0} → List X → X → ℕ → ℕ → List X

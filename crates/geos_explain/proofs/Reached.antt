@@ -1,17 +1,8 @@
 -- The marks say what control reaches.
 use Rattle.std.proofs.Common.{◌≡◌, ◌<◌, ◌+◌, ℕ, true, Bool, List, [], length, refl, sym, ap, ◌∙◌, subst, arith, inl, inr}
-use Rattle.std.proofs.lemmas.Bool.{cases_lt}
-use Rattle.geos_image.specs.Legal.{is_image}
-use Rattle.geos_image.specs.Parts.{Parts, start_of}
+use Rattle.geos_explain.proofs.Below.{cases_lt, is_image, Parts, start_of, image_parts, start_of-end, Ahead, step_by, Lead, MarksWhatIsLed, no_marks, marked, is_marked, Marking, below-or-not, leads-or-not, has-marked, marked-here, marked-keeps, mark-was, is-marked, marked-low, none-marked}
 use Rattle.geos_image.proofs.Given.{item_at, routine_counts}
-use Rattle.geos_image.proofs.Instrs.{image_parts}
-use Rattle.geos_image.proofs.Starts.{start_of-end}
-use Rattle.geos_flow.specs.declared.search.Heading.TheVariants.{Ahead}
-use Rattle.geos_flow.specs.Flow.{step_by, Lead, MarksWhatIsLed}
-use Rattle.geos_flow.specs.Marks.{no_marks, marked, is_marked, Marking}
-use Rattle.geos_flow.proofs.Deciding.{below-or-not, leads-or-not}
 use Rattle.geos_explain.proofs.Leads.{is-decided}
-use Rattle.geos_flow.proofs.Marked.{has-marked, marked-here, marked-keeps, mark-was, is-marked, marked-low, none-marked}
 use Rattle.geos_explain.specs.Led.{stays, LeadsFrom, MarksStarts, is_reached}
 
 -- each routine has a first instruction

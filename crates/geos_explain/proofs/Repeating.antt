@@ -1,21 +1,7 @@
 -- Which refusals are told once.
 use Rattle.std.proofs.Common.{◌≡◌, ◌∙◌, ◌+◌, ◌<◌, ℕ, zero, suc, Bool, true, false, ◌&&◌, List, [], ◌∷◌, ◌++◌, length, get_or, slice_get, Option, Some, None, refl, sym, ap, subst, inl, inr, arith}
 use Rattle.std.specs.Prelude.{◌↔◌, not, is_none, is_some}
-use Rattle.std.proofs.lemmas.Bool.{and_parts, cases_lt, ltb-true}
-use Rattle.std.proofs.lemmas.List.{get_or_append_left}
-use Rattle.std.proofs.lemmas.Option.{same_Some, slice_get_within}
-use Rattle.std.proofs.Math.Seq.{get_or-append_seam}
-use Rattle.geos_flow.specs.declared.edge.Edge.{Edge}
-use Rattle.geos_flow.specs.Edges.{end_in}
-use Rattle.geos_flow.specs.Graphs.{IsFirstInto, IsInto}
-use Rattle.geos_image.specs.declared.row.Row.{Row}
-use Rattle.geos_image.specs.Parts.{Parts}
-use Rattle.geos_verify.specs.declared.place.Place.{Place as KnownPlace}
-use Rattle.geos_verify.specs.declared.rule.Rule.{Rule}
-use Rattle.geos_verify.specs.Places.{places}
-use Rattle.geos_verify.specs.Rows.{fits}
-use Rattle.geos_verify.proofs.Places.{places-length}
-use Rattle.geos_verify.proofs.RowsFit.{fits-trans}
+use Rattle.geos_explain.proofs.Below.{and_parts, cases_lt, ltb-true, get_or_append_left, same_Some, slice_get_within, get_or-append_seam, Edge, end_in, IsFirstInto, IsInto, Row, Parts, KnownPlace, Rule, places, fits, places-length, fits-trans}
 use Rattle.geos_explain.specs.Told.{told_rule}
 use Rattle.geos_explain.specs.Uses.{leading_nowhere}
 use Rattle.geos_explain.specs.Repeated.{brings, leads_ahead, names_empty_slot, is_of_empty_slot, ComesFromTold, IsRepeated, IsToldBefore, IsToldOnce, RepeatedIsToldBefore, TellsOnce}
@@ -145,5 +131,5 @@ told-below image refused told once (suc n) pc lt repeated =
       }
     ]
 
-pub repeated-told : RepeatedIsToldBefore
-repeated-told image refused told pc once repeated = told-below image refused told once (suc pc) pc (omega arith) repeated
+pub repeated_told : RepeatedIsToldBefore
+repeated_told image refused told pc once repeated = told-below image refused told once (suc pc) pc (omega arith) repeated

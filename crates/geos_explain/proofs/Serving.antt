@@ -1,21 +1,12 @@
 -- What is said where a potential is above its budget is so.
 use Rattle.std.proofs.Common.{◌≡◌, ◌+◌, ◌≤◌, ◌⊎◌, ℕ, zero, suc, Bool, true, false, not, Option, Some, None, slice_get, refl, subst, inl, inr, arith}
 use Rattle.std.specs.Prelude.{◌&&◌, nat_lt}
-use Rattle.std.proofs.lemmas.Bool.{and_parts}
-use Rattle.geos_image.specs.declared.instr.Instr.{Instr}
-use Rattle.geos_image.specs.declared.point.Point.{Point}
-use Rattle.geos_image.specs.declared.row.Row.{Row}
-use Rattle.geos_image.specs.Parts.{Parts, start_of}
-use Rattle.geos_opcodes.specs.Facts.{facts}
+use Rattle.geos_explain.proofs.Below.{and_parts, Instr, Point, Row, Parts, start_of, facts, calls, Ahead, elim_both}
 use Rattle.geos_verify.specs.Rules.{call_misfits}
-use Rattle.geos_verify.specs.Touched.{calls}
-use Rattle.geos_flow.specs.declared.search.Heading.TheVariants.{Ahead}
-use Rattle.geos_flow.proofs.Choices.{elim_both}
 use Rattle.geos_explain.proofs.Leads.{leads-is}
-use Rattle.geos_explain.specs.Budgets.{calls_on, calls_on_at, IsNeverServed, WhatIsSaidOfBudgetsHolds}
+use Rattle.geos_explain.specs.Budgets.{calls_on, calls_on_at, IsNeverServed, WhatIsSaidOfBudgetsHolds, takes, stays_unset, is_unset_at, takes_at, IsTakenUnset, WhatIsSaidOfCountersHolds}
 use Rattle.geos_explain.specs.Places.{Place, first_or, first_of}
 use Rattle.geos_explain.specs.Since.{IsInside}
-use Rattle.geos_explain.specs.Unset.{takes, stays_unset, is_unset_at, takes_at, IsTakenUnset, WhatIsSaidOfCountersHolds}
 use Rattle.geos_explain.proofs.Holding.{inside-at}
 
 -- what is found was found before, or is here
@@ -72,12 +63,12 @@ module _ (place : Place) where
         refused = λ row. ahead-refused place.image place.r point.instr row tests.0 tests.1;
       }))
 
-pub said-of-counters : WhatIsSaidOfCountersHolds
-said-of-counters place k from said =
+pub said_of_counters : WhatIsSaidOfCountersHolds
+said_of_counters place k from said =
     let found = first-of place (takes_at place k) from place.routine.count (omega arith) said in
     takes-unset place k from found.1 found.0
 
-pub said-of-budgets : WhatIsSaidOfBudgetsHolds
-said-of-budgets place from said =
+pub said_of_budgets : WhatIsSaidOfBudgetsHolds
+said_of_budgets place from said =
     let found = first-of place (calls_on_at place) from place.routine.count (omega arith) said in
     calls-refused place from found.1 found.0

@@ -1,11 +1,7 @@
 -- What is said of the place at a pc, and of one place after another.
 use Rattle.std.proofs.Common.{◌≡◌, ◌<◌, ◌≤◌, ℕ, false, List, [], ◌∷◌, ◌++◌, length, length-append, drop, slice_get, Result, refl, sym, ap, ◌∙◌, append_assoc, arith}
 use Rattle.std.specs.Prelude.{IfSome, OnOk, ◌==◌, if◌then◌else◌}
-use Rattle.std.specs.Option.{option_map_or}
-use Rattle.std.proofs.lemmas.Bool.{ne_eqb}
-use Rattle.std.proofs.lemmas.List.{drop_at}
-use Rattle.std.proofs.lemmas.Result.{on_ok_weaker}
-use Rattle.geos_verify.specs.declared.place.Place.{Place as KnownPlace}
+use Rattle.geos_explain.proofs.Below.{option_map_or, ne_eqb, drop_at, on_ok_weaker, KnownPlace}
 use Rattle.geos_listing.proofs.Limits.{item_at}
 use Rattle.geos_explain.specs.Places.{Place}
 

@@ -1,11 +1,7 @@
 -- Of which pcs the rule that refuses is told: where so many are told before, where just as many are, and where more are.
 use Rattle.std.proofs.Common.{◌≡◌, ◌<◌, ◌≤◌, ◌+◌, ◌-◌, ℕ, zero, suc, Bool, true, false, List, [], length, Option, Some, None, get_or, take, refl, sym, ap, ◌∙◌, inl, inr, arith}
 use Rattle.std.specs.Prelude.{is_some, count_by}
-use Rattle.std.proofs.lemmas.Bool.{cases_lt, lt-ltb}
-use Rattle.std.proofs.lemmas.List.{get_or_past, take_all}
-use Rattle.std.proofs.lemmas.Bool.Decides.{nat_tests}
-use Rattle.std.proofs.lemmas.List.Sums.{count_by_more_yes, count_by_more_no}
-use Rattle.geos_verify.specs.declared.rule.Rule.{Rule}
+use Rattle.geos_explain.proofs.Below.{cases_lt, lt-ltb, get_or_past, take_all, nat_tests, count_by_more_yes, count_by_more_no, Rule}
 use Rattle.geos_explain.specs.Places.{Place}
 use Rattle.geos_explain.specs.Told.{is_told, rule_at, IsFirstUntold}
 use Rattle.geos_explain.specs.Words.{refusal_line}

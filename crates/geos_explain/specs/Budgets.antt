@@ -1,16 +1,81 @@
--- Which budget serves a routine.
-use Rattle.std.specs.Prelude.{◌≡◌, ℕ, Bool, true, false, ◌&&◌, not, nat_lt, List, [], ◌∷◌, ◌++◌, Option, Some, None, slice_get, codes}
-use Rattle.std.specs.List.{concat}
-use Rattle.geos_image.specs.declared.instr.Instr.{Instr}
-use Rattle.geos_image.specs.declared.point.Point.{Point}
-use Rattle.geos_image.specs.declared.row.Row.{Row}
-use Rattle.geos_verify.specs.Rules.{call_misfits}
-use Rattle.geos_verify.specs.Touched.{calls}
+-- Which budget serves a routine, and which counters are still to pay at its beginning, from which a LOOP takes though nothing sets them.
+use Rattle.std.specs.Prelude.{◌≡◌, ℕ, Bool, true, false, ◌&&◌, not, nat_lt, List, [], ◌∷◌, ◌++◌, Option, Some, None, slice_get, codes, if◌then◌else◌, ◌==◌, slice_index, decimal}
+use Rattle.geos_explain.specs.Below.{concat, Instr, Point, Row, call_misfits, calls, CounterUse, SetTo, SetToWord, CountsDown, facts, Parts, Edge, Ahead, step_by, Leads, texts_below}
 use Rattle.geos_explain.specs.Notes.{budget_words, budget_wish}
 use Rattle.geos_explain.specs.Numbers.{pc_text}
-use Rattle.geos_explain.specs.Places.{Place, first_of}
+use Rattle.geos_explain.specs.Places.{Place, first_of, is_inside}
 use Rattle.geos_explain.specs.Since.{IsInside}
-use Rattle.geos_explain.specs.Unset.{unset_items}
+use Rattle.geos_explain.specs.Led.{leads}
+
+-- the instruction takes from the counter
+abbrev pub takes : CounterUse → Instr → ℕ → Bool
+takes CountsDown i k = i.a == k
+takes _ i k = false
+
+-- the instruction sets the counter
+abbrev pub gives : CounterUse → Instr → ℕ → Bool
+gives SetTo i k = i.a == k
+gives SetToWord i k = i.a == k
+gives _ i k = false
+
+-- the counter still pays at a pc
+unfoldable pub pays_at : Parts → ℕ → ℕ → Bool
+pays_at image k pc = elim (slice_get image.points pc) [ None ↦ false | Some point ↦ not (slice_index point.potential.coefficients k == 0) ]
+
+-- an instruction neither takes from the counter nor sets it
+abbrev pub leaves_alone : Instr → ℕ → Bool
+leaves_alone i k = not (takes (facts i.opcode).counter i k) && not (gives (facts i.opcode).counter i k)
+
+-- an edge is one of the place's routine, its instruction leaves the counter alone, and behind it the counter still pays
+unfoldable pub stays_unset : Place → ℕ → Edge → ℕ → Bool
+stays_unset place k edge end = elim (slice_get place.image.points edge.from) [
+  | None ↦ false
+  | Some point ↦ is_inside place edge.from && leaves_alone point.instr k && pays_at place.image k end
+]
+
+-- whether a way along such edges leads to a pc from the place
+abbrev pub is_unset_at : Place → ℕ → ℕ → Bool
+is_unset_at place k pc = leads place.image Ahead (stays_unset place k) place.pc pc
+
+-- such a way leads to an instruction that takes from the counter
+unfoldable pub takes_at : Place → ℕ → ℕ → Bool
+takes_at place k from = elim (slice_get place.image.points from) [
+  | None ↦ false
+  | Some point ↦ is_unset_at place k from && takes (facts point.instr.opcode).counter point.instr k
+]
+
+-- the first instruction of the routine that takes from the counter, to which such a way leads
+abbrev pub unset_loop : Place → ℕ → Option ℕ
+unset_loop place k = first_of place (takes_at place k) place.routine.count
+
+-- the counter is not set on the way to an instruction that takes from it, where there is such an instruction
+abbrev pub found_text : List ℕ → ℕ → Option ℕ → List ℕ
+found_text lines k None = []
+found_text lines k (Some pc) =
+    concat (codes "; k" ∷ decimal k ∷ codes " is not set on the way to LOOP at" ∷ pc_text lines pc ∷ codes ": set it first by SETK or SETKW" ∷ [])
+
+-- the same of a counter that still pays at a place
+unfoldable pub unset_item : Place → ℕ → List ℕ
+unset_item place k = if pays_at place.image k place.pc then found_text place.lines k (unset_loop place k) else []
+
+-- the same of each counter
+abbrev pub unset_items : Place → List ℕ
+unset_items place = texts_below 4 (λ k. unset_item place k)
+
+-- What is said, as a relation on ways
+
+-- a way leads from the place to an instruction of its routine that takes from the counter, on which no instruction sets the
+-- counter or takes from it, and on which the counter pays all along
+pub record IsTakenUnset (place : Place) (k from : ℕ) : Type 0 where
+  pub inside : IsInside place from
+  pub point : Point
+  pub there : slice_get place.image.points from ≡ Some point
+  pub does : takes (facts point.instr.opcode).counter point.instr k ≡ true
+  pub way : Leads (step_by place.image Ahead (stays_unset place k)) place.pc from
+
+-- an instruction that is named takes from a counter that nothing sets on a way there
+abbrev pub WhatIsSaidOfCountersHolds : Type 0
+WhatIsSaidOfCountersHolds = (place : Place) (k from : ℕ) → unset_loop place k ≡ Some from → IsTakenUnset place k from
 
 -- an instruction calls a routine that does not stand before that of the place
 abbrev pub calls_on : Place → Instr → Bool
@@ -24,15 +89,13 @@ calls_on_at place from = elim (slice_get place.image.points from) [ None ↦ fal
 abbrev pub calling_on : Place → Option ℕ
 calling_on place = first_of place (calls_on_at place) place.routine.count
 
--- no budget serves, since the instruction at a pc is such a call
-unfoldable pub none_serves : Place → ℕ → List ℕ
-none_serves place from =
-    concat (codes ": no budget serves while CALL at" ∷ pc_text place.lines from
-    ∷ codes " names a routine that does not stand before this one" ∷ [])
-
 -- which budget serves: none where there is such a call, else the least that the potential is within
 unfoldable pub serving_words : Place → List ℕ
-serving_words place = elim (calling_on place) [ None ↦ budget_wish place.potential | Some from ↦ none_serves place from ]
+serving_words place = elim (calling_on place) [
+  | None ↦ budget_wish place.potential
+  | Some from ↦ concat (codes ": no budget serves while CALL at" ∷ pc_text place.lines from
+      ∷ codes " names a routine that does not stand before this one" ∷ [])
+]
 
 -- a potential is above the budget, which budget serves, and which counters are never set
 unfoldable pub over_words : Place → List ℕ

@@ -1,22 +1,51 @@
 -- What is said of a call that forgets what is to be known at a place.
-use Rattle.std.specs.Prelude.{ℕ, true, ◌&&◌, not, nat_lt, ◌==◌, false, if◌then◌else◌, List, [], ◌∷◌, ◌++◌, Option, Some, None, slice_get, slice_index_or, slice_set, codes, decimal}
-use Rattle.std.specs.List.{concat}
-use Rattle.geos_verify.specs.declared.place.Place.{Place as KnownPlace}
-use Rattle.geos_verify.specs.Places.{places}
-use Rattle.geos_image.specs.declared.row.Row.{Row}
-use Rattle.geos_image.specs.declared.routine.Routine.{Routine}
-use Rattle.geos_image.specs.Open.{open_row}
-use Rattle.geos_listing.specs.Rows.{texts_below, row_items, state_word}
-use Rattle.geos_listing.specs.Instrs.{name_of}
-use Rattle.geos_verify.specs.Rows.{bound, is_empty, pointer_at, slot_state}
+use Rattle.std.specs.Prelude.{ℕ, true, ◌&&◌, not, nat_lt, ◌==◌, false, if◌then◌else◌, List, [], ◌∷◌, ◌++◌, Option, Some, None, slice_get, slice_index_or, slice_set, codes, decimal, Bool}
+use Rattle.geos_explain.specs.Below.{concat, KnownPlace, places, Row, Routine, open_row, texts_below, row_items, state_word, name_of, bound, is_empty, pointer_at, slot_state, list_any, Instr, Parts, SlotUse, LocksNew, Locks, Unlocks, uses_of, points_of}
 use Rattle.geos_explain.specs.declared.forgotten.Item.{Item}
 use Rattle.geos_explain.specs.declared.forgotten.Item.TheVariants.{Bound, Slot, Held, Leads, Apart}
-use Rattle.geos_explain.specs.Changed.{changed_by, changed_words}
 use Rattle.geos_explain.specs.Forgotten.{forgetting_call}
 use Rattle.geos_explain.specs.Numbers.{pc_text}
 use Rattle.geos_explain.specs.Places.{Place}
 use Rattle.geos_explain.specs.Stale.{name_at}
 use Rattle.geos_explain.specs.Uses.{state_item}
+
+-- an instruction that does this with the slot that it names leaves another block in it, or, where that is asked too, none
+abbrev pub changes : Bool → SlotUse → Bool
+changes or_none (LocksNew kind) = true
+changes or_none (Locks kind) = true
+changes or_none (Unlocks kind) = or_none
+changes or_none _ = false
+
+-- an instruction does, in slot a
+abbrev pub changes_here : Bool → Instr → ℕ → Bool
+changes_here or_none i a = changes or_none (uses_of i.opcode).slot && i.a == a
+
+-- one of routine r does
+unfoldable pub changes_slot : Parts → Bool → ℕ → ℕ → Bool
+changes_slot image or_none r a = list_any (λ point. changes_here or_none point.instr a) (points_of image r)
+
+-- the slot that is to hold what it held, where an item says something of one
+abbrev pub slot_kept : Item → Option ℕ
+slot_kept (Slot a state) = Some a
+slot_kept (Held a) = Some a
+slot_kept (Leads p pointer) = Some pointer.slot
+slot_kept _ = None
+
+-- the slot, if routine r changes it
+abbrev pub if_changed : Parts → ℕ → Option ℕ → Option ℕ
+if_changed image r None = None
+if_changed image r (Some a) = if changes_slot image true r a then Some a else None
+
+-- the slot of an item, if routine r changes it
+abbrev pub changed_by : Parts → ℕ → Item → Option ℕ
+changed_by image r item = if_changed image r (slot_kept item)
+
+-- routine r, of this name, changes the slot; where it locks a block into it, another slot helps
+unfoldable pub changed_words : Parts → ℕ → List ℕ → ℕ → List ℕ
+changed_words image r name a =
+    if changes_slot image false r a
+    then concat (codes " " ∷ name ∷ codes " locks or unlocks s" ∷ decimal a ∷ codes " itself: hold the block in another slot" ∷ [])
+    else concat (codes " " ∷ name ∷ codes " unlocks s" ∷ decimal a ∷ codes " itself" ∷ [])
 
 -- the row that knows only that the two slots of a pair hold different blocks
 abbrev pub only_pair : ℕ → Row
@@ -39,12 +68,12 @@ unfoldable pub call_head : Place → ℕ → ℕ → List ℕ
 call_head place from r =
     concat (codes "; CALL at" ∷ pc_text place.lines from ∷ codes " leaves what the out line of " ∷ name_at place.image r ∷ codes " says" ∷ [])
 
--- what helps where a call of routine r forgets an item, which a row knows: to say it in the lines of that routine, or, where the
--- routine changes its slot, to take another slot
+-- what helps where a call of routine r forgets an item, which a row knows: to say it in the lines of that routine, unless the routine
+-- changes its slot: where it locks a block into it, to take another slot
 unfoldable pub kept_wish : Place → Item → ℕ → Row → List ℕ
 kept_wish place item r row = elim (changed_by place.image r item) [
   | None ↦ codes ": say" ++ item_text row item ++ lines_of (name_at place.image r)
-  | Some a ↦ codes ", and" ++ changed_words (name_at place.image r) a
+  | Some a ↦ codes ", and" ++ changed_words place.image r (name_at place.image r) a
 ]
 
 -- a call forgets an item, and what helps
@@ -90,12 +119,12 @@ forgotten_of place wanted k =
 abbrev pub forgotten_items : Place → Row → List ℕ
 forgotten_items place wanted = texts_below 8 (λ k. forgotten_of place wanted k)
 
--- what a slot holds that is held at a call of routine r, and what helps: to say it in the lines of that routine, or, where the
--- routine changes the slot, to take another slot
+-- what a slot holds that is held at a call of routine r, and what helps: to say it in the lines of that routine, unless the routine
+-- changes the slot: where it locks a block into it, to take another slot
 unfoldable pub lent_item : Place → ℕ → Routine → ℕ → List ℕ
 lent_item place r callee a = elim (changed_by place.image r (Held a)) [
   | None ↦ codes "; say" ++ state_item a place.row ++ lines_of (name_of callee)
-  | Some a ↦ codes ";" ++ changed_words (name_of callee) a
+  | Some a ↦ codes ";" ++ changed_words place.image r (name_of callee) a
 ]
 
 -- the same, where the routine wants the slot empty

@@ -1,27 +1,30 @@
 -- Why no rows or no numbers of steps are found, in an author's words.
-use Rattle.std.specs.Prelude.{ℕ, Bool, false, ◌&&◌, nat_lt, if◌then◌else◌, List, [], ◌∷◌, ◌++◌, Option, Some, None, slice_get, slice_index_or, codes, decimal}
-use Rattle.std.specs.List.{concat}
-use Rattle.geos_opcodes.specs.Facts.{operands_of}
-use Rattle.geos_image.specs.declared.instr.Instr.{Instr}
-use Rattle.geos_image.specs.declared.row.SlotState.{SlotState}
-use Rattle.geos_image.specs.declared.row.SlotState.TheVariants.{Empty}
-use Rattle.geos_listing.specs.Rows.{texts_below, state_word}
-use Rattle.geos_verify.specs.Rows.{is_empty}
-use Rattle.geos_causes.specs.Slots.{slots_agree}
-use Rattle.geos_flow.specs.declared.edge.Edge.{Edge}
-use Rattle.geos_causes.specs.declared.apart.Apart.{Apart}
-use Rattle.geos_causes.specs.declared.apart.Coming.{Coming}
-use Rattle.geos_causes.specs.declared.back_way.BackWay.{BackWay}
-use Rattle.geos_causes.specs.declared.cause.Within.{Within}
-use Rattle.geos_causes.specs.declared.cause.LoopOn.{LoopOn}
-use Rattle.geos_causes.specs.declared.cause.LoopPair.{LoopPair}
-use Rattle.geos_causes.specs.declared.cause.LoopRing.{LoopRing}
-use Rattle.geos_causes.specs.declared.cause.ByWord.{ByWord}
-use Rattle.geos_causes.specs.declared.cause.ByNumber.{ByNumber}
-use Rattle.geos_causes.specs.declared.cause.Cause.{Cause}
-use Rattle.geos_causes.specs.declared.cause.Cause.TheVariants.{SlotsDiffer, NoLoop, SetWithin, SetAgain, TouchedWithin, TouchedBefore, NotSet, InTurn, InRing, StepsPass, WordUnbounded, NumberHigh, WordDear, NumberDear, GivenUp, StepsMayPass, NoSteps, Unfound, Unknown}
+use Rattle.std.specs.Prelude.{ℕ, Bool, false, ◌&&◌, nat_lt, if◌then◌else◌, List, [], ◌∷◌, ◌++◌, Some, None, slice_get, slice_index_or, codes, decimal, Option, take, unwrap_or}
+use Rattle.geos_explain.specs.Below.{concat, operands_of, Instr, SlotState, Empty, texts_below, state_word, is_empty, slots_agree, Edge, Apart, Coming, BackWay, Within, LoopOn, LoopPair, LoopRing, ByWord, ByNumber, Cause, SlotsDiffer, NoLoop, SetWithin, SetAgain, TouchedWithin, TouchedBefore, NotSet, InTurn, InRing, StepsPass, WordUnbounded, NumberHigh, WordDear, NumberDear, GivenUp, StepsMayPass, NoSteps, Unfound, Unknown, text_end, Emptied}
 use Rattle.geos_explain.specs.Numbers.{pc_text}
-use Rattle.geos_explain.specs.Emptied.{emptied_items}
+
+-- a routine's name without the zeros behind it
+abbrev pub name_text : List ℕ → List ℕ
+name_text name = take (unwrap_or (text_end name) 16) name
+
+-- a CALL leaves a slot empty: that it is held is to be said in the lines of its routine, or, where that locks a block into the slot,
+-- another is to be taken
+unfoldable pub emptied_text : List ℕ → ℕ → Emptied → List ℕ
+emptied_text lines a emptied =
+    concat (codes "; CALL at" ∷ pc_text lines emptied.at ∷ codes " leaves what the out line of " ∷ name_text emptied.callee
+    ∷ codes " says: say s" ∷ decimal a ∷ codes "=" ∷ state_word emptied.state
+    ∷ codes " in the in and out lines of " ∷ name_text emptied.callee
+    ∷ codes "; where " ∷ name_text emptied.callee ∷ codes " locks a block into s" ∷ decimal a
+    ∷ codes " itself, hold the block in another slot" ∷ [])
+
+-- the same, where what the slot held agrees with what it holds on the other way
+abbrev pub emptied_item : List ℕ → ℕ → Option Emptied → SlotState → List ℕ
+emptied_item lines a None other = []
+emptied_item lines a (Some emptied) other = if slots_agree emptied.state other then emptied_text lines a emptied else []
+
+-- the same of each slot for which a CALL is named
+abbrev pub emptied_items : ℕ → List ℕ → List (Option Emptied) → List SlotState → List ℕ
+emptied_items n lines named others = texts_below n (λ a. emptied_item lines a (slice_index_or named a None) (slice_index_or others a Empty))
 
 -- what a slot holds
 abbrev pub state_text : SlotState → List ℕ
@@ -39,14 +42,12 @@ differing_items n slots others = texts_below n (λ i. differing_item i (slice_in
 abbrev pub is_refusable : List Instr → ℕ → Bool
 is_refusable instrs from = elim (slice_get instrs from) [ None ↦ false | Some i ↦ (operands_of i.opcode).refusable ]
 
--- where an instruction is refused
-unfoldable pub refusal_text : List ℕ → ℕ → List ℕ
-refusal_text lines pc = codes " where" ++ pc_text lines pc ++ codes " is refused:"
-
 -- where an edge comes from, and that its instruction is refused there, if it is that of a refusal
 abbrev pub edge_text : List ℕ → List Instr → Edge → List ℕ
 edge_text lines instrs edge =
-    if edge.branch && is_refusable instrs edge.from then refusal_text lines edge.from else pc_text lines edge.from ++ codes ":"
+    if edge.branch && is_refusable instrs edge.from
+    then codes " where" ++ pc_text lines edge.from ++ codes " is refused:"
+    else pc_text lines edge.from ++ codes ":"
 
 -- where control comes from
 unfoldable pub coming_from : List ℕ → List Instr → Coming → List ℕ
@@ -56,26 +57,17 @@ coming_from lines instrs coming = elim coming.from [ None ↦ codes " the in lin
 unfoldable pub coming_text : List ℕ → List Instr → Coming → Coming → List ℕ
 coming_text lines instrs coming other = codes " from" ++ coming_from lines instrs coming ++ differing_items 4 coming.row.slots other.row.slots
 
--- the place where ways meet
-unfoldable pub meeting_text : List ℕ → ℕ → List ℕ
-meeting_text lines to = codes "at" ++ pc_text lines to ++ codes ","
-
--- the other way
-unfoldable pub other_text : List ℕ → List Instr → Coming → Coming → List ℕ
-other_text lines instrs coming other = codes ";" ++ coming_text lines instrs coming other
-
 -- slots differ where ways meet
 unfoldable pub ways_text : List ℕ → List Instr → Apart → List ℕ
 ways_text lines instrs apart =
-    meeting_text lines apart.to ++ coming_text lines instrs apart.first apart.second ++ other_text lines instrs apart.second apart.first
-
--- the CALLs by which slots are empty on a way that agreed with those of another
-abbrev pub calls_text : List ℕ → Coming → Coming → List ℕ
-calls_text lines coming other = emptied_items 4 lines coming.emptied other.row.slots
+    (codes "at" ++ pc_text lines apart.to ++ codes ",") ++ coming_text lines instrs apart.first apart.second
+    ++ codes ";" ++ coming_text lines instrs apart.second apart.first
 
 -- slots differ where ways meet, and the CALLs by which they do
 abbrev pub apart_text : List ℕ → List Instr → Apart → List ℕ
-apart_text lines instrs apart = ways_text lines instrs apart ++ calls_text lines apart.first apart.second ++ calls_text lines apart.second apart.first
+apart_text lines instrs apart =
+    ways_text lines instrs apart ++ emptied_items 4 lines apart.first.emptied apart.second.row.slots
+    ++ emptied_items 4 lines apart.second.emptied apart.first.row.slots
 
 -- what the way of a LOOP to its target does, which may lie ahead
 abbrev pub leads_text : BackWay → List ℕ
@@ -113,17 +105,10 @@ before_loop_text lines back = codes ", which nothing sets before its loop:" ++ b
 unfoldable pub touched_before_text : List ℕ → Within → List ℕ
 touched_before_text lines within = call_text lines within ++ before_loop_text lines within.back
 
--- nothing sets a counter
-unfoldable pub nothing_sets_text : ℕ → List ℕ
-nothing_sets_text counter = concat (codes "nothing sets k" ∷ decimal counter ∷ [])
-
--- that this is on a way to the loop of a way that leads back
-abbrev pub to_loop_text : List ℕ → BackWay → List ℕ
-to_loop_text lines back = codes " on a way to its loop:" ++ back_text lines back
-
 -- nothing sets a counter on a way to its loop
 unfoldable pub not_set_text : List ℕ → LoopOn → List ℕ
-not_set_text lines own = nothing_sets_text own.counter ++ to_loop_text lines own.back
+not_set_text lines own =
+    concat (codes "nothing sets k" ∷ decimal own.counter ∷ []) ++ codes " on a way to its loop:" ++ back_text lines own.back
 
 -- that this is in the loop of a way that leads back
 abbrev pub in_loop_text : List ℕ → BackWay → List ℕ
@@ -147,56 +132,20 @@ in_ring_text lines ring = codes "loops set the counters of each other in a ring:
 
 -- the steps pass the limit where a word is so large as it may be
 unfoldable pub by_word_text : List ℕ → ByWord → List ℕ
-by_word_text lines by_word = concat (codes "the steps may pass 4,294,967,295, since w" ∷ decimal by_word.word ∷ codes " may be " ∷ decimal by_word.most ∷ codes " at" ∷ pc_text lines by_word.at ∷ codes ": CHK it" ∷ [])
+by_word_text lines by_word = concat (codes "the steps may pass 4,294,967,295, since w" ∷ decimal by_word.word ∷ codes " may be " ∷ decimal by_word.most ∷ codes " at" ∷ pc_text lines by_word.at ∷ codes ": CHK it by a lower number" ∷ [])
 
 -- a counter is set to a number
 unfoldable pub set_to_text : List ℕ → ByNumber → List ℕ
 set_to_text lines by_number = concat (codes "k" ∷ decimal by_number.counter ∷ codes " is set to " ∷ decimal by_number.number ∷ codes " at" ∷ pc_text lines by_number.at ∷ [])
 
--- the steps may pass the limit where a number is so high
-abbrev pub by_number_text : List ℕ → ByNumber → List ℕ
-by_number_text lines by_number = codes "the steps may pass 4,294,967,295, since " ++ set_to_text lines by_number
-
 -- none were found that fit, where a word is so large as it may be
 unfoldable pub dear_word_text : List ℕ → ByWord → List ℕ
-dear_word_text lines by_word = concat (codes "no steps up to 4,294,967,295 were found; w" ∷ decimal by_word.word ∷ codes " may be " ∷ decimal by_word.most ∷ codes " at" ∷ pc_text lines by_word.at ∷ codes ", which sets k" ∷ decimal by_word.counter ∷ codes ": CHK it" ∷ [])
-
--- none were found that fit, where a counter is set to a number
-abbrev pub dear_number_text : List ℕ → ByNumber → List ℕ
-dear_number_text lines by_number = codes "no steps up to 4,294,967,295 were found; " ++ set_to_text lines by_number
-
--- the search was given up
-abbrev pub given_up_text : List ℕ → BackWay → List ℕ
-given_up_text lines back = codes "the search for steps takes too long and was given up; the first loop:" ++ back_text lines back
-
--- nothing pays for a way back
-abbrev pub no_loop_text : List ℕ → BackWay → List ℕ
-no_loop_text lines back = codes "nothing pays for the way back:" ++ back_text lines back
-
--- a way takes more steps than a potential can say
-abbrev pub steps_pass_text : List ℕ
-steps_pass_text = codes "the steps pass 4,294,967,295"
-
--- a way on which none leads back may take more steps than a potential can say
-abbrev pub steps_may_pass_text : List ℕ
-steps_may_pass_text = codes "the steps may pass 4,294,967,295 on a way that leads ahead"
-
--- no numbers of steps were found
-abbrev pub no_steps_text : List ℕ → BackWay → List ℕ
-no_steps_text lines back = codes "no steps were found for the loop:" ++ back_text lines back
-
--- none were found, and it is not known that a LOOP may pay on each way round
-abbrev pub unfound_text : List ℕ → BackWay → List ℕ
-unfound_text lines back = codes "no steps were found; the first loop:" ++ back_text lines back
-
--- none were found where there is no loop
-abbrev pub unknown_text : List ℕ
-unknown_text = codes "no steps were found"
+dear_word_text lines by_word = concat (codes "no steps up to 4,294,967,295 were found; w" ∷ decimal by_word.word ∷ codes " may be " ∷ decimal by_word.most ∷ codes " at" ∷ pc_text lines by_word.at ∷ codes ", which sets k" ∷ decimal by_word.counter ∷ codes ": CHK it by a lower number" ∷ [])
 
 -- why no rows or no numbers of steps are found
 abbrev pub cause_words : List ℕ → List Instr → Cause → List ℕ
 cause_words lines instrs (SlotsDiffer apart) = apart_text lines instrs apart
-cause_words lines instrs (NoLoop back) = no_loop_text lines back
+cause_words lines instrs (NoLoop back) = codes "nothing pays for the way back:" ++ back_text lines back
 cause_words lines instrs (SetWithin within) = within_text lines within
 cause_words lines instrs (SetAgain within) = within_text lines within
 cause_words lines instrs (TouchedWithin within) = touched_text lines within
@@ -204,16 +153,16 @@ cause_words lines instrs (TouchedBefore within) = touched_before_text lines with
 cause_words lines instrs (NotSet own) = not_set_text lines own
 cause_words lines instrs (InTurn both) = in_turn_text lines both
 cause_words lines instrs (InRing ring) = in_ring_text lines ring
-cause_words lines instrs StepsPass = steps_pass_text
+cause_words lines instrs StepsPass = codes "the steps pass 4,294,967,295"
 cause_words lines instrs (WordUnbounded by_word) = by_word_text lines by_word
-cause_words lines instrs (NumberHigh by_number) = by_number_text lines by_number
+cause_words lines instrs (NumberHigh by_number) = codes "the steps may pass 4,294,967,295, since " ++ set_to_text lines by_number
 cause_words lines instrs (WordDear by_word) = dear_word_text lines by_word
-cause_words lines instrs (NumberDear by_number) = dear_number_text lines by_number
-cause_words lines instrs (GivenUp back) = given_up_text lines back
-cause_words lines instrs StepsMayPass = steps_may_pass_text
-cause_words lines instrs (NoSteps back) = no_steps_text lines back
-cause_words lines instrs (Unfound back) = unfound_text lines back
-cause_words lines instrs Unknown = unknown_text
+cause_words lines instrs (NumberDear by_number) = codes "no steps up to 4,294,967,295 were found; " ++ set_to_text lines by_number
+cause_words lines instrs (GivenUp back) = codes "the search for steps takes too long and was given up; the first loop:" ++ back_text lines back
+cause_words lines instrs StepsMayPass = codes "the steps may pass 4,294,967,295 on a way that leads ahead"
+cause_words lines instrs (NoSteps back) = codes "no steps were found for the loop:" ++ back_text lines back
+cause_words lines instrs (Unfound back) = codes "no steps were found; the first loop:" ++ back_text lines back
+cause_words lines instrs Unknown = codes "no steps were found"
 
 -- the same as a line
 unfoldable pub cause_text : List ℕ → List Instr → Cause → List ℕ

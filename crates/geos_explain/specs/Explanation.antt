@@ -1,16 +1,6 @@
 -- The listing of an image with what is known at each instruction, and what is wrong where a rule refuses.
 use Rattle.std.specs.Prelude.{◌≡◌, ℕ, ◌+◌, List, [], ◌++◌, Option, Some, None, length, slice_get, codes}
-use Rattle.std.specs.Option.{option_map_or}
-use Rattle.geos_image.specs.declared.routine.Routine.{Routine}
-use Rattle.geos_image.specs.Parts.{Parts, start_of}
-use Rattle.geos_listing.specs.Rows.{texts_below, row_line}
-use Rattle.geos_listing.specs.Instrs.{label_line, instr_code}
-use Rattle.geos_listing.specs.Listing.{routine_line}
-use Rattle.geos_verify.specs.Places.{places}
-use Rattle.geos_verify.specs.declared.rule.Reject.{Reject}
-use Rattle.geos_verify.specs.declared.rule.Rule.{Rule}
-use Rattle.geos_verify.specs.Refused.{AreRefusals}
-use Rattle.geos_verify.specs.Rules.{Accepted, FirstRefusal}
+use Rattle.geos_explain.specs.Below.{option_map_or, Routine, Parts, start_of, texts_below, row_line, label_line, instr_code, routine_line, places, Reject, Rule, AreRefusals, Accepted, FirstRefusal}
 use Rattle.geos_explain.specs.declared.finding.Findings.{Findings}
 use Rattle.geos_explain.specs.Findings.{FindingsHold}
 use Rattle.geos_explain.specs.Places.{Place, Explained, place_at}

@@ -1,19 +1,12 @@
 -- What is found of the pointers that are not known, for each place where that is told.
 use Rattle.std.specs.Prelude.{◌≡◌, ◌<◌, ◌+◌, ℕ, List, [], take, count_by, Option, Some, None, length, slice_get}
-use Rattle.geos_image.specs.declared.routine.Routine.{Routine}
-use Rattle.geos_image.specs.Parts.{Parts, start_of}
-use Rattle.geos_opcodes.specs.Facts.{uses_of}
-use Rattle.geos_verify.specs.declared.place.Place.{Place as KnownPlace}
-use Rattle.geos_verify.specs.declared.rule.Rule.{Rule}
-use Rattle.geos_verify.specs.declared.rule.Rule.TheVariants.{StalePointer, ExitMisfit}
-use Rattle.geos_verify.specs.Places.{places}
+use Rattle.geos_explain.specs.Below.{Routine, Parts, start_of, uses_of, KnownPlace, Rule, StalePointer, ExitMisfit, places}
 use Rattle.geos_explain.specs.declared.finding.Finding.{Finding}
 use Rattle.geos_explain.specs.declared.finding.Findings.{Findings}
 use Rattle.geos_explain.specs.Places.{Place, Explained, place_at}
-use Rattle.geos_explain.specs.Returned.{first_wanted}
-use Rattle.geos_explain.specs.Stale.{stale_used, findings_at}
+use Rattle.geos_explain.specs.Stale.{first_wanted, stale_used, findings_at}
 use Rattle.geos_explain.specs.Told.{is_told, rule_at, most_told}
-use Rattle.geos_explain.specs.Trace.{IsFinding}
+use Rattle.geos_explain.specs.Lost.{IsFinding}
 
 -- the pointers that are not known where a rule is told: those that the instruction uses, or the first that the exit row wants
 abbrev pub told_pointers : Place → Rule → Option ℕ × Option ℕ

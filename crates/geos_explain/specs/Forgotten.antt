@@ -1,20 +1,15 @@
--- Which call forgets what is to be known at a place: behind it only what its routine's `out` line says is known.
-use Rattle.std.specs.Prelude.{◌≡◌, ℕ, Bool, true, false, ◌&&◌, not, nat_lt, nat_le, Option, Some, None, slice_get, slice_index_or}
-use Rattle.geos_verify.specs.declared.place.Place.{Place as KnownPlace}
-use Rattle.geos_verify.specs.Places.{places}
-use Rattle.geos_image.specs.declared.row.Row.{Row}
-use Rattle.geos_verify.specs.Rows.{after, bound, has_edge, is_empty, pointer_at, pointer_fits, slot_fits, slot_state}
-use Rattle.geos_flow.specs.declared.edge.Edge.{Edge}
+-- Which call forgets what is to be known at a place, since behind it only what its routine's `out` line says is known; and which
+-- instruction moves an index going round a loop.
+use Rattle.std.specs.Prelude.{◌≡◌, ℕ, Bool, true, false, ◌&&◌, not, nat_lt, nat_le, Option, Some, None, slice_get, slice_index_or, ◌||◌, ◌==◌, if◌then◌else◌, List, [], ◌∷◌, codes, decimal}
+use Rattle.geos_explain.specs.Below.{KnownPlace, places, Row, after, bound, has_edge, is_empty, pointer_at, pointer_fits, slot_fits, slot_state, Edge, Back, end_of, step_by, IsLedFrom, concat, Instr, Opcode, Add, Sub, Muli, word_of}
 use Rattle.geos_explain.specs.declared.forgotten.Item.{Item}
 use Rattle.geos_explain.specs.declared.forgotten.Item.TheVariants.{Bound, Slot, Held, Leads, Apart}
-use Rattle.geos_flow.specs.declared.search.Heading.TheVariants.{Back}
-use Rattle.geos_flow.specs.Edges.{end_of}
-use Rattle.geos_flow.specs.Flow.{step_by, Leads as IsLedFrom}
-use Rattle.geos_explain.specs.Leads.{leads}
+use Rattle.geos_explain.specs.Led.{leads}
 use Rattle.geos_explain.specs.Lost.{ComesTo}
 use Rattle.geos_explain.specs.Places.{Place, comes_alike, is_inside, last_of}
 use Rattle.geos_explain.specs.Since.{IsInside}
 use Rattle.geos_explain.specs.Ways.{forgets}
+use Rattle.geos_explain.specs.Numbers.{pc_text}
 
 -- a row knows an item
 abbrev pub knows : Row → Item → Bool
@@ -74,3 +69,56 @@ pub record IsForgottenBy (place : Place) (item : Item) (from : ℕ) : Type 0 whe
 -- a call that is named forgets the item on a way to the place
 abbrev pub WhatIsSaidOfCallsHolds : Type 0
 WhatIsSaidOfCallsHolds = (place : Place) (item : Item) (from : ℕ) → forgetting_call place item ≡ Some from → IsForgottenBy place item from
+
+-- an instruction puts into a word what it makes of it
+abbrev pub moves : Instr → Opcode → ℕ → Bool
+moves i Add w = i.a == w && (i.b == w || i.c == w)
+moves i Sub w = i.a == w && (i.b == w || i.c == w)
+moves i Muli w = i.a == w && i.b == w
+moves i _ w = false
+
+-- the instruction at a pc does, and from there a way leads to the place on which an item is not known all along
+unfoldable pub moves_at : Place → Item → ℕ → ℕ → Bool
+moves_at place item w from = elim (slice_get (places place.image) from) [
+  | None ↦ false
+  | Some point ↦ is_lacked_from place item place.pc from && moves point.instr point.instr.opcode w
+]
+
+-- an instruction, if a way leads from the place to it on which an item is not known all along
+abbrev pub if_round : Place → Item → Option ℕ → Option ℕ
+if_round place item None = None
+if_round place item (Some from) = if is_lacked_from place item from place.pc then Some from else None
+
+-- the last instruction of the routine that moves a word on a way to the place on which an item is not known, if such a way leads
+-- back to it
+abbrev pub moving : Place → Item → ℕ → Option ℕ
+moving place item w = if_round place item (last_of place (moves_at place item w) place.routine.count)
+
+-- an instruction moves a word going round, and it is not known then to be at most so much
+unfoldable pub moved_words : Place → ℕ → ℕ → ℕ → Instr → List ℕ
+moved_words place w most from i =
+    concat (codes "; " ∷ word_of i.opcode ∷ codes " at" ∷ pc_text place.lines from ∷ codes " moves w" ∷ decimal w
+    ∷ codes " going round, and w" ∷ decimal w ∷ codes "<=" ∷ decimal most ∷ codes " is not known then" ∷ [])
+
+-- the same, if there is an instruction at a pc
+abbrev pub moved_from : Place → ℕ → ℕ → ℕ → List ℕ
+moved_from place w most from = elim (slice_get (places place.image) from) [ None ↦ [] | Some point ↦ moved_words place w most from point.instr ]
+
+-- which instruction moves an index going round, where a bound of it is wanted, if one does
+unfoldable pub moved_text : Place → Item → List ℕ
+moved_text place (Bound w most) = elim (moving place (Bound w most) w) [ None ↦ [] | Some from ↦ moved_from place w most from ]
+moved_text place _ = []
+
+-- What is said, as a relation on ways
+
+-- an instruction moves a word; ways lead from it to the place and back, on which an item is not known all along
+pub record IsMovedRound (place : Place) (item : Item) (w from : ℕ) : Type 0 where
+  pub point : KnownPlace
+  pub there : slice_get (places place.image) from ≡ Some point
+  pub does : moves point.instr point.instr.opcode w ≡ true
+  pub there_to : IsLackedFrom place item from place.pc
+  pub back : IsLackedFrom place item place.pc from
+
+-- an instruction that is said to move a word going round does
+abbrev pub WhatIsSaidOfRoundsHolds : Type 0
+WhatIsSaidOfRoundsHolds = (place : Place) (item : Item) (w from : ℕ) → moving place item w ≡ Some from → IsMovedRound place item w from

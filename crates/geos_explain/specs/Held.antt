@@ -1,18 +1,14 @@
--- Which slots are still held at a return, and since where.
-use Rattle.std.specs.Prelude.{ℕ, Bool, ◌&&◌, not, if◌then◌else◌, ◌==◌, List, [], ◌∷◌, ◌++◌, length, codes, decimal}
-use Rattle.std.specs.List.{concat}
-use Rattle.geos_listing.specs.Rows.{texts_below, row_items}
-use Rattle.geos_verify.specs.Rows.{is_empty, slot_state}
-use Rattle.geos_verify.specs.Rules.{is_of_file}
+-- Which slots are held that must not be, at a return or where the VM file is written, and since where.
+use Rattle.std.specs.Prelude.{ℕ, Bool, true, false, ◌&&◌, not, if◌then◌else◌, ◌==◌, List, [], ◌∷◌, ◌++◌, length, codes, decimal, Some, None, is_some}
+use Rattle.geos_explain.specs.Below.{concat, list_any, Row, is_own, texts_below, row_items, is_empty, slot_state, is_of_file}
 use Rattle.geos_explain.specs.Lacks.{lacking, lacking_items}
-use Rattle.geos_explain.specs.Numbers.{are_behind, are_text, also_are, pc_text}
+use Rattle.geos_explain.specs.Numbers.{either, items_in, is_or_are, are_behind, are_text, also_are, pc_text}
 use Rattle.geos_explain.specs.Places.{Place}
 use Rattle.geos_explain.specs.Public.{missing_words}
 use Rattle.geos_explain.specs.Uses.{state_item}
 use Rattle.geos_explain.specs.declared.held.HeldAt.{HeldAt}
 use Rattle.geos_explain.specs.declared.held.HeldAt.TheVariants.{Return, Write}
 use Rattle.geos_explain.specs.declared.since.Since.{Since}
-use Rattle.geos_explain.specs.declared.since.Since.TheVariants.{Unknown, Entry, EntryOrOther, Once, Often}
 use Rattle.geos_explain.specs.Since.{held_since}
 
 -- a slot is held at a return, and the exit row has it empty; or it holds a block of the VM file where that is written
@@ -28,33 +24,17 @@ slot_at which place a = if is_held_at which place a then state_item a place.row 
 abbrev pub slots_at : HeldAt → Place → List ℕ
 slots_at which place = texts_below 4 (λ a. slot_at which place a)
 
--- since where a slot is held; of several places, one
-abbrev pub since_place : List ℕ → Since → List ℕ
-since_place lines Unknown = []
-since_place lines Entry = codes " the in line"
-since_place lines EntryOrOther = codes " the in line"
-since_place lines (Once from) = pc_text lines from
-since_place lines (Often last) = pc_text lines last
+-- that a slot is held since a place, and whether since another one too
+abbrev pub since_words : ℕ → List ℕ → Bool → List ℕ
+since_words a place other =
+    concat (codes "; s" ∷ decimal a ∷ codes " is held since" ∷ place ∷ either other (codes " or another place") [] ∷ [])
 
--- that there are others, if there are
-abbrev pub or_another : Since → List ℕ
-or_another Unknown = []
-or_another Entry = []
-or_another EntryOrOther = codes " or another place"
-or_another (Once from) = []
-or_another (Often last) = codes " or another place"
-
--- that a slot is held since there
-abbrev pub since_words : List ℕ → ℕ → Since → List ℕ
-since_words lines a since = concat (codes "; s" ∷ decimal a ∷ codes " is held since" ∷ since_place lines since ∷ or_another since ∷ [])
-
--- the same, if it is known since where
+-- the same, if it is known since where; of several places, one
 abbrev pub since_text : List ℕ → ℕ → Since → List ℕ
-since_text lines a Unknown = []
-since_text lines a Entry = since_words lines a Entry
-since_text lines a EntryOrOther = since_words lines a EntryOrOther
-since_text lines a (Once from) = since_words lines a (Once from)
-since_text lines a (Often last) = since_words lines a (Often last)
+since_text lines a since =
+    if since.entry
+    then since_words a (codes " the in line") (is_some since.from)
+    else elim since.from [ None ↦ [] | Some from ↦ since_words a (pc_text lines from) since.again ]
 
 -- the same of a slot that is held and must not be
 unfoldable pub since_at : HeldAt → Place → ℕ → List ℕ
@@ -84,3 +64,20 @@ unmet_words place = are_text (lacking_items place.row place.routine.exit) (codes
 -- a row does not fit the exit row: slots are still held, or else it wants more
 unfoldable pub exit_words : Place → List ℕ
 exit_words place = if length (slots_at Return place) == 0 then unmet_words place else kept_words place
+
+-- some slot is borrowed
+abbrev pub has_borrowed : Row → Bool
+has_borrowed row = list_any (λ state. not (is_own state)) row.slots
+
+-- what is to be done with slots that are held there; what is borrowed stays held
+abbrev pub held_wish : Bool → List ℕ → List ℕ
+held_wish true items = codes ": what is borrowed from the caller can't be unlocked here"
+held_wish false items = either (items_in items == 1) (codes ": unlock it before") (codes ": unlock them before")
+
+-- that slots are held where the file is written
+unfoldable pub written_behind : Bool → List ℕ → List ℕ
+written_behind borrowed items = concat (is_or_are items ∷ codes " held where the file is written" ∷ held_wish borrowed items ∷ [])
+
+-- the VM file is written while slots hold blocks of it
+unfoldable pub written_words : Place → List ℕ
+written_words place = slots_at Write place ++ written_behind (has_borrowed place.row) (slots_at Write place) ++ sinces_at Write place

@@ -1,13 +1,7 @@
--- What a row lacks to fit another.
-use Rattle.std.specs.Prelude.{◌≡◌, ◌≤◌, ◌↔◌, ℕ, Bool, true, ◌&&◌, not, nat_le, if◌then◌else◌, List, [], ◌++◌, Option, None, slice_index_or, codes, decimal}
-use Rattle.geos_image.specs.declared.row.Row.{Row}
-use Rattle.geos_image.specs.declared.row.Pointer.{Pointer}
-use Rattle.geos_image.specs.declared.row.SlotState.{SlotState}
-use Rattle.geos_image.specs.declared.row.SlotState.TheVariants.{Empty}
-use Rattle.geos_image.specs.Legal.{is_shaped}
-use Rattle.geos_listing.specs.Rows.{texts_below, row_items}
-use Rattle.geos_verify.specs.Lists.{zip2}
-use Rattle.geos_verify.specs.Rows.{bound, slot_fits, pointer_fits, pair_fits, fits, is_empty}
+-- What a row lacks to fit another, and what makes it known: an instruction that bounds a word, or one that marks a block.
+use Rattle.std.specs.Prelude.{◌≡◌, ◌≤◌, ◌↔◌, ℕ, Bool, true, ◌&&◌, not, nat_le, if◌then◌else◌, List, [], ◌++◌, Option, None, slice_index_or, codes, decimal, ◌==◌, ◌∷◌}
+use Rattle.geos_explain.specs.Below.{Row, Pointer, SlotState, Empty, is_shaped, texts_below, row_items, zip2, bound, slot_fits, pointer_fits, pair_fits, fits, is_empty, concat, marked_state, slot_state}
+use Rattle.geos_explain.specs.Uses.{bounding, mark_word}
 
 -- a bound that is wanted and not kept, else any word's
 abbrev pub lacking_bound : ℕ → ℕ → ℕ
@@ -51,3 +45,26 @@ abbrev pub LacksNothingWhereItFits : Type 0
 LacksNothingWhereItFits =
     (known wanted : Row) → is_shaped known ≡ true → is_shaped wanted ≡ true → ((a : ℕ) → bound known a ≤ 65535)
     → (lacking_items known wanted ≡ []) ↔ (fits known wanted ≡ true)
+
+-- the same of a word whose bound is wanted, if it is
+abbrev pub bound_mend : Row → ℕ → List ℕ
+bound_mend lacked k = if bound lacked k == 65535 then [] else bounding k (bound lacked k)
+
+-- of what is wanted of a slot, the mark alone is lacking
+abbrev pub lacks_mark : SlotState → SlotState → Bool
+lacks_mark known wanted = not (slot_fits known wanted) && slot_fits (marked_state known) wanted
+
+-- the block of a slot is to be marked, if that is so
+unfoldable pub mark_mend : ℕ → SlotState → SlotState → List ℕ
+mark_mend a known wanted =
+    if lacks_mark known wanted
+    then concat (codes "; " ∷ mark_word known ∷ codes " s" ∷ decimal a ∷ codes " marks it" ∷ [])
+    else []
+
+-- what helps of the word and the slot with a number
+unfoldable pub mend_of : Row → Row → ℕ → List ℕ
+mend_of known wanted k = bound_mend (lacking known wanted) k ++ mark_mend k (slot_state known k) (slot_state wanted k)
+
+-- what makes known the bounds and the marks that a row lacks of those that another wants
+abbrev pub mends : Row → Row → List ℕ
+mends known wanted = texts_below 8 (λ k. mend_of known wanted k)

@@ -1,12 +1,7 @@
 -- What is said of a pointer that is not known: where it was lost, where ways meet, that it is not set, and that it comes into an
 -- empty slot.
 use Rattle.std.specs.Prelude.{◌≡◌, ◌⊎◌, ℕ, Bool, true, false, if◌then◌else◌, nat_lt, List, [], ◌∷◌, Option, Some, None, IfSome, MatchOption, slice_get, slice_index_or}
-use Rattle.geos_verify.specs.declared.place.Place.{Place as KnownPlace}
-use Rattle.geos_verify.specs.Places.{places}
-use Rattle.geos_image.specs.declared.row.Pointer.{Pointer}
-use Rattle.geos_image.specs.Parts.{start_of}
-use Rattle.geos_verify.specs.Rows.{pointer_at, is_stale, after, has_edge}
-use Rattle.geos_flow.specs.declared.edge.Edge.{Edge}
+use Rattle.geos_explain.specs.Below.{KnownPlace, places, Pointer, start_of, pointer_at, is_stale, after, has_edge, Edge, end_of, Has}
 use Rattle.geos_explain.specs.declared.ways.Sought.{Sought}
 use Rattle.geos_explain.specs.declared.ways.Way.{Way}
 use Rattle.geos_explain.specs.declared.ways.Way.TheVariants.{Entry, Along}
@@ -15,10 +10,12 @@ use Rattle.geos_explain.specs.declared.finding.End.TheVariants.{Unset, Unreached
 use Rattle.geos_explain.specs.declared.finding.Finding.{Finding}
 use Rattle.geos_explain.specs.declared.finding.Loss.{Loss}
 use Rattle.geos_explain.specs.declared.finding.Meeting.{Meeting}
-use Rattle.geos_flow.specs.Edges.{end_of}
 use Rattle.geos_explain.specs.Led.{is_reached}
-use Rattle.geos_explain.specs.Places.{Place, agrees, comes_alike, is_inside}
+use Rattle.geos_explain.specs.Places.{Place, agrees, comes_alike, is_inside, place_of}
 use Rattle.geos_explain.specs.Ways.{is_as, entry_pointer, empty_slot, behind, loses}
+use Rattle.geos_explain.specs.declared.trace.FirstWays.{FirstWays}
+use Rattle.geos_explain.specs.declared.trace.Trace.{Trace}
+use Rattle.geos_explain.specs.declared.trace.Tracing.{Tracing}
 
 -- control comes along an edge to a pc, as it comes to the place
 pub record ComesTo (place : Place) (edge : Edge) (to : ℕ) : Type 0 where
@@ -166,3 +163,34 @@ pub record Holds (place : Place) (p : ℕ) (found : Finding) : Type 0 where
   pub lost : IfSome found.lost (λ loss. IsLost place p loss)
   pub meeting : IfSome found.meeting (λ m. IsMeeting place p m)
   pub end : IfSome found.end (λ end. IsEnd place p end)
+
+-- what is said of a pointer that is followed back is so, at each pc on some way
+pub record CanFollow (tracing : Tracing) : Type 0 where
+  pub hints : AreHints (place_of tracing.place.now) tracing.p tracing.arrivals
+
+-- ways to a pc from where the pointer can be lacking: one brings it, and one does not, if there are such
+pub record AreWays (place : Place) (p : ℕ) (ways : FirstWays) : Type 0 where
+  pub lacks : LacksFrom place p ways.to
+  pub known : FindsWay place (λ way. IsBringing place p ways.to way) ways.known
+  pub lost : FindsWay place (λ way. IsWay place p false way ways.to) ways.lost
+
+-- no way brings the pointer to the place, and control comes there along an edge that does not
+pub record IsOpen (place : Place) (p : ℕ) : Type 0 where
+  pub none : NoWay place (λ way. IsBringing place p place.pc way)
+  pub edge : Edge
+  pub lacks : IsWay place p false (Along edge) place.pc
+  pub alike : comes_alike place edge.from ≡ true
+
+-- a finding names nothing
+abbrev pub NamesNothing : Finding → Type 0
+NamesNothing found = (found.lost ≡ None) × (found.meeting ≡ None) × (found.end ≡ None)
+
+-- what is found of a pointer holds, and where it names nothing, the place is open
+pub record IsFinding (place : Place) (p : ℕ) (found : Finding) : Type 0 where
+  pub holds : Holds place p found
+  pub none : NamesNothing found → IsOpen place p
+
+-- from where it was passed the pointer can be lacking, and what was found is a finding
+pub record IsSound (place : Place) (p : ℕ) (trace : Trace) : Type 0 where
+  pub passed : (pc : ℕ) → Has trace.passed pc → LacksFrom place p pc
+  pub finds : IsFinding place p trace.finding

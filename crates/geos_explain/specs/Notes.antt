@@ -1,11 +1,6 @@
 -- What stands behind an instruction: what its row knows, and its potential.
 use Rattle.std.specs.Prelude.{ℕ, Bool, ◌&&◌, ◌==◌, if◌then◌else◌, List, [], ◌∷◌, ◌++◌, Some, None, slice_get, length, slice_index, codes, decimal}
-use Rattle.std.specs.List.{concat, list_all}
-use Rattle.geos_image.specs.declared.row.Row.{Row}
-use Rattle.geos_image.specs.declared.potential.Potential.{Potential}
-use Rattle.geos_listing.specs.Rows.{texts_below, row_items}
-use Rattle.geos_image.specs.declared.routine.Routine.{Routine}
-use Rattle.geos_listing.specs.Instrs.{name_of}
+use Rattle.geos_explain.specs.Below.{concat, list_all, Row, Potential, texts_below, row_items, Routine, name_of}
 use Rattle.geos_explain.specs.Numbers.{steps_word, verb}
 use Rattle.geos_explain.specs.Led.{is_reached}
 use Rattle.geos_explain.specs.Places.{Place}

@@ -18,10 +18,6 @@ bytes_word one = either one (codes " byte") (codes " bytes")
 abbrev pub verb : Bool → List ℕ
 verb one = either one (codes " is") (codes " are")
 
--- one thing or several, named before
-abbrev pub object : Bool → List ℕ
-object one = either one (codes " it") (codes " them")
-
 -- a character is a blank
 abbrev pub is_blank : ℕ → Bool
 is_blank c = c == 32

@@ -1,16 +1,6 @@
 -- An instruction of a routine, with what is known there.
-use Rattle.std.specs.Prelude.{◌≡◌, ◌<◌, ◌≤◌, ℕ, zero, suc, ◌+◌, Bool, not, if◌then◌else◌, List, Option, Some, None, true, length, slice_get, IfSome}
-use Rattle.geos_image.specs.declared.instr.Instr.{Instr}
-use Rattle.geos_image.specs.declared.row.Row.{Row}
-use Rattle.geos_image.specs.declared.potential.Potential.{Potential}
-use Rattle.geos_image.specs.declared.routine.Routine.{Routine}
-use Rattle.geos_image.specs.Fields.{FieldsFit, CalleeFits}
-use Rattle.geos_image.specs.Legal.{is_image}
-use Rattle.geos_image.specs.Parts.{Parts, start_of}
-use Rattle.geos_listing.specs.Instrs.{KeepsLimits}
-use Rattle.geos_verify.specs.declared.place.Place.{Place as KnownPlace}
-use Rattle.geos_verify.specs.declared.rule.Rule.{Rule}
-use Rattle.geos_verify.specs.Rules.{has_place}
+use Rattle.std.specs.Prelude.{◌<◌, ◌≤◌, ℕ, zero, suc, ◌+◌, Bool, not, if◌then◌else◌, List, Option, Some, None}
+use Rattle.geos_explain.specs.Below.{Instr, Row, Potential, Routine, Parts, start_of, KnownPlace, Rule, has_place}
 use Rattle.geos_explain.specs.declared.finding.Findings.{Findings}
 use Rattle.geos_explain.specs.Led.{is_reached}
 use Rattle.geos_explain.specs.declared.place.Place as code
@@ -107,23 +97,3 @@ first_of place is (suc n) =
 pub record IsPcOf (place : Place) (pc : ℕ) : Type 0 where
   pub begins : start_of place.image.routines place.r ≤ pc
   pub ends : pc < start_of place.image.routines place.r + place.routine.count
-
--- there is a routine r in the image, whose instructions are some of the image's, which is no longer than images may be
-pub record HasRoutine (image : Parts) (r : ℕ) (routine : Routine) : Type 0 where
-  pub within : r < length image.routines
-  pub room : start_of image.routines r + routine.count ≤ length image.points
-  pub start : start_of image.routines r ≤ 4096
-  pub short : length image.points ≤ 4096
-  pub legal : is_image image ≡ true
-
--- the instruction is the image's, and the routine is one of its routines
-pub record IsPlace (place : Place) : Type 0 where
-  pub routine : place.r < length place.image.routines
-  pub room : start_of place.image.routines place.r + place.routine.count ≤ length place.image.points
-  pub start : start_of place.image.routines place.r ≤ 4096
-  pub there : place.pc < length place.image.points
-  pub short : length place.image.points ≤ 4096
-  pub here : IfSome (slice_get place.image.points place.pc) (λ point. place.i ≡ point.instr)
-  pub fields : FieldsFit place.i.opcode place.i
-  pub callee : CalleeFits (length place.image.routines) place.i
-  pub limits : KeepsLimits place.image place.i

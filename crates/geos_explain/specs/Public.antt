@@ -1,15 +1,6 @@
 -- What the entry and exit rows of a public routine say and may not say.
 use Rattle.std.specs.Prelude.{◌≡◌, ◌↔◌, ℕ, Bool, true, ◌&&◌, ◌||◌, not, if◌then◌else◌, List, [], map, ◌++◌, slice_index_or, codes}
-use Rattle.geos_image.specs.declared.row.Row.{Row}
-use Rattle.geos_image.specs.declared.row.SlotState.{SlotState}
-use Rattle.geos_image.specs.declared.row.SlotState.TheVariants.{Empty, Vm}
-use Rattle.geos_image.specs.declared.routine.Routine.{Routine}
-use Rattle.geos_image.specs.Legal.{is_own, is_shaped}
-use Rattle.geos_image.specs.Open.{open_row}
-use Rattle.geos_listing.specs.Rows.{row_items}
-use Rattle.geos_verify.specs.Lists.{zip2}
-use Rattle.geos_verify.specs.Pairs.{slot_pairs, each_pair}
-use Rattle.geos_verify.specs.Rows.{is_empty, may_enter, may_leave}
+use Rattle.geos_explain.specs.Below.{Row, SlotState, Empty, Vm, Routine, is_own, is_shaped, open_row, row_items, zip2, slot_pairs, each_pair, is_empty, may_enter, may_leave}
 use Rattle.geos_explain.specs.Numbers.{also_are}
 
 -- a slot that is held and not borrowed, else an empty one

@@ -1,15 +1,6 @@
 -- Which refusals are told at a place.
 use Rattle.std.specs.Prelude.{◌≡◌, ◌↔◌, ℕ, ◌+◌, ◌-◌, Bool, false, ◌&&◌, nat_le, nat_lt, ◌==◌, if◌then◌else◌, List, [], ◌∷◌, take, count_by, Option, Some, None, length, slice_get, codes, decimal}
-use Rattle.std.specs.List.{concat}
-use Rattle.std.specs.Option.{option_map_or}
-use Rattle.geos_image.specs.declared.routine.Routine.{Routine}
-use Rattle.geos_image.specs.Parts.{Parts, start_of}
-use Rattle.geos_verify.specs.declared.place.Place.{Place as KnownPlace}
-use Rattle.geos_verify.specs.declared.rule.Rule.{Rule}
-use Rattle.geos_verify.specs.declared.rule.Rule.TheVariants.{OverBudget}
-use Rattle.geos_verify.specs.Places.{places}
-use Rattle.geos_verify.specs.Refused.{AreRefusals}
-use Rattle.geos_verify.specs.Rules.{refusal, over_budget, HasPoint}
+use Rattle.geos_explain.specs.Below.{concat, option_map_or, Routine, Parts, start_of, KnownPlace, Rule, OverBudget, places, AreRefusals, refusal, over_budget, HasPoint}
 use Rattle.geos_explain.specs.Places.{Place, Explained, place_at}
 use Rattle.geos_explain.specs.Repeated.{IsRepeated, TellsOnce}
 use Rattle.geos_explain.specs.Told.{is_of_budget, is_told, rule_at, most_told}

@@ -1,15 +1,6 @@
 -- Which refusals are told once.
 use Rattle.std.specs.Prelude.{◌≡◌, ◌<◌, ◌⊎◌, ℕ, Bool, true, false, ◌&&◌, nat_lt, List, Option, Some, None, length, slice_get, slice_index_or}
-use Rattle.geos_flow.specs.declared.edge.Edge.{Edge}
-use Rattle.geos_flow.specs.Edges.{end_in}
-use Rattle.geos_flow.specs.Graphs.{IsInto}
-use Rattle.geos_image.specs.declared.row.Row.{Row}
-use Rattle.geos_image.specs.Parts.{Parts}
-use Rattle.geos_verify.specs.declared.place.Place.{Place as KnownPlace}
-use Rattle.geos_verify.specs.declared.rule.Rule.{Rule}
-use Rattle.geos_verify.specs.declared.rule.Rule.TheVariants.{NamesEmptySlot}
-use Rattle.geos_verify.specs.Places.{places}
-use Rattle.geos_verify.specs.Rows.{fits}
+use Rattle.geos_explain.specs.Below.{Edge, end_in, IsInto, Row, Parts, KnownPlace, Rule, NamesEmptySlot, places, fits}
 use Rattle.geos_explain.specs.Told.{rule_at}
 use Rattle.geos_explain.specs.Uses.{leading_nowhere}
 

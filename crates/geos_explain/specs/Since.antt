@@ -1,18 +1,9 @@
 -- Since where a slot is held at a place: from which instructions of its routine, or from the caller, a way leads there on which it
 -- is held all along.
-use Rattle.std.specs.Prelude.{◌≡◌, ℕ, zero, suc, ◌+◌, Bool, true, false, ◌&&◌, ◌||◌, not, nat_lt, if◌then◌else◌, Some, None, slice_get}
-use Rattle.geos_verify.specs.declared.place.Place.{Place as KnownPlace}
-use Rattle.geos_verify.specs.Places.{places}
-use Rattle.geos_image.specs.declared.row.Row.{Row}
-use Rattle.geos_image.specs.Parts.{start_of}
-use Rattle.geos_verify.specs.Rows.{after, has_edge, is_empty, slot_state}
-use Rattle.geos_flow.specs.declared.edge.Edge.{Edge}
+use Rattle.std.specs.Prelude.{◌≡◌, ℕ, zero, suc, ◌+◌, Bool, true, false, ◌&&◌, ◌||◌, not, nat_lt, if◌then◌else◌, Some, None, slice_get, ◌↔◌, Option, IfSome, is_some}
+use Rattle.geos_explain.specs.Below.{KnownPlace, places, Row, start_of, after, has_edge, is_empty, slot_state, Edge, Back, end_of, step_by, Leads}
 use Rattle.geos_explain.specs.declared.since.Since.{Since}
-use Rattle.geos_explain.specs.declared.since.Since.TheVariants.{Unknown, Entry, EntryOrOther, Once, Often}
-use Rattle.geos_flow.specs.declared.search.Heading.TheVariants.{Back}
-use Rattle.geos_flow.specs.Edges.{end_of}
-use Rattle.geos_flow.specs.Flow.{step_by, Leads}
-use Rattle.geos_explain.specs.Leads.{leads}
+use Rattle.geos_explain.specs.Led.{leads}
 use Rattle.geos_explain.specs.Lost.{ComesTo}
 use Rattle.geos_explain.specs.Places.{Place, comes_alike, is_inside}
 
@@ -52,29 +43,23 @@ fills_at place a from = elim (slice_get (places place.image) from) [
   | Some point ↦ not (holds point.row a) && leads_on place a from point
 ]
 
--- the later of two pcs, if it stands in front of a third
-abbrev pub later : ℕ → ℕ → ℕ → ℕ
-later pc last from = if nat_lt from pc then from else last
+-- of such an instruction that is named, if one is, and one more, the one that is named: the last in front of a pc, else the first
+abbrev pub named_of : ℕ → Option ℕ → ℕ → ℕ
+named_of pc None from = from
+named_of pc (Some last) from = if nat_lt from pc then from else last
 
--- one more such instruction; of several, the last in front of a pc is kept, else the first
-abbrev pub one_more : ℕ → Since → ℕ → Since
-one_more pc Unknown from = Once from
-one_more pc Entry from = EntryOrOther
-one_more pc EntryOrOther from = EntryOrOther
-one_more pc (Once first) from = Often (later pc first from)
-one_more pc (Often last) from = Often (later pc last from)
-
--- the same where there is one
+-- one more such instruction, if there is one
 abbrev pub also : ℕ → Since → ℕ → Bool → Since
-also pc since from here = if here then one_more pc since from else since
+also pc since from here =
+    if here then record { entry = since.entry; from = Some (named_of pc since.from from); again = is_some since.from } else since
 
 -- the caller has the slot held, and from the routine's beginning a way leads to the place so
-abbrev pub since_entry : Place → ℕ → Since
-since_entry place a = if holds place.routine.entry a && is_held_from place a (start_of place.image.routines place.r) then Entry else Unknown
+abbrev pub since_entry : Place → ℕ → Bool
+since_entry place a = holds place.routine.entry a && is_held_from place a (start_of place.image.routines place.r)
 
 -- since where the slot is held at the place, of the caller and the first n instructions of the routine
 unfoldable pub since_below : Place → ℕ → ℕ → Since
-since_below place a zero = since_entry place a
+since_below place a zero = record { entry = since_entry place a; from = None; again = false }
 since_below place a (suc n) =
     let from = start_of place.image.routines place.r + n in also place.pc (since_below place a n) from (fills_at place a from)
 
@@ -108,22 +93,14 @@ pub record IsSinceEntry (place : Place) (a : ℕ) : Type 0 where
   pub held : holds place.routine.entry a ≡ true
   pub way : IsHeldFrom place a (start_of place.image.routines place.r)
 
--- what is said of a slot is so
-abbrev pub IsSaidOf : Place → ℕ → Since → Type 0
-IsSaidOf place a Unknown = Unit {0}
-IsSaidOf place a Entry = IsSinceEntry place a
-IsSaidOf place a EntryOrOther = IsSinceEntry place a × ((from : ℕ) × IsSince place a from)
-IsSaidOf place a (Once from) = IsSince place a from
-IsSaidOf place a (Often from) = IsSince place a from × ((other : ℕ) × ((other ≡ from) → ⊥) × IsSince place a other)
+-- what is said of a slot is so, and all that is so is said: whether it is held since the caller; of the instructions since which it
+-- is, one, if there are any; and whether there is another
+pub record IsSaidOf (place : Place) (a : ℕ) (since : Since) : Type 0 where
+  pub entry : (since.entry ≡ true) ↔ IsSinceEntry place a
+  pub from : IfSome since.from (λ from. IsSince place a from)
+  pub again : since.again ≡ true → (from other : ℕ) × (since.from ≡ Some from) × IsSince place a other × ((other ≡ from) → ⊥)
+  pub once : since.again ≡ false → (other : ℕ) → IsSince place a other → since.from ≡ Some other
 
--- where it is not said, it is not so
-abbrev pub IsAllOf : Place → ℕ → Since → Type 0
-IsAllOf place a Unknown = (IsSinceEntry place a → ⊥) × ((from : ℕ) → IsSince place a from → ⊥)
-IsAllOf place a Entry = (from : ℕ) → IsSince place a from → ⊥
-IsAllOf place a EntryOrOther = Unit {0}
-IsAllOf place a (Once from) = (IsSinceEntry place a → ⊥) × ((other : ℕ) → IsSince place a other → other ≡ from)
-IsAllOf place a (Often from) = IsSinceEntry place a → ⊥
-
--- what is said of each slot at each place of an image is so, and all that is so is said
+-- the same of each slot at each place of an image
 abbrev pub WhatIsSaidOfSlotsHolds : Type 0
-WhatIsSaidOfSlotsHolds = (place : Place) (a : ℕ) → IsSaidOf place a (held_since place a) × IsAllOf place a (held_since place a)
+WhatIsSaidOfSlotsHolds = (place : Place) (a : ℕ) → IsSaidOf place a (held_since place a)

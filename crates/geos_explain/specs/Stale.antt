@@ -1,24 +1,9 @@
 -- Which pointers may be stale where they are used, and where and by what they became so.
-use Rattle.std.specs.Prelude.{ℕ, ◌==◌, Bool, false, ◌&&◌, if◌then◌else◌, List, [], ◌∷◌, ◌++◌, Option, Some, None, slice_get, slice_index_or, codes, decimal}
-use Rattle.std.specs.List.{concat}
-use Rattle.std.specs.Option.{option_map_or}
-use Rattle.geos_image.specs.declared.instr.Instr.{Instr}
-use Rattle.geos_image.specs.declared.row.Row.{Row}
-use Rattle.geos_verify.specs.declared.place.Place.{Place as KnownPlace}
-use Rattle.geos_verify.specs.Places.{places}
-use Rattle.geos_image.specs.declared.routine.Routine.{Routine}
-use Rattle.geos_image.specs.Parts.{Parts}
-use Rattle.geos_listing.specs.Instrs.{name_of}
-use Rattle.geos_opcodes.specs.Facts.{word_of, uses_of, operands_of}
-use Rattle.geos_opcodes.specs.declared.uses.SlotUse.{SlotUse}
-use Rattle.geos_opcodes.specs.declared.uses.SlotUse.TheVariants.{Moves, Unlocks, MovesGroup}
-use Rattle.geos_opcodes.specs.declared.uses.PointerUse.{PointerUse}
-use Rattle.geos_opcodes.specs.declared.uses.PointerUse.TheVariants.{Copies}
-use Rattle.geos_verify.specs.Rows.{pointer_at, is_stale}
+use Rattle.std.specs.Prelude.{ℕ, ◌==◌, Bool, false, ◌&&◌, if◌then◌else◌, List, [], ◌∷◌, ◌++◌, Option, Some, None, slice_get, slice_index_or, codes, decimal, is_some}
+use Rattle.geos_explain.specs.Below.{concat, option_map_or, Instr, Row, KnownPlace, places, Parts, name_of, word_of, uses_of, operands_of, SlotUse, Moves, Unlocks, MovesGroup, PointerUse, Copies, pointer_at, is_stale, Edge, option_or}
 use Rattle.geos_explain.specs.Numbers.{pc_text}
 use Rattle.geos_explain.specs.Places.{Place}
 use Rattle.geos_explain.specs.Uses.{slot_behind}
-use Rattle.geos_flow.specs.declared.edge.Edge.{Edge}
 use Rattle.geos_explain.specs.declared.ways.Followed.{Followed}
 use Rattle.geos_explain.specs.declared.ways.Way.{Way}
 use Rattle.geos_explain.specs.declared.ways.Way.TheVariants.{Entry, Along}
@@ -28,6 +13,8 @@ use Rattle.geos_explain.specs.declared.finding.Finding.{Finding}
 use Rattle.geos_explain.specs.declared.finding.Findings.{Findings}
 use Rattle.geos_explain.specs.declared.finding.Meeting.{Meeting}
 use Rattle.geos_explain.specs.Ways.{with_hint, forgets, sets}
+use Rattle.geos_explain.specs.declared.forgotten.Item.TheVariants.{Leads}
+use Rattle.geos_explain.specs.Forgotten.{forgetting_call}
 
 -- a pointer, where the row knows nothing of it
 abbrev pub if_stale : Row → ℕ → Option ℕ
@@ -94,10 +81,6 @@ call_loss image p r =
     concat (codes " leaves what the out line of " ∷ name_at image r ∷ codes " says, and it does not say p" ∷ decimal p
     ∷ codes ": say it in the out line, or fetch it again" ∷ [])
 
--- the instruction was to set the pointer and was refused
-unfoldable pub refused_loss : ℕ → List ℕ
-refused_loss p = codes " goes to its label where it is refused, and has not set p" ++ decimal p ++ codes ": give it another label"
-
 -- an instruction that moves chunks moves what a pointer into slot b leads to, if the blocks of its slot a and of b may be one
 unfoldable pub moved_words : ℕ → ℕ → ℕ → List ℕ
 moved_words p a b =
@@ -117,20 +100,16 @@ use_loss i _ p b = codes " leaves p" ++ decimal p ++ codes " stale: fetch it aga
 unfoldable pub how_lost : Parts → Followed → Bool → KnownPlace → List ℕ
 how_lost image followed branch point =
     if forgets point.instr.opcode then call_loss image followed.p point.instr.imm
-    else if branch && sets point.instr (uses_of point.instr.opcode).pointer followed.p then refused_loss followed.p
+    else if branch && sets point.instr (uses_of point.instr.opcode).pointer followed.p
+    then codes " goes to its label where it is refused, and has not set p" ++ decimal followed.p ++ codes ": give it another label"
     else use_loss point.instr (uses_of point.instr.opcode).slot followed.p (slot_behind (with_hint point.row followed) followed.p)
 
--- an instruction lost a pointer on an edge
-unfoldable pub lost_point : Place → Followed → Edge → KnownPlace → List ℕ
-lost_point place followed edge point = named place.lines edge.from point ++ how_lost place.image followed edge.branch point
-
--- the same, if there is an instruction
+-- an instruction lost a pointer on an edge, if there is an instruction
 unfoldable pub lost_by : Place → Followed → Edge → List ℕ
-lost_by place followed edge = elim (slice_get (places place.image) edge.from) [ None ↦ [] | Some point ↦ lost_point place followed edge point ]
-
--- what a caller may bring, where the caller is a routine
-abbrev pub in_wish : Routine → ℕ → List ℕ
-in_wish routine p = if routine.public then [] else codes ", or say p" ++ decimal p ++ codes " in the in line"
+lost_by place followed edge = elim (slice_get (places place.image) edge.from) [
+  | None ↦ []
+  | Some point ↦ named place.lines edge.from point ++ how_lost place.image followed edge.branch point
+]
 
 -- another label, if an instruction is one whose refusal does not bring the pointer
 abbrev pub label_wish : List ℕ → Option ℕ → List ℕ
@@ -146,7 +125,8 @@ refused_at image (Some m) = refused_on image m.lost
 unfoldable pub unset_words : Place → ℕ → Option Meeting → List ℕ
 unset_words place p meeting =
     (codes "; p" ++ decimal p ++ codes " is not set on the way from the start of the routine: fetch it first")
-    ++ label_wish place.lines (refused_at place.image meeting) ++ in_wish place.routine p
+    ++ label_wish place.lines (refused_at place.image meeting)
+    ++ (if place.routine.public then [] else codes ", or say p" ++ decimal p ++ codes " in the in line")
 
 -- no way leads to a pc, or here
 unfoldable pub unreached_words : Place → ℕ → List ℕ
@@ -212,3 +192,25 @@ stale_words place =
     let found = findings_at place.findings place.pc in
     pointer_item stale.0 ++ pointer_item stale.1 ++ codes " may be stale here" ++ finding_item place stale.0 found.first
     ++ finding_item place stale.1 found.second
+
+-- a pointer that an exit row wants, where a row knows nothing of it
+abbrev pub if_wanted : Row → Row → ℕ → Option ℕ
+if_wanted row exit p = if is_stale (pointer_at exit p) then None else if_stale row p
+
+-- the first of these
+abbrev pub first_wanted : Row → Row → Option ℕ
+first_wanted row exit =
+    option_or (option_or (option_or (if_wanted row exit 0) (if_wanted row exit 1)) (if_wanted row exit 2)) (if_wanted row exit 3)
+
+-- the call that forgets a pointer that the exit row wants, if there is one
+abbrev pub forgetting_pointer : Place → ℕ → Option ℕ
+forgetting_pointer place p = elim (pointer_at place.routine.exit p) [ None ↦ None | Some pointer ↦ forgetting_call place (Leads p pointer) ]
+
+-- why a pointer is not known, unless a call is said to forget it
+abbrev pub unknown_words : Place → ℕ → List ℕ
+unknown_words place p =
+    if is_some (forgetting_pointer place p) then [] else finding_item place (Some p) (findings_at place.findings place.pc).first
+
+-- the same of the first pointer that the exit row wants and that is not known, if there is one
+unfoldable pub unknown_item : Place → List ℕ
+unknown_item place = elim (first_wanted place.row place.routine.exit) [ None ↦ [] | Some p ↦ unknown_words place p ]

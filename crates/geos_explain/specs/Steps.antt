@@ -1,25 +1,9 @@
 -- What is said where an edge is not paid for.
 use Rattle.std.specs.Prelude.{ℕ, ◌+◌, nat_le, ◌==◌, if◌then◌else◌, List, [], ◌∷◌, ◌++◌, Option, Some, None, slice_index, slice_get, codes, decimal}
-use Rattle.std.specs.List.{concat}
-use Rattle.geos_opcodes.specs.declared.opcode.Opcode.{Opcode}
-use Rattle.geos_opcodes.specs.declared.opcode.Opcode.TheVariants.{Call, Ret}
-use Rattle.geos_image.specs.declared.potential.Potential.{Potential}
-use Rattle.std.specs.Option.{option_map_or}
-use Rattle.geos_image.specs.declared.routine.Routine.{Routine}
-use Rattle.geos_listing.specs.Rows.{texts_below}
-use Rattle.geos_listing.specs.Instrs.{name_of}
-use Rattle.geos_image.specs.Keys.{falls_through, branches}
-use Rattle.geos_verify.specs.declared.asked.Asked.{Asked}
-use Rattle.geos_verify.specs.Potentials.{asked_along, asked_branching, left_with, is_paid}
+use Rattle.geos_explain.specs.Below.{concat, Opcode, Call, Ret, Potential, option_map_or, Routine, texts_below, name_of, falls_through, branches, Asked, asked_along, asked_branching, left_with, is_paid}
 use Rattle.geos_explain.specs.Notes.{steps_text}
 use Rattle.geos_explain.specs.Numbers.{steps_word, verb}
 use Rattle.geos_explain.specs.Places.{Place}
-
--- so many steps are owed, and so many are left
-abbrev pub owed_words : ℕ → ℕ → List ℕ
-owed_words owed left =
-    concat (codes " " ∷ decimal owed ∷ steps_word (owed == 1) ∷ verb (owed == 1) ∷ codes " owed from here, "
-    ∷ decimal left ∷ verb (left == 1) ∷ codes " left" ∷ [])
 
 -- the same in whole, with what each counter must pay, and pays
 abbrev pub whole_words : Asked → Potential → List ℕ
@@ -32,7 +16,8 @@ abbrev pub asked_words : Asked → Potential → List ℕ
 asked_words asked p =
     if nat_le asked.steps (left_with asked.counter p)
     then whole_words asked p
-    else owed_words asked.steps (left_with asked.counter p)
+    else concat (codes " " ∷ decimal asked.steps ∷ steps_word (asked.steps == 1) ∷ verb (asked.steps == 1) ∷ codes " owed from here, "
+    ∷ decimal (left_with asked.counter p) ∷ verb (left_with asked.counter p == 1) ∷ codes " left" ∷ [])
 
 -- what the edge asks, if there is one
 abbrev pub asks_along : Place → Option Asked

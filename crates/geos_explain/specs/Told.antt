@@ -1,7 +1,6 @@
 -- At which places the rule that refuses is told.
 use Rattle.std.specs.Prelude.{◌≡◌, ◌<◌, ◌≤◌, ℕ, ◌+◌, ◌/◌, Bool, true, false, if◌then◌else◌, List, take, count_by, Option, Some, None, is_some, length, slice_index_or}
-use Rattle.geos_verify.specs.declared.rule.Rule.{Rule}
-use Rattle.geos_verify.specs.declared.rule.Rule.TheVariants.{OverBudget}
+use Rattle.geos_explain.specs.Below.{Rule, OverBudget}
 
 -- a rule is the one on the budget
 abbrev pub is_of_budget : Rule → Bool

@@ -1,28 +1,11 @@
 -- What is wrong with the slots and pointers that an instruction uses, rule by rule.
-use Rattle.std.specs.Prelude.{ℕ, Bool, true, false, ◌-◌, nat_lt, nat_le, ◌==◌, if◌then◌else◌, List, [], ◌∷◌, map, ◌++◌, Option, Some, None, codes, decimal}
-use Rattle.std.specs.List.{concat}
-use Rattle.geos_image.specs.declared.instr.Instr.{Instr}
-use Rattle.geos_image.specs.declared.row.Row.{Row}
-use Rattle.geos_image.specs.declared.row.Pointer.{Pointer}
-use Rattle.geos_image.specs.declared.row.SlotState.{SlotState}
-use Rattle.geos_image.specs.declared.row.SlotState.TheVariants.{Empty, Mem, Vm, Db}
-use Rattle.geos_image.specs.Legal.{is_own}
-use Rattle.geos_image.specs.Open.{open_row}
-use Rattle.geos_listing.specs.Rows.{row_items}
-use Rattle.geos_opcodes.specs.declared.uses.Kind.{Kind}
-use Rattle.geos_opcodes.specs.declared.uses.Kind.TheVariants.{MemBlock, VmBlock, DbGroup}
-use Rattle.geos_opcodes.specs.declared.uses.SlotUse.{SlotUse}
-use Rattle.geos_opcodes.specs.declared.uses.SlotUse.TheVariants.{Unlocks, Marks, Compares}
-use Rattle.geos_opcodes.specs.declared.uses.Width.{Width}
-use Rattle.geos_opcodes.specs.declared.uses.Offset.{Offset}
-use Rattle.geos_opcodes.specs.declared.uses.Offset.TheVariants.{Indexed}
-use Rattle.geos_opcodes.specs.declared.uses.PointerUse.{PointerUse}
-use Rattle.geos_opcodes.specs.declared.uses.PointerUse.TheVariants.{Loads, Stores, Copies}
-use Rattle.geos_listing.specs.Rows.{state_word}
-use Rattle.geos_verify.specs.Uses.{bytes_in}
-use Rattle.geos_verify.specs.Rows.{bound, slot_state, pointer_at, leads_nowhere}
-use Rattle.geos_verify.specs.Rules.{reach, least_at}
+use Rattle.std.specs.Prelude.{ℕ, true, false, ◌-◌, nat_le, ◌==◌, if◌then◌else◌, List, [], ◌∷◌, map, ◌++◌, Option, Some, None, codes, decimal, nat_lt}
+use Rattle.geos_explain.specs.Below.{concat, Instr, Row, Pointer, SlotState, Empty, Mem, Vm, Db, is_own, open_row, row_items, Kind, MemBlock, VmBlock, DbGroup, SlotUse, Unlocks, Marks, Compares, PointerUse, Stores, Copies, state_word, slot_state, pointer_at, leads_nowhere, least_at, Opcode, Ldcb, Ldcw, Stcb, Stcw, Width, Byte, Both, Offset, Indexed, Loads, word_of, bytes_in, bound, reach}
 use Rattle.geos_explain.specs.Numbers.{either, bytes_word, verb, items_in}
+use Rattle.geos_explain.specs.declared.forgotten.Item.{Item}
+use Rattle.geos_explain.specs.declared.forgotten.Item.TheVariants.{Bound, Leads}
+use Rattle.geos_explain.specs.declared.uses.Past.{Past}
+use Rattle.geos_explain.specs.declared.uses.Past.TheVariants.{Bytes, Index}
 
 -- a slot, and what the row says that it holds
 unfoldable pub state_item : ℕ → Row → List ℕ
@@ -50,14 +33,10 @@ short_words p wanted row =
     concat (codes " " ∷ decimal wanted ∷ bytes_word (wanted == 1) ∷ verb (wanted == 1) ∷ codes " wanted behind p" ∷ decimal p
     ∷ codes ", and " ∷ decimal (least_at row p) ∷ verb (least_at row p == 1) ∷ codes " known there" ∷ [])
 
--- a word may be any number
-abbrev pub is_any : ℕ → Bool
-is_any most = most == 65535
-
 -- what is known of the word that is the index
 unfoldable pub index_known : ℕ → ℕ → List ℕ
 index_known w most =
-    if is_any most
+    if most == 65535
     then codes " nothing is known of w" ++ decimal w ++ codes ", the index"
     else concat (codes " w" ∷ decimal w ∷ codes "<=" ∷ decimal most ∷ codes " is known of the index" ∷ [])
 
@@ -75,17 +54,6 @@ known_bytes p least = concat (codes ": p" ∷ decimal p ∷ codes " is known to 
 -- an index may be too high for the bytes behind its pointer
 unfoldable pub index_words : ℕ → ℕ → ℕ → ℕ → ℕ → List ℕ
 index_words w most wide p least = index_known w most ++ index_wanted w wide least ++ known_bytes p least
-
--- a read or a write at an offset may reach past the bytes behind its pointer
-abbrev pub reach_words : Instr → Width → Offset → Row → List ℕ
-reach_words i width Indexed row = index_words i.c (bound row i.c) (bytes_in width) i.b (least_at row i.b)
-reach_words i width offset row = short_words i.b (reach i width offset row) row
-
--- a read or a write may reach past the bytes behind its pointer
-unfoldable pub past_words : Instr → PointerUse → Row → List ℕ
-past_words i (Loads width offset) row = reach_words i width offset row
-past_words i (Stores width offset) row = reach_words i width offset row
-past_words i _ row = if nat_lt (least_at row i.a) i.imm then short_words i.a i.imm row else short_words i.b i.imm row
 
 -- the slot that a pointer leads into
 abbrev pub slot_behind : Row → ℕ → ℕ
@@ -169,3 +137,62 @@ other_item i _ row = []
 -- a slot is not held as the instruction wants it, and what serves in its place
 unfoldable pub slot_words : Instr → SlotUse → Row → List ℕ
 slot_words i slot row = state_item i.a row ++ other_item i slot row ++ (slot_wish slot (slot_state row i.a) ++ serving slot (slot_state row i.a))
+
+-- a word is to be bounded in front of the instruction
+unfoldable pub bounding : ℕ → ℕ → List ℕ
+bounding w most = concat (codes "; CHK w" ∷ decimal w ∷ codes " " ∷ decimal most ∷ codes " L in front of this bounds it" ∷ [])
+
+-- the read of a width that tests its index
+abbrev pub load_tested : Width → Opcode
+load_tested Byte = Ldcb
+load_tested Both = Ldcw
+
+-- the write of a width that tests its index
+abbrev pub store_tested : Width → Opcode
+store_tested Byte = Stcb
+store_tested Both = Stcw
+
+-- what a read or a write at an offset wants, where this instruction does the same and tests its index
+abbrev pub past_along : Opcode → Instr → Width → Offset → Row → Past
+past_along tested i width Indexed row = Index tested (bytes_in width) (bound row i.c)
+past_along tested i width offset row = Bytes i.b (reach i width offset row)
+
+-- what an instruction wants that may reach past the bytes behind its pointer
+abbrev pub past_at : Instr → PointerUse → Row → Past
+past_at i (Loads width offset) row = past_along (load_tested width) i width offset row
+past_at i (Stores width offset) row = past_along (store_tested width) i width offset row
+past_at i _ row = if nat_lt (least_at row i.a) i.imm then Bytes i.a i.imm else Bytes i.b i.imm
+
+-- that it may reach past them
+abbrev pub past_words : Instr → Row → Past → List ℕ
+past_words i row (Bytes p wanted) = short_words p wanted row
+past_words i row (Index tested wide most) = index_words i.c most wide i.b (least_at row i.b)
+
+-- what is to be known of the bytes behind a pointer
+abbrev pub leads_item : Row → ℕ → ℕ → Item
+leads_item row p wanted = Leads p (record { slot = slot_behind row p; least = if nat_lt wanted 65536 then wanted else 65535 })
+
+-- what is to be known there: of the index, if some bound of it serves, or else of the bytes behind the pointer
+abbrev pub past_item : Instr → Row → Past → Item
+past_item i row (Bytes p wanted) = leads_item row p wanted
+past_item i row (Index tested wide most) =
+    if nat_le wide (least_at row i.b) then Bound i.c (least_at row i.b - wide) else leads_item row i.b wide
+
+-- more bytes are to be asked for where a pointer is set
+unfoldable pub ask_wish : ℕ → ℕ → List ℕ
+ask_wish p wanted =
+    if nat_lt wanted 65536
+    then concat (codes "; ask for " ∷ decimal wanted ∷ codes " where p" ∷ decimal p ∷ codes " is set" ∷ [])
+    else codes "; no chunk is so long"
+
+-- an index is to be bounded, or else more bytes asked for; or an instruction that tests it serves
+unfoldable pub index_wish : List ℕ → Instr → ℕ → ℕ → List ℕ
+index_wish tested i wide least =
+    if nat_le wide least
+    then bounding i.c (least - wide) ++ concat (codes ", " ∷ tested ∷ codes " tests it" ∷ [])
+    else concat (codes "; ask for " ∷ decimal wide ∷ codes " or more where p" ∷ decimal i.b ∷ codes " is set, or " ∷ tested ∷ codes " tests the index" ∷ [])
+
+-- what helps there
+abbrev pub past_wish : Instr → Row → Past → List ℕ
+past_wish i row (Bytes p wanted) = ask_wish p wanted
+past_wish i row (Index tested wide most) = index_wish (word_of tested) i wide (least_at row i.b)

@@ -1,20 +1,6 @@
 -- Which ways lead to a pc, which of them bring a pointer, and which instructions lose one.
 use Rattle.std.specs.Prelude.{ℕ, Bool, true, false, ◌&&◌, ◌||◌, not, nat_lt, ◌==◌, if◌then◌else◌, List, Option, Some, None, slice_get, slice_set}
-use Rattle.geos_opcodes.specs.declared.opcode.Opcode.{Opcode}
-use Rattle.geos_opcodes.specs.declared.opcode.Opcode.TheVariants.{Call}
-use Rattle.geos_opcodes.specs.declared.uses.PointerUse.{PointerUse}
-use Rattle.geos_opcodes.specs.declared.uses.PointerUse.TheVariants.{Sets}
-use Rattle.geos_opcodes.specs.Facts.{uses_of}
-use Rattle.geos_image.specs.declared.instr.Instr.{Instr}
-use Rattle.geos_verify.specs.declared.place.Place.{Place as KnownPlace}
-use Rattle.geos_verify.specs.Places.{places}
-use Rattle.geos_image.specs.declared.row.Row.{Row}
-use Rattle.geos_image.specs.declared.row.Pointer.{Pointer}
-use Rattle.geos_image.specs.declared.routine.Routine.{Routine}
-use Rattle.geos_image.specs.declared.row.SlotState.{SlotState}
-use Rattle.geos_image.specs.Parts.{Parts}
-use Rattle.geos_verify.specs.Rows.{pointer_at, is_stale, after, has_edge, leads_nowhere}
-use Rattle.geos_flow.specs.declared.edge.Edge.{Edge}
+use Rattle.geos_explain.specs.Below.{Opcode, Call, PointerUse, Sets, uses_of, Instr, KnownPlace, places, Row, Pointer, Routine, SlotState, Parts, pointer_at, is_stale, after, has_edge, leads_nowhere, Edge}
 use Rattle.geos_explain.specs.declared.ways.Way.{Way}
 use Rattle.geos_explain.specs.declared.ways.Way.TheVariants.{Entry, Along}
 use Rattle.geos_explain.specs.declared.ways.Sought.{Sought}

@@ -1,40 +1,19 @@
 -- What is wrong at a point that is refused, in a line of plain words, rule by rule.
-use Rattle.std.specs.Prelude.{ℕ, Bool, ◌+◌, true, false, ◌&&◌, not, nat_lt, if◌then◌else◌, ◌==◌, List, [], ◌∷◌, ◌++◌, Option, Some, None, length, slice_get, codes, decimal}
-use Rattle.std.specs.List.{concat}
-use Rattle.geos_opcodes.specs.declared.opcode.Opcode.{Opcode}
-use Rattle.geos_opcodes.specs.declared.opcode.Opcode.TheVariants.{Call}
-use Rattle.geos_image.specs.declared.instr.Instr.{Instr}
-use Rattle.geos_image.specs.declared.row.Row.{Row}
-use Rattle.geos_image.specs.declared.routine.Routine.{Routine}
-use Rattle.geos_image.specs.Parts.{Parts, start_of}
-use Rattle.geos_listing.specs.Instrs.{name_of}
-use Rattle.geos_verify.specs.declared.rule.Rule.{Rule}
-use Rattle.geos_verify.specs.declared.rule.Rule.TheVariants.{LeavesRoutine, NamesEmptySlot, EntryMisfit, StalePointer, PassesEnd, ChangesUnmarked, LocksIntoHeld, WrongSlot, CommitsHeld, CallMisfit, ExitMisfit, EdgeMisfit, EdgeUnpaid, OverBudget}
-use Rattle.geos_opcodes.specs.Facts.{uses_of}
-use Rattle.geos_image.specs.Keys.{falls_through}
-use Rattle.geos_verify.specs.Rows.{has_edge, after, is_empty, marked_state, slot_state}
-use Rattle.geos_verify.specs.Rules.{has_place}
-use Rattle.geos_verify.specs.RuleText.{rule_number}
+use Rattle.std.specs.Prelude.{ℕ, Bool, ◌+◌, true, false, ◌&&◌, not, nat_lt, if◌then◌else◌, ◌==◌, List, [], ◌∷◌, ◌++◌, Some, None, length, slice_get, codes, decimal}
+use Rattle.geos_explain.specs.Below.{concat, Opcode, Call, Row, Routine, Parts, start_of, name_of, Rule, LeavesRoutine, NamesEmptySlot, EntryMisfit, StalePointer, PassesEnd, ChangesUnmarked, LocksIntoHeld, WrongSlot, CommitsHeld, CallMisfit, ExitMisfit, EdgeMisfit, EdgeUnpaid, OverBudget, uses_of, falls_through, has_edge, after, is_empty, marked_state, slot_state, has_place, rule_number, places}
 use Rattle.geos_explain.specs.Places.{Place}
 use Rattle.geos_explain.specs.Budgets.{over_words}
 use Rattle.geos_explain.specs.Led.{is_reached}
-use Rattle.geos_explain.specs.Lacks.{lacking, lacking_items}
+use Rattle.geos_explain.specs.Lacks.{lacking, lacking_items, mends}
 use Rattle.geos_explain.specs.Numbers.{is_or_are, are_text, label_text, pc_text}
-use Rattle.geos_explain.specs.Held.{exit_words}
+use Rattle.geos_explain.specs.Held.{exit_words, written_words}
 use Rattle.geos_explain.specs.Public.{public_words}
-use Rattle.geos_explain.specs.Written.{written_words}
-use Rattle.geos_explain.specs.Uses.{changed_slot, nowhere_words, past_words, unmarked_words, held_words, slot_words}
-use Rattle.geos_opcodes.specs.declared.uses.PointerUse.{PointerUse}
-use Rattle.geos_explain.specs.declared.forgotten.Item.{Item}
+use Rattle.geos_explain.specs.Uses.{changed_slot, nowhere_words, unmarked_words, held_words, slot_words, past_at, past_words, past_item, past_wish}
 use Rattle.geos_explain.specs.declared.forgotten.Item.TheVariants.{Slot, Held}
-use Rattle.geos_explain.specs.Calls.{forgotten_text, forgotten_item, forgotten_items, lent_items}
-use Rattle.geos_explain.specs.Moved.{moved_text}
-use Rattle.geos_explain.specs.Past.{past_item, past_wish}
-use Rattle.geos_explain.specs.Mends.{mends}
-use Rattle.geos_explain.specs.Stale.{stale_words}
-use Rattle.geos_explain.specs.Returned.{unknown_item}
+use Rattle.geos_explain.specs.Calls.{forgotten_text, forgotten_items, lent_items}
+use Rattle.geos_explain.specs.Forgotten.{moved_text}
+use Rattle.geos_explain.specs.Stale.{stale_words, unknown_item}
 use Rattle.geos_explain.specs.Steps.{unpaid_words}
-use Rattle.geos_verify.specs.Places.{places}
 
 -- control leaves the routine
 unfoldable pub leaves_words : Place → List ℕ
@@ -94,41 +73,30 @@ edge_words place =
     then branching_words place
     else wanted_words (wanted_behind place false (place.pc + 1)) (codes " wanted at") (pc_text place.lines (place.pc + 1))
 
--- where nothing leads to the instruction, it is to be taken out
-abbrev pub dead_wish : Place → List ℕ
-dead_wish place = if is_reached place.image place.pc then [] else codes "; nothing leads here: take it out"
-
--- a row does not fit that at the end of an edge, and what helps
+-- a row does not fit that at the end of an edge; where nothing leads to the instruction, it is to be taken out
 unfoldable pub edge_here : Place → List ℕ
-edge_here place = edge_words place ++ dead_wish place
+edge_here place = edge_words place ++ (if is_reached place.image place.pc then [] else codes "; nothing leads here: take it out")
 
--- why what is wanted is not known: an instruction moves the index going round, or a call forgets it
-unfoldable pub why_past : Place → Item → List ℕ
-why_past place item = moved_text place item ++ forgotten_text place item
-
--- a read or a write may pass the end of what its pointer leads to, why that is not known to be wide enough, and what helps
+-- a read or a write may pass the end of what its pointer leads to; why that is not known to be wide enough: an instruction moves
+-- the index going round, or a call forgets it; and what helps
 unfoldable pub past_here : Place → List ℕ
 past_here place =
-    let pointer = (uses_of place.i.opcode).pointer in
-    past_words place.i pointer place.row ++ why_past place (past_item place.i pointer place.row) ++ past_wish place.i pointer place.row
-
--- the mark of the slot whose block an instruction changes
-abbrev pub mark_item : Instr → PointerUse → Row → Item
-mark_item i pointer row = Slot (changed_slot i pointer row) (marked_state (slot_state row (changed_slot i pointer row)))
+    let past = past_at place.i (uses_of place.i.opcode).pointer place.row in
+    let item = past_item place.i place.row past in
+    past_words place.i place.row past ++ moved_text place item ++ forgotten_text place item ++ past_wish place.i place.row past
 
 -- a block is changed that may not be marked, what marks it, and which call forgets the mark
 unfoldable pub unmarked_here : Place → List ℕ
 unmarked_here place =
     let pointer = (uses_of place.i.opcode).pointer in
-    unmarked_words place.i pointer place.row ++ forgotten_text place (mark_item place.i pointer place.row)
-
--- the slot of an instruction, where it is empty
-abbrev pub slot_item : Instr → Row → Option Item
-slot_item i row = if is_empty (slot_state row i.a) then Some (Held i.a) else None
+    let a = changed_slot place.i pointer place.row in
+    unmarked_words place.i pointer place.row ++ forgotten_text place (Slot a (marked_state (slot_state place.row a)))
 
 -- a slot is not held as the instruction wants it, and which call forgets what it held
 unfoldable pub slot_here : Place → List ℕ
-slot_here place = slot_words place.i (uses_of place.i.opcode).slot place.row ++ forgotten_item place (slot_item place.i place.row)
+slot_here place =
+    slot_words place.i (uses_of place.i.opcode).slot place.row
+    ++ (if is_empty (slot_state place.row place.i.a) then forgotten_text place (Held place.i.a) else [])
 
 -- what is to be said of a routine that is called, which call forgets what it wants, and what makes it known
 abbrev pub callee_wish : Place → Routine → List ℕ

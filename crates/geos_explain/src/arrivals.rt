@@ -1,7 +1,7 @@
 //! What is known of a pointer on some way to each instruction of a routine; the rows say only what holds on all ways.
 
 ghost use Rattle.std.specs.Prelude.{◌≡◌, ◌<◌, Some, slice_get};
-ghost use Rattle.geos_explain.specs.Places.{IsPlace, place_of};
+ghost use Rattle.geos_explain.specs.Places.{place_of};
 ghost use Rattle.geos_explain.specs.Lost.{AreHints, arrival};
 ghost use Rattle.geos_explain.specs.Ways.{behind};
 ghost use Rattle.geos_verify.specs.Places.{places};
@@ -81,8 +81,7 @@ fn arrive_from(arrivals: &mut Arrivals, waits: &mut Pending, place: &Place, p: u
 
 /// The same of those of the routine's instructions that wait, the first of them first, and whether one of them did.
 fn sweep_ahead(arrivals: &mut Arrivals, waits: &mut Pending, place: &Place, p: u8) -> bool
-    requires place { IsPlace (place_of place.now) }
-    requires hints { AreHints (place_of place.now) p arrivals.old }
+    requires { AreHints (place_of place.now) p arrivals.old }
     ensures { AreHints (place_of place.now) p arrivals.new }
 {
     let mut start = place.image.start(place.r);
@@ -99,7 +98,6 @@ fn sweep_ahead(arrivals: &mut Arrivals, waits: &mut Pending, place: &Place, p: u
 
 /// What the caller brings comes to the routine's first instruction, and nothing yet to the others.
 fn arrivals_at_entry(place: &Place, p: u8) -> Arrivals
-    requires { IsPlace (place_of place.now) }
     ensures { AreHints (place_of place.now) p result }
 {
     let mut arrivals = [None; 4096];
@@ -114,7 +112,6 @@ fn arrivals_at_entry(place: &Place, p: u8) -> Arrivals
 /// place. What is known behind an instruction is found at first, and again where more comes to it, which is once: so there are at
 /// most as many sweeps as the routine has instructions.
 pub(crate) fn all_arrivals(place: &Place, p: u8) -> Arrivals
-    requires { IsPlace (place_of place.now) }
     ensures { AreHints (place_of place.now) p result }
 {
     let mut found = arrivals_at_entry(place, p);

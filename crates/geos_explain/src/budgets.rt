@@ -1,34 +1,172 @@
-//! Which budget serves a routine.
+//! Which budget serves a routine, and which counters are still to pay at its beginning, from which a LOOP takes though nothing sets
+//! them.
 
-ghost use Rattle.std.specs.Prelude.{◌≡◌, ◌++◌, OnOk};
-ghost use Rattle.geos_explain.specs.Places.{IsPlace, place_of, first_of};
-ghost use Rattle.geos_explain.specs.Budgets.{calls_on, calls_on_at, calling_on, none_serves, serving_words, over_words};
-ghost use Rattle.geos_explain.specs.Budgets.{WhatIsSaidOfBudgetsHolds};
+ghost use Rattle.std.specs.Prelude.{◌≡◌, ◌++◌, OnOk, ◌<◌};
+ghost use Rattle.geos_explain.specs.Places.{place_of};
+ghost use Rattle.geos_explain.specs.Budgets.{calls_on_at, calling_on, serving_words, over_words, WhatIsSaidOfBudgetsHolds, takes};
+ghost use Rattle.geos_explain.specs.Budgets.{gives, pays_at, leaves_alone, is_unset_at, takes_at, unset_loop, unset_item, unset_items};
+ghost use Rattle.geos_explain.specs.Budgets.{WhatIsSaidOfCountersHolds, stays_unset};
+ghost use Rattle.geos_flow.specs.Marks.{Marking};
 
+use crate::Done;
+use crate::filled::Filled;
+use crate::led::led_from;
 use crate::notes::{put_budget, put_budget_wish};
 use crate::numbers::pc_part;
 use crate::place::Place;
-use crate::routines::first_or;
-use crate::unset::put_unset_items;
+use crate::routines::{first_or, is_inside};
+use geos_flow::{Counting, Edge, Heading, Marks, is_marked};
 use geos_image::Instr;
-use geos_text::{Part, put_parts};
+use geos_opcodes::CounterUse;
 use geos_verify::calls;
-use std::alloc::AllocError;
 
-/// Whether the instruction calls a routine that does not stand before that of the place.
-fn calls_on(place: &Place, i: &Instr) -> bool
-    ensures { result ≡ calls_on (place_of place.now) i.now }
+/// Whether the instruction takes from the counter.
+fn takes(counter: CounterUse, i: &Instr, k: u8) -> bool
+    ensures { result ≡ takes counter i.now k }
 {
-    calls(i.opcode) && i.imm >= place.r
+    match counter {
+        CounterUse::CountsDown => i.a == k,
+        _ => false,
+    }
 }
 
-/// Whether the instruction at a pc does.
+/// Whether the instruction sets the counter.
+fn gives(counter: CounterUse, i: &Instr, k: u8) -> bool
+    ensures { result ≡ gives counter i.now k }
+{
+    match counter {
+        CounterUse::SetTo | CounterUse::SetToWord => i.a == k,
+        _ => false,
+    }
+}
+
+/// Whether the counter still pays at a pc.
+#[tactic(auto, unfolding(crate::specs::Budgets::pays_at))]
+fn pays_at(image: &Filled, k: u8, pc: u16) -> bool
+    requires { k < 4 }
+    ensures { result ≡ pays_at image.now k pc }
+{
+    match image.point(pc) {
+        Some(point) => point.potential.coefficients[usize::from(k)] != 0,
+        None => false,
+    }
+}
+
+/// Whether the instruction neither takes from the counter nor sets it.
+fn leaves_alone(i: &Instr, k: u8) -> bool
+    ensures { result ≡ leaves_alone i.now k }
+{
+    let counter = i.opcode.facts().counter;
+    !takes(counter, i, k) && !gives(counter, i, k)
+}
+
+/// The edges of the place's routine that leave a counter alone, and behind which it still pays.
+#[derive(Clone, Copy)]
+struct Unset<'a> {
+    place: &'a Place<'a>,
+    k: u8,
+    ghost counter: { k < 4 },
+}
+
+impl<'a> Counting for Unset<'a> {
+    ghost counted = { λ s edge end. stays_unset (place_of s.place.now) s.k edge end };
+
+    #[tactic(auto, unfolding(crate::specs::Budgets::stays_unset))]
+    fn counts(&self, edge: Edge, end: u16) -> bool {
+        match self.place.image.point(edge.from) {
+            Some(point) => {
+                is_inside(self.place, edge.from)
+                    && leaves_alone(&point.instr, self.k)
+                    && pays_at(self.place.image, self.k, end)
+            }
+            None => false,
+        }
+    }
+}
+
+/// The pcs to which a way leads from the place that leaves the counter alone, and on which it still pays.
+fn unset_from(place: &Place, k: u8) -> Marks
+    requires { k < 4 }
+    ensures { Marking result (is_unset_at (place_of place.now) k) }
+{
+    let unset = Unset { place, k };
+    led_from(place.image, Heading::Ahead, &unset, place.pc)
+}
+
+/// Whether the instruction at one of these takes from the counter.
+#[tactic(auto, unfolding(crate::specs::Budgets::takes_at))]
+fn takes_at(place: &Place, k: u8, marks: &Marks, from: u16) -> bool
+    requires { Marking marks.now (is_unset_at (place_of place.now) k) }
+    ensures { result ≡ takes_at (place_of place.now) k from }
+{
+    match place.image.point(from) {
+        Some(point) => {
+            is_marked(marks, usize::from(from))
+                && takes(point.instr.opcode.facts().counter, &point.instr, k)
+        }
+        None => false,
+    }
+}
+
+/// The first instruction of the routine that takes from the counter, to which such a way leads.
+#[tactic(auto, unfolding(crate::specs::Places::first_of))]
+fn unset_loop(place: &Place, k: u8) -> Option<u16>
+    requires { k < 4 }
+    ensures { result ≡ unset_loop (place_of place.now) k }
+{
+    let marks = unset_from(place, k);
+    let start = place.image.start(place.r);
+    let mut first = None;
+    for n in 0..place.routine.count {
+        let from = start + n;
+        first = first_or(first, from, takes_at(place, k, &marks, from));
+    }
+    first
+}
+
+/// A counter that still pays at a place is not set on the way to an instruction that takes from it, where there is such an
+/// instruction.
+#[tactic(auto, unfolding(crate::specs::Budgets::unset_item))]
+fn put_unset_item(out: &mut Vec<u8>, place: &Place, k: u8) -> Done
+    requires { k < 4 }
+    ensures { OnOk result (out.new.items ≡ out.old.items ++ unset_item (place_of place.now) k) }
+{
+    if !pays_at(place.image, k, place.pc) {
+        return Ok(());
+    }
+    match unset_loop(place, k) {
+        Some(pc) => put!(out;
+            "; k" {k} " is not set on the way to LOOP at" (pc_part(place.lines, pc))
+            ": set it first by SETK or SETKW"
+        ),
+        None => Ok(()),
+    }
+}
+
+/// The same of each counter.
+#[tactic(auto, unfolding(geos_listing::specs::Rows::texts_below))]
+pub(crate) fn put_unset_items(out: &mut Vec<u8>, place: &Place) -> Done
+    ensures { OnOk result (out.new.items ≡ out.old.items ++ unset_items (place_of place.now)) }
+{
+    for k in 0..4 {
+        put_unset_item(out, place, k)?;
+    }
+    Ok(())
+}
+
+/// A law: an instruction that is named takes from the counter, and a way leads to it from the place on which no instruction
+/// sets the counter or takes from it, and on which the counter pays all along.
+pub fn what_is_said_of_counters_holds()
+    ensures { WhatIsSaidOfCountersHolds }
+{}
+
+/// Whether the instruction at a pc calls a routine that does not stand before that of the place.
 #[tactic(auto, unfolding(crate::specs::Budgets::calls_on_at))]
 fn calls_on_at(place: &Place, from: u16) -> bool
     ensures { result ≡ calls_on_at (place_of place.now) from }
 {
     match place.image.point(from) {
-        Some(point) => calls_on(place, &point.instr),
+        Some(point) => calls(point.instr.opcode) && point.instr.imm >= place.r,
         None => false,
     }
 }
@@ -36,7 +174,6 @@ fn calls_on_at(place: &Place, from: u16) -> bool
 /// The first such instruction of the routine.
 #[tactic(auto, unfolding(crate::specs::Places::first_of))]
 fn calling_on(place: &Place) -> Option<u16>
-    requires { IsPlace (place_of place.now) }
     ensures { result ≡ calling_on (place_of place.now) }
 {
     let start = place.image.start(place.r);
@@ -48,37 +185,23 @@ fn calling_on(place: &Place) -> Option<u16>
     first
 }
 
-/// No budget serves, since of such a call.
-#[tactic(auto, unfolding(crate::specs::Budgets::none_serves))]
-fn put_none_serves(out: &mut Vec<u8>, place: &Place, from: u16) -> Result<(), AllocError>
-    ensures { OnOk result (out.new.items ≡ out.old.items ++ none_serves (place_of place.now) from) }
-{
-    put_parts(
-        out,
-        &[
-            Part::Text(": no budget serves while CALL at"),
-            pc_part(place.lines, from),
-            Part::Text(" names a routine that does not stand before this one"),
-        ],
-    )
-}
-
 /// Which budget serves: none where there is such a call, else the least that the potential is within.
 #[tactic(auto, unfolding(crate::specs::Budgets::serving_words))]
-fn put_serving(out: &mut Vec<u8>, place: &Place) -> Result<(), AllocError>
-    requires { IsPlace (place_of place.now) }
+fn put_serving(out: &mut Vec<u8>, place: &Place) -> Done
     ensures { OnOk result (out.new.items ≡ out.old.items ++ serving_words (place_of place.now)) }
 {
     match calling_on(place) {
-        Some(from) => put_none_serves(out, place, from),
+        Some(from) => put!(out;
+            ": no budget serves while CALL at" (pc_part(place.lines, from))
+            " names a routine that does not stand before this one"
+        ),
         None => put_budget_wish(out, place.potential),
     }
 }
 
 /// The potential is above the budget, which budget serves, and which counters are never set.
 #[tactic(auto, unfolding(crate::specs::Budgets::over_words))]
-pub(crate) fn put_over(out: &mut Vec<u8>, place: &Place) -> Result<(), AllocError>
-    requires { IsPlace (place_of place.now) }
+pub(crate) fn put_over(out: &mut Vec<u8>, place: &Place) -> Done
     ensures { OnOk result (out.new.items ≡ out.old.items ++ over_words (place_of place.now)) }
 {
     put_budget(out, place.routine, place.potential)?;

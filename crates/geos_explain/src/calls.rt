@@ -1,22 +1,97 @@
 //! What is said of a call that forgets what is to be known at a place.
 
 ghost use Rattle.std.specs.Prelude.{◌≡◌, ◌<◌, ◌++◌, OnOk};
-ghost use Rattle.geos_explain.specs.Places.{IsPlace, place_of};
-ghost use Rattle.geos_explain.specs.Calls.{only_pair, item_text, lines_of, call_head, kept_wish};
-ghost use Rattle.geos_explain.specs.Calls.{forgotten_at, forgotten_text, forgotten_item, bound_wanted, slot_wanted};
-ghost use Rattle.geos_explain.specs.Calls.{pointer_wanted, pair_wanted, forgotten_of, forgotten_items, lent_item, lent_of, lent_items};
+ghost use Rattle.geos_explain.specs.Places.{place_of};
+ghost use Rattle.geos_explain.specs.Calls.{only_pair, item_text, lines_of, call_head, kept_wish, forgotten_at, forgotten_text};
+ghost use Rattle.geos_explain.specs.Calls.{forgotten_item, bound_wanted, slot_wanted, pointer_wanted, pair_wanted, forgotten_of};
+ghost use Rattle.geos_explain.specs.Calls.{forgotten_items, lent_item, lent_of, lent_items, changes, changes_here, changes_slot, slot_kept};
+ghost use Rattle.geos_explain.specs.Calls.{changed_by, changed_words};
+ghost use Rattle.std.specs.List.{list_any};
 
-use crate::changed::{changed_by, put_changed};
+use crate::Done;
+use crate::filled::Filled;
 use crate::forgotten::{Item, forgetting_call};
 use crate::numbers::pc_part;
 use crate::place::Place;
 use crate::stale::name_at;
 use crate::uses::put_state;
-use geos_image::{Routine, Row};
+use geos_image::{Instr, Point, Routine, Row};
 use geos_listing::{put_items, state_word};
-use geos_text::{Part, put_parts};
+use geos_opcodes::SlotUse;
 use geos_verify::{Place as KnownPlace, is_empty, pointer_at, slot_state};
-use std::alloc::AllocError;
+
+/// Whether an instruction that does this with the slot that it names leaves another block in it, or, where that is asked too, none.
+fn changes(or_none: bool, slot: SlotUse) -> bool
+    ensures { result ≡ changes or_none slot }
+{
+    match slot {
+        SlotUse::LocksNew(_) | SlotUse::Locks(_) => true,
+        SlotUse::Unlocks(_) => or_none,
+        _ => false,
+    }
+}
+
+/// Whether the instruction does, in slot a.
+fn changes_here(or_none: bool, i: &Instr, a: u8) -> bool
+    ensures { result ≡ changes_here or_none i.now a }
+{
+    changes(or_none, i.opcode.facts().uses.slot) && i.a == a
+}
+
+/// Whether one of these instructions does.
+fn any_changes(points: &[Point], or_none: bool, a: u8) -> bool
+    ensures { result ≡ list_any (λ point. changes_here or_none point.instr a) points.now }
+{
+    points
+        .iter()
+        .any(|point| changes_here(or_none, &point.instr, a))
+}
+
+/// Whether one of routine r does.
+#[tactic(auto, unfolding(crate::specs::Calls::changes_slot))]
+fn changes_slot(image: &Filled, or_none: bool, r: u16, a: u8) -> bool
+    ensures { result ≡ changes_slot image.now or_none r a }
+{
+    if r >= image.count() {
+        return false;
+    }
+    let start = usize::from(image.start(r));
+    let count = usize::from(image.routine(r).count);
+    any_changes(&image.image().points()[start..][..count], or_none, a)
+}
+
+/// The slot that is to hold what it held, where the item says something of one.
+fn slot_kept(item: Item) -> Option<u8>
+    ensures { result ≡ slot_kept item }
+{
+    match item {
+        Item::Slot(a, _) | Item::Held(a) => Some(a),
+        Item::Leads(_, pointer) => Some(pointer.slot),
+        Item::Bound(..) | Item::Apart(_) => None,
+    }
+}
+
+/// The slot of the item, if routine r changes it.
+pub(crate) fn changed_by(image: &Filled, r: u16, item: Item) -> Option<u8>
+    ensures { result ≡ changed_by image.now r item }
+{
+    match slot_kept(item) {
+        Some(a) if changes_slot(image, true, r, a) => Some(a),
+        _ => None,
+    }
+}
+
+/// Routine r, of this name, changes the slot; where it locks a block into it, another slot helps.
+#[tactic(auto, unfolding(crate::specs::Calls::changed_words))]
+pub(crate) fn put_changed(out: &mut Vec<u8>, image: &Filled, r: u16, name: &[u8], a: u8) -> Done
+    ensures { OnOk result (out.new.items ≡ out.old.items ++ changed_words image.now r name.now a) }
+{
+    if changes_slot(image, false, r, a) {
+        put!(out; " " bytes(name) " locks or unlocks s" {a} " itself: hold the block in another slot")
+    } else {
+        put!(out; " " bytes(name) " unlocks s" {a} " itself")
+    }
+}
 
 /// The row that knows only that two slots hold different blocks.
 fn only_pair(pair: u8) -> Row
@@ -31,84 +106,46 @@ fn only_pair(pair: u8) -> Row
 
 /// The item as it stands in a line `in` or `out`; of a slot that is to be held, what the row says that it holds.
 #[tactic(auto, unfolding(crate::specs::Calls::item_text))]
-fn put_item(out: &mut Vec<u8>, row: &Row, item: Item) -> Result<(), AllocError>
+fn put_item(out: &mut Vec<u8>, row: &Row, item: Item) -> Done
     ensures { OnOk result (out.new.items ≡ out.old.items ++ item_text row.now item) }
 {
     match item {
-        Item::Bound(w, most) => put_parts(
-            out,
-            &[
-                Part::Numbered(" w", w as u64),
-                Part::Numbered("<=", most as u64),
-            ],
-        ),
-        Item::Slot(a, state) => put_parts(
-            out,
-            &[
-                Part::Numbered(" s", a as u64),
-                Part::Text("="),
-                Part::Text(state_word(state)),
-            ],
-        ),
+        Item::Bound(w, most) => put!(out; " w" {w} "<=" {most}),
+        Item::Slot(a, state) => put!(out; " s" {a} "=" [state_word(state)]),
         Item::Held(a) => put_state(out, a, row),
-        Item::Leads(p, pointer) => put_parts(
-            out,
-            &[
-                Part::Numbered(" p", p as u64),
-                Part::Numbered("=s", pointer.slot as u64),
-                Part::Numbered(":", pointer.least as u64),
-            ],
-        ),
+        Item::Leads(p, pointer) => put!(out; " p" {p} "=s" {pointer.slot} ":" {pointer.least}),
         Item::Apart(pair) => put_items(out, &only_pair(pair)),
     }
 }
 
 /// The lines of a routine in which something is to be said.
 #[tactic(auto, unfolding(crate::specs::Calls::lines_of))]
-fn put_lines_of(out: &mut Vec<u8>, name: &[u8]) -> Result<(), AllocError>
+fn put_lines_of(out: &mut Vec<u8>, name: &[u8]) -> Done
     ensures { OnOk result (out.new.items ≡ out.old.items ++ lines_of name.now) }
 {
-    put_parts(
-        out,
-        &[
-            Part::Text(" in the in and out lines of "),
-            Part::Bytes(name),
-        ],
-    )
+    put!(out; " in the in and out lines of " bytes(name))
 }
 
 /// A call of a routine leaves only what its `out` line says.
 #[tactic(auto, unfolding(crate::specs::Calls::call_head))]
-fn put_call_head(out: &mut Vec<u8>, place: &Place, from: u16, r: u16) -> Result<(), AllocError>
+fn put_call_head(out: &mut Vec<u8>, place: &Place, from: u16, r: u16) -> Done
     ensures { OnOk result (out.new.items ≡ out.old.items ++ call_head (place_of place.now) from r) }
 {
-    put_parts(
-        out,
-        &[
-            Part::Text("; CALL at"),
-            pc_part(place.lines, from),
-            Part::Text(" leaves what the out line of "),
-            Part::Bytes(name_at(place.image, r)),
-            Part::Text(" says"),
-        ],
+    put!(out;
+        "; CALL at" (pc_part(place.lines, from)) " leaves what the out line of "
+        bytes(name_at(place.image, r)) " says"
     )
 }
 
-/// What helps where a call of routine r forgets the item, which the row knows: to say it in the lines of that routine, or, where the
-/// routine changes its slot, to take another slot.
+/// What helps where a call of routine r forgets the item, which the row knows: to say it in the lines of that routine, unless the
+/// routine changes its slot: where it locks a block into it, to take another slot.
 #[tactic(auto, unfolding(crate::specs::Calls::kept_wish))]
-fn put_kept_wish(
-    out: &mut Vec<u8>,
-    place: &Place,
-    item: Item,
-    r: u16,
-    row: &Row,
-) -> Result<(), AllocError>
+fn put_kept_wish(out: &mut Vec<u8>, place: &Place, item: Item, r: u16, row: &Row) -> Done
     ensures { OnOk result (out.new.items ≡ out.old.items ++ kept_wish (place_of place.now) item r row.now) }
 {
     if let Some(a) = changed_by(place.image, r, item) {
         out.extend_from_slice(b", and")?;
-        return put_changed(out, name_at(place.image, r), a);
+        return put_changed(out, place.image, r, name_at(place.image, r), a);
     }
     out.extend_from_slice(b": say")?;
     put_item(out, row, item)?;
@@ -123,7 +160,7 @@ fn put_forgotten_at(
     item: Item,
     from: u16,
     point: &KnownPlace,
-) -> Result<(), AllocError>
+) -> Done
     ensures { OnOk result (out.new.items ≡ out.old.items ++ forgotten_at (place_of place.now) item from point.now) }
 {
     put_call_head(out, place, from, point.instr.imm)?;
@@ -132,8 +169,7 @@ fn put_forgotten_at(
 
 /// The call that forgets the item on a way to the place, if there is one.
 #[tactic(auto, unfolding(crate::specs::Calls::forgotten_text))]
-pub(crate) fn put_forgotten(out: &mut Vec<u8>, place: &Place, item: Item) -> Result<(), AllocError>
-    requires { IsPlace (place_of place.now) }
+pub(crate) fn put_forgotten(out: &mut Vec<u8>, place: &Place, item: Item) -> Done
     ensures { OnOk result (out.new.items ≡ out.old.items ++ forgotten_text (place_of place.now) item) }
 {
     match forgetting_call(place, item) {
@@ -146,12 +182,7 @@ pub(crate) fn put_forgotten(out: &mut Vec<u8>, place: &Place, item: Item) -> Res
 }
 
 /// The same, if there is an item.
-pub(crate) fn put_forgotten_item(
-    out: &mut Vec<u8>,
-    place: &Place,
-    item: Option<Item>,
-) -> Result<(), AllocError>
-    requires { IsPlace (place_of place.now) }
+fn put_forgotten_item(out: &mut Vec<u8>, place: &Place, item: Option<Item>) -> Done
     ensures { OnOk result (out.new.items ≡ out.old.items ++ forgotten_item (place_of place.now) item) }
 {
     match item {
@@ -208,9 +239,8 @@ fn pair_wanted(row: &Row, k: u8) -> Option<Item>
 
 /// The calls that forget the items with a number that a row wants.
 #[tactic(auto, unfolding(crate::specs::Calls::forgotten_of))]
-fn put_forgotten_of(out: &mut Vec<u8>, place: &Place, wanted: &Row, k: u8) -> Result<(), AllocError>
-    requires place { IsPlace (place_of place.now) }
-    requires few { k < 8 }
+fn put_forgotten_of(out: &mut Vec<u8>, place: &Place, wanted: &Row, k: u8) -> Done
+    requires { k < 8 }
     ensures { OnOk result (out.new.items ≡ out.old.items ++ forgotten_of (place_of place.now) wanted.now k) }
 {
     put_forgotten_item(out, place, bound_wanted(wanted, k))?;
@@ -221,12 +251,7 @@ fn put_forgotten_of(out: &mut Vec<u8>, place: &Place, wanted: &Row, k: u8) -> Re
 
 /// The calls that forget what a row wants, for each item.
 #[tactic(auto, unfolding(geos_listing::specs::Rows::texts_below))]
-pub(crate) fn put_forgotten_items(
-    out: &mut Vec<u8>,
-    place: &Place,
-    wanted: &Row,
-) -> Result<(), AllocError>
-    requires { IsPlace (place_of place.now) }
+pub(crate) fn put_forgotten_items(out: &mut Vec<u8>, place: &Place, wanted: &Row) -> Done
     ensures { OnOk result (out.new.items ≡ out.old.items ++ forgotten_items (place_of place.now) wanted.now) }
 {
     for k in 0..8 {
@@ -235,21 +260,15 @@ pub(crate) fn put_forgotten_items(
     Ok(())
 }
 
-/// What a slot holds that is held at a call of routine r, and what helps: to say it in the lines of that routine, or, where the routine
-/// changes the slot, to take another slot.
+/// What a slot holds that is held at a call of routine r, and what helps: to say it in the lines of that routine, unless the routine
+/// changes the slot: where it locks a block into it, to take another slot.
 #[tactic(auto, unfolding(crate::specs::Calls::lent_item))]
-fn put_lent(
-    out: &mut Vec<u8>,
-    place: &Place,
-    r: u16,
-    callee: &Routine,
-    a: u8,
-) -> Result<(), AllocError>
+fn put_lent(out: &mut Vec<u8>, place: &Place, r: u16, callee: &Routine, a: u8) -> Done
     ensures { OnOk result (out.new.items ≡ out.old.items ++ lent_item (place_of place.now) r callee.now a) }
 {
     if let Some(a) = changed_by(place.image, r, Item::Held(a)) {
         out.extend_from_slice(b";")?;
-        return put_changed(out, callee.name_text(), a);
+        return put_changed(out, place.image, r, callee.name_text(), a);
     }
     out.extend_from_slice(b"; say")?;
     put_state(out, a, place.row)?;
@@ -258,13 +277,7 @@ fn put_lent(
 
 /// The same, where the routine wants the slot empty.
 #[tactic(auto, unfolding(crate::specs::Calls::lent_of))]
-fn put_lent_of(
-    out: &mut Vec<u8>,
-    place: &Place,
-    r: u16,
-    callee: &Routine,
-    a: u8,
-) -> Result<(), AllocError>
+fn put_lent_of(out: &mut Vec<u8>, place: &Place, r: u16, callee: &Routine, a: u8) -> Done
     ensures { OnOk result (out.new.items ≡ out.old.items ++ lent_of (place_of place.now) r callee.now a) }
 {
     if is_empty(slot_state(&callee.entry, a)) && !is_empty(slot_state(place.row, a)) {
@@ -276,12 +289,7 @@ fn put_lent_of(
 
 /// The same of each slot.
 #[tactic(auto, unfolding(geos_listing::specs::Rows::texts_below))]
-pub(crate) fn put_lent_items(
-    out: &mut Vec<u8>,
-    place: &Place,
-    r: u16,
-    callee: &Routine,
-) -> Result<(), AllocError>
+pub(crate) fn put_lent_items(out: &mut Vec<u8>, place: &Place, r: u16, callee: &Routine) -> Done
     ensures { OnOk result (out.new.items ≡ out.old.items ++ lent_items (place_of place.now) r callee.now) }
 {
     for a in 0..4 {

@@ -1,51 +1,106 @@
 //! Why no rows or no numbers of steps are found, in an author's words.
 
-ghost use Rattle.std.specs.Prelude.{◌≡◌, ◌++◌, OnOk, IfOk};
-ghost use Rattle.geos_explain.specs.Causes.{differing_item, differing_items, is_refusable, edge_text, coming_from};
-ghost use Rattle.geos_explain.specs.Causes.{coming_text, call_text, touched_text, touched_before_text, not_set_text};
-ghost use Rattle.geos_explain.specs.Causes.{set_in_text, in_turn_text, in_ring_text};
-ghost use Rattle.geos_explain.specs.Causes.{by_word_text, dear_word_text, set_to_text, ways_text, calls_text, apart_text};
-ghost use Rattle.geos_explain.specs.Causes.{back_text, leads_text, within_text, cause_words, cause_text};
+ghost use Rattle.std.specs.Prelude.{◌≡◌, ◌++◌, OnOk, IfOk, ◌<◌, length, IfSome};
+ghost use Rattle.geos_explain.specs.Causes.{differing_item, differing_items, is_refusable, edge_text, coming_from, coming_text, call_text};
+ghost use Rattle.geos_explain.specs.Causes.{touched_text, touched_before_text, not_set_text, set_in_text, in_turn_text, in_ring_text};
+ghost use Rattle.geos_explain.specs.Causes.{by_word_text, dear_word_text, set_to_text, ways_text, apart_text, back_text, leads_text};
+ghost use Rattle.geos_explain.specs.Causes.{within_text, cause_words, cause_text, name_text, emptied_text, emptied_item, emptied_items};
+ghost use Rattle.geos_image.specs.Legal.{text_end};
+ghost use Rattle.geos_causes.specs.Slots.{slots_agree};
 
-use crate::emptied::put_emptied_items;
+use crate::Done;
 use crate::numbers::pc_part;
 use geos_causes::{
-    Apart, BackWay, ByNumber, ByWord, Cause, Coming, LoopOn, LoopPair, LoopRing, Within,
+    Apart, BackWay, ByNumber, ByWord, Cause, Coming, Emptied, LoopOn, LoopPair, LoopRing, Within,
     slots_agree,
 };
 use geos_flow::Edge;
 use geos_image::{Instr, SlotState};
 use geos_listing::state_word;
-use geos_text::{Part, put_parts};
+use geos_text::Part;
 use geos_verify::is_empty;
 use std::alloc::{AllocError, Global};
 
-/// A slot, where two states of it differ in more than the mark, and what it holds in the first.
-fn put_differing(
+/// Where the text of a padded name ends, if zeros follow it.
+fn text_end(name: &[u8]) -> Option<usize>
+    ensures place { result ≡ text_end name.now }
+    ensures within { IfSome result (λ end. end < length name.now) }
+{
+    name.iter().position(|byte| *byte == 0)
+}
+
+/// A routine's name without the zeros behind it.
+fn name_text(name: &[u8; 16]) -> &[u8]
+    ensures { result.now ≡ name_text name.now }
+{
+    let end = text_end(name).unwrap_or(16);
+    &name[..end]
+}
+
+/// A CALL leaves a slot empty: that it is held is to be said in the lines of its routine, or, where that locks a block into the
+/// slot, another is to be taken.
+#[tactic(auto, unfolding(crate::specs::Causes::emptied_text))]
+fn put_emptied(out: &mut Vec<u8>, lines: &[u32], a: usize, emptied: &Emptied) -> Done
+    ensures { OnOk result (out.new.items ≡ out.old.items ++ emptied_text lines.now a emptied.now) }
+{
+    let name = name_text(&emptied.callee);
+    put!(out;
+        "; CALL at" (pc_part(lines, emptied.at)) " leaves what the out line of " bytes(name)
+        " says: say s" {a} "=" [state_word(emptied.state)] " in the in and out lines of "
+        bytes(name) "; where " bytes(name) " locks a block into s" {a}
+        " itself, hold the block in another slot"
+    )
+}
+
+/// The same, where what the slot held agrees with what it holds on the other way.
+fn put_emptied_item(
     out: &mut Vec<u8>,
-    i: usize,
-    state: SlotState,
+    lines: &[u32],
+    a: usize,
+    named: Option<Emptied>,
     other: SlotState,
-) -> Result<(), AllocError>
+) -> Done
+    ensures { OnOk result (out.new.items ≡ out.old.items ++ emptied_item lines.now a named other) }
+{
+    match named {
+        Some(emptied) if slots_agree(emptied.state, other) => put_emptied(out, lines, a, &emptied),
+        _ => Ok(()),
+    }
+}
+
+/// The same of each slot for which a CALL is named.
+#[tactic(auto, unfolding(geos_listing::specs::Rows::texts_below))]
+pub(crate) fn put_emptied_items(
+    out: &mut Vec<u8>,
+    lines: &[u32],
+    named: &[Option<Emptied>; 4],
+    others: &[SlotState; 4],
+) -> Done
+    ensures { OnOk result (out.new.items ≡ out.old.items ++ emptied_items 4 lines.now named.now others.now) }
+{
+    for a in 0..named.len() {
+        put_emptied_item(out, lines, a, named[a], others[a])?;
+    }
+    Ok(())
+}
+
+/// A slot, where two states of it differ in more than the mark, and what it holds in the first.
+fn put_differing(out: &mut Vec<u8>, i: usize, state: SlotState, other: SlotState) -> Done
     ensures { OnOk result (out.new.items ≡ out.old.items ++ differing_item i state other) }
 {
     let slot = Part::Numbered(" s", i as u64);
     if slots_agree(state, other) {
         Ok(())
     } else if is_empty(state) {
-        put_parts(out, &[slot, Part::Text(" empty")])
+        put!(out; (slot) " empty")
     } else {
-        put_parts(out, &[slot, Part::Text("="), Part::Text(state_word(state))])
+        put!(out; (slot) "=" [state_word(state)])
     }
 }
 
 /// The slots of a row that differ in more than marks from those of another.
 #[tactic(auto, unfolding(geos_listing::specs::Rows::texts_below))]
-fn put_all_differing(
-    out: &mut Vec<u8>,
-    slots: &[SlotState; 4],
-    others: &[SlotState; 4],
-) -> Result<(), AllocError>
+fn put_all_differing(out: &mut Vec<u8>, slots: &[SlotState; 4], others: &[SlotState; 4]) -> Done
     ensures { OnOk result (out.new.items ≡ out.old.items ++ differing_items 4 slots.now others.now) }
 {
     for i in 0..slots.len() {
@@ -65,34 +120,20 @@ fn is_refusable(instrs: &[Instr], from: u16) -> bool
 }
 
 /// Where an edge comes from, and that its instruction is refused there, if it is that of a refusal.
-#[tactic(auto, unfolding(crate::specs::Causes::refusal_text))]
-fn put_edge(
-    out: &mut Vec<u8>,
-    lines: &[u32],
-    instrs: &[Instr],
-    edge: Edge,
-) -> Result<(), AllocError>
+fn put_edge(out: &mut Vec<u8>, lines: &[u32], instrs: &[Instr], edge: Edge) -> Done
     ensures { OnOk result (out.new.items ≡ out.old.items ++ edge_text lines.now instrs.now edge) }
 {
     let place = pc_part(lines, edge.from);
     if edge.branch && is_refusable(instrs, edge.from) {
-        put_parts(
-            out,
-            &[Part::Text(" where"), place, Part::Text(" is refused:")],
-        )
+        put!(out; " where" (place) " is refused:")
     } else {
-        put_parts(out, &[place, Part::Text(":")])
+        put!(out; (place) ":")
     }
 }
 
 /// Where control comes from.
 #[tactic(auto, unfolding(crate::specs::Causes::coming_from))]
-fn put_coming_from(
-    out: &mut Vec<u8>,
-    lines: &[u32],
-    instrs: &[Instr],
-    coming: &Coming,
-) -> Result<(), AllocError>
+fn put_coming_from(out: &mut Vec<u8>, lines: &[u32], instrs: &[Instr], coming: &Coming) -> Done
     ensures { OnOk result (out.new.items ≡ out.old.items ++ coming_from lines.now instrs.now coming.now) }
 {
     match coming.from {
@@ -109,7 +150,7 @@ fn put_coming(
     instrs: &[Instr],
     coming: &Coming,
     other: &Coming,
-) -> Result<(), AllocError>
+) -> Done
     ensures { OnOk result (out.new.items ≡ out.old.items ++ coming_text lines.now instrs.now coming.now other.now) }
 {
     out.extend_from_slice(b" from")?;
@@ -118,48 +159,23 @@ fn put_coming(
 }
 
 /// Slots differ where ways meet.
-#[tactic(auto, unfolding(crate::specs::Causes::meeting_text, crate::specs::Causes::other_text, crate::specs::Causes::ways_text))]
-fn put_ways(
-    out: &mut Vec<u8>,
-    lines: &[u32],
-    instrs: &[Instr],
-    apart: &Apart,
-) -> Result<(), AllocError>
+#[tactic(auto, unfolding(crate::specs::Causes::ways_text))]
+fn put_ways(out: &mut Vec<u8>, lines: &[u32], instrs: &[Instr], apart: &Apart) -> Done
     ensures { OnOk result (out.new.items ≡ out.old.items ++ ways_text lines.now instrs.now apart.now) }
 {
-    put_parts(
-        out,
-        &[Part::Text("at"), pc_part(lines, apart.to), Part::Text(",")],
-    )?;
+    put!(out; "at" (pc_part(lines, apart.to)) ",")?;
     put_coming(out, lines, instrs, &apart.first, &apart.second)?;
     out.extend_from_slice(b";")?;
     put_coming(out, lines, instrs, &apart.second, &apart.first)
 }
 
-/// The CALLs by which slots are empty on a way that agreed with those of another.
-fn put_calls(
-    out: &mut Vec<u8>,
-    lines: &[u32],
-    coming: &Coming,
-    other: &Coming,
-) -> Result<(), AllocError>
-    ensures { OnOk result (out.new.items ≡ out.old.items ++ calls_text lines.now coming.now other.now) }
-{
-    put_emptied_items(out, lines, &coming.emptied, &other.row.slots)
-}
-
 /// Slots differ where ways meet, and the CALLs by which they do.
-fn put_apart(
-    out: &mut Vec<u8>,
-    lines: &[u32],
-    instrs: &[Instr],
-    apart: &Apart,
-) -> Result<(), AllocError>
+fn put_apart(out: &mut Vec<u8>, lines: &[u32], instrs: &[Instr], apart: &Apart) -> Done
     ensures { OnOk result (out.new.items ≡ out.old.items ++ apart_text lines.now instrs.now apart.now) }
 {
     put_ways(out, lines, instrs, apart)?;
-    put_calls(out, lines, &apart.first, &apart.second)?;
-    put_calls(out, lines, &apart.second, &apart.first)
+    put_emptied_items(out, lines, &apart.first.emptied, &apart.second.row.slots)?;
+    put_emptied_items(out, lines, &apart.second.emptied, &apart.first.row.slots)
 }
 
 /// What the way of a LOOP to its target does, which may lie ahead.
@@ -175,54 +191,32 @@ fn leads_text(back: &BackWay) -> &'static str
 
 /// A text, and a way that leads back.
 #[tactic(auto, unfolding(crate::specs::Causes::back_text))]
-fn put_back(out: &mut Vec<u8>, text: &str, lines: &[u32], back: &BackWay) -> Result<(), AllocError>
+fn put_back(out: &mut Vec<u8>, text: &str, lines: &[u32], back: &BackWay) -> Done
     ensures { OnOk result (out.new.items ≡ out.old.items ++ (text.now ++ back_text lines.now back.now)) }
 {
-    put_parts(
-        out,
-        &[
-            Part::Text(text),
-            pc_part(lines, back.from),
-            Part::Text(leads_text(back)),
-            pc_part(lines, back.to),
-        ],
-    )
+    put!(out; [text] (pc_part(lines, back.from)) [leads_text(back)] (pc_part(lines, back.to)))
 }
 
 /// A counter is set within its loop.
 #[tactic(auto, unfolding(crate::specs::Causes::set_text, crate::specs::Causes::within_text))]
-fn put_within(out: &mut Vec<u8>, lines: &[u32], within: &Within) -> Result<(), AllocError>
+fn put_within(out: &mut Vec<u8>, lines: &[u32], within: &Within) -> Done
     ensures { OnOk result (out.new.items ≡ out.old.items ++ within_text lines.now within.now) }
 {
-    put_parts(
-        out,
-        &[
-            Part::Numbered("k", within.counter as u64),
-            Part::Text(" is set at"),
-            pc_part(lines, within.at),
-        ],
-    )?;
+    put!(out; "k" {within.counter} " is set at" (pc_part(lines, within.at)))?;
     put_back(out, ", within its own loop:", lines, &within.back)
 }
 
 /// A call touches a counter.
 #[tactic(auto, unfolding(crate::specs::Causes::call_text))]
-fn put_call(out: &mut Vec<u8>, lines: &[u32], within: &Within) -> Result<(), AllocError>
+fn put_call(out: &mut Vec<u8>, lines: &[u32], within: &Within) -> Done
     ensures { OnOk result (out.new.items ≡ out.old.items ++ call_text lines.now within.now) }
 {
-    put_parts(
-        out,
-        &[
-            Part::Text("the call at"),
-            pc_part(lines, within.at),
-            Part::Numbered(" touches k", within.counter as u64),
-        ],
-    )
+    put!(out; "the call at" (pc_part(lines, within.at)) " touches k" {within.counter})
 }
 
 /// A call touches a counter within its loop.
 #[tactic(auto, unfolding(crate::specs::Causes::touched_text))]
-fn put_touched(out: &mut Vec<u8>, lines: &[u32], within: &Within) -> Result<(), AllocError>
+fn put_touched(out: &mut Vec<u8>, lines: &[u32], within: &Within) -> Done
     ensures { OnOk result (out.new.items ≡ out.old.items ++ touched_text lines.now within.now) }
 {
     put_call(out, lines, within)?;
@@ -231,7 +225,7 @@ fn put_touched(out: &mut Vec<u8>, lines: &[u32], within: &Within) -> Result<(), 
 
 /// A call touches a counter that is not set behind it.
 #[tactic(auto, unfolding(crate::specs::Causes::touched_before_text))]
-fn put_touched_before(out: &mut Vec<u8>, lines: &[u32], within: &Within) -> Result<(), AllocError>
+fn put_touched_before(out: &mut Vec<u8>, lines: &[u32], within: &Within) -> Done
     ensures { OnOk result (out.new.items ≡ out.old.items ++ touched_before_text lines.now within.now) }
 {
     put_call(out, lines, within)?;
@@ -244,39 +238,26 @@ fn put_touched_before(out: &mut Vec<u8>, lines: &[u32], within: &Within) -> Resu
 }
 
 /// Nothing sets a counter on a way to its loop.
-#[tactic(auto, unfolding(crate::specs::Causes::nothing_sets_text, crate::specs::Causes::not_set_text))]
-fn put_not_set(out: &mut Vec<u8>, lines: &[u32], own: &LoopOn) -> Result<(), AllocError>
+#[tactic(auto, unfolding(crate::specs::Causes::not_set_text))]
+fn put_not_set(out: &mut Vec<u8>, lines: &[u32], own: &LoopOn) -> Done
     ensures { OnOk result (out.new.items ≡ out.old.items ++ not_set_text lines.now own.now) }
 {
-    put_parts(out, &[Part::Numbered("nothing sets k", own.counter as u64)])?;
+    put!(out; "nothing sets k" {own.counter})?;
     put_back(out, " on a way to its loop:", lines, &own.back)
 }
 
 /// A counter is set in the loop of a way that leads back.
 #[tactic(auto, unfolding(crate::specs::Causes::set_at_text, crate::specs::Causes::set_in_text))]
-fn put_set_in(
-    out: &mut Vec<u8>,
-    lines: &[u32],
-    counter: u8,
-    at: u16,
-    back: &BackWay,
-) -> Result<(), AllocError>
+fn put_set_in(out: &mut Vec<u8>, lines: &[u32], counter: u8, at: u16, back: &BackWay) -> Done
     ensures { OnOk result (out.new.items ≡ out.old.items ++ set_in_text lines.now counter at back.now) }
 {
-    put_parts(
-        out,
-        &[
-            Part::Numbered("k", counter as u64),
-            Part::Text(" at"),
-            pc_part(lines, at),
-        ],
-    )?;
+    put!(out; "k" {counter} " at" (pc_part(lines, at)))?;
     put_back(out, " in the loop where", lines, back)
 }
 
 /// Two loops set the counters of each other.
 #[tactic(auto, unfolding(crate::specs::Causes::in_turn_text))]
-fn put_in_turn(out: &mut Vec<u8>, lines: &[u32], both: &LoopPair) -> Result<(), AllocError>
+fn put_in_turn(out: &mut Vec<u8>, lines: &[u32], both: &LoopPair) -> Done
     ensures { OnOk result (out.new.items ≡ out.old.items ++ in_turn_text lines.now both.now) }
 {
     out.extend_from_slice(b"two loops set the counters of each other: ")?;
@@ -287,7 +268,7 @@ fn put_in_turn(out: &mut Vec<u8>, lines: &[u32], both: &LoopPair) -> Result<(), 
 
 /// Loops set the counters of each other in a ring.
 #[tactic(auto, unfolding(crate::specs::Causes::in_ring_text))]
-fn put_in_ring(out: &mut Vec<u8>, lines: &[u32], ring: &LoopRing) -> Result<(), AllocError>
+fn put_in_ring(out: &mut Vec<u8>, lines: &[u32], ring: &LoopRing) -> Done
     ensures { OnOk result (out.new.items ≡ out.old.items ++ in_ring_text lines.now ring.now) }
 {
     out.extend_from_slice(b"loops set the counters of each other in a ring: ")?;
@@ -299,74 +280,39 @@ fn put_in_ring(out: &mut Vec<u8>, lines: &[u32], ring: &LoopRing) -> Result<(), 
 
 /// The steps pass the limit where a word is so large as it may be.
 #[tactic(auto, unfolding(crate::specs::Causes::by_word_text))]
-fn put_by_word(out: &mut Vec<u8>, lines: &[u32], by_word: &ByWord) -> Result<(), AllocError>
+fn put_by_word(out: &mut Vec<u8>, lines: &[u32], by_word: &ByWord) -> Done
     ensures { OnOk result (out.new.items ≡ out.old.items ++ by_word_text lines.now by_word.now) }
 {
-    put_parts(
-        out,
-        &[
-            Part::Numbered(
-                "the steps may pass 4,294,967,295, since w",
-                by_word.word as u64,
-            ),
-            Part::Numbered(" may be ", by_word.most as u64),
-            Part::Text(" at"),
-            pc_part(lines, by_word.at),
-            Part::Text(": CHK it"),
-        ],
+    put!(out;
+        "the steps may pass 4,294,967,295, since w" {by_word.word} " may be " {by_word.most} " at"
+        (pc_part(lines, by_word.at)) ": CHK it by a lower number"
     )
 }
 
 /// No steps that fit were found where a word is so large as it may be.
 #[tactic(auto, unfolding(crate::specs::Causes::dear_word_text))]
-fn put_dear_word(out: &mut Vec<u8>, lines: &[u32], by_word: &ByWord) -> Result<(), AllocError>
+fn put_dear_word(out: &mut Vec<u8>, lines: &[u32], by_word: &ByWord) -> Done
     ensures { OnOk result (out.new.items ≡ out.old.items ++ dear_word_text lines.now by_word.now) }
 {
-    put_parts(
-        out,
-        &[
-            Part::Numbered(
-                "no steps up to 4,294,967,295 were found; w",
-                by_word.word as u64,
-            ),
-            Part::Numbered(" may be ", by_word.most as u64),
-            Part::Text(" at"),
-            pc_part(lines, by_word.at),
-            Part::Numbered(", which sets k", by_word.counter as u64),
-            Part::Text(": CHK it"),
-        ],
+    put!(out;
+        "no steps up to 4,294,967,295 were found; w" {by_word.word} " may be " {by_word.most} " at"
+        (pc_part(lines, by_word.at)) ", which sets k" {by_word.counter} ": CHK it by a lower number"
     )
 }
 
 /// A text, and that a counter is set to a number.
 #[tactic(auto, unfolding(crate::specs::Causes::set_to_text))]
-fn put_set_to(
-    out: &mut Vec<u8>,
-    text: &str,
-    lines: &[u32],
-    by_number: &ByNumber,
-) -> Result<(), AllocError>
+fn put_set_to(out: &mut Vec<u8>, text: &str, lines: &[u32], by_number: &ByNumber) -> Done
     ensures { OnOk result (out.new.items ≡ out.old.items ++ (text.now ++ set_to_text lines.now by_number.now)) }
 {
-    put_parts(
-        out,
-        &[
-            Part::Text(text),
-            Part::Numbered("k", by_number.counter as u64),
-            Part::Numbered(" is set to ", by_number.number as u64),
-            Part::Text(" at"),
-            pc_part(lines, by_number.at),
-        ],
+    put!(out;
+        [text] "k" {by_number.counter} " is set to " {by_number.number} " at"
+        (pc_part(lines, by_number.at))
     )
 }
 
 /// Why no rows or no numbers of steps are found.
-fn put_cause(
-    out: &mut Vec<u8>,
-    lines: &[u32],
-    instrs: &[Instr],
-    cause: &Cause,
-) -> Result<(), AllocError>
+fn put_cause(out: &mut Vec<u8>, lines: &[u32], instrs: &[Instr], cause: &Cause) -> Done
     ensures { OnOk result (out.new.items ≡ out.old.items ++ cause_words lines.now instrs.now cause.now) }
 {
     match cause {

@@ -1,11 +1,24 @@
-//! What is found of a pointer that is not known.
+//! What is found of the pointers that are not known, for each place where that is told.
 
-ghost use Rattle.std.specs.Prelude.{◌≡◌};
+ghost use Rattle.std.specs.Prelude.{◌≡◌, ◌<◌, true, Some, suc, length, IfOk, OnOk};
 ghost use Rattle.geos_explain.specs.Stale.{findings_at};
+ghost use Rattle.geos_image.specs.Legal.{is_image};
+ghost use Rattle.geos_image.specs.Parts.{start_of};
+ghost use Rattle.geos_explain.specs.Findings.{AreFound, AllFound, AllFoundSoFar, FoundAt, IsFound, IsToldAt, told_pointers};
+ghost use Rattle.geos_explain.specs.Places.{explained_of, place_of};
 
+use crate::Done;
+use crate::explained::Explained;
+use crate::place::Place;
+use crate::refusals::rule_at;
+use crate::routines::{ExplainedRoutine, place_at};
+use crate::stale::{first_wanted, stale_used};
+use crate::trace::traced;
 use crate::ways::Way;
 use geos_flow::Edge;
 use geos_image::Pointer;
+use geos_verify::{Rule, uses_at};
+use std::alloc::{AllocError, Global};
 
 /// Ways meet, of which one brings a pointer and another does not.
 #[derive(Clone, Copy)]
@@ -71,4 +84,94 @@ pub(crate) fn findings_at(findings: &[Findings], pc: u16) -> Findings
             second: None,
         },
     }
+}
+
+/// The rule that is told at the pc, if one is.
+fn rule_told(explained: &Explained, pc: u16) -> Option<Rule>
+    ensures { (rule : Rule) → IsToldAt explained.now.image.now explained.now.refused.now pc rule → result ≡ Some rule }
+{
+    if usize::from(pc) < explained.untold {
+        rule_at(explained.refused, pc)
+    } else {
+        None
+    }
+}
+
+/// The pointers that are not known where the rule is told: those that the instruction uses, or the first that the exit row wants.
+fn told_pointers(place: &Place, rule: Rule) -> (Option<u8>, Option<u8>)
+    ensures { result ≡ told_pointers (place_of place.now) rule }
+{
+    match rule {
+        Rule::StalePointer => stale_used(place.i, uses_at(place.i).pointer, place.row),
+        Rule::ExitMisfit => (first_wanted(place.row, &place.routine.exit), None),
+        _ => (None, None),
+    }
+}
+
+/// What is found of the pointer, if there is one.
+fn finding_of(place: &Place, pointer: Option<u8>) -> Option<Finding>
+    ensures { IsFound (place_of place.now) pointer result }
+{
+    match pointer {
+        Some(p) => Some(traced(place, p)),
+        None => None,
+    }
+}
+
+/// What is found of these pointers.
+fn findings_of(place: &Place, rule: Rule) -> Findings
+    ensures { AreFound (place_of place.now) rule result }
+{
+    let (first, second) = told_pointers(place, rule);
+    Findings {
+        first: finding_of(place, first),
+        second: finding_of(place, second),
+    }
+}
+
+/// The same of the instruction at a pc, if a rule is told there.
+fn found_at(within: &ExplainedRoutine, pc: u16) -> Findings
+    requires { pc < length within.now.explained.now.image.now.points }
+    ensures { FoundAt (explained_of within.now.explained.now) within.now.r within.now.routine.now pc result }
+{
+    match rule_told(within.explained, pc) {
+        Some(rule) => findings_of(&place_at(within, pc), rule),
+        None => Findings {
+            first: None,
+            second: None,
+        },
+    }
+}
+
+/// The same of each of the routine's instructions.
+fn put_found(all: &mut Vec<Findings>, explained: &Explained, r: u16) -> Done
+    requires within { r < length explained.now.image.now.routines }
+    requires legal { is_image explained.now.image.now ≡ true }
+    requires long { length all.old.items ≡ start_of explained.now.image.now.routines r }
+    requires found { AllFoundSoFar (explained_of explained.now) all.old.items }
+    ensures long { OnOk result (length all.new.items ≡ start_of explained.now.image.now.routines (suc r)) }
+    ensures found { OnOk result (AllFoundSoFar (explained_of explained.now) all.new.items) }
+{
+    let routine = explained.image.routine(r);
+    let start = explained.image.start(r);
+    let within = ExplainedRoutine {
+        explained,
+        r,
+        routine,
+    };
+    for k in 0..routine.count {
+        all.push(found_at(&within, start + k))?;
+    }
+    Ok(())
+}
+
+/// The same of all routines.
+pub(crate) fn all_found(alloc: Global, explained: &Explained) -> Result<Vec<Findings>, AllocError>
+    ensures { IfOk result (λ findings. AllFound (explained_of explained.now) findings.items) }
+{
+    let mut all = Vec::with_capacity(alloc, usize::from(explained.image.len()))?;
+    for r in 0..explained.image.count() {
+        put_found(&mut all, explained, r)?;
+    }
+    Ok(all)
 }

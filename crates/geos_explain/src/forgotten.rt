@@ -1,17 +1,20 @@
-//! Which call forgets what is to be known at a place: behind it only what its routine's `out` line says is known.
+//! Which call forgets what is to be known at a place, since behind it only what its routine's `out` line says is known; and which
+//! instruction moves an index going round a loop.
 
-ghost use Rattle.std.specs.Prelude.{◌≡◌, ◌<◌, length, Some};
+ghost use Rattle.std.specs.Prelude.{◌≡◌, ◌<◌, Some, ◌++◌, OnOk, IfSome};
 ghost use Rattle.geos_flow.specs.Marks.{Marking};
-ghost use Rattle.geos_explain.specs.Places.{IsPlace, place_of};
-ghost use Rattle.geos_explain.specs.Forgotten.{knows, comes_lacked, is_lacked_from};
-ghost use Rattle.geos_explain.specs.Forgotten.{forgets_at, forgetting_call, WhatIsSaidOfCallsHolds};
+ghost use Rattle.geos_explain.specs.Places.{place_of, last_of};
+ghost use Rattle.geos_explain.specs.Forgotten.{knows, comes_lacked, is_lacked_from, forgets_at, forgetting_call, WhatIsSaidOfCallsHolds};
+ghost use Rattle.geos_explain.specs.Forgotten.{moves, moves_at, if_round, moved_words, moved_text, WhatIsSaidOfRoundsHolds, stays_lacked};
 
+use crate::Done;
 use crate::led::led_from;
+use crate::numbers::pc_part;
 use crate::place::Place;
 use crate::routines::{comes_alike, is_inside};
 use crate::ways::forgets;
 use geos_flow::{Counting, Edge, Heading, Marks, end_of, is_marked};
-use geos_image::{Pointer, Row, SlotState};
+use geos_image::{Instr, Opcode, Pointer, Row, SlotState};
 use geos_verify::{
     Place as KnownPlace, has_edge, is_empty, pointer_at, pointer_fits, slot_fits, slot_state,
 };
@@ -49,13 +52,9 @@ pub(crate) fn knows(row: &Row, item: Item) -> bool
 struct Lacking<'a> {
     place: &'a Place<'a>,
     item: Item,
-    ghost within: { place.now.r < length place.now.image.now.routines },
 }
 
 impl<'a> Counting for Lacking<'a> {
-    ghost use Rattle.geos_explain.specs.Places.{place_of};
-    ghost use Rattle.geos_explain.specs.Forgotten.{stays_lacked};
-
     ghost counted = { λ s edge end. stays_lacked (place_of s.place.now) s.item edge };
 
     #[tactic(auto, unfolding(crate::specs::Forgotten::stays_lacked))]
@@ -73,8 +72,7 @@ impl<'a> Counting for Lacking<'a> {
 
 /// The pcs from which a way leads to another on which the item is not known all along.
 pub(crate) fn lacked_from(place: &Place, item: Item, to: u16) -> Marks
-    requires place { IsPlace (place_of place.now) }
-    requires low { to < 4096 }
+    requires { to < 4096 }
     ensures { Marking result (is_lacked_from (place_of place.now) item to) }
 {
     let lacking = Lacking { place, item };
@@ -124,7 +122,6 @@ fn forgets_at(place: &Place, item: Item, marks: &Marks, from: u16) -> bool
 /// The last call of the routine that forgets the item on a way to the place on which it is not known again.
 #[tactic(auto, unfolding(crate::specs::Places::last_of))]
 pub(crate) fn forgetting_call(place: &Place, item: Item) -> Option<u16>
-    requires { IsPlace (place_of place.now) }
     ensures { result ≡ forgetting_call (place_of place.now) item }
 {
     let marks = lacked_from(place, item, place.pc);
@@ -143,4 +140,94 @@ pub(crate) fn forgetting_call(place: &Place, item: Item) -> Option<u16>
 /// does not, and from there a way leads to the place on which no row knows it.
 pub fn what_is_said_of_calls_holds()
     ensures { WhatIsSaidOfCallsHolds }
+{}
+
+/// Whether the instruction puts into the word what it makes of it.
+fn moves(i: &Instr, w: u8) -> bool
+    ensures { result ≡ moves i.now i.now.opcode w }
+{
+    match i.opcode {
+        Opcode::Add | Opcode::Sub => i.a == w && (i.b == w || i.c == w),
+        Opcode::Muli => i.a == w && i.b == w,
+        _ => false,
+    }
+}
+
+/// Whether the instruction at a pc does, and from there a way leads to the place on which the item is not known all along.
+#[tactic(auto, unfolding(crate::specs::Forgotten::moves_at))]
+fn moves_at(place: &Place, item: Item, w: u8, marks: &Marks, from: u16) -> bool
+    requires { Marking marks.now (is_lacked_from (place_of place.now) item place.now.pc) }
+    ensures { result ≡ moves_at (place_of place.now) item w from }
+{
+    match place.image.place(from) {
+        Some(point) => is_lacked_from(place, item, marks, usize::from(from))
+            && moves(&point.instr, w),
+        None => false,
+    }
+}
+
+/// The last such instruction of the routine.
+#[tactic(auto, unfolding(crate::specs::Places::last_of))]
+fn last_moving(place: &Place, item: Item, w: u8) -> Option<u16>
+    ensures last { result ≡ last_of (place_of place.now) (moves_at (place_of place.now) item w) place.now.routine.now.count }
+    ensures low { IfSome result (λ from. from < 4096) }
+{
+    let marks = lacked_from(place, item, place.pc);
+    let start = place.image.start(place.r);
+    let mut last = None;
+    for k in 0..place.routine.count {
+        let from = start + k;
+        if moves_at(place, item, w, &marks, from) {
+            last = Some(from);
+        }
+    }
+    last
+}
+
+/// The instruction, if a way leads from the place to it on which the item is not known all along.
+fn if_round(place: &Place, item: Item, from: Option<u16>) -> Option<u16>
+    requires { IfSome from (λ from. from < 4096) }
+    ensures { result ≡ if_round (place_of place.now) item from }
+{
+    match from {
+        Some(from) if is_marked(&lacked_from(place, item, from), usize::from(place.pc)) => {
+            Some(from)
+        }
+        _ => None,
+    }
+}
+
+/// The instruction moves the word going round, and it is not known then to be at most so much.
+#[tactic(auto, unfolding(crate::specs::Forgotten::moved_words))]
+fn put_moved_words(out: &mut Vec<u8>, place: &Place, w: u8, most: u16, from: u16, i: &Instr) -> Done
+    ensures { OnOk result (out.new.items ≡ out.old.items ++ moved_words (place_of place.now) w most from i.now) }
+{
+    put!(out;
+        "; " [i.opcode.word()] " at" (pc_part(place.lines, from)) " moves w" {w}
+        " going round, and w" {w} "<=" {most} " is not known then"
+    )
+}
+
+/// Which instruction moves the index going round, where a bound of it is wanted, if one does.
+#[tactic(auto, unfolding(crate::specs::Forgotten::moved_text))]
+pub(crate) fn put_moved_round(out: &mut Vec<u8>, place: &Place, item: Item) -> Done
+    ensures { OnOk result (out.new.items ≡ out.old.items ++ moved_text (place_of place.now) item) }
+{
+    let Item::Bound(w, most) = item else {
+        return Ok(());
+    };
+    match if_round(place, item, last_moving(place, item, w)) {
+        Some(from) => match place.image.place(from) {
+            Some(point) => put_moved_words(out, place, w, most, from, &point.instr),
+            None => Ok(()),
+        },
+        None => Ok(()),
+    }
+}
+
+/// A law: an instruction that is said to move an index going round does; ways lead from it to the place and from there back
+/// to it, and no row on them knows the bound that is wanted.
+#[tactic(auto, using(crate::proofs::Forgetting::said_of_rounds))]
+pub fn what_is_said_of_rounds_holds()
+    ensures { WhatIsSaidOfRoundsHolds }
 {}

@@ -2,19 +2,20 @@
 
 ghost use Rattle.std.specs.Prelude.{◌≡◌, ◌≤◌, ◌++◌, OnOk, drop, length};
 ghost use Rattle.geos_text.specs.Parts.{part_text};
-ghost use Rattle.geos_explain.specs.Places.{IsPlace, place_of};
-ghost use Rattle.geos_explain.specs.Held.{is_held_at, slot_at, slots_at, since_place, or_another, since_text};
-ghost use Rattle.geos_explain.specs.Held.{since_at, sinces_at, else_wanted, kept_behind, unmet_words, exit_words};
+ghost use Rattle.geos_explain.specs.Places.{place_of};
+ghost use Rattle.geos_explain.specs.Held.{is_held_at, slot_at, slots_at, since_words, since_text, since_at, sinces_at, else_wanted};
+ghost use Rattle.geos_explain.specs.Held.{kept_behind, unmet_words, exit_words, has_borrowed, held_wish, written_behind, written_words};
 
+use crate::Done;
 use crate::lacks::{lacking, put_lacking};
-use crate::numbers::{pc_part, put_also, put_are};
+use crate::numbers::{either, is_one_item, is_or_are, pc_part, put_also, put_are, written_from};
 use crate::place::Place;
 use crate::public::put_missing;
 use crate::since::{Since, held_since};
 use crate::uses::put_state;
-use geos_text::{Part, put_parts};
+use geos_image::Row;
+use geos_text::Part;
 use geos_verify::{is_empty, is_of_file, slot_state};
-use std::alloc::AllocError;
 
 /// Where slots are held that must not be.
 #[derive(Clone, Copy)]
@@ -38,7 +39,7 @@ fn is_held_at(which: HeldAt, place: &Place, a: u8) -> bool
 
 /// Such a slot, and what it holds.
 #[tactic(auto, unfolding(crate::specs::Held::slot_at))]
-fn put_slot_at(out: &mut Vec<u8>, which: HeldAt, place: &Place, a: u8) -> Result<(), AllocError>
+fn put_slot_at(out: &mut Vec<u8>, which: HeldAt, place: &Place, a: u8) -> Done
     ensures { OnOk result (out.new.items ≡ out.old.items ++ slot_at which (place_of place.now) a) }
 {
     if is_held_at(which, place, a) {
@@ -50,11 +51,7 @@ fn put_slot_at(out: &mut Vec<u8>, which: HeldAt, place: &Place, a: u8) -> Result
 
 /// The same of each slot.
 #[tactic(auto, unfolding(geos_listing::specs::Rows::texts_below))]
-pub(crate) fn put_slots_at(
-    out: &mut Vec<u8>,
-    which: HeldAt,
-    place: &Place,
-) -> Result<(), AllocError>
+pub(crate) fn put_slots_at(out: &mut Vec<u8>, which: HeldAt, place: &Place) -> Done
     ensures { OnOk result (out.new.items ≡ out.old.items ++ slots_at which (place_of place.now)) }
 {
     for a in 0..4 {
@@ -63,49 +60,30 @@ pub(crate) fn put_slots_at(
     Ok(())
 }
 
-/// Since where a slot is held; of several places, one.
-fn since_part(lines: &[u32], since: Since) -> Part<'static>
-    ensures { part_text result ≡ since_place lines.now since }
+/// That a slot is held since a place, and whether since another one too.
+fn put_since_words(out: &mut Vec<u8>, a: u8, place: Part, other: bool) -> Done
+    ensures { OnOk result (out.new.items ≡ out.old.items ++ since_words a (part_text place.entry) other) }
 {
-    match since {
-        Since::Unknown => Part::Text(""),
-        Since::Entry | Since::EntryOrOther => Part::Text(" the in line"),
-        Since::Once(from) | Since::Often(from) => pc_part(lines, from),
-    }
+    let another = either(other, " or another place", "");
+    put!(out; "; s" {a} " is held since" (place) [another])
 }
 
-/// That there are others, if there are.
-fn or_another(since: Since) -> &'static str
-    ensures { result.now ≡ or_another since }
-{
-    match since {
-        Since::EntryOrOther | Since::Often(_) => " or another place",
-        _ => "",
-    }
-}
-
-/// Since where a slot is held, if that is known; of several places, one.
-fn put_since(out: &mut Vec<u8>, lines: &[u32], a: u8, since: Since) -> Result<(), AllocError>
+/// The same, if it is known since where; of several places, one.
+fn put_since(out: &mut Vec<u8>, lines: &[u32], a: u8, since: Since) -> Done
     ensures { OnOk result (out.new.items ≡ out.old.items ++ since_text lines.now a since) }
 {
-    if let Since::Unknown = since {
-        return Ok(());
+    if since.entry {
+        return put_since_words(out, a, Part::Text(" the in line"), since.from.is_some());
     }
-    put_parts(
-        out,
-        &[
-            Part::Numbered("; s", a as u64),
-            Part::Text(" is held since"),
-            since_part(lines, since),
-            Part::Text(or_another(since)),
-        ],
-    )
+    match since.from {
+        Some(from) => put_since_words(out, a, pc_part(lines, from), since.again),
+        None => Ok(()),
+    }
 }
 
 /// The same of a slot that is held and must not be.
 #[tactic(auto, unfolding(crate::specs::Held::since_at))]
-fn put_since_at(out: &mut Vec<u8>, which: HeldAt, place: &Place, a: u8) -> Result<(), AllocError>
-    requires { IsPlace (place_of place.now) }
+fn put_since_at(out: &mut Vec<u8>, which: HeldAt, place: &Place, a: u8) -> Done
     ensures { OnOk result (out.new.items ≡ out.old.items ++ since_at which (place_of place.now) a) }
 {
     if is_held_at(which, place, a) {
@@ -117,12 +95,7 @@ fn put_since_at(out: &mut Vec<u8>, which: HeldAt, place: &Place, a: u8) -> Resul
 
 /// The same of each slot.
 #[tactic(auto, unfolding(geos_listing::specs::Rows::texts_below))]
-pub(crate) fn put_sinces_at(
-    out: &mut Vec<u8>,
-    which: HeldAt,
-    place: &Place,
-) -> Result<(), AllocError>
-    requires { IsPlace (place_of place.now) }
+pub(crate) fn put_sinces_at(out: &mut Vec<u8>, which: HeldAt, place: &Place) -> Done
     ensures { OnOk result (out.new.items ≡ out.old.items ++ sinces_at which (place_of place.now)) }
 {
     for a in 0..4 {
@@ -133,7 +106,7 @@ pub(crate) fn put_sinces_at(
 
 /// What else the exit row wants.
 #[tactic(auto, unfolding(crate::specs::Held::else_wanted))]
-fn put_else_wanted(out: &mut Vec<u8>, place: &Place) -> Result<(), AllocError>
+fn put_else_wanted(out: &mut Vec<u8>, place: &Place) -> Done
     ensures { OnOk result (out.new.items ≡ out.old.items ++ else_wanted (place_of place.now)) }
 {
     put_also(
@@ -145,8 +118,7 @@ fn put_else_wanted(out: &mut Vec<u8>, place: &Place) -> Result<(), AllocError>
 
 /// Slots are still held at the return, since where, which of them are borrowed, and what else the exit row wants.
 #[tactic(auto, unfolding(crate::specs::Held::kept_words))]
-fn put_kept_words(out: &mut Vec<u8>, place: &Place, before: usize) -> Result<(), AllocError>
-    requires place { IsPlace (place_of place.now) }
+fn put_kept_words(out: &mut Vec<u8>, place: &Place, before: usize) -> Done
     requires before { before ≤ length out.old.items }
     requires kept { drop before out.old.items ≡ slots_at HeldAt.Return (place_of place.now) }
     ensures { OnOk result (out.new.items ≡ out.old.items ++ kept_behind (place_of place.now)) }
@@ -159,7 +131,7 @@ fn put_kept_words(out: &mut Vec<u8>, place: &Place, before: usize) -> Result<(),
 
 /// The exit row wants more than the row says.
 #[tactic(auto, unfolding(crate::specs::Held::unmet_words))]
-fn put_unmet(out: &mut Vec<u8>, place: &Place) -> Result<(), AllocError>
+fn put_unmet(out: &mut Vec<u8>, place: &Place) -> Done
     ensures { OnOk result (out.new.items ≡ out.old.items ++ unmet_words (place_of place.now)) }
 {
     let before = out.len();
@@ -169,8 +141,7 @@ fn put_unmet(out: &mut Vec<u8>, place: &Place) -> Result<(), AllocError>
 
 /// The row does not fit the exit row: slots are still held, or else it wants more.
 #[tactic(auto, unfolding(crate::specs::Held::exit_words))]
-pub(crate) fn put_exit(out: &mut Vec<u8>, place: &Place) -> Result<(), AllocError>
-    requires { IsPlace (place_of place.now) }
+pub(crate) fn put_exit(out: &mut Vec<u8>, place: &Place) -> Done
     ensures { OnOk result (out.new.items ≡ out.old.items ++ exit_words (place_of place.now)) }
 {
     let before = out.len();
@@ -179,4 +150,48 @@ pub(crate) fn put_exit(out: &mut Vec<u8>, place: &Place) -> Result<(), AllocErro
         return put_unmet(out, place);
     }
     put_kept_words(out, place, before)
+}
+
+/// Whether some slot is borrowed.
+fn has_borrowed(row: &Row) -> bool
+    ensures { result ≡ has_borrowed row.now }
+{
+    row.slots.iter().any(|state| !state.is_own())
+}
+
+/// What is to be done with the slots that are held there; what is borrowed stays held.
+fn held_wish(borrowed: bool, items: &[u8]) -> &'static str
+    ensures { result.now ≡ held_wish borrowed items.now }
+{
+    if borrowed {
+        return ": what is borrowed from the caller can't be unlocked here";
+    }
+    either(
+        is_one_item(items),
+        ": unlock it before",
+        ": unlock them before",
+    )
+}
+
+/// That the slots that were written from a place on are held where the file is written; and whether one is borrowed.
+#[tactic(auto, unfolding(crate::specs::Held::written_behind))]
+fn put_written_behind(out: &mut Vec<u8>, before: usize, borrowed: bool) -> Done
+    requires { before ≤ length out.old.items }
+    ensures { OnOk result (out.new.items ≡ out.old.items ++ written_behind borrowed (drop before out.old.items)) }
+{
+    let items = written_from(out, before);
+    let verb = is_or_are(items);
+    let wish = held_wish(borrowed, items);
+    put!(out; [verb] " held where the file is written" [wish])
+}
+
+/// The VM file is written while slots hold blocks of it.
+#[tactic(auto, unfolding(crate::specs::Held::written_words))]
+pub(crate) fn put_written(out: &mut Vec<u8>, place: &Place) -> Done
+    ensures { OnOk result (out.new.items ≡ out.old.items ++ written_words (place_of place.now)) }
+{
+    let before = out.len();
+    put_slots_at(out, HeldAt::Write, place)?;
+    put_written_behind(out, before, has_borrowed(place.row))?;
+    put_sinces_at(out, HeldAt::Write, place)
 }

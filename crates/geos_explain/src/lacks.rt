@@ -1,15 +1,17 @@
-//! What a row lacks to fit another.
+//! What a row lacks to fit another, and what makes it known: an instruction that bounds a word, or one that marks a block.
 
-ghost use Rattle.std.specs.Prelude.{◌≡◌, ◌++◌, OnOk};
+ghost use Rattle.std.specs.Prelude.{◌≡◌, ◌++◌, OnOk, ◌<◌};
 ghost use Rattle.geos_verify.specs.Lists.{zip2};
-ghost use Rattle.geos_explain.specs.Lacks.{lacking_bound, lacking_slot, lacking_pointer, lacking_pair};
-ghost use Rattle.geos_explain.specs.Lacks.{lacking, held_item, held_items, lacking_items, LacksNothingWhereItFits};
+ghost use Rattle.geos_explain.specs.Lacks.{lacking_bound, lacking_slot, lacking_pointer, lacking_pair, lacking, held_item, held_items};
+ghost use Rattle.geos_explain.specs.Lacks.{lacking_items, LacksNothingWhereItFits, bound_mend, lacks_mark, mark_mend, mend_of, mends};
+ghost use Rattle.geos_verify.specs.Rows.{marked_state};
 
+use crate::Done;
+use crate::uses::{mark_word, put_bounding};
 use geos_image::{Pointer, Row, SlotState};
 use geos_listing::put_items;
 use geos_text::put_numbered;
-use geos_verify::{is_empty, pointer_fits, slot_fits};
-use std::alloc::AllocError;
+use geos_verify::{is_empty, pointer_fits, slot_fits, slot_state};
 
 /// The bound that is wanted where it is not kept, else that of any word.
 fn lacking_bound(known: u16, wanted: u16) -> u16
@@ -21,18 +23,7 @@ fn lacking_bound(known: u16, wanted: u16) -> u16
 fn lacking_bounds(known: &[u16; 8], wanted: &[u16; 8]) -> [u16; 8]
     ensures { result ≡ zip2 lacking_bound known.now wanted.now }
 {
-    let [r0, r1, r2, r3, r4, r5, r6, r7] = *known;
-    let [s0, s1, s2, s3, s4, s5, s6, s7] = *wanted;
-    [
-        lacking_bound(r0, s0),
-        lacking_bound(r1, s1),
-        lacking_bound(r2, s2),
-        lacking_bound(r3, s3),
-        lacking_bound(r4, s4),
-        lacking_bound(r5, s5),
-        lacking_bound(r6, s6),
-        lacking_bound(r7, s7),
-    ]
+    zipped!(lacking_bound; *known, *wanted; r0 s0, r1 s1, r2 s2, r3 s3, r4 s4, r5 s5, r6 s6, r7 s7)
 }
 
 /// The state that is wanted where it is not met, else that of the open row.
@@ -49,14 +40,7 @@ fn lacking_slot(known: SlotState, wanted: SlotState) -> SlotState
 fn lacking_slots(known: &[SlotState; 4], wanted: &[SlotState; 4]) -> [SlotState; 4]
     ensures { result ≡ zip2 lacking_slot known.now wanted.now }
 {
-    let [r0, r1, r2, r3] = *known;
-    let [s0, s1, s2, s3] = *wanted;
-    [
-        lacking_slot(r0, s0),
-        lacking_slot(r1, s1),
-        lacking_slot(r2, s2),
-        lacking_slot(r3, s3),
-    ]
+    zipped!(lacking_slot; *known, *wanted; r0 s0, r1 s1, r2 s2, r3 s3)
 }
 
 /// The pointer that is wanted where it is not known, else none.
@@ -76,14 +60,7 @@ fn lacking_pointers(
 ) -> [Option<Pointer>; 4]
     ensures { result ≡ zip2 lacking_pointer known.now wanted.now }
 {
-    let [r0, r1, r2, r3] = *known;
-    let [s0, s1, s2, s3] = *wanted;
-    [
-        lacking_pointer(r0, s0),
-        lacking_pointer(r1, s1),
-        lacking_pointer(r2, s2),
-        lacking_pointer(r3, s3),
-    ]
+    zipped!(lacking_pointer; *known, *wanted; r0 s0, r1 s1, r2 s2, r3 s3)
 }
 
 /// Whether the pair is wanted and not known.
@@ -96,16 +73,7 @@ fn lacking_pair(known: bool, wanted: bool) -> bool
 fn lacking_pairs(known: &[bool; 6], wanted: &[bool; 6]) -> [bool; 6]
     ensures { result ≡ zip2 lacking_pair known.now wanted.now }
 {
-    let [r0, r1, r2, r3, r4, r5] = *known;
-    let [s0, s1, s2, s3, s4, s5] = *wanted;
-    [
-        lacking_pair(r0, s0),
-        lacking_pair(r1, s1),
-        lacking_pair(r2, s2),
-        lacking_pair(r3, s3),
-        lacking_pair(r4, s4),
-        lacking_pair(r5, s5),
-    ]
+    zipped!(lacking_pair; *known, *wanted; r0 s0, r1 s1, r2 s2, r3 s3, r4 s4, r5 s5)
 }
 
 /// Of the row that is wanted, what the row that is known does not meet; else the open row.
@@ -121,12 +89,7 @@ pub(crate) fn lacking(known: &Row, wanted: &Row) -> Row
 }
 
 /// A slot that is wanted empty and is held.
-fn put_held(
-    out: &mut Vec<u8>,
-    i: usize,
-    known: SlotState,
-    wanted: SlotState,
-) -> Result<(), AllocError>
+fn put_held(out: &mut Vec<u8>, i: usize, known: SlotState, wanted: SlotState) -> Done
     ensures { OnOk result (out.new.items ≡ out.old.items ++ held_item i known wanted) }
 {
     if !is_empty(wanted) || is_empty(known) {
@@ -137,11 +100,7 @@ fn put_held(
 }
 
 #[tactic(auto, unfolding(geos_listing::specs::Rows::texts_below))]
-fn put_all_held(
-    out: &mut Vec<u8>,
-    known: &[SlotState; 4],
-    wanted: &[SlotState; 4],
-) -> Result<(), AllocError>
+fn put_all_held(out: &mut Vec<u8>, known: &[SlotState; 4], wanted: &[SlotState; 4]) -> Done
     ensures { OnOk result (out.new.items ≡ out.old.items ++ held_items 4 known.now wanted.now) }
 {
     for i in 0..known.len() {
@@ -153,7 +112,7 @@ fn put_all_held(
 /// The items of the row that is wanted which the row that is known does not meet; none where it
 /// fits.
 #[tactic(auto, unfolding(crate::specs::Lacks::lacking_items))]
-pub(crate) fn put_lacking(out: &mut Vec<u8>, known: &Row, wanted: &Row) -> Result<(), AllocError>
+pub(crate) fn put_lacking(out: &mut Vec<u8>, known: &Row, wanted: &Row) -> Done
     ensures { OnOk result (out.new.items ≡ out.old.items ++ lacking_items known.now wanted.now) }
 {
     put_items(out, &lacking(known, wanted))?;
@@ -161,6 +120,75 @@ pub(crate) fn put_lacking(out: &mut Vec<u8>, known: &Row, wanted: &Row) -> Resul
 }
 
 /// Where a row does not fit another, some item is named that it lacks, and where it fits, none.
+#[tactic(auto, using(crate::proofs::Fits::lacks_nothing))]
 pub fn rows_that_fit_lack_nothing()
     ensures { LacksNothingWhereItFits }
 {}
+
+/// The same of a word whose bound is wanted, if it is.
+fn put_bound_mend(out: &mut Vec<u8>, lacked: &Row, k: u8) -> Done
+    requires { k < 8 }
+    ensures { OnOk result (out.new.items ≡ out.old.items ++ bound_mend lacked.now k) }
+{
+    let most = lacked.bounds[usize::from(k)];
+    if most == u16::MAX {
+        return Ok(());
+    }
+    put_bounding(out, k, most)
+}
+
+/// The state of a slot whose block is marked, if it has a mark.
+pub(crate) fn as_marked(state: SlotState) -> SlotState
+    ensures { result ≡ marked_state state }
+{
+    match state {
+        SlotState::Vm {
+            marked: _,
+            borrowed,
+        } => SlotState::Vm {
+            marked: true,
+            borrowed,
+        },
+        SlotState::Db { marked: _ } => SlotState::Db { marked: true },
+        other => other,
+    }
+}
+
+/// Whether of what is wanted of a slot the mark alone is lacking.
+fn lacks_mark(known: SlotState, wanted: SlotState) -> bool
+    ensures { result ≡ lacks_mark known wanted }
+{
+    !slot_fits(known, wanted) && slot_fits(as_marked(known), wanted)
+}
+
+/// The block of a slot is to be marked, if that is so.
+#[tactic(auto, unfolding(crate::specs::Lacks::mark_mend))]
+fn put_mark_mend(out: &mut Vec<u8>, a: u8, known: SlotState, wanted: SlotState) -> Done
+    ensures { OnOk result (out.new.items ≡ out.old.items ++ mark_mend a known wanted) }
+{
+    if !lacks_mark(known, wanted) {
+        return Ok(());
+    }
+    put!(out; "; " [mark_word(known)] " s" {a} " marks it")
+}
+
+/// What helps of the word and the slot with a number.
+#[tactic(auto, unfolding(crate::specs::Lacks::mend_of))]
+fn put_mend_of(out: &mut Vec<u8>, known: &Row, wanted: &Row, k: u8) -> Done
+    requires { k < 8 }
+    ensures { OnOk result (out.new.items ≡ out.old.items ++ mend_of known.now wanted.now k) }
+{
+    put_bound_mend(out, &lacking(known, wanted), k)?;
+    put_mark_mend(out, k, slot_state(known, k), slot_state(wanted, k))
+}
+
+/// What makes known the bounds and the marks that the row lacks of those that the other wants.
+#[tactic(auto, unfolding(geos_listing::specs::Rows::texts_below))]
+pub(crate) fn put_mends(out: &mut Vec<u8>, known: &Row, wanted: &Row) -> Done
+    ensures { OnOk result (out.new.items ≡ out.old.items ++ mends known.now wanted.now) }
+{
+    for k in 0..8 {
+        put_mend_of(out, known, wanted, k)?;
+    }
+    Ok(())
+}

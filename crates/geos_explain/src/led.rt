@@ -2,12 +2,31 @@
 
 ghost use Rattle.std.specs.Prelude.{◌≡◌, ◌<◌, length};
 ghost use Rattle.geos_flow.specs.Marks.{Marking};
-ghost use Rattle.geos_explain.specs.Leads.{leads};
-ghost use Rattle.geos_explain.specs.Led.{MarksStarts, is_reached};
+ghost use Rattle.geos_explain.specs.Led.{MarksStarts, are_in_one, is_reached, leads, lies_in, stays};
 
-use crate::edges::are_in_one;
 use crate::filled::Filled;
 use geos_flow::{Counting, Edge, Heading, Marks, follow, is_marked, mark, no_marks};
+
+/// Whether the pc is that of an instruction of routine r.
+fn lies_in(image: &Filled, r: u16, pc: usize) -> bool
+    requires { r < length image.now.routines }
+    ensures { result ≡ lies_in image.now r pc }
+{
+    let start = usize::from(image.start(r));
+    start <= pc && pc < start + usize::from(image.routine(r).count)
+}
+
+/// Whether two pcs are those of instructions of one routine.
+#[tactic(auto, unfolding(crate::specs::Led::are_in_one))]
+fn are_in_one(image: &Filled, pc: usize, other: usize) -> bool
+    ensures { result ≡ are_in_one image.now pc other (length image.now.routines) }
+{
+    let mut both = false;
+    for r in 0..image.count() {
+        both = both || (lies_in(image, r, pc) && lies_in(image, r, other));
+    }
+    both
+}
 
 /// The edges that stay in a routine.
 #[derive(Clone, Copy)]
@@ -16,9 +35,6 @@ struct Staying<'a> {
 }
 
 impl<'a> Counting for Staying<'a> {
-    ghost use Rattle.geos_explain.specs.Leads.{leads};
-    ghost use Rattle.geos_explain.specs.Led.{stays};
-
     ghost counted = { λ s edge end. stays s.image.now edge end };
 
     fn counts(&self, edge: Edge, end: u16) -> bool {

@@ -4,56 +4,76 @@
 //! docs/FORMATS.md has the form.
 #![tactic(auto)]
 
+use std::alloc::AllocError;
+
+/// Appends the parts of a sentence: `"text"`, `"text" {number}`, `[text]`, `bytes(name)` and `(part)`.
+macro_rules! put {
+    (@parts $out:expr, [$($parts:tt)*]) => { geos_text::put_parts($out, &[$($parts)*]) };
+    (@parts $out:expr, [$($parts:tt)*] $text:literal {$n:expr} $($rest:tt)*) => {
+        put!(@parts $out, [$($parts)* geos_text::Part::Numbered($text, $n as u64),] $($rest)*)
+    };
+    (@parts $out:expr, [$($parts:tt)*] $text:literal $($rest:tt)*) => {
+        put!(@parts $out, [$($parts)* geos_text::Part::Text($text),] $($rest)*)
+    };
+    (@parts $out:expr, [$($parts:tt)*] [$text:expr] $($rest:tt)*) => {
+        put!(@parts $out, [$($parts)* geos_text::Part::Text($text),] $($rest)*)
+    };
+    (@parts $out:expr, [$($parts:tt)*] bytes($bytes:expr) $($rest:tt)*) => {
+        put!(@parts $out, [$($parts)* geos_text::Part::Bytes($bytes),] $($rest)*)
+    };
+    (@parts $out:expr, [$($parts:tt)*] ($part:expr) $($rest:tt)*) => {
+        put!(@parts $out, [$($parts)* $part,] $($rest)*)
+    };
+    ($out:expr; $($parts:tt)*) => { put!(@parts $out, [] $($parts)*) };
+}
+
+/// The array of what a function gives of the items of two arrays, pair by pair.
+macro_rules! zipped {
+    ($f:ident; $left:expr, $right:expr; $($a:ident $b:ident),+) => {{
+        let [$($a),+] = $left;
+        let [$($b),+] = $right;
+        [$($f($a, $b)),+]
+    }};
+}
+
+/// What was to be written was, or an allocation was refused.
+type Done = Result<(), AllocError>;
+
 mod arrivals;
 mod budgets;
 mod calls;
 mod causes;
-mod changed;
-mod edges;
-mod emptied;
 mod explained;
 mod explanation;
 mod filled;
 mod finding;
-mod findings;
-mod firsts;
 mod forgotten;
 mod held;
 mod lacks;
 mod led;
-mod listed;
-mod mends;
-mod moved;
 mod notes;
 mod numbers;
-mod past;
 mod place;
 mod public;
 mod refusals;
 mod repeated;
-mod returned;
 mod routines;
 mod since;
 mod stale;
 mod steps;
-mod texts;
 mod trace;
-mod unset;
 mod uses;
 mod ways;
 mod words;
-mod written;
 
-pub use budgets::what_is_said_of_budgets_holds;
+pub use budgets::{what_is_said_of_budgets_holds, what_is_said_of_counters_holds};
 pub use causes::explain_cause;
-pub use explanation::explain;
-pub use forgotten::what_is_said_of_calls_holds;
+pub use explanation::{
+    explain, explain_text, explanation_is_listing_with_notes, explanation_is_text_with_notes,
+};
+pub use forgotten::{what_is_said_of_calls_holds, what_is_said_of_rounds_holds};
 pub use lacks::rows_that_fit_lack_nothing;
-pub use listed::{explanation_is_listing_with_notes, explanation_is_text_with_notes};
-pub use moved::what_is_said_of_rounds_holds;
 pub use public::rows_without_faults_may_be_public;
 pub use refusals::told_where_refused;
 pub use repeated::repeated_is_told_before;
 pub use since::what_is_said_of_a_held_slot_holds;
-pub use texts::explain_text;
-pub use unset::what_is_said_of_counters_holds;

@@ -1,20 +1,20 @@
 //! What stands behind an instruction.
 
 ghost use Rattle.std.specs.Prelude.{◌≡◌, ◌++◌, OnOk};
-ghost use Rattle.geos_explain.specs.Places.{IsPlace, place_of};
+ghost use Rattle.geos_explain.specs.Places.{place_of};
 ghost use Rattle.geos_explain.specs.Notes.{coefficient_text, coefficients_text, steps_text, is_one};
 ghost use Rattle.geos_explain.specs.Notes.{potential_text, where_text, note_head, known_here, note, budget_words, has_no_coefficient, budget_wish};
 
+use crate::Done;
 use crate::led::is_reached;
 use crate::numbers::either;
 use crate::place::Place;
 use geos_image::{Potential, Routine};
 use geos_listing::put_items;
-use geos_text::{Part, put_numbered, put_parts};
-use std::alloc::AllocError;
+use geos_text::put_numbered;
 
 /// So many steps for each that is on counter k, unless there are none.
-fn put_coefficient(out: &mut Vec<u8>, k: usize, n: u32) -> Result<(), AllocError>
+fn put_coefficient(out: &mut Vec<u8>, k: usize, n: u32) -> Done
     ensures { OnOk result (out.new.items ≡ out.old.items ++ coefficient_text k n) }
 {
     if n == 0 {
@@ -26,7 +26,7 @@ fn put_coefficient(out: &mut Vec<u8>, k: usize, n: u32) -> Result<(), AllocError
 
 /// Those for each counter.
 #[tactic(auto, unfolding(geos_listing::specs::Rows::texts_below))]
-fn put_coefficients(out: &mut Vec<u8>, coefficients: &[u32; 4]) -> Result<(), AllocError>
+fn put_coefficients(out: &mut Vec<u8>, coefficients: &[u32; 4]) -> Done
     ensures { OnOk result (out.new.items ≡ out.old.items ++ coefficients_text coefficients.now) }
 {
     for k in 0..coefficients.len() {
@@ -37,11 +37,7 @@ fn put_coefficients(out: &mut Vec<u8>, coefficients: &[u32; 4]) -> Result<(), Al
 
 /// So many steps, and so many for each that is on a counter.
 #[tactic(auto, unfolding(crate::specs::Notes::steps_text))]
-pub(crate) fn put_steps(
-    out: &mut Vec<u8>,
-    n: u64,
-    coefficients: &[u32; 4],
-) -> Result<(), AllocError>
+pub(crate) fn put_steps(out: &mut Vec<u8>, n: u64, coefficients: &[u32; 4]) -> Done
     ensures { OnOk result (out.new.items ≡ out.old.items ++ steps_text n coefficients.now) }
 {
     put_numbered(out, " ", n)?;
@@ -58,7 +54,7 @@ fn is_one(potential: &Potential) -> bool
 
 /// The steps that the potential stands for.
 #[tactic(auto, unfolding(crate::specs::Notes::potential_text))]
-fn put_potential(out: &mut Vec<u8>, potential: &Potential) -> Result<(), AllocError>
+fn put_potential(out: &mut Vec<u8>, potential: &Potential) -> Done
     ensures { OnOk result (out.new.items ≡ out.old.items ++ potential_text potential.now) }
 {
     put_steps(out, u64::from(potential.constant), &potential.coefficients)?;
@@ -67,23 +63,15 @@ fn put_potential(out: &mut Vec<u8>, potential: &Potential) -> Result<(), AllocEr
 
 /// The routine and the pc.
 #[tactic(auto, unfolding(crate::specs::Notes::where_text))]
-fn put_where(out: &mut Vec<u8>, routine: &Routine, pc: u16) -> Result<(), AllocError>
+fn put_where(out: &mut Vec<u8>, routine: &Routine, pc: u16) -> Done
     ensures { OnOk result (out.new.items ≡ out.old.items ++ where_text routine.now pc) }
 {
-    put_parts(
-        out,
-        &[
-            Part::Text(" ; "),
-            Part::Bytes(routine.name_text()),
-            Part::Numbered(" ", pc as u64),
-            Part::Text(":"),
-        ],
-    )
+    put!(out; " ; " bytes(routine.name_text()) " " {pc} ":")
 }
 
 /// How a note begins: in an author's text by nothing, else by the routine and the pc.
 #[tactic(auto, unfolding(crate::specs::Notes::note_head))]
-fn put_note_head(out: &mut Vec<u8>, place: &Place) -> Result<(), AllocError>
+fn put_note_head(out: &mut Vec<u8>, place: &Place) -> Done
     ensures { OnOk result (out.new.items ≡ out.old.items ++ note_head (place_of place.now)) }
 {
     match place.lines.get(usize::from(place.pc)) {
@@ -95,7 +83,7 @@ fn put_note_head(out: &mut Vec<u8>, place: &Place) -> Result<(), AllocError>
 /// What the row of the place knows beyond the open row, and a comma; where control does not reach it, that nothing leads there,
 /// since the row may then say all that can be said.
 #[tactic(auto, unfolding(crate::specs::Notes::known_here))]
-fn put_known_here(out: &mut Vec<u8>, place: &Place) -> Result<(), AllocError>
+fn put_known_here(out: &mut Vec<u8>, place: &Place) -> Done
     ensures { OnOk result (out.new.items ≡ out.old.items ++ known_here (place_of place.now)) }
 {
     if !is_reached(place.image, place.marks, place.pc) {
@@ -112,8 +100,7 @@ fn put_known_here(out: &mut Vec<u8>, place: &Place) -> Result<(), AllocError>
 
 /// What is known at the place, and its potential.
 #[tactic(auto, unfolding(crate::specs::Notes::note))]
-pub(crate) fn put_note(out: &mut Vec<u8>, place: &Place) -> Result<(), AllocError>
-    requires { IsPlace (place_of place.now) }
+pub(crate) fn put_note(out: &mut Vec<u8>, place: &Place) -> Done
     ensures { OnOk result (out.new.items ≡ out.old.items ++ note (place_of place.now)) }
 {
     put_note_head(out, place)?;
@@ -123,22 +110,13 @@ pub(crate) fn put_note(out: &mut Vec<u8>, place: &Place) -> Result<(), AllocErro
 
 /// The potential is above the budget.
 #[tactic(auto, unfolding(crate::specs::Notes::budget_words))]
-pub(crate) fn put_budget(
-    out: &mut Vec<u8>,
-    routine: &Routine,
-    potential: &Potential,
-) -> Result<(), AllocError>
+pub(crate) fn put_budget(out: &mut Vec<u8>, routine: &Routine, potential: &Potential) -> Done
     ensures { OnOk result (out.new.items ≡ out.old.items ++ budget_words routine.now potential.now) }
 {
     put_potential(out, potential)?;
-    put_parts(
-        out,
-        &[
-            Part::Text(either(is_one(potential), " is", " are")),
-            Part::Text(" owed at the start of "),
-            Part::Bytes(routine.name_text()),
-            Part::Numbered(", the budget is ", routine.budget as u64),
-        ],
+    put!(out;
+        [either(is_one(potential), " is", " are")] " owed at the start of "
+        bytes(routine.name_text()) ", the budget is " {routine.budget}
     )
 }
 
@@ -151,17 +129,11 @@ fn has_no_coefficient(potential: &Potential) -> bool
 
 /// The least budget that the potential is within, if any is.
 #[tactic(auto, unfolding(crate::specs::Notes::budget_wish))]
-pub(crate) fn put_budget_wish(out: &mut Vec<u8>, potential: &Potential) -> Result<(), AllocError>
+pub(crate) fn put_budget_wish(out: &mut Vec<u8>, potential: &Potential) -> Done
     ensures { OnOk result (out.new.items ≡ out.old.items ++ budget_wish potential.now) }
 {
     if !has_no_coefficient(potential) {
         return Ok(());
     }
-    put_parts(
-        out,
-        &[
-            Part::Numbered(": budget ", potential.constant as u64),
-            Part::Text(" is the least that serves"),
-        ],
-    )
+    put!(out; ": budget " {potential.constant} " is the least that serves")
 }

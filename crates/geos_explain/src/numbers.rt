@@ -5,10 +5,10 @@ ghost use Rattle.geos_text.specs.Parts.{part_text};
 ghost use Rattle.geos_listing.specs.Rows.{row_items};
 ghost use Rattle.geos_explain.specs.Numbers.{either, items_in, is_or_are, are_behind, also_are, label_text, pc_text};
 
+use crate::Done;
 use geos_image::Row;
 use geos_listing::put_items;
-use geos_text::{Part, put_parts};
-use std::alloc::AllocError;
+use geos_text::Part;
 
 /// One text where there is just one thing, else the other.
 pub(crate) fn either(one: bool, single: &'static str, several: &'static str) -> &'static str
@@ -70,17 +70,17 @@ pub(crate) fn written_from(out: &Vec<u8>, before: usize) -> &[u8]
 }
 
 /// That it is or that they are, behind the items that were written from a place on, and what.
-pub(crate) fn put_are(out: &mut Vec<u8>, before: usize, what: &str) -> Result<(), AllocError>
+pub(crate) fn put_are(out: &mut Vec<u8>, before: usize, what: &str) -> Done
     requires { before ≤ length out.old.items }
     ensures { OnOk result (out.new.items ≡ out.old.items ++ are_behind (drop before out.old.items) what.now) }
 {
     let verb = is_or_are(written_from(out, before));
-    put_parts(out, &[Part::Text(verb), Part::Text(what)])
+    put!(out; [verb] [what])
 }
 
 /// The items of the row behind a semicolon, that it is or that they are, and what; nothing for the open row.
 #[tactic(auto, unfolding(crate::specs::Numbers::also_are))]
-pub(crate) fn put_also(out: &mut Vec<u8>, row: &Row, what: &str) -> Result<(), AllocError>
+pub(crate) fn put_also(out: &mut Vec<u8>, row: &Row, what: &str) -> Done
     ensures { OnOk result (out.new.items ≡ out.old.items ++ also_are (row_items row.now) what.now) }
 {
     out.extend_from_slice(b";")?;

@@ -1,7 +1,9 @@
 //! An instruction of a routine, with what is known there.
 
+ghost use Rattle.std.proofs.Props.{props};
 ghost use Rattle.geos_flow.specs.Marks.{Marking};
 ghost use Rattle.geos_explain.specs.Led.{is_reached};
+ghost use Rattle.geos_explain.specs.Standing.{IsPlace, OperandFits-prop};
 
 use crate::filled::Filled;
 use crate::finding::Findings;
@@ -25,4 +27,5 @@ pub(crate) struct Place<'a> {
     /// What control reaches.
     pub marks: &'a Marks,
     ghost marked: { Marking marks.now (is_reached image.now) },
+    ghost is: { IsPlace image.now r routine.now pc i.now } by { Prim.hlevel (props, OperandFits-prop) },
 }

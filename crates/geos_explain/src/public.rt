@@ -6,10 +6,10 @@ ghost use Rattle.geos_explain.specs.Public.{own_only, own_slots, marked_only, ma
 ghost use Rattle.geos_explain.specs.Public.{known_pointers, missing_only, missing_slots, kept_only, kept_slots};
 ghost use Rattle.geos_explain.specs.Public.{entry_faults, missing_words, exit_faults, public_words, NoFaultsWhereItMayEnterAndLeave};
 
+use crate::Done;
 use crate::numbers::put_also;
 use geos_image::{Routine, Row, SlotState};
 use geos_verify::is_empty;
-use std::alloc::AllocError;
 
 /// The slot where it is held and not borrowed, else an empty one.
 fn own_only(state: SlotState) -> SlotState
@@ -110,15 +110,8 @@ fn missing_only(entry: SlotState, exit: SlotState) -> SlotState
 fn missing_slots(row: &Row, exit: &Row) -> Row
     ensures { result ≡ missing_slots row.now exit.now }
 {
-    let [r0, r1, r2, r3] = row.slots;
-    let [x0, x1, x2, x3] = exit.slots;
     let mut missing = Row::open();
-    missing.slots = [
-        missing_only(r0, x0),
-        missing_only(r1, x1),
-        missing_only(r2, x2),
-        missing_only(r3, x3),
-    ];
+    missing.slots = zipped!(missing_only; row.slots, exit.slots; r0 x0, r1 x1, r2 x2, r3 x3);
     missing
 }
 
@@ -137,21 +130,14 @@ fn kept_only(entry: SlotState, exit: SlotState) -> SlotState
 fn kept_slots(entry: &Row, exit: &Row) -> Row
     ensures { result ≡ kept_slots entry.now exit.now }
 {
-    let [e0, e1, e2, e3] = entry.slots;
-    let [x0, x1, x2, x3] = exit.slots;
     let mut kept = Row::open();
-    kept.slots = [
-        kept_only(e0, x0),
-        kept_only(e1, x1),
-        kept_only(e2, x2),
-        kept_only(e3, x3),
-    ];
+    kept.slots = zipped!(kept_only; entry.slots, exit.slots; e0 x0, e1 x1, e2 x2, e3 x3);
     kept
 }
 
 /// What the entry row wants that not every caller from outside has.
 #[tactic(auto, unfolding(crate::specs::Public::entry_faults))]
-fn put_entry_faults(out: &mut Vec<u8>, entry: &Row) -> Result<(), AllocError>
+fn put_entry_faults(out: &mut Vec<u8>, entry: &Row) -> Done
     ensures { OnOk result (out.new.items ≡ out.old.items ++ entry_faults entry.now) }
 {
     put_also(
@@ -174,7 +160,7 @@ fn put_entry_faults(out: &mut Vec<u8>, entry: &Row) -> Result<(), AllocError>
 
 /// Slots that the row has borrowed are missing in the exit row.
 #[tactic(auto, unfolding(crate::specs::Public::missing_words))]
-pub(crate) fn put_missing(out: &mut Vec<u8>, row: &Row, exit: &Row) -> Result<(), AllocError>
+pub(crate) fn put_missing(out: &mut Vec<u8>, row: &Row, exit: &Row) -> Done
     ensures { OnOk result (out.new.items ≡ out.old.items ++ missing_words row.now exit.now) }
 {
     put_also(
@@ -186,7 +172,7 @@ pub(crate) fn put_missing(out: &mut Vec<u8>, row: &Row, exit: &Row) -> Result<()
 
 /// What the exit row lacks of what was borrowed, and what else it holds or knows.
 #[tactic(auto, unfolding(crate::specs::Public::exit_faults))]
-fn put_exit_faults(out: &mut Vec<u8>, entry: &Row, exit: &Row) -> Result<(), AllocError>
+fn put_exit_faults(out: &mut Vec<u8>, entry: &Row, exit: &Row) -> Done
     ensures { OnOk result (out.new.items ≡ out.old.items ++ exit_faults entry.now exit.now) }
 {
     put_missing(out, entry, exit)?;
@@ -200,7 +186,7 @@ fn put_exit_faults(out: &mut Vec<u8>, entry: &Row, exit: &Row) -> Result<(), All
 
 /// How a public routine begins and ends, and what the rows of this one say otherwise.
 #[tactic(auto, unfolding(crate::specs::Public::public_words))]
-pub(crate) fn put_public(out: &mut Vec<u8>, routine: &Routine) -> Result<(), AllocError>
+pub(crate) fn put_public(out: &mut Vec<u8>, routine: &Routine) -> Done
     ensures { OnOk result (out.new.items ≡ out.old.items ++ public_words routine.now) }
 {
     out.extend_from_slice(
@@ -211,6 +197,7 @@ pub(crate) fn put_public(out: &mut Vec<u8>, routine: &Routine) -> Result<(), All
 }
 
 /// Something is said against the rows of a public routine exactly where a caller from outside may not enter or leave by them.
+#[tactic(auto, using(crate::proofs::Outside::no_faults))]
 pub fn rows_without_faults_may_be_public()
     ensures { NoFaultsWhereItMayEnterAndLeave }
 {}

@@ -1,18 +1,17 @@
 //! Which refusals are told at a place.
 
 ghost use Rattle.std.specs.Prelude.{◌≡◌, ◌<◌, ◌++◌, OnOk, Some, count_by, length};
-ghost use Rattle.geos_explain.specs.Places.{IsPlace, explained_of, place_of};
+ghost use Rattle.geos_explain.specs.Places.{explained_of, place_of};
 ghost use Rattle.geos_explain.specs.Told.{is_of_budget, told_rule, is_told, rule_at, most_told, IsFirstUntold};
 ghost use Rattle.geos_explain.specs.Refusals.{more_line, refused_text, refusal_text, is_last, over_line, over_from, over_text, ToldWhereRefused};
 
+use crate::Done;
 use crate::explained::Explained;
 use crate::place::Place;
 use crate::routines::{ExplainedRoutine, place_at};
 use crate::words::put_refusal_line;
 use geos_image::Routine;
-use geos_text::{Part, put_parts};
 use geos_verify::{Rule, over_budget};
-use std::alloc::AllocError;
 
 /// Whether the rule is the one on the budget.
 fn is_of_budget(rule: Rule) -> bool
@@ -84,26 +83,14 @@ pub(crate) fn first_untold(refused: &[Option<Rule>], most: usize) -> usize
 
 /// How many more places are refused from here on.
 #[tactic(auto, unfolding(crate::specs::Refusals::more_line))]
-fn put_more(out: &mut Vec<u8>, more: usize) -> Result<(), AllocError>
+fn put_more(out: &mut Vec<u8>, more: usize) -> Done
     ensures { OnOk result (out.new.items ≡ out.old.items ++ more_line more) }
 {
-    put_parts(
-        out,
-        &[
-            Part::Numbered("; .. and ", more as u64),
-            Part::Text(" more from here on\n"),
-        ],
-    )
+    put!(out; "; .. and " {more} " more from here on\n")
 }
 
 /// What is told where the rule refuses the place: what is wrong, or that others are not told.
-fn put_refused(
-    out: &mut Vec<u8>,
-    explained: &Explained,
-    place: &Place,
-    rule: Rule,
-) -> Result<(), AllocError>
-    requires place { IsPlace (place_of place.now) }
+fn put_refused(out: &mut Vec<u8>, explained: &Explained, place: &Place, rule: Rule) -> Done
     requires image { place.now.image.now ≡ explained.now.image.now }
     requires told { rule_at explained.now.refused.now place.now.pc ≡ Some rule }
     ensures { OnOk result (out.new.items ≡ out.old.items ++ refused_text explained.now.refused.now (place_of place.now) rule) }
@@ -120,13 +107,8 @@ fn put_refused(
 }
 
 /// The same, if a rule refuses the place.
-pub(crate) fn put_refusal(
-    out: &mut Vec<u8>,
-    explained: &Explained,
-    place: &Place,
-) -> Result<(), AllocError>
-    requires place { IsPlace (place_of place.now) }
-    requires image { place.now.image.now ≡ explained.now.image.now }
+pub(crate) fn put_refusal(out: &mut Vec<u8>, explained: &Explained, place: &Place) -> Done
+    requires { place.now.image.now ≡ explained.now.image.now }
     ensures { OnOk result (out.new.items ≡ out.old.items ++ refusal_text explained.now.refused.now (place_of place.now)) }
 {
     match rule_at(explained.refused, place.pc) {
@@ -143,8 +125,7 @@ fn is_last(start: u16, routine: &Routine, pc: u16) -> bool
 }
 
 /// The line of the refusal by the rule on the budget, where it refuses the first place of a routine.
-fn put_over_line(out: &mut Vec<u8>, first: &Place) -> Result<(), AllocError>
-    requires { IsPlace (place_of first.now) }
+fn put_over_line(out: &mut Vec<u8>, first: &Place) -> Done
     ensures { OnOk result (out.new.items ≡ out.old.items ++ over_line (place_of first.now)) }
 {
     if over_budget(first.pc, first.routine, first.pc, first.potential) {
@@ -155,7 +136,7 @@ fn put_over_line(out: &mut Vec<u8>, first: &Place) -> Result<(), AllocError>
 }
 
 /// The same of a routine, which begins at `start`.
-fn put_over_from(out: &mut Vec<u8>, within: &ExplainedRoutine, start: u16) -> Result<(), AllocError>
+fn put_over_from(out: &mut Vec<u8>, within: &ExplainedRoutine, start: u16) -> Done
     requires { start < length within.now.explained.now.image.now.points }
     ensures { OnOk result (out.new.items
         ≡ out.old.items ++ over_from (explained_of within.now.explained.now) within.now.r within.now.routine.now start) }
@@ -166,11 +147,7 @@ fn put_over_from(out: &mut Vec<u8>, within: &ExplainedRoutine, start: u16) -> Re
 
 /// The same behind the last instruction of the routine.
 #[tactic(auto, unfolding(crate::specs::Refusals::over_text))]
-pub(crate) fn put_over_budget(
-    out: &mut Vec<u8>,
-    within: &ExplainedRoutine,
-    pc: u16,
-) -> Result<(), AllocError>
+pub(crate) fn put_over_budget(out: &mut Vec<u8>, within: &ExplainedRoutine, pc: u16) -> Done
     ensures { OnOk result (out.new.items
         ≡ out.old.items ++ over_text (explained_of within.now.explained.now) within.now.r within.now.routine.now pc) }
 {

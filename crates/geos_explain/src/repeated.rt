@@ -1,7 +1,8 @@
 //! Which refusals are told once: that a pointer leads into an empty slot, where that comes about, and not at each instruction behind.
 
-ghost use Rattle.std.specs.Prelude.{◌≡◌, ◌<◌, ◌↔◌, true, IfOk, length};
-ghost use Rattle.geos_explain.specs.Repeated.{brings, names_empty_slot, ComesFromTold, IsRepeated, IsToldOnce, TellsOnce, RepeatedIsToldBefore};
+ghost use Rattle.std.specs.Prelude.{◌≡◌, ◌<◌, ◌↔◌, true, IfOk, length, not};
+ghost use Rattle.geos_explain.specs.Repeated.{brings, names_empty_slot, ComesFromTold, IsRepeated, IsToldOnce, TellsOnce};
+ghost use Rattle.geos_explain.specs.Repeated.{RepeatedIsToldBefore, leads_ahead};
 
 use crate::filled::Filled;
 use crate::refusals::rule_at;
@@ -44,9 +45,6 @@ struct Others<'a> {
 }
 
 impl<'a> Counting for Others<'a> {
-    ghost use Rattle.std.specs.Prelude.{not};
-    ghost use Rattle.geos_explain.specs.Repeated.{brings};
-
     ghost counted = { λ s edge end. not (brings s.image.now s.refused.now s.row.now edge) };
 
     fn counts(&self, edge: Edge, _end: u16) -> bool {
@@ -59,8 +57,6 @@ impl<'a> Counting for Others<'a> {
 struct Ahead {}
 
 impl Counting for Ahead {
-    ghost use Rattle.geos_explain.specs.Repeated.{leads_ahead};
-
     ghost counted = { λ s edge end. leads_ahead edge end };
 
     fn counts(&self, edge: Edge, end: u16) -> bool {

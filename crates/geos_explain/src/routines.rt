@@ -1,7 +1,8 @@
 //! A routine of an image that is explained, and its places.
 
 ghost use Rattle.std.specs.Prelude.{◌≡◌, ◌<◌, length, slice_get, IfSome};
-ghost use Rattle.geos_explain.specs.Places.{HasRoutine, IsPlace, agrees, comes_alike, explained_of, first_or, is_inside, place_at, place_of};
+ghost use Rattle.geos_explain.specs.Standing.{HasRoutine};
+ghost use Rattle.geos_explain.specs.Places.{agrees, comes_alike, explained_of, first_or, is_inside, place_at, place_of};
 ghost use Rattle.geos_verify.specs.Places.{places};
 
 use crate::explained::Explained;
@@ -22,7 +23,6 @@ pub(crate) struct ExplainedRoutine<'a> {
 /// The instruction at a pc.
 pub(crate) fn place_at<'a>(within: &ExplainedRoutine<'a>, pc: u16) -> Place<'a>
     requires { pc < length within.now.explained.now.image.now.points }
-    ensures place { IsPlace (place_of result) }
     ensures image { result.image.now ≡ within.now.explained.now.image.now }
     ensures known { IfSome (slice_get (places within.now.explained.now.image.now) pc)
         (λ known. place_of result ≡ place_at (explained_of within.now.explained.now) within.now.r within.now.routine.now pc known) }
@@ -62,7 +62,6 @@ pub(crate) fn comes_alike(place: &Place, pc: u16) -> bool
 
 /// Whether the pc is that of an instruction of the place's routine.
 pub(crate) fn is_inside(place: &Place, pc: u16) -> bool
-    requires { place.now.r < length place.now.image.now.routines }
     ensures { result ≡ is_inside (place_of place.now) pc }
 {
     has_place(

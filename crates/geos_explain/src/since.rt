@@ -1,10 +1,10 @@
 //! Since where a slot is held at a place.
 
-ghost use Rattle.std.specs.Prelude.{◌≡◌, ◌<◌, length, Some, slice_get};
+ghost use Rattle.std.specs.Prelude.{◌≡◌, ◌<◌, Some, slice_get};
 ghost use Rattle.geos_flow.specs.Marks.{Marking};
-ghost use Rattle.geos_explain.specs.Places.{IsPlace, place_of};
-ghost use Rattle.geos_explain.specs.Since.{holds, keeps_along, is_held_from, leads_held, leads_on};
-ghost use Rattle.geos_explain.specs.Since.{fills_at, also, since_entry, held_since, WhatIsSaidOfSlotsHolds};
+ghost use Rattle.geos_explain.specs.Places.{place_of};
+ghost use Rattle.geos_explain.specs.Since.{holds, keeps_along, is_held_from, leads_held, leads_on, fills_at, named_of, also, since_entry, held_since};
+ghost use Rattle.geos_explain.specs.Since.{WhatIsSaidOfSlotsHolds, stays_held};
 ghost use Rattle.geos_verify.specs.Places.{places};
 
 use crate::led::led_from;
@@ -16,17 +16,13 @@ use geos_verify::{Place as KnownPlace, has_edge, is_empty, slot_state};
 
 /// Since where a slot is held at a place, by the ways there on which it is held all along.
 #[derive(Clone, Copy)]
-pub(crate) enum Since {
-    /// No such way is known.
-    Unknown,
+pub(crate) struct Since {
     /// One leads from the routine's beginning, whose entry row has it held.
-    Entry,
-    /// The same, and one from behind an instruction.
-    EntryOrOther,
-    /// From behind the instruction at one pc.
-    Once(u16),
-    /// From behind several instructions; this is the last in front of the place, else the first.
-    Often(u16),
+    pub entry: bool,
+    /// One leads from behind the instruction at this pc; of several it is the last in front of the place, else the first.
+    pub from: Option<u16>,
+    /// Others lead from behind another instruction.
+    pub again: bool,
 }
 
 /// Whether the slot is held in the row.
@@ -51,13 +47,9 @@ fn keeps_along(place: &Place, a: u8, edge: Edge, point: &KnownPlace) -> bool
 struct Holding<'a> {
     place: &'a Place<'a>,
     a: u8,
-    ghost within: { place.now.r < length place.now.image.now.routines },
 }
 
 impl<'a> Counting for Holding<'a> {
-    ghost use Rattle.geos_explain.specs.Places.{place_of};
-    ghost use Rattle.geos_explain.specs.Since.{stays_held};
-
     ghost counted = { λ s edge end. stays_held (place_of s.place.now) s.a edge };
 
     #[tactic(auto, unfolding(crate::specs::Since::stays_held))]
@@ -75,7 +67,6 @@ impl<'a> Counting for Holding<'a> {
 
 /// The pcs from which a way leads to the place on which the slot is held all along.
 fn held_from(place: &Place, a: u8) -> Marks
-    requires { IsPlace (place_of place.now) }
     ensures { Marking result (is_held_from (place_of place.now) a) }
 {
     let holding = Holding { place, a };
@@ -125,44 +116,51 @@ fn fills_at(place: &Place, a: u8, marks: &Marks, from: u16) -> bool
     }
 }
 
-/// One more such instruction, if the one at the pc is one; of several, the last in front of the place is kept, else the first.
+/// Of such an instruction that is named, if one is, and one more, the one that is named: the last in front of the pc, else the first.
+fn named_of(pc: u16, named: Option<u16>, from: u16) -> u16
+    ensures { result ≡ named_of pc named from }
+{
+    match named {
+        Some(last) => if from < pc { from } else { last },
+        None => from,
+    }
+}
+
+/// One more such instruction, if the one at a pc is one.
 fn also(pc: u16, since: Since, from: u16, here: bool) -> Since
     ensures { result ≡ also pc since from here }
 {
     if !here {
         return since;
     }
-    match since {
-        Since::Unknown => Since::Once(from),
-        Since::Entry | Since::EntryOrOther => Since::EntryOrOther,
-        Since::Once(_) | Since::Often(_) if from < pc => Since::Often(from),
-        Since::Once(last) | Since::Often(last) => Since::Often(last),
+    Since {
+        entry: since.entry,
+        from: Some(named_of(pc, since.from, from)),
+        again: since.from.is_some(),
     }
 }
 
 /// Whether the caller has the slot held, and a way leads so from the routine's beginning.
-fn since_entry(place: &Place, a: u8, marks: &Marks) -> Since
-    requires place { IsPlace (place_of place.now) }
-    requires held { Marking marks.now (is_held_from (place_of place.now) a) }
+fn since_entry(place: &Place, a: u8, marks: &Marks) -> bool
+    requires { Marking marks.now (is_held_from (place_of place.now) a) }
     ensures { result ≡ since_entry (place_of place.now) a }
 {
     let start = usize::from(place.image.start(place.r));
-    if holds(&place.routine.entry, a) && is_held_from(place, a, marks, start) {
-        Since::Entry
-    } else {
-        Since::Unknown
-    }
+    holds(&place.routine.entry, a) && is_held_from(place, a, marks, start)
 }
 
 /// Since where the slot is held at the place.
 #[tactic(auto, unfolding(crate::specs::Since::since_below))]
 pub(crate) fn held_since(place: &Place, a: u8) -> Since
-    requires { IsPlace (place_of place.now) }
     ensures { result ≡ held_since (place_of place.now) a }
 {
     let marks = held_from(place, a);
     let start = place.image.start(place.r);
-    let mut since = since_entry(place, a, &marks);
+    let mut since = Since {
+        entry: since_entry(place, a, &marks),
+        from: None,
+        again: false,
+    };
     for k in 0..place.routine.count {
         let from = start + k;
         since = also(place.pc, since, from, fills_at(place, a, &marks, from));
@@ -174,6 +172,7 @@ pub(crate) fn held_since(place: &Place, a: u8) -> Since
 /// way leads to the place on which it is held all along; where another one is said to be, there is another such; and where the
 /// `in` line is named, the entry row has the slot held, and such a way leads there from the routine's beginning. Where the `in`
 /// line is not named, or no other place is said to be, it is not so.
+#[tactic(auto, using(crate::proofs::Holding::said_of_slots))]
 pub fn what_is_said_of_a_held_slot_holds()
     ensures { WhatIsSaidOfSlotsHolds }
 {}

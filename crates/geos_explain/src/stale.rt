@@ -1,23 +1,26 @@
 //! Which pointers may be stale where they are used, and where and by what they became so.
 
 ghost use Rattle.std.specs.Prelude.{◌≡◌, ◌++◌, OnOk};
-ghost use Rattle.geos_explain.specs.Places.{IsPlace, place_of};
+ghost use Rattle.geos_explain.specs.Places.{place_of};
 ghost use Rattle.geos_explain.specs.Stale.{if_stale, stale_used, pointer_item, refused_on, way_text, meeting_head, meeting_item, named};
-ghost use Rattle.geos_explain.specs.Stale.{name_at, call_loss, moved_words, use_loss, how_lost, lost_by, label_wish, refused_at, unset_words};
-ghost use Rattle.geos_explain.specs.Stale.{unreached_words, merged_words, into_empty_wish, into_empty_words, loss_words, finding_item, stale_words};
+ghost use Rattle.geos_explain.specs.Stale.{name_at, call_loss, moved_words, use_loss, how_lost, lost_by, label_wish, refused_at};
+ghost use Rattle.geos_explain.specs.Stale.{unset_words, unreached_words, merged_words, into_empty_wish, into_empty_words, loss_words};
+ghost use Rattle.geos_explain.specs.Stale.{finding_item, stale_words, if_wanted, first_wanted, forgetting_pointer, unknown_words};
+ghost use Rattle.geos_explain.specs.Stale.{unknown_item};
 
+use crate::Done;
 use crate::filled::Filled;
 use crate::finding::{End, Finding, Meeting, findings_at};
+use crate::forgotten::{Item, forgetting_call};
 use crate::numbers::pc_part;
 use crate::place::Place;
 use crate::uses::slot_behind;
 use crate::ways::{Followed, Way, forgets, is_stale, sets, with_hint};
 use geos_flow::Edge;
-use geos_image::{Instr, Routine, Row};
+use geos_image::{Instr, Row};
 use geos_opcodes::{PointerUse, SlotUse};
-use geos_text::{Part, put_numbered, put_parts};
+use geos_text::{Part, put_numbered};
 use geos_verify::{Place as KnownPlace, pointer_at, uses_at};
-use std::alloc::AllocError;
 
 /// The pointer, where the row knows nothing of it.
 pub(crate) fn if_stale(row: &Row, p: u8) -> Option<u8>
@@ -41,7 +44,7 @@ pub(crate) fn stale_used(i: &Instr, pointer: PointerUse, row: &Row) -> (Option<u
 }
 
 /// The pointer, if there is one.
-fn put_pointer(out: &mut Vec<u8>, pointer: Option<u8>) -> Result<(), AllocError>
+fn put_pointer(out: &mut Vec<u8>, pointer: Option<u8>) -> Done
     ensures { OnOk result (out.new.items ≡ out.old.items ++ pointer_item pointer) }
 {
     match pointer {
@@ -66,51 +69,35 @@ fn refused_on(image: &Filled, way: Way) -> Option<u16>
 
 /// A text, and where a way comes from, and whether its instruction is refused there.
 #[tactic(auto, unfolding(crate::specs::Stale::way_text))]
-fn put_way(out: &mut Vec<u8>, front: &str, place: &Place, way: Way) -> Result<(), AllocError>
+fn put_way(out: &mut Vec<u8>, front: &str, place: &Place, way: Way) -> Done
     ensures { OnOk result (out.new.items ≡ out.old.items ++ (front.now ++ way_text (place_of place.now) way)) }
 {
     let front = Part::Text(front);
     match refused_on(place.image, way) {
-        Some(from) => put_parts(
-            out,
-            &[
-                front,
-                Part::Text(" where"),
-                pc_part(place.lines, from),
-                Part::Text(" is refused"),
-            ],
-        ),
+        Some(from) => put!(out; (front) " where" (pc_part(place.lines, from)) " is refused"),
         None => match way {
-            Way::Entry => put_parts(out, &[front, Part::Text(" the in line")]),
-            Way::Along(edge) => put_parts(out, &[front, pc_part(place.lines, edge.from)]),
+            Way::Entry => put!(out; (front) " the in line"),
+            Way::Along(edge) => put!(out; (front) (pc_part(place.lines, edge.from))),
         },
     }
 }
 
 /// Where ways meet, unless it is here, and that one brings the pointer.
 #[tactic(auto, unfolding(crate::specs::Stale::meeting_head))]
-fn put_meeting_head(out: &mut Vec<u8>, place: &Place, p: u8, to: u16) -> Result<(), AllocError>
+fn put_meeting_head(out: &mut Vec<u8>, place: &Place, p: u8, to: u16) -> Done
     ensures { OnOk result (out.new.items ≡ out.old.items ++ meeting_head (place_of place.now) p to) }
 {
     let pointer = Part::Numbered(" p", p as u64);
     let known = Part::Text(" is known from");
     if to == place.pc {
-        return put_parts(out, &[Part::Text(";"), pointer, known]);
+        return put!(out; ";" (pointer) (known));
     }
-    put_parts(
-        out,
-        &[Part::Text("; at"), pc_part(place.lines, to), pointer, known],
-    )
+    put!(out; "; at" (pc_part(place.lines, to)) (pointer) (known))
 }
 
 /// Where ways meet, if they do, of which one brings the pointer, and another does not.
 #[tactic(auto, unfolding(crate::specs::Stale::meeting_words))]
-fn put_meeting_item(
-    out: &mut Vec<u8>,
-    place: &Place,
-    p: u8,
-    meeting: Option<Meeting>,
-) -> Result<(), AllocError>
+fn put_meeting_item(out: &mut Vec<u8>, place: &Place, p: u8, meeting: Option<Meeting>) -> Done
     ensures { OnOk result (out.new.items ≡ out.old.items ++ meeting_item (place_of place.now) p meeting) }
 {
     match meeting {
@@ -125,23 +112,10 @@ fn put_meeting_item(
 
 /// The instruction at a pc.
 #[tactic(auto, unfolding(crate::specs::Stale::named))]
-fn put_named(
-    out: &mut Vec<u8>,
-    lines: &[u32],
-    from: u16,
-    point: &KnownPlace,
-) -> Result<(), AllocError>
+fn put_named(out: &mut Vec<u8>, lines: &[u32], from: u16, point: &KnownPlace) -> Done
     ensures { OnOk result (out.new.items ≡ out.old.items ++ named lines.now from point.now) }
 {
-    put_parts(
-        out,
-        &[
-            Part::Text("; "),
-            Part::Text(point.instr.opcode.word()),
-            Part::Text(" at"),
-            pc_part(lines, from),
-        ],
-    )
+    put!(out; "; " [point.instr.opcode.word()] " at" (pc_part(lines, from)))
 }
 
 /// The name of a routine, if there is one.
@@ -158,47 +132,33 @@ pub(crate) fn name_at<'a>(image: &'a Filled, r: u16) -> &'a [u8]
 
 /// A call leaves nothing but the exit row, which does not know the pointer.
 #[tactic(auto, unfolding(crate::specs::Stale::call_loss))]
-fn put_call_loss(out: &mut Vec<u8>, image: &Filled, p: u8, r: u16) -> Result<(), AllocError>
+fn put_call_loss(out: &mut Vec<u8>, image: &Filled, p: u8, r: u16) -> Done
     ensures { OnOk result (out.new.items ≡ out.old.items ++ call_loss image.now p r) }
 {
-    put_parts(
-        out,
-        &[
-            Part::Text(" leaves what the out line of "),
-            Part::Bytes(name_at(image, r)),
-            Part::Numbered(" says, and it does not say p", p as u64),
-            Part::Text(": say it in the out line, or fetch it again"),
-        ],
+    put!(out;
+        " leaves what the out line of " bytes(name_at(image, r)) " says, and it does not say p" {p}
+        ": say it in the out line, or fetch it again"
     )
 }
 
 /// An instruction that moves chunks moves what a pointer into slot b leads to, if the blocks of its slot a and of b may be one.
 #[tactic(auto, unfolding(crate::specs::Stale::moved_words))]
-fn put_moved(out: &mut Vec<u8>, p: u8, a: u8, b: u8) -> Result<(), AllocError>
+fn put_moved(out: &mut Vec<u8>, p: u8, a: u8, b: u8) -> Done
     ensures { OnOk result (out.new.items ≡ out.old.items ++ moved_words p a b) }
 {
     let moved = Part::Numbered(" may have moved what is behind p", p as u64);
     if a == b {
-        return put_parts(out, &[moved, Part::Text(": fetch it again")]);
+        return put!(out; (moved) ": fetch it again");
     }
-    put_parts(
-        out,
-        &[
-            moved,
-            Part::Numbered(", since s", a as u64),
-            Part::Numbered(" and s", b as u64),
-            Part::Numbered(
-                " may hold one block: fetch it again, or tell them apart by SNE s",
-                a as u64,
-            ),
-            Part::Numbered(" s", b as u64),
-        ],
+    put!(out;
+        (moved) ", since s" {a} " and s" {b}
+        " may hold one block: fetch it again, or tell them apart by SNE s" {a} " s" {b}
     )
 }
 
 /// What the instruction did to a pointer into slot b by what it does to its slot.
 #[tactic(auto, unfolding(crate::specs::Stale::use_loss))]
-fn put_use_loss(out: &mut Vec<u8>, i: &Instr, slot: SlotUse, p: u8, b: u8) -> Result<(), AllocError>
+fn put_use_loss(out: &mut Vec<u8>, i: &Instr, slot: SlotUse, p: u8, b: u8) -> Done
     ensures { OnOk result (out.new.items ≡ out.old.items ++ use_loss i.now slot p b) }
 {
     let (before, behind) = match slot {
@@ -213,18 +173,18 @@ fn put_use_loss(out: &mut Vec<u8>, i: &Instr, slot: SlotUse, p: u8, b: u8) -> Re
         ),
         _ => (" leaves p", " stale: fetch it again"),
     };
-    put_parts(out, &[Part::Numbered(before, p as u64), Part::Text(behind)])
+    put!(out; (Part::Numbered(before, p as u64)) [behind])
 }
 
 /// How the instruction lost the pointer, at its target or else on the next instruction.
-#[tactic(auto, unfolding(crate::specs::Stale::how_lost, crate::specs::Stale::refused_loss))]
+#[tactic(auto, unfolding(crate::specs::Stale::how_lost))]
 fn put_how_lost(
     out: &mut Vec<u8>,
     image: &Filled,
     followed: Followed,
     branch: bool,
     point: &KnownPlace,
-) -> Result<(), AllocError>
+) -> Done
     ensures { OnOk result (out.new.items ≡ out.old.items ++ how_lost image.now followed branch point.now) }
 {
     let i = &point.instr;
@@ -233,15 +193,9 @@ fn put_how_lost(
     if forgets(i.opcode) {
         put_call_loss(out, image, p, i.imm)
     } else if branch && sets(i, uses.pointer, p) {
-        put_parts(
-            out,
-            &[
-                Part::Numbered(
-                    " goes to its label where it is refused, and has not set p",
-                    p as u64,
-                ),
-                Part::Text(": give it another label"),
-            ],
+        put!(out;
+            " goes to its label where it is refused, and has not set p" {p}
+            ": give it another label"
         )
     } else {
         let b = slot_behind(&with_hint(&point.row, followed), p);
@@ -250,13 +204,8 @@ fn put_how_lost(
 }
 
 /// The instruction lost the pointer on an edge, if there is an instruction.
-#[tactic(auto, unfolding(crate::specs::Stale::lost_by, crate::specs::Stale::lost_point))]
-fn put_lost_by(
-    out: &mut Vec<u8>,
-    place: &Place,
-    followed: Followed,
-    edge: Edge,
-) -> Result<(), AllocError>
+#[tactic(auto, unfolding(crate::specs::Stale::lost_by))]
+fn put_lost_by(out: &mut Vec<u8>, place: &Place, followed: Followed, edge: Edge) -> Done
     ensures { OnOk result (out.new.items ≡ out.old.items ++ lost_by (place_of place.now) followed edge) }
 {
     match place.image.place(edge.from) {
@@ -269,107 +218,60 @@ fn put_lost_by(
 }
 
 /// Another label, if ways meet and an instruction's refusal is the one that does not bring the pointer.
-fn put_label_wish(
-    out: &mut Vec<u8>,
-    place: &Place,
-    meeting: Option<Meeting>,
-) -> Result<(), AllocError>
+fn put_label_wish(out: &mut Vec<u8>, place: &Place, meeting: Option<Meeting>) -> Done
     ensures { OnOk result (out.new.items ≡ out.old.items ++ label_wish (place_of place.now).lines (refused_at (place_of place.now).image meeting)) }
 {
     let Some(m) = meeting else {
         return Ok(());
     };
     match refused_on(place.image, m.lost) {
-        Some(from) => put_parts(
-            out,
-            &[
-                Part::Text(", or give"),
-                pc_part(place.lines, from),
-                Part::Text(" another label"),
-            ],
-        ),
+        Some(from) => put!(out; ", or give" (pc_part(place.lines, from)) " another label"),
         None => Ok(()),
     }
 }
 
 /// The pointer is not set from the routine's beginning on; a caller that is a routine may bring it.
 #[tactic(auto, unfolding(crate::specs::Stale::unset_words))]
-fn put_unset(
-    out: &mut Vec<u8>,
-    place: &Place,
-    p: u8,
-    meeting: Option<Meeting>,
-) -> Result<(), AllocError>
+fn put_unset(out: &mut Vec<u8>, place: &Place, p: u8, meeting: Option<Meeting>) -> Done
     ensures { OnOk result (out.new.items ≡ out.old.items ++ unset_words (place_of place.now) p meeting) }
 {
-    put_parts(
-        out,
-        &[
-            Part::Numbered("; p", p as u64),
-            Part::Text(" is not set on the way from the start of the routine: fetch it first"),
-        ],
-    )?;
+    put!(out; "; p" {p} " is not set on the way from the start of the routine: fetch it first")?;
     put_label_wish(out, place, meeting)?;
     if place.routine.public {
         return Ok(());
     }
-    put_parts(
-        out,
-        &[
-            Part::Numbered(", or say p", p as u64),
-            Part::Text(" in the in line"),
-        ],
-    )
+    put!(out; ", or say p" {p} " in the in line")
 }
 
 /// No way leads to a pc, or here.
 #[tactic(auto, unfolding(crate::specs::Stale::unreached_words))]
-fn put_unreached(out: &mut Vec<u8>, place: &Place, to: u16) -> Result<(), AllocError>
+fn put_unreached(out: &mut Vec<u8>, place: &Place, to: u16) -> Done
     ensures { OnOk result (out.new.items ≡ out.old.items ++ unreached_words (place_of place.now) to) }
 {
     if to == place.pc {
         return out.extend_from_slice(b"; nothing leads here: take it out");
     }
-    put_parts(
-        out,
-        &[
-            Part::Text("; nothing leads to"),
-            pc_part(place.lines, to),
-            Part::Text(": take it out"),
-        ],
-    )
+    put!(out; "; nothing leads to" (pc_part(place.lines, to)) ": take it out")
 }
 
 /// Each way to a pc brings the pointer, which is not known there.
 #[tactic(auto, unfolding(crate::specs::Stale::merged_words))]
-fn put_merged(out: &mut Vec<u8>, place: &Place, p: u8, to: u16) -> Result<(), AllocError>
+fn put_merged(out: &mut Vec<u8>, place: &Place, p: u8, to: u16) -> Done
     ensures { OnOk result (out.new.items ≡ out.old.items ++ merged_words (place_of place.now) p to) }
 {
-    put_parts(
-        out,
-        &[
-            Part::Text("; each way to"),
-            pc_part(place.lines, to),
-            Part::Numbered(" knows p", p as u64),
-            Part::Text(
-                ", and it is not known there, as where it leads into two slots: fetch it again",
-            ),
-        ],
+    put!(out;
+        "; each way to" (pc_part(place.lines, to)) " knows p" {p}
+        ", and it is not known there, as where it leads into two slots: fetch it again"
     )
 }
 
 /// What is to be done where a way brings the pointer into an empty slot.
-fn put_into_empty_wish(out: &mut Vec<u8>, p: u8, way: Way, slot: u8) -> Result<(), AllocError>
+fn put_into_empty_wish(out: &mut Vec<u8>, p: u8, way: Way, slot: u8) -> Done
     ensures { OnOk result (out.new.items ≡ out.old.items ++ into_empty_wish p way slot) }
 {
     match way {
-        Way::Entry => put_parts(
-            out,
-            &[
-                Part::Numbered(": say in the in line what s", slot as u64),
-                Part::Numbered(" holds, or fetch p", p as u64),
-                Part::Text(" first"),
-            ],
+        Way::Entry => put!(out;
+            ": say in the in line what s" {slot} " holds, or fetch p" {p} " first"
         ),
         Way::Along(_) => out.extend_from_slice(b": fetch it again"),
     }
@@ -377,29 +279,16 @@ fn put_into_empty_wish(out: &mut Vec<u8>, p: u8, way: Way, slot: u8) -> Result<(
 
 /// A way brings the pointer into an empty slot.
 #[tactic(auto, unfolding(crate::specs::Stale::into_empty_words))]
-fn put_into_empty(
-    out: &mut Vec<u8>,
-    place: &Place,
-    p: u8,
-    way: Way,
-    slot: u8,
-) -> Result<(), AllocError>
+fn put_into_empty(out: &mut Vec<u8>, place: &Place, p: u8, way: Way, slot: u8) -> Done
     ensures { OnOk result (out.new.items ≡ out.old.items ++ into_empty_words (place_of place.now) p way slot) }
 {
     put_way(out, "; from", place, way)?;
-    put_parts(
-        out,
-        &[
-            Part::Numbered(" p", p as u64),
-            Part::Numbered(" leads into s", slot as u64),
-            Part::Text(", which is empty there"),
-        ],
-    )?;
+    put!(out; " p" {p} " leads into s" {slot} ", which is empty there")?;
     put_into_empty_wish(out, p, way, slot)
 }
 
 /// By what the pointer was lost, or else why it is not known.
-fn put_loss(out: &mut Vec<u8>, place: &Place, p: u8, found: Finding) -> Result<(), AllocError>
+fn put_loss(out: &mut Vec<u8>, place: &Place, p: u8, found: Finding) -> Done
     ensures { OnOk result (out.new.items ≡ out.old.items ++ loss_words (place_of place.now) p found) }
 {
     match found.lost {
@@ -421,7 +310,7 @@ pub(crate) fn put_finding_item(
     place: &Place,
     pointer: Option<u8>,
     finding: Option<Finding>,
-) -> Result<(), AllocError>
+) -> Done
     ensures { OnOk result (out.new.items ≡ out.old.items ++ finding_item (place_of place.now) pointer finding) }
 {
     let Some(p) = pointer else {
@@ -438,8 +327,7 @@ pub(crate) fn put_finding_item(
 
 /// A pointer that the instruction uses may be stale, and where and by what it became so.
 #[tactic(auto, unfolding(crate::specs::Stale::stale_words))]
-pub(crate) fn put_stale(out: &mut Vec<u8>, place: &Place) -> Result<(), AllocError>
-    requires { IsPlace (place_of place.now) }
+pub(crate) fn put_stale(out: &mut Vec<u8>, place: &Place) -> Done
     ensures { OnOk result (out.new.items ≡ out.old.items ++ stale_words (place_of place.now)) }
 {
     let (first, second) = stale_used(place.i, uses_at(place.i).pointer, place.row);
@@ -449,4 +337,57 @@ pub(crate) fn put_stale(out: &mut Vec<u8>, place: &Place) -> Result<(), AllocErr
     out.extend_from_slice(b" may be stale here")?;
     put_finding_item(out, place, first, found.first)?;
     put_finding_item(out, place, second, found.second)
+}
+
+/// The pointer that the exit row wants, where the row knows nothing of it.
+fn if_wanted(row: &Row, exit: &Row, p: u8) -> Option<u8>
+    ensures { result ≡ if_wanted row.now exit.now p }
+{
+    if is_stale(pointer_at(exit, p)) {
+        None
+    } else {
+        if_stale(row, p)
+    }
+}
+
+/// The first of these.
+pub(crate) fn first_wanted(row: &Row, exit: &Row) -> Option<u8>
+    ensures { result ≡ first_wanted row.now exit.now }
+{
+    if_wanted(row, exit, 0)
+        .or(if_wanted(row, exit, 1))
+        .or(if_wanted(row, exit, 2))
+        .or(if_wanted(row, exit, 3))
+}
+
+/// The call that forgets a pointer that the exit row wants, if there is one.
+fn forgetting_pointer(place: &Place, p: u8) -> Option<u16>
+    ensures { result ≡ forgetting_pointer (place_of place.now) p }
+{
+    match pointer_at(&place.routine.exit, p) {
+        Some(pointer) => forgetting_call(place, Item::Leads(p, pointer)),
+        None => None,
+    }
+}
+
+/// Why the pointer is not known, unless a call is said to forget it.
+fn put_unknown(out: &mut Vec<u8>, place: &Place, p: u8) -> Done
+    ensures { OnOk result (out.new.items ≡ out.old.items ++ unknown_words (place_of place.now) p) }
+{
+    if forgetting_pointer(place, p).is_some() {
+        return Ok(());
+    }
+    let found = findings_at(place.findings, place.pc);
+    put_finding_item(out, place, Some(p), found.first)
+}
+
+/// The same of the first pointer that the exit row wants and that is not known, if there is one.
+#[tactic(auto, unfolding(crate::specs::Stale::unknown_item))]
+pub(crate) fn put_unknown_item(out: &mut Vec<u8>, place: &Place) -> Done
+    ensures { OnOk result (out.new.items ≡ out.old.items ++ unknown_item (place_of place.now)) }
+{
+    match first_wanted(place.row, &place.routine.exit) {
+        Some(p) => put_unknown(out, place, p),
+        None => Ok(()),
+    }
 }

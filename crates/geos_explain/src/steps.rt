@@ -1,20 +1,20 @@
 //! What is said where an edge is not paid for.
 
 ghost use Rattle.std.specs.Prelude.{◌≡◌, ◌++◌, OnOk};
-ghost use Rattle.geos_explain.specs.Places.{IsPlace, place_of};
+ghost use Rattle.geos_explain.specs.Places.{place_of};
 ghost use Rattle.geos_explain.specs.Steps.{whole_words, asked_words, asks_along, asks_branching};
 ghost use Rattle.geos_explain.specs.Steps.{paying_item, paying_items, touched_words, last_words, unpaid_words};
 
+use crate::Done;
 use crate::notes::put_steps;
 use crate::numbers::either;
 use crate::place::Place;
 use geos_image::{Opcode, Potential, Routine};
-use geos_text::{Part, put_numbered, put_parts};
+use geos_text::put_numbered;
 use geos_verify::{Asked, asked_along, asked_branching, branches, falls_through};
-use std::alloc::AllocError;
 
 /// What is asked and left in whole, with what each counter must pay, and pays.
-fn put_whole(out: &mut Vec<u8>, asked: &Asked, p: &Potential) -> Result<(), AllocError>
+fn put_whole(out: &mut Vec<u8>, asked: &Asked, p: &Potential) -> Done
     ensures { OnOk result (out.new.items ≡ out.old.items ++ whole_words asked.now p.now) }
 {
     put_steps(out, asked.steps, &asked.coefficients)?;
@@ -24,29 +24,22 @@ fn put_whole(out: &mut Vec<u8>, asked: &Asked, p: &Potential) -> Result<(), Allo
 }
 
 /// What is asked and not left: steps, or else what counters pay, which is told with what each must pay, and pays.
-fn put_asked(out: &mut Vec<u8>, asked: &Asked, p: &Potential) -> Result<(), AllocError>
+fn put_asked(out: &mut Vec<u8>, asked: &Asked, p: &Potential) -> Done
     ensures { OnOk result (out.new.items ≡ out.old.items ++ asked_words asked.now p.now) }
 {
     let left = asked.left(p);
     if asked.steps <= left {
         return put_whole(out, asked, p);
     }
-    put_parts(
-        out,
-        &[
-            Part::Numbered(" ", asked.steps),
-            Part::Text(either(asked.steps == 1, " step", " steps")),
-            Part::Text(either(asked.steps == 1, " is", " are")),
-            Part::Numbered(" owed from here, ", left),
-            Part::Text(either(left == 1, " is", " are")),
-            Part::Text(" left"),
-        ],
+    put!(out;
+        " " {asked.steps} [either(asked.steps == 1, " step", " steps")]
+        [either(asked.steps == 1, " is", " are")] " owed from here, " {left}
+        [either(left == 1, " is", " are")] " left"
     )
 }
 
 /// What the edge to the next instruction asks, if there is one.
 fn asks_along(place: &Place) -> Option<Asked>
-    requires { IsPlace (place_of place.now) }
     ensures { result ≡ asks_along (place_of place.now) }
 {
     if !falls_through(place.i.opcode) {
@@ -60,7 +53,6 @@ fn asks_along(place: &Place) -> Option<Asked>
 
 /// What the edge to the target asks, if there is one.
 fn asks_branching(place: &Place) -> Option<Asked>
-    requires { IsPlace (place_of place.now) }
     ensures { result ≡ asks_branching (place_of place.now) }
 {
     if !branches(place.i.opcode) {
@@ -73,7 +65,7 @@ fn asks_branching(place: &Place) -> Option<Asked>
 }
 
 /// Counter k, where it has a coefficient.
-fn put_paying(out: &mut Vec<u8>, k: usize, n: u32) -> Result<(), AllocError>
+fn put_paying(out: &mut Vec<u8>, k: usize, n: u32) -> Done
     ensures { OnOk result (out.new.items ≡ out.old.items ++ paying_item k n) }
 {
     if n == 0 {
@@ -84,7 +76,7 @@ fn put_paying(out: &mut Vec<u8>, k: usize, n: u32) -> Result<(), AllocError>
 
 /// The counters that have a coefficient.
 #[tactic(auto, unfolding(geos_listing::specs::Rows::texts_below))]
-fn put_all_paying(out: &mut Vec<u8>, coefficients: &[u32; 4]) -> Result<(), AllocError>
+fn put_all_paying(out: &mut Vec<u8>, coefficients: &[u32; 4]) -> Done
     ensures { OnOk result (out.new.items ≡ out.old.items ++ paying_items 4 coefficients.now) }
 {
     for k in 0..coefficients.len() {
@@ -94,24 +86,16 @@ fn put_all_paying(out: &mut Vec<u8>, coefficients: &[u32; 4]) -> Result<(), Allo
 }
 
 /// The routine that is called touches one of the counters that pay behind the call.
-fn put_touched(out: &mut Vec<u8>, callee: &Routine, q: &Potential) -> Result<(), AllocError>
+fn put_touched(out: &mut Vec<u8>, callee: &Routine, q: &Potential) -> Done
     ensures { OnOk result (out.new.items ≡ out.old.items ++ touched_words callee.now q.now) }
 {
-    put_parts(
-        out,
-        &[
-            Part::Text(" "),
-            Part::Bytes(callee.name_text()),
-            Part::Text(" touches a counter that still pays behind the call:"),
-        ],
-    )?;
+    put!(out; " " bytes(callee.name_text()) " touches a counter that still pays behind the call:")?;
     put_all_paying(out, &q.coefficients)
 }
 
 /// What is said where neither edge is unpaid: a return wants a step; a call wants no coefficient
 /// behind it on a counter that the routine touches.
-fn put_last(out: &mut Vec<u8>, place: &Place) -> Result<(), AllocError>
-    requires { IsPlace (place_of place.now) }
+fn put_last(out: &mut Vec<u8>, place: &Place) -> Done
     ensures { OnOk result (out.new.items ≡ out.old.items ++ last_words (place_of place.now) place.now.i.now.opcode) }
 {
     match place.i.opcode {
@@ -126,8 +110,7 @@ fn put_last(out: &mut Vec<u8>, place: &Place) -> Result<(), AllocError>
 
 /// An edge, or the return, is not paid for: the edge to the next instruction is tried first.
 #[tactic(auto, unfolding(crate::specs::Steps::unpaid_words))]
-pub(crate) fn put_unpaid(out: &mut Vec<u8>, place: &Place) -> Result<(), AllocError>
-    requires { IsPlace (place_of place.now) }
+pub(crate) fn put_unpaid(out: &mut Vec<u8>, place: &Place) -> Done
     ensures { OnOk result (out.new.items ≡ out.old.items ++ unpaid_words (place_of place.now)) }
 {
     let p = place.potential;

@@ -1,21 +1,19 @@
 //! How far a pointer that is not known was followed back: which places were passed, where ways met, and where it was lost.
 
-ghost use Rattle.std.specs.Prelude.{◌≡◌, ◌<◌, ◌⊎◌, ℕ, Bool, true, false, Some, None, IfSome, length, slice_get};
+ghost use Rattle.std.specs.Prelude.{◌≡◌, ◌<◌, ◌⊎◌, Bool, true, false, Some, None, IfSome, length, slice_get};
 ghost use Rattle.geos_flow.specs.declared.edge.Edge.{Edge};
 ghost use Rattle.geos_flow.specs.Edges.{end_of};
 ghost use Rattle.geos_verify.specs.Places.{places};
-ghost use Rattle.geos_explain.specs.Places.{IsPlace, comes_alike, place_of};
+ghost use Rattle.geos_explain.specs.Places.{comes_alike, place_of};
 ghost use Rattle.geos_explain.specs.declared.ways.Way.TheVariants.{Along};
 ghost use Rattle.geos_explain.specs.Ways.{empty_on};
-ghost use Rattle.geos_explain.specs.Lost.{IsHint, LacksBehind, LacksFrom, IsWay, IsMeeting, IsEnd};
-ghost use Rattle.geos_explain.specs.Trace.{CanFollow, AreWays, IsFinding, IsSound};
+ghost use Rattle.geos_explain.specs.Lost.{IsHint, LacksBehind, LacksFrom, IsWay, IsMeeting, IsEnd, CanFollow, AreWays, IsFinding, IsSound};
 
 use crate::arrivals::{Arrivals, all_arrivals, arrival};
 use crate::finding::{End, Finding, Loss, Meeting};
-use crate::firsts::{bringing, losing};
 use crate::place::Place;
 use crate::routines::comes_alike;
-use crate::ways::{Followed, Way, empty_on, is_stale, loses};
+use crate::ways::{Followed, Way, bringing, empty_on, is_stale, loses, losing};
 use geos_flow::{Edge, Marks, Pending, end_of, is_marked, mark, no_marks};
 use geos_verify::{Place as KnownPlace, has_edge, pointer_at};
 
@@ -117,7 +115,6 @@ fn note(trace: &mut Trace, tracing: &Tracing, ways: FirstWays)
 
 /// The first ways to a pc, from where the pointer can be lacking; where edges to it begin waits.
 fn ways_to(tracing: &Tracing, waits: &mut Pending, to: u16) -> FirstWays
-    requires tracing { CanFollow tracing.now }
     requires there { to < length tracing.now.place.now.image.now.points }
     requires lacks { LacksFrom (place_of tracing.now.place.now) tracing.now.p to }
     ensures to { result.to ≡ to }
@@ -155,7 +152,6 @@ fn begun(tracing: &Tracing, ways: FirstWays) -> Trace
 
 /// One more place is passed, and where edges to it begin waits.
 fn pass(trace: &mut Trace, tracing: &Tracing, waits: &mut Pending, at: u16)
-    requires tracing { CanFollow tracing.now }
     requires there { at < length tracing.now.place.now.image.now.points }
     requires lacks { LacksFrom (place_of tracing.now.place.now) tracing.now.p at }
     requires sound { IsSound (place_of tracing.now.place.now) tracing.now.p trace.old }
@@ -309,7 +305,6 @@ fn step_aside(trace: &mut Trace, tracing: &Tracing, waits: &mut Pending, meeting
 /// What is found of the pointer: it is followed back from the place until it was lost or ways meet, and from there along the way
 /// that does not bring it until it was lost.
 pub(crate) fn traced(place: &Place, p: u8) -> Finding
-    requires { IsPlace (place_of place.now) }
     ensures { IsFinding (place_of place.now) p result }
 {
     let tracing = Tracing {

@@ -1,34 +1,29 @@
-//! What is wrong with the slots and pointers that an instruction uses.
+//! What is wrong with the slots and pointers that an instruction uses, and what helps.
 
 ghost use Rattle.std.specs.Prelude.{◌≡◌, ◌++◌, OnOk};
-ghost use Rattle.geos_image.specs.Fields.{FieldsFit};
 ghost use Rattle.geos_opcodes.specs.Facts.{uses_of};
-ghost use Rattle.geos_verify.specs.Uses.{OffsetFits};
 ghost use Rattle.geos_explain.specs.Uses.{state_item, nowhere_only, leading_nowhere, nowhere_words, short_words, index_known, index_wanted};
-ghost use Rattle.geos_explain.specs.Uses.{known_bytes, index_words, reach_words, past_words, slot_behind, changed_slot, mark_word, unmarked_words};
-ghost use Rattle.geos_explain.specs.Uses.{not_empty, held_words, kind_wish, mark_wish, unlock_wish, slot_wish, serving, other_item, slot_words};
+ghost use Rattle.geos_explain.specs.Uses.{known_bytes, index_words, slot_behind, changed_slot, mark_word, unmarked_words, not_empty};
+ghost use Rattle.geos_explain.specs.Uses.{held_words, kind_wish, mark_wish, unlock_wish, slot_wish, serving, other_item, slot_words};
+ghost use Rattle.geos_explain.specs.Uses.{bounding, load_tested, store_tested, past_along, past_at, past_words, leads_item, past_item};
+ghost use Rattle.geos_explain.specs.Uses.{ask_wish, index_wish, past_wish};
+ghost use Rattle.geos_image.specs.Fields.{FieldsFit};
+ghost use Rattle.geos_verify.specs.Uses.{OffsetFits};
 
+use crate::Done;
+use crate::forgotten::Item;
 use crate::numbers::{either, is_one_item, written_from};
-use geos_image::{Instr, Pointer, Row, SlotState};
+use geos_image::{Instr, Opcode, Pointer, Row, SlotState};
 use geos_listing::{put_items, state_word};
 use geos_opcodes::{Kind, Offset, PointerUse, SlotUse, Width};
-use geos_text::{Part, put_parts};
 use geos_verify::{bytes_in, leads_nowhere, least_at, pointer_at, reach, slot_state, uses_at};
-use std::alloc::AllocError;
 
 /// A slot, and what the row says that it holds.
 #[tactic(auto, unfolding(crate::specs::Uses::state_item))]
-pub(crate) fn put_state(out: &mut Vec<u8>, a: u8, row: &Row) -> Result<(), AllocError>
+pub(crate) fn put_state(out: &mut Vec<u8>, a: u8, row: &Row) -> Done
     ensures { OnOk result (out.new.items ≡ out.old.items ++ state_item a row.now) }
 {
-    put_parts(
-        out,
-        &[
-            Part::Numbered(" s", a as u64),
-            Part::Text("="),
-            Part::Text(state_word(slot_state(row, a))),
-        ],
-    )
+    put!(out; " s" {a} "=" [state_word(slot_state(row, a))])
 }
 
 /// The pointer, where it leads into an empty slot.
@@ -59,7 +54,7 @@ pub(crate) fn leading_nowhere(row: &Row) -> Row
 
 /// The pointers of the row that lead into empty slots do so.
 #[tactic(auto, unfolding(crate::specs::Uses::nowhere_words, crate::specs::Uses::nowhere_items))]
-pub(crate) fn put_nowhere(out: &mut Vec<u8>, row: &Row) -> Result<(), AllocError>
+pub(crate) fn put_nowhere(out: &mut Vec<u8>, row: &Row) -> Done
     ensures { OnOk result (out.new.items ≡ out.old.items ++ nowhere_words row.now) }
 {
     let before = out.len();
@@ -74,69 +69,34 @@ pub(crate) fn put_nowhere(out: &mut Vec<u8>, row: &Row) -> Result<(), AllocError
 
 /// So many bytes are wanted behind a pointer, and how many are known there.
 #[tactic(auto, unfolding(crate::specs::Uses::short_words))]
-fn put_short(out: &mut Vec<u8>, p: u8, wanted: u32, row: &Row) -> Result<(), AllocError>
+fn put_short(out: &mut Vec<u8>, p: u8, wanted: u32, row: &Row) -> Done
     ensures { OnOk result (out.new.items ≡ out.old.items ++ short_words p wanted row.now) }
 {
     let least = least_at(row, p);
-    put_parts(
-        out,
-        &[
-            Part::Numbered(" ", wanted as u64),
-            Part::Text(either(wanted == 1, " byte", " bytes")),
-            Part::Text(either(wanted == 1, " is", " are")),
-            Part::Numbered(" wanted behind p", p as u64),
-            Part::Numbered(", and ", least as u64),
-            Part::Text(either(least == 1, " is", " are")),
-            Part::Text(" known there"),
-        ],
+    put!(out;
+        " " {wanted} [either(wanted == 1, " byte", " bytes")] [either(wanted == 1, " is", " are")]
+        " wanted behind p" {p} ", and " {least} [either(least == 1, " is", " are")] " known there"
     )
-}
-
-/// The word that is the index of a read or a write, and how high it is at most.
-#[derive(Clone, Copy)]
-pub(crate) struct Index {
-    pub w: u8,
-    pub most: u16,
 }
 
 /// What is known of the word that is the index.
 #[tactic(auto, unfolding(crate::specs::Uses::index_known))]
-fn put_index_known(out: &mut Vec<u8>, index: Index) -> Result<(), AllocError>
-    ensures { OnOk result (out.new.items ≡ out.old.items ++ index_known index.w index.most) }
+fn put_index_known(out: &mut Vec<u8>, w: u8, most: u16) -> Done
+    ensures { OnOk result (out.new.items ≡ out.old.items ++ index_known w most) }
 {
-    if index.most == u16::MAX {
-        return put_parts(
-            out,
-            &[
-                Part::Numbered(" nothing is known of w", index.w as u64),
-                Part::Text(", the index"),
-            ],
-        );
+    if most == u16::MAX {
+        return put!(out; " nothing is known of w" {w} ", the index");
     }
-    put_parts(
-        out,
-        &[
-            Part::Numbered(" w", index.w as u64),
-            Part::Numbered("<=", index.most as u64),
-            Part::Text(" is known of the index"),
-        ],
-    )
+    put!(out; " w" {w} "<=" {most} " is known of the index")
 }
 
 /// What must be known of it for a read or a write so wide; nothing serves where fewer bytes are there.
 #[tactic(auto, unfolding(crate::specs::Uses::index_wanted))]
-fn put_index_wanted(out: &mut Vec<u8>, w: u8, wide: u16, least: u16) -> Result<(), AllocError>
+fn put_index_wanted(out: &mut Vec<u8>, w: u8, wide: u16, least: u16) -> Done
     ensures { OnOk result (out.new.items ≡ out.old.items ++ index_wanted w wide least) }
 {
     if wide <= least {
-        put_parts(
-            out,
-            &[
-                Part::Numbered(", and w", w as u64),
-                Part::Numbered("<=", (least - wide) as u64),
-                Part::Text(" is wanted"),
-            ],
-        )
+        put!(out; ", and w" {w} "<=" {least - wide} " is wanted")
     } else {
         out.extend_from_slice(b", and none is low enough")
     }
@@ -144,71 +104,20 @@ fn put_index_wanted(out: &mut Vec<u8>, w: u8, wide: u16, least: u16) -> Result<(
 
 /// How many bytes are known behind a pointer.
 #[tactic(auto, unfolding(crate::specs::Uses::known_bytes))]
-fn put_known_bytes(out: &mut Vec<u8>, p: u8, least: u16) -> Result<(), AllocError>
+fn put_known_bytes(out: &mut Vec<u8>, p: u8, least: u16) -> Done
     ensures { OnOk result (out.new.items ≡ out.old.items ++ known_bytes p least) }
 {
-    put_parts(
-        out,
-        &[
-            Part::Numbered(": p", p as u64),
-            Part::Numbered(" is known to have ", least as u64),
-            Part::Text(either(least == 1, " byte", " bytes")),
-        ],
-    )
+    put!(out; ": p" {p} " is known to have " {least} [either(least == 1, " byte", " bytes")])
 }
 
 /// An index may be too high for the bytes behind its pointer.
 #[tactic(auto, unfolding(crate::specs::Uses::index_words))]
-fn put_index_words(
-    out: &mut Vec<u8>,
-    index: Index,
-    wide: u16,
-    p: u8,
-    least: u16,
-) -> Result<(), AllocError>
-    ensures { OnOk result (out.new.items ≡ out.old.items ++ index_words index.w index.most wide p least) }
+fn put_index_words(out: &mut Vec<u8>, w: u8, most: u16, wide: u16, p: u8, least: u16) -> Done
+    ensures { OnOk result (out.new.items ≡ out.old.items ++ index_words w most wide p least) }
 {
-    put_index_known(out, index)?;
-    put_index_wanted(out, index.w, wide, least)?;
+    put_index_known(out, w, most)?;
+    put_index_wanted(out, w, wide, least)?;
     put_known_bytes(out, p, least)
-}
-
-/// A read or a write at the offset may reach past the bytes behind its pointer.
-fn put_reach(
-    out: &mut Vec<u8>,
-    i: &Instr,
-    width: Width,
-    offset: Offset,
-    row: &Row,
-) -> Result<(), AllocError>
-    requires { OffsetFits offset i.now }
-    ensures { OnOk result (out.new.items ≡ out.old.items ++ reach_words i.now width offset row.now) }
-{
-    match offset {
-        Offset::Indexed => {
-            let most = row.bounds[usize::from(i.c)];
-            let index = Index { w: i.c, most };
-            put_index_words(out, index, bytes_in(width), i.b, least_at(row, i.b))
-        }
-        _ => put_short(out, i.b, reach(i, width, offset, row), row),
-    }
-}
-
-/// A read or a write may reach past the bytes behind its pointer.
-#[tactic(auto, unfolding(crate::specs::Uses::past_words))]
-pub(crate) fn put_past(out: &mut Vec<u8>, i: &Instr, row: &Row) -> Result<(), AllocError>
-    requires { FieldsFit i.now.opcode i.now }
-    ensures { OnOk result (out.new.items ≡ out.old.items ++ past_words i.now (uses_of i.now.opcode).pointer row.now) }
-{
-    match uses_at(i).pointer {
-        PointerUse::Loads(width, offset) | PointerUse::Stores(width, offset) => {
-            put_reach(out, i, width, offset, row)
-        }
-        _ => {
-            let p = if least_at(row, i.a) < i.imm { i.a } else { i.b };
-            put_short(out, p, u32::from(i.imm), row)
-        }
-    }
 }
 
 /// The slot that a pointer leads into.
@@ -244,22 +153,14 @@ pub(crate) fn mark_word(state: SlotState) -> &'static str
 
 /// A block is changed that may not be marked, and what marks it.
 #[tactic(auto, unfolding(crate::specs::Uses::unmarked_words))]
-pub(crate) fn put_unmarked(out: &mut Vec<u8>, i: &Instr, row: &Row) -> Result<(), AllocError>
+pub(crate) fn put_unmarked(out: &mut Vec<u8>, i: &Instr, row: &Row) -> Done
     ensures { OnOk result (out.new.items ≡ out.old.items ++ unmarked_words i.now (uses_of i.now.opcode).pointer row.now) }
 {
     let a = changed_slot(i, i.opcode.uses().pointer, row);
     let state = slot_state(row, a);
-    put_parts(
-        out,
-        &[
-            Part::Numbered(" s", a as u64),
-            Part::Text("="),
-            Part::Text(state_word(state)),
-            Part::Text(" is changed here, and may not be marked yet: "),
-            Part::Text(mark_word(state)),
-            Part::Numbered(" s", a as u64),
-            Part::Text(" marks it"),
-        ],
+    put!(out;
+        " s" {a} "=" [state_word(state)] " is changed here, and may not be marked yet: "
+        [mark_word(state)] " s" {a} " marks it"
     )
 }
 
@@ -276,19 +177,11 @@ fn not_empty(state: SlotState) -> &'static str
 
 /// A block is locked into a slot that is held.
 #[tactic(auto, unfolding(crate::specs::Uses::held_words, crate::specs::Uses::state_item))]
-pub(crate) fn put_held(out: &mut Vec<u8>, i: &Instr, row: &Row) -> Result<(), AllocError>
+pub(crate) fn put_held(out: &mut Vec<u8>, i: &Instr, row: &Row) -> Done
     ensures { OnOk result (out.new.items ≡ out.old.items ++ held_words i.now row.now) }
 {
     let state = slot_state(row, i.a);
-    put_parts(
-        out,
-        &[
-            Part::Numbered(" s", i.a as u64),
-            Part::Text("="),
-            Part::Text(state_word(state)),
-            Part::Text(not_empty(state)),
-        ],
-    )
+    put!(out; " s" {i.a} "=" [state_word(state)] [not_empty(state)])
 }
 
 /// A block of this kind is wanted.
@@ -363,7 +256,7 @@ fn serving(slot: SlotUse, state: SlotState) -> &'static str
 
 /// The second slot, where there are two.
 #[tactic(auto, unfolding(crate::specs::Uses::other_item))]
-fn put_other(out: &mut Vec<u8>, i: &Instr, slot: SlotUse, row: &Row) -> Result<(), AllocError>
+fn put_other(out: &mut Vec<u8>, i: &Instr, slot: SlotUse, row: &Row) -> Done
     ensures { OnOk result (out.new.items ≡ out.old.items ++ other_item i.now slot row.now) }
 {
     match slot {
@@ -374,7 +267,7 @@ fn put_other(out: &mut Vec<u8>, i: &Instr, slot: SlotUse, row: &Row) -> Result<(
 
 /// A slot is not held as the instruction wants it, and what serves in its place.
 #[tactic(auto, unfolding(crate::specs::Uses::slot_words))]
-pub(crate) fn put_slot(out: &mut Vec<u8>, i: &Instr, row: &Row) -> Result<(), AllocError>
+pub(crate) fn put_slot(out: &mut Vec<u8>, i: &Instr, row: &Row) -> Done
     ensures { OnOk result (out.new.items ≡ out.old.items ++ slot_words i.now (uses_of i.now.opcode).slot row.now) }
 {
     let slot = i.opcode.uses().slot;
@@ -383,5 +276,151 @@ pub(crate) fn put_slot(out: &mut Vec<u8>, i: &Instr, row: &Row) -> Result<(), Al
     let state = slot_state(row, i.a);
     let wish = slot_wish(slot, state);
     let serving = serving(slot, state);
-    put_parts(out, &[Part::Text(wish), Part::Text(serving)])
+    put!(out; [wish] [serving])
+}
+
+/// The word is to be bounded in front of the instruction.
+#[tactic(auto, unfolding(crate::specs::Uses::bounding))]
+pub(crate) fn put_bounding(out: &mut Vec<u8>, w: u8, most: u16) -> Done
+    ensures { OnOk result (out.new.items ≡ out.old.items ++ bounding w most) }
+{
+    put!(out; "; CHK w" {w} " " {most} " L in front of this bounds it")
+}
+
+/// What a read or a write wants that may reach past the bytes behind its pointer.
+#[derive(Clone, Copy)]
+pub(crate) enum Past {
+    /// So many bytes behind the pointer.
+    Bytes(u8, u32),
+    /// An index low enough for so many bytes, which is at most so high; this instruction does the same and tests it.
+    Index(Opcode, u16, u16),
+}
+
+/// The read of this width that tests its index.
+fn load_tested(width: Width) -> Opcode
+    ensures { result ≡ load_tested width }
+{
+    match width {
+        Width::Byte => Opcode::Ldcb,
+        Width::Both => Opcode::Ldcw,
+    }
+}
+
+/// The write of this width that tests its index.
+fn store_tested(width: Width) -> Opcode
+    ensures { result ≡ store_tested width }
+{
+    match width {
+        Width::Byte => Opcode::Stcb,
+        Width::Both => Opcode::Stcw,
+    }
+}
+
+/// What a read or a write at the offset wants, where this instruction does the same and tests its index.
+fn past_along(tested: Opcode, i: &Instr, width: Width, offset: Offset, row: &Row) -> Past
+    requires { OffsetFits offset i.now }
+    ensures { result ≡ past_along tested i.now width offset row.now }
+{
+    match offset {
+        Offset::Indexed => {
+            let most = row.bounds[usize::from(i.c)];
+            Past::Index(tested, bytes_in(width), most)
+        }
+        _ => Past::Bytes(i.b, reach(i, width, offset, row)),
+    }
+}
+
+/// What an instruction wants that may reach past the bytes behind its pointer.
+pub(crate) fn past_at(i: &Instr, row: &Row) -> Past
+    requires { FieldsFit i.now.opcode i.now }
+    ensures { result ≡ past_at i.now (uses_of i.now.opcode).pointer row.now }
+{
+    match uses_at(i).pointer {
+        PointerUse::Loads(width, offset) => past_along(load_tested(width), i, width, offset, row),
+        PointerUse::Stores(width, offset) => past_along(store_tested(width), i, width, offset, row),
+        _ => {
+            let p = if least_at(row, i.a) < i.imm { i.a } else { i.b };
+            Past::Bytes(p, u32::from(i.imm))
+        }
+    }
+}
+
+/// That it may reach past them.
+pub(crate) fn put_past(out: &mut Vec<u8>, i: &Instr, row: &Row, past: Past) -> Done
+    ensures { OnOk result (out.new.items ≡ out.old.items ++ past_words i.now row.now past) }
+{
+    match past {
+        Past::Bytes(p, wanted) => put_short(out, p, wanted, row),
+        Past::Index(_, wide, most) => {
+            put_index_words(out, i.c, most, wide, i.b, least_at(row, i.b))
+        }
+    }
+}
+
+/// What is to be known of the bytes behind a pointer.
+fn leads_item(row: &Row, p: u8, wanted: u32) -> Item
+    ensures { result ≡ leads_item row.now p wanted }
+{
+    let least = if wanted < 65_536 {
+        wanted as u16
+    } else {
+        u16::MAX
+    };
+    let slot = slot_behind(row, p);
+    Item::Leads(p, Pointer { slot, least })
+}
+
+/// What is to be known there: of the index, if some bound of it serves, or else of the bytes behind the pointer.
+pub(crate) fn past_item(i: &Instr, row: &Row, past: Past) -> Item
+    ensures { result ≡ past_item i.now row.now past }
+{
+    let least = least_at(row, i.b);
+    match past {
+        Past::Bytes(p, wanted) => leads_item(row, p, wanted),
+        Past::Index(_, wide, _) => {
+            if wide <= least {
+                Item::Bound(i.c, least - wide)
+            } else {
+                leads_item(row, i.b, u32::from(wide))
+            }
+        }
+    }
+}
+
+/// More bytes are to be asked for where the pointer is set.
+#[tactic(auto, unfolding(crate::specs::Uses::ask_wish))]
+fn put_ask_wish(out: &mut Vec<u8>, p: u8, wanted: u32) -> Done
+    ensures { OnOk result (out.new.items ≡ out.old.items ++ ask_wish p wanted) }
+{
+    if wanted >= 65_536 {
+        return out.extend_from_slice(b"; no chunk is so long");
+    }
+    put!(out; "; ask for " {wanted} " where p" {p} " is set")
+}
+
+/// The index is to be bounded, or else more bytes asked for; or an instruction that tests it serves.
+#[tactic(auto, unfolding(crate::specs::Uses::index_wish))]
+fn put_index_wish(out: &mut Vec<u8>, tested: &str, i: &Instr, wide: u16, least: u16) -> Done
+    ensures { OnOk result (out.new.items ≡ out.old.items ++ index_wish tested.now i.now wide least) }
+{
+    if wide <= least {
+        put_bounding(out, i.c, least - wide)?;
+        put!(out; ", " [tested] " tests it")
+    } else {
+        put!(out;
+            "; ask for " {wide} " or more where p" {i.b} " is set, or " [tested] " tests the index"
+        )
+    }
+}
+
+/// What helps there.
+pub(crate) fn put_past_wish(out: &mut Vec<u8>, i: &Instr, row: &Row, past: Past) -> Done
+    ensures { OnOk result (out.new.items ≡ out.old.items ++ past_wish i.now row.now past) }
+{
+    match past {
+        Past::Bytes(p, wanted) => put_ask_wish(out, p, wanted),
+        Past::Index(tested, wide, _) => {
+            put_index_wish(out, tested.word(), i, wide, least_at(row, i.b))
+        }
+    }
 }

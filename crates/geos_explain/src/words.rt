@@ -2,39 +2,35 @@
 
 ghost use Rattle.std.specs.Prelude.{◌≡◌, ◌≤◌, ◌+◌, ◌++◌, drop, length, OnOk};
 ghost use Rattle.geos_text.specs.Parts.{part_text};
-ghost use Rattle.geos_explain.specs.Places.{IsPlace, place_of};
+ghost use Rattle.geos_explain.specs.Places.{place_of};
 ghost use Rattle.geos_explain.specs.Words.{leaves_words, entry_words, call_here, wanted_behind};
-ghost use Rattle.geos_explain.specs.Words.{wanted_behind_items, branching_words, edge_words, dead_wish, edge_here, why_past, past_here};
-ghost use Rattle.geos_explain.specs.Words.{mark_item, unmarked_here, slot_item, slot_here, call_wish, exit_here, words, refusal_head, refusal_line};
-ghost use Rattle.geos_opcodes.specs.Facts.{uses_of};
+ghost use Rattle.geos_explain.specs.Words.{wanted_behind_items, branching_words, edge_words, edge_here, past_here};
+ghost use Rattle.geos_explain.specs.Words.{unmarked_here, slot_here, call_wish, exit_here, words, refusal_head, refusal_line};
 ghost use Rattle.geos_verify.specs.RuleText.{rule_number};
 
+use crate::Done;
 use crate::budgets::put_over;
-use crate::calls::{put_forgotten, put_forgotten_item, put_forgotten_items, put_lent_items};
-use crate::forgotten::Item;
-use crate::held::put_exit;
-use crate::lacks::{lacking, put_lacking};
+use crate::calls::{put_forgotten, put_forgotten_items, put_lent_items};
+use crate::forgotten::{Item, put_moved_round};
+use crate::held::{put_exit, put_written};
+use crate::lacks::{as_marked, lacking, put_lacking, put_mends};
 use crate::led::is_reached;
-use crate::mends::{as_marked, put_mends};
-use crate::moved::put_moved_round;
 use crate::numbers::{is_or_are, label_part, pc_part, put_are, written_from};
-use crate::past::{past_item, put_past_wish};
 use crate::place::Place;
 use crate::public::put_public;
-use crate::returned::put_unknown_item;
-use crate::stale::put_stale;
+use crate::stale::{put_stale, put_unknown_item};
 use crate::steps::put_unpaid;
-use crate::uses::{changed_slot, put_held, put_nowhere, put_past, put_slot, put_unmarked};
-use crate::written::put_written;
-use geos_image::{Instr, Opcode, Routine, Row};
-use geos_text::{Part, put_parts};
+use crate::uses::{
+    changed_slot, past_at, past_item, put_held, put_nowhere, put_past, put_past_wish, put_slot,
+    put_unmarked,
+};
+use geos_image::{Opcode, Routine, Row};
+use geos_text::Part;
 use geos_verify::{Rule, after, falls_through, has_edge, has_place, is_empty, slot_state};
-use std::alloc::AllocError;
 
 /// Control leaves the routine.
 #[tactic(auto, unfolding(crate::specs::Words::leaves_words))]
-fn put_leaves(out: &mut Vec<u8>, place: &Place) -> Result<(), AllocError>
-    requires { IsPlace (place_of place.now) }
+fn put_leaves(out: &mut Vec<u8>, place: &Place) -> Done
     ensures { OnOk result (out.new.items ≡ out.old.items ++ leaves_words (place_of place.now)) }
 {
     let start = u32::from(place.image.start(place.r));
@@ -42,20 +38,14 @@ fn put_leaves(out: &mut Vec<u8>, place: &Place) -> Result<(), AllocError>
     if falls_through(place.i.opcode) && !has_place(start, place.routine, next) {
         out.extend_from_slice(b" control goes on past the end of the routine")
     } else {
-        put_parts(
-            out,
-            &[
-                label_part(place.lines, place.i.target),
-                Part::Text(" stands outside of the routine"),
-            ],
-        )
+        put!(out; (label_part(place.lines, place.i.target)) " stands outside of the routine")
     }
 }
 
 /// The row wants more than the routine's entry row says, or the routine is public and wants or
 /// leaves what a caller from outside does not have.
 #[tactic(auto, unfolding(crate::specs::Words::entry_words))]
-fn put_entry(out: &mut Vec<u8>, routine: &Routine, row: &Row) -> Result<(), AllocError>
+fn put_entry(out: &mut Vec<u8>, routine: &Routine, row: &Row) -> Done
     ensures { OnOk result (out.new.items ≡ out.old.items ++ entry_words routine.now row.now) }
 {
     let before = out.len();
@@ -67,31 +57,17 @@ fn put_entry(out: &mut Vec<u8>, routine: &Routine, row: &Row) -> Result<(), Allo
 }
 
 /// The items that were written from a place on are wanted by a routine or at a pc.
-fn put_wanted<'a>(
-    out: &mut Vec<u8>,
-    before: usize,
-    at: &'a str,
-    what: Part<'a>,
-) -> Result<(), AllocError>
+fn put_wanted<'a>(out: &mut Vec<u8>, before: usize, at: &'a str, what: Part<'a>) -> Done
     requires { before ≤ length out.old.items }
     ensures { OnOk result (out.new.items ≡ out.old.items ++ wanted_behind_items (drop before out.old.items) at.now (part_text what.entry)) }
 {
     let verb = is_or_are(written_from(out, before));
-    put_parts(
-        out,
-        &[
-            Part::Text(verb),
-            Part::Text(at),
-            what,
-            Part::Text(", and not known here"),
-        ],
-    )
+    put!(out; [verb] [at] (what) ", and not known here")
 }
 
 /// The routine that a call names does not stand before that of the place, or its entry row wants more than the row says.
 #[tactic(auto, unfolding(crate::specs::Words::call_here))]
-fn put_call(out: &mut Vec<u8>, place: &Place) -> Result<(), AllocError>
-    requires { IsPlace (place_of place.now) }
+fn put_call(out: &mut Vec<u8>, place: &Place) -> Done
     ensures { OnOk result (out.new.items ≡ out.old.items ++ call_here (place_of place.now)) }
 {
     let Opcode::Call = place.i.opcode else {
@@ -103,26 +79,13 @@ fn put_call(out: &mut Vec<u8>, place: &Place) -> Result<(), AllocError>
         put_lacking(out, place.row, &callee.entry)?;
         return put_wanted(out, before, " wanted by ", Part::Bytes(callee.name_text()));
     }
-    put_parts(
-        out,
-        &[
-            Part::Text(" "),
-            Part::Bytes(callee.name_text()),
-            Part::Text(" does not stand before this routine"),
-        ],
-    )
+    put!(out; " " bytes(callee.name_text()) " does not stand before this routine")
 }
 
 /// What the row at the pc to which the instruction goes along an edge wants, and what is known behind it does not say; nothing
 /// where it has no such edge.
 #[tactic(auto, unfolding(crate::specs::Words::wanted_at, crate::specs::Words::wanted_behind))]
-fn put_wanted_behind(
-    out: &mut Vec<u8>,
-    place: &Place,
-    branch: bool,
-    to: u16,
-) -> Result<(), AllocError>
-    requires { IsPlace (place_of place.now) }
+fn put_wanted_behind(out: &mut Vec<u8>, place: &Place, branch: bool, to: u16) -> Done
     ensures { OnOk result (out.new.items ≡ out.old.items ++ wanted_behind (place_of place.now) branch to) }
 {
     if !has_edge(place.i, branch) {
@@ -140,8 +103,7 @@ fn put_wanted_behind(
 
 /// A row does not fit that at the end of the edge to the target.
 #[tactic(auto, unfolding(crate::specs::Words::branching_words))]
-fn put_branching(out: &mut Vec<u8>, place: &Place) -> Result<(), AllocError>
-    requires { IsPlace (place_of place.now) }
+fn put_branching(out: &mut Vec<u8>, place: &Place) -> Done
     ensures { OnOk result (out.new.items ≡ out.old.items ++ branching_words (place_of place.now)) }
 {
     let before = out.len();
@@ -156,8 +118,7 @@ fn put_branching(out: &mut Vec<u8>, place: &Place) -> Result<(), AllocError>
 
 /// A row does not fit that at the end of an edge: the edge to the next instruction is tried first.
 #[tactic(auto, unfolding(crate::specs::Words::edge_words))]
-fn put_edge(out: &mut Vec<u8>, place: &Place) -> Result<(), AllocError>
-    requires { IsPlace (place_of place.now) }
+fn put_edge(out: &mut Vec<u8>, place: &Place) -> Done
     ensures { OnOk result (out.new.items ≡ out.old.items ++ edge_words (place_of place.now)) }
 {
     let before = out.len();
@@ -174,10 +135,12 @@ fn put_edge(out: &mut Vec<u8>, place: &Place) -> Result<(), AllocError>
     }
 }
 
-/// Where nothing leads to the instruction, it is to be taken out.
-fn put_dead_wish(out: &mut Vec<u8>, place: &Place) -> Result<(), AllocError>
-    ensures { OnOk result (out.new.items ≡ out.old.items ++ dead_wish (place_of place.now)) }
+/// A row does not fit that at the end of an edge; where nothing leads to the instruction, it is to be taken out.
+#[tactic(auto, unfolding(crate::specs::Words::edge_here))]
+fn put_edge_here(out: &mut Vec<u8>, place: &Place) -> Done
+    ensures { OnOk result (out.new.items ≡ out.old.items ++ edge_here (place_of place.now)) }
 {
+    put_edge(out, place)?;
     if is_reached(place.image, place.marks, place.pc) {
         Ok(())
     } else {
@@ -185,80 +148,47 @@ fn put_dead_wish(out: &mut Vec<u8>, place: &Place) -> Result<(), AllocError>
     }
 }
 
-/// A row does not fit that at the end of an edge, and what helps.
-#[tactic(auto, unfolding(crate::specs::Words::edge_here))]
-fn put_edge_here(out: &mut Vec<u8>, place: &Place) -> Result<(), AllocError>
-    requires { IsPlace (place_of place.now) }
-    ensures { OnOk result (out.new.items ≡ out.old.items ++ edge_here (place_of place.now)) }
-{
-    put_edge(out, place)?;
-    put_dead_wish(out, place)
-}
-
-/// Why what is wanted is not known: an instruction moves the index going round, or a call forgets it.
-#[tactic(auto, unfolding(crate::specs::Words::why_past))]
-fn put_why_past(out: &mut Vec<u8>, place: &Place, item: Item) -> Result<(), AllocError>
-    requires { IsPlace (place_of place.now) }
-    ensures { OnOk result (out.new.items ≡ out.old.items ++ why_past (place_of place.now) item) }
-{
-    put_moved_round(out, place, item)?;
-    put_forgotten(out, place, item)
-}
-
-/// A read or a write may pass the end of what its pointer leads to, why that is not known to be wide enough, and what helps.
+/// A read or a write may pass the end of what its pointer leads to; why that is not known to be wide enough: an instruction moves
+/// the index going round, or a call forgets it; and what helps.
 #[tactic(auto, unfolding(crate::specs::Words::past_here))]
-fn put_past_here(out: &mut Vec<u8>, place: &Place) -> Result<(), AllocError>
-    requires { IsPlace (place_of place.now) }
+fn put_past_here(out: &mut Vec<u8>, place: &Place) -> Done
     ensures { OnOk result (out.new.items ≡ out.old.items ++ past_here (place_of place.now)) }
 {
-    put_past(out, place.i, place.row)?;
-    put_why_past(out, place, past_item(place.i, place.row))?;
-    put_past_wish(out, place.i, place.row)
-}
-
-/// The mark of the slot whose block the instruction changes.
-fn mark_item(i: &Instr, row: &Row) -> Item
-    ensures { result ≡ mark_item i.now (uses_of i.now.opcode).pointer row.now }
-{
-    let a = changed_slot(i, i.opcode.uses().pointer, row);
-    Item::Slot(a, as_marked(slot_state(row, a)))
+    let past = past_at(place.i, place.row);
+    let item = past_item(place.i, place.row, past);
+    put_past(out, place.i, place.row, past)?;
+    put_moved_round(out, place, item)?;
+    put_forgotten(out, place, item)?;
+    put_past_wish(out, place.i, place.row, past)
 }
 
 /// A block is changed that may not be marked, what marks it, and which call forgets the mark.
 #[tactic(auto, unfolding(crate::specs::Words::unmarked_here))]
-fn put_unmarked_here(out: &mut Vec<u8>, place: &Place) -> Result<(), AllocError>
-    requires { IsPlace (place_of place.now) }
+fn put_unmarked_here(out: &mut Vec<u8>, place: &Place) -> Done
     ensures { OnOk result (out.new.items ≡ out.old.items ++ unmarked_here (place_of place.now)) }
 {
     put_unmarked(out, place.i, place.row)?;
-    put_forgotten(out, place, mark_item(place.i, place.row))
-}
-
-/// The slot of the instruction, where it is empty.
-fn slot_item(i: &Instr, row: &Row) -> Option<Item>
-    ensures { result ≡ slot_item i.now row.now }
-{
-    if is_empty(slot_state(row, i.a)) {
-        Some(Item::Held(i.a))
-    } else {
-        None
-    }
+    let a = changed_slot(place.i, place.i.opcode.uses().pointer, place.row);
+    let mark = Item::Slot(a, as_marked(slot_state(place.row, a)));
+    put_forgotten(out, place, mark)
 }
 
 /// A slot is not held as the instruction wants it, and which call forgets what it held.
 #[tactic(auto, unfolding(crate::specs::Words::slot_here))]
-fn put_slot_here(out: &mut Vec<u8>, place: &Place) -> Result<(), AllocError>
-    requires { IsPlace (place_of place.now) }
+fn put_slot_here(out: &mut Vec<u8>, place: &Place) -> Done
     ensures { OnOk result (out.new.items ≡ out.old.items ++ slot_here (place_of place.now)) }
 {
     put_slot(out, place.i, place.row)?;
-    put_forgotten_item(out, place, slot_item(place.i, place.row))
+    if is_empty(slot_state(place.row, place.i.a)) {
+        put_forgotten(out, place, Item::Held(place.i.a))
+    } else {
+        Ok(())
+    }
 }
 
 /// What is to be said of the routine that a call names, which call forgets what that wants, and what makes it known.
 #[tactic(auto, unfolding(crate::specs::Words::call_wish))]
-fn put_call_wish(out: &mut Vec<u8>, place: &Place) -> Result<(), AllocError>
-    requires { IsPlace (place_of place.now) }
+fn put_call_wish(out: &mut Vec<u8>, place: &Place) -> Done
     ensures { OnOk result (out.new.items ≡ out.old.items ++ call_wish (place_of place.now)) }
 {
     let Opcode::Call = place.i.opcode else {
@@ -273,19 +203,9 @@ fn put_call_wish(out: &mut Vec<u8>, place: &Place) -> Result<(), AllocError>
     put_mends(out, place.row, &callee.entry)
 }
 
-/// What is wrong at a call, and what helps.
-fn put_call_here(out: &mut Vec<u8>, place: &Place) -> Result<(), AllocError>
-    requires { IsPlace (place_of place.now) }
-    ensures { OnOk result (out.new.items ≡ out.old.items ++ (call_here (place_of place.now) ++ call_wish (place_of place.now))) }
-{
-    put_call(out, place)?;
-    put_call_wish(out, place)
-}
-
 /// A row does not fit the exit row, which call forgets what that wants, what makes it known, and why a pointer is not.
 #[tactic(auto, unfolding(crate::specs::Words::exit_here))]
-fn put_exit_here(out: &mut Vec<u8>, place: &Place) -> Result<(), AllocError>
-    requires { IsPlace (place_of place.now) }
+fn put_exit_here(out: &mut Vec<u8>, place: &Place) -> Done
     ensures { OnOk result (out.new.items ≡ out.old.items ++ exit_here (place_of place.now)) }
 {
     put_exit(out, place)?;
@@ -296,8 +216,7 @@ fn put_exit_here(out: &mut Vec<u8>, place: &Place) -> Result<(), AllocError>
 
 /// What is wrong at the place, by the rule.
 #[tactic(auto, unfolding(crate::specs::Words::words))]
-fn put_words(out: &mut Vec<u8>, place: &Place, rule: Rule) -> Result<(), AllocError>
-    requires { IsPlace (place_of place.now) }
+fn put_words(out: &mut Vec<u8>, place: &Place, rule: Rule) -> Done
     ensures { OnOk result (out.new.items ≡ out.old.items ++ words (place_of place.now) rule) }
 {
     let (i, row) = (place.i, place.row);
@@ -311,7 +230,10 @@ fn put_words(out: &mut Vec<u8>, place: &Place, rule: Rule) -> Result<(), AllocEr
         Rule::LocksIntoHeld => put_held(out, i, row),
         Rule::WrongSlot => put_slot_here(out, place),
         Rule::CommitsHeld => put_written(out, place),
-        Rule::CallMisfit => put_call_here(out, place),
+        Rule::CallMisfit => {
+            put_call(out, place)?;
+            put_call_wish(out, place)
+        }
         Rule::ExitMisfit => put_exit_here(out, place),
         Rule::EdgeMisfit => put_edge_here(out, place),
         Rule::EdgeUnpaid => put_unpaid(out, place),
@@ -327,24 +249,16 @@ fn rule_number(rule: Rule) -> u64
 }
 
 /// How the line of the refusal by the rule begins.
-fn put_refusal_head(out: &mut Vec<u8>, rule: Rule) -> Result<(), AllocError>
+fn put_refusal_head(out: &mut Vec<u8>, rule: Rule) -> Done
     ensures { OnOk result (out.new.items ≡ out.old.items ++ refusal_head rule) }
 {
     let number = rule_number(rule);
-    put_parts(
-        out,
-        &[Part::Numbered("; refused by V", number), Part::Text(":")],
-    )
+    put!(out; "; refused by V" {number} ":")
 }
 
 /// The line of the refusal by the rule.
 #[tactic(auto, unfolding(crate::specs::Words::refusal_line))]
-pub(crate) fn put_refusal_line(
-    out: &mut Vec<u8>,
-    place: &Place,
-    rule: Rule,
-) -> Result<(), AllocError>
-    requires { IsPlace (place_of place.now) }
+pub(crate) fn put_refusal_line(out: &mut Vec<u8>, place: &Place, rule: Rule) -> Done
     ensures { OnOk result (out.new.items ≡ out.old.items ++ refusal_line (place_of place.now) rule) }
 {
     put_refusal_head(out, rule)?;

@@ -1,7 +1,5 @@
 use Rattle.std.proofs.Common.{arith}
-use Rattle.std.proofs.lemmas.Grind.{common_steps}
-use Rattle.geos_verify.specs.Places.{places}
-use Rattle.geos_verify.proofs.Places.{places-length}
+use Rattle.geos_explain.proofs.Below.{common_steps, places, places-length}
 use Rattle.geos_explain.specs.Places.{explained_of, place_at, place_of}
 use Rattle.geos_explain.specs.Explanation.{point_text, place_text}
 use Rattle.geos_explain.proofs.Told.{told-at}

@@ -1,5 +1,5 @@
-use Rattle.geos_explain.proofs.Forgetting.{said-of-calls}
+use Rattle.geos_explain.proofs.Forgetting.{said_of_calls}
 use Rattle.geos_explain.proofs.forgotten.what_is_said_of_calls_holds.Goals as goal
 
 pub returns : goal.returns
-returns c = said-of-calls
+returns c = said_of_calls

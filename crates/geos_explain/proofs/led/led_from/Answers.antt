@@ -1,7 +1,5 @@
 use Rattle.std.proofs.Common.{◌≡◌, List, Bool, ap, ◌∙◌, subst}
-use Rattle.geos_image.specs.Parts.{Parts}
-use Rattle.geos_flow.specs.Flow.{step_by, MarksWhatIsLed}
-use Rattle.geos_flow.specs.Marks.{no_marks, marked}
+use Rattle.geos_explain.proofs.Below.{Parts, step_by, MarksWhatIsLed, no_marks, marked}
 use Rattle.geos_explain.proofs.Leads.{marks-leads}
 use Rattle.geos_explain.proofs.led.led_from.Goals as goal
 

@@ -1,7 +1,5 @@
 use Rattle.std.proofs.Common.{subst}
-use Rattle.geos_image.specs.Parts.{Parts}
-use Rattle.geos_flow.specs.Flow.{step_by, MarksWhatIsLed}
-use Rattle.geos_flow.specs.declared.search.Heading.TheVariants.{Ahead}
+use Rattle.geos_explain.proofs.Below.{Parts, step_by, MarksWhatIsLed, Ahead}
 use Rattle.geos_explain.specs.Led.{stays}
 use Rattle.geos_explain.proofs.Reached.{marks-reached}
 use Rattle.geos_explain.proofs.led.reached.Goals as goal

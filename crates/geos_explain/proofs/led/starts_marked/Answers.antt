@@ -1,7 +1,5 @@
 use Rattle.std.proofs.Common.{◌≡◌, ◌<◌, ◌+◌, ℕ, Bool, List, length, ap, ◌∙◌, sym, subst, arith}
-use Rattle.geos_flow.specs.Marks.{marked}
-use Rattle.geos_flow.proofs.Marked.{mark-grows, none-full}
-use Rattle.geos_image.specs.Parts.{start_of}
+use Rattle.geos_explain.proofs.Below.{marked, mark-grows, none-full, start_of}
 use Rattle.geos_explain.specs.Led.{MarksStarts}
 use Rattle.geos_explain.proofs.Reached.{starts-none, starts-more}
 use Rattle.geos_explain.proofs.led.starts_marked.Goals as goal

@@ -1,8 +1,6 @@
 use Rattle.std.proofs.Common.{sym}
 use Rattle.std.specs.Prelude.{[], ◌∷◌, codes, decimal}
-use Rattle.std.specs.List.{concat}
-use Rattle.std.proofs.lemmas.List.{append_assoc}
-use Rattle.geos_listing.specs.Instrs.{name_of}
+use Rattle.geos_explain.proofs.Below.{concat, append_assoc, name_of}
 use Rattle.geos_explain.specs.Numbers.{verb}
 use Rattle.geos_explain.specs.Notes.{is_one, potential_text, budget_words}
 use Rattle.geos_explain.proofs.notes.put_budget.Goals as goal

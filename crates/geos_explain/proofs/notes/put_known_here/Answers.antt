@@ -1,7 +1,6 @@
 use Rattle.std.proofs.Common.{◌≡◌, ◌<◌, ◌≤◌, true, length, sym, ◌∙◌, arith}
 use Rattle.std.specs.Prelude.{codes}
-use Rattle.std.proofs.lemmas.Grind.{common_steps}
-use Rattle.geos_listing.specs.Rows.{row_items}
+use Rattle.geos_explain.proofs.Below.{common_steps, row_items}
 use Rattle.geos_explain.specs.Led.{is_reached}
 use Rattle.geos_explain.specs.Notes.{known_text, known_here}
 use Rattle.geos_explain.proofs.Told.{items-none, items-some}

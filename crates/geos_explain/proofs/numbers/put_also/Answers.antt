@@ -1,8 +1,6 @@
 use Rattle.std.proofs.Common.{◌≡◌, ◌++◌, ◌∙◌, ap, append_assoc, arith, false, length}
 use Rattle.std.specs.Prelude.{◌==◌, codes}
-use Rattle.std.proofs.lemmas.Result.{on_ok_weaker}
-use Rattle.geos_listing.specs.Rows.{row_items}
-use Rattle.geos_text.proofs.Texts.{some-written}
+use Rattle.geos_explain.proofs.Below.{on_ok_weaker, row_items, some-written}
 use Rattle.geos_explain.specs.Numbers.{are_behind, are_text, also_are}
 use Rattle.geos_explain.proofs.Told.{behind-items}
 use Rattle.geos_explain.proofs.numbers.put_also.Goals as goal

@@ -1,6 +1,5 @@
 use Rattle.std.proofs.Common.{arith}
-use Rattle.geos_verify.specs.Places.{places}
-use Rattle.geos_verify.proofs.Places.{places-length}
+use Rattle.geos_explain.proofs.Below.{places, places-length}
 use Rattle.geos_explain.specs.Places.{explained_of, place_at, place_of}
 use Rattle.geos_explain.specs.Refusals.{over_line}
 use Rattle.geos_explain.proofs.Told.{told-at}

@@ -1,9 +1,6 @@
 use Rattle.std.proofs.Common.{◌≡◌, ◌∙◌, ◌<◌, Bool, true, false, cond, Option, Some, None, length, refl, sym, ap, inl, inr, ◌⊎◌, arith}
 use Rattle.std.specs.Prelude.{◌↔◌, slice_index_or}
-use Rattle.std.proofs.lemmas.Option.{slice_get_within}
-use Rattle.geos_verify.specs.declared.rule.Rule.{Rule}
-use Rattle.geos_verify.specs.Places.{places}
-use Rattle.geos_verify.proofs.Places.{places-length}
+use Rattle.geos_explain.proofs.Below.{slice_get_within, Rule, places, places-length}
 use Rattle.geos_explain.specs.Told.{is_of_budget, told_rule}
 use Rattle.geos_explain.proofs.refusals.told_where_refused.Goals as goal
 

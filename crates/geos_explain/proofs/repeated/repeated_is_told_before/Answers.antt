@@ -1,5 +1,5 @@
-use Rattle.geos_explain.proofs.Repeating.{repeated-told}
+use Rattle.geos_explain.proofs.Repeating.{repeated_told}
 use Rattle.geos_explain.proofs.repeated.repeated_is_told_before.Goals as goal
 
 pub returns : goal.returns
-returns c = repeated-told
+returns c = repeated_told

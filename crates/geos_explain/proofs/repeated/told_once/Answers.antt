@@ -1,4 +1,4 @@
-use Rattle.std.proofs.Common.{◌≡◌, ◌<◌, [], ◌∷◌, length, length-append, None, get_or, sym, ap, subst, arith}
+use Rattle.std.proofs.Common.{[], ◌∷◌, length, length-append, None, get_or, sym, ap, subst, arith}
 use Rattle.geos_explain.specs.Repeated.{IsToldOnce}
 use Rattle.geos_explain.proofs.Repeating.{one-once}
 use Rattle.geos_explain.proofs.repeated.told_once.Goals as goal

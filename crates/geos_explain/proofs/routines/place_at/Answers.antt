@@ -1,16 +1,14 @@
 use Rattle.std.proofs.Common.{◌≡◌, refl}
-use Rattle.geos_verify.specs.declared.place.Place.{Place as KnownPlace}
-use Rattle.geos_verify.proofs.Known.{by-parts}
-use Rattle.geos_listing.proofs.Limits.{KeepsLimits-at}
+use Rattle.geos_explain.proofs.Below.{KnownPlace, by-parts, KeepsLimits-at}
 use Rattle.geos_explain.specs.Places.{Place, explained_of, place_at}
 use Rattle.geos_explain.proofs.routines.place_at.Goals as goal
 
-pub returns-clause-place : goal.returns-clause-place
-returns-clause-place c =
+pub invariant_of-result-clause-is : goal.invariant_of-result-clause-is
+invariant_of-result-clause-is c =
     let within = c.args.within.now in
     let here = c.instr.ensures in
     record {
-      routine = within.there.within;
+      within = within.there.within;
       room = within.there.room;
       start = within.there.start;
       there = c.requires;

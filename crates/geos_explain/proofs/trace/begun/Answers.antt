@@ -1,7 +1,5 @@
 use Rattle.std.proofs.Common.{◌≡◌, ℕ, Bool, List, sym, ap, ◌∙◌, subst}
-use Rattle.geos_flow.specs.Marks.{no_marks, marked}
-use Rattle.geos_flow.specs.Waiting.{Has}
-use Rattle.geos_flow.proofs.Marked.{none-marked}
+use Rattle.geos_explain.proofs.Below.{no_marks, marked, Has, none-marked}
 use Rattle.geos_explain.specs.Lost.{LacksFrom}
 use Rattle.geos_explain.specs.Places.{place_of}
 use Rattle.geos_explain.proofs.Losing.{marks-more, ways-open}

@@ -1,7 +1,6 @@
 use Rattle.std.proofs.Common.{◌≡◌, true, refl, sym, ap, ◌∙◌}
-use Rattle.geos_image.specs.declared.row.Row.{Row}
-use Rattle.geos_verify.specs.Rows.{pointer_at, is_stale, has_edge}
-use Rattle.geos_explain.specs.Places.{place_of, comes_alike}
+use Rattle.geos_explain.proofs.Below.{Row, pointer_at, is_stale, has_edge}
+use Rattle.geos_explain.specs.Places.{comes_alike, place_of}
 use Rattle.geos_explain.proofs.trace.lacks_on.Goals as goal
 use Rattle.geos_explain.proofs.trace.lacks_on.Goals.{then-comes_alike, else-comes_alike}
 

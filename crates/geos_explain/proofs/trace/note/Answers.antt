@@ -1,11 +1,9 @@
 use Rattle.std.proofs.Common.{◌≡◌, ℕ, None, sym, ap, ◌∙◌, subst}
 use Rattle.std.specs.Prelude.{IfSome}
-use Rattle.geos_flow.specs.Marks.{marked}
-use Rattle.geos_flow.specs.Waiting.{Has}
+use Rattle.geos_explain.proofs.Below.{marked, Has}
 use Rattle.geos_explain.specs.declared.trace.Trace.{Trace}
-use Rattle.geos_explain.specs.Lost.{LacksFrom, IsEnd, IsLost, IsMeeting}
+use Rattle.geos_explain.specs.Lost.{LacksFrom, IsEnd, IsLost, IsMeeting, NamesNothing}
 use Rattle.geos_explain.specs.Places.{place_of}
-use Rattle.geos_explain.specs.Trace.{NamesNothing}
 use Rattle.geos_explain.proofs.Losing.{either-one, marks-more, or-none, some-none}
 use Rattle.geos_explain.proofs.trace.note.Goals as goal
 use Rattle.geos_explain.proofs.trace.note.Goals.{then-is_none+then-is_some, else-is_none}

@@ -1,5 +1,5 @@
 use Rattle.geos_explain.specs.Places.{place_of}
-use Rattle.geos_explain.specs.Trace.{IsSound}
+use Rattle.geos_explain.specs.Lost.{IsSound}
 use Rattle.geos_explain.proofs.trace.step_back.Given as goal
 
 abbrev pub invariant-loop : goal.invariant-loop

@@ -1,9 +1,5 @@
 use Rattle.std.proofs.Common.{◌≡◌, ℕ, ◌∷◌, Some, true, refl, sym, ap, ◌∙◌, subst, arith}
-use Rattle.geos_verify.specs.declared.place.Place.{Place as KnownPlace}
-use Rattle.geos_verify.specs.Places.{places}
-use Rattle.geos_verify.specs.Rows.{has_edge}
-use Rattle.geos_verify.proofs.Places.{found-within, places-length}
-use Rattle.geos_flow.specs.Edges.{end_of}
+use Rattle.geos_explain.proofs.Below.{KnownPlace, places, has_edge, found-within, places-length, end_of}
 use Rattle.geos_explain.specs.declared.ways.Followed.{Followed}
 use Rattle.geos_explain.specs.Lost.{ComesTo}
 use Rattle.geos_explain.specs.Places.{place_of}

@@ -1,6 +1,6 @@
 use Rattle.std.specs.Prelude.{◌≤◌}
 use Rattle.geos_explain.specs.Places.{place_of}
-use Rattle.geos_explain.specs.Trace.{IsSound}
+use Rattle.geos_explain.specs.Lost.{IsSound}
 use Rattle.geos_explain.proofs.trace.sweep_back.Given as goal
 
 abbrev pub invariant-loop-from : goal.invariant-loop-from

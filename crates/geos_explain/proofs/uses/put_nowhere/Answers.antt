@@ -1,7 +1,6 @@
 use Rattle.std.proofs.Common.{arith, ◌≡◌, ℕ, List, Result, Ok, Err, ◌++◌, ◌∙◌, ap}
 use Rattle.std.specs.Prelude.{◌==◌, OnOk, codes, if◌then◌else◌}
-use Rattle.std.specs.Result.{is_ok}
-use Rattle.geos_listing.specs.Rows.{row_items}
+use Rattle.geos_explain.proofs.Below.{is_ok, row_items}
 use Rattle.geos_explain.specs.Numbers.{either, items_in}
 use Rattle.geos_explain.specs.Uses.{leading_nowhere, nowhere_words, nowhere_items}
 use Rattle.geos_explain.proofs.Told.{behind-items}

@@ -1,7 +1,6 @@
 use Rattle.std.proofs.Common.{◌≡◌, true, arith}
 use Rattle.std.specs.Prelude.{nat_lt, codes}
-use Rattle.std.proofs.lemmas.Bool.Decides.{nat_tests}
-use Rattle.geos_listing.specs.Instrs.{name_of}
+use Rattle.geos_explain.proofs.Below.{nat_tests, name_of}
 use Rattle.geos_explain.specs.Places.{place_of}
 use Rattle.geos_explain.specs.Words.{call_here, wanted_behind_items, wanted_words}
 use Rattle.geos_explain.proofs.Told.{behind-items}

@@ -1,12 +1,7 @@
 use Rattle.std.proofs.Common.{◌≡◌, ◌<◌, ℕ, Bool, true, false, length, refl, sym, ap, subst, ◌∙◌, arith}
 use Rattle.std.specs.Prelude.{if◌then◌else◌}
-use Rattle.geos_image.specs.declared.instr.Instr.{Instr}
-use Rattle.geos_image.specs.Keys.{branches, falls_through}
-use Rattle.geos_image.specs.Parts.{Parts}
-use Rattle.geos_verify.specs.Places.{at_place}
-use Rattle.geos_verify.specs.Rows.{at_point, has_edge, HasEdge}
+use Rattle.geos_explain.proofs.Below.{Instr, branches, falls_through, Parts, at_place, at_point, has_edge, HasEdge, at_place-is}
 use Rattle.geos_verify.proofs.Places.{item_at, places-length, place-at}
-use Rattle.geos_verify.proofs.Known.{at_place-is}
 use Rattle.geos_explain.proofs.filled.Filled.behind.Goals as goal
 
 edge-is : (i : Instr) (branch : Bool) → (if branch then branches i.opcode else falls_through i.opcode) ≡ has_edge i branch

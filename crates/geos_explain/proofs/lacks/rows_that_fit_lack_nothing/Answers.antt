@@ -1,5 +1,0 @@
-use Rattle.geos_explain.proofs.Fits.{lacks-nothing}
-use Rattle.geos_explain.proofs.lacks.rows_that_fit_lack_nothing.Goals as goal
-
-pub returns : goal.returns
-returns c = lacks-nothing

@@ -1,5 +1,0 @@
-use Rattle.geos_explain.proofs.Noted.{explanation-listed}
-use Rattle.geos_explain.proofs.listed.explanation_is_listing_with_notes.Goals as goal
-
-pub returns : goal.returns
-returns c = explanation-listed

@@ -1,5 +1,0 @@
-use Rattle.geos_explain.proofs.Outside.{no-faults}
-use Rattle.geos_explain.proofs.public.rows_without_faults_may_be_public.Goals as goal
-
-pub returns : goal.returns
-returns c = no-faults

@@ -1,5 +1,0 @@
-use Rattle.std.proofs.Common.{◌∙◌}
-use Rattle.geos_explain.proofs.since.is_held_from.Goals as goal
-
-pub returns : goal.returns
-returns c = c.is_marked.ensures ∙ c.requires c.args.pc

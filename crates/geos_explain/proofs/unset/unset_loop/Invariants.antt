@@ -1,7 +1,0 @@
-use Rattle.std.specs.Prelude.{◌≡◌}
-use Rattle.geos_explain.specs.Places.{first_of, place_of}
-use Rattle.geos_explain.specs.Unset.{takes_at}
-use Rattle.geos_explain.proofs.unset.unset_loop.Given as goal
-
-abbrev pub invariant-loop-n : goal.invariant-loop-n
-invariant-loop-n l = l.first ≡ first_of (place_of l.place) (takes_at (place_of l.place) l.k) l.n
