@@ -1,0 +1,4 @@
+routine a public budget 9
+        MUNLOCK s4
+        MUNLOCK w0
+        RET

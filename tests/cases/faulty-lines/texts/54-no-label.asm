@@ -1,0 +1,3 @@
+routine a public budget 9
+9x:     RET
+a,b:    RET

@@ -1,0 +1,3 @@
+routine a public budget 9
+        LDI w0 5 , 6
+        RET

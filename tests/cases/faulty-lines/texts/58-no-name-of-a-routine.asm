@@ -1,0 +1,2 @@
+routine
+        RET

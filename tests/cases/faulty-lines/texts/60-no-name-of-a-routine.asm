@@ -1,0 +1,2 @@
+routine 9a public budget 9
+        RET
