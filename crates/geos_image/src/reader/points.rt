@@ -158,11 +158,11 @@ pub(crate) fn instrs_at(
     ensures exact { Gives (λ v. v.items) result (items_at (instr_at routines instrs bytes.now) 10 instrs start) }
     ensures legal { IfOk result (λ v. (list_all (is_instr routines instrs) v.items ≡ true) × (length v.items ≡ instrs)) }
 {
-    let mut code = Vec::new(alloc);
+    let mut code = Vec::with_capacity(alloc, instrs as usize)?;
     let mut at = start;
     for _ in 0..instrs {
         let instr = instr_at(routines, instrs, bytes, at)?;
-        code.push(instr)?;
+        code.push_reserved(instr);
         at += 10;
     }
     Ok(code)
@@ -214,7 +214,7 @@ pub(crate) fn points_at(
     for instr in code {
         row_like(false, bytes, before, at, &mut row)?;
         let potential = potential_at(bytes, at + ROW_LEN)?;
-        points.push(told(instr, &row, potential))?;
+        points.push_reserved(told(instr, &row, potential));
         before = at;
         at += 58;
     }
@@ -239,7 +239,7 @@ pub(crate) fn bare_at(
     let mut at = start;
     for instr in code {
         let potential = potential_at(bytes, at)?;
-        points.push(bare(instr, potential))?;
+        points.push_reserved(bare(instr, potential));
         at += 20;
     }
     Ok(points)
@@ -265,7 +265,7 @@ pub(crate) fn rows_at(
     let mut at = start;
     for _ in 0..count {
         row_like(true, bytes, before, at, &mut row)?;
-        rows.push(row)?;
+        rows.push_reserved(row);
         before = at;
         at += 38;
     }

@@ -8,14 +8,16 @@ use Rattle.geos_image.proofs.reader.points.bare_at.Goals as goal
 pub loop-instr-preserved : goal.loop-instr-preserved
 loop-instr-preserved c = (
   omega arith,
-  rw (c.in_ok-push.ensures.items, c.bare.ensures) (instrs-push c.args.code.now c.loop-instr.points.items c.loop-instr.instr-index _
+  rw (c.push_reserved.ensures.items, c.bare.ensures) (instrs-push c.args.code.now c.loop-instr.points.items c.loop-instr.instr-index _
       None c.in_ok-potential.potential c.loop-instr-test.true c.loop-instr.invariant.1),
-  (λ routines instrs h. rw (c.in_ok-push.ensures.items, c.bare.ensures)
+  (λ routines instrs h. rw (c.push_reserved.ensures.items, c.bare.ensures)
       (points-push true routines instrs c.args.code.now c.loop-instr.points.items c.loop-instr.instr-index _ None c.in_ok-potential.potential
       c.loop-instr-test.true (c.loop-instr.invariant.2 routines instrs) refl h)),
-  rw (c.in_ok-push.ensures.items, c.bare.ensures) (bare-more c.args.bytes.now c.args.code.now _ c.loop-instr.points.items
+  rw (c.push_reserved.ensures.items, c.bare.ensures) (bare-more c.args.bytes.now c.args.code.now _ c.loop-instr.points.items
       c.loop-instr.instr-index c.loop-instr.at _ c.in_ok-potential.potential
       c.loop-instr-test.true (sym c.in_ok-potential.ensures) c.loop-instr.invariant.3),
+  omega (arith, c.push_reserved.ensures.len, c.loop-instr.invariant.4),
+  omega (arith, c.push_reserved.ensures.capacity, c.loop-instr.invariant.5),
 )
 
 pub returns-clause-exact : goal.returns-clause-exact

@@ -1,5 +1,6 @@
-use Rattle.std.proofs.Common.{◌≡◌, ℕ, ◌+◌, ◌*◌, true, take, drop}
+use Rattle.std.proofs.Common.{◌≡◌, ℕ, ◌+◌, ◌*◌, ◌≤◌, length, true, take, drop}
 use Rattle.std.specs.List.{list_all}
+use Rattle.std.specs.Vec.{vec_len, vec_capacity}
 use Rattle.geos_image.specs.Legal.{is_instr, is_point}
 use Rattle.geos_image.specs.Parts.{instrs_of}
 use Rattle.geos_image.specs.Reading.{bare_points_at}
@@ -11,3 +12,4 @@ invariant-loop-instr l = (l.at ≡ l.start + 20 * l.instr-index) × (instrs_of l
     × ((routines instrs : ℕ) → list_all (is_instr routines instrs) (take l.instr-index l.code) ≡ true
     → list_all (is_point true routines instrs) l.points.items ≡ true)
     × (with_front l.points.items (bare_points_at l.bytes (drop l.instr-index l.code) l.at) ≡ bare_points_at l.bytes l.code l.start)
+    × (vec_len l.points ≡ l.instr-index) × (length l.code ≤ vec_capacity l.points)

@@ -10,17 +10,18 @@ loop-instr-preserved c =
     let entry = entry_whole c.args.bytes.now c.loop-instr.at c.row_like.new.row c.in_ok-potential.potential
     c.in_ok-row_like.ensures.exact (sym c.in_ok-potential.ensures) in (
       omega arith,
-      omega (arith, c.in_ok-push.ensures.len),
-      (λ routines instrs h. rw (c.in_ok-push.ensures.items, c.told.ensures)
+      omega (arith, c.push_reserved.ensures.len),
+      (λ routines instrs h. rw (c.push_reserved.ensures.items, c.told.ensures)
           (points-push false routines instrs c.args.code.now c.loop-instr.points.items c.loop-instr.instr-index _
           (Some c.row_like.new.row) c.in_ok-potential.potential
           c.loop-instr-test.true (c.loop-instr.invariant.2 routines instrs) c.in_ok-row_like.ensures.legal h)),
-      rw (c.in_ok-push.ensures.items, c.told.ensures) (points-more c.args.bytes.now c.args.code.now _ c.loop-instr.points.items
+      rw (c.push_reserved.ensures.items, c.told.ensures) (points-more c.args.bytes.now c.args.code.now _ c.loop-instr.points.items
           c.loop-instr.instr-index c.loop-instr.at _ c.row_like.new.row c.in_ok-potential.potential
           c.loop-instr-test.true entry c.loop-instr.invariant.3),
       omega arith,
       (λ behind. c.in_ok-row_like.ensures.exact),
       (λ behind. c.in_ok-row_like.ensures.legal),
+      omega (arith, c.push_reserved.ensures.capacity, c.loop-instr.invariant.7),
     )
 
 pub returns-clause-exact : goal.returns-clause-exact

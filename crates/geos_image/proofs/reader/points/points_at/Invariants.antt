@@ -1,5 +1,6 @@
 use Rattle.std.proofs.Common.{◌≡◌, ℕ, ◌+◌, ◌*◌, ◌<◌, ◌≤◌, length, Ok, true, false, take, drop}
 use Rattle.std.specs.List.{list_all}
+use Rattle.std.specs.Vec.{vec_capacity}
 use Rattle.geos_image.specs.Legal.{is_instr, is_point, is_row}
 use Rattle.geos_image.specs.Reading.{row_at, points_at}
 use Rattle.geos_image.proofs.Items.{with_front}
@@ -11,3 +12,4 @@ invariant-loop-instr l = (l.at ≡ l.start + 58 * l.instr-index) × (length l.po
     → list_all (is_point false routines instrs) l.points.items ≡ true)
     × (with_front l.points.items (points_at l.bytes (drop l.instr-index l.code) l.at) ≡ points_at l.bytes l.code l.start)
     × (l.before ≤ l.at) × (l.before < l.at → row_at false l.bytes l.before ≡ Ok l.row) × (l.before < l.at → is_row false l.row ≡ true)
+    × (length l.code ≤ vec_capacity l.points)

@@ -1,5 +1,6 @@
 use Rattle.std.proofs.Common.{◌≡◌, ◌+◌, ◌-◌, ◌*◌, ◌<◌, ◌≤◌, length, Ok, true}
 use Rattle.std.specs.List.{list_all}
+use Rattle.std.specs.Vec.{vec_capacity}
 use Rattle.geos_image.specs.Legal.{is_row}
 use Rattle.geos_image.specs.Reading.{row_at, items_at}
 use Rattle.geos_image.proofs.Items.{with_front}
@@ -9,3 +10,4 @@ abbrev pub invariant-loop : goal.invariant-loop
 invariant-loop l = (l.at ≡ l.start + 38 * l.counter) × (length l.rows.items ≡ l.counter) × (list_all (is_row true) l.rows.items ≡ true)
     × (with_front l.rows.items (items_at (row_at true l.bytes) 38 (l.count - l.counter) l.at) ≡ items_at (row_at true l.bytes) 38 l.count l.start)
     × (l.before ≤ l.at) × (l.before < l.at → row_at true l.bytes l.before ≡ Ok l.row) × (l.before < l.at → is_row true l.row ≡ true)
+    × (l.count ≤ vec_capacity l.rows)
