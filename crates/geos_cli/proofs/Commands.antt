@@ -9,7 +9,7 @@ use Rattle.geos_cli.specs.declared.script.Command.{Command}
 use Rattle.geos_cli.specs.declared.script.Command.TheVariants as command
 use Rattle.geos_text.specs.Words.{is_empty}
 use Rattle.geos_cli.specs.declared.script.Numbered.{Numbered}
-use Rattle.geos_machine.specs.Runs.{entry_slots}
+use Rattle.geos_entry.specs.Entry.{entry_slots}
 use Rattle.geos_cli.specs.Script.{IsAdmitted, before_blocks, from_blocks, placed, routine_named, registers_of, call_named, how_named, command_of, commands_from, commands_of, is_bad, on_line, said, may_ask}
 
 -- a line that says nothing

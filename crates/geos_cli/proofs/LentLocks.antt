@@ -17,7 +17,7 @@ use Rattle.geos_image.specs.declared.row.SlotState.{SlotState}
 use Rattle.geos_image.specs.declared.row.SlotState.TheVariants.{Empty, Mem, Vm, Db}
 use Rattle.geos_image.specs.declared.routine.Routine.{Routine}
 use Rattle.geos_image.specs.Parts.{Parts}
-use Rattle.geos_machine.specs.Runs.{entry_slots}
+use Rattle.geos_entry.specs.Entry.{entry_slots}
 use Rattle.geos_verify.specs.Lists.{all2}
 use Rattle.geos_verify.proofs.Pairwise.{both}
 use Rattle.geos_semantics.specs.Lending.{given, given_slots}

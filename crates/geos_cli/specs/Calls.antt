@@ -9,7 +9,8 @@ use Rattle.geos_image.specs.Parts.{Parts}
 use Rattle.geos_image.specs.Reading.{image_at}
 use Rattle.geos_verify.specs.Rules.{Accepted}
 use Rattle.geos_image.specs.Legal.{is_own}
-use Rattle.geos_machine.specs.Runs.{admits, entry_slots, Within}
+use Rattle.geos_entry.specs.Entry.{admits, entry_slots}
+use Rattle.geos_machine.specs.Runs.{Within}
 use Rattle.geos_input.specs.declared.fault.ScriptFault.TheVariants.{Write}
 use Rattle.geos_cli.specs.declared.call_fault.CallFault.{CallFault}
 use Rattle.geos_cli.specs.declared.call_fault.CallFault.TheVariants.{BadBlocks, BadWord, Script}

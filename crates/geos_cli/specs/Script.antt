@@ -24,7 +24,8 @@ use Rattle.geos_image.specs.Legal.{text_end, is_own}
 use Rattle.geos_image.specs.Reading.{image_at}
 use Rattle.geos_verify.specs.Rules.{Accepted, FirstRefusal}
 use Rattle.geos_machine.specs.declared.outcome.Outcome.{Outcome}
-use Rattle.geos_machine.specs.Runs.{admits, begin, kept_along, OpensAsOneOf, Ran, Throughout, Within, entry_slots}
+use Rattle.geos_entry.specs.Entry.{admits, entry_slots}
+use Rattle.geos_machine.specs.Runs.{begin, kept_along, OpensAsOneOf, Ran, Throughout, Within}
 use Rattle.geos_text.specs.Words.{most_bytes}
 use Rattle.geos_cli.specs.declared.script.Call.{Call}
 use Rattle.geos_cli.specs.declared.script.Command.{Command}

@@ -5,8 +5,8 @@ ghost use Rattle.geos_verify.specs.Lists.{all2};
 ghost use Rattle.geos_cli.specs.Script.{if_admitted, is_placed, may_ask};
 
 use crate::script::Call;
+use geos_entry::admits_words;
 use geos_image::SlotState;
-use geos_machine::admits_words;
 use geos_verify::Checked;
 
 /// Whether a handle stands for the slot, or 0 where it is not borrowed.
