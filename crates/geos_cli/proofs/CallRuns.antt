@@ -1,8 +1,6 @@
 -- One call that was carried out, or stopped, as the call that words name.
-use Rattle.std.proofs.Common.{◌≡◌, ◌<◌, ◌+◌, ◌∙◌, ℕ, Bool, true, false, List, [], ◌∷◌, length, take, Option, Some, None, Ok, refl, sym, ap, subst, arith}
-use Rattle.std.specs.Prelude.{is_some, nat_lt}
-use Rattle.std.specs.Borrow.{Bor}
-use Rattle.std.proofs.lemmas.List.{length-map, take-map}
+use Rattle.std.proofs.Common.{◌≡◌, ◌∙◌, ℕ, false, List, [], ◌∷◌, Option, Some, None, Ok, refl, sym, subst}
+use Rattle.std.specs.Prelude.{is_some}
 use Rattle.geos_kernel.specs.View.{KernelState}
 use Rattle.geos_image.specs.Parts.{Parts}
 use Rattle.geos_image.specs.Reading.{image_at}
@@ -10,38 +8,19 @@ use Rattle.geos_verify.specs.Rules.{Accepted}
 use Rattle.geos_machine.specs.Runs.{Within}
 use Rattle.geos_input.specs.declared.fault.ScriptFault.{ScriptFault}
 use Rattle.geos_input.specs.declared.fault.ScriptFault.TheVariants.{TooLong, BadHex, BadImage, Rejected, BadScript, Read, Write, Memory}
-use Rattle.geos_cli.specs.declared.call_fault.CallFault.TheVariants.{Script}
-use Rattle.geos_cli.specs.declared.script.Call.{Call}
-use Rattle.geos_cli.specs.declared.script.Command.TheVariants as command
+use Rattle.script_commands.specs.declared.call_fault.CallFault.TheVariants.{Script}
+use Rattle.script_commands.specs.declared.command.Call.{Call}
+use Rattle.script_commands.specs.declared.command.Command.TheVariants as command
 use Rattle.geos_cli.specs.declared.script.Mode.TheVariants.{Lenient}
 use Rattle.geos_cli.specs.declared.script.RefusedCommand.{RefusedCommand}
-use Rattle.geos_cli.specs.Script.{before_blocks, call_named, on_line, From, IsAllowed, IsBadImage, Leads, RanCommands, StoppedCommands}
-use Rattle.geos_cli.proofs.Registers.{before-taken}
-use Rattle.geos_cli.specs.Calls.{texts, Asks, CallEndsBy, RanCall, RunsCall, StoppedCall, StopsCall}
+use Rattle.script_commands.specs.Lines.{call_named, on_line}
+use Rattle.geos_cli.specs.Script.{From, IsAllowed, IsBadImage, Leads, RanCommands, StoppedCommands}
+use Rattle.geos_cli.specs.Calls.{Asks, CallEndsBy, RanCall, RunsCall, StoppedCall, StopsCall}
 
 -- a call that words name is asked for, of an image that was read and accepted
 pub asks : (bytes name : List ℕ) (words : List (List ℕ)) (image : Parts) (found : Option Call) (call : Call)
     → (image_at bytes ≡ Ok image) × Accepted image → found ≡ call_named image name words → found ≡ Some call → Asks bytes name words image call
 asks bytes name words image found call read named is = record { read = read.0; accepted = read.1; named = sym named ∙ is }
-
--- as many texts as words
-pub length-texts : (words : List (Bor (List ℕ))) → length (texts words) ≡ length words
-length-texts words = length-map words (λ word. word.now)
-
--- numbers in front of blocks have none behind them, however many are taken
-pub taken-texts : (k : ℕ) (numbers : List (Bor (List ℕ))) (ws : List (List ℕ)) → before_blocks ws ≡ texts numbers
-    → before_blocks (texts (take k numbers)) ≡ take k (texts numbers)
-taken-texts k numbers ws e =
-    ap before_blocks (sym (take-map (λ word. word.now) k numbers)) ∙ ap (λ ns. before_blocks (take k ns)) (sym e) ∙ before-taken k ws
-    ∙ ap (take k) e
-
--- what holds below a number, and at it
-pub below-more : (P : ℕ → Type 0) (n : ℕ) → ((k : ℕ) → k < n → P k) → P n → (k : ℕ) → k < n + 1 → P k
-below-more P n below here k lt = go (nat_lt k n) refl
-  where
-    go : (b : Bool) → nat_lt k n ≡ b → P k
-    go true e = below k (grind (arith, e))
-    go false e = let same : n ≡ k = grind (arith, e, lt) in subst P same here
 
 pub is-none : {A : Type 0} (o : Option A) → is_some o ≡ false → o ≡ None
 is-none None e = refl

@@ -20,15 +20,18 @@ use Rattle.geos_machine.specs.declared.outcome.Outcome.{Outcome}
 use Rattle.geos_machine.specs.Runs.{begin, kept_along, OpensAsOneOf, RanWith, Throughout, Within}
 use Rattle.geos_kernel.proofs.Chosen.{lasts-on}
 use Rattle.geos_kernel.proofs.Seen.{file-on}
-use Rattle.geos_cli.specs.declared.script.Call.{Call}
-use Rattle.geos_cli.specs.declared.script.Command.{Command}
-use Rattle.geos_cli.specs.declared.script.Command.TheVariants as command
+use Rattle.script_commands.specs.declared.command.Call.{Call}
+use Rattle.script_commands.specs.declared.command.Command.{Command}
+use Rattle.script_commands.specs.declared.command.Command.TheVariants as command
 use Rattle.geos_cli.specs.declared.script.Mode.{Mode}
-use Rattle.geos_cli.specs.declared.script.Numbered.{Numbered}
+use Rattle.script_commands.specs.declared.command.Numbered.{Numbered}
 use Rattle.geos_cli.specs.declared.script.RefusedCommand.{RefusedCommand}
 use Rattle.geos_input.specs.Counted.{AppendsPart}
-use Rattle.geos_cli.specs.Commits.{may_commit, last_may_commit, is_flush_due}
-use Rattle.geos_cli.specs.Script.{printed, committed, commands_of, Does, GoesOn, Prints, PrintsAhead, PrintsPart, PrintsRefused, PrintsTo, PrintsUpTo, From, IsAllowed, Leads, Loads, RunsOn, RunsLent, NotLent, lent_by, RanCommand, RanCommands, RanScript, RunsScript, StoppedCommand, StoppedCommands, StoppedScript, StopsScript, stage_of}
+use Rattle.script_commands.specs.MayCommit.{may_commit, last_may_commit, is_flush_due}
+use Rattle.script_commands.specs.Outputs.{printed, committed}
+use Rattle.geos_cli.specs.Script.{Does, GoesOn, Prints, PrintsAhead, PrintsPart, PrintsRefused, PrintsTo, PrintsUpTo, From, IsAllowed, Leads, Loads, RunsOn, RunsLent, NotLent, RanCommand, RanCommands, RanScript, RunsScript, StoppedCommand, StoppedCommands, StoppedScript, StopsScript, stage_of}
+use Rattle.script_commands.specs.Lines.{commands_of}
+use Rattle.script_commands.specs.Lent.{lent_by}
 use Rattle.geos_text.specs.Words.{most_bytes}
 use Rattle.geos_cli.proofs.Prints.{does-wider, prints-more, ran-wider}
 

@@ -1,7 +1,6 @@
 -- The definitions of scripts and sessions, computed on examples.
 use Rattle.std.proofs.Common.{◌≡◌, ℕ, Bool, true, false, [], ◌∷◌, Some, None, refl}
 use Rattle.std.specs.Prelude.{Err, codes, nat_lt}
-use Rattle.std.specs.Fmt.{digits}
 use Rattle.std.specs.Str.Lines.{lines}
 use Rattle.geos_input.specs.Hex.{hex_fault, image_bytes, script_lines}
 use Rattle.geos_terms.specs.declared.refusal.Refusal.TheVariants as refusal
@@ -11,14 +10,7 @@ use Rattle.geos_calls.specs.Given.{given_memory}
 use Rattle.geos_calls.specs.Memory.{Memory}
 use Rattle.geos_calls.specs.VmCalls.{Keeper, commit, committed, left_by_commit, pair_to_keep}
 use Rattle.geos_calls.specs.VmFile.{Pair, is_unsure, pair_length}
-use Rattle.geos_text.specs.Words.{words}
-use Rattle.geos_cli.specs.Names.{Names, in_place, kept_name, word_of}
-use Rattle.geos_cli.specs.Script.{registers_of}
 use Rattle.geos_cli.specs.Session.{IsInMemory}
-
--- missing numbers of a call are 0
-registers_computed : registers_of (codes "2" ∷ codes "3" ∷ []) ≡ Some (2 ∷ 3 ∷ 0 ∷ 0 ∷ 0 ∷ 0 ∷ 0 ∷ 0 ∷ [])
-registers_computed = refl
 
 -- an image in digits, its three faults, and the script behind it
 pub record Sessions : Type 0 where
@@ -33,42 +25,6 @@ pub record Sessions : Type 0 where
 
 sessions_computed : Sessions
 sessions_computed = record { good = refl; image = refl; script = refl; upper = refl; other = refl; missing = refl; other_first = refl; odd = refl }
-
--- `h` stands for 5
-abbrev h_is_5 : Names
-h_is_5 = (codes "h", Some 5) ∷ []
-
--- lines that write names, and what names stand for
-pub record NamesInLines : Type 0 where
-  -- a name that was set is used, also behind `@`, and other words are as they are
-  pub used : in_place h_is_5 (words (codes "call use $h 07 @$h @3")) ≡ Some (codes " call use 5 07 @5 @3")
-  -- what stands behind `->` is no part of the line
-  pub set : in_place h_is_5 (words (codes "call make 1 -> h")) ≡ Some (codes " call make 1")
-  pub name : kept_name (words (codes "call make 1 -> h")) ≡ Some (codes "h")
-  pub two_names : kept_name (words (codes "call make 1 -> h g")) ≡ None
-  pub no_name : kept_name (words (codes "call make 1 -> -h")) ≡ None
-  -- a name that is used before it is set has no word
-  pub before : in_place [] (words (codes "call use $h")) ≡ None
-  pub before_at : in_place [] (words (codes "call use @$h")) ≡ None
-  pub other : in_place h_is_5 (words (codes "call use $H")) ≡ None
-  -- of two words that are kept under a name the later counts, and none where the last call put out none
-  pub later : word_of (codes "h") ((codes "h", Some 5) ∷ (codes "g", Some 6) ∷ (codes "h", Some 7) ∷ []) ≡ Some 7
-  pub gone : word_of (codes "h") ((codes "h", Some 5) ∷ (codes "h", None) ∷ []) ≡ None
-
-names_computed : NamesInLines
-unfolding digits
-names_computed = record {
-  used = refl;
-  set = refl;
-  name = refl;
-  two_names = refl;
-  no_name = refl;
-  before = refl;
-  before_at = refl;
-  other = refl;
-  later = refl;
-  gone = refl;
-}
 
 -- in a session no commit is refused 11
 pub commit_computed : (keeper : Keeper) (before now : ℕ) (choice : Choice) (memory : Memory) → IsInMemory before now choice

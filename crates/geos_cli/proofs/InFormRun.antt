@@ -12,17 +12,18 @@ use Rattle.geos_machine.specs.Runs.{Throughout}
 use Rattle.geos_input.specs.declared.fault.ScriptFault.{ScriptFault}
 use Rattle.geos_input.specs.declared.fault.ScriptFault.TheVariants.{TooLong, BadHex, BadImage, Rejected, BadScript, Read, Write, Memory}
 use Rattle.geos_input.specs.Counted.{AppendsPart}
-use Rattle.geos_cli.specs.declared.form.Form.{Form}
-use Rattle.geos_cli.specs.declared.script.Command.{Command}
+use Rattle.script_commands.specs.declared.form.Form.{Form}
+use Rattle.script_commands.specs.declared.command.Command.{Command}
 use Rattle.geos_cli.specs.declared.script.Mode.{Mode}
 use Rattle.geos_cli.specs.declared.script.Mode.TheVariants.{Strict}
-use Rattle.geos_cli.specs.declared.script.Numbered.{Numbered}
+use Rattle.script_commands.specs.declared.command.Numbered.{Numbered}
 use Rattle.geos_cli.specs.declared.script.RefusedCommand.{RefusedCommand}
-use Rattle.geos_cli.specs.Forms.{shown_in}
+use Rattle.script_commands.specs.Forms.{shown_in}
 use Rattle.geos_cli.specs.InForm.{RunsPlainly, RanShown, StoppedNext, StoppedShown, RunsInForm, RefusesInForm, RanInForm, StoppedInForm, RanScriptInForm, StoppedScriptInForm, Leaves}
 use Rattle.std.specs.Str.Lines.{lines}
 use Rattle.geos_text.specs.Words.{most_bytes}
-use Rattle.geos_cli.specs.Script.{commands_of, Loads, GoesOn, RanCommand, StoppedCommand, IsBadImage, IsBadLine}
+use Rattle.script_commands.specs.Lines.{commands_of, IsBadLine}
+use Rattle.geos_cli.specs.Script.{Loads, GoesOn, RanCommand, StoppedCommand, IsBadImage}
 use Rattle.geos_cli.specs.WithNames.{RanNoting}
 
 -- a command that was stopped while it printed into memory was carried out all the same

@@ -3,7 +3,7 @@ use Rattle.geos_machine.proofs.LentBlocks.{block-there, there-block}
 use Rattle.block_handles.specs.Names.{slot_of}
 use Rattle.geos_calls.specs.VmFile.{VmFile}
 use Rattle.std.proofs.Common.{◌≡◌, ℕ, ◌+◌, ◌-◌, ◌<◌, ◌≤◌, Bool, true, false, cond, List, [], ◌∷◌, ◌++◌, length, take, drop, drop-cons, add-one, get_or, Option, Some, None, refl, sym, ap, ◌∙◌, subst, arith, true≢false}
-use Rattle.std.specs.Prelude.{Result, Ok, Err, is_none, ◌==◌, IsSome, slice_get, option_map, OnOk, OnErr}
+use Rattle.std.specs.Prelude.{Result, Ok, Err, is_none, ◌==◌, IsSome, option_map, OnOk, OnErr}
 use Rattle.std.specs.List.{AllByRecursion}
 use Rattle.std.proofs.lemmas.Bool.{eq-eqb, eqb-true, eqb-false, and_parts}
 use Rattle.std.proofs.lemmas.List.{take_more}
@@ -15,14 +15,13 @@ use Rattle.geos_calls.specs.Table.{Unlock, Vlock}
 use Rattle.geos_calls.proofs.Leaves.{rows_leave}
 use Rattle.geos_image.specs.declared.row.SlotState.{SlotState}
 use Rattle.geos_image.specs.declared.row.SlotState.TheVariants.{Empty, Mem, Vm, Db}
-use Rattle.geos_image.specs.declared.routine.Routine.{Routine}
-use Rattle.geos_image.specs.Parts.{Parts}
-use Rattle.geos_machine.specs.Runs.{entry_slots}
 use Rattle.geos_verify.specs.Lists.{all2}
 use Rattle.geos_verify.proofs.Pairwise.{both}
 use Rattle.geos_semantics.specs.Lending.{given, given_slots}
 use Rattle.geos_machine.specs.Lent.{has_block, is_handed, Lends}
-use Rattle.geos_cli.specs.Script.{is_placed, lent_handles, once, times}
+use Rattle.script_commands.specs.Lines.{is_placed}
+use Rattle.script_commands.specs.Lent.{lent_handles}
+use Rattle.geos_cli.specs.Script.{once, times}
 use Rattle.geos_terms.specs.declared.name.Name.{Name}
 use Rattle.geos_terms.specs.declared.refusal.Refusal.{Refusal}
 use Rattle.geos_terms.specs.Names.{vm}
@@ -261,7 +260,3 @@ module _ (honest : Type 0) (h : ℕ) (k l : KernelState) (f g : VmFile) (tied : 
     same (vm n),
     same_after (vm n),
   )
-
--- what a routine's entry row says of slots
-pub entry-of : (image : Parts) (r : ℕ) (routine : Routine) → slice_get image.routines r ≡ Some routine → routine.entry.slots ≡ entry_slots image r
-entry-of image r routine e = rw (e, entry_slots) refl

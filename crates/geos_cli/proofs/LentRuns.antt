@@ -1,5 +1,5 @@
 -- Calls of the kernel and runs, one after another, from kernel to kernel.
-use Rattle.std.proofs.Common.{◌≡◌, ◌<◌, ◌+◌, ℕ, List, [], ◌∷◌, ◌++◌, length, take, drop, get_or, refl, sym, ap, ◌∙◌, inl, inr, ⊎_elim, arith, append-nil, append_assoc, suc, take-append-drop, drop-cons}
+use Rattle.std.proofs.Common.{◌<◌, ◌+◌, ℕ, List, [], ◌∷◌, ◌++◌, length, take, drop, get_or, refl, sym, ap, ◌∙◌, inl, inr, ⊎_elim, suc, take-append-drop, drop-cons}
 use Rattle.std.specs.Prelude.{◌↔◌, Result, Ok}
 use Rattle.std.proofs.lemmas.List.{take_more}
 use Rattle.geos_terms.specs.declared.refusal.Refusal.{Refusal}
@@ -10,15 +10,16 @@ use Rattle.vm_file.specs.Device.{Medium}
 use Rattle.geos_kernel.specs.Files.{LeavesKept, Stops}
 use Rattle.geos_kernel.specs.View.{KernelOn, KernelState, IsFileOf}
 use Rattle.geos_kernel.specs.Kernel.{Calls}
-use Rattle.geos_image.specs.declared.row.SlotState.{SlotState}
 use Rattle.geos_image.specs.Parts.{Parts}
 use Rattle.geos_machine.specs.declared.outcome.Outcome.{Outcome}
 use Rattle.geos_machine.specs.Runs.{OpensAsOneOf, Throughout, Within}
 use Rattle.geos_machine.proofs.Stops.{stops-first, stops-on}
 use Rattle.geos_kernel.proofs.Chosen.{lasts-on}
 use Rattle.geos_kernel.proofs.Seen.{file-on}
-use Rattle.geos_cli.specs.declared.script.Call.{Call as ScriptCall}
-use Rattle.geos_cli.specs.Script.{printed, stage_of, Stage, Allows, IsAllowed, Way, Comes, Then, Stays, LocksOne, NotLocked, UnlocksOne, LockedBehind, UnlockedBehind, Locks, Unlocks, lent_handle, lent_handles, lent_by, Leads, RunsOn, RunsLent, NotLent}
+use Rattle.script_commands.specs.declared.command.Call.{Call as ScriptCall}
+use Rattle.script_commands.specs.Outputs.{printed}
+use Rattle.geos_cli.specs.Script.{stage_of, Stage, Allows, IsAllowed, Way, Comes, Then, Stays, LocksOne, NotLocked, UnlocksOne, LockedBehind, UnlockedBehind, Locks, Unlocks, Leads, RunsOn, RunsLent, NotLent}
+use Rattle.script_commands.specs.Lent.{lent_by}
 use Rattle.geos_cli.proofs.Prints.{runs-wider, same-way, unlocked-wider}
 use Rattle.geos_cli.proofs.CommandsRun.{Joins, throughout-then, RunsCall, StopsBetween, allowed-between, one-left, one-right, run-leads}
 
@@ -267,25 +268,3 @@ lent-refused medium old refused new alike handles k in_range why A U =
     })
     (on-unlocked medium old refused new alike (Then (Locks allows (take k handles)) (NotLocked allows (get_or handles k 0) why))
     (take k handles) A U)
-
--- a list of four
-pub four-read : {X : Type 0} (xs : List X) (d : X) → length xs ≡ 4 → xs ≡ get_or xs 0 d ∷ get_or xs 1 d ∷ get_or xs 2 d ∷ get_or xs 3 d ∷ []
-four-read [] d e = absurd (omega (arith, e))
-four-read (a ∷ []) d e = absurd (omega (arith, e))
-four-read (a ∷ b ∷ []) d e = absurd (omega (arith, e))
-four-read (a ∷ b ∷ c ∷ []) d e = absurd (omega (arith, e))
-four-read (a ∷ b ∷ c ∷ x ∷ []) d e = refl
-four-read (a ∷ b ∷ c ∷ x ∷ y ∷ xs) d e = absurd (omega (arith, e))
-
--- handles that are added one after another are those that are lent
-pub lent-four : (a b c d : SlotState) (w x y z : ℕ) (states : List SlotState) (handles none one two three four : List ℕ)
-    → states ≡ a ∷ b ∷ c ∷ d ∷ [] → handles ≡ w ∷ x ∷ y ∷ z ∷ [] → none ≡ []
-    → one ≡ none ++ lent_handle a w → two ≡ one ++ lent_handle b x → three ≡ two ++ lent_handle c y
-    → four ≡ three ++ lent_handle d z → four ≡ lent_handles states handles
-lent-four a b c d w x y z states handles none one two three four s h e first second third fourth =
-    fourth ∙ ap (λ l. l ++ lent_handle d z)
-    (third ∙ ap (λ l. l ++ lent_handle c y) (second ∙ ap (λ l. l ++ lent_handle b x) (first ∙ ap (λ l. l ++ lent_handle a w) e)))
-    ∙ append_assoc (lent_handle a w ++ lent_handle b x) (lent_handle c y) (lent_handle d z)
-    ∙ append_assoc (lent_handle a w) (lent_handle b x) (lent_handle c y ++ lent_handle d z)
-    ∙ ap (λ l. lent_handle a w ++ (lent_handle b x ++ (lent_handle c y ++ l))) (sym (append-nil (lent_handle d z)))
-    ∙ sym (ap (λ l. lent_handles l handles) s ∙ ap (λ l. lent_handles (a ∷ b ∷ c ∷ d ∷ []) l) h)

@@ -12,21 +12,22 @@ use Rattle.geos_machine.specs.Runs.{Throughout}
 use Rattle.geos_text.specs.Words.{words}
 use Rattle.geos_input.specs.declared.fault.ScriptFault.{ScriptFault}
 use Rattle.geos_input.specs.declared.fault.ScriptFault.TheVariants.{TooLong, BadHex, BadImage, Rejected, BadScript, Read, Write, Memory}
-use Rattle.geos_cli.specs.declared.form.Form.{Form}
-use Rattle.geos_cli.specs.declared.named_lines.Line.{Line}
-use Rattle.geos_cli.specs.declared.kept.Kept.{Kept}
-use Rattle.geos_cli.specs.declared.script.Command.{Command}
+use Rattle.script_commands.specs.declared.form.Form.{Form}
+use Rattle.script_commands.specs.declared.named_lines.Line.{Line}
+use Rattle.script_commands.specs.declared.kept.Kept.{Kept}
+use Rattle.script_commands.specs.declared.command.Command.{Command}
 use Rattle.geos_cli.specs.declared.script.Mode.{Mode}
 use Rattle.geos_cli.specs.declared.script.Mode.TheVariants.{Strict}
 use Rattle.geos_cli.specs.declared.script.RefusedCommand.{RefusedCommand}
 use Rattle.geos_cli.specs.declared.with_names.EarlyEnd.{EarlyEnd}
 use Rattle.geos_cli.specs.declared.with_names.EarlyEnd.TheVariants.{Refused, BadLine}
-use Rattle.geos_cli.specs.Forms.{shown_in}
+use Rattle.script_commands.specs.Forms.{shown_in}
 use Rattle.geos_cli.specs.InForm.{Leaves, RanShown, RunsPlainly, StoppedNext}
-use Rattle.geos_cli.specs.Names.{Names, Said, command_in, first_put_out, if_kept, in_place, lines_said, may_keep, names_behind, names_of, said_by}
-use Rattle.geos_cli.specs.Script.{GoesOn, IsAdmitted, RanCommand, command_of}
+use Rattle.script_commands.specs.Names.{Names, Said, command_in, first_put_out, if_kept, in_place, lines_said, may_keep, names_behind, names_of, said_by}
+use Rattle.geos_cli.specs.Script.{GoesOn, RanCommand}
+use Rattle.script_commands.specs.Lines.{IsAdmitted, command_of}
 use Rattle.geos_cli.specs.WithNames.{ComesTo, IsBadNamed, LoadsNamed, RanLines, RanNamedScript, RanNoting, RunsLines, StoppedLines, StoppedNamedScript}
-use Rattle.geos_cli.proofs.Commands.{command_of-admitted}
+use Rattle.script_commands.proofs.Commands.{command_of-admitted}
 
 -- a command ran, and printed into nothing so far; a writer got that in the form, and this is the word that it put out first
 pub noted : {D : Type 0} (medium : Medium D) (form : Form) (image : Parts) (command : Command) (result : Result (Unit {0}) Refusal)

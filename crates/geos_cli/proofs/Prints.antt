@@ -11,12 +11,13 @@ use Rattle.geos_machine.specs.declared.outcome.Outcome.{Outcome}
 use Rattle.geos_machine.specs.Runs.{Ran}
 use Rattle.geos_machine.proofs.Going.{each-wider}
 use Rattle.geos_machine.proofs.KeptSteps.{some-choice}
-use Rattle.geos_cli.specs.declared.script.Command.{Command}
-use Rattle.geos_cli.specs.declared.script.Command.TheVariants as command
+use Rattle.script_commands.specs.declared.command.Command.{Command}
+use Rattle.script_commands.specs.declared.command.Command.TheVariants as command
 use Rattle.geos_cli.specs.declared.script.Mode.{Mode}
-use Rattle.geos_cli.specs.declared.script.Numbered.{Numbered}
-use Rattle.geos_cli.specs.declared.script.Call.{Call as ScriptCall}
-use Rattle.geos_cli.specs.Script.{Allows, Does, GoesOn, Prints, PrintsPart, PrintsUpTo, Stage, Way, Comes, Then, Stays, LocksOne, NotLocked, UnlocksOne, LockedBehind, UnlockedBehind, Locks, Unlocks, RunsOn, lent_by}
+use Rattle.script_commands.specs.declared.command.Numbered.{Numbered}
+use Rattle.script_commands.specs.declared.command.Call.{Call as ScriptCall}
+use Rattle.geos_cli.specs.Script.{Allows, Does, GoesOn, Prints, PrintsPart, PrintsUpTo, Stage, Way, Comes, Then, Stays, LocksOne, NotLocked, UnlocksOne, LockedBehind, UnlockedBehind, Locks, Unlocks, RunsOn}
+use Rattle.script_commands.specs.Lent.{lent_by}
 
 -- one more command prints behind the others, where they left it, and the script goes on
 pub prints-more : (mode : Mode) (allows : Allows) (image : Parts) (commands : List Numbered) (before between after : Stage)

@@ -20,7 +20,8 @@ use Rattle.geos_semantics.specs.Faults.{is_fault}
 use Rattle.geos_semantics.specs.Model.{Outcome, Fault, Next, Done, Ending, Faulted, Returned, begun, exec, in_routine, tried, step_at, step, run}
 use Rattle.geos_verify.proofs.Leads.{may_call}
 use Rattle.geos_machine.specs.Runs.{begin, kept_along}
-use Rattle.geos_cli.specs.Commits.{commits_at, OtherCallsKeep}
+use Rattle.script_commands.specs.MayCommit.{commits_at}
+use Rattle.geos_cli.specs.Commits.{OtherCallsKeep}
 use Rattle.geos_cli.proofs.StepsKeep.{IsUpTo, Keeps, exec-keeps}
 
 -- none of the first points commits

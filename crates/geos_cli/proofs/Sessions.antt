@@ -15,7 +15,8 @@ use Rattle.geos_kernel.specs.View.{KernelOn, KernelState, SeesDevice, failed_in,
 use Rattle.geos_image.specs.Parts.{Parts}
 use Rattle.geos_input.specs.Hex.{hex_fault, image_bytes, script_lines, IsBadHex}
 use Rattle.geos_cli.specs.declared.script.Mode.TheVariants.{Lenient}
-use Rattle.geos_cli.specs.Script.{commands_of, EndsBy, IsAllowed, Loads, RanScript, Runs, RunsScript, ScriptEndsBy, Stage, StoppedScript, Stops, stage_of}
+use Rattle.script_commands.specs.Lines.{commands_of}
+use Rattle.geos_cli.specs.Script.{EndsBy, IsAllowed, Loads, RanScript, Runs, RunsScript, ScriptEndsBy, Stage, StoppedScript, Stops, stage_of}
 use Rattle.geos_text.specs.Words.{most_bytes}
 use Rattle.geos_input.specs.Reading.{Reads}
 use Rattle.geos_cli.proofs.Prints.{prints-still, up_to-still}

@@ -34,7 +34,7 @@ use Rattle.geos_verify.specs.Uses.{bytes_in}
 use Rattle.geos_semantics.specs.Lists.{Each}
 use Rattle.geos_semantics.specs.State.{Frame, SlotReference, State, word, with_word, counter, with_counter, with_slot, name_at, same_name, reference_at, kept_pointers, goto, along}
 use Rattle.geos_semantics.specs.Model.{Outcome, Fault, Next, Done, branch, answer, answered, calls, nowhere, holding, leading, return_to, most_returns, most_output, changing, making, asking, referring, unlocking, marking, changing_items, making_item, load, low_bytes, within, reads, writes, reads_within, writes_within, exec}
-use Rattle.geos_cli.specs.Commits.{commits}
+use Rattle.script_commands.specs.MayCommit.{commits}
 
 -- control is in a routine up to r, and returns to such
 abbrev pub IsUpTo : ℕ → State → Type 0

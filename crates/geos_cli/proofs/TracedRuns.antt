@@ -10,8 +10,9 @@ use Rattle.geos_image.specs.Parts.{Parts}
 use Rattle.geos_machine.specs.declared.outcome.Outcome.{Outcome}
 use Rattle.geos_machine.specs.Runs.{begin, kept_along, Throughout, Within}
 use Rattle.geos_machine.specs.Traces.{Notes, Traced}
-use Rattle.geos_cli.specs.declared.script.Call.{Call as ScriptCall}
-use Rattle.geos_cli.specs.Script.{lent_by, Allows, IsAllowed, Leads, Locks, Then, Unlocks, Way}
+use Rattle.script_commands.specs.declared.command.Call.{Call as ScriptCall}
+use Rattle.script_commands.specs.Lent.{lent_by}
+use Rattle.geos_cli.specs.Script.{Allows, IsAllowed, Leads, Locks, Then, Unlocks, Way}
 use Rattle.geos_cli.specs.Traced.{TracesLent, TracesOn}
 use Rattle.geos_cli.proofs.CommandsRun.{allowed-between}
 use Rattle.geos_cli.proofs.LentRuns.{allowed-alike, leads-wider, on-leads, on-unlocked}

@@ -1,55 +1,15 @@
--- Which commands may commit, and when a flush is due before one.
-use Rattle.std.specs.Prelude.{◌≡◌, ◌⊎◌, ℕ, ◌+◌, Bool, true, false, ◌||◌, All, List, [], ◌∷◌, Option, take, position}
-use Rattle.std.specs.List.{list_any}
-use Rattle.geos_opcodes.specs.declared.opcode.Opcode.{Opcode}
-use Rattle.geos_opcodes.specs.declared.opcode.Opcode.TheVariants.{Vupdate, Vsave, Vrevert}
-use Rattle.geos_image.specs.declared.point.Point.{Point}
-use Rattle.geos_image.specs.Parts.{Parts, start_of}
+-- When what was printed is given, and what calls that may not commit leave.
+use Rattle.std.specs.Prelude.{◌≡◌, ℕ, false, All, List}
+use Rattle.geos_image.specs.Parts.{Parts}
 use Rattle.geos_calls.specs.Memory.{Memory}
 use Rattle.geos_calls.specs.Effects.{Choice}
 use Rattle.geos_verify.specs.Rules.{IsChecked}
 use Rattle.geos_semantics.specs.State.{State}
 use Rattle.geos_semantics.specs.Model.{Returned, run}
 use Rattle.geos_machine.specs.Runs.{begin, kept_along}
-use Rattle.geos_cli.specs.declared.script.Call.{Call}
-use Rattle.geos_cli.specs.declared.script.Command.{Command}
-use Rattle.geos_cli.specs.declared.script.Command.TheVariants as command
-use Rattle.geos_cli.specs.declared.script.Numbered.{Numbered}
-
--- the instruction commits
-abbrev pub commits : Opcode → Bool
-commits Vupdate = true
-commits Vsave = true
-commits Vrevert = true
-commits _ = false
-
--- an instruction of a routine that commits
-abbrev pub commits_at : Point → Bool
-commits_at point = commits point.instr.opcode
-
--- the first pc of an instruction that commits
-abbrev pub first_commit : List Point → Option ℕ
-first_commit points = position commits_at points
-
--- a commit may, and so may a call where an instruction in front of the end of its routine commits: a
--- routine calls only routines before it
-abbrev pub may_commit : Parts → Command → Bool
-may_commit image (command.Commit how) = true
-may_commit image (command.Call call) = list_any commits_at (take (start_of image.routines (call.routine + 1)) image.points)
-
--- the last of the commands may commit
-abbrev pub last_may_commit : Parts → List Numbered → Bool
-last_may_commit image [] = false
-last_may_commit image (here ∷ []) = may_commit image here.command
-last_may_commit image (here ∷ next ∷ others) = last_may_commit image (next ∷ others)
-
--- a flush is due before a command, behind those done: the last of them may have committed, or this one may
-abbrev pub is_flush_due : Parts → List Numbered → Command → Bool
-is_flush_due image done next = last_may_commit image done || may_commit image next
-
--- nothing was ever asked of a writer, or the last call of it was a flush that did not fail
-abbrev pub IsGiven : ℕ → Bool → Type 0
-IsGiven asked flushed = (asked ≡ 0) ⊎ (flushed ≡ true)
+use Rattle.script_commands.specs.MayCommit.{may_commit}
+use Rattle.script_commands.specs.declared.command.Call.{Call}
+use Rattle.script_commands.specs.declared.command.Command.TheVariants as command
 
 -- a call's run in this memory, under these choices, leaves what the device holds as it was, in each state that it
 -- passes and in the last one

@@ -10,19 +10,20 @@ use Rattle.geos_machine.specs.Runs.{Throughout}
 use Rattle.geos_text.specs.Words.{most_bytes}
 use Rattle.geos_input.specs.declared.fault.ScriptFault.{ScriptFault}
 use Rattle.geos_input.specs.declared.fault.ScriptFault.TheVariants.{TooLong, BadHex, BadImage, Rejected, BadScript, Read, Write, Memory}
-use Rattle.geos_cli.specs.declared.call_fault.CallFault.{CallFault}
-use Rattle.geos_cli.specs.declared.call_fault.CallFault.TheVariants.{BadBlocks, BadWord, Script}
-use Rattle.geos_cli.specs.declared.form.Form.{Form}
-use Rattle.geos_cli.specs.declared.script.Call.{Call}
-use Rattle.geos_cli.specs.declared.script.Command.{Command}
-use Rattle.geos_cli.specs.declared.script.Command.TheVariants as command
+use Rattle.script_commands.specs.declared.call_fault.CallFault.{CallFault}
+use Rattle.script_commands.specs.declared.call_fault.CallFault.TheVariants.{BadBlocks, BadWord, Script}
+use Rattle.script_commands.specs.declared.form.Form.{Form}
+use Rattle.script_commands.specs.declared.command.Call.{Call}
+use Rattle.script_commands.specs.declared.command.Command.{Command}
+use Rattle.script_commands.specs.declared.command.Command.TheVariants as command
 use Rattle.geos_cli.specs.declared.script.Mode.{Mode}
 use Rattle.geos_cli.specs.declared.script.Mode.TheVariants.{Lenient, Strict}
-use Rattle.geos_cli.specs.declared.script.Numbered.{Numbered}
+use Rattle.script_commands.specs.declared.command.Numbered.{Numbered}
 use Rattle.geos_cli.specs.declared.script.RefusedCommand.{RefusedCommand}
 use Rattle.geos_cli.specs.Calls.{Asks}
-use Rattle.geos_cli.specs.Forms.{shown_in}
-use Rattle.geos_cli.specs.Script.{commands_of, on_line, GoesOn, Loads, RanCommand}
+use Rattle.script_commands.specs.Forms.{shown_in}
+use Rattle.script_commands.specs.Lines.{commands_of, on_line}
+use Rattle.geos_cli.specs.Script.{GoesOn, Loads, RanCommand}
 
 -- a command is carried out, from kernel to kernel, and comes to this result; this is what it prints plainly
 abbrev pub RunsPlainly : {D : Type 0} → Medium D → Parts → Command → Result (Unit {0}) Refusal → KernelOn D → KernelOn D → List ℕ → Type 0

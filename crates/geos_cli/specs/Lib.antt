@@ -1,13 +1,8 @@
-pub mod BadLines
 pub mod Bytes
 pub mod Calls
 pub mod Commits
-pub mod Forms
 pub mod InForm
-pub mod Marks
-pub mod Names
 pub mod Plain
-pub mod Reading
 pub mod Script
 pub mod Session
 pub mod Stages

@@ -9,8 +9,6 @@ use Rattle.geos_kernel.specs.View.{KernelState, failed_in, memory_of}
 use Rattle.geos_kernel.specs.Kernel.{HasRisen}
 use Rattle.block_handles.specs.Store.{Store, locks_of}
 use Rattle.vm_blocks.specs.View.{vm_slot}
-use Rattle.geos_image.specs.declared.row.SlotState.{SlotState}
-use Rattle.geos_image.specs.Legal.{is_own}
 
 -- where a script stands: the memory, and how often the device has failed
 pub record Stage : Type 0 where
@@ -86,15 +84,6 @@ Locks allows handles = LockedBehind allows Stays handles
 -- and unlocked
 abbrev pub Unlocks : Allows → List ℕ → Way
 Unlocks allows handles = UnlockedBehind allows Stays handles
-
--- the handle for a slot that is borrowed, and no other
-abbrev pub lent_handle : SlotState → ℕ → List ℕ
-lent_handle state h = if is_own state then [] else h ∷ []
-
--- the handles of slots that are borrowed, in their order
-abbrev pub lent_handles : List SlotState → List ℕ → List ℕ
-lent_handles (state ∷ states) (h ∷ handles) = lent_handle state h ++ lent_handles states handles
-lent_handles _ _ = []
 
 -- how often a handle is that of the block: once, or not
 abbrev pub once : ℕ → ℕ → ℕ

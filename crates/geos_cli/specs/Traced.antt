@@ -10,14 +10,16 @@ use Rattle.geos_verify.specs.Rules.{Accepted}
 use Rattle.geos_machine.specs.declared.outcome.Outcome.{Outcome}
 use Rattle.geos_machine.specs.Runs.{begin, kept_along, Ran}
 use Rattle.geos_machine.specs.Traces.{Notes, TellsAll, steps_of}
-use Rattle.geos_cli.specs.declared.script.Call.{Call}
-use Rattle.geos_cli.specs.declared.call_fault.CallFault.TheVariants.{Script}
+use Rattle.script_commands.specs.declared.command.Call.{Call}
+use Rattle.script_commands.specs.declared.call_fault.CallFault.TheVariants.{Script}
 use Rattle.geos_input.specs.declared.fault.ScriptFault.TheVariants.{Write}
 use Rattle.geos_cli.specs.declared.traced.TracedCall.{TracedCall}
 use Rattle.geos_cli.specs.declared.traced.TraceFault.{TraceFault}
 use Rattle.geos_cli.specs.declared.traced.TraceFault.TheVariants as fault
 use Rattle.geos_cli.specs.Calls.{Asks, CallEndsBy}
-use Rattle.geos_cli.specs.Script.{lent_by, routine_named, Allows, LeadsOn, Locks, NotLent, Stage, Then, Unlocks}
+use Rattle.script_commands.specs.Lent.{lent_by}
+use Rattle.script_commands.specs.Lines.{routine_named}
+use Rattle.geos_cli.specs.Script.{Allows, LeadsOn, Locks, NotLent, Stage, Then, Unlocks}
 
 -- the first pc of the routine of a name, and the end behind its last one; or those of all routines
 abbrev pub stretch_of : Parts → Option (List ℕ) → Option (ℕ × ℕ)

@@ -10,16 +10,16 @@ use Rattle.geos_verify.specs.Rules.{Accepted, FirstRefusal}
 use Rattle.geos_text.specs.Words.{most_bytes}
 use Rattle.geos_input.specs.declared.fault.ScriptFault.{ScriptFault}
 use Rattle.geos_input.specs.declared.fault.ScriptFault.TheVariants.{TooLong, BadHex, BadImage, Rejected, BadScript, Read, Write, Memory}
-use Rattle.geos_cli.specs.declared.form.Form.{Form}
-use Rattle.geos_cli.specs.declared.script.Command.{Command}
+use Rattle.script_commands.specs.declared.form.Form.{Form}
+use Rattle.script_commands.specs.declared.command.Command.{Command}
 use Rattle.geos_cli.specs.declared.script.Mode.{Mode}
 use Rattle.geos_cli.specs.declared.script.Mode.TheVariants.{Strict}
 use Rattle.geos_cli.specs.declared.script.RefusedCommand.{RefusedCommand}
 use Rattle.geos_cli.specs.declared.with_names.EarlyEnd.{EarlyEnd}
 use Rattle.geos_cli.specs.declared.with_names.EarlyEnd.TheVariants.{Refused, BadLine}
-use Rattle.geos_cli.specs.Forms.{shown_in}
+use Rattle.script_commands.specs.Forms.{shown_in}
 use Rattle.geos_cli.specs.InForm.{EndsAt, RunsPlainly}
-use Rattle.geos_cli.specs.Names.{Names, Said, command_in, first_bad_in, first_put_out, lines_said, names_behind}
+use Rattle.script_commands.specs.Names.{Names, Said, command_in, first_bad_in, first_put_out, lines_said, names_behind}
 use Rattle.geos_cli.specs.Script.{GoesOn}
 
 -- a command was carried out, from kernel to kernel, came to this result, and put out this word first, or none; a writer got its text in

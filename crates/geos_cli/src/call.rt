@@ -1,98 +1,25 @@
 //! One call, which words name.
 
-ghost use Rattle.std.specs.Prelude.{◌≡◌, ◌≢◌, ◌↔◌, ◌≤◌, length, take, drop, not, None, IfOk, IfErr, MatchResult};
-ghost use Rattle.std.specs.List.{count_by};
+ghost use Rattle.std.specs.Prelude.{◌≡◌, ◌≢◌, ◌↔◌, IfOk, IfErr, MatchResult};
 ghost use Rattle.std.specs.Io.KnownBytes.{Keeps};
 ghost use Rattle.vm_file.specs.Device.{Rose};
 ghost use Rattle.vm_file.specs.State.{Steadily};
 ghost use Rattle.geos_input.specs.declared.fault.ScriptFault.TheVariants.{Write};
-ghost use Rattle.geos_cli.specs.declared.call_fault.CallFault.TheVariants.{Script};
-ghost use Rattle.geos_cli.specs.Script.{before_blocks, call_named, from_blocks};
-ghost use Rattle.geos_cli.specs.Calls.{borrowed, takes, texts, IsWhyNoCall, RanCall, StoppedCall, CallEndsBy};
-ghost use Rattle.geos_image.specs.Legal.{is_own};
+ghost use Rattle.script_commands.specs.declared.call_fault.CallFault.TheVariants.{Script};
+ghost use Rattle.script_commands.specs.Reading.{texts};
+ghost use Rattle.geos_cli.specs.Calls.{RanCall, StoppedCall, CallEndsBy};
 ghost use Rattle.geos_kernel.specs.Files.{vm_file_of};
 ghost use Rattle.geos_kernel.specs.View.{SeesDevice};
 ghost use Rattle.geos_machine.specs.Runs.{Throughout};
 ghost use Rattle.vm_blocks.specs.Listed.{NoneLocked};
 
-use crate::call_fault::CallFault;
-use crate::lines::{call_named, names_block, registers_of, routine_named};
-use crate::script::{Call, Command, Mode, Numbered, carry_out_all, load};
-use crate::words::Words;
-use geos_image::SlotState;
+use crate::script::{Mode, carry_out_all, load};
 use geos_input::Counted;
 use geos_kernel::Kernel;
-use geos_machine::admits_words;
-use geos_verify::Checked;
+use script_commands::{CallFault, Command, Numbered, call_on, why_no_call};
 use std::alloc::Global;
 use std::io::Write;
 use vm_file::Device;
-
-/// How many words stand in front of the first that names a block.
-fn numbers_in(words: &[&str]) -> usize
-    ensures numbers { before_blocks (texts words.now) ≡ texts (take result words.now) }
-    ensures blocks { from_blocks (texts words.now) ≡ texts (drop result words.now) }
-    ensures within { result ≤ length words.now }
-{
-    let mut count = 0;
-    while count < words.len() && !names_block(words[count].as_bytes()) {
-        count += 1;
-    }
-    count
-}
-
-/// The call of the routine of that name on those numbers, which are followed by the blocks that it lends, if the machine may be asked for it.
-pub(crate) fn call_on(checked: &Checked, name: &str, words: &[&str]) -> Option<Call>
-    ensures { result ≡ call_named checked.now name.now (texts words.now) }
-{
-    call_named(checked, name.as_bytes(), Words::Apart(words))
-}
-
-/// Whether a public routine has the name, and may be called on the numbers in front of blocks.
-fn takes(checked: &Checked, name: &str, numbers: &[&str]) -> bool
-    ensures { result ≡ takes checked.now name.now (before_blocks (texts numbers.now)) }
-{
-    let Some(routine) = routine_named(checked.image(), name.as_bytes()) else {
-        return false;
-    };
-    match registers_of(Words::Apart(numbers)) {
-        Some(words) => admits_words(checked, routine, &words),
-        None => false,
-    }
-}
-
-/// How many slots hold what is borrowed.
-fn borrowed_in(states: &[SlotState; 4]) -> usize
-    ensures { result ≡ count_by (λ state. not (is_own state)) states.now }
-{
-    states.iter().filter(|state| !state.is_own()).count()
-}
-
-/// How many blocks the routine of the name borrows.
-fn borrowed(checked: &Checked, name: &str) -> usize
-    ensures { result ≡ borrowed checked.now name.now }
-{
-    match routine_named(checked.image(), name.as_bytes()) {
-        Some(routine) => borrowed_in(&checked.image().routine(routine).entry.slots),
-        None => 0,
-    }
-}
-
-/// Why words are no call.
-pub(crate) fn why_no_call(checked: &Checked, name: &str, words: &[&str]) -> CallFault
-    requires { call_named checked.now name.now (texts words.now) ≡ None }
-    ensures { IsWhyNoCall checked.now name.now (texts words.now) result }
-{
-    let numbers = &words[..numbers_in(words)];
-    let mut word = 0;
-    while takes(checked, name, &numbers[..word]) {
-        if word == numbers.len() {
-            return CallFault::BadBlocks(borrowed(checked, name));
-        }
-        word += 1;
-    }
-    CallFault::BadWord(word)
-}
 
 /// Checks an image and runs one routine of it, on at most eight numbers; prints the words that it puts out, or `refused` and a number where a
 /// block that it is lent can't be locked. `name` is that of a public routine. Each number is of digits alone, at most 65,535 and within the

@@ -1,7 +1,8 @@
 //! Laws of calls and scripts.
 
 ghost use Rattle.geos_cli.specs.Commits.{OtherCallsKeep};
-ghost use Rattle.geos_cli.specs.Plain.{PlainLinesSay, PlainScriptsAreBad, PlainScriptsRun};
+ghost use Rattle.script_commands.specs.Plain.{PlainLinesSay, PlainScriptsAreBad};
+ghost use Rattle.geos_cli.specs.Plain.{PlainScriptsRun};
 
 use vm_file::Device;
 

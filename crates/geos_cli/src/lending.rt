@@ -1,6 +1,6 @@
 //! Calls of routines on blocks of the VM file, which are locked for them and unlocked behind.
 
-ghost use Rattle.std.specs.Prelude.{◌≡◌, ◌↔◌, ◌+◌, ◌≤◌, ◌<◌, ◌++◌, ℕ, length, take, get_or, true, All};
+ghost use Rattle.std.specs.Prelude.{◌≡◌, ◌↔◌, ◌+◌, ◌≤◌, ◌<◌, ℕ, length, take, get_or, true, All};
 ghost use Rattle.std.specs.Prelude.{Ok, Err, OnOk, OnErr, IfOk, IfErr};
 ghost use Rattle.geos_terms.specs.Names.{vm};
 ghost use Rattle.geos_calls.specs.VmFile.{VmFile};
@@ -15,16 +15,18 @@ ghost use Rattle.geos_kernel.specs.Kernel.{LeavesVm};
 ghost use Rattle.geos_kernel.specs.View.{IsFileOf, IsLocked, SeesDevice};
 ghost use Rattle.geos_machine.specs.Lent.{has_block};
 ghost use Rattle.geos_machine.specs.Runs.{RanWith, Throughout};
-ghost use Rattle.geos_cli.specs.Script.{lent_by, lent_handle, lent_handles, may_ask, once, printed, times};
+ghost use Rattle.script_commands.specs.Lent.{lent_by, lent_handles};
+ghost use Rattle.script_commands.specs.Lines.{may_ask};
+ghost use Rattle.geos_cli.specs.Script.{once, times};
+ghost use Rattle.script_commands.specs.Outputs.{printed};
 ghost use Rattle.geos_cli.specs.Script.{Comes, LeadsOn, LockedMore, Locks, NotLent, NotLocked, RunsLent, Then, Unlocks, UnlocksOne};
 
-use crate::script::Call;
 use arrayvec::ArrayVec;
-use geos_image::SlotState;
 use geos_kernel::Kernel;
 use geos_machine::{Machine, Outcome};
 use geos_terms::{Name, Refusal};
 use geos_verify::Checked;
+use script_commands::{Call, lent_handles};
 use vm_file::Device;
 
 /// Locks a block of the file once more.
@@ -98,31 +100,6 @@ pub(crate) fn unlock_all<D: Device + Drop>(kernel: &mut Kernel<D>, handles: &[u1
     for h in handles {
         unlock(kernel, *h);
     }
-}
-
-/// Adds the handle for a slot, where it is borrowed.
-fn lend(lent: &mut ArrayVec<u16, 4>, state: SlotState, handle: u16)
-    requires { length lent.old.items < 4 }
-    ensures items { lent.new.items ≡ lent.old.items ++ lent_handle state handle }
-    ensures one { length lent.new.items ≤ length lent.old.items + 1 }
-{
-    if !state.is_own() {
-        lent.push(handle);
-    }
-}
-
-/// The handles of slots that are borrowed, in their order.
-pub(crate) fn lent_handles(states: &[SlotState; 4], handles: &[u16; 4]) -> ArrayVec<u16, 4>
-    ensures { result.items ≡ lent_handles states.now handles.now }
-{
-    let [s0, s1, s2, s3] = *states;
-    let [h0, h1, h2, h3] = *handles;
-    let mut lent = ArrayVec::new();
-    lend(&mut lent, s0, h0);
-    lend(&mut lent, s1, h1);
-    lend(&mut lent, s2, h2);
-    lend(&mut lent, s3, h3);
-    lent
 }
 
 /// Locks the blocks that a call lends, in the order of slots, and gives their handles. Where a lock is refused, those before it are

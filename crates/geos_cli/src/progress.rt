@@ -5,22 +5,24 @@ ghost use Rattle.vm_file.specs.Device.{Rose};
 ghost use Rattle.vm_file.specs.State.{Steadily};
 ghost use Rattle.geos_input.specs.declared.fault.ScriptFault.TheVariants.{Memory, Write};
 ghost use Rattle.geos_input.specs.Fault.{KeptUnless};
-ghost use Rattle.geos_cli.specs.Commits.{first_commit, may_commit, IsGiven};
+ghost use Rattle.script_commands.specs.MayCommit.{first_commit, may_commit};
+ghost use Rattle.script_commands.specs.Outputs.{IsGiven};
 ghost use Rattle.geos_cli.specs.InForm.{StoppedNext, StoppedShown};
-ghost use Rattle.geos_cli.specs.Script.{IsAdmitted};
+ghost use Rattle.script_commands.specs.Lines.{IsAdmitted};
 ghost use Rattle.geos_cli.specs.WithNames.{RanNoting};
 ghost use Rattle.geos_kernel.specs.Files.{vm_file_of};
 ghost use Rattle.geos_kernel.specs.View.{SeesDevice};
 ghost use Rattle.vm_blocks.specs.Listed.{NoneLocked};
 
-use crate::form::{Form, first_put_out, shown_in};
-use crate::output::{give_before, write};
-use crate::script::{Command, carry_out, first_commit, may_commit};
+use crate::script::carry_out;
 use geos_input::{Counted, ScriptFault};
 use geos_kernel::Kernel;
 use geos_machine::Machine;
 use geos_terms::Refusal;
 use geos_verify::Checked;
+use script_commands::{
+    Command, Form, first_commit, first_put_out, give_before, may_commit, shown_in, write,
+};
 use std::alloc::Global;
 use std::io::Write;
 use vm_file::Device;

@@ -6,9 +6,11 @@ ghost use Rattle.geos_input.specs.declared.fault.ScriptFault.TheVariants.{Write}
 ghost use Rattle.vm_file.specs.Device.{Rose};
 ghost use Rattle.vm_file.specs.State.{Steadily};
 ghost use Rattle.geos_input.specs.Fault.{KeptUnless};
-ghost use Rattle.geos_cli.specs.Commits.{commits, first_commit, may_commit, IsGiven};
+ghost use Rattle.script_commands.specs.MayCommit.{may_commit};
+ghost use Rattle.script_commands.specs.Outputs.{IsGiven};
 ghost use Rattle.geos_cli.specs.declared.script.Mode.TheVariants.{Lenient, Strict};
-ghost use Rattle.geos_cli.specs.Script.{GoesOn, IsAdmitted, IsBadImage};
+ghost use Rattle.geos_cli.specs.Script.{GoesOn, IsBadImage};
+ghost use Rattle.script_commands.specs.Lines.{IsAdmitted};
 ghost use Rattle.geos_cli.specs.Script.{RanCommand, StoppedCommand, RanCommands, StoppedCommands, RanScript, StoppedScript, ScriptEndsBy};
 ghost use Rattle.geos_kernel.specs.Files.{vm_file_of};
 ghost use Rattle.geos_kernel.specs.Kernel.{Calls};
@@ -23,42 +25,17 @@ ghost use Rattle.geos_verify.specs.Rules.{Accepted};
 ghost use Rattle.geos_text.specs.Words.{words};
 
 use crate::lending::run_lent;
-use crate::lines::commands_of;
-use crate::output::{give_before, print, print_refusal};
-use geos_image::{Opcode, Point};
 use geos_input::{Counted, MOST_BYTES, ScriptFault};
 use geos_kernel::Kernel;
 use geos_machine::Machine;
 use geos_terms::Refusal;
 use geos_verify::{Checked, check};
+use script_commands::{
+    Command, Numbered, commands_of, first_commit, give_before, may_commit, print, print_refusal,
+};
 use std::alloc::Global;
 use std::io::Write;
 use vm_file::{Device, How};
-
-/// A call of a routine, on these words, and on the blocks of the VM file that it is lent: a handle for each slot that it
-/// borrows, and 0 for the others.
-#[derive(Clone, Copy)]
-pub struct Call {
-    pub routine: u16,
-    pub words: [u16; 8],
-    pub handles: [u16; 4],
-}
-
-/// A command that may be carried out.
-#[derive(Clone, Copy)]
-pub enum Command {
-    /// A call that the machine may be asked for.
-    Call(Call),
-    /// The VM file keeps one of its pairs of directories.
-    Commit(How),
-}
-
-/// A command, and the number of its line, counted from 1.
-#[derive(Clone, Copy)]
-pub struct Numbered {
-    pub line: usize,
-    pub command: Command,
-}
 
 /// What a script does behind a command that was refused.
 #[derive(Clone, Copy)]
@@ -76,40 +53,6 @@ pub struct RefusedCommand {
     pub line: usize,
     /// Why it was refused.
     pub refusal: Refusal,
-}
-
-/// Whether the instruction commits.
-fn commits(opcode: Opcode) -> bool
-    ensures { result ≡ commits opcode }
-{
-    matches!(opcode, Opcode::Vupdate | Opcode::Vsave | Opcode::Vrevert)
-}
-
-/// The first pc of an instruction that commits.
-pub(crate) fn first_commit(points: &[Point]) -> Option<usize>
-    ensures { result ≡ first_commit points.now }
-{
-    points.iter().position(|point| commits(point.instr.opcode))
-}
-
-/// Whether the command may commit: a call, where the first instruction that commits stands in
-/// front of the end of its routine.
-pub(crate) fn may_commit(checked: &Checked, first: Option<usize>, command: &Command) -> bool
-    requires admitted { IsAdmitted checked.now command.now }
-    requires first { first ≡ first_commit checked.now.points }
-    ensures { result ≡ may_commit checked.now command.now }
-{
-    match command {
-        Command::Commit(_) => true,
-        Command::Call(call) => {
-            let image = checked.image();
-            let end = image.start(call.routine) + image.routine(call.routine).count;
-            match first {
-                Some(pc) => pc < usize::from(end),
-                None => false,
-            }
-        }
-    }
 }
 
 /// The VM file keeps one of its pairs of directories; no block of it is locked then, as before.

@@ -9,10 +9,10 @@ ghost use Rattle.geos_text.specs.Words.{most_bytes};
 ghost use Rattle.geos_input.specs.Reading.{Reads};
 ghost use Rattle.geos_cli.specs.Session.{RanBytes, StoppedBytes, EndsBytes, RanSession, StoppedSession, EndsSession};
 
-use crate::output::flush;
 use crate::script::run_script;
 use geos_input::{Counted, ScriptFault, image_and_script, read_all};
 use geos_kernel::kernel_in_memory;
+use script_commands::flush;
 use std::alloc::Global;
 use std::io::{Read, Write};
 

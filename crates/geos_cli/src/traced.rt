@@ -11,20 +11,20 @@ ghost use Rattle.geos_kernel.specs.View.{IsFileOf, SeesDevice};
 ghost use Rattle.geos_machine.specs.Lent.{has_block};
 ghost use Rattle.geos_machine.specs.Runs.{Throughout};
 ghost use Rattle.geos_machine.specs.Traces.{IsEmpty, Traced};
-ghost use Rattle.geos_cli.specs.Calls.{texts};
-ghost use Rattle.geos_cli.specs.Script.{lent_by, may_ask, times, LeadsOn, NotLent};
+ghost use Rattle.script_commands.specs.Reading.{texts};
+ghost use Rattle.script_commands.specs.Lent.{lent_by};
+ghost use Rattle.script_commands.specs.Lines.{may_ask};
+ghost use Rattle.geos_cli.specs.Script.{times, LeadsOn, NotLent};
 ghost use Rattle.geos_cli.specs.Traced.{stretch_of, IsMadeAs, IsTraced, TracesLent, WhyNotTraced};
 
-use crate::call::{call_on, why_no_call};
-use crate::call_fault::CallFault;
 use crate::lending::{lock_lent, unlock_all};
-use crate::lines::routine_named;
-use crate::script::{Call, load};
+use crate::script::load;
 use geos_input::ScriptFault;
 use geos_kernel::Kernel;
 use geos_machine::{Machine, Outcome, Trace};
 use geos_terms::Refusal;
 use geos_verify::Checked;
+use script_commands::{Call, CallFault, call_on, routine_named, why_no_call};
 use std::alloc::Global;
 use vm_file::Device;
 

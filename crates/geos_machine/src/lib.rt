@@ -15,6 +15,6 @@ mod step;
 mod trace;
 mod traced;
 
-pub use machine::{Machine, admits, admits_words};
+pub use machine::{Machine, admits};
 pub use outcome::Outcome;
 pub use trace::{Left, Noted, Trace};

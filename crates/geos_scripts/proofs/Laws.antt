@@ -6,10 +6,10 @@ use Rattle.std.proofs.lemmas.Bool.{cases_lt}
 use Rattle.std.proofs.lemmas.List.{drop_all, length-map, nil_from_length, take-map, take_all}
 use Rattle.std.specs.Str.Lines.{lines}
 use Rattle.geos_image.specs.Parts.{Parts}
-use Rattle.geos_cli.specs.declared.named_lines.Line.{Line}
-use Rattle.geos_cli.specs.BadLines.{first_of, numbers}
-use Rattle.geos_cli.specs.Names.{lines_said}
-use Rattle.geos_cli.proofs.BadLaws.{first-bad, first-bad-in}
+use Rattle.script_commands.specs.declared.named_lines.Line.{Line}
+use Rattle.script_commands.specs.BadLines.{first_of, numbers}
+use Rattle.script_commands.specs.Names.{lines_said}
+use Rattle.script_commands.proofs.BadLaws.{first-bad, first-bad-in}
 use Rattle.geos_lines.specs.Telling.{more_line, sentence}
 use Rattle.geos_scripts.specs.Bad.{TellsBad, TellsEach, TellsFirst, bad_ones, named_by_run}
 use Rattle.geos_scripts.specs.declared.names.NameUse.{NameUse}

@@ -7,17 +7,17 @@ use Rattle.geos_image.specs.Legal.{is_own}
 use Rattle.geos_image.specs.Parts.{Parts}
 use Rattle.geos_image.specs.declared.routine.Routine.{Routine}
 use Rattle.geos_lines.specs.declared.words.Word.{Word}
-use Rattle.geos_cli.specs.Calls.{borrowed}
-use Rattle.geos_cli.specs.Script.{before_blocks, from_blocks, names_block, routine_named}
-use Rattle.geos_cli.proofs.LentLocks.{entry-of}
-use Rattle.geos_cli.proofs.Registers.{before-block, before-number, from-block, from-number}
+use Rattle.script_commands.specs.CallWords.{borrowed}
+use Rattle.script_commands.specs.Lines.{before_blocks, from_blocks, names_block, routine_named}
+use Rattle.script_commands.proofs.CallWords.{entry-of}
+use Rattle.script_commands.proofs.Registers.{before-block, before-number, from-block, from-number}
 use Rattle.geos_scripts.specs.declared.names.NameUse.{NameUse}
 use Rattle.geos_scripts.specs.declared.calls.Passed.{Passed}
 use Rattle.geos_scripts.specs.declared.fault.Fault.{Fault}
 use Rattle.geos_scripts.specs.declared.fault.Fault.TheVariants.{NoCommand, Behind, NoName, NoRoutine, NotPublic, Ninth, NoNumber, TooHigh, PastBound, NumberBehind, NoHandle, HighHandle, Lent, NotAllowed, NotKept, ArrowAlone, NothingKept, BadName, SecondName, NameTooMany}
 use Rattle.std.proofs.lemmas.Slice.Eq.{bytes_eq-Decides}
 use Rattle.geos_scripts.specs.declared.names.NameUse.TheVariants.{Allowed}
-use Rattle.geos_cli.specs.Names.{is_arrow}
+use Rattle.script_commands.specs.Names.{is_arrow}
 use Rattle.geos_scripts.specs.Faults.{FitCommand, FitNumbers, FitsCall, FitsNumber, IsFound, IsLent, IsNinth, IsSecond, IsSo, IsSoOfWord, LendsOthers, command_words}
 use Rattle.geos_scripts.specs.Walks.{HasArrow, IsFoundBehindArrow, IsFoundBehindCall, IsFoundOfCall, IsFoundOfCommand, IsFoundOfKeeping, IsSoOfCall, IsWalked, begins_as_call}
 

@@ -2,9 +2,9 @@
 use Rattle.std.specs.Prelude.{◌≡◌, ◌↔◌, ◌-◌, ℕ, List, [], ◌∷◌, ◌++◌, length, take, Option, None}
 use Rattle.std.specs.Str.Lines.{lines}
 use Rattle.geos_image.specs.Parts.{Parts}
-use Rattle.geos_cli.specs.Script.{first_bad}
-use Rattle.geos_cli.specs.Names.{first_bad_in, lines_said}
-use Rattle.geos_cli.specs.BadLines.{bad_lines, bad_lines_with_names}
+use Rattle.script_commands.specs.Lines.{first_bad}
+use Rattle.script_commands.specs.Names.{first_bad_in, lines_said}
+use Rattle.script_commands.specs.BadLines.{bad_lines, bad_lines_with_names}
 use Rattle.geos_lines.specs.Telling.{more_line, sentence}
 use Rattle.geos_scripts.specs.declared.names.NameUse.{NameUse}
 use Rattle.geos_scripts.specs.declared.names.NameUse.TheVariants.{Allowed, Refused}

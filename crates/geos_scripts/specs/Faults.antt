@@ -4,9 +4,9 @@ use Rattle.geos_image.specs.declared.routine.Routine.{Routine}
 use Rattle.geos_image.specs.Parts.{Parts}
 use Rattle.geos_text.specs.Numbers.{number_up_to}
 use Rattle.geos_text.specs.declared.numbers.NumberError.TheVariants.{Malformed, TooLarge}
-use Rattle.geos_cli.specs.Calls.{borrowed}
-use Rattle.geos_cli.specs.Script.{before_blocks, from_blocks, handle_of, names_block, routine_named}
-use Rattle.geos_cli.specs.Names.{is_arrow, is_name}
+use Rattle.script_commands.specs.CallWords.{borrowed}
+use Rattle.script_commands.specs.Lines.{before_blocks, from_blocks, handle_of, names_block, routine_named}
+use Rattle.script_commands.specs.Names.{is_arrow, is_name}
 use Rattle.geos_scripts.specs.declared.names.NameUse.{NameUse}
 use Rattle.geos_scripts.specs.declared.names.NameUse.TheVariants.{Allowed, Refused}
 use Rattle.geos_scripts.specs.declared.fault.Fault.{Fault}

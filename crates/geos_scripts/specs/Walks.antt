@@ -3,8 +3,8 @@ use Rattle.std.specs.Prelude.{◌≡◌, ◌≤◌, ◌<◌, ◌⊎◌, ℕ, Boo
 use Rattle.geos_image.specs.declared.routine.Routine.{Routine}
 use Rattle.geos_image.specs.Parts.{Parts}
 use Rattle.geos_lines.specs.declared.words.Word.{Word}
-use Rattle.geos_cli.specs.Names.{is_arrow, is_name}
-use Rattle.geos_cli.specs.Script.{names_block}
+use Rattle.script_commands.specs.Names.{is_arrow, is_name}
+use Rattle.script_commands.specs.Lines.{names_block}
 use Rattle.geos_scripts.specs.declared.names.NameUse.{NameUse}
 use Rattle.geos_scripts.specs.declared.calls.Passed.{Passed}
 use Rattle.geos_scripts.specs.declared.fault.Fault.{Fault}

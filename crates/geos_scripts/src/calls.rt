@@ -3,7 +3,7 @@
 ghost use Rattle.std.specs.Prelude.{◌≡◌, ◌<◌, ◌≤◌, ◌+◌, [], ◌∷◌, ℕ, List, slice_get, length, drop, not};
 ghost use Rattle.std.specs.Prelude.{true, false, IfNone, IfSome, IfOk, IfErr, Some};
 ghost use Rattle.std.specs.List.{count_by};
-ghost use Rattle.geos_cli.specs.Script.{names_block, routine_named};
+ghost use Rattle.script_commands.specs.Lines.{names_block, routine_named};
 ghost use Rattle.geos_image.specs.Parts.{Parts};
 ghost use Rattle.geos_image.specs.declared.routine.Routine.{Routine};
 ghost use Rattle.geos_image.specs.Legal.{is_own};
@@ -14,9 +14,9 @@ ghost use Rattle.geos_scripts.specs.Walks.{IsFoundBehindCall, IsFoundOfCall, IsF
 use crate::fault::Fault;
 use crate::names::Names;
 use crate::numbers::{behind_at, block_fault, is_arrow, number_fault};
-use geos_cli::routine_named;
 use geos_image::{Image, Routine};
 use geos_lines::{Word, word_from};
+use script_commands::routine_named;
 
 /// How many numbers and blocks stand in front of a word of a call.
 #[derive(Clone, Copy)]

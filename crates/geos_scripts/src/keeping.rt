@@ -3,7 +3,7 @@
 ghost use Rattle.std.specs.Prelude.{◌≡◌, ◌≤◌, All, true, false, length, drop, IfNone, IfSome};
 ghost use Rattle.geos_image.specs.Parts.{Parts};
 ghost use Rattle.geos_text.specs.Words.{words};
-ghost use Rattle.geos_cli.specs.Names.{is_arrow};
+ghost use Rattle.script_commands.specs.Names.{is_arrow};
 ghost use Rattle.geos_scripts.specs.declared.names.NameUse.TheVariants.{Allowed};
 ghost use Rattle.geos_scripts.specs.Faults.{IsFound};
 ghost use Rattle.geos_scripts.specs.Walks.{HasArrow, IsFoundBehindArrow, IsFoundOfKeeping, begins_as_call};
@@ -12,9 +12,9 @@ use crate::calls::command_fault;
 use crate::fault::Fault;
 use crate::names::{NameUse, Names};
 use crate::numbers::is_arrow;
-use geos_cli::is_name;
 use geos_image::Image;
 use geos_lines::{Word, word_from};
+use script_commands::is_name;
 
 /// The word `->` of a line.
 fn arrow_of(line: &[u8]) -> Option<Word>

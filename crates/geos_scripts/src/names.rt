@@ -1,7 +1,7 @@
 //! The names that lines of a script may write.
 
-use geos_cli::{Line, MOST_KEPT, kept_name};
 use geos_text::{first_line, without_comment};
+use script_commands::{Line, MOST_KEPT, kept_name};
 use std::alloc::{AllocError, Global};
 
 /// Whether the lines of a script may write names for words that calls put out.

@@ -2,8 +2,8 @@
 
 ghost use Rattle.std.specs.Prelude.{◌≡◌, ◌<◌, ◌≤◌, ◌∷◌, false, length, slice_get, Some, IfSome, IfNone};
 ghost use Rattle.geos_image.specs.Parts.{Parts};
-ghost use Rattle.geos_cli.specs.Names.{is_arrow};
-ghost use Rattle.geos_cli.specs.Script.{names_block};
+ghost use Rattle.script_commands.specs.Names.{is_arrow};
+ghost use Rattle.script_commands.specs.Lines.{names_block};
 ghost use Rattle.geos_image.specs.declared.routine.Routine.{Routine};
 ghost use Rattle.geos_scripts.specs.declared.names.NameUse.TheVariants.{Allowed};
 ghost use Rattle.geos_scripts.specs.declared.fault.Fault.TheVariants.{Ninth};

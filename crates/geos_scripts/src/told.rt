@@ -4,16 +4,17 @@ ghost use Rattle.std.specs.Prelude.{◌≡◌, Ok, IfOk};
 ghost use Rattle.geos_image.specs.Parts.{Parts};
 ghost use Rattle.geos_image.specs.Reading.{image_at};
 ghost use Rattle.geos_verify.specs.Rules.{Accepted};
-ghost use Rattle.geos_cli.specs.BadLines.{first_of, numbers};
+ghost use Rattle.script_commands.specs.BadLines.{first_of, numbers};
 ghost use Rattle.geos_scripts.specs.Bad.{TellsBad, TellsEach, bad_ones};
 
 use crate::keeping::fault_of;
 use crate::names::{NameUse, Names};
 use crate::sentences::put_fault;
-use geos_cli::{Line, MOST_BYTES, ScriptFault, bad_lines, bad_lines_with_names};
 use geos_image::Image;
+use geos_input::{MOST_BYTES, ScriptFault};
 use geos_lines::{MOST_TOLD, put_more, put_told};
 use geos_verify::{Checked, check};
+use script_commands::{Line, bad_lines, bad_lines_with_names};
 use std::alloc::{AllocError, Global};
 
 /// What there is to say of the bad lines of a script.

@@ -1,7 +1,8 @@
 use Rattle.std.proofs.Common.{ap, refl, subst, sym}
 use Rattle.geos_input.specs.declared.fault.ScriptFault.{ScriptFault}
-use Rattle.geos_cli.specs.declared.call_fault.CallFault.TheVariants.{Script}
-use Rattle.geos_cli.specs.Calls.{texts, CallEndsBy}
+use Rattle.script_commands.specs.declared.call_fault.CallFault.TheVariants.{Script}
+use Rattle.script_commands.specs.Reading.{texts}
+use Rattle.geos_cli.specs.Calls.{CallEndsBy}
 use Rattle.geos_cli.proofs.CallRuns.{asks, call-ran, call-stopped}
 use Rattle.geos_cli.proofs.call.run_call.Goals as goal
 

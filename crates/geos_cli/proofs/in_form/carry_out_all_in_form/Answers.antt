@@ -4,7 +4,7 @@ use Rattle.geos_kernel.specs.Files.{vm_file_of}
 use Rattle.geos_machine.proofs.Honest.{alike-on}
 use Rattle.geos_cli.proofs.InFormRun.{none-ran, more-ran, all-ran, refused-ran, stopped-at}
 use Rattle.geos_cli.proofs.NamedRun.{shown-of}
-use Rattle.geos_cli.proofs.Parts.{IfErr-any}
+use Rattle.script_commands.proofs.Parts.{IfErr-any}
 use Rattle.geos_cli.proofs.in_form.carry_out_all_in_form.Goals as goal
 
 pub loop-numbered-init : goal.loop-numbered-init

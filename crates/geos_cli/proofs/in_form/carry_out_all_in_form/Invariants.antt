@@ -4,7 +4,7 @@ use Rattle.vm_blocks.specs.Listed.{NoneLocked}
 use Rattle.vm_file.specs.State.{Steadily}
 use Rattle.geos_kernel.specs.Files.{vm_file_of}
 use Rattle.geos_kernel.specs.View.{SeesDevice}
-use Rattle.geos_cli.specs.Commits.{first_commit}
+use Rattle.script_commands.specs.MayCommit.{first_commit}
 use Rattle.geos_cli.specs.InForm.{RanInForm}
 use Rattle.geos_cli.proofs.in_form.carry_out_all_in_form.Given as goal
 

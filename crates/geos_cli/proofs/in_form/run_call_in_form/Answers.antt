@@ -1,18 +1,19 @@
-use Rattle.std.proofs.Common.{◌≡◌, ◌∙◌, ℕ, List, [], ◌∷◌, Option, None, Some, inl, inr, ap, subst, sym}
+use Rattle.std.proofs.Common.{◌≡◌, ℕ, List, [], ◌∷◌, Option, None, Some, inl, inr, ap, subst, sym}
 use Rattle.std.specs.Io.KnownBytes.{Keeps}
 use Rattle.geos_input.specs.declared.fault.ScriptFault.{ScriptFault}
 use Rattle.geos_input.specs.declared.fault.ScriptFault.TheVariants.{Write}
-use Rattle.geos_cli.specs.declared.call_fault.CallFault.TheVariants.{Script}
-use Rattle.geos_cli.specs.declared.form.Form.{Form}
+use Rattle.script_commands.specs.declared.call_fault.CallFault.TheVariants.{Script}
+use Rattle.script_commands.specs.declared.form.Form.{Form}
 use Rattle.geos_cli.specs.declared.script.Mode.TheVariants.{Lenient, Strict}
-use Rattle.geos_cli.specs.declared.script.Call.{Call}
-use Rattle.geos_cli.specs.declared.script.Command.TheVariants as command
+use Rattle.script_commands.specs.declared.command.Call.{Call}
+use Rattle.script_commands.specs.declared.command.Command.TheVariants as command
 use Rattle.geos_cli.specs.declared.script.RefusedCommand.{RefusedCommand}
 use Rattle.geos_image.specs.Parts.{Parts}
 use Rattle.geos_kernel.specs.View.{KernelOn}
 use Rattle.vm_file.specs.Device.{Medium}
-use Rattle.geos_cli.specs.Calls.{texts, CallEndsBy}
-use Rattle.geos_cli.specs.Script.{on_line}
+use Rattle.script_commands.specs.Reading.{texts}
+use Rattle.geos_cli.specs.Calls.{CallEndsBy}
+use Rattle.script_commands.specs.Lines.{on_line}
 use Rattle.geos_cli.specs.InForm.{Leaves, RanInForm, StoppedCallInForm}
 use Rattle.geos_cli.proofs.CallRuns.{asks}
 use Rattle.geos_cli.proofs.in_form.run_call_in_form.Goals as goal

@@ -3,9 +3,10 @@ use Rattle.std.specs.Prelude.{All}
 use Rattle.std.specs.Str.Lines.{lines}
 use Rattle.std.proofs.lemmas.Result.{IfErr-weaker}
 use Rattle.geos_input.specs.declared.fault.ScriptFault.{ScriptFault}
-use Rattle.geos_cli.specs.declared.script.Numbered.{Numbered}
-use Rattle.geos_cli.specs.Script.{IsAdmitted, Loads, ScriptEndsBy}
-use Rattle.geos_cli.proofs.Commands.{commands-admitted}
+use Rattle.script_commands.specs.declared.command.Numbered.{Numbered}
+use Rattle.script_commands.specs.Lines.{IsAdmitted}
+use Rattle.geos_cli.specs.Script.{Loads, ScriptEndsBy}
+use Rattle.script_commands.proofs.Commands.{commands-admitted}
 use Rattle.geos_cli.proofs.CommandsRun.{if_ok-map}
 use Rattle.geos_cli.proofs.InFormRun.{fault-leaves, script-ran, script-stopped}
 use Rattle.geos_cli.proofs.in_form.run_script_in_form.Goals as goal

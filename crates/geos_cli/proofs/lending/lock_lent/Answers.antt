@@ -7,8 +7,9 @@ use Rattle.geos_kernel.specs.Files.{vm_file_of}
 use Rattle.geos_machine.specs.Lent.{has_block}
 use Rattle.geos_machine.specs.Runs.{Throughout}
 use Rattle.geos_machine.proofs.Honest.{alike-on}
-use Rattle.geos_cli.specs.Script.{lent_handles, times, IsAllowed, Leads, Locks, NotLent, Unlocks}
-use Rattle.geos_cli.proofs.LentLocks.{entry-of}
+use Rattle.script_commands.specs.Lent.{lent_handles}
+use Rattle.geos_cli.specs.Script.{times, IsAllowed, Leads, Locks, NotLent, Unlocks}
+use Rattle.script_commands.proofs.CallWords.{entry-of}
 use Rattle.geos_cli.proofs.LentRuns.{lent-refused}
 use Rattle.geos_cli.proofs.lending.lock_lent.Goals as goal
 

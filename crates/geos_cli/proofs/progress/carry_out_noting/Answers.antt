@@ -1,9 +1,9 @@
 use Rattle.std.proofs.Common.{◌≡◌, ◌∙◌, [], Some, ap}
-use Rattle.geos_cli.specs.Forms.{shown_in}
-use Rattle.geos_cli.specs.Names.{first_put_out}
+use Rattle.script_commands.specs.Forms.{shown_in}
+use Rattle.script_commands.specs.Names.{first_put_out}
 use Rattle.geos_cli.proofs.InFormRun.{shown-part, stopped-plainly}
 use Rattle.geos_cli.proofs.NamedRun.{noted}
-use Rattle.geos_cli.proofs.Parts.{IfErr-any}
+use Rattle.script_commands.proofs.Parts.{IfErr-any}
 use Rattle.geos_cli.proofs.progress.carry_out_noting.Goals as goal
 
 pub returns-in_err-write-in-Ok-clause-stopped : goal.returns-in_err-write-in-Ok-clause-stopped

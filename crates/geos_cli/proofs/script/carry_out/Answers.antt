@@ -2,9 +2,9 @@ use Rattle.std.proofs.Common.{subst}
 use Rattle.std.specs.Io.KnownBytes.{Appends}
 use Rattle.std.proofs.KnownBytes.{Appends-nil}
 use Rattle.geos_input.specs.Counted.{AppendsPart}
-use Rattle.geos_cli.specs.Script.{printed}
+use Rattle.script_commands.specs.Outputs.{printed}
 use Rattle.geos_cli.proofs.CommandsRun.{call-ran, call-stopped, not-lent, not-lent-stopped, commit-ran, commit-stopped}
-use Rattle.geos_cli.proofs.Parts.{IfErr-any}
+use Rattle.script_commands.proofs.Parts.{IfErr-any}
 use Rattle.geos_cli.proofs.script.carry_out.Goals as goal
 
 pub returns-in_ok-print-in-Ok-clause-ok : goal.returns-in_ok-print-in-Ok-clause-ok

@@ -5,7 +5,7 @@ use Rattle.geos_machine.specs.Runs.{Throughout}
 use Rattle.geos_machine.proofs.Honest.{alike-on}
 use Rattle.geos_machine.proofs.Stops.{stops-first}
 use Rattle.geos_cli.proofs.CommandsRun.{throughout-then, ran-none, ran-more, ran-refused, ran-all, ran-alike, ran-kept, last-done, stopped-at, stopped-ahead, stopped-alike}
-use Rattle.geos_cli.proofs.Parts.{IfErr-any}
+use Rattle.script_commands.proofs.Parts.{IfErr-any}
 use Rattle.geos_cli.proofs.script.carry_out_all.Goals as goal
 
 pub loop-numbered-init : goal.loop-numbered-init

@@ -5,7 +5,7 @@ use Rattle.vm_file.specs.State.{Steadily}
 use Rattle.geos_kernel.specs.Files.{vm_file_of}
 use Rattle.geos_kernel.specs.View.{SeesDevice}
 use Rattle.geos_machine.specs.Runs.{Throughout}
-use Rattle.geos_cli.specs.Commits.{last_may_commit}
+use Rattle.script_commands.specs.MayCommit.{last_may_commit}
 use Rattle.geos_cli.specs.Script.{RanCommands}
 use Rattle.geos_cli.proofs.script.carry_out_all.Given as goal
 

@@ -4,11 +4,12 @@ use Rattle.std.specs.Str.Lines.{lines}
 use Rattle.std.proofs.lemmas.Result.{IfErr-weaker}
 use Rattle.geos_input.specs.declared.fault.ScriptFault.{ScriptFault}
 use Rattle.geos_input.specs.declared.fault.ScriptFault.TheVariants.{Write}
-use Rattle.geos_cli.specs.declared.script.Numbered.{Numbered}
-use Rattle.geos_cli.specs.Script.{IsAdmitted, Loads, ScriptEndsBy}
-use Rattle.geos_cli.proofs.Commands.{commands-admitted}
+use Rattle.script_commands.specs.declared.command.Numbered.{Numbered}
+use Rattle.script_commands.specs.Lines.{IsAdmitted}
+use Rattle.geos_cli.specs.Script.{Loads, ScriptEndsBy}
+use Rattle.script_commands.proofs.Commands.{commands-admitted}
 use Rattle.geos_cli.proofs.CommandsRun.{if_ok-map, if_err-map, script-ran, script-stopped}
-use Rattle.geos_cli.proofs.Parts.{only-write}
+use Rattle.script_commands.proofs.Parts.{only-write}
 use Rattle.geos_cli.proofs.script.run_script_in_mode.Goals as goal
 
 pub carry_out_all-requires-clause-admitted : goal.carry_out_all-requires-clause-admitted

@@ -3,7 +3,7 @@ use Rattle.block_handles.specs.Store.{locks_in}
 use Rattle.vm_blocks.specs.View.{vm_slot}
 use Rattle.vm_file.specs.Memory.{medium}
 use Rattle.geos_cli.specs.Session.{EndsBytes}
-use Rattle.geos_cli.proofs.Parts.{only-write, rose-since, kept-since}
+use Rattle.script_commands.proofs.Parts.{only-write, rose-since, kept-since}
 use Rattle.geos_cli.proofs.Sessions.{never-fails, passed-on, if-ok, if-fault, hex-ends, if-write, session-due, session-ends, session-ran, session-unflushed, session-stopped}
 use Rattle.geos_cli.proofs.session.run_bytes.Goals as goal
 

@@ -6,10 +6,11 @@ use Rattle.geos_image.specs.Parts.{Parts}
 use Rattle.geos_image.specs.Reading.{image_at}
 use Rattle.geos_verify.specs.Rules.{Accepted}
 use Rattle.geos_machine.specs.Traces.{Notes}
-use Rattle.geos_cli.specs.declared.call_fault.CallFault.{CallFault}
-use Rattle.geos_cli.specs.declared.call_fault.CallFault.TheVariants.{BadBlocks, BadWord, Script}
+use Rattle.script_commands.specs.declared.call_fault.CallFault.{CallFault}
+use Rattle.script_commands.specs.declared.call_fault.CallFault.TheVariants.{BadBlocks, BadWord, Script}
 use Rattle.geos_cli.specs.declared.traced.TraceFault.TheVariants as trace_fault
-use Rattle.geos_cli.specs.Calls.{texts, IsWhyNoCall}
+use Rattle.script_commands.specs.Reading.{texts}
+use Rattle.script_commands.specs.CallWords.{IsWhyNoCall}
 use Rattle.geos_cli.specs.Script.{IsBadImage}
 use Rattle.geos_cli.specs.Traced.{stretch_of, WhyNotTraced}
 use Rattle.geos_cli.proofs.CallRuns.{asks}

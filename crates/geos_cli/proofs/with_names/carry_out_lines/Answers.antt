@@ -3,9 +3,9 @@ use Rattle.vm_file.proofs.StateLaws.{steadily_then}
 use Rattle.geos_kernel.specs.Files.{vm_file_of}
 use Rattle.geos_machine.proofs.Honest.{alike-on}
 use Rattle.geos_text.specs.Words.{words}
-use Rattle.geos_cli.specs.Names.{names_of, said_by}
+use Rattle.script_commands.specs.Names.{names_of, said_by}
 use Rattle.geos_cli.proofs.NamedRun.{RanSoFar, admitted-named, all-ran, any_line, ended-badly, more-ran, named-in, not-begun, refused-ran, stopped-at, stopped-behind}
-use Rattle.geos_cli.proofs.Parts.{IfErr-any}
+use Rattle.script_commands.proofs.Parts.{IfErr-any}
 use Rattle.geos_cli.proofs.with_names.carry_out_lines.Goals as goal
 
 pub returns-in_err-command-clause-stopped : goal.returns-in_err-command-clause-stopped

@@ -1,7 +1,7 @@
 use Rattle.std.proofs.Common.{◌∙◌, inl, inr, ap, map, subst, sym, arith}
 use Rattle.std.proofs.lemmas.Result.{IfErr-weaker}
 use Rattle.geos_input.specs.declared.fault.ScriptFault.{ScriptFault}
-use Rattle.geos_cli.specs.Names.{said_by}
+use Rattle.script_commands.specs.Names.{said_by}
 use Rattle.geos_cli.specs.WithNames.{LoadsNamed, NamedScriptEndsBy}
 use Rattle.geos_cli.proofs.CommandsRun.{if_ok-map}
 use Rattle.geos_cli.proofs.InFormRun.{fault-leaves}

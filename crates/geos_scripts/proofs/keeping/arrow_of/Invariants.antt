@@ -1,7 +1,7 @@
 use Rattle.std.proofs.Common.{◌≡◌, ◌≤◌, ◌-◌, ◌++◌, List, ℕ, false, drop, length}
 use Rattle.std.specs.Prelude.{All}
 use Rattle.geos_text.specs.Words.{words}
-use Rattle.geos_cli.specs.Names.{is_arrow}
+use Rattle.script_commands.specs.Names.{is_arrow}
 use Rattle.geos_scripts.proofs.keeping.arrow_of.Given as goal
 
 abbrev pub invariant-loop-word : goal.invariant-loop-word

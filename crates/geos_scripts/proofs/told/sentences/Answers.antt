@@ -1,7 +1,11 @@
-use Rattle.std.proofs.Common.{◌≤◌, length, arith}
-use Rattle.geos_cli.proofs.NamedRun.{any_line}
+use Rattle.std.proofs.Common.{◌≤◌, [], length, arith}
+use Rattle.script_commands.specs.declared.named_lines.Line.{Line}
 use Rattle.geos_scripts.proofs.Laws.{told-all, told-more}
 use Rattle.geos_scripts.proofs.told.sentences.Goals as goal
+
+-- stands where a list asks for one beyond its end
+abbrev any_line : Line
+any_line = record { number = 0; text = record { ref_ptr = (0, 0); now = [] } }
 
 pub loop-line-preserved : goal.loop-line-preserved
 loop-line-preserved c =

@@ -1,5 +1,5 @@
 use Rattle.std.proofs.Common.{List, ℕ, ◌++◌, drop}
-use Rattle.geos_cli.specs.BadLines.{numbers}
+use Rattle.script_commands.specs.BadLines.{numbers}
 use Rattle.geos_scripts.specs.Bad.{TellsEach}
 use Rattle.geos_scripts.proofs.told.sentences.Given as goal
 

@@ -1,5 +1,5 @@
 use Rattle.std.proofs.Common.{◌∙◌, ap}
-use Rattle.geos_cli.specs.BadLines.{numbers}
+use Rattle.script_commands.specs.BadLines.{numbers}
 use Rattle.geos_scripts.proofs.Laws.{tells, told-first}
 use Rattle.geos_scripts.proofs.told.told_of.Goals as goal
 

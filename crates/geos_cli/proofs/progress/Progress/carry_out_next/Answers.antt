@@ -1,6 +1,6 @@
 use Rattle.geos_cli.proofs.CommandsRun.{if_ok-map}
 use Rattle.geos_cli.proofs.InFormRun.{noted-behind, not-begun, stopped-behind}
-use Rattle.geos_cli.proofs.Parts.{IfErr-any, IfErr-map}
+use Rattle.script_commands.proofs.Parts.{IfErr-any, IfErr-map}
 use Rattle.geos_cli.proofs.progress.Progress.carry_out_next.Goals as goal
 
 pub returns-clause-ok : goal.returns-clause-ok

@@ -7,7 +7,8 @@ use Rattle.geos_kernel.proofs.Seen.{file-on}
 use Rattle.geos_machine.specs.declared.trace.Left.{Left}
 use Rattle.geos_machine.specs.declared.trace.Left.TheVariants.{On, ToTarget, Calling, Returning}
 use Rattle.geos_machine.specs.declared.trace.Noted.{Noted}
-use Rattle.geos_machine.specs.Runs.{begin, entry_slots, Throughout}
+use Rattle.geos_machine.specs.Runs.{begin, Throughout}
+use Rattle.geos_entry.specs.Entry.{entry_slots}
 use Rattle.geos_machine.specs.Traces.{left_by, with_note}
 use Rattle.geos_machine.proofs.Honest.{alike-on, alike-ready, alike-works, stays-honest}
 use Rattle.geos_machine.proofs.LentBlocks.{lends-lent}

@@ -1,0 +1,21 @@
+//! Entry rows: which words a routine may be called with.
+//!
+//! docs/MODEL.md says when a run may be asked for.
+#![tactic(auto)]
+
+ghost use Rattle.std.specs.Prelude.{◌≡◌};
+ghost use Rattle.geos_entry.specs.Entry.{admits};
+
+use geos_verify::{Checked, within_bounds};
+
+/// Whether there is such a routine, it is public, and each word is within its entry bound.
+pub fn admits_words(checked: &Checked, routine: u16, words: &[u16; 8]) -> bool
+    ensures { result ≡ admits checked.now routine words.now }
+{
+    let image = checked.image();
+    if routine >= image.count() {
+        return false;
+    }
+    let routine = image.routine(routine);
+    routine.public && within_bounds(words, &routine.entry.bounds)
+}

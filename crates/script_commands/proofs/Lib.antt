@@ -1,0 +1,14 @@
+pub mod BadLaws
+pub mod CallWords
+pub mod Commands
+pub mod Examples
+pub mod FormWords
+pub mod KeptNames
+pub mod LentHandles
+pub mod MayCommit
+pub mod Parts
+pub mod PlacedHandles
+pub mod PlainLines
+pub mod Registers
+pub mod Searches
+pub mod SpacedWords

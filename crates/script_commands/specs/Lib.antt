@@ -1,0 +1,11 @@
+pub mod BadLines
+pub mod CallWords
+pub mod Forms
+pub mod Lent
+pub mod Lines
+pub mod Marks
+pub mod MayCommit
+pub mod Names
+pub mod Outputs
+pub mod Plain
+pub mod Reading

@@ -1,0 +1,30 @@
+//! Why one call ends early.
+
+use geos_input::ScriptFault;
+use thiserror::Error;
+
+/// Why one call ended early.
+#[derive(Debug, Drop, Error)]
+pub enum CallFault {
+    /// This word of the call is wrong. 0 is the name: no public routine has it. Any other one is a number, counted from 1: it is the
+    /// ninth, or it is not of digits alone, or it is above 65,535 or the bound of its word in the routine's entry row.
+    #[error("bad call at word {0}")]
+    BadWord(usize),
+    /// The routine borrows so many blocks, and behind the numbers stand more or fewer, or a word that is no `@` with a handle.
+    #[error("bad call: {0} blocks are borrowed")]
+    BadBlocks(usize),
+    /// It ended as a script does.
+    #[error(transparent)]
+    Script(ScriptFault),
+}
+
+impl From<ScriptFault> for CallFault {
+    ghost use Rattle.std.specs.Prelude.{◌≡◌};
+    ghost use Rattle.script_commands.specs.declared.call_fault.CallFault.TheVariants.{Script};
+
+    ghost from_gives = { λ fault e. e ≡ Script fault };
+
+    fn from(fault: ScriptFault) -> CallFault {
+        CallFault::Script(fault)
+    }
+}
