@@ -27,4 +27,9 @@ pub mod Freeing
 pub mod Sweeping
 pub mod Dearer
 pub mod Placing
+pub mod Deep
+pub mod Deepening
+pub mod Gathering
+pub mod Arranging
+pub mod Parting
 pub mod Wholes

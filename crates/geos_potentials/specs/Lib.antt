@@ -28,5 +28,9 @@ pub mod Reasons
 pub mod Spent
 pub mod Paid
 pub mod Splits
+pub mod Parts
+pub mod Depths
+pub mod Gathers
+pub mod Arranged
 pub mod Cycles
 pub mod Whole

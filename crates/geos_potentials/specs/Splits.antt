@@ -1,5 +1,5 @@
 -- How a piece is split into components, and what is known of these.
-use Rattle.std.specs.Prelude.{◌≡◌, ◌≤◌, ◌<◌, ◌⊎◌, ℕ, ◌+◌, true, List, Option, None, slice_index, slice_index_or}
+use Rattle.std.specs.Prelude.{◌≡◌, ◌≤◌, ◌<◌, ◌⊎◌, ℕ, ◌+◌, Bool, List, Option, None, slice_index, slice_index_or}
 use Rattle.geos_potentials.specs.Pieces.{LeadsWithin}
 use Rattle.geos_potentials.specs.Stuck.{StandsAt, HasPlace, IsIn}
 use Rattle.geos_potentials.specs.declared.arcs.Arc.{Arc}
@@ -16,11 +16,11 @@ pub record NoNests (nests : Nests) : Type 0 where
   pub waits : nests.waits ≡ 0
   pub inner : (pc : ℕ) → slice_index_or nests.inner pc None ≡ None
 
--- a piece has more than one place, or the edge of its only one to its target stays in it
+-- a piece has more than one place, or an edge of its only one stays in it
 abbrev pub HasRound : List (List (Option Arc)) → List Jump → Order → Piece → Type 0
 HasRound arcs jumps order piece = (piece.begin < 4096) × ((piece.begin + 1 < piece.end)
     ⊎ ((piece.begin + 1 ≡ piece.end)
-    × ((pc : ℕ) → StandsAt order piece.begin pc → (to : ℕ) × LeadsWithin arcs jumps order piece pc true to)))
+    × ((pc : ℕ) → StandsAt order piece.begin pc → (branch : Bool) × (to : ℕ) × LeadsWithin arcs jumps order piece pc branch to)))
 
 -- Places of a piece
 
@@ -46,7 +46,3 @@ StayPlaced last old next = (pc : ℕ) → (slice_index next pc ≡ slice_index o
 -- the components of places that stand in a piece before some place of it are among the first so many, or not known
 abbrev pub ArePlaced : Order → Piece → List ℕ → ℕ → ℕ → Type 0
 ArePlaced order piece of end count = (x pc : ℕ) → piece.begin ≤ x → x < end → StandsAt order x pc → slice_index of pc ≤ count
-
--- places that are not of a piece stand next where they did
-abbrev pub OthersStand : Order → Piece → Order → Type 0
-OthersStand order piece next = (pc : ℕ) → (IsOf order piece pc → ⊥) → slice_index next.at pc ≡ slice_index order.at pc

@@ -20,6 +20,7 @@ mod inside;
 mod jumps;
 mod leads;
 mod lengths;
+mod lists;
 mod looks;
 mod nests;
 mod paying;

@@ -1,14 +1,16 @@
 //! Nests: places among which control goes round, each with the LOOPs that pay for that.
 
-ghost use Rattle.std.specs.Prelude.{◌≡◌, ◌<◌, ◌≤◌, ◌+◌, ℕ, None, Some, true, false, min, IfOk, IfSome, IfErr, slice_index_or, slice_set};
+ghost use Rattle.std.specs.Prelude.{◌≡◌, ◌≢◌, ◌<◌, ◌≤◌, ◌+◌, ℕ, None, Some, true, false, min, IfOk, IfSome, IfNone, IfErr, slice_index, slice_index_or, slice_set};
+ghost use Rattle.geos_potentials.specs.Parts.{AreOrdered, CanSplit, WaitBefore, WaitInOrder, IsSplit};
 ghost use Rattle.geos_potentials.specs.Pieces.{NoneMayPay};
 ghost use Rattle.geos_potentials.specs.Spent.{AreFree, AreLeftOut, LoopsSpent, MayPayAt, StayFree};
 ghost use Rattle.geos_potentials.specs.Splits.{NoNests, HasRound};
-ghost use Rattle.geos_potentials.specs.Stuck.{StayNoted, GoesRoundIdle};
+ghost use Rattle.geos_potentials.specs.Stuck.{StayNoted, GoesRoundIdle, HasPlace};
 ghost use Rattle.geos_potentials.specs.Untouched.{AreUntouched, StayUntouched};
 ghost use Rattle.geos_potentials.specs.Whole.{AreWhole};
 ghost use Rattle.geos_potentials.specs.declared.jumps.Jump.TheVariants.{Plain};
 ghost use Rattle.geos_potentials.specs.declared.nests.Nest.{Nest};
+ghost use Rattle.geos_potentials.specs.declared.nests.Waiting.{Waiting};
 
 use crate::choice::{Choice, Chosen, Tier, choose};
 use crate::classes::Classes;
@@ -159,11 +161,17 @@ impl Nests {
 
     /// A component is to be a nest.
     fn wait(&mut self, piece: Piece, around: Option<u16>)
+        ensures list { self.new.list ≡ self.old.list }
         ensures count { self.new.count ≡ self.old.count }
+        ensures inner { self.new.inner ≡ self.old.inner }
         ensures waits { self.old.waits < 4096 → self.new.waits ≡ self.old.waits + 1 }
-        ensures waiting { self.old.waits < 4096
-            → self.new.waiting ≡ slice_set self.old.waiting self.old.waits (record { piece = piece; around = around }) }
+        ensures here { self.old.waits < 4096 → (other : Waiting)
+            → slice_index_or self.new.waiting self.old.waits other ≡ record { piece = piece; around = around } }
+        ensures others { (n : ℕ) (other : Waiting) → n ≢ self.old.waits
+            → slice_index_or self.new.waiting n other ≡ slice_index_or self.old.waiting n other }
     {
+        // For what its law says.
+        self.waiting.lengths();
         if self.waits < MOST_INSTRS {
             self.waiting.set(self.waits, Waiting { piece, around });
             self.waits += 1;
@@ -172,7 +180,13 @@ impl Nests {
 
     /// The last component that is to be a nest.
     fn take(&mut self) -> Option<Waiting>
-        ensures { self.new.count ≡ self.old.count }
+        ensures list { self.new.list ≡ self.old.list }
+        ensures count { self.new.count ≡ self.old.count }
+        ensures inner { self.new.inner ≡ self.old.inner }
+        ensures waiting { self.new.waiting ≡ self.old.waiting }
+        ensures none { IfNone result (self.old.waits ≤ 4096 → self.old.waits ≡ 0) }
+        ensures some { IfSome result (λ taken. (self.new.waits + 1 ≡ self.old.waits)
+            × ((other : Waiting) → slice_index_or self.old.waiting self.new.waits other ≡ taken)) }
     {
         if self.waits == 0 || MOST_INSTRS < self.waits {
             return None;
@@ -285,24 +299,38 @@ impl Splitting {
             return true;
         }
         let pc = self.order.place(piece.begin);
-        lead_within(graph, &self.jumps, &self.order, piece, pc, true).is_some()
+        lead_within(graph, &self.jumps, &self.order, piece, pc, false).is_some()
+            || lead_within(graph, &self.jumps, &self.order, piece, pc, true).is_some()
     }
 
     /// Splits a piece into its components; those in which control goes round are to be nests.
     fn split(&mut self, graph: &Graph, piece: &Piece, around: Option<u16>)
+        ensures list { self.new.nests.list ≡ self.old.nests.list }
         ensures count { self.new.nests.count ≡ self.old.nests.count }
+        ensures inner { self.new.nests.inner ≡ self.old.nests.inner }
         ensures jumps { self.new.jumps ≡ self.old.jumps }
+        ensures ordered { (start last : ℕ) → CanSplit graph.now self.old.order start last piece.now → AreOrdered self.new.order start last }
+        ensures others { (start last pc : ℕ) → CanSplit graph.now self.old.order start last piece.now
+            → (HasPlace self.old.order piece.now pc → ⊥) → slice_index self.new.order.at pc ≡ slice_index self.old.order.at pc }
+        ensures split { (start last : ℕ) → CanSplit graph.now self.old.order start last piece.now → WaitBefore self.old.nests piece.now
+            → IsSplit graph.now.arcs self.old.jumps self.old.order self.new.order piece.now self.old.nests self.new.nests }
+        ensures wait { (start last : ℕ) → CanSplit graph.now self.old.order start last piece.now → WaitBefore self.old.nests piece.now
+            → WaitInOrder self.new.nests }
+        ensures around { (start last n : ℕ) (other : Waiting) → CanSplit graph.now self.old.order start last piece.now
+            → WaitBefore self.old.nests piece.now → self.old.nests.waits ≤ n → n < self.new.nests.waits
+            → (slice_index_or self.new.nests.waiting n other).around ≡ around }
     {
         self.components
             .arrange(graph, &self.jumps, &mut self.order, piece);
+        // For what its law says.
+        self.order.places.lengths();
         let mut begin = piece.begin;
         for component in (0..self.components.count().min(MOST_INSTRS)).rev() {
-            let end = self.components.end_of(component);
-            let part = Piece { begin, end };
+            let part = self.components.part_of(component, begin);
             if self.goes_round(graph, &part) {
                 self.nests.wait(part, around);
             }
-            begin = end;
+            begin = part.end;
         }
     }
 

@@ -35,6 +35,8 @@ pub struct Order {
 
 impl Order {
     ghost use Rattle.std.specs.Prelude.{◌≡◌, ◌<◌, ◌≢◌, ◌≤◌, ◌↔◌, ℕ, IsTrue, slice_index, slice_set, IfOk};
+    ghost use Rattle.geos_potentials.specs.Arranged.{AreRearranged};
+    ghost use Rattle.geos_potentials.specs.Parts.{AreOrdered};
     ghost use Rattle.geos_potentials.specs.Stuck.{StandsAt};
 
     /// There are no places.
@@ -64,17 +66,36 @@ impl Order {
     }
 
     /// A place stands here.
-    pub(crate) fn put(&mut self, x: u16, pc: u16)
+    fn put(&mut self, x: u16, pc: u16)
         requires here { x < 4096 }
         requires place { pc < 4096 }
         ensures at { self.new.at ≡ slice_set self.old.at pc x }
         ensures stands { StandsAt self.new x pc }
         ensures others { (y place : ℕ) → y ≢ x → StandsAt self.old y place → StandsAt self.new y place }
+        ensures back { (y place : ℕ) → y ≢ x → StandsAt self.new y place → StandsAt self.old y place }
     {
         // For what its law says.
         self.places.lengths();
         self.places.set(x, Place { pc });
         self.at.set(pc, x);
+    }
+
+    /// A place stands here, and the place that stood here stands where that one did.
+    pub(crate) fn swap(&mut self, x: u16, pc: u16)
+        requires here { x < 4096 }
+        requires place { pc < 4096 }
+        requires there { slice_index self.old.at pc < 4096 }
+        ensures here { slice_index self.new.at pc ≡ x }
+        ensures rearranged { (start last begin end : ℕ) → AreOrdered self.old start last → start ≤ begin → end ≤ last
+            → start ≤ pc → pc < last → begin ≤ x → x < end → begin ≤ slice_index self.old.at pc → slice_index self.old.at pc < end
+            → AreRearranged self.old self.new start last begin end }
+    {
+        // For what its law says.
+        self.at.lengths();
+        let there = self.at.at(pc);
+        let other = self.place(x);
+        self.put(there, other);
+        self.put(x, pc);
     }
 
     /// The place that stands here.

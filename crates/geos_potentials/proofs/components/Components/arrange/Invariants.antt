@@ -1,11 +1,16 @@
-use Rattle.std.proofs.Common.{◌≡◌}
-use Rattle.geos_potentials.specs.Splits.{AreOf, OthersStand}
+use Rattle.std.proofs.Common.{◌≡◌, ℕ, length}
+use Rattle.geos_potentials.specs.Parts.{CanSplit}
+use Rattle.geos_potentials.proofs.Arranging.{IsArranging}
 use Rattle.geos_potentials.proofs.components.Components.arrange.Given as goal
 
--- only places of the piece were put somewhere
-abbrev pub invariant-loop-n : goal.invariant-loop-n
-invariant-loop-n l = record {
-  same : l.self.depth ≡ l.initial.self.depth;
-  left : AreOf l.fn.order l.piece l.self.depth.left l.self.depth.count;
-  others : OthersStand l.fn.order l.piece l.order;
+-- the places of all components but the first so many stand by these
+abbrev pub invariant-loop-component : goal.invariant-loop-component
+invariant-loop-component l = record {
+  depth : l.self.depth ≡ l.initial.self.depth;
+  of : l.self.of ≡ l.initial.self.of;
+  lists : l.self.lists ≡ l.initial.self.lists;
+  count : l.self.count ≡ l.initial.self.count;
+  long : length l.self.ends ≡ 4096;
+  arranging : (start last : ℕ) → CanSplit l.graph l.fn.order start last l.piece
+      → IsArranging l.fn.order l.order start last l.piece l.self.of l.component l.self.count l.self.ends l.begin;
 }

@@ -1,18 +1,16 @@
-use Rattle.std.proofs.Common.{◌≡◌}
-use Rattle.geos_potentials.specs.Splits.{AreOf, ArePlaced}
+use Rattle.std.proofs.Common.{◌≡◌, ◌≤◌, ◌+◌, ℕ}
+use Rattle.std.specs.Prelude.{slice_index}
+use Rattle.geos_potentials.specs.Gathers.{IsSearched, AreGatheredFrom}
+use Rattle.geos_potentials.specs.Led.{AreLed}
+use Rattle.geos_potentials.specs.Splits.{ArePlaced}
 use Rattle.geos_potentials.proofs.components.Components.find.Given as goal
 
--- no component is known of the places before x
-abbrev pub invariant-loop-x : goal.invariant-loop-x
-invariant-loop-x l = record {
-  count : l.self.count ≡ 0;
-  left : AreOf l.order l.piece l.self.depth.left l.self.depth.count;
-  of : ArePlaced l.order l.piece l.self.of l.x 0;
-}
-
--- each is of one that was found, or not known
+-- the components of the places that were left from n on are gathered
 abbrev pub invariant-loop-n : goal.invariant-loop-n
 invariant-loop-n l = record {
-  left : AreOf l.order l.piece l.self.depth.left l.self.depth.count;
+  depth : l.self.depth ≡ l.initial.self.depth;
+  room : l.self.count + l.n ≤ l.initial.self.depth.count;
   of : ArePlaced l.order l.piece l.self.of l.piece.end l.self.count;
+  gathered : AreLed l.graph → IsSearched l.graph.arcs l.jumps l.order l.piece l.initial.self.depth
+      → AreGatheredFrom l.graph.arcs l.jumps l.order l.piece l.initial.self.depth l.n l.self.of l.self.count;
 }

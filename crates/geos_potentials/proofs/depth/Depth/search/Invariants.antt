@@ -1,10 +1,14 @@
-use Rattle.std.proofs.Common.{◌≡◌}
+use Rattle.std.proofs.Common.{◌≤◌, ◌<◌, ℕ, ◌+◌}
+use Rattle.geos_potentials.specs.Depths.{new_in, IsNew, StayIn, GoesDeep}
 use Rattle.geos_potentials.specs.Splits.{AreOf}
+use Rattle.geos_potentials.specs.Stuck.{StandsAt}
 use Rattle.geos_potentials.proofs.depth.Depth.search.Given as goal
 
+-- the search has come to the places before x, and those that were left are of the piece
 abbrev pub invariant-loop-x : goal.invariant-loop-x
-invariant-loop-x l = l.self.count ≡ 0
-
--- the places that were left are of the piece
-abbrev pub invariant-loop-x-2 : goal.invariant-loop-x-2
-invariant-loop-x-2 l = AreOf l.order l.piece l.self.left l.self.count
+invariant-loop-x l = record {
+  room : l.self.count + new_in l.self.searched ≤ 4096;
+  come : (y pc : ℕ) → l.piece.begin ≤ y → y < l.x → StandsAt l.order y pc → IsNew l.self pc → ⊥;
+  left : AreOf l.order l.piece l.self.left l.self.count;
+  deep : StayIn l.graph.arcs l.jumps l.order l.piece → GoesDeep l.graph.arcs l.jumps l.order l.piece l.self 0;
+}
