@@ -33,3 +33,9 @@ pub mod Gathering
 pub mod Arranging
 pub mod Parting
 pub mod Wholes
+pub mod Bounding
+pub mod Making
+pub mod Nesting
+pub mod Taking
+pub mod Leaving
+pub mod Marking

@@ -11,9 +11,10 @@ use Rattle.geos_potentials.specs.declared.jumps.Jump.TheVariants.{Plain, Free, P
 use Rattle.geos_potentials.specs.Arcs.{arc_at, unit_at}
 use Rattle.geos_potentials.specs.Demands.{AreRaised, HaveGrown}
 use Rattle.geos_potentials.specs.Least.{is_free}
+use Rattle.geos_potentials.specs.Making.{NonePay}
 use Rattle.geos_potentials.specs.Spent.{LoopsSpent, AreLeftOut, AreFree, StayFree, AreNotedSet}
 use Rattle.geos_potentials.specs.Untouched.{untouched}
-use Rattle.geos_potentials.specs.Within.{HoldsAt}
+use Rattle.geos_potentials.specs.Within.{HoldsAt, pays as is_paying}
 use Rattle.geos_potentials.proofs.Covering.{spent-parts}
 use Rattle.geos_potentials.proofs.Demand.{grows}
 use Rattle.geos_potentials.proofs.Untouched.{holds-at}
@@ -103,6 +104,23 @@ not-free are jumps low p none before = record {
     | inr ne ↦ before.all pc above (omega (arith, below, ne)) S
   ];
 }
+
+-- none pays where nothing is found of any, nor where one more is left out
+pub none-pay : (jumps : List Jump) (low : ℕ) → length jumps ≡ 4096
+    → ((pc : ℕ) (other : Jump) → low ≤ pc → pc < 4096 → slice_index_or jumps pc other ≡ Plain) → NonePay low jumps
+none-pay jumps low long filled pc nest above is = elim (cases_lt pc 4096) [
+  | inl lt ↦ false≢true (sym (ap is_paying (filled pc Plain above lt)) ∙ ap is_paying is)
+  | inr past ↦ false≢true (sym (ap is_paying (get_or_past jumps pc Plain (omega (arith, past, long)))) ∙ ap is_paying is)
+]
+
+pub none-pay-free : (old next : List Jump) (low p : ℕ) → p < length old → next ≡ slice_set old p Free → NonePay low old → NonePay low next
+none-pay-free old next low p room set before pc nest above is = elim (cases_eq pc p) [
+  | inl same ↦
+      let free : slice_index_or next pc Plain ≡ Free = ap (λ (xs : List Jump). slice_index_or xs pc Plain) set
+      ∙ ap (λ (n : ℕ). slice_index_or (slice_set old p Free) n Plain) same ∙ get_or-set_same old p Free Plain room in
+      false≢true (sym (ap is_paying free) ∙ ap is_paying is)
+  | inr ne ↦ before pc nest above (sym (ap (λ (xs : List Jump). slice_index_or xs pc Plain) set ∙ get_or-set_other old p pc Free Plain ne) ∙ is)
+]
 
 -- one that pays was not left out, and is not
 pub pays-not-free : (old next : List Jump) (p nest : ℕ) → next ≡ slice_set old p (Pays nest) → is_free (slice_index_or old p Plain) ≡ false

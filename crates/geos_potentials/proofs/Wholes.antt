@@ -1,5 +1,5 @@
--- Nests whose places are a component.
-use Rattle.std.proofs.Common.{◌≡◌, ◌≤◌, ◌<◌, ℕ, Bool, List, [], ◌∷◌, length, Option, Some, refl, sym, ap, ◌∙◌, subst, arith, inl, inr}
+-- Nests stay, and so those whose places are a component.
+use Rattle.std.proofs.Common.{◌≡◌, ◌<◌, ℕ, List, [], ◌∷◌, length, Option, refl, sym, ap, ◌∙◌, subst, arith, inl, inr}
 use Rattle.std.specs.Prelude.{slice_index_or, slice_set}
 use Rattle.std.proofs.lemmas.Bool.{cases_eq, cases_lt}
 use Rattle.std.proofs.lemmas.List.{length-set, get_or_past, get_or-set_same, get_or-set_other}
@@ -10,57 +10,9 @@ use Rattle.geos_potentials.specs.declared.nests.Nest.{Nest}
 use Rattle.geos_potentials.specs.declared.nests.Splitting.{Splitting}
 use Rattle.geos_potentials.specs.declared.pieces.Order.{Order}
 use Rattle.geos_potentials.specs.declared.pieces.Piece.{Piece}
-use Rattle.geos_potentials.specs.Arcs.{arc_at, unit_at}
-use Rattle.geos_potentials.specs.Demands.{AreRaised}
-use Rattle.geos_potentials.specs.Rounds.{Step, StaysInNest, AreSteps, AreCameTo, is_left_out_in}
+use Rattle.geos_potentials.specs.Rounds.{Step, AreSteps, is_left_out_in}
 use Rattle.geos_potentials.specs.Stuck.{HasPlace, IsIn}
-use Rattle.geos_potentials.specs.Whole.{AreCameFrom, AreAllNoted, IsWhole, AreWhole, StayNests}
-use Rattle.geos_potentials.proofs.Spreading.{raised-all}
-
-module _ (arcs : List (List (Option Arc))) (splitting : Splitting) (id : ℕ) (piece : Piece) where
-  -- steps go on by others
-  pub both-ways : (from mid to : ℕ) (first second : List Step) → AreSteps arcs splitting id piece from first mid
-      → AreSteps arcs splitting id piece mid second to → (steps : List Step) × AreSteps arcs splitting id piece from steps to
-  both-ways from mid to first [] A same = (first, subst (AreSteps arcs splitting id piece from first) same A)
-  both-ways from mid to first (step ∷ before) A B =
-      let rest = both-ways from mid step.pc first before A B.3 in
-      (step ∷ rest.0, (B.0, B.1, B.2, rest.1))
-
-  -- control comes from where an edge begins that stays in the nest, and leads to where it comes from
-  pub back-in : (low to : ℕ) (old next : List (List ℕ)) (p : ℕ) (branch : Bool) (arc : Arc) → low ≤ arc.to → arc_at arcs p branch ≡ Some arc
-      → StaysInNest splitting id piece p branch arc.to → AreRaised old next p (slice_index_or old arc.to [])
-      → AreCameFrom arcs splitting id piece low to old → AreCameFrom arcs splitting id piece low to next
-  back-in low to old next p branch arc above read stays R before pc k up some =
-      raised-all (λ at c n. (steps : List Step) × AreSteps arcs splitting id piece at steps to) low old next p
-      (slice_index_or old arc.to []) R
-      before
-      (λ c _ lt. (let came = before arc.to c above lt in
-      both-ways p arc.to to (record { pc = p; branch = branch; arc = arc } ∷ []) came.0 (refl, read, stays, refl) came.1))
-      pc k up some
-
-  -- at first it is at one place alone
-  pub first-back : (low to : ℕ) (old next : List (List ℕ)) (numbers : List ℕ) → ((pc k : ℕ) → low ≤ pc → unit_at old pc k ≡ 0)
-      → AreRaised old next to numbers → AreCameFrom arcs splitting id piece low to next
-  first-back low to old next numbers none R pc k up some = elim (cases_eq pc to) [
-    | inl same ↦ ([], same)
-    | inr ne ↦
-        let other = R.others pc k ne in
-        let zero = none pc k up in
-        absurd (omega (arith, some, other, zero))
-  ]
-
-  -- where it comes from one place to all, and from all to that, it comes from each to each
-  pub whole : (low first : ℕ) (on back : List (List ℕ)) → AreCameTo arcs splitting id piece low first on
-      → AreCameFrom arcs splitting id piece low first back → AreAllNoted splitting.order piece low on piece.end
-      → AreAllNoted splitting.order piece low back piece.end → IsWhole arcs splitting id piece
-  whole low first on back C F N B from to here there =
-      let out = B here.0 from here.1 here.2 here.3 in
-      let in_ = N there.0 to there.1 there.2 there.3 in
-      let begins = F from 0 out.0 out.1 in
-      let ends = C to 0 in_.0 in_.1 in
-      both-ways from first to begins.0 ends.0 begins.1 ends.1
-
--- Nests stay
+use Rattle.geos_potentials.specs.Whole.{AreWhole, StayNests}
 
 pub stay-refl : (s : Splitting) → StayNests s s
 stay-refl s = record { order = refl; jumps = refl; count = refl; pieces = λ id other. refl }

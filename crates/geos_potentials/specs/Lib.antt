@@ -34,3 +34,4 @@ pub mod Gathers
 pub mod Arranged
 pub mod Cycles
 pub mod Whole
+pub mod Making

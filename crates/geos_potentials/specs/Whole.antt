@@ -1,23 +1,14 @@
 -- Nests whose places are a component.
-use Rattle.std.specs.Prelude.{◌≡◌, ◌≤◌, ◌<◌, ℕ, List, Option, slice_index_or}
-use Rattle.geos_potentials.specs.Arcs.{unit_at}
+use Rattle.std.specs.Prelude.{◌≡◌, ◌≤◌, ◌<◌, ℕ, Bool, true, List, [], ◌∷◌, Option, Some, slice_index_or}
+use Rattle.geos_potentials.specs.Arcs.{arc_at}
 use Rattle.geos_potentials.specs.Rounds.{Step, AreSteps}
-use Rattle.geos_potentials.specs.Stuck.{StandsAt, IsIn}
+use Rattle.geos_potentials.specs.Stuck.{IsIn}
 use Rattle.geos_potentials.specs.declared.arcs.Arc.{Arc}
+use Rattle.geos_potentials.specs.declared.jumps.Jump.{Jump}
+use Rattle.geos_potentials.specs.declared.jumps.Jump.TheVariants.{Plain, Pays}
 use Rattle.geos_potentials.specs.declared.nests.Nest.{Nest}
 use Rattle.geos_potentials.specs.declared.nests.Splitting.{Splitting}
-use Rattle.geos_potentials.specs.declared.pieces.Order.{Order}
 use Rattle.geos_potentials.specs.declared.pieces.Piece.{Piece}
-
--- within a nest control comes to a pc from each place, of those from a lowest one on, at which some number is not 0
-abbrev pub AreCameFrom : List (List (Option Arc)) → Splitting → ℕ → Piece → ℕ → ℕ → List (List ℕ) → Type 0
-AreCameFrom arcs splitting id piece low to seen = (pc k : ℕ) → low ≤ pc → 0 < unit_at seen pc k
-    → (steps : List Step) × AreSteps arcs splitting id piece pc steps to
-
--- the first number is not 0 at places that stand in a piece before some place of it, and none of them is below a lowest one
-abbrev pub AreAllNoted : Order → Piece → ℕ → List (List ℕ) → ℕ → Type 0
-AreAllNoted order piece low seen end = (x pc : ℕ) → piece.begin ≤ x → x < end → StandsAt order x pc
-    → (low ≤ pc) × (0 < unit_at seen pc 0)
 
 -- steps along noted edges that stay in a nest lead from each of its places to each other
 abbrev pub IsWhole : List (List (Option Arc)) → Splitting → ℕ → Piece → Type 0
@@ -28,6 +19,25 @@ IsWhole arcs splitting id piece = (from to : ℕ) → IsIn splitting.order piece
 abbrev pub AreWhole : List (List (Option Arc)) → Splitting → Type 0
 AreWhole arcs splitting = (id : ℕ) (other : Nest) → id < splitting.nests.count
     → IsWhole arcs splitting id (slice_index_or splitting.nests.list id other).piece
+
+-- Ways round
+
+-- noted edges lead from a pc to another, and none of them is a LOOP's way to its target that is left out or pays; each says whether it is the
+-- one to a target
+abbrev pub IsPlainWay : List (List (Option Arc)) → List Jump → ℕ → List Bool → ℕ → Type 0
+IsPlainWay arcs jumps from [] to = from ≡ to
+IsPlainWay arcs jumps from (branch ∷ branches) to = (arc : Arc) × (arc_at arcs from branch ≡ Some arc)
+    × (branch ≡ true → slice_index_or jumps from Plain ≡ Plain) × IsPlainWay arcs jumps arc.to branches to
+
+-- wherever control goes round, it takes a LOOP's way that is left out or pays
+abbrev pub EachRoundPays : List (List (Option Arc)) → List Jump → Type 0
+EachRoundPays arcs jumps = (from : ℕ) (branch : Bool) (branches : List Bool) → IsPlainWay arcs jumps from (branch ∷ branches) from → ⊥
+
+-- a LOOP at a pc from one on that pays does so in one of the nests
+abbrev pub PayInNests : ℕ → Splitting → Type 0
+PayInNests start splitting = (pc nest : ℕ) → start ≤ pc → slice_index_or splitting.jumps pc Plain ≡ Pays nest → nest < splitting.nests.count
+
+-- Nests stay
 
 -- places stand next where they did, the same is found of LOOPs, and nests have the places that they had
 pub record StayNests (old next : Splitting) : Type 0 where

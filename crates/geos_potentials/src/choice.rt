@@ -4,6 +4,7 @@ ghost use Rattle.std.specs.Prelude.{◌≡◌, ◌<◌, ◌≤◌, ◌==◌, ◌
 ghost use Rattle.geos_potentials.specs.Arcs.{arc_at, unit_at};
 ghost use Rattle.geos_potentials.specs.Demands.{taken_from};
 ghost use Rattle.geos_potentials.specs.Least.{is_free};
+ghost use Rattle.geos_potentials.specs.Making.{may_pay_in, ArePrices, IsChosen, IsSomeChosen};
 ghost use Rattle.geos_potentials.specs.Pieces.{TakesWithin, ArePriced, NoneMayPay, SumsUp, set_within};
 ghost use Rattle.geos_potentials.specs.Ranks.{noted_idle};
 ghost use Rattle.geos_potentials.specs.Untouched.{untouched};
@@ -50,6 +51,7 @@ pub(crate) struct Chosen {
 fn counter_at(graph: &Graph, jumps: &Jumps, order: &Order, piece: &Piece, pc: u16) -> Option<u8>
     requires { pc < 4096 }
     ensures all { (k : ℕ) → TakesWithin graph.now.arcs jumps.now order.now piece.now pc k → result ≡ Some k }
+    ensures within { (k : ℕ) → result ≡ Some k → TakesWithin graph.now.arcs jumps.now order.now piece.now pc k }
     ensures takes { (k : ℕ) → result ≡ Some k → (arc : Arc) × (arc_at graph.now.arcs pc true ≡ Some arc) × (taken_from arc.counting ≡ Some k) }
     ensures plain { (k : ℕ) → result ≡ Some k → is_free (slice_index_or jumps.now pc Plain) ≡ false }
 {
@@ -64,6 +66,7 @@ impl Tier {
         requires { pc < 4096 }
         ensures touched { result ≡ true → (unit_at classes.now.touched pc counter == 0) ≡ true }
         ensures tight { self ≡ Tight → result ≡ not (noted_idle classes.now pc counter) }
+        ensures tier { result ≡ may_pay_in self classes.now pc counter }
     {
         if classes.is_touched(pc, counter) {
             return false;
@@ -90,21 +93,22 @@ impl Chosen {
         requires { pc < 4096 }
         ensures untouched { result ≡ true → HoldsAt graph.now.arcs (untouched classes.now.touched) pc }
         ensures plain { result ≡ true → is_free (slice_index_or jumps.now pc Plain) ≡ false }
+        ensures within { result ≡ true → TakesWithin graph.now.arcs jumps.now order.now piece.now pc self.now.choice.counter }
+        ensures all { IsChosen graph.now.arcs jumps.now order.now classes.now piece.now self.now.choice pc → result ≡ true }
     {
         let Choice {
             counter,
             tier,
             price,
         } = self.choice;
-        match counter_at(graph, jumps, order, piece, pc) {
-            Some(here) if here == counter => {
-                tier.may_pay(classes, pc, counter)
-                    && (self.all
-                        || matches!(tier, Tier::Tight)
-                        || classes.price(pc, counter) == price)
-            }
-            _ => false,
+        let Some(here) = counter_at(graph, jumps, order, piece, pc) else {
+            return false;
+        };
+        if here != counter {
+            return false;
         }
+        tier.may_pay(classes, pc, counter)
+            && (self.all || matches!(tier, Tier::Tight) || classes.price(pc, counter) == price)
     }
 }
 
@@ -130,8 +134,11 @@ fn add_price(
     prices: &mut [Option<u32>; 4],
 )
     requires { x < 4096 }
-    ensures { tier ≡ Tight → ArePriced graph.now.arcs jumps.now order.now classes.now piece.now x prices.old
+    ensures all { tier ≡ Tight → ArePriced graph.now.arcs jumps.now order.now classes.now piece.now x prices.old
         → ArePriced graph.now.arcs jumps.now order.now classes.now piece.now (x + 1) prices.new }
+    ensures only { piece.now.begin ≤ x → x < piece.now.end
+        → ArePrices graph.now.arcs jumps.now order.now classes.now piece.now tier prices.old
+        → ArePrices graph.now.arcs jumps.now order.now classes.now piece.now tier prices.new }
 {
     let pc = order.place(x);
     let Some(counter) = counter_at(graph, jumps, order, piece, pc) else {
@@ -156,7 +163,8 @@ fn prices(
     piece: &Piece,
     tier: Tier,
 ) -> [Option<u32>; 4]
-    ensures { tier ≡ Tight → ArePriced graph.now.arcs jumps.now order.now classes.now piece.now piece.now.end result }
+    ensures all { tier ≡ Tight → ArePriced graph.now.arcs jumps.now order.now classes.now piece.now piece.now.end result }
+    ensures only { ArePrices graph.now.arcs jumps.now order.now classes.now piece.now tier result }
 {
     let mut prices = [None; 4];
     for x in piece.begin..piece.end {
@@ -211,7 +219,8 @@ fn cheaper(found: Option<Choice>, choice: Choice) -> Choice
 
 /// The counter of the least price, of which there is one.
 fn cheapest(prices: &[Option<u32>; 4], tier: Tier) -> Option<Choice>
-    ensures { IfNone result ((k : ℕ) → k < 4 → slice_index_or prices.now k None ≡ None) }
+    ensures none { IfNone result ((k : ℕ) → k < 4 → slice_index_or prices.now k None ≡ None) }
+    ensures some { IfSome result (λ choice. (choice.tier ≡ tier) × (slice_index_or prices.now choice.counter None ≡ Some choice.price)) }
 {
     let mut found: Option<Choice> = None;
     for counter in 0..4u8 {
@@ -235,7 +244,8 @@ fn set_price(
     counter: u8,
     price: Option<u32>,
 ) -> Option<u32>
-    ensures { result ≡ None → price ≡ None }
+    ensures none { result ≡ None → price ≡ None }
+    ensures only { price ≡ None → result ≡ None }
 {
     match price {
         Some(_) => Some(sum_set(graph, order, piece, counter)),
@@ -250,7 +260,8 @@ fn set_prices(
     piece: &Piece,
     prices: &[Option<u32>; 4],
 ) -> [Option<u32>; 4]
-    ensures { (k : ℕ) → slice_index_or result k None ≡ None → slice_index_or prices.now k None ≡ None }
+    ensures none { (k : ℕ) → slice_index_or result k None ≡ None → slice_index_or prices.now k None ≡ None }
+    ensures only { (k : ℕ) → slice_index_or prices.now k None ≡ None → slice_index_or result k None ≡ None }
 {
     let [p0, p1, p2, p3] = *prices;
     [
@@ -269,7 +280,8 @@ pub(crate) fn choose(
     classes: &Classes,
     piece: &Piece,
 ) -> Option<Choice>
-    ensures { IfNone result (NoneMayPay graph.now.arcs jumps.now order.now classes.now piece.now) }
+    ensures none { IfNone result (NoneMayPay graph.now.arcs jumps.now order.now classes.now piece.now) }
+    ensures some { IfSome result (IsSomeChosen graph.now.arcs jumps.now order.now classes.now piece.now) }
 {
     let clean = prices(graph, jumps, order, classes, piece, Tier::Clean);
     if let Some(choice) = cheapest(&clean, Tier::Clean) {

@@ -30,8 +30,8 @@ pub(crate) struct Classes {
     /// The greatest number that the counter is set to from where it comes with it; 0 where there is none.
     prices: Spread,
     /// 1 where it comes with the counter as it was set among the places that were looked at last.
-    pub(crate) set_within: Spread,
-    pub(crate) waits: Pile,
+    set_within: Spread,
+    waits: Pile,
 }
 
 /// 1 of each of these counters.

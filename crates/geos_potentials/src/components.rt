@@ -114,7 +114,7 @@ impl Components {
         self.add(edge.from);
     }
 
-    /// The places from which edges lead to a place are of the last component, if it is, but for those of others.
+    /// Where a place is of the last component, those from which edges lead there are, if they are of no other.
     fn add_before(&mut self, graph: &Graph, jumps: &Jumps, order: &Order, piece: &Piece, to: u16)
         requires inside { to < 4096 }
         requires some { 0 < self.old.count }

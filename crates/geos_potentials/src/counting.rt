@@ -1,8 +1,9 @@
 //! What the edges of an instruction cost, and what they do to counters.
 
-ghost use Rattle.std.specs.Prelude.{◌≡◌, ◌<◌, ◌≤◌, ◌+◌, false};
+ghost use Rattle.std.specs.Prelude.{◌≡◌, ◌<◌, ◌≤◌, ◌+◌, ℕ, Some, true, false, IfSome};
 ghost use Rattle.geos_image.specs.Fields.{FieldsFit};
 ghost use Rattle.geos_potentials.specs.Arcs.{counting_of, IsArcIf};
+ghost use Rattle.geos_potentials.specs.Demands.{taken_from};
 ghost use Rattle.geos_code.specs.Known.{row_of, known_at};
 ghost use Rattle.geos_potentials.specs.Steps.{taken_at};
 
@@ -72,7 +73,8 @@ pub(crate) fn arc_of(
     branch: bool,
 ) -> Option<Arc>
     requires { pc < body.now.end }
-    ensures { IsArcIf body.now.image.now body.now.r known.now touched.now pc branch result }
+    ensures arc { IsArcIf body.now.image.now body.now.r known.now touched.now pc branch result }
+    ensures takes { IfSome result (λ arc. (k : ℕ) → taken_from arc.counting ≡ Some k → (branch ≡ true) × (k < 4)) }
 {
     let edge = edge_in(body, pc, branch)?;
     Some(Arc {

@@ -18,7 +18,6 @@ use crate::jumps::{Jumps, lead_within};
 use crate::pieces::{Order, Piece};
 use crate::place::Place;
 use geos_code::{Table, two_tables};
-use geos_image::MOST_INSTRS;
 use std::alloc::{AllocError, Global};
 
 /// How far a place is searched.

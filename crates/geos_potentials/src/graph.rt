@@ -3,6 +3,7 @@
 ghost use Rattle.std.specs.Prelude.{◌≡◌, ◌<◌, None, slice_index_or, IfOk};
 ghost use Rattle.geos_potentials.specs.Arcs.{AreArcs, NoArcsOutside, arc_at};
 ghost use Rattle.geos_potentials.specs.Led.{NoEdges, AreLed, behind_at};
+ghost use Rattle.geos_potentials.specs.Making.{AreInside};
 
 use crate::arcs::Arc;
 use crate::counting::arc_of;
@@ -33,6 +34,7 @@ impl Graph {
     pub(crate) fn note(&mut self, body: &Body, known: &Known, touched: &Touched)
         ensures arcs { AreArcs body.now.image.now body.now.r known.now touched.now self.new.arcs }
         ensures outside { NoArcsOutside body.now.image.now body.now.r self.new.arcs }
+        ensures inside { AreInside self.new.arcs body.now.start body.now.end }
         ensures led { AreLed self.new }
     {
         self.arcs.fill_from(0, [None, None]);

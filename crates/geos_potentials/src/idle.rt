@@ -1,29 +1,19 @@
-//! Ways round on which no LOOP may pay: at each the counter is as it was where the routine begins, or as a call left it.
+//! Where LOOPs may not pay: there the counter is as it was where the routine begins, or as a call left it.
 
 ghost use Rattle.std.specs.Prelude.{◌≡◌, ◌<◌, ◌≤◌, ℕ, true, Some, IfSome};
 ghost use Rattle.geos_potentials.specs.Touching.{KnowsTouched, NotesTouched, NotesAllTouched};
 ghost use Rattle.geos_potentials.specs.Idle.{calls_touching, LeadsIdle};
 ghost use Rattle.geos_code.specs.Code.{IsPcOf};
 ghost use Rattle.geos_potentials.specs.Ranks.{noted_idle, GoesOn, IsNotedBehind, AreNotedFrom, AreIdleNoted};
-ghost use Rattle.geos_potentials.specs.Stuck.{HasPlace, LeadsNotedIdle, GoesRoundIdle};
 ghost use Rattle.geos_potentials.specs.Trails.{keeps_counter};
 ghost use Rattle.geos_code.specs.Edges.{LeadsTo};
 ghost use Rattle.geos_image.specs.Parts.{Parts};
-ghost use Rattle.geos_potentials.specs.declared.pieces.Order.{Order};
-ghost use Rattle.geos_potentials.specs.declared.pieces.Piece.{Piece};
 
 use crate::classes::Classes;
-use crate::graph::Graph;
-use crate::jumps::lead_within;
-use crate::leads::Lead;
-use crate::nests::Splitting;
-use crate::pieces::Piece;
 use crate::spent::{Touching, touches};
 use geos_code::{Body, edge_in, is_loop};
-use geos_image::{Instr, MOST_INSTRS, Opcode};
+use geos_image::{Instr, Opcode};
 use geos_verify::Touched;
-
-// What is noted
 
 /// Whether an edge of the instruction may leave the counter as it is, where routines touch these counters at least.
 fn may_keep(certain: &Touched, counter: u8, i: &Instr, branch: bool) -> bool
@@ -171,110 +161,4 @@ pub(crate) fn lead_idle(body: &Body, classes: &Classes, pc: u16, branch: bool) -
         return None;
     }
     lead(body, pc, branch)
-}
-
-// What is found
-
-/// Whether an edge leads to a place, and is no LOOP's way to its target on which the counter may pay, by what is noted.
-fn leads_idle(graph: &Graph, classes: &Classes, edge: Lead, to: u16) -> bool
-    ensures { (order : Order) (piece : Piece) → HasPlace order piece edge.from → result ≡ true
-        → LeadsNotedIdle graph.now.arcs classes.now order piece edge.from edge.branch to }
-{
-    let Some(arc) = graph.arc(edge.from, edge.branch) else {
-        return false;
-    };
-    if arc.to != to {
-        return false;
-    }
-    match arc.takes() {
-        Some(counter) => classes.is_idle(edge.from, counter),
-        None => true,
-    }
-}
-
-/// An edge among the places of a piece to one of them, that is no LOOP's which is left out or pays in a nest.
-fn lead_to(graph: &Graph, splitting: &Splitting, piece: &Piece, to: u16) -> Option<Lead>
-    requires { to < 4096 }
-    ensures { IfSome result (λ edge. HasPlace splitting.now.order piece.now edge.from) }
-{
-    let mut lead = graph.first_into(to);
-    for _ in 0..2 * u32::from(MOST_INSTRS) {
-        let edge = lead?;
-        if splitting.order.has(piece, edge.from)
-            && lead_within(
-                graph,
-                &splitting.jumps,
-                &splitting.order,
-                piece,
-                edge.from,
-                edge.branch,
-            )
-            .is_some()
-        {
-            return lead;
-        }
-        lead = graph.next_into(edge);
-    }
-    None
-}
-
-/// A place of a component on a way round: one goes back along edges for so long that some place comes twice.
-fn place_on_round(graph: &Graph, splitting: &Splitting, piece: &Piece) -> Option<u16>
-    ensures { IfSome result (λ pc. pc < 4096) }
-{
-    if MOST_INSTRS <= piece.begin {
-        return None;
-    }
-    let mut at = splitting.order.place(piece.begin);
-    for _ in piece.begin..piece.end {
-        at = lead_to(graph, splitting, piece, at)?.from;
-    }
-    Some(at)
-}
-
-/// Whether control is found to go round from a place of a component, and no LOOP on the way may pay, by what is noted.
-fn goes_round_from(
-    body: &Body,
-    graph: &Graph,
-    classes: &Classes,
-    splitting: &Splitting,
-    piece: &Piece,
-    place: u16,
-) -> bool
-    requires { place < 4096 }
-    ensures { result ≡ true → GoesRoundIdle body.now.image.now body.now.r graph.now.arcs classes.now splitting.now.order piece.now }
-{
-    let mut at = place;
-    for _ in body.start..body.end {
-        let Some(lead) = lead_to(graph, splitting, piece, at) else {
-            return false;
-        };
-        if lead.from < body.start || body.end <= lead.from {
-            return false;
-        }
-        if !leads_idle(graph, classes, lead, at) {
-            return false;
-        }
-        if lead.from == place {
-            return true;
-        }
-        at = lead.from;
-    }
-    false
-}
-
-/// Whether control is found to go round in a component, and no LOOP on the way may pay, by what is noted.
-pub(crate) fn goes_round_idle(
-    body: &Body,
-    graph: &Graph,
-    classes: &Classes,
-    splitting: &Splitting,
-    piece: &Piece,
-) -> bool
-    ensures { result ≡ true → GoesRoundIdle body.now.image.now body.now.r graph.now.arcs classes.now splitting.now.order piece.now }
-{
-    match place_on_round(graph, splitting, piece) {
-        Some(place) => goes_round_from(body, graph, classes, splitting, piece, place),
-        None => false,
-    }
 }

@@ -59,7 +59,7 @@ fn come_along(
 }
 
 /// Control goes on within a nest from the places that wait, of those from a lowest one on.
-pub(crate) fn come_on(
+fn come_on(
     graph: &Graph,
     splitting: &Splitting,
     id: u16,

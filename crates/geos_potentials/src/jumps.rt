@@ -1,8 +1,10 @@
 //! LOOPs' ways to their targets: which are left out, and which pay.
 
-ghost use Rattle.std.specs.Prelude.{◌≡◌, ◌<◌, ℕ, Some, IfSome};
+ghost use Rattle.std.specs.Prelude.{◌≡◌, ◌<◌, ℕ, Some, true, IfSome};
 ghost use Rattle.geos_potentials.specs.Pieces.{LeadsWithin};
+ghost use Rattle.geos_potentials.specs.Spent.{LoopsSpent, MayPayAt};
 
+use crate::classes::Classes;
 use crate::graph::Graph;
 use crate::pieces::{Order, Piece};
 use geos_code::Table;
@@ -69,4 +71,34 @@ pub(crate) fn lead_within(
     }
     let to = graph.arc(pc, branch)?.to;
     if order.has(piece, to) { Some(to) } else { None }
+}
+
+/// Whether the LOOP at a pc takes from a counter that is 0 there.
+pub(crate) fn loops_spent(graph: &Graph, classes: &Classes, pc: u16) -> bool
+    requires { pc < 4096 }
+    ensures only { result ≡ true → LoopsSpent graph.now.arcs classes.now pc }
+    ensures all { LoopsSpent graph.now.arcs classes.now pc → result ≡ true }
+{
+    let Some(arc) = graph.arc(pc, true) else {
+        return false;
+    };
+    match arc.takes() {
+        Some(counter) if counter < 4 => classes.is_spent(pc, counter),
+        _ => false,
+    }
+}
+
+/// Whether the LOOP at a pc may pay, by what is noted.
+pub(crate) fn may_pay(graph: &Graph, classes: &Classes, pc: u16) -> bool
+    requires { pc < 4096 }
+    ensures only { result ≡ true → MayPayAt graph.now.arcs classes.now pc }
+    ensures all { MayPayAt graph.now.arcs classes.now pc → result ≡ true }
+{
+    let Some(arc) = graph.arc(pc, true) else {
+        return false;
+    };
+    match arc.takes() {
+        Some(counter) => !classes.is_idle(pc, counter),
+        None => false,
+    }
 }

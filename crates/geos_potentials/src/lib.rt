@@ -36,7 +36,6 @@ mod spread;
 mod units;
 mod unpaid;
 mod ways;
-mod whole;
 
 pub use arcs::{Arc, Counting};
 pub use asked::Potentials;

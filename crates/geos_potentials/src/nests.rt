@@ -1,25 +1,27 @@
 //! Nests: places among which control goes round, each with the LOOPs that pay for that.
 
 ghost use Rattle.std.specs.Prelude.{◌≡◌, ◌≢◌, ◌<◌, ◌≤◌, ◌+◌, ℕ, None, Some, true, false, min, IfOk, IfSome, IfNone, IfErr, slice_index, slice_index_or, slice_set};
+ghost use Rattle.geos_potentials.specs.Led.{AreLed};
+ghost use Rattle.geos_potentials.specs.Making.{AreInside, IsSomeChosen, plain_in, AreMarked, StayListed, CanGoOn, CanMake, NonePay};
 ghost use Rattle.geos_potentials.specs.Parts.{AreOrdered, CanSplit, WaitBefore, WaitInOrder, IsSplit};
 ghost use Rattle.geos_potentials.specs.Pieces.{NoneMayPay};
-ghost use Rattle.geos_potentials.specs.Spent.{AreFree, AreLeftOut, LoopsSpent, MayPayAt, StayFree};
+ghost use Rattle.geos_potentials.specs.Spent.{AreFree, AreLeftOut, MayPayAt, StayFree};
 ghost use Rattle.geos_potentials.specs.Splits.{NoNests, HasRound};
 ghost use Rattle.geos_potentials.specs.Stuck.{StayNoted, GoesRoundIdle, HasPlace};
 ghost use Rattle.geos_potentials.specs.Untouched.{AreUntouched, StayUntouched};
-ghost use Rattle.geos_potentials.specs.Whole.{AreWhole};
+ghost use Rattle.geos_potentials.specs.Whole.{AreWhole, EachRoundPays, PayInNests};
 ghost use Rattle.geos_potentials.specs.declared.jumps.Jump.TheVariants.{Plain};
 ghost use Rattle.geos_potentials.specs.declared.nests.Nest.{Nest};
 ghost use Rattle.geos_potentials.specs.declared.nests.Waiting.{Waiting};
+ghost use Rattle.geos_potentials.specs.declared.pieces.Order.{Order};
+ghost use Rattle.geos_potentials.specs.declared.pieces.Piece.{Piece};
 
 use crate::choice::{Choice, Chosen, Tier, choose};
 use crate::classes::Classes;
 use crate::components::Components;
 use crate::graph::Graph;
-use crate::idle::goes_round_idle;
-use crate::jumps::{Jump, Jumps, lead_within};
+use crate::jumps::{Jump, Jumps, lead_within, loops_spent, may_pay};
 use crate::pieces::{Order, Piece};
-use crate::whole::are_whole;
 use geos_code::{Body, Table, two_tables};
 use geos_image::MOST_INSTRS;
 use std::alloc::{AllocError, Global};
@@ -200,7 +202,14 @@ impl Nests {
         requires { self.old.count < 4096 }
         ensures id { result ≡ self.old.count }
         ensures count { self.new.count ≡ self.old.count + 1 }
+        ensures here { (other : Nest) → (slice_index_or self.new.list self.old.count other).piece ≡ waiting.now.piece }
+        ensures others { (id : ℕ) (other : Nest) → id ≢ self.old.count
+            → slice_index_or self.new.list id other ≡ slice_index_or self.old.list id other }
+        ensures waiting { self.new.waiting ≡ self.old.waiting }
+        ensures waits { self.new.waits ≡ self.old.waits }
     {
+        // For what its law says.
+        self.list.lengths();
         let id = self.count;
         let depth = self.depth_in(waiting.around);
         let nest = Nest {
@@ -227,36 +236,6 @@ impl Nests {
             Some(nest) if nest < MOST_INSTRS => self.list.at(nest).depth.saturating_add(1),
             _ => 0,
         }
-    }
-}
-
-/// Whether the LOOP at a pc takes from a counter that is 0 there.
-fn loops_spent(graph: &Graph, classes: &Classes, pc: u16) -> bool
-    requires { pc < 4096 }
-    ensures only { result ≡ true → LoopsSpent graph.now.arcs classes.now pc }
-    ensures all { LoopsSpent graph.now.arcs classes.now pc → result ≡ true }
-{
-    let Some(arc) = graph.arc(pc, true) else {
-        return false;
-    };
-    match arc.takes() {
-        Some(counter) if counter < 4 => classes.is_spent(pc, counter),
-        _ => false,
-    }
-}
-
-/// Whether the LOOP at a pc may pay, by what is noted.
-fn may_pay(graph: &Graph, classes: &Classes, pc: u16) -> bool
-    requires { pc < 4096 }
-    ensures only { result ≡ true → MayPayAt graph.now.arcs classes.now pc }
-    ensures all { MayPayAt graph.now.arcs classes.now pc → result ≡ true }
-{
-    let Some(arc) = graph.arc(pc, true) else {
-        return false;
-    };
-    match arc.takes() {
-        Some(counter) => !classes.is_idle(pc, counter),
-        None => false,
     }
 }
 
@@ -334,34 +313,40 @@ impl Splitting {
         }
     }
 
+    /// A nest is the innermost of the edge from a place to the next, if that stays in its piece.
+    fn note_inner(&mut self, graph: &Graph, piece: &Piece, pc: u16, nest: u16)
+        requires { pc < 4096 }
+        ensures order { self.new.order ≡ self.old.order }
+        ensures jumps { self.new.jumps ≡ self.old.jumps }
+        ensures nests { StayListed self.old.nests self.new.nests }
+    {
+        if let Some(arc) = graph.arc(pc, false) {
+            if self.order.has(piece, arc.to) {
+                self.nests.inner.set(pc, Some(nest));
+            }
+        }
+    }
+
     /// The LOOPs that are chosen in a nest pay in it.
-    fn mark(
-        &mut self,
-        body: &Body,
-        graph: &Graph,
-        classes: &Classes,
-        piece: &Piece,
-        choice: &Chosen,
-    )
-        ensures count { self.new.nests.count ≡ self.old.nests.count }
+    fn mark(&mut self, graph: &Graph, classes: &Classes, piece: &Piece, choice: &Chosen)
+        ensures order { self.new.order ≡ self.old.order }
+        ensures nests { StayListed self.old.nests self.new.nests }
+        ensures marked { AreMarked self.old.order piece.now choice.now.nest self.old.jumps self.new.jumps }
+        ensures fewer { IsSomeChosen graph.now.arcs self.old.jumps self.old.order classes.now piece.now choice.now.choice
+            → plain_in self.new.jumps < plain_in self.old.jumps }
         ensures untouched { (low : ℕ) → StayUntouched low graph.now.arcs self.old.jumps self.new.jumps classes.now.touched }
         ensures free { StayFree self.old.jumps self.new.jumps }
     {
         for x in piece.begin..piece.end {
             let pc = self.order.place(x);
-            if let Some(arc) = graph.arc(pc, false) {
-                if self.order.has(piece, arc.to) {
-                    self.nests.inner.set(pc, Some(choice.nest));
-                }
-            }
+            self.note_inner(graph, piece, pc, choice.nest);
             if choice.takes(graph, &self.jumps, &self.order, classes, piece, pc) {
                 self.jumps.set(pc, Jump::Pays(choice.nest));
             }
         }
     }
 
-    /// Makes a nest of a component. Where no LOOP of it may pay, and control goes round in it, that is in the way; where control does not, it
-    /// needs no nest.
+    /// Makes a nest of a component that was taken. Where no LOOP of it may pay, that is in the way.
     fn make(
         &mut self,
         body: &Body,
@@ -369,27 +354,26 @@ impl Splitting {
         classes: &mut Classes,
         waiting: &Waiting,
     ) -> Result<(), Piece>
-        requires { self.old.nests.count < 4096 }
+        requires can { CanMake graph.now.arcs body.now.start body.now.end self.old waiting.now.piece }
+        requires inside { AreInside graph.now.arcs body.now.start body.now.end }
+        requires led { AreLed graph.now }
         ensures noted { StayNoted classes.old classes.new }
         ensures none { IfErr result (NoneMayPay graph.now.arcs self.new.jumps self.new.order classes.new) }
         ensures round { IfErr result (GoesRoundIdle body.now.image.now body.now.r graph.now.arcs classes.new self.new.order) }
-        ensures count { self.new.nests.count ≤ self.old.nests.count + 1 }
+        ensures on { IfOk result (λ _. CanGoOn graph.now.arcs body.now.start body.now.end self.new) }
+        ensures fewer { IfOk result (λ _. plain_in self.new.jumps < plain_in self.old.jumps) }
         ensures untouched { (low : ℕ) → StayUntouched low graph.now.arcs self.old.jumps self.new.jumps classes.old.touched }
         ensures free { StayFree self.old.jumps self.new.jumps }
     {
         let piece = &waiting.piece;
         classes.note_set_within(body.start, graph, &self.order, piece);
         let Some(choice) = choose(graph, &self.jumps, &self.order, classes, piece) else {
-            return if goes_round_idle(body, graph, classes, self, piece) {
-                Err(*piece)
-            } else {
-                Ok(())
-            };
+            return Err(*piece);
         };
         let nest = self.nests.list(waiting, &choice);
         let all = DEEP <= self.nests.at(nest).depth;
         let chosen = Chosen { choice, nest, all };
-        self.mark(body, graph, classes, piece, &chosen);
+        self.mark(graph, classes, piece, &chosen);
         self.split(graph, piece, Some(nest));
         Ok(())
     }
@@ -398,6 +382,7 @@ impl Splitting {
     fn free_loops(&mut self, body: &Body, graph: &Graph, classes: &Classes)
         ensures untouched { AreUntouched body.now.start graph.now.arcs self.new.jumps classes.now.touched }
         ensures free { AreFree graph.now.arcs self.new.jumps classes.now body.now.start body.now.end }
+        ensures none { NonePay body.now.start self.new.jumps }
     {
         self.jumps.fill_from(body.start, Jump::Plain);
         // For what its law says.
@@ -409,68 +394,55 @@ impl Splitting {
         }
     }
 
-    /// Makes the nests of a routine, or finds a component in which control goes round and no LOOP may pay. What is known of counters stays,
-    /// but for what is set in a piece.
-    fn make_all(&mut self, body: &Body, graph: &Graph, classes: &mut Classes) -> Result<(), Piece>
-        ensures noted { StayNoted classes.old classes.new }
-        ensures none { IfErr result (NoneMayPay graph.now.arcs self.new.jumps self.new.order classes.new) }
-        ensures round { IfErr result (GoesRoundIdle body.now.image.now body.now.r graph.now.arcs classes.new self.new.order) }
-        ensures untouched { AreUntouched body.now.start graph.now.arcs self.new.jumps classes.old.touched }
-        ensures free { AreFree graph.now.arcs self.new.jumps classes.old body.now.start body.now.end }
+    /// Splits all the places of a routine, in which there are no nests yet.
+    fn begin(&mut self, body: &Body, graph: &Graph)
+        requires none { NonePay body.now.start self.old.jumps }
+        requires inside { AreInside graph.now.arcs body.now.start body.now.end }
+        requires led { AreLed graph.now }
+        ensures on { CanGoOn graph.now.arcs body.now.start body.now.end self.new }
+        ensures jumps { self.new.jumps ≡ self.old.jumps }
     {
-        self.free_loops(body, graph, classes);
+        // For what its law says.
+        self.jumps.lengths();
         self.nests.count = 0;
         self.nests.waits = 0;
         self.nests.inner.fill_from(body.start, None);
         let all = self.order.begin(body);
         self.split(graph, &all, None);
-        // Each nest has a LOOP of its own.
-        for _ in 0..MOST_INSTRS {
-            let Some(waiting) = self.nests.take() else {
-                return Ok(());
-            };
-            self.make(body, graph, classes, &waiting)?;
-        }
-        Ok(())
     }
 
-    /// Were the places of some nest no component, there would be no nests: that it never comes to this is not proved of how they are made.
-    fn keep_whole(&mut self, graph: &Graph, classes: &mut Classes)
-        ensures noted { StayNoted classes.old classes.new }
-        ensures jumps { self.new.jumps ≡ self.old.jumps }
-        ensures whole { AreWhole graph.now.arcs self.new }
-    {
-        if !are_whole(graph, self, &mut classes.set_within, &mut classes.waits) {
-            self.nests.count = 0;
-        }
-    }
-
-    /// Finds the nests of a routine, each of which is a component, or a component in which control goes round and no LOOP may pay. What is
-    /// known of counters stays, but for what is set in a piece.
+    /// Finds the nests of a routine, each of which is a component, so that wherever control goes round a LOOP of some nest pays, or one is
+    /// left out; or a component in which control goes round and no LOOP may pay. What is known of counters stays, but for what is set in a
+    /// piece.
     pub(crate) fn find(
         &mut self,
         body: &Body,
         graph: &Graph,
         classes: &mut Classes,
     ) -> Result<(), Piece>
+        requires inside { AreInside graph.now.arcs body.now.start body.now.end }
+        requires led { AreLed graph.now }
         ensures noted { StayNoted classes.old classes.new }
         ensures none { IfErr result (NoneMayPay graph.now.arcs self.new.jumps self.new.order classes.new) }
         ensures round { IfErr result (GoesRoundIdle body.now.image.now body.now.r graph.now.arcs classes.new self.new.order) }
         ensures untouched { AreUntouched body.now.start graph.now.arcs self.new.jumps classes.old.touched }
         ensures free { AreFree graph.now.arcs self.new.jumps classes.old body.now.start body.now.end }
         ensures whole { IfOk result (λ _. AreWhole graph.now.arcs self.new) }
+        ensures rounds { IfOk result (λ _. EachRoundPays graph.now.arcs self.new.jumps) }
+        ensures pay { IfOk result (λ _. PayInNests body.now.start self.new) }
     {
-        match self.make_all(body, graph, classes) {
-            Ok(()) => {}
-            Err(piece) => return Err(piece),
+        self.free_loops(body, graph, classes);
+        self.begin(body, graph);
+        while let Some(waiting) = self.nests.take() {
+            self.make(body, graph, classes, &waiting)?;
         }
-        self.keep_whole(graph, classes);
         Ok(())
     }
 
     /// LOOPs that may pay are left out.
     fn leave_out_paying(&mut self, body: &Body, graph: &Graph, classes: &Classes)
-        ensures { AreLeftOut (MayPayAt graph.now.arcs classes.now) self.new.jumps body.now.start body.now.end }
+        ensures left { AreLeftOut (MayPayAt graph.now.arcs classes.now) self.new.jumps body.now.start body.now.end }
+        ensures none { NonePay body.now.start self.new.jumps }
     {
         self.jumps.fill_from(body.start, Jump::Plain);
         // For what its law says.
@@ -482,26 +454,25 @@ impl Splitting {
         }
     }
 
-    /// Finds a component in which control goes round, and no LOOP on the way may pay, in the place of nests.
+    /// Finds a component in which control goes round, and no LOOP on the way may pay, in the place of nests; none where there is none.
     pub(crate) fn find_idle(
         &mut self,
         body: &Body,
         graph: &Graph,
         classes: &Classes,
     ) -> Option<Piece>
-        ensures { IfSome result (GoesRoundIdle body.now.image.now body.now.r graph.now.arcs classes.now self.new.order) }
+        requires inside { AreInside graph.now.arcs body.now.start body.now.end }
+        requires led { AreLed graph.now }
+        ensures some { IfSome result (GoesRoundIdle body.now.image.now body.now.r graph.now.arcs classes.now self.new.order) }
+        ensures none { IfNone result ((order : Order) (piece : Piece)
+            → GoesRoundIdle body.now.image.now body.now.r graph.now.arcs classes.now order piece → ⊥) }
     {
         self.leave_out_paying(body, graph, classes);
-        self.nests.waits = 0;
-        let all = self.order.begin(body);
-        self.split(graph, &all, None);
-        for _ in 0..MOST_INSTRS {
-            let piece = self.nests.take()?.piece;
-            if goes_round_idle(body, graph, classes, self, &piece) {
-                return Some(piece);
-            }
+        self.begin(body, graph);
+        match self.nests.take() {
+            Some(waiting) => Some(waiting.piece),
+            None => None,
         }
-        None
     }
 }
 

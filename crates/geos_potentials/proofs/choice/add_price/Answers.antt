@@ -1,19 +1,22 @@
-use Rattle.std.proofs.Common.{◌≡◌, ◌<◌, ℕ, false, not, length, sym, ap, ◌∙◌, subst, arith}
+use Rattle.std.proofs.Common.{◌≡◌, ◌<◌, ℕ, true, false, not, length, refl, sym, ap, ◌∙◌, subst, arith}
 use Rattle.std.proofs.lemmas.Bool.{false≢true}
 use Rattle.std.proofs.lemmas.Option.{same_Some}
+use Rattle.geos_potentials.specs.Arcs.{unit_at}
+use Rattle.geos_potentials.specs.Making.{may_pay_in}
+use Rattle.geos_potentials.specs.Pieces.{TakesWithin}
 use Rattle.geos_potentials.specs.Ranks.{noted_idle}
-use Rattle.geos_potentials.proofs.Choosing.{priced-more, set-stays, set-new, least-some}
+use Rattle.geos_potentials.proofs.Choosing.{priced-more, set-stays, set-new, least-some, price-more}
 use Rattle.geos_potentials.proofs.choice.add_price.Goals as goal
 
-pub returns-in_default : goal.returns-in_default
-returns-in_default c = λ tight before.
+pub returns-in_default-clause-all : goal.returns-in_default-clause-all
+returns-in_default-clause-all c = λ tight before.
     let prices = c.args.prices.now in
     priced-more c.args.graph.now.arcs c.args.jumps.now c.args.order.now c.args.classes.now c.args.piece.now c.args.x c.place-pc.result
     prices prices c.place-pc.ensures.stands (λ k some. some) (λ k few takes busy. absurd (c.in_default.not-Some k (c.counter_at.ensures.all k takes)))
     before
 
-pub returns-then-counter-ge4 : goal.returns-then-counter-ge4
-returns-then-counter-ge4 c = λ tight before.
+pub returns-then-counter-ge4-clause-all : goal.returns-then-counter-ge4-clause-all
+returns-then-counter-ge4-clause-all c = λ tight before.
     let prices = c.args.prices.now in
     priced-more c.args.graph.now.arcs c.args.jumps.now c.args.order.now c.args.classes.now c.args.piece.now c.args.x c.place-pc.result
     prices prices c.place-pc.ensures.stands (λ k some. some)
@@ -23,8 +26,8 @@ returns-then-counter-ge4 c = λ tight before.
     absurd (omega (arith, few, same, many))))
     before
 
-pub returns-then-not-may_pay : goal.returns-then-not-may_pay
-returns-then-not-may_pay c = λ tight before.
+pub returns-then-not-may_pay-clause-all : goal.returns-then-not-may_pay-clause-all
+returns-then-not-may_pay-clause-all c = λ tight before.
     let prices = c.args.prices.now in
     let pc = c.place-pc.result in
     priced-more c.args.graph.now.arcs c.args.jumps.now c.args.order.now c.args.classes.now c.args.piece.now c.args.x pc
@@ -35,8 +38,8 @@ returns-then-not-may_pay c = λ tight before.
     absurd (false≢true (sym c.if-not-may_pay.true ∙ c.may_pay.ensures.tight tight ∙ ap not here))))
     before
 
-pub returns : goal.returns
-returns c = λ tight before.
+pub returns-clause-all : goal.returns-clause-all
+returns-clause-all c = λ tight before.
     let prices = c.args.prices.now in
     let at : c.from-at.result ≡ c.in-Some.counter = c.from-at.ensures in
     let few = c.if-counter-ge4.false in
@@ -49,3 +52,19 @@ returns c = λ tight before.
     set-new prices c.from-at.result c.least.result room some k
     (sym (at ∙ same_Some c.in-Some.counter k (sym c.in-Some.is ∙ c.counter_at.ensures.all k takes))))
     before
+
+pub returns-clause-only : goal.returns-clause-only
+returns-clause-only c = λ low high before.
+    let arcs = c.args.graph.now.arcs in
+    let prices = c.args.prices.now in
+    let classes = c.args.classes.now in
+    let pc = c.place-pc.result in
+    let counter = c.in-Some.counter in
+    let at : c.from-at.result ≡ counter = c.from-at.ensures in
+    let few = c.if-counter-ge4.false in
+    let long = c.told-prices in
+    price-more arcs c.args.jumps.now c.args.order.now classes c.args.piece.now c.args.tier prices c.from-at.result c.price.result pc
+    c.least.result (omega (arith, at, few, long)) (c.args.x, low, high, c.place-pc.ensures.stands)
+    (subst (λ (n : ℕ). TakesWithin arcs c.args.jumps.now c.args.order.now c.args.piece.now pc n) (sym at) (c.in-Some.ensures.within counter refl))
+    (subst (λ (n : ℕ). may_pay_in c.args.tier classes pc n ≡ true) (sym at) (sym c.may_pay.ensures.tier ∙ c.if-not-may_pay.false))
+    (subst (λ (n : ℕ). c.price.result ≡ unit_at classes.prices pc n) (sym at) c.price.ensures) c.least.ensures before

@@ -1,7 +1,10 @@
-use Rattle.std.proofs.Common.{◌≡◌, ◌<◌, ℕ, None}
-use Rattle.std.specs.Prelude.{IfNone, slice_index_or}
+use Rattle.std.proofs.Common.{◌≡◌, ◌<◌, ℕ, None, Some}
+use Rattle.std.specs.Prelude.{IfNone, IfSome, slice_index_or}
 use Rattle.geos_potentials.proofs.choice.cheapest.Given as goal
 
--- while none is found, the counters before this one have no price
+-- while none is found, the counters before this one have no price; what is found has one
 abbrev pub invariant-loop-counter : goal.invariant-loop-counter
-invariant-loop-counter l = IfNone l.found ((k : ℕ) → k < l.counter → slice_index_or l.prices k None ≡ None)
+invariant-loop-counter l = record {
+  none : IfNone l.found ((k : ℕ) → k < l.counter → slice_index_or l.prices k None ≡ None);
+  some : IfSome l.found (λ choice. (choice.tier ≡ l.tier) × (slice_index_or l.prices choice.counter None ≡ Some choice.price));
+}

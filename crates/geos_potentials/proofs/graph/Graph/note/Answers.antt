@@ -1,8 +1,11 @@
 use Rattle.std.proofs.Common.{◌≡◌, ◌≤◌, ◌<◌, ℕ, Bool, true, false, List, [], ◌∷◌, length, Option, Some, None, get_or, inl, inr, refl, sym, ap, ◌∙◌, subst, arith}
-use Rattle.std.specs.Prelude.{if◌then◌else◌}
-use Rattle.std.proofs.lemmas.Bool.{cases_lt}
+use Rattle.std.specs.Prelude.{if◌then◌else◌, IfSome}
+use Rattle.std.proofs.lemmas.Bool.{cases_eq, cases_lt}
+use Rattle.std.proofs.lemmas.Option.{none-some, same_Some}
 use Rattle.std.proofs.lemmas.List.{length-set, get_or_past}
 use Rattle.geos_potentials.specs.Arcs.{IsArcIf, arc_at}
+use Rattle.geos_potentials.specs.Demands.{taken_from}
+use Rattle.geos_potentials.proofs.Bounding.{arcs-between}
 use Rattle.geos_code.specs.Code.{IsPcOf}
 use Rattle.geos_code.proofs.Bodies.{in-body}
 use Rattle.geos_potentials.specs.declared.arcs.Arc.{Arc}
@@ -23,6 +26,7 @@ loop-pc-init c =
     record {
       long = c.lengths.ensures;
       noted = λ pc branch within lt. absurd (omega (arith, within.above, body.begins));
+      takes = λ pc k branch arc read takes. (let none = empty pc branch in absurd (none-some arc (sym none ∙ read)));
       outside = λ pc branch out. empty pc branch;
       led = record {
         firsts = λ to up down edge is. (let none = c.clear_from.ensures.first to up down in absurd (cc));
@@ -46,12 +50,18 @@ loop-pc-preserved c =
     let body = c.args.body.now in
     let inside = in-body body p c.loop-pc.auto.pc c.loop-pc-test.true in record {
       long = ap length c.set.ensures ∙ length-set c.loop-pc.self.arcs p both ∙ c.loop-pc.invariant.long;
+      takes = λ pc k branch arc read takes. elim (cases_eq pc p) [
+        | inl same ↦ taken branch arc k (sym (at branch) ∙ subst (λ (n : ℕ). arc_at c.set.new.self n branch ≡ Some arc) same read) takes
+        | inr ne ↦ c.loop-pc.invariant.takes pc k branch arc
+            (sym (ap (λ (arcs : List (List (Option Arc))). arc_at arcs pc branch) c.set.ensures
+            ∙ arc-other c.loop-pc.self.arcs p pc both branch ne) ∙ read) takes
+      ];
       outside = λ pc branch out. ap (λ (arcs : List (List (Option Arc))). arc_at arcs pc branch) c.set.ensures
           ∙ arc-other c.loop-pc.self.arcs p pc both branch (λ same. out (subst (IsPcOf body.image.now body.r) (sym same) inside))
           ∙ c.loop-pc.invariant.outside pc branch out;
       led = led-more body.start p c.loop-pc.self.arcs c.set.new.self c.loop-pc.self.leads c.add.new.self c.arc_of-along.result
           c.arc_of-branching.result c.add.ensures c.set.ensures (omega (arith, c.loop-pc.invariant.long, c.loop-pc-test.true, body.room, body.short))
-          (omega arith) (goes false c.arc_of-along.result c.arc_of-along.ensures) (goes true c.arc_of-branching.result c.arc_of-branching.ensures)
+          (omega arith) (goes false c.arc_of-along.result c.arc_of-along.ensures.arc) (goes true c.arc_of-branching.result c.arc_of-branching.ensures.arc)
           c.loop-pc.invariant.led;
       noted = λ pc branch within lt. elim (cases_lt pc p) [
         | inl earlier ↦
@@ -78,23 +88,44 @@ loop-pc-preserved c =
         let body = c.args.body.now in
         subst (λ (a : Arc). body.start ≤ a.to) same (omega (arith, above, body.begins))
 
+    within : c.loop-pc.pc < length c.loop-pc.self.arcs
+    within = let body = c.args.body.now in omega (arith, c.loop-pc.invariant.long, c.loop-pc-test.true, body.room, body.short)
+
+    at : (b : Bool) → arc_at c.set.new.self c.loop-pc.pc b ≡ arc_at ((c.arc_of-along.result ∷ c.arc_of-branching.result ∷ []) ∷ []) 0 b
+    at b = ap (λ (arcs : List (List (Option Arc))). arc_at arcs c.loop-pc.pc b) c.set.ensures
+        ∙ arc-same c.loop-pc.self.arcs c.loop-pc.pc (c.arc_of-along.result ∷ c.arc_of-branching.result ∷ []) b within
+
+    found : (branch : Bool) (arc : Option Arc) (other : Arc) (k : ℕ)
+        → IfSome arc (λ arc. (k : ℕ) → taken_from arc.counting ≡ Some k → (branch ≡ true) × (k < 4)) → arc ≡ Some other
+        → taken_from other.counting ≡ Some k → (branch ≡ true) × (k < 4)
+    found branch None other k is e takes = absurd (none-some other e)
+    found branch (Some arc) other k is e takes = is k (ap (λ (a : Arc). taken_from a.counting) (same_Some arc other e) ∙ takes)
+
+    taken : (branch : Bool) (arc : Arc) (k : ℕ)
+        → arc_at ((c.arc_of-along.result ∷ c.arc_of-branching.result ∷ []) ∷ []) 0 branch ≡ Some arc
+        → taken_from arc.counting ≡ Some k → (branch ≡ true) × (k < 4)
+    taken true arc k read takes = found true c.arc_of-branching.result arc k c.arc_of-branching.ensures.takes read takes
+    taken false arc k read takes = found false c.arc_of-along.result arc k c.arc_of-along.ensures.takes read takes
+
     here : (branch : Bool) → IsArcIf c.args.body.now.image.now c.args.body.now.r c.args.known.now c.args.touched.now
         c.loop-pc.pc branch (arc_at c.set.new.self c.loop-pc.pc branch)
     here branch = subst (IsArcIf c.args.body.now.image.now c.args.body.now.r c.args.known.now c.args.touched.now c.loop-pc.pc branch)
         (sym (at branch)) (by_branch branch)
       where
-        within : c.loop-pc.pc < length c.loop-pc.self.arcs
-        within = let body = c.args.body.now in omega (arith, c.loop-pc.invariant.long, c.loop-pc-test.true, body.room, body.short)
-
-        at : (b : Bool) → arc_at c.set.new.self c.loop-pc.pc b ≡ arc_at ((c.arc_of-along.result ∷ c.arc_of-branching.result ∷ []) ∷ []) 0 b
-        at b = ap (λ (arcs : List (List (Option Arc))). arc_at arcs c.loop-pc.pc b) c.set.ensures
-            ∙ arc-same c.loop-pc.self.arcs c.loop-pc.pc (c.arc_of-along.result ∷ c.arc_of-branching.result ∷ []) b within
-
         by_branch : (b : Bool) → IsArcIf c.args.body.now.image.now c.args.body.now.r c.args.known.now c.args.touched.now
             c.loop-pc.pc b (arc_at ((c.arc_of-along.result ∷ c.arc_of-branching.result ∷ []) ∷ []) 0 b)
-        by_branch true = c.arc_of-branching.ensures
-        by_branch false = c.arc_of-along.ensures
+        by_branch true = c.arc_of-branching.ensures.arc
+        by_branch false = c.arc_of-along.ensures.arc
 
 pub returns-clause-led : goal.returns-clause-led
 returns-clause-led c = (let body = c.args.body.now in
     all-led c.loop-pc.self body.start c.loop-pc.pc (omega (arith, c.loop-pc.auto.pc-end, body.some, body.room, body.short)) c.loop-pc.invariant.led)
+
+pub returns-clause-inside : goal.returns-clause-inside
+returns-clause-inside c = (let body = c.args.body.now in record {
+  between = arcs-between body.image.now body.r c.args.known.now c.args.touched.now c.loop-pc.self.arcs
+      (λ pc branch within. c.loop-pc.invariant.noted pc branch within
+      (let below = within.below in omega (arith, below, body.ends, c.loop-pc-test.false)))
+      c.loop-pc.invariant.outside body.start body.end body.begins body.ends;
+  takes = c.loop-pc.invariant.takes;
+})

@@ -2,12 +2,13 @@ use Rattle.std.proofs.Common.{◌≡◌, ◌+◌, List, length, sym, ap, ◌∙�
 use Rattle.std.specs.Prelude.{slice_set}
 use Rattle.std.proofs.lemmas.Bool.{false≢true}
 use Rattle.std.proofs.lemmas.List.{length-set}
+use Rattle.geos_potentials.specs.Making.{NonePay}
 use Rattle.geos_potentials.specs.Spent.{LoopsSpent, AreFree}
 use Rattle.geos_potentials.specs.Untouched.{AreUntouched}
 use Rattle.geos_potentials.specs.declared.jumps.Jump.{Jump}
 use Rattle.geos_potentials.specs.declared.jumps.Jump.TheVariants.{Free}
 use Rattle.geos_potentials.specs.declared.nests.Splitting.{Splitting}
-use Rattle.geos_potentials.proofs.Spending.{spent-untouched, none-free, one-free, not-free}
+use Rattle.geos_potentials.proofs.Spending.{spent-untouched, none-free, none-pay, none-pay-free, one-free, not-free}
 use Rattle.geos_potentials.proofs.Untouched.{none-found, untouched-set}
 use Rattle.geos_potentials.proofs.nests.Splitting.free_loops.Goals.{then-loops_spent, else-loops_spent}
 use Rattle.geos_potentials.proofs.nests.Splitting.free_loops.Goals as goal
@@ -21,6 +22,7 @@ loop-pc-init c =
       room = c.lengths.ensures;
       untouched = none-found start arcs jumps classes.touched c.lengths.ensures c.fill_from.ensures.same;
       free = none-free (LoopsSpent arcs classes) jumps start c.lengths.ensures c.fill_from.ensures.same;
+      none = none-pay jumps start c.lengths.ensures c.fill_from.ensures.same;
     }
 
 pub loop-pc-preserved : goal.loop-pc-preserved
@@ -39,6 +41,7 @@ loop-pc-preserved c =
             untouched = untouched-set body.start p arcs old next classes.touched Free is (spent-untouched arcs classes p spent) before.untouched;
             free = one-free (LoopsSpent arcs classes) old next body.start p (omega (arith, c.loop-pc-test.true, body.room, body.short, before.room)) is spent
                 before.free;
+            none = none-pay-free old next body.start p (omega (arith, c.loop-pc-test.true, body.room, body.short, before.room)) is before.none;
           }
       | else-loops_spent w ↦
           let same : next ≡ old = ap (λ (s : Splitting). s.jumps) w.self-is in record {
@@ -46,5 +49,6 @@ loop-pc-preserved c =
             untouched = subst (λ (jumps : List Jump). AreUntouched body.start arcs jumps classes.touched) (sym same) before.untouched;
             free = subst (λ (jumps : List Jump). AreFree arcs jumps classes body.start (p + 1)) (sym same)
                 (not-free (LoopsSpent arcs classes) old body.start p (λ S. false≢true (sym w.if-loops_spent.false ∙ c.loops_spent.ensures.all S)) before.free);
+            none = subst (NonePay body.start) (sym same) before.none;
           }
     ]

@@ -1,4 +1,5 @@
 use Rattle.std.proofs.Common.{◌≡◌, length}
+use Rattle.geos_potentials.specs.Making.{NonePay}
 use Rattle.geos_potentials.specs.Spent.{AreFree}
 use Rattle.geos_potentials.specs.Untouched.{AreUntouched}
 use Rattle.geos_potentials.proofs.nests.Splitting.free_loops.Given as goal
@@ -9,4 +10,5 @@ invariant-loop-pc l = record {
   room : length l.self.jumps ≡ 4096;
   untouched : AreUntouched l.body.start l.graph.arcs l.self.jumps l.classes.touched;
   free : AreFree l.graph.arcs l.self.jumps l.classes l.body.start l.pc;
+  none : NonePay l.body.start l.self.jumps;
 }

@@ -17,5 +17,5 @@ returns c = λ notes.
     (subst (λ n. ComeBehind arcs n (IsPcOf image body.r) ForgetsIt classes.touched) begins c.note-2.ensures.touched)
     (subst (λ n. ComeFrom arcs n classes.unset) begins c.note-2.ensures.unset) in
     let order = c.find_idle.new.self.order in
-    IfSome_then c.find_idle.result c.find_idle.ensures (λ piece round. never-by image body.r (HasPlace order piece)
+    IfSome_then c.find_idle.result c.find_idle.ensures.some (λ piece round. never-by image body.r (HasPlace order piece)
     (round-never-paid image body.r c.args.known.now c.args.touched.now arcs c.note.ensures.arcs notes classes idle order piece round))

@@ -1,5 +1,5 @@
 use Rattle.std.proofs.Common.{sym, ◌∙◌}
-use Rattle.geos_potentials.proofs.nests.loops_spent.Goals as goal
+use Rattle.geos_potentials.proofs.jumps.loops_spent.Goals as goal
 
 pub returns-in-Some-takes-clause-only : goal.returns-in-Some-takes-clause-only
 returns-in-Some-takes-clause-only c = λ is. record {
