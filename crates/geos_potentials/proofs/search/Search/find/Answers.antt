@@ -1,11 +1,8 @@
 use Rattle.std.proofs.Common.{sym, subst}
-use Rattle.geos_potentials.specs.Arcs.{AreArcs, NoArcsOutside}
 use Rattle.geos_code.specs.Code.{IsPcOf}
-use Rattle.geos_potentials.specs.Lacks.{IsLack}
 use Rattle.geos_potentials.specs.Spreads.{ComeBehind, ComeFrom, ForgetsIt}
 use Rattle.geos_potentials.specs.Stuck.{HasPlace}
 use Rattle.geos_potentials.specs.declared.graph.Graph.{Graph}
-use Rattle.geos_potentials.proofs.Rounding.{never-pay}
 use Rattle.geos_potentials.proofs.Idling.{notes-idle, round-never-paid, never-by}
 use Rattle.geos_potentials.specs.Numbers.{numbers_of}
 use Rattle.geos_potentials.proofs.Covering.{all-paid}
@@ -38,13 +35,8 @@ pub returns-in-Err-pay-clause-way : goal.returns-in-Err-pay-clause-way
 returns-in-Err-pay-clause-way c = λ notes.
     let body = c.args.body.now in
     let image = body.image.now in
-    let search = c.pay.new.self in
-    let arcs = search.graph.arcs in
-    let noted = subst (λ (g : Graph). AreArcs image body.r c.args.known.now c.args.touched.now g.arcs) (sym c.pay.ensures.graph) c.note.ensures.arcs in
-    let outside = subst (λ (g : Graph). NoArcsOutside image body.r g.arcs) (sym c.pay.ensures.graph) c.note.ensures.outside in (
+    let search = c.pay.new.self in (
       c.in-Err-pay.ensures.lack,
-      λ is. never-pay image body.r c.args.known.now c.args.touched.now arcs noted outside search.units.pay search.splitting
-          (subst (IsLack arcs search.splitting search.units) is c.in-Err-pay.ensures.lack),
       subst (λ (g : Graph). AreWhole g.arcs search.splitting) (sym c.pay.ensures.graph)
           (whole-stays c.note.new.self.arcs c.find.new.self search.splitting c.pay.ensures.nests c.in_default.ensures.whole),
     )
