@@ -70,8 +70,8 @@ dear-set here unit most low few (inr same) =
     let apart : (unit + (4294967295 - unit)) * most ≡ unit * most + (4294967295 - unit) * most = omega arith in
     omega (arith, product, less, first, second, apart)
 
-module _ (jumps : List Jump) (pay : List (List ℕ)) (nest k unit pc : ℕ) (branch : Bool) (arc : Arc) (link : Link) (round next : Round)
-    (steps : List Step) (few : unit ≤ 4294967295) (to : link.to ≡ arc.to) (up : AddsUp jumps pay nest k unit steps round) (other : Option ℕ)
+module _ (jumps : List Jump) (pay : List (List ℕ)) (nest k : ℕ) (tight : Bool) (unit pc : ℕ) (branch : Bool) (arc : Arc) (link : Link) (round next : Round)
+    (steps : List Step) (few : unit ≤ 4294967295) (to : link.to ≡ arc.to) (up : AddsUp jumps pay nest k tight unit steps round) (other : Option ℕ)
     (lies : IsOther jumps nest pc branch other) where
   abbrev step : Step
   step = record { pc = pc; branch = branch; arc = arc }
@@ -145,8 +145,8 @@ module _ (jumps : List Jump) (pay : List (List ℕ)) (nest k unit pc : ℕ) (bra
   outermost-more : (next_inner : Option ℕ) → next_inner ≡ lesser_of round.inner other → IsOutermost jumps nest (step ∷ steps) next_inner
   outermost-more next_inner is = subst (IsOutermost jumps nest (step ∷ steps)) (sym is) (outermost-with round.inner other up.inner lies)
 
-  adds-more : (share : Share) → HasShare pay k unit pc arc pays link share → Adds pay k unit round link other next share
-      → AddsUp jumps pay nest k unit (step ∷ steps) next
+  adds-more : (share : Share) → HasShare pay k tight unit pc arc pays link share → Adds pay k unit round link other next share
+      → AddsUp jumps pay nest k tight unit (step ∷ steps) next
   adds-more Nothing has adds =
       let costs = adds.0 in
       let paid = adds.1 in
@@ -157,6 +157,7 @@ module _ (jumps : List Jump) (pay : List (List ℕ)) (nest k unit pc : ℕ) (bra
       let by_it = has.2 in record {
         takes = (let before = up.takes in let none = takes-none has.0 in omega (arith, before, none, takes));
         sets = (let before = up.sets in omega (arith, before, all_sets));
+        tight_if = λ some. up.tight_if (omega (arith, some, all_sets));
         none = λ is. takes ∙ up.none (sym adds.4 ∙ is);
         least = λ is. (let before = up.least (λ e. is (adds.4 ∙ e)) in omega (arith, before, takes));
         inner = outermost-more next.inner adds.6;
@@ -177,6 +178,7 @@ module _ (jumps : List Jump) (pay : List (List ℕ)) (nest k unit pc : ℕ) (bra
       let by_it = has.2 in record {
         takes = (let before = up.takes in let one = takes-one has.0 in omega (arith, before, one, takes));
         sets = (let before = up.sets in omega (arith, before, all_sets));
+        tight_if = λ some. up.tight_if (omega (arith, some, all_sets));
         none = λ is. absurd (adds.4 is);
         least = λ is. omega (arith, takes);
         inner = outermost-more next.inner adds.6;
@@ -199,6 +201,7 @@ module _ (jumps : List Jump) (pay : List (List ℕ)) (nest k unit pc : ℕ) (bra
       let low = adds.5.0 in record {
         takes = (let before = up.takes in let none = takes-none has.0 in omega (arith, before, none, takes));
         sets = (let before = up.sets in omega (arith, before, all_sets, its));
+        tight_if = λ some. has.5;
         none = λ is. takes ∙ up.none (sym adds.4 ∙ is);
         least = λ is. (let before = up.least (λ e. is (adds.4 ∙ e)) in omega (arith, before, takes));
         inner = outermost-more next.inner adds.6;
@@ -223,7 +226,7 @@ pub up-more : (arcs : List (List (Option Arc))) (splitting : Splitting) (pay : L
 up-more arcs splitting pay id nest unit from at branch link round next other few L lies adds U = record {
   steps = record { pc = at; branch = branch; arc = L.arc } ∷ U.steps;
   lead = (sym L.to, L.read, L.stays, U.lead);
-  adds = adds-more splitting.jumps pay id nest.counter unit at branch L.arc link round next U.steps few L.to U.adds other lies link.share L.share adds;
+  adds = adds-more splitting.jumps pay id nest.counter nest.tight unit at branch L.arc link round next U.steps few L.to U.adds other lies link.share L.share adds;
 }
 
 -- What a way round lacks
@@ -269,6 +272,14 @@ sets-enough arcs splitting pay id nest unit least round R is most = record {
       omega (arith, takes, some));
   enough = (let takes = R.up.adds.takes in let sets = R.up.adds.sets in omega (arith, takes, sets, most));
 }
+
+-- then the nest is tight
+pub is-tight : (arcs : List (List (Option Arc))) (splitting : Splitting) (pay : List (List ℕ)) (id : ℕ) (nest : Nest) (unit least : ℕ)
+    (round : Round) → IsRound arcs splitting pay id nest unit round → round.least ≡ Some least → round.all_takes ≤ round.all_sets
+    → nest.tight ≡ true
+is-tight arcs splitting pay id nest unit least round R is most =
+    let some = R.up.adds.least (λ none. none-some least (sym none ∙ is)) in
+    R.up.adds.tight_if (omega (arith, some, most))
 
 -- where none of them takes
 pub goes-inside : (arcs : List (List (Option Arc))) (splitting : Splitting) (pay : List (List ℕ)) (id : ℕ) (nest : Nest) (unit : ℕ)

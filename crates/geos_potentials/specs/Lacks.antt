@@ -27,11 +27,11 @@ pub record OfSomeNest (nests : Nests) (is : ℕ → Nest → Type 0) : Type 0 wh
 abbrev pub SomeIsDue : Nests → Type 0
 SomeIsDue nests = OfSomeNest nests (λ id nest. nest.due ≡ true)
 
--- control goes round in a nest on a way on which its LOOPs take, and its counter is set to as much, at least; or on one on which they take, and
--- which costs more than is paid, even where a unit of the counter pays for as much as one can; or at least 2 ^ 27 edges, places and nests were
+-- control goes round in a nest that is tight on a way on which its LOOPs take, and its counter is set to as much, at least; or in one on a way
+-- on which they take, and which costs more than is paid, even where a unit of the counter pays for as much as one can; or at least 2 ^ 27 edges, places and nests were
 -- looked at
 abbrev pub IsLackIn : List (List (Option Arc)) → Splitting → ℕ → Nest → Units → Lack → Type 0
-IsLackIn arcs splitting id nest units (SetWithin piece) = (piece ≡ nest.piece) × SetsEnough arcs splitting id nest
+IsLackIn arcs splitting id nest units (SetWithin piece) = (piece ≡ nest.piece) × (nest.tight ≡ true) × SetsEnough arcs splitting id nest
 IsLackIn arcs splitting id nest units Looks = 134217728 ≤ units.looked.count
 IsLackIn arcs splitting id nest units (InTurn ring) = ⊥
 IsLackIn arcs splitting id nest units Passes = CostsPast arcs splitting units.pay id nest
@@ -59,7 +59,8 @@ pub record FreePasses (arcs : List (List (Option Arc))) (jumps : List Jump) (way
 -- the same of some nest, when the search has come to an end: also, what it costs to set a counter passes, or what a LOOP asks for that is
 -- left out; or nests wait on each other in a ring, and some nest is still to be paid for
 abbrev pub IsLack : List (List (Option Arc)) → Splitting → Units → Lack → Type 0
-IsLack arcs splitting units (SetWithin piece) = OfSomeNest splitting.nests (λ id nest. (piece ≡ nest.piece) × SetsEnough arcs splitting id nest)
+IsLack arcs splitting units (SetWithin piece) = OfSomeNest splitting.nests (λ id nest. (piece ≡ nest.piece) × (nest.tight ≡ true)
+    × SetsEnough arcs splitting id nest)
 IsLack arcs splitting units Looks = 134217728 ≤ units.looked.count
 IsLack arcs splitting units (InTurn ring) = SomeIsDue splitting.nests × IsRing arcs splitting ring
 IsLack arcs splitting units Passes = PricePasses arcs units.pay ⊎ (OfSomeNest splitting.nests (CostsPast arcs splitting units.pay)

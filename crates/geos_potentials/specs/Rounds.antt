@@ -103,14 +103,15 @@ pub record CostsPast (arcs : List (List (Option Arc))) (splitting : Splitting) (
 
 -- What is known of a way round that is added up
 
--- what an edge has to do with the unit of a nest is so; it pays where it is the way to its target of a LOOP of the nest
-abbrev pub HasShare : List (List ℕ) → ℕ → ℕ → ℕ → Arc → Bool → Link → Share → Type 0
-HasShare pay k unit pc arc pays link Nothing = (pays ≡ false) × (link.costs ≡ 1 + arc.called + price_of pay arc.to arc.counting)
+-- what an edge has to do with the unit of a nest is so; it pays where it is the way to its target of a LOOP of the nest, and costs more only
+-- where the nest is tight
+abbrev pub HasShare : List (List ℕ) → ℕ → Bool → ℕ → ℕ → Arc → Bool → Link → Share → Type 0
+HasShare pay k tight unit pc arc pays link Nothing = (pays ≡ false) × (link.costs ≡ 1 + arc.called + price_of pay arc.to arc.counting)
     × (link.paid ≡ paid_by pay pc arc.counting)
-HasShare pay k unit pc arc pays link PaysFor = (pays ≡ true) × (link.costs ≡ 1 + arc.called + price_of pay arc.to arc.counting)
+HasShare pay k tight unit pc arc pays link PaysFor = (pays ≡ true) × (link.costs ≡ 1 + arc.called + price_of pay arc.to arc.counting)
     × (unit ≤ link.paid)
-HasShare pay k unit pc arc pays link (Costs most) = (pays ≡ false) × (arc.counting ≡ Sets k most) × (0 < most)
-    × (link.costs ≡ 1 + arc.called + max (unit_at pay arc.to k) unit * most) × (link.paid ≡ paid_by pay pc arc.counting)
+HasShare pay k tight unit pc arc pays link (Costs most) = (pays ≡ false) × (arc.counting ≡ Sets k most) × (0 < most)
+    × (link.costs ≡ 1 + arc.called + max (unit_at pay arc.to k) unit * most) × (link.paid ≡ paid_by pay pc arc.counting) × (tight ≡ true)
 
 -- a link is one of a pc's edges that stays in a nest, with its share
 pub record LinksIn (arcs : List (List (Option Arc))) (splitting : Splitting) (pay : List (List ℕ)) (id : ℕ) (nest : Nest) (unit pc : ℕ)
@@ -119,7 +120,7 @@ pub record LinksIn (arcs : List (List (Option Arc))) (splitting : Splitting) (pa
   pub read : arc_at arcs pc branch ≡ Some arc
   pub to : link.to ≡ arc.to
   pub stays : StaysInNest splitting id nest.piece pc branch arc.to
-  pub share : HasShare pay nest.counter unit pc arc (branch && pays_in id (slice_index_or splitting.jumps pc Plain)) link link.share
+  pub share : HasShare pay nest.counter nest.tight unit pc arc (branch && pays_in id (slice_index_or splitting.jumps pc Plain)) link link.share
 
 -- it is set for so many units more, or for none that are less than another
 abbrev pub SetsLow : ℕ → ℕ → ℕ → ℕ → Type 0
@@ -156,9 +157,10 @@ IsOutermost jumps id steps (Some inner) = (inner ≢ id) × (0 < total (taken_of
     × ((other : ℕ) → other ≢ id → 0 < total (taken_of jumps other) steps → inner ≤ other)
 
 -- steps are added up
-pub record AddsUp (jumps : List Jump) (pay : List (List ℕ)) (nest k unit : ℕ) (steps : List Step) (round : Round) : Type 0 where
+pub record AddsUp (jumps : List Jump) (pay : List (List ℕ)) (nest k : ℕ) (tight : Bool) (unit : ℕ) (steps : List Step) (round : Round) : Type 0 where
   pub takes : round.all_takes ≡ total (taken_of jumps nest) steps
   pub sets : round.all_sets ≤ total (set_of k) steps
+  pub tight_if : 0 < round.all_sets → tight ≡ true
   pub none : round.least ≡ None → round.all_takes ≡ 0
   pub least : round.least ≢ None → 0 < round.all_takes
   pub inner : IsOutermost jumps nest steps round.inner
@@ -170,7 +172,7 @@ pub record AddsUpTo (arcs : List (List (Option Arc))) (splitting : Splitting) (p
     (round : Round) : Type 0 where
   pub steps : List Step
   pub lead : AreSteps arcs splitting id nest.piece from steps at
-  pub adds : AddsUp splitting.jumps pay id nest.counter unit steps round
+  pub adds : AddsUp splitting.jumps pay id nest.counter nest.tight unit steps round
 
 -- those of a way round in a nest are, and it lacks something
 pub record IsRound (arcs : List (List (Option Arc))) (splitting : Splitting) (pay : List (List ℕ)) (id : ℕ) (nest : Nest) (unit : ℕ)

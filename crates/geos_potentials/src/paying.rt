@@ -1,6 +1,6 @@
 //! A nest that is paid for: the least unit with which no way round in it lacks something.
 
-ghost use Rattle.std.specs.Prelude.{◌≡◌, ◌≢◌, ◌<◌, ◌≤◌, ◌-◌, List, Option, None, Some, IfSome, IfOk, IfErr, slice_index_or};
+ghost use Rattle.std.specs.Prelude.{◌≡◌, ◌≢◌, ◌<◌, ◌≤◌, ◌-◌, List, Option, None, Some, true, IfSome, IfOk, IfErr, slice_index_or};
 ghost use Rattle.geos_potentials.specs.Lacks.{IsLackIn, IsLack};
 ghost use Rattle.geos_potentials.specs.Rounds.{HasShare, LinksIn, SetsLow, Adds, IsRound, LacksPast, lesser_of, IsOther, IsRest};
 ghost use Rattle.geos_potentials.specs.declared.arcs.Arc.{Arc};
@@ -238,7 +238,8 @@ impl Paying {
 
     /// To how much an edge sets the counter for the nest's LOOPs.
     fn set_for_it(&self, units: &Units, arc: &Arc) -> Option<u16>
-        ensures { IfSome result (λ most. (arc.now.counting ≡ Sets self.now.nest.counter most) × (0 < most)) }
+        ensures { IfSome result (λ most. (arc.now.counting ≡ Sets self.now.nest.counter most) × (0 < most)
+            × (self.now.nest.tight ≡ true)) }
     {
         if !self.nest.tight {
             return None;
@@ -254,7 +255,7 @@ impl Paying {
     fn link(&self, units: &Units, pc: u16, arc: &Arc, pays: bool) -> Link
         requires { pc < 4096 }
         ensures to { result.to ≡ arc.now.to }
-        ensures share { HasShare units.now.pay self.now.nest.counter self.now.unit pc arc.now pays result result.share }
+        ensures share { HasShare units.now.pay self.now.nest.counter self.now.nest.tight self.now.unit pc arc.now pays result result.share }
     {
         let Link {
             to,

@@ -12,6 +12,7 @@ loop-init c = record {
     adds = record {
       takes = refl;
       sets = omega arith;
+      tight_if = λ some. absurd (omega (arith, some));
       none = λ is. refl;
       least = λ is. absurd (is refl);
       inner = λ other ne. refl;
