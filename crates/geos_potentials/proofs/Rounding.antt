@@ -1,12 +1,10 @@
 -- Ways round that are added up, and what they lack.
-use Rattle.std.proofs.Common.{◌≡◌, ◌≤◌, ◌<◌, ◌⊎◌, ℕ, ◌+◌, ◌-◌, ◌*◌, ◌/◌, ◌%◌, Bool, true, false, List, [], ◌∷◌, Option, None, Some, refl, sym, ap, ◌∙◌, subst, arith, inl, inr}
+use Rattle.std.proofs.Common.{◌≡◌, ◌≤◌, ◌<◌, ℕ, ◌+◌, ◌-◌, ◌*◌, ◌/◌, ◌%◌, Bool, true, false, List, ◌∷◌, Option, None, Some, refl, sym, ap, ◌∙◌, subst, arith, inl, inr}
 use Rattle.std.specs.Prelude.{◌≢◌, ◌&&◌, ◌==◌, max, min, if◌then◌else◌, slice_index_or}
-use Rattle.std.proofs.lemmas.Bool.{cases_eq, cases_lt, eq-eqb, ne_eqb, false≢true}
+use Rattle.std.proofs.lemmas.Bool.{cases_eq, cases_lt, eq-eqb, ne_eqb}
 use Rattle.std.proofs.lemmas.Grind.{div_ceil_times}
 use Rattle.std.proofs.lemmas.Nat.{mul-le}
 use Rattle.std.proofs.lemmas.Option.{none-some}
-use Rattle.geos_image.specs.declared.row.Row.{Row}
-use Rattle.geos_image.specs.Parts.{Parts, start_of}
 use Rattle.geos_potentials.specs.declared.arcs.Arc.{Arc}
 use Rattle.geos_potentials.specs.declared.arcs.Counting.{Counting}
 use Rattle.geos_potentials.specs.declared.arcs.Counting.TheVariants.{Sets}
@@ -18,17 +16,12 @@ use Rattle.geos_potentials.specs.declared.lengths.Share.TheVariants.{Nothing, Pa
 use Rattle.geos_potentials.specs.declared.nests.Nest.{Nest}
 use Rattle.geos_potentials.specs.declared.nests.Splitting.{Splitting}
 use Rattle.geos_potentials.specs.declared.paying.Round.{Round}
-use Rattle.geos_potentials.specs.declared.pieces.Piece.{Piece}
 use Rattle.geos_potentials.specs.declared.units.Lack.{Lack}
 use Rattle.geos_potentials.specs.declared.units.Lack.TheVariants.{SetWithin, Passes, InTurn, Looks}
 use Rattle.geos_potentials.specs.declared.units.Units.{Units}
-use Rattle.geos_potentials.specs.Arcs.{arc_at, AreArcs, NoArcsOutside, unit_at, price_of, paid_by}
-use Rattle.geos_code.specs.Code.{IsPcOf}
-use Rattle.geos_potentials.specs.Constants.{ConstantsPay, row_known, coefficients_at}
-use Rattle.geos_potentials.specs.Lacks.{IsLackIn, IsLack, OfSomeNest}
-use Rattle.geos_potentials.specs.Rounds.{Step, AreSteps, total, set_by, set_of, pays_in, taken_of, SetsEnough, dearest_price, most_paid_of, CostsPast, HasShare, LinksIn, SetsLow, Adds, AddsUp, AddsUpTo, IsRound, LacksPast, lesser_of, IsOther, IsOutermost, GoesRoundInside}
-use Rattle.geos_potentials.proofs.Demand.{is-arc}
-use Rattle.geos_potentials.proofs.Priced.{arc-paid}
+use Rattle.geos_potentials.specs.Arcs.{unit_at, price_of, paid_by}
+use Rattle.geos_potentials.specs.Lacks.{IsLackIn, IsLack}
+use Rattle.geos_potentials.specs.Rounds.{Step, total, set_by, set_of, pays_in, taken_of, SetsEnough, dearest_price, most_paid_of, CostsPast, HasShare, LinksIn, SetsLow, Adds, AddsUp, AddsUpTo, IsRound, LacksPast, lesser_of, IsOther, IsOutermost, GoesRoundInside}
 
 -- One more edge
 
