@@ -69,7 +69,6 @@ tells_of_ways _ = false
 abbrev pub TellsOfLack : Order → Lack → Cause → Type 0
 TellsOfLack order (lack.SetWithin piece) told = IsOfPiece order piece told
 TellsOfLack order (lack.InTurn nest) told = tells_of_waiting told ≡ true
-TellsOfLack order lack.NoShare told = tells_of_waiting told ≡ true
 TellsOfLack order lack.Passes told = TellsOfPassing told
 TellsOfLack order lack.Looks told = tells_of_looks told ≡ true
 

@@ -256,7 +256,7 @@ fn cause_of_lack(
         Lack::Passes => {
             cause_of_passing(alloc, body, touching, known, search, trails, strongest)
         }
-        Lack::InTurn(_) | Lack::NoShare => Ok(cause_in_turn(body, touching, search, trails)),
+        Lack::InTurn(_) => Ok(cause_in_turn(body, touching, search, trails)),
         Lack::Looks => Ok(cause_of_looks(body)),
     }
 }

@@ -30,12 +30,12 @@ use Rattle.geos_potentials.specs.declared.lengths.Link.{Link}
 use Rattle.geos_potentials.specs.declared.lengths.Way.{Way}
 use Rattle.geos_potentials.specs.Arcs.{arc_at, unit_at, price_of, paid_by, touched_by, counting_of, IsLink, IsArc, IsArcIf, AreArcs, NoArcsOutside}
 use Rattle.geos_potentials.specs.Carried.{AreSpread}
-use Rattle.geos_potentials.specs.Constants.{asked_over, PaysSteps, row_known, coefficients_at, potential_in, ArePaidIn}
+use Rattle.geos_potentials.specs.Constants.{asked_over, PaysSteps, ConstantsPay, row_known, coefficients_at, potential_in, ArePaidIn}
 use Rattle.geos_potentials.specs.Demands.{keeps, taken_from}
 use Rattle.geos_potentials.specs.Least.{is_free, steps_at, link_at, Covers, IsLookedAt, ArePut}
 use Rattle.geos_potentials.specs.Led.{AreLed}
 use Rattle.geos_potentials.specs.Numbers.{Numbers}
-use Rattle.geos_potentials.specs.Paid.{HavePaid, AreSayable}
+use Rattle.geos_potentials.specs.Paid.{HavePaid, HaveFour}
 use Rattle.geos_potentials.specs.Spent.{spent_at, AreFree, AreNotedSet, LoopsSpent}
 use Rattle.geos_potentials.specs.Steps.{call_steps, taken_at}
 use Rattle.geos_potentials.specs.Untouched.{AreSpentIn}
@@ -208,7 +208,7 @@ module _ (image : Parts) (r : ℕ) (known : List (Option Row)) (table : List (Li
     (touched_on : AreSpread graph.arcs low classes.touched) (unset_on : AreSpread graph.arcs low classes.unset)
     (prices_on : AreSpread graph.arcs low classes.prices) (set_there : AreNotedSet graph.arcs low end classes.prices)
     (jumps : List Jump) (free : AreFree graph.arcs jumps classes low end) (pay : List (List ℕ)) (ways : List Way)
-    (H : HavePaid image r graph jumps pay ways) (says : AreSayable image r pay ways) where
+    (H : HavePaid image r graph jumps pay ways) (four : HaveFour image r pay) where
   abbrev law : ℕ → ℕ → Bool
   law = spent_at classes
 
@@ -268,7 +268,7 @@ module _ (image : Parts) (r : ℕ) (known : List (Option Row)) (table : List (Li
           absurd (false≢true (sym held.3 ∙ is))
 
   past-four : (pc k : ℕ) → IsPcOf image r pc → 4 ≤ k → unit_at pay pc k ≡ 0
-  past-four pc k within many = get_or_past (slice_index_or pay pc []) k 0 (let four = says.four pc within in omega (arith, four, many))
+  past-four pc k within many = get_or_past (slice_index_or pay pc []) k 0 (let long = four pc within in omega (arith, long, many))
 
   -- what it costs to set a counter has not grown
   price-less : (pc : ℕ) (branch : Bool) (arc : Arc) (counting : Counting) → IsPcOf image r pc → IsPcOf image r arc.to
@@ -318,18 +318,19 @@ module _ (image : Parts) (r : ℕ) (known : List (Option Row)) (table : List (Li
           let more = paid-grows H.first pay pc arc.counting (H.grown pc) in
           let less = price-less pc branch arc arc.counting within noted_arc.stays read refl (along branch refl) in
           omega (arith, le, there, costs, paid, more, less)
-      by (inr past) = (let few = says.steps pc within in let small = is.small in absurd (omega (arith, past, few, small)))
+      by (inr past) = (let few = H.short pc within.above within.below in let small = is.small in absurd (omega (arith, past, few, small)))
 
   free-paid : (pc : ℕ) (S : LoopsSpent graph.arcs classes pc) → IsPcOf image r pc → is_free (slice_index_or jumps pc Plain) ≡ true → Paid pc S.arc
   free-paid pc S within is = by (H.free pc within.above within.below is S.arc S.k S.read S.takes S.few)
     where
-      by : (steps_at ways S.arc.to + (1 + S.arc.called) ≤ steps_at ways pc + unit_at pay pc S.k) ⊎ (4294967295 < steps_at ways pc) → Paid pc S.arc
+      by : (steps_at ways S.arc.to + (1 + S.arc.called) ≤ steps_at ways pc + unit_at pay pc S.k) ⊎ (9223372036854775808 ≤ steps_at ways pc)
+          → Paid pc S.arc
       by (inl le) =
           let counting = takes-is S.arc.counting S.k S.takes in
           let costs : price_of pay S.arc.to S.arc.counting ≡ 0 = ap (price_of pay S.arc.to) counting in
           let paid : paid_by pay pc S.arc.counting ≡ unit_at pay pc S.k = ap (paid_by pay pc) counting in
           omega (arith, le, costs, paid)
-      by (inr past) = (let few = says.steps pc within in absurd (omega (arith, past, few)))
+      by (inr past) = (let few = H.short pc within.above within.below in absurd (omega (arith, past, few)))
 
   arc-paid : (pc : ℕ) (branch : Bool) (arc : Arc) → IsPcOf image r pc → arc_at graph.arcs pc branch ≡ Some arc → Paid pc arc
   arc-paid pc branch arc within read = by (link_at H.links pc branch) refl
@@ -350,6 +351,43 @@ module _ (image : Parts) (r : ℕ) (known : List (Option Row)) (table : List (Li
           (subst (Covers ways (steps_at ways pc)) e (H.covered pc branch within.above within.below)))
       by None e = left (subst (IsLookedAt graph.arcs jumps H.first pc branch) e (H.looked pc branch within))
 
+  -- so its steps are
+  much : (pc : ℕ) (branch : Bool) (arc : Arc) → IsPcOf image r pc → arc_at graph.arcs pc branch ≡ Some arc
+      → (A : IsArc image r known table pc branch arc) → steps_at ways arc.to + (1 + call_steps image A.leads.point.instr + price_of pay arc.to
+      (counting_of (row_known known pc) table A.leads.point.instr A.leads.point.instr.opcode branch))
+      ≤ steps_at ways pc + paid_by pay pc (counting_of (row_known known pc) table A.leads.point.instr A.leads.point.instr.opcode branch)
+  much pc branch arc within read A =
+      let taken : taken_at image pc ≡ 1 + call_steps image A.leads.point.instr = rw (A.leads.there, taken_at) refl in
+      let is : 1 + arc.called ≡ 1 + call_steps image A.leads.point.instr = A.steps ∙ taken in
+      let paid = arc-paid pc branch arc within read in
+      let costs = ap (price_of pay arc.to) A.counting in
+      let pays = ap (paid_by pay pc) A.counting in
+      omega (arith, is, paid, costs, pays)
+
+  -- the steps of the ways pay, though they may be more than a potential can say
+  pub ways-pay : ConstantsPay image r (row_known known) (coefficients_at pay) (steps_at ways)
+  ways-pay = record {
+    edges = λ pc to branch within leads stays. over pc to branch within leads stays (arc_at graph.arcs pc branch) refl;
+    returns = H.returns;
+  }
+    where
+      over : (pc to : ℕ) (branch : Bool) → IsPcOf image r pc → (leads : LeadsTo image pc branch to) → IsPcOf image r to → (arc : Option Arc)
+          → arc_at graph.arcs pc branch ≡ arc
+          → PaysSteps (asked_over image leads.point.instr (row_known known pc) branch (with_units pay to (steps_at ways to)))
+          (with_units pay pc (steps_at ways pc))
+      over pc to branch within leads stays None read =
+          absurd (subst (IsArcIf image r known table pc branch) read (noted pc branch within) to leads stays)
+      over pc to branch within leads stays (Some arc) read =
+          let A : IsArc image r known table pc branch arc = subst (IsArcIf image r known table pc branch) read (noted pc branch within) in
+          let same : A.leads.point ≡ leads.point = same_Some A.leads.point leads.point (sym A.leads.there ∙ leads.there) in
+          let end_is : arc.to ≡ to = leads-one image pc branch arc.to to A.leads leads in
+          subst (λ (x : Point). PaysSteps (asked_over image x.instr (row_known known pc) branch (with_units pay to (steps_at ways to)))
+          (with_units pay pc (steps_at ways pc))) same
+          (subst (λ (n : ℕ). PaysSteps (asked_over image A.leads.point.instr (row_known known pc) branch (with_units pay n (steps_at ways n)))
+          (with_units pay pc (steps_at ways pc))) end_is
+          (over-pays image table A.leads.point.instr (row_known known pc) branch pay pc arc.to (steps_at ways arc.to) (steps_at ways pc)
+          A.leads.has (much pc branch arc within read A)))
+
   module _ (numbers : Numbers) (put : ArePut image r pay ways numbers) (spent : AreSpentIn image r table numbers.coefficients) where
     potential-is : (pc : ℕ) → IsPcOf image r pc → with_units pay pc (steps_at ways pc) ≡ potential_in numbers pc
     potential-is pc within = potential-at numbers pc (with_units pay pc (steps_at ways pc)) (sym (put pc within).0) (sym (put pc within).1)
@@ -358,16 +396,6 @@ module _ (image : Parts) (r : ℕ) (known : List (Option Row)) (table : List (Li
         (A : IsArc image r known table pc branch arc) where
       abbrev i : Instr
       i = A.leads.point.instr
-
-      much : steps_at ways arc.to + (1 + call_steps image i + price_of pay arc.to (counting_of (row_known known pc) table i i.opcode branch))
-          ≤ steps_at ways pc + paid_by pay pc (counting_of (row_known known pc) table i i.opcode branch)
-      much =
-          let taken : taken_at image pc ≡ 1 + call_steps image i = rw (A.leads.there, taken_at) refl in
-          let is : 1 + arc.called ≡ 1 + call_steps image i = A.steps ∙ taken in
-          let paid = arc-paid pc branch arc within read in
-          let costs = ap (price_of pay arc.to) A.counting in
-          let pays = ap (paid_by pay pc) A.counting in
-          omega (arith, is, paid, costs, pays)
 
       less : (k : ℕ) → k < 4 → keeps (counting_of (row_known known pc) table i i.opcode branch) k ≡ true → unit_at pay arc.to k ≤ unit_at pay pc k
       less k few keeps_it = kept pc k branch arc within few read (ap (λ (x : Counting). keeps x k) A.counting ∙ keeps_it)
@@ -383,8 +411,8 @@ module _ (image : Parts) (r : ℕ) (known : List (Option Row)) (table : List (Li
       edge-paid : is_paid (asked_over image i (row_known known pc) branch (with_units pay arc.to (steps_at ways arc.to)))
           (with_units pay pc (steps_at ways pc)) ≡ true
       edge-paid = both-true _ _ (le-leb _ _ (over-pays image table i (row_known known pc) branch pay pc arc.to (steps_at ways arc.to)
-          (steps_at ways pc) A.leads.has much)) (over-less image table i (row_known known pc) branch (with_units pay arc.to (steps_at ways arc.to))
-          (coefficients_at pay pc) (says.four arc.to A.stays) (says.four pc within) less none)
+          (steps_at ways pc) A.leads.has (much pc branch arc within read A))) (over-less image table i (row_known known pc) branch (with_units pay arc.to (steps_at ways arc.to))
+          (coefficients_at pay pc) (four arc.to A.stays) (four pc within) less none)
 
     -- so each edge is, and each return
     pub all-paid : ArePaidIn image r known numbers

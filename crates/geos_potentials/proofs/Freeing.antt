@@ -1,5 +1,5 @@
 -- Units that rise for LOOPs that are left out pay for these, and are carried.
-use Rattle.std.proofs.Common.{◌≡◌, ◌≤◌, ◌<◌, ◌⊎◌, ℕ, ◌+◌, true, List, Option, sym, subst, arith, inl, inr}
+use Rattle.std.proofs.Common.{◌≡◌, ◌≤◌, ◌⊎◌, ℕ, ◌+◌, true, List, Option, sym, subst, arith, inl, inr}
 use Rattle.std.specs.Prelude.{slice_index_or}
 use Rattle.std.proofs.lemmas.Bool.{cases_eq}
 use Rattle.geos_potentials.specs.declared.arcs.Arc.{Arc}
@@ -18,8 +18,8 @@ use Rattle.geos_potentials.specs.Waits.{Waits, HaveRisen}
 use Rattle.geos_potentials.proofs.Carrying.{risen-carried}
 
 pub loop-pays-more : (ways : List Way) (pc to called unit more : ℕ) → unit ≤ more
-    → (steps_at ways to + (1 + called) ≤ steps_at ways pc + unit) ⊎ (4294967295 < steps_at ways pc)
-    → (steps_at ways to + (1 + called) ≤ steps_at ways pc + more) ⊎ (4294967295 < steps_at ways pc)
+    → (steps_at ways to + (1 + called) ≤ steps_at ways pc + unit) ⊎ (9223372036854775808 ≤ steps_at ways pc)
+    → (steps_at ways to + (1 + called) ≤ steps_at ways pc + more) ⊎ (9223372036854775808 ≤ steps_at ways pc)
 loop-pays-more ways pc to called unit more le (inl paid) = inl (omega (arith, paid, le))
 loop-pays-more ways pc to called unit more le (inr past) = inr past
 

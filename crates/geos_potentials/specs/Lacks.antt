@@ -2,7 +2,7 @@
 use Rattle.std.specs.Prelude.{◌≡◌, ◌≤◌, ◌<◌, ◌+◌, ◌⊎◌, ℕ, Bool, true, List, Option, Some, slice_index_or}
 use Rattle.geos_potentials.specs.Arcs.{arc_at, price_of}
 use Rattle.geos_potentials.specs.Least.{is_free, steps_at}
-use Rattle.geos_potentials.specs.Rounds.{CostsMore, CostsPast, SetsEnough}
+use Rattle.geos_potentials.specs.Rounds.{CostsPast, SetsEnough}
 use Rattle.geos_potentials.specs.Rings.{IsRing}
 use Rattle.geos_potentials.specs.declared.arcs.Arc.{Arc}
 use Rattle.geos_potentials.specs.declared.jumps.Jump.{Jump}
@@ -12,7 +12,7 @@ use Rattle.geos_potentials.specs.declared.nests.Nest.{Nest}
 use Rattle.geos_potentials.specs.declared.nests.Nests.{Nests}
 use Rattle.geos_potentials.specs.declared.nests.Splitting.{Splitting}
 use Rattle.geos_potentials.specs.declared.units.Lack.{Lack}
-use Rattle.geos_potentials.specs.declared.units.Lack.TheVariants.{SetWithin, Passes, InTurn, NoShare, Looks}
+use Rattle.geos_potentials.specs.declared.units.Lack.TheVariants.{SetWithin, Passes, InTurn, Looks}
 use Rattle.geos_potentials.specs.declared.units.Units.{Units}
 
 -- something is so of one of the nests and its number
@@ -27,12 +27,11 @@ pub record OfSomeNest (nests : Nests) (is : ℕ → Nest → Type 0) : Type 0 wh
 abbrev pub SomeIsDue : Nests → Type 0
 SomeIsDue nests = OfSomeNest nests (λ id nest. nest.due ≡ true)
 
--- control goes round in a nest on a way on which its LOOPs take, and its counter is set to as much, at least; or on one that costs more than
--- units pay for, and no LOOP of the nest takes there; or on one that costs more, even where a unit of the counter pays for as much as one
--- can; or at least 2 ^ 27 edges, places and nests were looked at
+-- control goes round in a nest that is tight on a way on which its LOOPs take, and its counter is set to as much, at least; or in one on a way
+-- on which they take, and which costs more than is paid, even where a unit of the counter pays for as much as one can; or at least 2 ^ 27 edges, places and nests were
+-- looked at
 abbrev pub IsLackIn : List (List (Option Arc)) → Splitting → ℕ → Nest → Units → Lack → Type 0
-IsLackIn arcs splitting id nest units (SetWithin piece) = (piece ≡ nest.piece) × SetsEnough arcs splitting id nest
-IsLackIn arcs splitting id nest units NoShare = CostsMore arcs splitting units.pay id nest
+IsLackIn arcs splitting id nest units (SetWithin piece) = (piece ≡ nest.piece) × (nest.tight ≡ true) × SetsEnough arcs splitting id nest
 IsLackIn arcs splitting id nest units Looks = 134217728 ≤ units.looked.count
 IsLackIn arcs splitting id nest units (InTurn ring) = ⊥
 IsLackIn arcs splitting id nest units Passes = CostsPast arcs splitting units.pay id nest
@@ -60,8 +59,8 @@ pub record FreePasses (arcs : List (List (Option Arc))) (jumps : List Jump) (way
 -- the same of some nest, when the search has come to an end: also, what it costs to set a counter passes, or what a LOOP asks for that is
 -- left out; or nests wait on each other in a ring, and some nest is still to be paid for
 abbrev pub IsLack : List (List (Option Arc)) → Splitting → Units → Lack → Type 0
-IsLack arcs splitting units (SetWithin piece) = OfSomeNest splitting.nests (λ id nest. (piece ≡ nest.piece) × SetsEnough arcs splitting id nest)
-IsLack arcs splitting units NoShare = OfSomeNest splitting.nests (CostsMore arcs splitting units.pay)
+IsLack arcs splitting units (SetWithin piece) = OfSomeNest splitting.nests (λ id nest. (piece ≡ nest.piece) × (nest.tight ≡ true)
+    × SetsEnough arcs splitting id nest)
 IsLack arcs splitting units Looks = 134217728 ≤ units.looked.count
 IsLack arcs splitting units (InTurn ring) = SomeIsDue splitting.nests × IsRing arcs splitting ring
 IsLack arcs splitting units Passes = PricePasses arcs units.pay ⊎ (OfSomeNest splitting.nests (CostsPast arcs splitting units.pay)

@@ -133,6 +133,10 @@ Covers ways n (Some link) = (steps_at ways link.to + link.costs ≤ n + link.pai
 abbrev pub AreCovered : List (List (Option Link)) → List Way → ℕ → ℕ → Type 0
 AreCovered links ways from end = (pc : ℕ) (branch : Bool) → from ≤ pc → pc < end → Covers ways (steps_at ways pc) (link_at links pc branch)
 
+-- those ways take fewer than 2 ^ 63 steps, so that sums of them fit 64 bits
+abbrev pub AreShort : List Way → ℕ → ℕ → Type 0
+AreShort ways from end = (pc : ℕ) → from ≤ pc → pc < end → steps_at ways pc < 9223372036854775808
+
 -- no way takes fewer steps next
 abbrev pub AreLonger : List Way → List Way → Type 0
 AreLonger old next = (pc : ℕ) → steps_at old pc ≤ steps_at next pc

@@ -1,5 +1,5 @@
 -- Ways round in nests, along edges that are noted, and what is paid for on them.
-use Rattle.std.specs.Prelude.{◌≡◌, ◌≢◌, ◌≤◌, ◌<◌, ◌+◌, ◌-◌, ◌*◌, ◌⊎◌, max, ◌==◌, ◌&&◌, nat_lt, ℕ, Bool, true, false, if◌then◌else◌, List, [], ◌∷◌, Option, None, Some, slice_index_or}
+use Rattle.std.specs.Prelude.{◌≡◌, ◌≢◌, ◌≤◌, ◌<◌, ◌+◌, ◌-◌, ◌*◌, ◌⊎◌, max, min, ◌==◌, ◌&&◌, nat_lt, ℕ, Bool, true, false, if◌then◌else◌, List, [], ◌∷◌, Option, None, Some, slice_index_or}
 use Rattle.geos_potentials.specs.declared.arcs.Arc.{Arc}
 use Rattle.geos_potentials.specs.declared.arcs.Counting.{Counting}
 use Rattle.geos_potentials.specs.declared.arcs.Counting.TheVariants.{Sets}
@@ -7,6 +7,8 @@ use Rattle.geos_potentials.specs.declared.lengths.Link.{Link}
 use Rattle.geos_potentials.specs.declared.lengths.Share.{Share}
 use Rattle.geos_potentials.specs.declared.lengths.Share.TheVariants.{Nothing, Pays as PaysFor, Costs}
 use Rattle.geos_potentials.specs.declared.paying.Round.{Round}
+use Rattle.geos_potentials.specs.declared.paying.Rest.{Rest}
+use Rattle.geos_potentials.specs.declared.paying.Rest.TheVariants.{Nothing as NoRest, Inside}
 use Rattle.geos_potentials.specs.declared.jumps.Jump.{Jump}
 use Rattle.geos_potentials.specs.declared.jumps.Jump.TheVariants.{Plain, Free, Pays}
 use Rattle.geos_potentials.specs.declared.nests.Nest.{Nest}
@@ -48,11 +50,7 @@ abbrev pub total : (Step → ℕ) → List Step → ℕ
 total f [] = 0
 total f (step ∷ steps) = f step + total f steps
 
--- what a step costs, where units of counters pay for so much
-abbrev pub cost_of : List (List ℕ) → Step → ℕ
-cost_of pay step = 1 + step.arc.called + price_of pay step.arc.to step.arc.counting
-
--- what units pay of it
+-- what units of counters pay of what a step costs
 abbrev pub paid_of : List (List ℕ) → Step → ℕ
 paid_of pay step = paid_by pay step.pc step.arc.counting
 
@@ -71,14 +69,6 @@ pays_in nest _ = false
 
 abbrev pub taken_of : List Jump → ℕ → Step → ℕ
 taken_of jumps nest step = if step.branch && pays_in nest (slice_index_or jumps step.pc Plain) then 1 else 0
-
--- control goes round in a nest on a way that costs more than units pay for, and no LOOP of the nest takes there
-pub record CostsMore (arcs : List (List (Option Arc))) (splitting : Splitting) (pay : List (List ℕ)) (id : ℕ) (nest : Nest) : Type 0 where
-  pub from : ℕ
-  pub steps : List Step
-  pub round : AreSteps arcs splitting id nest.piece from steps from
-  pub none : total (taken_of splitting.jumps id) steps ≡ 0
-  pub more : total (paid_of pay) steps < total (cost_of pay) steps
 
 -- control goes round in a nest on a way on which its LOOPs take, and its counter is set to as much, at least
 pub record SetsEnough (arcs : List (List (Option Arc))) (splitting : Splitting) (id : ℕ) (nest : Nest) : Type 0 where
@@ -113,14 +103,15 @@ pub record CostsPast (arcs : List (List (Option Arc))) (splitting : Splitting) (
 
 -- What is known of a way round that is added up
 
--- what an edge has to do with the unit of a nest is so; it pays where it is the way to its target of a LOOP of the nest
-abbrev pub HasShare : List (List ℕ) → ℕ → ℕ → ℕ → Arc → Bool → Link → Share → Type 0
-HasShare pay k unit pc arc pays link Nothing = (pays ≡ false) × (link.costs ≡ 1 + arc.called + price_of pay arc.to arc.counting)
+-- what an edge has to do with the unit of a nest is so; it pays where it is the way to its target of a LOOP of the nest, and costs more only
+-- where the nest is tight
+abbrev pub HasShare : List (List ℕ) → ℕ → Bool → ℕ → ℕ → Arc → Bool → Link → Share → Type 0
+HasShare pay k tight unit pc arc pays link Nothing = (pays ≡ false) × (link.costs ≡ 1 + arc.called + price_of pay arc.to arc.counting)
     × (link.paid ≡ paid_by pay pc arc.counting)
-HasShare pay k unit pc arc pays link PaysFor = (pays ≡ true) × (link.costs ≡ 1 + arc.called + price_of pay arc.to arc.counting)
+HasShare pay k tight unit pc arc pays link PaysFor = (pays ≡ true) × (link.costs ≡ 1 + arc.called + price_of pay arc.to arc.counting)
     × (unit ≤ link.paid)
-HasShare pay k unit pc arc pays link (Costs most) = (pays ≡ false) × (arc.counting ≡ Sets k most) × (0 < most)
-    × (link.costs ≡ 1 + arc.called + max (unit_at pay arc.to k) unit * most) × (link.paid ≡ paid_by pay pc arc.counting)
+HasShare pay k tight unit pc arc pays link (Costs most) = (pays ≡ false) × (arc.counting ≡ Sets k most) × (0 < most)
+    × (link.costs ≡ 1 + arc.called + max (unit_at pay arc.to k) unit * most) × (link.paid ≡ paid_by pay pc arc.counting) × (tight ≡ true)
 
 -- a link is one of a pc's edges that stays in a nest, with its share
 pub record LinksIn (arcs : List (List (Option Arc))) (splitting : Splitting) (pay : List (List ℕ)) (id : ℕ) (nest : Nest) (unit pc : ℕ)
@@ -129,31 +120,50 @@ pub record LinksIn (arcs : List (List (Option Arc))) (splitting : Splitting) (pa
   pub read : arc_at arcs pc branch ≡ Some arc
   pub to : link.to ≡ arc.to
   pub stays : StaysInNest splitting id nest.piece pc branch arc.to
-  pub share : HasShare pay nest.counter unit pc arc (branch && pays_in id (slice_index_or splitting.jumps pc Plain)) link link.share
+  pub share : HasShare pay nest.counter nest.tight unit pc arc (branch && pays_in id (slice_index_or splitting.jumps pc Plain)) link link.share
 
 -- it is set for so many units more, or for none that are less than another
 abbrev pub SetsLow : ℕ → ℕ → ℕ → ℕ → Type 0
 SetsLow here unit most low = (low ≡ 0) ⊎ ((low ≡ most) × (here ≤ unit))
 
--- one more edge is added up, with its share
-abbrev pub Adds : List (List ℕ) → ℕ → ℕ → Round → Link → Round → Share → Type 0
-Adds pay k unit round link next Nothing = (next.costs ≡ round.costs + link.costs) × (next.paid ≡ round.paid + link.paid)
-    × (next.all_takes ≡ round.all_takes) × (next.all_sets ≡ round.all_sets) × (next.dearer ≡ round.dearer) × (next.least ≡ round.least)
-    × (next.sets ≡ round.sets)
-Adds pay k unit round link next PaysFor = (next.costs ≡ round.costs + link.costs) × (next.paid ≡ round.paid + link.paid)
-    × (next.all_takes ≡ round.all_takes + 1) × (next.all_sets ≡ round.all_sets) × (next.dearer ≡ round.dearer) × (next.least ≢ None)
-    × (next.sets ≡ round.sets)
-Adds pay k unit round link next (Costs most) = (next.costs ≡ round.costs + link.costs) × (next.paid ≡ round.paid + link.paid)
-    × (next.all_takes ≡ round.all_takes) × (next.all_sets ≡ round.all_sets + most) × (next.dearer ≡ round.dearer + (unit - unit_at pay link.to k) * most) × (next.least ≡ round.least)
+-- the lesser of two numbers; of one alone, that one
+abbrev pub lesser_of : Option ℕ → Option ℕ → Option ℕ
+lesser_of None second = second
+lesser_of (Some n) None = Some n
+lesser_of (Some n) (Some m) = Some (min n m)
+
+-- a LOOP of a nest other than one takes on the edge of a pc; or none does
+abbrev pub IsOther : List Jump → ℕ → ℕ → Bool → Option ℕ → Type 0
+IsOther jumps id pc branch None = (other : ℕ) → other ≢ id → (branch && pays_in other (slice_index_or jumps pc Plain)) ≡ false
+IsOther jumps id pc branch (Some other) = (other ≢ id) × (branch ≡ true) × (slice_index_or jumps pc Plain ≡ Pays other)
+
+-- one more edge is added up, with its share, and with the other nest of which a LOOP takes on it
+abbrev pub Adds : List (List ℕ) → ℕ → ℕ → Round → Link → Option ℕ → Round → Share → Type 0
+Adds pay k unit round link other next Nothing = (next.costs ≡ round.costs + link.costs) × (next.paid ≡ round.paid + link.paid)
+    × (next.all_takes ≡ round.all_takes) × (next.all_sets ≡ round.all_sets) × (next.least ≡ round.least) × (next.sets ≡ round.sets)
+    × (next.inner ≡ lesser_of round.inner other)
+Adds pay k unit round link other next PaysFor = (next.costs ≡ round.costs + link.costs) × (next.paid ≡ round.paid + link.paid)
+    × (next.all_takes ≡ round.all_takes + 1) × (next.all_sets ≡ round.all_sets) × (next.least ≢ None) × (next.sets ≡ round.sets)
+    × (next.inner ≡ lesser_of round.inner other)
+Adds pay k unit round link other next (Costs most) = (next.costs ≡ round.costs + link.costs) × (next.paid ≡ round.paid + link.paid)
+    × (next.all_takes ≡ round.all_takes) × (next.all_sets ≡ round.all_sets + most) × (next.least ≡ round.least)
     × ((low : ℕ) × SetsLow (unit_at pay link.to k) unit most low × (next.sets ≡ round.sets + low))
+    × (next.inner ≡ lesser_of round.inner other)
+
+-- of the nests other than one of which LOOPs take on steps, this is the one with the least number, and so the outermost; or there is none
+abbrev pub IsOutermost : List Jump → ℕ → List Step → Option ℕ → Type 0
+IsOutermost jumps id steps None = (other : ℕ) → other ≢ id → total (taken_of jumps other) steps ≡ 0
+IsOutermost jumps id steps (Some inner) = (inner ≢ id) × (0 < total (taken_of jumps inner) steps)
+    × ((other : ℕ) → other ≢ id → 0 < total (taken_of jumps other) steps → inner ≤ other)
 
 -- steps are added up
-pub record AddsUp (jumps : List Jump) (pay : List (List ℕ)) (nest k unit : ℕ) (steps : List Step) (round : Round) : Type 0 where
+pub record AddsUp (jumps : List Jump) (pay : List (List ℕ)) (nest k : ℕ) (tight : Bool) (unit : ℕ) (steps : List Step) (round : Round) : Type 0 where
   pub takes : round.all_takes ≡ total (taken_of jumps nest) steps
   pub sets : round.all_sets ≤ total (set_of k) steps
+  pub tight_if : 0 < round.all_sets → tight ≡ true
   pub none : round.least ≡ None → round.all_takes ≡ 0
   pub least : round.least ≢ None → 0 < round.all_takes
-  pub plain : round.least ≡ None → (round.costs ≡ total (cost_of pay) steps + round.dearer) × (round.paid ≡ total (paid_of pay) steps)
+  pub inner : IsOutermost jumps nest steps round.inner
   pub dear : round.costs + (4294967295 - unit) * round.sets ≤ total (dearest_of pay k) steps
   pub paid : total (most_paid_of jumps pay nest) steps ≤ round.paid + (4294967295 - unit) * round.all_takes
 
@@ -162,7 +172,7 @@ pub record AddsUpTo (arcs : List (List (Option Arc))) (splitting : Splitting) (p
     (round : Round) : Type 0 where
   pub steps : List Step
   pub lead : AreSteps arcs splitting id nest.piece from steps at
-  pub adds : AddsUp splitting.jumps pay id nest.counter unit steps round
+  pub adds : AddsUp splitting.jumps pay id nest.counter nest.tight unit steps round
 
 -- those of a way round in a nest are, and it lacks something
 pub record IsRound (arcs : List (List (Option Arc))) (splitting : Splitting) (pay : List (List ℕ)) (id : ℕ) (nest : Nest) (unit : ℕ)
@@ -175,3 +185,18 @@ pub record IsRound (arcs : List (List (Option Arc))) (splitting : Splitting) (pa
 abbrev pub LacksPast : ℕ → Round → Type 0
 LacksPast unit round = (round.least ≢ None) × (round.sets < round.takes) × (round.all_takes ≤ round.takes)
     × ((4294967295 - unit) * (round.takes - round.sets) < round.costs - round.paid)
+
+-- What is left
+
+-- control goes round in a nest on a way on which none of its LOOPs takes, and this is the outermost nest in it of which one does, if there is one
+pub record GoesRoundInside (arcs : List (List (Option Arc))) (splitting : Splitting) (id : ℕ) (nest : Nest) (inner : Option ℕ) : Type 0 where
+  pub from : ℕ
+  pub steps : List Step
+  pub round : AreSteps arcs splitting id nest.piece from steps from
+  pub none : total (taken_of splitting.jumps id) steps ≡ 0
+  pub outermost : IsOutermost splitting.jumps id steps inner
+
+-- what is still to be paid for in a nest is so
+abbrev pub IsRest : List (List (Option Arc)) → Splitting → ℕ → Nest → Rest → Type 0
+IsRest arcs splitting id nest NoRest = Unit {0}
+IsRest arcs splitting id nest (Inside inner) = GoesRoundInside arcs splitting id nest inner

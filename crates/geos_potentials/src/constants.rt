@@ -1,16 +1,17 @@
 //! Constants: the longest ways from each place, where units of counters pay for so much.
 
-ghost use Rattle.std.specs.Prelude.{◌≡◌, ◌≢◌, ◌<◌, ◌≤◌, ◌+◌, ◌&&◌, ℕ, true, false, IfErr, IfOk, slice_index_or};
+ghost use Rattle.std.specs.Prelude.{◌≡◌, ◌≢◌, ◌<◌, ◌≤◌, ◌+◌, ◌-◌, ◌*◌, ◌&&◌, ℕ, true, false, IfErr, IfOk, slice_index_or};
 ghost use Rattle.geos_image.specs.Parts.{start_of};
 ghost use Rattle.geos_potentials.specs.Arcs.{unit_at};
 ghost use Rattle.geos_potentials.specs.Carried.{AreCarried, AreHeld, NoneHeld};
 ghost use Rattle.geos_potentials.specs.Count.{StaysFrom};
 ghost use Rattle.geos_potentials.specs.Demands.{HaveGrown, StayWanted};
 ghost use Rattle.geos_potentials.specs.Lacks.{AsksPast, FreePasses};
-ghost use Rattle.geos_potentials.specs.Least.{AreEnds, AreLeast, StayAtMost, is_free, IsLookedAt, AreLookedAt, StayAtLoops, NoneOutside, ArePut, SomePasses, steps_at, AreCovered, AreLonger, CoverReturns};
+ghost use Rattle.geos_potentials.specs.Least.{AreEnds, AreLeast, StayAtMost, is_free, IsLookedAt, AreLookedAt, StayAtLoops, NoneOutside, ArePut, SomePasses, steps_at, AreCovered, AreShort, AreLonger, CoverReturns};
 ghost use Rattle.geos_potentials.specs.Led.{AreLed};
+ghost use Rattle.geos_potentials.specs.Looks.{RisesBy};
 ghost use Rattle.geos_potentials.specs.Numbers.{numbers_of};
-ghost use Rattle.geos_potentials.specs.Paid.{LoopPays, FreePay, AreSayable};
+ghost use Rattle.geos_potentials.specs.Paid.{LoopPays, FreePay, AreSayable, HaveFour};
 ghost use Rattle.geos_potentials.specs.Waits.{HaveRisen};
 ghost use Rattle.geos_potentials.specs.Within.{StayWithinAt, StayWithinLoops};
 ghost use Rattle.geos_potentials.specs.declared.jumps.Jump.TheVariants.{Plain};
@@ -71,12 +72,46 @@ fn begin(body: &Body, graph: &Graph, splitting: &Splitting, units: &mut Units)
     }
 }
 
-/// Makes ways longer until none grows: the last sweep goes by pc, and so over each of them.
+/// From so many steps on the sum of a way and an edge may be cut off at 64 bits, and a way not be as long as edges ask.
+const LONG: u64 = 1 << 63;
+
+/// Whether no way from the pcs of a piece is so long.
+fn are_short(all: &Piece, units: &Units) -> bool
+    ensures short { result ≡ true → AreShort units.now.lengths.ways all.now.begin all.now.end }
+    ensures some { result ≡ false → all.now.begin < all.now.end }
+{
+    for pc in all.begin..all.end {
+        if LONG <= units.lengths.steps(pc) {
+            return false;
+        }
+    }
+    true
+}
+
+/// Makes ways longer; whether none grows, nor would if no sum were cut off. It goes by pc at the end, and so over each of them.
+fn are_longest(order: &Order, all: &Piece, units: &mut Units) -> bool
+    ensures links { units.new.lengths.links ≡ units.old.lengths.links }
+    ensures below { StayAtMost units.old.lengths.links units.old.lengths.ways units.new.lengths.ways }
+    ensures longer { AreLonger units.old.lengths.ways units.new.lengths.ways }
+    ensures covered { result ≡ true → AreCovered units.new.lengths.links units.new.lengths.ways all.now.begin all.now.end }
+    ensures short { result ≡ true → AreShort units.new.lengths.ways all.now.begin all.now.end }
+    ensures some { result ≡ false → all.now.begin < all.now.end }
+    ensures counts { RisesBy units.old.looked.count (2 * (all.now.end - all.now.begin)) units.new.looked.count }
+    ensures pay { units.new.pay ≡ units.old.pay }
+{
+    if units.sweep_all(order, all) {
+        return false;
+    }
+    are_short(all, units)
+}
+
+/// Makes ways longer until none grows.
 fn lengthen(order: &Order, all: &Piece, units: &mut Units) -> Result<(), Lack>
     ensures links { units.new.lengths.links ≡ units.old.lengths.links }
     ensures below { StayAtMost units.old.lengths.links units.old.lengths.ways units.new.lengths.ways }
     ensures longer { AreLonger units.old.lengths.ways units.new.lengths.ways }
     ensures covered { IfOk result (λ _. AreCovered units.new.lengths.links units.new.lengths.ways all.now.begin all.now.end) }
+    ensures short { IfOk result (λ _. AreShort units.new.lengths.ways all.now.begin all.now.end) }
     ensures pay { units.new.pay ≡ units.old.pay }
     ensures looks { IfErr result (λ lack. (lack ≡ Looks) × (LOOKS ≤ units.new.looked.count)) }
 {
@@ -86,7 +121,7 @@ fn lengthen(order: &Order, all: &Piece, units: &mut Units) -> Result<(), Lack>
         if !units.may_look() {
             return Err(Lack::Looks);
         }
-        if !units.sweep_all(order, all) {
+        if are_longest(order, all, units) {
             return Ok(());
         }
     }
@@ -105,6 +140,7 @@ pub(crate) fn find_constants(
     ensures outside { NoneOutside body.now.image.now body.now.r units.new.lengths.links }
     ensures looked { AreLookedAt body.now.image.now body.now.r graph.now.arcs splitting.now.jumps units.new.pay units.new.lengths.links }
     ensures covered { IfOk result (λ _. AreCovered units.new.lengths.links units.new.lengths.ways body.now.start body.now.end) }
+    ensures short { IfOk result (λ _. AreShort units.new.lengths.ways body.now.start body.now.end) }
     ensures returns { CoverReturns body.now.image.now body.now.r units.new.lengths.ways }
     ensures pay { units.new.pay ≡ units.old.pay }
     ensures looks { IfErr result (λ lack. (lack ≡ Looks) × (LOOKS ≤ units.new.looked.count)) }
@@ -188,10 +224,20 @@ pub(crate) fn free_loops(
     Ok(())
 }
 
+/// A law: there are four units at each place of a routine. It takes a look at each.
+fn have_four(body: &Body, units: &Units)
+    ensures { HaveFour body.now.image.now body.now.r units.now.pay }
+{
+    for pc in body.start..body.end {
+        let _units = units.pay.at(pc);
+    }
+}
+
 /// The potentials of a routine are what was found; `false` where a constant is past what a potential can say.
 pub(crate) fn put_potentials(body: &Body, units: &Units, potentials: &mut Potentials) -> bool
     ensures put { result ≡ true → ArePut body.now.image.now body.now.r units.now.pay units.now.lengths.ways (numbers_of potentials.new) }
-    ensures says { result ≡ true → AreSayable body.now.image.now body.now.r units.now.pay units.now.lengths.ways }
+    ensures says { result ≡ true → AreSayable body.now.image.now body.now.r units.now.lengths.ways }
+    ensures four { HaveFour body.now.image.now body.now.r units.now.pay }
     ensures passes { result ≡ false → SomePasses body.now.image.now body.now.r (steps_at units.now.lengths.ways) }
     ensures stays { StaysFrom (start_of body.now.image.now.routines (body.now.r + 1)) (numbers_of potentials.old) (numbers_of potentials.new) }
 {
@@ -200,6 +246,7 @@ pub(crate) fn put_potentials(body: &Body, units: &Units, potentials: &mut Potent
     for pc in body.start..body.end {
         let length = units.lengths.steps(pc);
         if u64::from(u32::MAX) < length {
+            have_four(body, units);
             return false;
         }
         let potential = Potential {

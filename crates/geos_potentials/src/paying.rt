@@ -1,8 +1,8 @@
 //! A nest that is paid for: the least unit with which no way round in it lacks something.
 
-ghost use Rattle.std.specs.Prelude.{◌≡◌, ◌≢◌, ◌<◌, ◌≤◌, ◌+◌, ◌-◌, ◌⊎◌, List, Option, None, IfSome, IfErr, slice_index_or};
+ghost use Rattle.std.specs.Prelude.{◌≡◌, ◌≢◌, ◌<◌, ◌≤◌, ◌-◌, List, Option, None, Some, true, IfSome, IfOk, IfErr, slice_index_or};
 ghost use Rattle.geos_potentials.specs.Lacks.{IsLackIn, IsLack};
-ghost use Rattle.geos_potentials.specs.Rounds.{HasShare, LinksIn, SetsLow, Adds, IsRound, LacksPast};
+ghost use Rattle.geos_potentials.specs.Rounds.{HasShare, LinksIn, SetsLow, Adds, IsRound, LacksPast, lesser_of, IsOther, IsRest};
 ghost use Rattle.geos_potentials.specs.declared.arcs.Arc.{Arc};
 ghost use Rattle.geos_potentials.specs.declared.arcs.Counting.TheVariants.{Sets};
 ghost use Rattle.geos_potentials.specs.declared.nests.Nest.{Nest};
@@ -12,6 +12,7 @@ ghost use Rattle.geos_potentials.specs.declared.units.Units.{Units};
 use crate::arcs::Arc;
 use crate::graph::Graph;
 use crate::inside::arc_in;
+use crate::jumps::Jump;
 use crate::lengths::{Link, Share};
 use crate::looks::LOOKS;
 use crate::nests::{Nest, Splitting};
@@ -41,13 +42,13 @@ struct Round {
     least: Option<u32>,
     /// The least of those that are more than the nest's; the most there can be, where none is.
     above: u32,
-    /// By how much it costs more than with the units as they are.
-    dearer: u64,
+    /// The least number of another nest of which a LOOP takes on it; none where none does.
+    inner: Option<u16>,
 }
 
 impl Round {
-    ghost use Rattle.std.specs.Prelude.{◌≡◌, ◌≢◌, ◌<◌, ◌+◌, ◌-◌, ◌*◌, ℕ, false, None, IfSome};
-    ghost use Rattle.geos_potentials.specs.Rounds.{SetsLow};
+    ghost use Rattle.std.specs.Prelude.{◌≡◌, ◌≢◌, ◌+◌, ℕ, None, IfSome};
+    ghost use Rattle.geos_potentials.specs.Rounds.{SetsLow, lesser_of};
 
     const NOTHING: Round = Round {
         costs: 0,
@@ -58,20 +59,21 @@ impl Round {
         all_sets: 0,
         least: None,
         above: u32::MAX,
-        dearer: 0,
+        inner: None,
     };
 
-    /// The same with what one more edge costs; none where that is past 64 bits.
-    fn with_cost(&self, link: &Link) -> Option<Round>
+    /// The same with what one more edge costs, on which a LOOP of another nest takes, if one does; none where that is past 64 bits.
+    fn with_cost(&self, link: &Link, other: Option<u16>) -> Option<Round>
         ensures { IfSome result (λ next. (next.costs ≡ self.now.costs + link.now.costs) × (next.paid ≡ self.now.paid + link.now.paid)
-            × (next.all_takes ≡ self.now.all_takes) × (next.all_sets ≡ self.now.all_sets) × (next.dearer ≡ self.now.dearer)
-            × (next.least ≡ self.now.least) × (next.sets ≡ self.now.sets)) }
+            × (next.all_takes ≡ self.now.all_takes) × (next.all_sets ≡ self.now.all_sets)
+            × (next.least ≡ self.now.least) × (next.sets ≡ self.now.sets) × (next.inner ≡ lesser_of self.now.inner other)) }
     {
         let costs = self.costs.checked_add(link.costs)?;
         let paid = self.paid.checked_add(link.paid)?;
         Some(Round {
             costs,
             paid,
+            inner: lesser_of(self.inner, other),
             ..*self
         })
     }
@@ -79,8 +81,8 @@ impl Round {
     /// The same with one more LOOP, where a unit at it is so much, and is so much in the nest.
     fn with_take(&self, here: u32, unit: u32) -> Option<Round>
         ensures { IfSome result (λ next. (next.costs ≡ self.now.costs) × (next.paid ≡ self.now.paid)
-            × (next.all_takes ≡ self.now.all_takes + 1) × (next.all_sets ≡ self.now.all_sets) × (next.dearer ≡ self.now.dearer)
-            × (next.least ≢ None) × (next.sets ≡ self.now.sets)) }
+            × (next.all_takes ≡ self.now.all_takes + 1) × (next.all_sets ≡ self.now.all_sets)
+            × (next.least ≢ None) × (next.sets ≡ self.now.sets) × (next.inner ≡ self.now.inner)) }
     {
         let all_takes = self.all_takes.checked_add(1)?;
         let least = match self.least {
@@ -104,34 +106,53 @@ impl Round {
     /// The same where the counter is once more set to so much, where a unit is so much, and is so much in the nest.
     fn with_set(&self, most: u16, here: u32, unit: u32) -> Option<Round>
         ensures { IfSome result (λ next. (next.costs ≡ self.now.costs) × (next.paid ≡ self.now.paid)
-            × (next.all_takes ≡ self.now.all_takes) × (next.all_sets ≡ self.now.all_sets + most) × (next.dearer ≡ self.now.dearer + (unit - here) * most)
-            × (next.least ≡ self.now.least) × ((low : ℕ) × SetsLow here unit most low × (next.sets ≡ self.now.sets + low))) }
+            × (next.all_takes ≡ self.now.all_takes) × (next.all_sets ≡ self.now.all_sets + most)
+            × (next.least ≡ self.now.least) × ((low : ℕ) × SetsLow here unit most low × (next.sets ≡ self.now.sets + low))
+            × (next.inner ≡ self.now.inner)) }
     {
         let all_sets = self.all_sets.checked_add(u64::from(most))?;
         let low = low_set(most, here, unit);
         let sets = self.sets.checked_add(low)?;
-        let more = u64::from(unit.saturating_sub(here)) * u64::from(most);
-        let dearer = self.dearer.checked_add(more)?;
         Some(Round {
             all_sets,
             sets,
-            dearer,
             ..*self
         })
     }
+}
 
-    /// Whether it is one of a nest in the nest, which is dearer since the unit was raised so often, or is paid for but for that.
-    fn is_within(&self, raises: u32) -> bool
-        ensures { result ≡ false → self.now.least ≡ None → self.now.paid + self.now.dearer < self.now.costs }
-    {
-        match self.least {
-            Some(_) => false,
-            None => {
-                0 < raises && 0 < self.all_sets
-                    || self.costs <= self.paid.saturating_add(self.dearer)
-            }
-        }
+/// The lesser of two numbers of nests; of one alone, that one.
+fn lesser_of(first: Option<u16>, second: Option<u16>) -> Option<u16>
+    ensures { result ≡ lesser_of first second }
+{
+    match (first, second) {
+        (Some(one), Some(other)) => Some(one.min(other)),
+        (None, _) => second,
+        (_, None) => first,
     }
+}
+
+/// The nest other than one of which a LOOP takes on the edge of a place, if that is so.
+fn other_nest(splitting: &Splitting, id: u16, pc: u16, branch: bool) -> Option<u16>
+    requires { pc < 4096 }
+    ensures { IsOther splitting.now.jumps id pc branch result }
+{
+    if !branch {
+        return None;
+    }
+    match splitting.jumps.at(pc) {
+        Jump::Pays(other) if other != id => Some(other),
+        _ => None,
+    }
+}
+
+/// What is still to be paid for with the unit that is found for a nest.
+#[derive(Clone, Copy)]
+pub(crate) enum Rest {
+    /// No way round in it lacks something.
+    Nothing,
+    /// A way round does on which none of its LOOPs takes; the outermost nest in it of which one does, if there is one.
+    Inside(Option<u16>),
 }
 
 /// A nest that is paid for.
@@ -177,12 +198,13 @@ fn paying_unit(unit: u32, round: &Round, takes: u64, raises: u32) -> u64
     }
 }
 
-/// The unit of a nest, where the way round that lacks something is paid for; none where it is not, whatever the unit is.
-fn next_unit(unit: u32, round: &Round, raises: u32) -> Option<u64>
-    ensures none { result ≡ None → (round.now.least ≡ None) ⊎ (round.now.all_takes ≤ round.now.all_sets) }
+/// The unit of a nest, where the way round that lacks something is paid for, and the least at its LOOPs there is so much; none where it is
+/// not, whatever the unit is.
+fn next_unit(unit: u32, round: &Round, least: u32, raises: u32) -> Option<u64>
+    requires { round.now.least ≡ Some least }
+    ensures none { result ≡ None → round.now.all_takes ≤ round.now.all_sets }
     ensures past { IfSome result (λ next. 4294967295 < next → LacksPast unit round.now) }
 {
-    let least = round.least?;
     if round.takes == 0 && round.sets == 0 {
         return Some(u64::from(least));
     }
@@ -216,7 +238,8 @@ impl Paying {
 
     /// To how much an edge sets the counter for the nest's LOOPs.
     fn set_for_it(&self, units: &Units, arc: &Arc) -> Option<u16>
-        ensures { IfSome result (λ most. (arc.now.counting ≡ Sets self.now.nest.counter most) × (0 < most)) }
+        ensures { IfSome result (λ most. (arc.now.counting ≡ Sets self.now.nest.counter most) × (0 < most)
+            × (self.now.nest.tight ≡ true)) }
     {
         if !self.nest.tight {
             return None;
@@ -232,7 +255,7 @@ impl Paying {
     fn link(&self, units: &Units, pc: u16, arc: &Arc, pays: bool) -> Link
         requires { pc < 4096 }
         ensures to { result.to ≡ arc.now.to }
-        ensures share { HasShare units.now.pay self.now.nest.counter self.now.unit pc arc.now pays result result.share }
+        ensures share { HasShare units.now.pay self.now.nest.counter self.now.nest.tight self.now.unit pc arc.now pays result result.share }
     {
         let Link {
             to,
@@ -299,13 +322,20 @@ impl Paying {
         units.lengths.forget(&splitting.order, piece);
     }
 
-    /// A way round with one more edge.
-    fn with_link(&self, units: &Units, round: &Round, pc: u16, link: &Link) -> Option<Round>
+    /// A way round with one more edge, on which a LOOP of another nest takes, if one does.
+    fn with_link(
+        &self,
+        units: &Units,
+        round: &Round,
+        pc: u16,
+        link: &Link,
+        other: Option<u16>,
+    ) -> Option<Round>
         requires { pc < 4096 }
-        ensures { IfSome result (λ next. Adds units.now.pay self.now.nest.counter self.now.unit round.now link.now next link.now.share) }
+        ensures { IfSome result (λ next. Adds units.now.pay self.now.nest.counter self.now.unit round.now link.now other next link.now.share) }
     {
         let counter = self.nest.counter;
-        let next = round.with_cost(link)?;
+        let next = round.with_cost(link, other)?;
         match link.share {
             Share::Nothing => Some(next),
             Share::Pays => next.with_take(units.unit(pc, counter), self.unit),
@@ -329,7 +359,8 @@ impl Paying {
         for _ in 0..MOST_INSTRS {
             let branch = units.lengths.first(at)?;
             let link = self.link_at(graph, splitting, units, at, branch)?;
-            round = self.with_link(units, &round, at, &link)?;
+            let other = other_nest(splitting, self.id, at, branch);
+            round = self.with_link(units, &round, at, &link, other)?;
             at = link.to;
             if at == from {
                 return if round.paid < round.costs {
@@ -342,29 +373,15 @@ impl Paying {
         None
     }
 
-    /// Why a way round is not paid for, whatever the unit is.
-    fn lack_of(&self, round: &Round) -> Lack
-        requires plain { round.now.least ≡ None → round.now.paid + round.now.dearer < round.now.costs }
-        requires unpaid { (round.now.least ≡ None) ⊎ (round.now.all_takes ≤ round.now.all_sets) }
-        ensures { (arcs : List (List (Option Arc))) (splitting : Splitting) (units : Units)
-            → IsRound arcs splitting units.pay self.now.id self.now.nest self.now.unit round.now
-            → IsLackIn arcs splitting self.now.id self.now.nest units result }
-    {
-        match round.least {
-            Some(_) => Lack::SetWithin(self.nest.piece),
-            None => Lack::NoShare,
-        }
-    }
-
-    /// The unit, where a way round is paid for, too.
-    fn raised(&self, round: &Round, raises: u32) -> Result<u32, Lack>
-        requires { round.now.least ≡ None → round.now.paid + round.now.dearer < round.now.costs }
+    /// The unit, where a way round is paid for, too, and the least at its LOOPs there is so much.
+    fn raised(&self, round: &Round, least: u32, raises: u32) -> Result<u32, Lack>
+        requires { round.now.least ≡ Some least }
         ensures { (arcs : List (List (Option Arc))) (splitting : Splitting) (units : Units)
             → IsRound arcs splitting units.pay self.now.id self.now.nest self.now.unit round.now
             → IfErr result (IsLackIn arcs splitting self.now.id self.now.nest units) }
     {
-        let Some(unit) = next_unit(self.unit, round, raises) else {
-            return Err(self.lack_of(round));
+        let Some(unit) = next_unit(self.unit, round, least, raises) else {
+            return Err(Lack::SetWithin(self.nest.piece));
         };
         match u32::try_from(unit) {
             Ok(unit) => Ok(unit),
@@ -384,15 +401,17 @@ impl Paying {
         self.round_at(graph, splitting, units, at)
     }
 
-    /// The least unit with which no way round lacks something, or less, where nests in this one are to be paid for again before.
+    /// The least unit with which no way round lacks something, but for ways on which none of the nest's LOOPs takes: those are paid for in nests
+    /// in this one. It ends at the first that is found.
     pub(crate) fn find_unit(
         &mut self,
         graph: &Graph,
         splitting: &Splitting,
         units: &mut Units,
-    ) -> Result<(), Lack>
+    ) -> Result<Rest, Lack>
         ensures pay { units.new.pay ≡ units.old.pay }
         ensures looked { units.old.looked.count ≤ units.new.looked.count }
+        ensures rest { IfOk result (IsRest graph.now.arcs splitting.now self.old.id self.old.nest) }
         ensures lack { ((other : Nest) → slice_index_or splitting.now.nests.list self.old.id other ≡ self.old.nest)
             → self.old.id < splitting.now.nests.count → IfErr result (IsLack graph.now.arcs splitting.now units.new) }
     {
@@ -404,16 +423,16 @@ impl Paying {
                 return Err(Lack::Looks);
             }
             if !units.sweep(&splitting.order, &piece) {
-                return Ok(());
+                return Ok(Rest::Nothing);
             }
             if EACH < sweep && sweep % EACH != 0 {
                 continue;
             }
             if let Some(round) = self.find_round(graph, splitting, units) {
-                if round.is_within(raises) {
-                    return Ok(());
-                }
-                match self.raised(&round, raises) {
+                let Some(least) = round.least else {
+                    return Ok(Rest::Inside(round.inner));
+                };
+                match self.raised(&round, least, raises) {
                     Ok(unit) => self.unit = unit,
                     Err(lack) => return Err(lack),
                 }

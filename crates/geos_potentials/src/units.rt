@@ -1,6 +1,6 @@
 //! What a unit of each counter pays for, nest by nest: as much as ways round lack that go through its LOOPs.
 
-ghost use Rattle.std.specs.Prelude.{◌≡◌, ◌≢◌, ◌<◌, ◌≤◌, ◌+◌, ◌-◌, ◌*◌, ℕ, min, true, false, [], Some, IfOk, IfErr};
+ghost use Rattle.std.specs.Prelude.{◌≡◌, ◌≢◌, ◌<◌, ◌≤◌, ◌+◌, ◌-◌, ◌*◌, ℕ, min, true, false, [], Some, IfOk, IfErr, slice_index_or};
 ghost use Rattle.geos_potentials.specs.Arcs.{IsLink, arc_at, unit_at, price_of, paid_by};
 ghost use Rattle.geos_potentials.specs.Carried.{AreCarried, AreHeld, Carries, NoneHeld, StayCarried};
 ghost use Rattle.geos_potentials.specs.Demands.{AreWanted, HaveGrown, StayWanted, taken_from};
@@ -12,6 +12,7 @@ ghost use Rattle.geos_potentials.specs.Waits.{HaveRisen};
 ghost use Rattle.geos_potentials.specs.Whole.{StayNests};
 ghost use Rattle.geos_potentials.specs.Within.{StayWithin, StayWithinAt, StayWithinLoops, pays};
 ghost use Rattle.geos_potentials.specs.declared.arcs.Arc.{Arc};
+ghost use Rattle.geos_potentials.specs.declared.nests.Nest.{Nest};
 
 use crate::arcs::{Arc, Counting};
 use crate::graph::Graph;
@@ -19,7 +20,7 @@ use crate::jumps::Jumps;
 use crate::lengths::{Lengths, Link, Share};
 use crate::looks::{LOOKS, Looked};
 use crate::nests::{Nest, Splitting, Wait};
-use crate::paying::Paying;
+use crate::paying::{Paying, Rest};
 use crate::pieces::{Order, Piece};
 use crate::pile::Pile;
 use crate::ring::find_ring;
@@ -40,8 +41,6 @@ pub enum Lack {
     Passes,
     /// Nests wait on each other in a ring, this one among them.
     InTurn(u16),
-    /// A way round in a nest lacks something, and takes no unit of a LOOP that could be raised.
-    NoShare,
     /// Too many edges were looked at.
     Looks,
 }
@@ -71,6 +70,38 @@ fn due_by(paying: &Paying, id: u16, nest: &Nest, at: u16, round: u32) -> Option<
         at,
         round,
     })
+}
+
+/// A nest is to be paid for again.
+fn set_due(splitting: &mut Splitting, id: u16)
+    requires { id < 4096 }
+    ensures jumps { splitting.new.jumps ≡ splitting.old.jumps }
+    ensures count { splitting.new.nests.count ≡ splitting.old.nests.count }
+    ensures nests { StayNests splitting.old splitting.new }
+    ensures due { (other : Nest) → (slice_index_or splitting.new.nests.list id other).due ≡ true }
+{
+    let mut nest = splitting.nests.at(id);
+    nest.due = true;
+    splitting.nests.set(id, nest);
+}
+
+/// Where a way round in a nest is still to be paid for, that nest is to be paid for again, and before it the one in it of which a LOOP takes
+/// there.
+fn note_rest(splitting: &mut Splitting, id: u16, rest: &Rest)
+    requires { id < 4096 }
+    ensures jumps { splitting.new.jumps ≡ splitting.old.jumps }
+    ensures count { splitting.new.nests.count ≡ splitting.old.nests.count }
+    ensures nests { StayNests splitting.old splitting.new }
+{
+    let Rest::Inside(inner) = rest else {
+        return;
+    };
+    set_due(splitting, id);
+    if let Some(inner) = inner {
+        if *inner < MOST_INSTRS {
+            set_due(splitting, *inner);
+        }
+    }
 }
 
 impl Units {
@@ -371,9 +402,11 @@ impl Units {
         if nest.tight {
             self.note_before(graph, splitting, &paying);
         }
-        if let Err(lack) = paying.find_unit(graph, splitting, self) {
-            return Err(lack);
-        }
+        let rest = match paying.find_unit(graph, splitting, self) {
+            Ok(rest) => rest,
+            Err(lack) => return Err(lack),
+        };
+        note_rest(splitting, id, &rest);
         self.set_unit(graph, splitting, &paying, round)
     }
 

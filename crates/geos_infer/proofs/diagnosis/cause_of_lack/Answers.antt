@@ -1,4 +1,4 @@
-use Rattle.std.proofs.Common.{inl, inr, sym, subst}
+use Rattle.std.proofs.Common.{sym, subst}
 use Rattle.std.specs.Prelude.{IfOk, IfSome}
 use Rattle.geos_potentials.specs.declared.units.Lack.{Lack}
 use Rattle.geos_infer.specs.Tells.{TellsOfLack}
@@ -16,11 +16,8 @@ returns-in-Passes-clause-tells c =
 
 pub returns-in-InTurn-clause-tells : goal.returns-in-InTurn-clause-tells
 returns-in-InTurn-clause-tells c =
-    let P : Lack → Type 0 = (λ lack. IfSome c.cause_in_turn.result (TellsOfLack c.args.search.now.splitting.order lack)) in
-    elim c.in-InTurn.is [
-      | inl waiting ↦ subst P (sym waiting.1) c.cause_in_turn.ensures.tells
-      | inr none ↦ subst P (sym none) c.cause_in_turn.ensures.tells
-    ]
+    subst (λ (lack : Lack). IfSome c.cause_in_turn.result (TellsOfLack c.args.search.now.splitting.order lack)) (sym c.in-InTurn.is)
+    c.cause_in_turn.ensures.tells
 
 pub returns-in-Looks-clause-tells : goal.returns-in-Looks-clause-tells
 returns-in-Looks-clause-tells c =

@@ -1,4 +1,4 @@
-use Rattle.std.proofs.Common.{◌≡◌, ◌≤◌, ◌<◌, ◌⊎◌, ◌+◌, refl, sym, ◌∙◌, subst, arith, inl, inr}
+use Rattle.std.proofs.Common.{◌≡◌, ◌≤◌, ◌⊎◌, ◌+◌, refl, sym, ◌∙◌, subst, arith, inl, inr}
 use Rattle.std.proofs.lemmas.Bool.{cases_lt}
 use Rattle.std.proofs.lemmas.Option.{same_Some}
 use Rattle.geos_potentials.specs.declared.arcs.Arc.{Arc}
@@ -23,8 +23,8 @@ returns-in-Ok-clause-paid c = λ arc k read takes few.
     let raised = c.raise_at_loop.ensures.raised arc k read takes few in
     let ways = c.args.units.now.lengths.ways in
     let asked : (steps_at ways c.in-Some.arc.to + (1 + c.in-Some.arc.called) ≤ steps_at ways c.args.pc + c.in-Ok.unit)
-    ⊎ (4294967295 < steps_at ways c.args.pc) = elim (cases_lt 4294967295 (steps_at ways c.args.pc)) [
-      | inl past ↦ inr past
+    ⊎ (9223372036854775808 ≤ steps_at ways c.args.pc) = elim (cases_lt 9223372036854775807 (steps_at ways c.args.pc)) [
+      | inl past ↦ inr (omega (arith, past))
       | inr small ↦ inl (omega (
         arith,
         c.in-Ok.ensures,
@@ -37,5 +37,5 @@ returns-in-Ok-clause-paid c = λ arc k read takes few.
       ))
     ] in
     let here = subst (λ (a : Arc). (steps_at ways a.to + (1 + a.called) ≤ steps_at ways c.args.pc + c.in-Ok.unit)
-    ⊎ (4294967295 < steps_at ways c.args.pc)) same asked in
+    ⊎ (9223372036854775808 ≤ steps_at ways c.args.pc)) same asked in
     rw c.raise_at_loop.ensures.lengths (loop-pays-more ways c.args.pc arc.to arc.called c.in-Ok.unit (unit_at c.raise_at_loop.new.self.pay c.args.pc k) raised here)

@@ -41,9 +41,9 @@ loop-pc-preserved c =
     )
 
 pub returns-clause-says : goal.returns-clause-says
-returns-clause-says c = λ is. record {
-  steps = λ pc within. (let body = c.args.body.now in let below = within.below in
-      c.loop-pc.invariant.3 pc within (omega (arith, below, body.ends, c.loop-pc-test.false))).0;
-  four = λ pc within. (let body = c.args.body.now in let below = within.below in
-      c.loop-pc.invariant.3 pc within (omega (arith, below, body.ends, c.loop-pc-test.false))).1;
-}
+returns-clause-says c = λ is pc within. (let body = c.args.body.now in let below = within.below in
+    c.loop-pc.invariant.3 pc within (omega (arith, below, body.ends, c.loop-pc-test.false))).0
+
+pub returns-clause-four : goal.returns-clause-four
+returns-clause-four c = λ pc within. (let body = c.args.body.now in let below = within.below in
+    c.loop-pc.invariant.3 pc within (omega (arith, below, body.ends, c.loop-pc-test.false))).1

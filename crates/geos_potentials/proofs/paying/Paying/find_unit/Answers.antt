@@ -1,4 +1,4 @@
-use Rattle.geos_potentials.proofs.Rounding.{lack-in}
+use Rattle.geos_potentials.proofs.Rounding.{lack-in, goes-inside}
 use Rattle.geos_potentials.proofs.paying.Paying.find_unit.Goals as goal
 
 pub returns-in-Err-clause-lack : goal.returns-in-Err-clause-lack
@@ -7,3 +7,10 @@ returns-in-Err-clause-lack c = λ there few.
     lack-in c.args.graph.now.arcs c.args.splitting.now c.find_round.new.units c.args.self.now.id c.args.self.now.nest c.in-Err.lack there few
     (rw (← inv.nest, ← inv.id)
     (c.in-Err.ensures c.args.graph.now.arcs c.args.splitting.now c.find_round.new.units c.in-Some.ensures.round))
+
+pub returns-in_default-least-clause-rest : goal.returns-in_default-least-clause-rest
+returns-in_default-least-clause-rest c =
+    let inv = c.loop-sweep.invariant in
+    rw (← inv.nest, ← inv.id)
+    (goes-inside c.args.graph.now.arcs c.args.splitting.now c.find_round.new.units.pay c.loop-sweep.self.id c.loop-sweep.self.nest
+    c.loop-sweep.self.unit c.in-Some.round c.in-Some.ensures.round c.in_default-least.is)

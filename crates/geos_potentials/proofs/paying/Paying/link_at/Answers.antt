@@ -19,6 +19,6 @@ returns c =
       read = c.in_ok-arc.ensures.read;
       to = c.link.ensures.to;
       stays = c.in_ok-arc.ensures.stays;
-      share = subst (λ (b : Bool). HasShare c.args.units.now.pay c.args.self.now.nest.counter c.args.self.now.unit c.args.pc c.in_ok-arc.arc b
+      share = subst (λ (b : Bool). HasShare c.args.units.now.pay c.args.self.now.nest.counter c.args.self.now.nest.tight c.args.self.now.unit c.args.pc c.in_ok-arc.arc b
           c.link.result c.link.result.share) pays c.link.ensures.share;
     }

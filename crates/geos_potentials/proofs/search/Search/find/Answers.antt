@@ -1,14 +1,12 @@
 use Rattle.std.proofs.Common.{sym, subst}
-use Rattle.geos_potentials.specs.Arcs.{AreArcs, NoArcsOutside}
 use Rattle.geos_code.specs.Code.{IsPcOf}
-use Rattle.geos_potentials.specs.Lacks.{IsLack}
 use Rattle.geos_potentials.specs.Spreads.{ComeBehind, ComeFrom, ForgetsIt}
 use Rattle.geos_potentials.specs.Stuck.{HasPlace}
 use Rattle.geos_potentials.specs.declared.graph.Graph.{Graph}
-use Rattle.geos_potentials.proofs.Rounding.{never-pay}
 use Rattle.geos_potentials.proofs.Idling.{notes-idle, round-never-paid, never-by}
+use Rattle.geos_potentials.specs.Least.{steps_at}
 use Rattle.geos_potentials.specs.Numbers.{numbers_of}
-use Rattle.geos_potentials.proofs.Covering.{all-paid}
+use Rattle.geos_potentials.proofs.Covering.{all-paid, ways-pay}
 use Rattle.geos_potentials.proofs.Demand.{for-loops}
 use Rattle.geos_potentials.proofs.Unpayable.{none-accepted-round}
 use Rattle.geos_potentials.proofs.Priced.{found-least, none-pay}
@@ -38,13 +36,8 @@ pub returns-in-Err-pay-clause-way : goal.returns-in-Err-pay-clause-way
 returns-in-Err-pay-clause-way c = λ notes.
     let body = c.args.body.now in
     let image = body.image.now in
-    let search = c.pay.new.self in
-    let arcs = search.graph.arcs in
-    let noted = subst (λ (g : Graph). AreArcs image body.r c.args.known.now c.args.touched.now g.arcs) (sym c.pay.ensures.graph) c.note.ensures.arcs in
-    let outside = subst (λ (g : Graph). NoArcsOutside image body.r g.arcs) (sym c.pay.ensures.graph) c.note.ensures.outside in (
+    let search = c.pay.new.self in (
       c.in-Err-pay.ensures.lack,
-      λ is. never-pay image body.r c.args.known.now c.args.touched.now arcs noted outside search.units.pay search.splitting
-          (subst (IsLack arcs search.splitting search.units) is c.in-Err-pay.ensures.lack),
       subst (λ (g : Graph). AreWhole g.arcs search.splitting) (sym c.pay.ensures.graph)
           (whole-stays c.note.new.self.arcs c.find.new.self search.splitting c.pay.ensures.nests c.in_default.ensures.whole),
     )
@@ -67,9 +60,19 @@ returns-then-put_potentials-clause-wanted c =
 pub returns-else-put_potentials-clause-way : goal.returns-else-put_potentials-clause-way
 returns-else-put_potentials-clause-way c = λ notes.
     let body = c.args.body.now in
+    let image = body.image.now in
     let units = c.pay.new.self.units in
-    none-pay body.image.now body.r c.args.known.now units.pay units.lengths.ways
-    (c.in-Ok.ensures.least c.args.known.now c.args.touched.now c.note.ensures.arcs) (c.put_potentials.ensures.passes c.if-put_potentials.false)
+    let of_classes = c.note-2.ensures in (
+      none-pay image body.r c.args.known.now units.pay units.lengths.ways
+          (c.in-Ok.ensures.least c.args.known.now c.args.touched.now c.note.ensures.arcs)
+          (c.put_potentials.ensures.passes c.if-put_potentials.false),
+      (
+        steps_at units.lengths.ways,
+        ways-pay image body.r c.args.known.now c.args.touched.now c.note.new.self c.note.ensures.arcs c.note.ensures.outside c.note.ensures.led
+            c.note-2.new.self body.start body.end body.begins body.ends of_classes.on of_classes.unset_on of_classes.prices_on of_classes.set
+            c.find.new.self.jumps c.find.ensures.free units.pay units.lengths.ways c.in-Ok.ensures.paid c.put_potentials.ensures.four,
+      ),
+    )
 
 pub returns-then-put_potentials-clause-spent : goal.returns-then-put_potentials-clause-spent
 returns-then-put_potentials-clause-spent c =
@@ -91,5 +94,5 @@ returns-then-put_potentials-clause-paid c =
     let notes = c.note-2.ensures in
     all-paid image body.r known touched graph c.note.ensures.arcs c.note.ensures.outside c.note.ensures.led classes body.start body.end body.begins
     body.ends notes.on notes.unset_on notes.prices_on notes.set c.find.new.self.jumps c.find.ensures.free units.pay units.lengths.ways
-    c.in-Ok.ensures.paid (c.put_potentials.ensures.says c.if-put_potentials.true) (numbers_of c.put_potentials.new.potentials)
+    c.in-Ok.ensures.paid c.put_potentials.ensures.four (numbers_of c.put_potentials.new.potentials)
     (c.put_potentials.ensures.put c.if-put_potentials.true) (returns-then-put_potentials-clause-spent c)

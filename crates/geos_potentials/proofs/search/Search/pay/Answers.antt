@@ -2,7 +2,7 @@ use Rattle.std.proofs.Common.{ℕ, ◌+◌, List, sym, subst}
 use Rattle.geos_image.specs.Parts.{start_of}
 use Rattle.geos_potentials.specs.Carried.{AreCarried, AreHeld, NoneHeld}
 use Rattle.geos_potentials.specs.Demands.{AreWanted}
-use Rattle.geos_potentials.specs.Least.{is_free, AreLeast, NoneOutside, AskNoMore, AreLookedAt, AreCovered}
+use Rattle.geos_potentials.specs.Least.{is_free, AreLeast, NoneOutside, AskNoMore, AreLookedAt, AreCovered, AreShort}
 use Rattle.geos_potentials.specs.Led.{AreLed}
 use Rattle.geos_potentials.specs.Paid.{HavePaid, FreePay}
 use Rattle.geos_potentials.specs.Within.{HoldsAtLoops, ExceedWithin, StayWithinLoops}
@@ -66,6 +66,8 @@ returns-clause-paid c =
       looked = subst (λ (js : List Jump). AreLookedAt image body.r graph.arcs js first.pay links) stay c.find_constants.ensures.looked;
       covered = covered;
       returns = c.find_constants.ensures.returns;
+      short = subst (λ (n : ℕ). AreShort first.lengths.ways n (start_of image.routines (body.r + 1))) body.begins
+          (subst (λ (n : ℕ). AreShort first.lengths.ways body.start n) body.ends c.in_ok-find_constants.ensures.short);
       grown = c.free_loops.ensures.more;
       within = subst (λ (js : List Jump). StayWithinLoops graph.arcs js is_free first.pay pay) stay c.free_loops.ensures.within;
       carried = carried;

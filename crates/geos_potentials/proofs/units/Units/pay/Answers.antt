@@ -1,7 +1,8 @@
-use Rattle.std.proofs.Common.{◌≡◌, ◌≤◌, refl, sym, ap, ◌∙◌, subst, arith}
+use Rattle.std.proofs.Common.{◌≡◌, ◌≤◌, List, refl, sym, ap, ◌∙◌, subst, arith}
 use Rattle.geos_potentials.specs.Carried.{AreCarried, NoneHeld}
 use Rattle.geos_potentials.specs.Demands.{AreWanted}
-use Rattle.geos_potentials.specs.Within.{ExceedWithin}
+use Rattle.geos_potentials.specs.Within.{ExceedWithin, HoldsAtLoops, pays}
+use Rattle.geos_potentials.specs.declared.jumps.Jump.{Jump}
 use Rattle.geos_potentials.specs.declared.units.Units.{Units}
 use Rattle.geos_potentials.proofs.units.Units.pay.Goals.{then-nest, else-nest}
 use Rattle.geos_potentials.specs.declared.nests.Nest.{Nest}
@@ -26,11 +27,13 @@ returns-clause-carried c = λ led before.
 
 pub returns-clause-within : goal.returns-clause-within
 returns-clause-within c = λ law base passes carried holds before.
+    let arcs = c.args.graph.now.arcs in
     let noted : c.if-nest.self.pay ≡ c.args.self.now.pay = elim c.if-nest.branch [
       | then-nest w ↦ ap (λ (u : Units). u.pay) w.self-is ∙ w.note_before.ensures.pay
       | else-nest w ↦ ap (λ (u : Units). u.pay) w.self-is
     ] in
-    c.set_unit.ensures.within law base passes carried holds
+    c.set_unit.ensures.within law base passes carried
+    (subst (λ (jumps : List Jump). HoldsAtLoops arcs jumps pays law) (sym c.note_rest.ensures.jumps) holds)
     (subst (ExceedWithin law base) (sym (c.find_unit.ensures.pay ∙ noted)) before)
 
 pub returns-in-Err-clause-lack : goal.returns-in-Err-clause-lack
@@ -68,7 +71,9 @@ returns-in-Err-clause-nests c = stay-set c.args.splitting.now _ c.args.id _ refl
     (λ other. ap (λ (n : Nest). n.piece) (c.at-nest.ensures other))
 
 pub returns-clause-nests : goal.returns-clause-nests
-returns-clause-nests c = stay-trans c.args.splitting.now _ c.set_unit.new.splitting
+returns-clause-nests c = stay-trans c.args.splitting.now c.note_rest.new.splitting c.set_unit.new.splitting
+    (stay-trans c.args.splitting.now _ c.note_rest.new.splitting
     (stay-set c.args.splitting.now _ c.args.id _ refl refl c.set.ensures.count c.set.ensures.list
     (λ other. ap (λ (n : Nest). n.piece) (c.at-nest.ensures other)))
+    c.note_rest.ensures.nests)
     c.set_unit.ensures.nests
