@@ -1,8 +1,8 @@
 # A search for steps that takes too long is given up, and the first way back is named. Each of the numbers that k0 is set to makes ways
 # through the loop dearer, and all its places, each of which leads one place back, are looked at again.
-# The number of places was found by trials: the looks pass their limit with it.
-prices=120
-places=1800
+# The numbers were found by trials: the looks pass their limit with a tenth less prices, or 60 places less, too.
+prices=140
+places=1760
 text() {
     echo 'routine f budget 60000'
     echo ' RET'
