@@ -1,5 +1,6 @@
 //! Calls that look at a heap.
-ghost use Rattle.std.specs.Prelude.{◌≡◌, ◌≢◌, ◌+◌, ◌*◌, ◌/◌, ◌%◌, ◌<◌, ◌≤◌, length, MatchResult, MatchOption, IfOk, IsSomeAnd};
+ghost use Rattle.std.specs.Prelude.{◌≡◌, ◌≢◌, ◌+◌, ◌*◌, ◌/◌, ◌%◌, ◌<◌, ◌≤◌, None, length, IsTrue, IsFalse};
+ghost use Rattle.std.specs.Prelude.{MatchResult, MatchOption, IfOk, IfErr, IsSomeAnd};
 ghost use Rattle.lmem_raw.specs.Bytes.{part};
 ghost use Rattle.geos_terms.specs.Chunks.{chunk_of, entry_bytes, used_bytes};
 ghost use Rattle.geos_terms.specs.Block.{chunks, entries, entry, place_of, place_at, IsPlaced};
@@ -22,6 +23,21 @@ fn turned(word: u16) -> u16
     word.rotate_right(1)
 }
 
+/// The entry of a handle, which may be one of no chunk. `BadChunk` where the table has none for it.
+fn index_of(block: &[u8], chunk: u16) -> Result<usize, BadChunk>
+    requires { IsHeap block.now }
+    ensures some { IfOk result (λ i. (chunk ≡ 16 + 2 * i) × (i < entries block.now)) }
+    ensures none { IfErr result (λ _. chunk_of (chunks block.now) chunk ≡ None) }
+    ensures no_place { IfErr result (λ _. place_of block.now chunk ≡ None) }
+{
+    // Below the table the difference wraps, and of an odd handle its lowest bit comes first: one test finds both past the last entry.
+    let i = turned(chunk.wrapping_sub(TABLE as u16)) as usize;
+    if i >= entries(block) {
+        return Err(BadChunk);
+    }
+    Ok(i)
+}
+
 /// The entry of a chunk's handle. `BadChunk` where no chunk has it.
 pub fn find(block: &[u8], chunk: u16) -> Result<usize, BadChunk>
     requires { IsHeap block.now }
@@ -29,12 +45,20 @@ pub fn find(block: &[u8], chunk: u16) -> Result<usize, BadChunk>
         (λ _. place_of block.now chunk ≡ None) }
     ensures found { MatchResult result (λ i. HasEntry block.now chunk i) (λ _. chunk_of (chunks block.now) chunk ≡ None) }
 {
-    // Below the table the difference wraps, and of an odd handle its lowest bit comes first: one test finds both past the last entry.
-    let i = turned(chunk.wrapping_sub(TABLE as u16)) as usize;
-    if i >= entries(block) || entry(block, i) == 0 {
+    let i = index_of(block, chunk)?;
+    if entry(block, i) == 0 {
         return Err(BadChunk);
     }
     Ok(i)
+}
+
+/// Whether an entry is 0 or `NO_BYTE`, and so no offset of a byte.
+// With 1 taken away these two come last, so that one test finds both.
+fn has_no_byte(entry: u16) -> bool
+    ensures only { IsTrue result → entry ≢ 0 → entry ≡ 65535 }
+    ensures all { IsFalse result → (entry ≢ 0) × (entry ≢ 65535) }
+{
+    (entry as usize).wrapping_sub(1) >= NO_BYTE as usize - 1
 }
 
 /// Where the bytes of an entry's chunk stand, and how many there are.
@@ -88,7 +112,15 @@ pub fn locate(block: &[u8], chunk: u16) -> Result<(usize, u16), BadChunk>
     ensures bytes { MatchResult result (λ p. chunk_of (chunks block.now) chunk ≡ Some (part block.now p.0 p.1))
         (λ _. chunk_of (chunks block.now) chunk ≡ None) }
 {
-    let i = find(block, chunk)?;
+    let i = index_of(block, chunk)?;
+    if has_no_byte(entry(block, i)) {
+        // Seldom, so that no time goes to what is answered of them.
+        return if entry(block, i) == 0 {
+            Err(BadChunk)
+        } else {
+            Ok((0, 0))
+        };
+    }
     Ok(place_of_entry(block, i))
 }
 
