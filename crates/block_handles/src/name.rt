@@ -23,10 +23,12 @@ pub(crate) fn of_file(owner: Owner) -> u32
 pub(crate) fn slot_of(name: Name) -> usize
     ensures { result ≡ slot_of name }
 {
-    if name.h == 0 || name.h > Name::HANDLES {
+    // Of 0 this wraps, so that one test finds both kinds of handles that can't be in use.
+    let below = usize::from(name.h).wrapping_sub(1);
+    if Name::HANDLES as usize <= below {
         return 2 * Name::HANDLES as usize;
     }
-    slot_in_use(name)
+    first_slot(name.owner) + below
 }
 
 /// The slot of a name whose handle can be in use.
