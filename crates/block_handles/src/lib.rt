@@ -32,13 +32,15 @@ use std::marker::Model;
 /// Blocks in one region: a map from names to bytes and lock counts, and the place of each.
 #[derive(Drop)]
 pub struct Blocks {
-    arena: Arena,
-    gap: Gap,
-    used: SlotSet,
+    // These two come first: where the region lies must not be where the blocks lie, which calls take. The compiler would keep that
+    // address in memory, and read it for each load and store of a run.
     /// How many bytes no block has.
     free: u32,
     /// How often the blocks of the VM file are locked, all together.
     vm_locks: u32,
+    arena: Arena,
+    gap: Gap,
+    used: SlotSet,
 }
 
 impl Model for Blocks {
