@@ -1,13 +1,12 @@
 -- Counters that may pay have prices, and what has one is chosen.
 use Rattle.std.proofs.Common.{◌≡◌, ◌≢◌, ◌<◌, ◌⊎◌, ◌+◌, ℕ, zero, suc, Bool, true, false, List, [], ◌∷◌, length, Option, None, Some, refl, sym, ap, ◌∙◌, subst, arith, inl, inr}
 use Rattle.std.specs.Prelude.{min, IfNone, IfSome, MatchOption, slice_index_or, slice_set}
-use Rattle.std.proofs.lemmas.Bool.{cases_eq, cases_lt}
+use Rattle.std.proofs.lemmas.Bool.{cases_eq, cases_lt, false_from_ne_true}
 use Rattle.std.proofs.lemmas.List.{get_or-set_same, get_or-set_other}
 use Rattle.std.proofs.lemmas.Option.{none-some, same_Some}
 use Rattle.geos_potentials.specs.Arcs.{unit_at}
-use Rattle.geos_potentials.specs.Making.{may_pay_in, HasPrice, ArePrices, IsSomeChosen}
-use Rattle.geos_potentials.specs.Pieces.{TakesWithin, ArePriced}
-use Rattle.geos_potentials.specs.Ranks.{noted_idle}
+use Rattle.geos_potentials.specs.Making.{may_pay_in, NoneMayPayIn, HasPrice, ArePriced, ArePrices, IsSomeChosen}
+use Rattle.geos_potentials.specs.Pieces.{TakesWithin}
 use Rattle.geos_potentials.specs.Stuck.{StandsAt, IsIn}
 use Rattle.geos_potentials.specs.declared.arcs.Arc.{Arc}
 use Rattle.geos_potentials.specs.declared.choice.Choice.{Choice}
@@ -24,19 +23,21 @@ pub stands-one : (order : Order) (x pc other : ℕ) → StandsAt order x pc → 
 stands-one order x pc other here there = (let place : Place = record { pc = 0; inside = omega arith } in sym (here place) ∙ there place)
 
 -- prices of one place more
-pub priced-more : (arcs : List (List (Option Arc))) (jumps : List Jump) (order : Order) (classes : Classes) (piece : Piece) (x here : ℕ)
-    (prices next : List (Option ℕ)) → StandsAt order x here
+pub priced-more : (arcs : List (List (Option Arc))) (jumps : List Jump) (order : Order) (classes : Classes) (piece : Piece) (tier : Tier)
+    (x here : ℕ) (prices next : List (Option ℕ)) → StandsAt order x here
     → ((k : ℕ) → slice_index_or prices k None ≢ None → slice_index_or next k None ≢ None)
-    → ((k : ℕ) → k < 4 → TakesWithin arcs jumps order piece here k → noted_idle classes here k ≡ false → slice_index_or next k None ≢ None)
-    → ArePriced arcs jumps order classes piece x prices → ArePriced arcs jumps order classes piece (x + 1) next
-priced-more arcs jumps order classes piece x here prices next stands stay new before at pc k low high at-pc few takes busy = elim (cases_lt at x) [
-  | inl earlier ↦ stay k (before at pc k low earlier at-pc few takes busy)
-  | inr late ↦
-      let same : at ≡ x = omega (arith, high, late) in
-      let is : pc ≡ here = stands-one order x pc here (subst (λ (n : ℕ). StandsAt order n pc) same at-pc) stands in
-      new k few (subst (λ (n : ℕ). TakesWithin arcs jumps order piece n k) is takes)
-      (subst (λ (n : ℕ). noted_idle classes n k ≡ false) is busy)
-]
+    → ((k : ℕ) → k < 4 → TakesWithin arcs jumps order piece here k → may_pay_in tier classes here k ≡ true
+    → slice_index_or next k None ≢ None)
+    → ArePriced arcs jumps order classes piece tier x prices → ArePriced arcs jumps order classes piece tier (x + 1) next
+priced-more arcs jumps order classes piece tier x here prices next stands stay new before at pc k low high at-pc few takes may =
+    elim (cases_lt at x) [
+      | inl earlier ↦ stay k (before at pc k low earlier at-pc few takes may)
+      | inr late ↦
+          let same : at ≡ x = omega (arith, high, late) in
+          let is : pc ≡ here = stands-one order x pc here (subst (λ (n : ℕ). StandsAt order n pc) same at-pc) stands in
+          new k few (subst (λ (n : ℕ). TakesWithin arcs jumps order piece n k) is takes)
+          (subst (λ (n : ℕ). may_pay_in tier classes n k ≡ true) is may)
+    ]
 
 -- a price that is set is there, and the others stay
 pub set-new : (prices : List (Option ℕ)) (at : ℕ) (price : Option ℕ) → at < length prices → price ≢ None → (k : ℕ) → k ≡ at
@@ -64,7 +65,19 @@ pub not-false : (b : Bool) → (b ≡ false → ⊥) → b ≡ true
 not-false true h = refl
 not-false false h = absurd (h refl)
 
+-- what is so of each choice is of one that is found
+pub if-all : {A : Type 0} (found : Option A) (P : A → Type 0) → ((a : A) → P a) → IfSome found P
+if-all None P all = tt
+if-all (Some a) P all = all a
+
 -- Prices of LOOPs that may pay
+
+-- where no counter has a price, no LOOP may pay
+pub none-priced : (arcs : List (List (Option Arc))) (jumps : List Jump) (order : Order) (classes : Classes) (piece : Piece) (tier : Tier)
+    (prices : List (Option ℕ)) → ((k : ℕ) → k < 4 → slice_index_or prices k None ≡ None)
+    → ArePriced arcs jumps order classes piece tier piece.end prices → NoneMayPayIn tier arcs jumps order classes piece
+none-priced arcs jumps order classes piece tier prices none priced pc k within few takes =
+    false_from_ne_true (may_pay_in tier classes pc k) (λ may. priced within.0 pc k within.1 within.2 within.3 few takes may (none k few))
 
 module _ (arcs : List (List (Option Arc))) (jumps : List Jump) (order : Order) (classes : Classes) (piece : Piece) (tier : Tier) where
   pub no-prices : ArePrices arcs jumps order classes piece tier (None ∷ None ∷ None ∷ None ∷ [])

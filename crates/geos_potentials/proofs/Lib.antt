@@ -39,3 +39,4 @@ pub mod Nesting
 pub mod Taking
 pub mod Leaving
 pub mod Marking
+pub mod Tight

@@ -1,9 +1,8 @@
 -- LOOPs that come to pay are fewer than those of which nothing is found; and some LOOP is of a choice.
-use Rattle.std.proofs.Common.{◌≡◌, ◌≤◌, ◌<◌, ◌⊎◌, ◌+◌, ℕ, zero, suc, Bool, true, false, List, [], ◌∷◌, length, Option, None, Some, refl, sym, ap, ◌∙◌, subst, arith, inl, inr}
-use Rattle.std.specs.Prelude.{min, MatchOption, slice_index_or, slice_set}
-use Rattle.std.proofs.lemmas.Bool.{cases_eq, cases_lt, false≢true}
+use Rattle.std.proofs.Common.{◌≡◌, ◌≤◌, ◌<◌, ◌+◌, ℕ, zero, suc, true, List, [], ◌∷◌, length, Option, refl, sym, ap, ◌∙◌, subst, arith, inl, inr}
+use Rattle.std.specs.Prelude.{slice_index_or, slice_set}
+use Rattle.std.proofs.lemmas.Bool.{cases_eq, false≢true}
 use Rattle.std.proofs.lemmas.List.{get_or-set_same, get_or-set_other}
-use Rattle.std.proofs.lemmas.Option.{same_Some, none-some}
 use Rattle.geos_potentials.specs.declared.arcs.Arc.{Arc}
 use Rattle.geos_potentials.specs.declared.choice.Choice.{Choice}
 use Rattle.geos_potentials.specs.declared.classes.Classes.{Classes}
@@ -12,8 +11,10 @@ use Rattle.geos_potentials.specs.declared.jumps.Jump.TheVariants.{Plain, Free, P
 use Rattle.geos_potentials.specs.declared.nests.Nests.{Nests}
 use Rattle.geos_potentials.specs.declared.pieces.Order.{Order}
 use Rattle.geos_potentials.specs.declared.pieces.Piece.{Piece}
-use Rattle.geos_potentials.specs.Making.{plain_in, IsMarked, AreMarked, IsSomeChosen, StayListed}
+use Rattle.geos_potentials.specs.Making.{may_pay_in, plain_in, AreMarked, IsSomeChosen, StayListed}
+use Rattle.geos_potentials.specs.Pieces.{TakesWithin}
 use Rattle.geos_potentials.specs.Stuck.{IsIn}
+use Rattle.geos_potentials.specs.Tight.{MayPayWhereMarked}
 use Rattle.geos_potentials.specs.Untouched.{is_found}
 use Rattle.geos_potentials.proofs.Making.{IsPlainAt}
 
@@ -72,6 +73,38 @@ one-marked order piece nest first old next pc is within plain before at = elim (
   where
     other-at : (at ≡ pc → ⊥) → (other : Jump) → slice_index_or next at other ≡ slice_index_or old at other
     other-at ne other = ap (λ (l : List Jump). slice_index_or l at other) is ∙ get_or-set_other old pc at (Pays nest) other ne
+
+-- and each of them may
+pub one-may : (arcs : List (List (Option Arc))) (order : Order) (classes : Classes) (piece : Piece) (choice : Choice) (nest : ℕ)
+    (first old next : List Jump) (pc : ℕ) → next ≡ slice_set old pc (Pays nest) → TakesWithin arcs old order piece pc choice.counter
+    → may_pay_in choice.tier classes pc choice.counter ≡ true → AreMarked order piece nest first old
+    → MayPayWhereMarked arcs order classes piece choice nest first old → MayPayWhereMarked arcs order classes piece choice nest first next
+one-may arcs order classes piece choice nest first old next pc is takes may marked before at was pays = elim (cases_eq at pc) [
+  | inl same ↦ subst (λ (n : ℕ).
+      TakesWithin arcs first order piece n choice.counter × (may_pay_in choice.tier classes n choice.counter ≡ true))
+      (sym same) (
+        record {
+          to = takes.to;
+          leads = record {
+            arc = takes.leads.arc;
+            read = takes.leads.read;
+            leads = takes.leads.leads;
+            stays = takes.leads.stays;
+            plain = λ on. plain;
+          };
+          takes = takes.takes;
+        },
+        may,
+      )
+  | inr ne ↦ before at was
+      (sym (ap (λ (l : List Jump). slice_index_or l at Plain) is ∙ get_or-set_other old pc at (Pays nest) Plain ne) ∙ pays)
+]
+  where
+    plain : IsPlainAt first pc
+    plain other = elim (marked pc) [
+      | inl stay ↦ sym (stay other) ∙ takes.leads.plain refl other
+      | inr M ↦ absurd (found≢plain (Pays nest) refl (sym (M.is Plain) ∙ takes.leads.plain refl Plain))
+    ]
 
 -- Nests that stay
 

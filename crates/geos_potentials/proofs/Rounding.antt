@@ -20,7 +20,7 @@ use Rattle.geos_potentials.specs.declared.units.Lack.{Lack}
 use Rattle.geos_potentials.specs.declared.units.Lack.TheVariants.{SetWithin, Passes, InTurn, Looks}
 use Rattle.geos_potentials.specs.declared.units.Units.{Units}
 use Rattle.geos_potentials.specs.Arcs.{unit_at, price_of, paid_by}
-use Rattle.geos_potentials.specs.Lacks.{IsLackIn, IsLack}
+use Rattle.geos_potentials.specs.Lacks.{IsLackIn, IsUnpaid}
 use Rattle.geos_potentials.specs.Rounds.{Step, total, set_by, set_of, pays_in, taken_of, SetsEnough, dearest_price, most_paid_of, CostsPast, HasShare, LinksIn, SetsLow, Adds, AddsUp, AddsUpTo, IsRound, LacksPast, lesser_of, IsOther, IsOutermost, GoesRoundInside}
 
 -- One more edge
@@ -288,7 +288,7 @@ goes-inside arcs splitting pay id nest unit round R is = record {
 -- what a nest lacks is so of a nest
 pub lack-in : (arcs : List (List (Option Arc))) (splitting : Splitting) (units : Units) (id : ℕ) (nest : Nest) (lack : Lack)
     → ((other : Nest) → slice_index_or splitting.nests.list id other ≡ nest) → id < splitting.nests.count
-    → IsLackIn arcs splitting id nest units lack → IsLack arcs splitting units lack
+    → IsLackIn arcs splitting id nest units lack → IsUnpaid arcs splitting units lack
 lack-in arcs splitting units id nest (SetWithin piece) there few is = record { id = id; few = few; nest = nest; there = there; so = is }
 lack-in arcs splitting units id nest Looks there few is = is
 lack-in arcs splitting units id nest (InTurn ring) there few is = absurd is

@@ -15,7 +15,14 @@ use Rattle.geos_potentials.specs.Stuck.{HasPlace, IsIn}
 use Rattle.geos_potentials.specs.Whole.{AreWhole, StayNests}
 
 pub stay-refl : (s : Splitting) → StayNests s s
-stay-refl s = record { order = refl; jumps = refl; count = refl; pieces = λ id other. refl }
+stay-refl s = record {
+  order = refl;
+  jumps = refl;
+  count = refl;
+  pieces = λ id other. refl;
+  counters = λ id other. refl;
+  tight = λ id other. refl;
+}
 
 pub stay-trans : (a b c : Splitting) → StayNests a b → StayNests b c → StayNests a c
 stay-trans a b c S T = record {
@@ -23,33 +30,65 @@ stay-trans a b c S T = record {
   jumps = T.jumps ∙ S.jumps;
   count = T.count ∙ S.count;
   pieces = λ id other. T.pieces id other ∙ S.pieces id other;
+  counters = λ id other. T.counters id other ∙ S.counters id other;
+  tight = λ id other. T.tight id other ∙ S.tight id other;
 }
 
--- where one is set that has the same places
-pub stay-set : (old next : Splitting) (id : ℕ) (nest : Nest) → next.order ≡ old.order → next.jumps ≡ old.jumps
-    → next.nests.count ≡ old.nests.count → next.nests.list ≡ slice_set old.nests.list id nest
-    → ((other : Nest) → nest.piece ≡ (slice_index_or old.nests.list id other).piece) → StayNests old next
-stay-set old next id nest order jumps count is same = record {
+-- where the same nests are listed
+pub stay-listed : (old next : Splitting) → next.order ≡ old.order → next.jumps ≡ old.jumps → next.nests.list ≡ old.nests.list
+    → next.nests.count ≡ old.nests.count → StayNests old next
+stay-listed old next order jumps list count = record {
   order = order;
   jumps = jumps;
   count = count;
-  pieces = λ at other. elim (cases_eq at id) [
-    | inl here ↦ elim (cases_lt id (length old.nests.list)) [
-      | inl inside ↦
-          ap (λ (l : List Nest). (slice_index_or l at other).piece) is
-          ∙ ap (λ (n : ℕ). (slice_index_or (slice_set old.nests.list id nest) n other).piece) here
-          ∙ ap (λ (n : Nest). n.piece) (get_or-set_same old.nests.list id nest other inside)
-          ∙ same other ∙ ap (λ (n : ℕ). (slice_index_or old.nests.list n other).piece) (sym here)
-      | inr past ↦
-          let more = length-set old.nests.list id nest in
-          ap (λ (l : List Nest). (slice_index_or l at other).piece) is
-          ∙ ap (λ (n : Nest). n.piece) (get_or_past (slice_set old.nests.list id nest) at other (omega (arith, past, more, here)))
-          ∙ sym (ap (λ (n : Nest). n.piece) (get_or_past old.nests.list at other (omega (arith, past, here))))
-    ]
-    | inr ne ↦ ap (λ (l : List Nest). (slice_index_or l at other).piece) is
-        ∙ ap (λ (n : Nest). n.piece) (get_or-set_other old.nests.list id at nest other ne)
-  ];
+  pieces = λ id other. ap (λ (l : List Nest). (slice_index_or l id other).piece) list;
+  counters = λ id other. ap (λ (l : List Nest). (slice_index_or l id other).counter) list;
+  tight = λ id other. ap (λ (l : List Nest). (slice_index_or l id other).tight) list;
 }
+
+-- what is so of each nest of a list stays where one is set of which it is so
+part-set : {A : Type 0} (part : Nest → A) (old next : List Nest) (id : ℕ) (nest : Nest) → next ≡ slice_set old id nest
+    → ((other : Nest) → part nest ≡ part (slice_index_or old id other)) → (at : ℕ) (other : Nest)
+    → part (slice_index_or next at other) ≡ part (slice_index_or old at other)
+part-set part old next id nest is same at other = elim (cases_eq at id) [
+  | inl here ↦ elim (cases_lt id (length old)) [
+    | inl inside ↦
+        ap (λ (l : List Nest). part (slice_index_or l at other)) is
+        ∙ ap (λ (n : ℕ). part (slice_index_or (slice_set old id nest) n other)) here
+        ∙ ap part (get_or-set_same old id nest other inside)
+        ∙ same other ∙ ap (λ (n : ℕ). part (slice_index_or old n other)) (sym here)
+    | inr past ↦
+        let more = length-set old id nest in
+        ap (λ (l : List Nest). part (slice_index_or l at other)) is
+        ∙ ap part (get_or_past (slice_set old id nest) at other (omega (arith, past, more, here)))
+        ∙ sym (ap part (get_or_past old at other (omega (arith, past, here))))
+  ]
+  | inr ne ↦ ap (λ (l : List Nest). part (slice_index_or l at other)) is ∙ ap part (get_or-set_other old id at nest other ne)
+]
+
+-- a nest has the places and the counter of another, and is as tight
+pub record IsLike (nest other : Nest) : Type 0 where
+  pub piece : nest.piece ≡ other.piece
+  pub counter : nest.counter ≡ other.counter
+  pub tight : nest.tight ≡ other.tight
+
+-- where one is set that is like the one that it was
+pub stay-set : (old next : Splitting) (id : ℕ) (nest : Nest) → next.order ≡ old.order → next.jumps ≡ old.jumps
+    → next.nests.count ≡ old.nests.count → next.nests.list ≡ slice_set old.nests.list id nest
+    → ((other : Nest) → IsLike nest (slice_index_or old.nests.list id other)) → StayNests old next
+stay-set old next id nest order jumps count is like = record {
+  order = order;
+  jumps = jumps;
+  count = count;
+  pieces = part-set (λ (n : Nest). n.piece) old.nests.list next.nests.list id nest is (λ other. (like other).piece);
+  counters = part-set (λ (n : Nest). n.counter) old.nests.list next.nests.list id nest is (λ other. (like other).counter);
+  tight = part-set (λ (n : Nest). n.tight) old.nests.list next.nests.list id nest is (λ other. (like other).tight);
+}
+
+-- so a changed one is that was read there
+pub like-read : (list : List Nest) (id : ℕ) (read nest : Nest) → ((other : Nest) → read ≡ slice_index_or list id other) → IsLike nest read
+    → (other : Nest) → IsLike nest (slice_index_or list id other)
+like-read list id read nest there like other = subst (IsLike nest) (there other) like
 
 -- nests that are whole are, as long as they stay
 pub whole-stays : (arcs : List (List (Option Arc))) (old next : Splitting) → StayNests old next → AreWhole arcs old → AreWhole arcs next

@@ -27,6 +27,6 @@ SomePayWith image r known coefficients = (steps : ℕ → ℕ) × ConstantsPay i
 -- coefficients, and none that a potential can say
 abbrev pub IsInTheWay : Parts → ℕ → List (Option Row) → Search → Halt → Type 0
 IsInTheWay image r known search (Stuck piece) = IsNeverPaidBy image r (HasPlace search.splitting.order piece) × (HasAccepted image → ⊥)
-IsInTheWay image r known search (Unpaid lack) = IsLack search.graph.arcs search.splitting search.units lack
+IsInTheWay image r known search (Unpaid lack) = IsLack image r search.graph.arcs search.splitting search.units lack
     × AreWhole search.graph.arcs search.splitting
 IsInTheWay image r known search Passes = NonePayWith image r known search.units.pay × SomePayWith image r known search.units.pay

@@ -1,9 +1,12 @@
 -- Why no units are found.
 use Rattle.std.specs.Prelude.{◌≡◌, ◌≤◌, ◌<◌, ◌+◌, ◌⊎◌, ℕ, Bool, true, List, Option, Some, slice_index_or}
+use Rattle.geos_image.specs.Parts.{Parts}
 use Rattle.geos_potentials.specs.Arcs.{arc_at, price_of}
+use Rattle.geos_potentials.specs.Idle.{MayNotPay}
 use Rattle.geos_potentials.specs.Least.{is_free, steps_at}
 use Rattle.geos_potentials.specs.Rounds.{CostsPast, SetsEnough}
 use Rattle.geos_potentials.specs.Rings.{IsRing}
+use Rattle.geos_potentials.specs.Tight.{NoneClean}
 use Rattle.geos_potentials.specs.declared.arcs.Arc.{Arc}
 use Rattle.geos_potentials.specs.declared.jumps.Jump.{Jump}
 use Rattle.geos_potentials.specs.declared.jumps.Jump.TheVariants.{Plain}
@@ -58,10 +61,18 @@ pub record FreePasses (arcs : List (List (Option Arc))) (jumps : List Jump) (way
 
 -- the same of some nest, when the search has come to an end: also, what it costs to set a counter passes, or what a LOOP asks for that is
 -- left out; or nests wait on each other in a ring, and some nest is still to be paid for
-abbrev pub IsLack : List (List (Option Arc)) → Splitting → Units → Lack → Type 0
-IsLack arcs splitting units (SetWithin piece) = OfSomeNest splitting.nests (λ id nest. (piece ≡ nest.piece) × (nest.tight ≡ true)
+abbrev pub IsUnpaid : List (List (Option Arc)) → Splitting → Units → Lack → Type 0
+IsUnpaid arcs splitting units (SetWithin piece) = OfSomeNest splitting.nests (λ id nest. (piece ≡ nest.piece) × (nest.tight ≡ true)
     × SetsEnough arcs splitting id nest)
-IsLack arcs splitting units Looks = 134217728 ≤ units.looked.count
-IsLack arcs splitting units (InTurn ring) = SomeIsDue splitting.nests × IsRing arcs splitting ring
-IsLack arcs splitting units Passes = PricePasses arcs units.pay ⊎ (OfSomeNest splitting.nests (CostsPast arcs splitting units.pay)
+IsUnpaid arcs splitting units Looks = 134217728 ≤ units.looked.count
+IsUnpaid arcs splitting units (InTurn ring) = SomeIsDue splitting.nests × IsRing arcs splitting ring
+IsUnpaid arcs splitting units Passes = PricePasses arcs units.pay ⊎ (OfSomeNest splitting.nests (CostsPast arcs splitting units.pay)
     ⊎ FreePasses arcs splitting.jumps units.lengths.ways)
+
+-- the same in routine r; and where a nest's counter is set within it, no LOOP that stays in the nest is clean: control comes to each with
+-- its counter as a call left it that touches this, or as it was where the routine begins; or the counter is set in the nest, and kept from
+-- there to the LOOP
+abbrev pub IsLack : Parts → ℕ → List (List (Option Arc)) → Splitting → Units → Lack → Type 0
+IsLack image r arcs splitting units (SetWithin piece) = OfSomeNest splitting.nests (λ id nest. (piece ≡ nest.piece) × (nest.tight ≡ true)
+    × NoneClean arcs (λ pc k. MayNotPay image r k pc) splitting id nest.piece × SetsEnough arcs splitting id nest)
+IsLack image r arcs splitting units lack = IsUnpaid arcs splitting units lack

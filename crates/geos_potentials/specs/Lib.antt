@@ -35,3 +35,4 @@ pub mod Arranged
 pub mod Cycles
 pub mod Whole
 pub mod Making
+pub mod Tight

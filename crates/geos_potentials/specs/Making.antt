@@ -1,11 +1,11 @@
 -- How nests are made: which LOOPs are chosen, and what holds of pieces while some wait.
-use Rattle.std.specs.Prelude.{◌≡◌, ◌≤◌, ◌<◌, ◌⊎◌, ◌==◌, ◌&&◌, ◌+◌, ℕ, suc, Bool, true, not, List, [], ◌∷◌, Option, None, Some, slice_index_or}
+use Rattle.std.specs.Prelude.{◌≡◌, ◌≢◌, ◌≤◌, ◌<◌, ◌⊎◌, ◌==◌, ◌&&◌, ◌+◌, ℕ, suc, Bool, true, false, not, List, [], ◌∷◌, Option, None, Some, slice_index_or}
 use Rattle.geos_potentials.specs.Arcs.{arc_at, unit_at}
 use Rattle.geos_potentials.specs.Demands.{taken_from}
 use Rattle.geos_potentials.specs.Parts.{AreOrdered, LeadBetween, IsWayWithin, IsComponent, WaitsAt, WaitInOrder, WaitBefore}
 use Rattle.geos_potentials.specs.Pieces.{TakesWithin}
 use Rattle.geos_potentials.specs.Ranks.{noted_idle}
-use Rattle.geos_potentials.specs.Stuck.{IsIn}
+use Rattle.geos_potentials.specs.Stuck.{StandsAt, IsIn}
 use Rattle.geos_potentials.specs.Whole.{IsPlainWay, AreWhole, PayInNests}
 use Rattle.geos_potentials.specs.declared.arcs.Arc.{Arc}
 use Rattle.geos_potentials.specs.declared.choice.Choice.{Choice}
@@ -35,6 +35,16 @@ abbrev pub may_pay_in : Tier → Classes → ℕ → ℕ → Bool
 may_pay_in Clean classes pc k = (unit_at classes.touched pc k == 0) && (unit_at classes.unset pc k == 0) && (unit_at classes.set_within pc k == 0)
 may_pay_in Tight classes pc k = not (noted_idle classes pc k)
 may_pay_in Unset classes pc k = (unit_at classes.touched pc k == 0) && (unit_at classes.set_within pc k == 0)
+
+-- no LOOP of a piece may
+abbrev pub NoneMayPayIn : Tier → List (List (Option Arc)) → List Jump → Order → Classes → Piece → Type 0
+NoneMayPayIn tier arcs jumps order classes piece = (pc k : ℕ) → IsIn order piece pc → k < 4 → TakesWithin arcs jumps order piece pc k
+    → may_pay_in tier classes pc k ≡ false
+
+-- each counter of a LOOP at a place that stands before some of a piece has a price, if the LOOP may pay so
+abbrev pub ArePriced : List (List (Option Arc)) → List Jump → Order → Classes → Piece → Tier → ℕ → List (Option ℕ) → Type 0
+ArePriced arcs jumps order classes piece tier end prices = (x pc k : ℕ) → piece.begin ≤ x → x < end → StandsAt order x pc → k < 4
+    → TakesWithin arcs jumps order piece pc k → may_pay_in tier classes pc k ≡ true → slice_index_or prices k None ≢ None
 
 -- the LOOP at a place of a piece may pay so, and a unit there has this price
 pub record HasPrice (arcs : List (List (Option Arc))) (jumps : List Jump) (order : Order) (classes : Classes) (piece : Piece) (tier : Tier)

@@ -1,10 +1,10 @@
 -- Edges that stay in a piece, and LOOPs of it that may not pay.
-use Rattle.std.specs.Prelude.{◌≡◌, ◌≢◌, ◌≤◌, ◌<◌, ◌+◌, ◌-◌, ℕ, zero, suc, Bool, true, false, ◌&&◌, if◌then◌else◌, min, nat_le, nat_lt, List, Option, None, Some, slice_get, slice_index, slice_index_or}
+use Rattle.std.specs.Prelude.{◌≡◌, ◌<◌, ◌+◌, ◌-◌, ℕ, zero, suc, Bool, true, false, ◌&&◌, if◌then◌else◌, min, nat_le, nat_lt, List, Option, None, Some, slice_get, slice_index, slice_index_or}
 use Rattle.geos_potentials.specs.Arcs.{arc_at}
 use Rattle.geos_potentials.specs.Demands.{taken_from}
 use Rattle.geos_potentials.specs.Ranks.{noted_idle}
 use Rattle.geos_potentials.specs.Rounds.{set_by}
-use Rattle.geos_potentials.specs.Stuck.{StandsAt, HasPlace, IsIn}
+use Rattle.geos_potentials.specs.Stuck.{HasPlace, IsIn}
 use Rattle.geos_potentials.specs.declared.arcs.Arc.{Arc}
 use Rattle.geos_potentials.specs.declared.classes.Classes.{Classes}
 use Rattle.geos_potentials.specs.declared.jumps.Jump.{Jump}
@@ -26,11 +26,6 @@ pub record TakesWithin (arcs : List (List (Option Arc))) (jumps : List Jump) (or
   pub to : ℕ
   pub leads : LeadsWithin arcs jumps order piece pc true to
   pub takes : taken_from leads.arc.counting ≡ Some k
-
--- each counter that such an edge takes from, of a place that stands before some of a piece, has a price, if it may pay there by what is noted
-abbrev pub ArePriced : List (List (Option Arc)) → List Jump → Order → Classes → Piece → ℕ → List (Option ℕ) → Type 0
-ArePriced arcs jumps order classes piece end prices = (x pc k : ℕ) → piece.begin ≤ x → x < end → StandsAt order x pc → k < 4
-    → TakesWithin arcs jumps order piece pc k → noted_idle classes pc k ≡ false → slice_index_or prices k None ≢ None
 
 -- how much an edge sets a counter to, if there is one and it leads to a place of a piece; else 0
 abbrev pub set_within : Order → Piece → ℕ → Option Arc → ℕ

@@ -39,9 +39,12 @@ PayInNests start splitting = (pc nest : ℕ) → start ≤ pc → slice_index_or
 
 -- Nests stay
 
--- places stand next where they did, the same is found of LOOPs, and nests have the places that they had
+-- places stand next where they did, the same is found of LOOPs, and nests have the places and the counter that they had, and are as tight
 pub record StayNests (old next : Splitting) : Type 0 where
   pub order : next.order ≡ old.order
   pub jumps : next.jumps ≡ old.jumps
   pub count : next.nests.count ≡ old.nests.count
   pub pieces : (id : ℕ) (other : Nest) → (slice_index_or next.nests.list id other).piece ≡ (slice_index_or old.nests.list id other).piece
+  pub counters : (id : ℕ) (other : Nest)
+      → (slice_index_or next.nests.list id other).counter ≡ (slice_index_or old.nests.list id other).counter
+  pub tight : (id : ℕ) (other : Nest) → (slice_index_or next.nests.list id other).tight ≡ (slice_index_or old.nests.list id other).tight

@@ -4,13 +4,13 @@ ghost use Rattle.std.specs.Prelude.{◌≡◌, ◌<◌, ◌≤◌, ◌==◌, ◌
 ghost use Rattle.geos_potentials.specs.Arcs.{arc_at, unit_at};
 ghost use Rattle.geos_potentials.specs.Demands.{taken_from};
 ghost use Rattle.geos_potentials.specs.Least.{is_free};
-ghost use Rattle.geos_potentials.specs.Making.{may_pay_in, ArePrices, IsChosen, IsSomeChosen};
-ghost use Rattle.geos_potentials.specs.Pieces.{TakesWithin, ArePriced, NoneMayPay, SumsUp, set_within};
+ghost use Rattle.geos_potentials.specs.Making.{may_pay_in, NoneMayPayIn, ArePriced, ArePrices, IsChosen, IsSomeChosen};
+ghost use Rattle.geos_potentials.specs.Pieces.{TakesWithin, NoneMayPay, SumsUp, set_within};
 ghost use Rattle.geos_potentials.specs.Ranks.{noted_idle};
 ghost use Rattle.geos_potentials.specs.Untouched.{untouched};
 ghost use Rattle.geos_potentials.specs.Within.{HoldsAt};
 ghost use Rattle.geos_potentials.specs.declared.arcs.Arc.{Arc};
-ghost use Rattle.geos_potentials.specs.declared.choice.Tier.TheVariants.{Tight};
+ghost use Rattle.geos_potentials.specs.declared.choice.Tier.TheVariants.{Clean, Tight};
 ghost use Rattle.geos_potentials.specs.declared.jumps.Jump.TheVariants.{Plain};
 
 use crate::classes::Classes;
@@ -65,7 +65,6 @@ impl Tier {
     fn may_pay(self, classes: &Classes, pc: u16, counter: u8) -> bool
         requires { pc < 4096 }
         ensures touched { result ≡ true → (unit_at classes.now.touched pc counter == 0) ≡ true }
-        ensures tight { self ≡ Tight → result ≡ not (noted_idle classes.now pc counter) }
         ensures tier { result ≡ may_pay_in self classes.now pc counter }
     {
         if classes.is_touched(pc, counter) {
@@ -94,6 +93,7 @@ impl Chosen {
         ensures untouched { result ≡ true → HoldsAt graph.now.arcs (untouched classes.now.touched) pc }
         ensures plain { result ≡ true → is_free (slice_index_or jumps.now pc Plain) ≡ false }
         ensures within { result ≡ true → TakesWithin graph.now.arcs jumps.now order.now piece.now pc self.now.choice.counter }
+        ensures may { result ≡ true → may_pay_in self.now.choice.tier classes.now pc self.now.choice.counter ≡ true }
         ensures all { IsChosen graph.now.arcs jumps.now order.now classes.now piece.now self.now.choice pc → result ≡ true }
     {
         let Choice {
@@ -134,8 +134,8 @@ fn add_price(
     prices: &mut [Option<u32>; 4],
 )
     requires { x < 4096 }
-    ensures all { tier ≡ Tight → ArePriced graph.now.arcs jumps.now order.now classes.now piece.now x prices.old
-        → ArePriced graph.now.arcs jumps.now order.now classes.now piece.now (x + 1) prices.new }
+    ensures all { ArePriced graph.now.arcs jumps.now order.now classes.now piece.now tier x prices.old
+        → ArePriced graph.now.arcs jumps.now order.now classes.now piece.now tier (x + 1) prices.new }
     ensures only { piece.now.begin ≤ x → x < piece.now.end
         → ArePrices graph.now.arcs jumps.now order.now classes.now piece.now tier prices.old
         → ArePrices graph.now.arcs jumps.now order.now classes.now piece.now tier prices.new }
@@ -163,7 +163,7 @@ fn prices(
     piece: &Piece,
     tier: Tier,
 ) -> [Option<u32>; 4]
-    ensures all { tier ≡ Tight → ArePriced graph.now.arcs jumps.now order.now classes.now piece.now piece.now.end result }
+    ensures all { ArePriced graph.now.arcs jumps.now order.now classes.now piece.now tier piece.now.end result }
     ensures only { ArePrices graph.now.arcs jumps.now order.now classes.now piece.now tier result }
 {
     let mut prices = [None; 4];
@@ -272,7 +272,7 @@ fn set_prices(
     ]
 }
 
-/// The LOOPs that are to pay in a component; none where none may.
+/// The LOOPs that are to pay in a component; none where none may. Where those of a counter that is set in it are, none is clean.
 pub(crate) fn choose(
     graph: &Graph,
     jumps: &Jumps,
@@ -282,6 +282,8 @@ pub(crate) fn choose(
 ) -> Option<Choice>
     ensures none { IfNone result (NoneMayPay graph.now.arcs jumps.now order.now classes.now piece.now) }
     ensures some { IfSome result (IsSomeChosen graph.now.arcs jumps.now order.now classes.now piece.now) }
+    ensures tight { IfSome result (λ choice. choice.tier ≡ Tight
+        → NoneMayPayIn Clean graph.now.arcs jumps.now order.now classes.now piece.now) }
 {
     let clean = prices(graph, jumps, order, classes, piece, Tier::Clean);
     if let Some(choice) = cheapest(&clean, Tier::Clean) {

@@ -1,6 +1,6 @@
 //! Where the unit of a counter may not be wanted, and what it costs.
 
-ghost use Rattle.std.specs.Prelude.{◌≡◌, ◌≤◌, ◌<◌, ◌==◌, ◌&&◌, ℕ, true, false, not, slice_index, slice_index_or, IfOk};
+ghost use Rattle.std.specs.Prelude.{◌≡◌, ◌≤◌, ◌<◌, ◌+◌, ◌==◌, ◌&&◌, ℕ, true, false, not, slice_index, slice_index_or, IfOk};
 ghost use Rattle.geos_potentials.specs.Arcs.{unit_at};
 ghost use Rattle.geos_potentials.specs.Carried.{AreSpread};
 ghost use Rattle.geos_potentials.specs.Demands.{forgets};
@@ -8,7 +8,8 @@ ghost use Rattle.geos_code.specs.Code.{IsPcOf};
 ghost use Rattle.geos_potentials.specs.Ranks.{noted_idle};
 ghost use Rattle.geos_potentials.specs.Spreads.{ComeBehind, ComeFrom, ForgetsIt, SetsTo, SetsSome, AllStandAt};
 ghost use Rattle.geos_potentials.specs.Spent.{spent_at, AreNotedSet};
-ghost use Rattle.geos_potentials.specs.Stuck.{IsIn, StayNoted, NothingNoted};
+ghost use Rattle.geos_potentials.specs.Stuck.{StayNoted, NothingNoted};
+ghost use Rattle.geos_potentials.specs.Tight.{StaysAlong, AreSetNoted, AreSetSoFar};
 ghost use Rattle.geos_potentials.specs.Untouched.{AreNotedBehind};
 ghost use Rattle.geos_potentials.specs.declared.arcs.Counting.TheVariants.{Sets};
 
@@ -67,7 +68,8 @@ fn sets(arc: &Arc) -> [u32; 4]
 
 /// 1 of the counter that an edge sets.
 fn sets_some(arc: &Arc) -> [u32; 4]
-    ensures { (k : ℕ) → 0 < slice_index result k → SetsSome k (slice_index result k) arc.now.counting }
+    ensures only { (k : ℕ) → 0 < slice_index result k → SetsSome k (slice_index result k) arc.now.counting }
+    ensures all { (k most : ℕ) → k < 4 → arc.now.counting ≡ Sets k most → 0 < most → 0 < slice_index result k }
 {
     match arc.sets() {
         Some((counter, _)) => only(counter, 1),
@@ -133,8 +135,8 @@ fn raise_set(
 )
     requires above { piece.now.begin ≤ x }
     requires below { x < piece.now.end }
-    ensures { (low : ℕ) → ComeBehind graph.now.arcs low (IsIn order.now piece.now) SetsSome set.old
-        → ComeBehind graph.now.arcs low (IsIn order.now piece.now) SetsSome set.new }
+    ensures { (low : ℕ) → AreSetSoFar graph.now.arcs low order.now piece.now x set.old waits.old
+        → AreSetSoFar graph.now.arcs low order.now piece.now (x + 1) set.new waits.new }
 {
     let pc = order.place(x);
     let Some(arc) = graph.arc(pc, false) else {
@@ -155,7 +157,9 @@ fn note_set(
     waits: &mut Pile,
 )
     requires { start < 4096 }
-    ensures { ComeBehind graph.now.arcs start (IsIn order.now piece.now) SetsSome set.new }
+    ensures come { ComeBehind graph.now.arcs start (StaysAlong graph.now.arcs order.now piece.now) SetsSome set.new }
+    ensures on { AreSpread graph.now.arcs start set.new }
+    ensures noted { AreSetNoted graph.now.arcs order.now piece.now piece.now.end set.new }
 {
     set.fill_from(start, [0; 4]);
     // For what its law says.
@@ -209,7 +213,9 @@ impl Classes {
         piece: &Piece,
     )
         requires { start < 4096 }
-        ensures set { ComeBehind graph.now.arcs start (IsIn order.now piece.now) SetsSome self.new.set_within }
+        ensures come { ComeBehind graph.now.arcs start (StaysAlong graph.now.arcs order.now piece.now) SetsSome self.new.set_within }
+        ensures on { AreSpread graph.now.arcs start self.new.set_within }
+        ensures noted { AreSetNoted graph.now.arcs order.now piece.now piece.now.end self.new.set_within }
         ensures others { StayNoted self.old self.new }
     {
         note_set(

@@ -8,6 +8,7 @@ ghost use Rattle.geos_potentials.specs.Pieces.{NoneMayPay};
 ghost use Rattle.geos_potentials.specs.Spent.{AreFree, AreLeftOut, MayPayAt, StayFree};
 ghost use Rattle.geos_potentials.specs.Splits.{NoNests, HasRound};
 ghost use Rattle.geos_potentials.specs.Stuck.{StayNoted, GoesRoundIdle, HasPlace};
+ghost use Rattle.geos_potentials.specs.Tight.{IsListed, MayPayWhereMarked, AreRightlyTight, StayRightlyTight};
 ghost use Rattle.geos_potentials.specs.Untouched.{AreUntouched, StayUntouched};
 ghost use Rattle.geos_potentials.specs.Whole.{AreWhole, EachRoundPays, PayInNests};
 ghost use Rattle.geos_potentials.specs.declared.jumps.Jump.TheVariants.{Plain};
@@ -47,7 +48,7 @@ pub struct Nest {
     pub(crate) around: Option<u16>,
     /// How many are around it.
     depth: u16,
-    /// Whether its counter is set in it and kept from there to one of its LOOPs.
+    /// Whether each LOOP in it that may pay has a counter that is set in it, and kept from there to the LOOP.
     pub tight: bool,
     /// Whether it is to be paid for.
     pub(crate) due: bool,
@@ -202,7 +203,7 @@ impl Nests {
         requires { self.old.count < 4096 }
         ensures id { result ≡ self.old.count }
         ensures count { self.new.count ≡ self.old.count + 1 }
-        ensures here { (other : Nest) → (slice_index_or self.new.list self.old.count other).piece ≡ waiting.now.piece }
+        ensures here { (other : Nest) → IsListed waiting.now choice.now (slice_index_or self.new.list self.old.count other) }
         ensures others { (id : ℕ) (other : Nest) → id ≢ self.old.count
             → slice_index_or self.new.list id other ≡ slice_index_or self.old.list id other }
         ensures waiting { self.new.waiting ≡ self.old.waiting }
@@ -334,6 +335,8 @@ impl Splitting {
         ensures marked { AreMarked self.old.order piece.now choice.now.nest self.old.jumps self.new.jumps }
         ensures fewer { IsSomeChosen graph.now.arcs self.old.jumps self.old.order classes.now piece.now choice.now.choice
             → plain_in self.new.jumps < plain_in self.old.jumps }
+        ensures may { MayPayWhereMarked graph.now.arcs self.old.order classes.now piece.now choice.now.choice choice.now.nest
+            self.old.jumps self.new.jumps }
         ensures untouched { (low : ℕ) → StayUntouched low graph.now.arcs self.old.jumps self.new.jumps classes.now.touched }
         ensures free { StayFree self.old.jumps self.new.jumps }
     {
@@ -361,10 +364,13 @@ impl Splitting {
         ensures none { IfErr result (NoneMayPay graph.now.arcs self.new.jumps self.new.order classes.new) }
         ensures round { IfErr result (GoesRoundIdle body.now.image.now body.now.r graph.now.arcs classes.new self.new.order) }
         ensures on { IfOk result (λ _. CanGoOn graph.now.arcs body.now.start body.now.end self.new) }
+        ensures tight { IfOk result (λ _. StayRightlyTight graph.now.arcs classes.new body.now.start self.old self.new) }
         ensures fewer { IfOk result (λ _. plain_in self.new.jumps < plain_in self.old.jumps) }
         ensures untouched { (low : ℕ) → StayUntouched low graph.now.arcs self.old.jumps self.new.jumps classes.old.touched }
         ensures free { StayFree self.old.jumps self.new.jumps }
     {
+        // For what its law says.
+        self.jumps.lengths();
         let piece = &waiting.piece;
         classes.note_set_within(body.start, graph, &self.order, piece);
         let Some(choice) = choose(graph, &self.jumps, &self.order, classes, piece) else {
@@ -400,6 +406,7 @@ impl Splitting {
         requires inside { AreInside graph.now.arcs body.now.start body.now.end }
         requires led { AreLed graph.now }
         ensures on { CanGoOn graph.now.arcs body.now.start body.now.end self.new }
+        ensures count { self.new.nests.count ≡ 0 }
         ensures jumps { self.new.jumps ≡ self.old.jumps }
     {
         // For what its law says.
@@ -411,9 +418,9 @@ impl Splitting {
         self.split(graph, &all, None);
     }
 
-    /// Finds the nests of a routine, each of which is a component, so that wherever control goes round a LOOP of some nest pays, or one is
-    /// left out; or a component in which control goes round and no LOOP may pay. What is known of counters stays, but for what is set in a
-    /// piece.
+    /// Finds the nests of a routine, each of which is a component, and tight as it should be, so that wherever control goes round a LOOP of
+    /// some nest pays, or one is left out; or a component in which control goes round and no LOOP may pay. What is known of counters stays,
+    /// but for what is set in a piece.
     pub(crate) fn find(
         &mut self,
         body: &Body,
@@ -428,6 +435,7 @@ impl Splitting {
         ensures untouched { AreUntouched body.now.start graph.now.arcs self.new.jumps classes.old.touched }
         ensures free { AreFree graph.now.arcs self.new.jumps classes.old body.now.start body.now.end }
         ensures whole { IfOk result (λ _. AreWhole graph.now.arcs self.new) }
+        ensures tight { IfOk result (λ _. AreRightlyTight graph.now.arcs classes.new body.now.start self.new) }
         ensures rounds { IfOk result (λ _. EachRoundPays graph.now.arcs self.new.jumps) }
         ensures pay { IfOk result (λ _. PayInNests body.now.start self.new) }
     {

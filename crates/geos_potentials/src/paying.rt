@@ -1,7 +1,7 @@
 //! A nest that is paid for: the least unit with which no way round in it lacks something.
 
 ghost use Rattle.std.specs.Prelude.{◌≡◌, ◌≢◌, ◌<◌, ◌≤◌, ◌-◌, List, Option, None, Some, true, IfSome, IfOk, IfErr, slice_index_or};
-ghost use Rattle.geos_potentials.specs.Lacks.{IsLackIn, IsLack};
+ghost use Rattle.geos_potentials.specs.Lacks.{IsLackIn, IsUnpaid};
 ghost use Rattle.geos_potentials.specs.Rounds.{HasShare, LinksIn, SetsLow, Adds, IsRound, LacksPast, lesser_of, IsOther, IsRest};
 ghost use Rattle.geos_potentials.specs.declared.arcs.Arc.{Arc};
 ghost use Rattle.geos_potentials.specs.declared.arcs.Counting.TheVariants.{Sets};
@@ -413,7 +413,7 @@ impl Paying {
         ensures looked { units.old.looked.count ≤ units.new.looked.count }
         ensures rest { IfOk result (IsRest graph.now.arcs splitting.now self.old.id self.old.nest) }
         ensures lack { ((other : Nest) → slice_index_or splitting.now.nests.list self.old.id other ≡ self.old.nest)
-            → self.old.id < splitting.now.nests.count → IfErr result (IsLack graph.now.arcs splitting.now units.new) }
+            → self.old.id < splitting.now.nests.count → IfErr result (IsUnpaid graph.now.arcs splitting.now units.new) }
     {
         let piece = self.nest.piece;
         let mut raises = 0;

@@ -10,7 +10,7 @@ ghost use Rattle.geos_potentials.specs.Count.{StaysFrom};
 ghost use Rattle.geos_potentials.specs.Demands.{AreWanted};
 ghost use Rattle.geos_potentials.specs.Halts.{IsInTheWay};
 ghost use Rattle.geos_potentials.specs.Idle.{IsNeverPaid};
-ghost use Rattle.geos_potentials.specs.Lacks.{IsLack};
+ghost use Rattle.geos_potentials.specs.Lacks.{IsUnpaid};
 ghost use Rattle.geos_potentials.specs.Least.{steps_at};
 ghost use Rattle.geos_potentials.specs.Numbers.{numbers_of};
 ghost use Rattle.geos_potentials.specs.Paid.{HavePaid};
@@ -75,7 +75,7 @@ impl Search {
         ensures within { IfOk result (λ _. StayWithinLoops self.old.graph.arcs self.old.splitting.jumps is_found [] self.new.units.pay) }
         ensures paid { IfOk result (λ _. HavePaid body.now.image.now body.now.r self.old.graph self.old.splitting.jumps self.new.units.pay
             self.new.units.lengths.ways) }
-        ensures lack { IfErr result (IsLack self.new.graph.arcs self.new.splitting self.new.units) }
+        ensures lack { IfErr result (IsUnpaid self.new.graph.arcs self.new.splitting self.new.units) }
         ensures graph { self.new.graph ≡ self.old.graph }
         ensures nests { StayNests self.old.splitting self.new.splitting }
     {

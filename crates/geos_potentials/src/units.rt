@@ -4,7 +4,7 @@ ghost use Rattle.std.specs.Prelude.{◌≡◌, ◌≢◌, ◌<◌, ◌≤◌, �
 ghost use Rattle.geos_potentials.specs.Arcs.{IsLink, arc_at, unit_at, price_of, paid_by};
 ghost use Rattle.geos_potentials.specs.Carried.{AreCarried, AreHeld, Carries, NoneHeld, StayCarried};
 ghost use Rattle.geos_potentials.specs.Demands.{AreWanted, HaveGrown, StayWanted, taken_from};
-ghost use Rattle.geos_potentials.specs.Lacks.{IsLack, PricePasses};
+ghost use Rattle.geos_potentials.specs.Lacks.{IsUnpaid, PricePasses};
 ghost use Rattle.geos_potentials.specs.Least.{StayAtLoops, StayAtMost, AreLonger, AreCovered};
 ghost use Rattle.geos_potentials.specs.Led.{AreLed};
 ghost use Rattle.geos_potentials.specs.Looks.{RisesBy, SomeIsLonger, AreCoveredIn};
@@ -335,7 +335,7 @@ impl Units {
         ensures carried { Carries graph.now NoneHeld self.old.pay self.new.pay self.old.waits }
         ensures within { StayWithin graph.now.arcs self.old.pay self.new.pay }
         ensures looked { self.old.looked.count ≤ self.new.looked.count }
-        ensures lack { IfErr result (IsLack graph.now.arcs splitting.new self.new) }
+        ensures lack { IfErr result (IsUnpaid graph.now.arcs splitting.new self.new) }
         ensures jumps { splitting.new.jumps ≡ splitting.old.jumps }
         ensures count { splitting.new.nests.count ≡ splitting.old.nests.count }
         ensures nests { StayNests splitting.old splitting.new }
@@ -360,7 +360,7 @@ impl Units {
         ensures carried { StayCarried graph.now self.old.pay self.new.pay }
         ensures within { StayWithinLoops graph.now.arcs splitting.old.jumps pays self.old.pay self.new.pay }
         ensures looked { self.old.looked.count ≤ self.new.looked.count }
-        ensures lack { IfErr result (IsLack graph.now.arcs splitting.new self.new) }
+        ensures lack { IfErr result (IsUnpaid graph.now.arcs splitting.new self.new) }
         ensures jumps { splitting.new.jumps ≡ splitting.old.jumps }
         ensures count { splitting.new.nests.count ≡ splitting.old.nests.count }
         ensures nests { StayNests splitting.old splitting.new }
@@ -389,7 +389,7 @@ impl Units {
         ensures carried { StayCarried graph.now self.old.pay self.new.pay }
         ensures within { StayWithinLoops graph.now.arcs splitting.old.jumps pays self.old.pay self.new.pay }
         ensures looked { self.old.looked.count ≤ self.new.looked.count }
-        ensures lack { IfErr result (IsLack graph.now.arcs splitting.new self.new) }
+        ensures lack { IfErr result (IsUnpaid graph.now.arcs splitting.new self.new) }
         ensures jumps { splitting.new.jumps ≡ splitting.old.jumps }
         ensures count { splitting.new.nests.count ≡ splitting.old.nests.count }
         ensures nests { StayNests splitting.old splitting.new }
@@ -422,7 +422,7 @@ impl Units {
         ensures within { StayWithinLoops graph.now.arcs splitting.old.jumps pays self.old.pay self.new.pay }
         ensures looked { self.old.looked.count ≤ self.new.looked.count }
         ensures some { IfOk result (λ some. some ≡ true → min (self.old.looked.count + 1) 4294967295 ≤ self.new.looked.count) }
-        ensures lack { IfErr result (IsLack graph.now.arcs splitting.new self.new) }
+        ensures lack { IfErr result (IsUnpaid graph.now.arcs splitting.new self.new) }
         ensures jumps { splitting.new.jumps ≡ splitting.old.jumps }
         ensures nests { StayNests splitting.old splitting.new }
     {
@@ -451,7 +451,7 @@ impl Units {
         ensures wanted { AreWanted graph.now.arcs self.new.pay }
         ensures carried { AreLed graph.now → AreCarried graph.now.arcs NoneHeld self.new.pay }
         ensures within { StayWithinLoops graph.now.arcs splitting.old.jumps pays [] self.new.pay }
-        ensures lack { IfErr result (IsLack graph.now.arcs splitting.new self.new) }
+        ensures lack { IfErr result (IsUnpaid graph.now.arcs splitting.new self.new) }
         ensures jumps { splitting.new.jumps ≡ splitting.old.jumps }
         ensures nests { StayNests splitting.old splitting.new }
     {

@@ -1,7 +1,6 @@
-use Rattle.geos_potentials.specs.Spreads.{ComeBehind, SetsSome}
-use Rattle.geos_potentials.specs.Stuck.{IsIn}
+use Rattle.geos_potentials.specs.Tight.{AreSetSoFar}
 use Rattle.geos_potentials.proofs.classes.note_set.Given as goal
 
--- counters are set in the piece where it is noted
+-- what counters are set in the piece by the places before x is noted, and nothing else
 abbrev pub invariant-loop-x : goal.invariant-loop-x
-invariant-loop-x l = ComeBehind l.graph.arcs l.start (IsIn l.order l.piece) SetsSome l.set
+invariant-loop-x l = AreSetSoFar l.graph.arcs l.start l.order l.piece l.x l.set l.waits

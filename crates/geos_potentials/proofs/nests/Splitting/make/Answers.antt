@@ -1,14 +1,15 @@
-use Rattle.std.proofs.Common.{◌≡◌, ◌≢◌, ◌≤◌, ◌<◌, ◌+◌, ℕ, List, refl, sym, ap, ◌∙◌, subst, arith, inl, inr}
+use Rattle.std.proofs.Common.{◌≡◌, ◌≤◌, ◌<◌, ◌+◌, ℕ, List, length, refl, sym, ap, ◌∙◌, subst, arith, inl, inr}
 use Rattle.std.specs.Prelude.{slice_index_or}
-use Rattle.geos_potentials.specs.Making.{AreMarked, AreMadeSoFar, AreWaitingComponents, IsWaiting, IsDue, LiesInOrApart, plain_in}
-use Rattle.geos_potentials.specs.Parts.{CanSplit, WaitBefore}
-use Rattle.geos_potentials.specs.declared.jumps.Jump.{Jump}
+use Rattle.geos_potentials.specs.Making.{AreMarked, AreMadeSoFar, AreWaitingComponents, IsDue, plain_in}
+use Rattle.geos_potentials.specs.Parts.{AreOrdered, CanSplit, WaitBefore}
+use Rattle.geos_potentials.specs.Tight.{IsListed, MayPayWhereMarked}
 use Rattle.geos_potentials.specs.declared.nests.Nest.{Nest}
-use Rattle.geos_potentials.specs.declared.pieces.Piece.{Piece}
+use Rattle.geos_potentials.specs.declared.pieces.Order.{Order}
 use Rattle.geos_potentials.proofs.Leaving.{round-idle}
 use Rattle.geos_potentials.proofs.Marking.{chosen-some}
 use Rattle.geos_potentials.proofs.Nesting.{made-marked, waiting-marked, made-split, due-lies}
 use Rattle.geos_potentials.proofs.Taking.{made-due, waiting-same, due-same, before-same}
+use Rattle.geos_potentials.proofs.Tight.{rightly-new, rightly-marked, rightly-split, lies-marked}
 use Rattle.geos_potentials.proofs.nests.Splitting.make.Goals as goal
 
 pub returns-in_default-clause-round : goal.returns-in_default-clause-round
@@ -61,7 +62,7 @@ returns-clause-on c =
     let one = made-marked arcs start end inside s m piece due order count
     (λ id other few. ap (λ (l : List Nest). slice_index_or l id other) stay.list
     ∙ c.list-nest.ensures.others id other (λ same. omega (arith, few, same)))
-    (λ other. ap (λ (l : List Nest). (slice_index_or l s.nests.count other).piece) stay.list ∙ c.list-nest.ensures.here other)
+    (λ other. ap (λ (l : List Nest). (slice_index_or l s.nests.count other).piece) stay.list ∙ (c.list-nest.ensures.here other).piece)
     marked can.component (inr refl) (due-lies s.nests piece can.before) can.made in
     let made : AreMadeSoFar arcs start end m (IsDue m.nests piece) = made-due arcs start end inside m m.nests due (IsDue m.nests piece) refl refl
     (due-same m.nests s.nests (sym waits) (sym waiting) piece) (due-same s.nests m.nests waits waiting piece) one in
@@ -88,3 +89,53 @@ returns-clause-on c =
       wait = c.split.ensures.wait start end splits before;
       few = omega (arith, few, fewer, same, last, count);
     }
+
+pub returns-clause-tight : goal.returns-clause-tight
+returns-clause-tight c = λ rightly.
+    let arcs = c.args.graph.now.arcs in
+    let body = c.args.body.now in
+    let start = body.start in
+    let end = body.end in
+    let inside = c.requires.inside in
+    let s = c.args.self.now in
+    let m = c.mark.new.self in
+    let n = c.split.new.self in
+    let classes = c.note_set_within.new.self in
+    let piece = c.args.waiting.now.piece in
+    let choice = c.in-Some.choice in
+    let can = c.requires.can in
+    let lie = can.made.lie piece (inr refl) in
+    let order = c.mark.ensures.order in
+    let stay = c.mark.ensures.nests in
+    let id = c.list-nest.ensures.id in
+    let count : m.nests.count ≡ s.nests.count + 1 = stay.count ∙ c.list-nest.ensures.count in
+    let waits : m.nests.waits ≡ s.nests.waits = stay.waits ∙ c.list-nest.ensures.waits in
+    let waiting : m.nests.waiting ≡ s.nests.waiting = stay.waiting ∙ c.list-nest.ensures.waiting in
+    let list = (λ (at : ℕ) (other : Nest) (few : at < s.nests.count). ap (λ (l : List Nest). slice_index_or l at other) stay.list
+    ∙ c.list-nest.ensures.others at other (λ same. omega (arith, few, same))) in
+    let here = (λ (other : Nest). ap (λ (l : List Nest). (slice_index_or l s.nests.count other).piece) stay.list
+    ∙ (c.list-nest.ensures.here other).piece) in
+    let marked = subst (λ (at : ℕ). AreMarked s.order piece at s.jumps m.jumps) id c.mark.ensures.marked in
+    let may = subst (λ (at : ℕ). MayPayWhereMarked arcs s.order classes piece choice at s.jumps m.jumps) id c.mark.ensures.may in
+    let long : end ≤ length s.jumps = (let room = body.room in let short = body.short in omega (arith, room, short, c.lengths.ensures)) in
+    let set = c.note_set_within.ensures in
+    let new = (λ (other : Nest). rightly-new arcs start end inside s m classes piece can.made.ordered lie.0 lie.1 order can.made.pay long
+    marked c.args.waiting.now choice (slice_index_or m.nests.list s.nests.count other)
+    may c.in-Some.ensures.tight set.come set.on set.noted refl
+    (subst (λ (l : List Nest). IsListed c.args.waiting.now choice (slice_index_or l s.nests.count other)) (sym stay.list)
+    (c.list-nest.ensures.here other))) in
+    let after = rightly-marked arcs start end inside s m classes piece can.made.ordered lie.0 lie.1 order can.made.pay long marked count
+    list new rightly in
+    let ordered : AreOrdered m.order start end = subst (λ (o : Order). AreOrdered o start end) (sym order) can.made.ordered in
+    let before : WaitBefore m.nests piece = before-same s.nests m.nests waits waiting piece can.before in
+    let splits : CanSplit c.args.graph.now m.order start end piece = record {
+      of_order = record { ordered = ordered; begins = lie.0; ends = lie.1 };
+      some = can.some;
+      between = inside.between;
+      led = c.requires.led;
+    } in
+    rightly-split arcs start end inside m n classes piece ordered (c.split.ensures.ordered start end splits) lie.0 lie.1
+    (c.split.ensures.split start end splits before).within (λ pc. c.split.ensures.others start end pc splits) c.split.ensures.jumps
+    c.split.ensures.list c.split.ensures.count
+    (lies-marked arcs start end inside s m piece count list here (λ at other few. (can.made.nests at other few).parts piece (inr refl)))
+    after

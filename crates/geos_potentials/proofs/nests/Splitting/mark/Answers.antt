@@ -1,15 +1,17 @@
 use Rattle.std.proofs.Common.{◌≡◌, ◌≤◌, ◌<◌, ◌⊎◌, ◌+◌, ℕ, List, refl, sym, ap, ◌∙◌, subst, arith, inl, inr}
-use Rattle.std.specs.Prelude.{slice_index_or, slice_set}
+use Rattle.std.specs.Prelude.{slice_set}
 use Rattle.std.proofs.lemmas.Bool.{cases_eq, false≢true}
 use Rattle.geos_potentials.specs.Making.{AreMarked, IsChosen, StayListed, plain_in}
 use Rattle.geos_potentials.specs.Spent.{StayFree}
-use Rattle.geos_potentials.specs.Stuck.{StandsAt, IsIn}
-use Rattle.geos_potentials.specs.Untouched.{AreUntouched}
+use Rattle.geos_potentials.specs.Stuck.{StandsAt}
+use Rattle.geos_potentials.specs.Pieces.{TakesWithin}
+use Rattle.geos_potentials.specs.Tight.{MayPayWhereMarked}
+use Rattle.geos_potentials.specs.Untouched.{is_found, AreUntouched}
 use Rattle.geos_potentials.specs.declared.jumps.Jump.{Jump}
 use Rattle.geos_potentials.specs.declared.jumps.Jump.TheVariants.{Pays}
 use Rattle.geos_potentials.specs.declared.nests.Splitting.{Splitting}
 use Rattle.geos_potentials.specs.declared.pieces.Order.{Order}
-use Rattle.geos_potentials.proofs.Marking.{none-marked, one-marked, plain-set, listed-refl, listed-trans}
+use Rattle.geos_potentials.proofs.Marking.{none-marked, one-marked, one-may, plain-set, listed-refl, listed-trans}
 use Rattle.geos_potentials.proofs.Placing.{same-stands}
 use Rattle.geos_potentials.proofs.Spending.{pays-not-free, stay-free-on}
 use Rattle.geos_potentials.proofs.Untouched.{untouched-set}
@@ -26,6 +28,7 @@ loop-x-init c =
       order = refl;
       nests = listed-refl s.nests;
       marked = none-marked s.order c.args.piece.now c.args.choice.now.nest s.jumps;
+      may = λ pc was pays. absurd (false≢true (ap is_found (sym was ∙ pays)));
       fewer = inl refl;
       chosen = λ x pc low high. absurd (omega (arith, low, high));
       untouched = λ low were. were;
@@ -48,6 +51,7 @@ loop-x-preserved c =
     let order : c.note_inner.new.self.order ≡ first.order = c.note_inner.ensures.order ∙ before.order in
     let nests = listed-trans first.nests c.loop-x.self.nests c.note_inner.new.self.nests before.nests c.note_inner.ensures.nests in
     let marked = subst (AreMarked first.order piece nest first.jumps) (sym was) before.marked in
+    let may = subst (MayPayWhereMarked arcs first.order classes piece c.args.choice.now.choice nest first.jumps) (sym was) before.may in
     let free = subst (StayFree first.jumps) (sym was) before.free in
     let at_most : plain_in old ≤ plain_in first.jumps = few-of first.jumps c.loop-x.self.jumps old was before.fewer in
     elim c.if-takes.branch [
@@ -65,6 +69,9 @@ loop-x-preserved c =
               subst (λ (o : Order). StandsAt o c.loop-x.x pc) before.order c.place-pc.ensures.stands,
             )
                 plain marked;
+            may = one-may arcs first.order classes piece c.args.choice.now.choice nest first.jumps old next pc is
+                (subst (λ (o : Order). TakesWithin arcs old o piece pc c.args.choice.now.choice.counter) order
+                (c.takes.ensures.within w.if-takes.true)) (c.takes.ensures.may w.if-takes.true) marked may;
             fewer = inr less;
             chosen = λ x other low high stands is_chosen. less;
             untouched = λ low were. untouched-set low pc arcs old next touched (Pays nest) is (c.takes.ensures.untouched w.if-takes.true)
@@ -76,6 +83,7 @@ loop-x-preserved c =
             order = ap (λ (s : Splitting). s.order) w.self-is ∙ order;
             nests = subst (StayListed first.nests) (sym (ap (λ (s : Splitting). s.nests) w.self-is)) nests;
             marked = subst (AreMarked first.order piece nest first.jumps) (sym same) marked;
+            may = subst (MayPayWhereMarked arcs first.order classes piece c.args.choice.now.choice nest first.jumps) (sym same) may;
             fewer = subst (λ (jumps : List Jump). (jumps ≡ first.jumps) ⊎ (plain_in jumps < plain_in first.jumps)) (sym (same ∙ was)) before.fewer;
             chosen = λ x other low high stands is_chosen. elim (cases_eq x c.loop-x.x) [
               | inr ne ↦ subst (λ (jumps : List Jump). plain_in jumps < plain_in first.jumps) (sym (same ∙ was))
@@ -104,6 +112,7 @@ returns c =
       order = before.order;
       nests = before.nests;
       marked = before.marked;
+      may = before.may;
       fewer = λ some. before.chosen some.1.0 some.0 some.1.1
           (let high = some.1.2 in let past = c.loop-x-test.false in omega (arith, high, past)) some.1.3 some.2;
       untouched = before.untouched;

@@ -1,5 +1,6 @@
 use Rattle.std.proofs.Common.{sym, subst}
 use Rattle.geos_code.specs.Code.{IsPcOf}
+use Rattle.geos_code.proofs.Bodies.{in-body}
 use Rattle.geos_potentials.specs.Spreads.{ComeBehind, ComeFrom, ForgetsIt}
 use Rattle.geos_potentials.specs.Stuck.{HasPlace}
 use Rattle.geos_potentials.specs.declared.graph.Graph.{Graph}
@@ -12,6 +13,8 @@ use Rattle.geos_potentials.proofs.Unpayable.{none-accepted-round}
 use Rattle.geos_potentials.proofs.Priced.{found-least, none-pay}
 use Rattle.geos_potentials.proofs.Untouched.{spent-in}
 use Rattle.geos_potentials.specs.Whole.{AreWhole}
+use Rattle.geos_potentials.specs.Lacks.{IsUnpaid, IsLack}
+use Rattle.geos_potentials.proofs.Tight.{rightly-stays, lack-noted}
 use Rattle.geos_potentials.proofs.Wholes.{whole-stays}
 use Rattle.geos_potentials.proofs.search.Search.find.Goals as goal
 
@@ -36,10 +39,26 @@ pub returns-in-Err-pay-clause-way : goal.returns-in-Err-pay-clause-way
 returns-in-Err-pay-clause-way c = λ notes.
     let body = c.args.body.now in
     let image = body.image.now in
-    let search = c.pay.new.self in (
-      c.in-Err-pay.ensures.lack,
+    let graph = c.note.new.self in
+    let search = c.pay.new.self in
+    let classes = c.find.new.classes in
+    let inside = c.note.ensures.inside in
+    let stay = c.find.ensures.noted in
+    let touched = subst (ComeBehind graph.arcs body.start (IsPcOf image body.r) ForgetsIt) (sym stay.touched) c.note-2.ensures.touched in
+    let unset = subst (ComeFrom graph.arcs body.start) (sym stay.unset) c.note-2.ensures.unset in
+    let begins = body.begins in
+    let idle = notes-idle image body.r c.args.known.now c.args.touched.now graph.arcs c.note.ensures.arcs notes classes
+    (subst (λ n. ComeBehind graph.arcs n (IsPcOf image body.r) ForgetsIt classes.touched) begins touched)
+    (subst (λ n. ComeFrom graph.arcs n classes.unset) begins unset) in
+    let rightly = rightly-stays graph.arcs body.start body.end inside classes c.find.new.self search.splitting c.pay.ensures.nests
+    c.in_default.ensures.tight in
+    let lack = subst (λ (g : Graph). IsUnpaid g.arcs search.splitting search.units c.in-Err-pay.lack) c.pay.ensures.graph
+    c.in-Err-pay.ensures.lack in (
+      subst (λ (g : Graph). IsLack image body.r g.arcs search.splitting search.units c.in-Err-pay.lack) (sym c.pay.ensures.graph)
+          (lack-noted image body.r graph.arcs body.start body.end inside (in-body body) classes idle search.splitting rightly
+          search.units c.in-Err-pay.lack lack),
       subst (λ (g : Graph). AreWhole g.arcs search.splitting) (sym c.pay.ensures.graph)
-          (whole-stays c.note.new.self.arcs c.find.new.self search.splitting c.pay.ensures.nests c.in_default.ensures.whole),
+          (whole-stays graph.arcs c.find.new.self search.splitting c.pay.ensures.nests c.in_default.ensures.whole),
     )
 
 pub returns-then-put_potentials-clause-least : goal.returns-then-put_potentials-clause-least

@@ -5,8 +5,7 @@ use Rattle.geos_potentials.specs.Within.{ExceedWithin, HoldsAtLoops, pays}
 use Rattle.geos_potentials.specs.declared.jumps.Jump.{Jump}
 use Rattle.geos_potentials.specs.declared.units.Units.{Units}
 use Rattle.geos_potentials.proofs.units.Units.pay.Goals.{then-nest, else-nest}
-use Rattle.geos_potentials.specs.declared.nests.Nest.{Nest}
-use Rattle.geos_potentials.proofs.Wholes.{stay-trans, stay-set}
+use Rattle.geos_potentials.proofs.Wholes.{stay-trans, stay-set, like-read}
 use Rattle.geos_potentials.proofs.units.Units.pay.Goals as goal
 
 pub returns-clause-wanted : goal.returns-clause-wanted
@@ -68,12 +67,14 @@ returns-clause-looked c =
 
 pub returns-in-Err-clause-nests : goal.returns-in-Err-clause-nests
 returns-in-Err-clause-nests c = stay-set c.args.splitting.now _ c.args.id _ refl refl c.set.ensures.count c.set.ensures.list
-    (λ other. ap (λ (n : Nest). n.piece) (c.at-nest.ensures other))
+    (like-read c.args.splitting.now.nests.list c.args.id c.at-nest.result _ c.at-nest.ensures
+    (record { piece = refl; counter = refl; tight = refl }))
 
 pub returns-clause-nests : goal.returns-clause-nests
 returns-clause-nests c = stay-trans c.args.splitting.now c.note_rest.new.splitting c.set_unit.new.splitting
     (stay-trans c.args.splitting.now _ c.note_rest.new.splitting
     (stay-set c.args.splitting.now _ c.args.id _ refl refl c.set.ensures.count c.set.ensures.list
-    (λ other. ap (λ (n : Nest). n.piece) (c.at-nest.ensures other)))
+    (like-read c.args.splitting.now.nests.list c.args.id c.at-nest.result _ c.at-nest.ensures
+    (record { piece = refl; counter = refl; tight = refl })))
     c.note_rest.ensures.nests)
     c.set_unit.ensures.nests
