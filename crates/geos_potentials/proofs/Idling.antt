@@ -59,7 +59,7 @@ none-touched (suc (suc zero)) e = false≢true e
 none-touched (suc (suc (suc zero))) e = false≢true e
 none-touched (suc (suc (suc (suc k)))) e = false≢true e
 
-noted-by : (table : List (List Bool)) (r k : ℕ) → slice_index_or (touched_by table r) k false ≡ true → noted table k r ≡ true
+pub noted-by : (table : List (List Bool)) (r k : ℕ) → slice_index_or (touched_by table r) k false ≡ true → noted table k r ≡ true
 noted-by [] r k e = absurd (none-touched k e)
 noted-by (touched ∷ table) zero k e = e
 noted-by (touched ∷ table) (suc r) k e = noted-by table r k e

@@ -40,3 +40,4 @@ pub mod Taking
 pub mod Leaving
 pub mod Marking
 pub mod Tight
+pub mod Noted

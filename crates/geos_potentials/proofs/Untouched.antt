@@ -140,7 +140,7 @@ found-free (Pays nest) is = refl
 
 -- Behind calls
 
-call-forgets : (row : Row) (table : List (List Bool)) (i : Instr) (opcode : Opcode) (k : ℕ) → opcode ≡ Call
+pub call-forgets : (row : Row) (table : List (List Bool)) (i : Instr) (opcode : Opcode) (k : ℕ) → opcode ≡ Call
     → slice_index_or (touched_by table i.imm) k false ≡ true → forgets (counting_of row table i opcode false) k ≡ true
 call-forgets row table i opcode k is touches = subst (λ (o : Opcode). forgets (counting_of row table i o false) k ≡ true) (sym is) touches
 

@@ -1,10 +1,10 @@
 //! The search for potentials of a routine with loops.
 
-ghost use Rattle.std.specs.Prelude.{◌≡◌, ◌+◌, List, [], Bool, Option, IfSome, IfOk, IfErr};
+ghost use Rattle.std.specs.Prelude.{◌≡◌, ◌+◌, List, [], Bool, Option, IfSome, IfNone, IfOk, IfErr};
 ghost use Rattle.geos_image.specs.Parts.{start_of};
 ghost use Rattle.geos_image.specs.declared.row.Row.{Row};
 ghost use Rattle.geos_potentials.specs.Arcs.{AreArcs};
-ghost use Rattle.geos_potentials.specs.Touching.{NotesTouched};
+ghost use Rattle.geos_potentials.specs.Touching.{NotesTouched, NotesAllTouched};
 ghost use Rattle.geos_potentials.specs.Constants.{ArePaidIn, AreLeastIn, AreLeastWith, AreForLoops, coefficients_at};
 ghost use Rattle.geos_potentials.specs.Count.{StaysFrom};
 ghost use Rattle.geos_potentials.specs.Demands.{AreWanted};
@@ -120,9 +120,12 @@ impl Search {
         }
     }
 
-    /// Finds a component in which control goes round, and no LOOP on the way may pay.
+    /// Finds a component in which control goes round, and no LOOP on the way may pay; none where control does so in none, if all is known
+    /// that routines touch.
     pub fn find_idle(&mut self, body: &Body, known: &Known, touched: &Touched) -> Option<Piece>
-        ensures { NotesTouched body.now.image.now touched.now → IfSome result (λ _. IsNeverPaid body.now.image.now body.now.r) }
+        ensures some { NotesTouched body.now.image.now touched.now → IfSome result (λ _. IsNeverPaid body.now.image.now body.now.r) }
+        ensures none { NotesTouched body.now.image.now touched.now → NotesAllTouched body.now.image.now touched.now
+            → IfNone result (IsNeverPaid body.now.image.now body.now.r → ⊥) }
     {
         self.graph.note(body, known, touched);
         self.classes.note(body, &self.graph);
