@@ -1,5 +1,5 @@
 -- Why no units are found.
-use Rattle.std.specs.Prelude.{◌≡◌, ◌≤◌, ◌<◌, ◌+◌, ◌⊎◌, ℕ, Bool, true, List, Option, Some, slice_index_or}
+use Rattle.std.specs.Prelude.{◌≡◌, ◌≤◌, ◌<◌, ◌+◌, ◌⊎◌, ℕ, Bool, true, List, Option, None, Some, slice_index_or}
 use Rattle.geos_image.specs.Parts.{Parts}
 use Rattle.geos_potentials.specs.Arcs.{arc_at, price_of}
 use Rattle.geos_potentials.specs.Idle.{MayNotPay}
@@ -14,6 +14,8 @@ use Rattle.geos_potentials.specs.declared.lengths.Way.{Way}
 use Rattle.geos_potentials.specs.declared.nests.Nest.{Nest}
 use Rattle.geos_potentials.specs.declared.nests.Nests.{Nests}
 use Rattle.geos_potentials.specs.declared.nests.Splitting.{Splitting}
+use Rattle.geos_potentials.specs.declared.paying.Rest.{Rest}
+use Rattle.geos_potentials.specs.declared.paying.Rest.TheVariants.{Nothing as NoRest, Inside}
 use Rattle.geos_potentials.specs.declared.units.Lack.{Lack}
 use Rattle.geos_potentials.specs.declared.units.Lack.TheVariants.{SetWithin, Passes, InTurn, Looks}
 use Rattle.geos_potentials.specs.declared.units.Units.{Units}
@@ -25,6 +27,16 @@ pub record OfSomeNest (nests : Nests) (is : ℕ → Nest → Type 0) : Type 0 wh
   pub nest : Nest
   pub there : (other : Nest) → slice_index_or nests.list id other ≡ nest
   pub so : is id nest
+
+-- a nest is to be paid for
+abbrev pub IsDueAt : Nests → ℕ → Type 0
+IsDueAt nests id = (other : Nest) → (slice_index_or nests.list id other).due ≡ true
+
+-- where a way round in a nest is still to be paid for, that nest is, and so is the other one of which a LOOP takes there, if there is one
+abbrev pub AreDueFor : Rest → ℕ → Nests → Type 0
+AreDueFor NoRest id nests = Unit {0}
+AreDueFor (Inside None) id nests = IsDueAt nests id
+AreDueFor (Inside (Some inner)) id nests = IsDueAt nests id × (inner < 4096 → IsDueAt nests inner)
 
 -- some nest is to be paid for
 abbrev pub SomeIsDue : Nests → Type 0

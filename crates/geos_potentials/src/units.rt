@@ -4,7 +4,7 @@ ghost use Rattle.std.specs.Prelude.{◌≡◌, ◌≢◌, ◌<◌, ◌≤◌, �
 ghost use Rattle.geos_potentials.specs.Arcs.{IsLink, arc_at, unit_at, price_of, paid_by};
 ghost use Rattle.geos_potentials.specs.Carried.{AreCarried, AreHeld, Carries, NoneHeld, StayCarried};
 ghost use Rattle.geos_potentials.specs.Demands.{AreWanted, HaveGrown, StayWanted, taken_from};
-ghost use Rattle.geos_potentials.specs.Lacks.{IsUnpaid, PricePasses};
+ghost use Rattle.geos_potentials.specs.Lacks.{IsUnpaid, AreDueFor, IsDueAt, PricePasses};
 ghost use Rattle.geos_potentials.specs.Least.{StayAtLoops, StayAtMost, AreLonger, AreCovered};
 ghost use Rattle.geos_potentials.specs.Led.{AreLed};
 ghost use Rattle.geos_potentials.specs.Looks.{RisesBy, SomeIsLonger, AreCoveredIn};
@@ -78,7 +78,9 @@ fn set_due(splitting: &mut Splitting, id: u16)
     ensures jumps { splitting.new.jumps ≡ splitting.old.jumps }
     ensures count { splitting.new.nests.count ≡ splitting.old.nests.count }
     ensures nests { StayNests splitting.old splitting.new }
-    ensures due { (other : Nest) → (slice_index_or splitting.new.nests.list id other).due ≡ true }
+    ensures due { IsDueAt splitting.new.nests id }
+    ensures others { (at : ℕ) (other : Nest) → at ≢ id
+        → slice_index_or splitting.new.nests.list at other ≡ slice_index_or splitting.old.nests.list at other }
 {
     let mut nest = splitting.nests.at(id);
     nest.due = true;
@@ -92,6 +94,7 @@ fn note_rest(splitting: &mut Splitting, id: u16, rest: &Rest)
     ensures jumps { splitting.new.jumps ≡ splitting.old.jumps }
     ensures count { splitting.new.nests.count ≡ splitting.old.nests.count }
     ensures nests { StayNests splitting.old splitting.new }
+    ensures due { AreDueFor rest.now id splitting.new.nests }
 {
     let Rest::Inside(inner) = rest else {
         return;
