@@ -21,11 +21,13 @@ pub(crate) struct Lists {
 }
 
 impl Lists {
-    ghost use Rattle.std.specs.Prelude.{◌≡◌, ◌<◌, ◌+◌, ℕ, None, slice_index_or};
+    ghost use Rattle.std.specs.Prelude.{◌≡◌, ◌<◌, ◌+◌, ℕ, None, IfOk, slice_index_or};
     ghost use Rattle.geos_potentials.specs.Arranged.{AreListed};
 
     /// They are empty.
-    pub(crate) fn new(alloc: Global) -> Result<Lists, AllocError> {
+    pub(crate) fn new(alloc: Global) -> Result<Lists, AllocError>
+        ensures { IfOk result (λ lists. (component : ℕ) → slice_index_or lists.first component None ≡ None) }
+    {
         let (first, behind) = two_tables(alloc, None, None)?;
         Ok(Lists { first, behind })
     }
