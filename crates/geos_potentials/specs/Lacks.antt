@@ -42,9 +42,9 @@ AreDueFor (Inside (Some inner)) id nests = IsDueAt nests id × (inner < 4096 →
 abbrev pub SomeIsDue : Nests → Type 0
 SomeIsDue nests = OfSomeNest nests (λ id nest. nest.due ≡ true)
 
--- control goes round in a nest that is tight on a way on which its LOOPs take, and its counter is set to as much, at least; or in one on a way
--- on which they take, and which costs more than is paid, even where a unit of the counter pays for as much as one can; or at least 2 ^ 27 edges, places and nests were
--- looked at
+-- control goes round in a nest that is tight on a way on which its LOOPs take, and its counter is set to as much, at least; or in one on a
+-- way on which they take, and which costs more than is paid, even where a unit of the counter pays for as much as one can; or at least
+-- 2 ^ 27 edges, places and nests were looked at
 abbrev pub IsLackIn : List (List (Option Arc)) → Splitting → ℕ → Nest → Units → Lack → Type 0
 IsLackIn arcs splitting id nest units (SetWithin piece) = (piece ≡ nest.piece) × (nest.tight ≡ true) × SetsEnough arcs splitting id nest
 IsLackIn arcs splitting id nest units Looks = 134217728 ≤ units.looked.count

@@ -103,8 +103,8 @@ pub record CostsPast (arcs : List (List (Option Arc))) (splitting : Splitting) (
 
 -- What is known of a way round that is added up
 
--- what an edge has to do with the unit of a nest is so; it pays where it is the way to its target of a LOOP of the nest, and costs more only
--- where the nest is tight
+-- what an edge has to do with the unit of a nest is so; it pays where it is the way to its target of a LOOP of the nest, and costs more
+-- only where the nest is tight
 abbrev pub HasShare : List (List ℕ) → ℕ → Bool → ℕ → ℕ → Arc → Bool → Link → Share → Type 0
 HasShare pay k tight unit pc arc pays link Nothing = (pays ≡ false) × (link.costs ≡ 1 + arc.called + price_of pay arc.to arc.counting)
     × (link.paid ≡ paid_by pay pc arc.counting)
@@ -188,7 +188,8 @@ LacksPast unit round = (round.least ≢ None) × (round.sets < round.takes) × (
 
 -- What is left
 
--- control goes round in a nest on a way on which none of its LOOPs takes, and this is the outermost nest in it of which one does, if there is one
+-- control goes round in a nest on a way on which none of its LOOPs takes, and this is the outermost nest in it of which one does, if there
+-- is one
 pub record GoesRoundInside (arcs : List (List (Option Arc))) (splitting : Splitting) (id : ℕ) (nest : Nest) (inner : Option ℕ) : Type 0 where
   pub from : ℕ
   pub steps : List Step
