@@ -1,7 +1,7 @@
 -- Ways round that are added up, and what they lack.
-use Rattle.std.proofs.Common.{◌≡◌, ◌≤◌, ◌<◌, ℕ, ◌+◌, ◌-◌, ◌*◌, ◌/◌, ◌%◌, Bool, true, false, List, ◌∷◌, Option, None, Some, refl, sym, ap, ◌∙◌, subst, arith, inl, inr}
+use Rattle.std.proofs.Common.{◌≡◌, ◌≤◌, ◌<◌, ℕ, ◌+◌, ◌-◌, ◌*◌, ◌/◌, ◌%◌, Bool, true, false, List, [], ◌∷◌, Option, None, Some, refl, sym, ap, ◌∙◌, subst, arith, inl, inr}
 use Rattle.std.specs.Prelude.{◌≢◌, ◌&&◌, ◌==◌, max, min, if◌then◌else◌, slice_index_or}
-use Rattle.std.proofs.lemmas.Bool.{cases_eq, cases_lt, eq-eqb, ne_eqb}
+use Rattle.std.proofs.lemmas.Bool.{cases_eq, cases_lt, eq-eqb, ne_eqb, false≢true}
 use Rattle.std.proofs.lemmas.Grind.{div_ceil_times}
 use Rattle.std.proofs.lemmas.Nat.{mul-le}
 use Rattle.std.proofs.lemmas.Option.{none-some}
@@ -9,19 +9,22 @@ use Rattle.geos_potentials.specs.declared.arcs.Arc.{Arc}
 use Rattle.geos_potentials.specs.declared.arcs.Counting.{Counting}
 use Rattle.geos_potentials.specs.declared.arcs.Counting.TheVariants.{Sets}
 use Rattle.geos_potentials.specs.declared.jumps.Jump.{Jump}
-use Rattle.geos_potentials.specs.declared.jumps.Jump.TheVariants.{Plain, Pays}
+use Rattle.geos_potentials.specs.declared.jumps.Jump.TheVariants.{Plain, Free, Pays}
 use Rattle.geos_potentials.specs.declared.lengths.Link.{Link}
 use Rattle.geos_potentials.specs.declared.lengths.Share.{Share}
 use Rattle.geos_potentials.specs.declared.lengths.Share.TheVariants.{Nothing, Pays as PaysFor, Costs}
 use Rattle.geos_potentials.specs.declared.nests.Nest.{Nest}
 use Rattle.geos_potentials.specs.declared.nests.Splitting.{Splitting}
+use Rattle.geos_potentials.specs.declared.paying.Rest.TheVariants.{Inside}
 use Rattle.geos_potentials.specs.declared.paying.Round.{Round}
+use Rattle.geos_potentials.specs.declared.pieces.Piece.{Piece}
 use Rattle.geos_potentials.specs.declared.units.Lack.{Lack}
 use Rattle.geos_potentials.specs.declared.units.Lack.TheVariants.{SetWithin, Passes, InTurn, Looks}
 use Rattle.geos_potentials.specs.declared.units.Units.{Units}
 use Rattle.geos_potentials.specs.Arcs.{unit_at, price_of, paid_by}
 use Rattle.geos_potentials.specs.Lacks.{IsLackIn, IsUnpaid}
-use Rattle.geos_potentials.specs.Rounds.{Step, total, set_by, set_of, pays_in, taken_of, SetsEnough, dearest_price, most_paid_of, CostsPast, HasShare, LinksIn, SetsLow, Adds, AddsUp, AddsUpTo, IsRound, LacksPast, lesser_of, IsOther, IsOutermost, GoesRoundInside}
+use Rattle.geos_potentials.specs.Rounds.{Step, total, set_by, set_of, pays_in, taken_of, SetsEnough, dearest_price, most_paid_of, CostsPast, HasShare, LinksIn, SetsLow, Adds, AddsUp, AddsUpTo, IsRound, LacksPast, lesser_of, IsOther, IsOutermost, GoesRoundInside, IsLeftToOther, AreSteps, dearest_of, is_left_out_in}
+use Rattle.geos_potentials.specs.Whole.{IsPlainWay, EachRoundPays}
 
 -- One more edge
 
@@ -280,10 +283,74 @@ pub goes-inside : (arcs : List (List (Option Arc))) (splitting : Splitting) (pay
 goes-inside arcs splitting pay id nest unit round R is = record {
   from = R.from;
   steps = R.up.steps;
+  some = λ e.
+      (let empty = ap (total (dearest_of pay nest.counter)) e in let dear = R.up.adds.dear in let lacks = R.lacks in
+      omega (arith, empty, dear, lacks));
   round = R.up.lead;
   none = sym R.up.adds.takes ∙ R.up.adds.none is;
   outermost = R.up.adds.inner;
 }
+
+-- A way round on which no LOOP takes that pays
+
+module _ (arcs : List (List (Option Arc))) (splitting : Splitting) (id : ℕ) (piece : Piece) where
+  -- on no step of these one does
+  abbrev NoneTakes : List Step → Type 0
+  NoneTakes steps = (other : ℕ) → total (taken_of splitting.jumps other) steps ≡ 0
+
+  -- so a step takes no LOOP's way to its target that is left out or pays
+  plain-step : (step : Step) (before : List Step) → NoneTakes (step ∷ before)
+      → (step.branch ≡ true → is_left_out_in id (slice_index_or splitting.jumps step.pc Plain) ≡ false) → step.branch ≡ true
+      → slice_index_or splitting.jumps step.pc Plain ≡ Plain
+  plain-step step before none kept on = by_jump (slice_index_or splitting.jumps step.pc Plain) refl (kept on)
+    where
+      by_jump : (jump : Jump) → slice_index_or splitting.jumps step.pc Plain ≡ jump → is_left_out_in id jump ≡ false
+          → slice_index_or splitting.jumps step.pc Plain ≡ Plain
+      by_jump Plain is left = is
+      by_jump Free is left = absurd (false≢true (sym left))
+      by_jump (Pays n) is left =
+          let one : taken_of splitting.jumps n step ≡ 1 = rw (on, is, eq-eqb n n refl) refl in
+          let zero = none n in
+          absurd (omega (arith, one, zero))
+
+  none-before : (step : Step) (before : List Step) → NoneTakes (step ∷ before) → NoneTakes before
+  none-before step before none other = (let zero = none other in omega (arith, zero))
+
+  -- steps before a plain way make it longer
+  plain-before : (steps : List Step) (from mid to : ℕ) (branch : Bool) (branches : List Bool)
+      → AreSteps arcs splitting id piece from steps mid → NoneTakes steps → IsPlainWay arcs splitting.jumps mid (branch ∷ branches) to
+      → (first : Bool) × (rest : List Bool) × IsPlainWay arcs splitting.jumps from (first ∷ rest) to
+  plain-before [] from mid to branch branches is none way =
+      (branch, branches, subst (λ (n : ℕ). IsPlainWay arcs splitting.jumps n (branch ∷ branches) to) (sym is) way)
+  plain-before (step ∷ before) from mid to branch branches is none way =
+      plain-before before from step.pc to step.branch (branch ∷ branches) is.3 (none-before step before none) (
+        step.arc,
+        is.1,
+        plain-step step before none is.2.kept,
+        subst (λ (n : ℕ). IsPlainWay arcs splitting.jumps n (branch ∷ branches) to) (sym is.0) way,
+      )
+
+  -- steps of which there is one are a plain way
+  plain-of : (steps : List Step) (from to : ℕ) → steps ≢ [] → AreSteps arcs splitting id piece from steps to → NoneTakes steps
+      → (first : Bool) × (rest : List Bool) × IsPlainWay arcs splitting.jumps from (first ∷ rest) to
+  plain-of [] from to some is none = absurd (some refl)
+  plain-of (step ∷ before) from to some is none =
+      plain-before before from step.pc to step.branch [] is.3 (none-before step before none)
+      (step.arc, is.1, plain-step step before none is.2.kept, is.0)
+
+-- where each way round is paid for, what is left is left to another nest
+pub left-to-other : (arcs : List (List (Option Arc))) (splitting : Splitting) (id : ℕ) (nest : Nest) (inner : Option ℕ)
+    → EachRoundPays arcs splitting.jumps → GoesRoundInside arcs splitting id nest inner → IsLeftToOther (Inside inner)
+left-to-other arcs splitting id nest None each G =
+    let way = plain-of arcs splitting id nest.piece G.steps G.from G.from G.some G.round none in
+    each G.from way.0 way.1 way.2
+  where
+    none : (other : ℕ) → total (taken_of splitting.jumps other) G.steps ≡ 0
+    none other = elim (cases_eq other id) [
+      | inl same ↦ subst (λ (n : ℕ). total (taken_of splitting.jumps n) G.steps ≡ 0) (sym same) G.none
+      | inr ne ↦ G.outermost other ne
+    ]
+left-to-other arcs splitting id nest (Some other) each G = tt
 
 -- what a nest lacks is so of a nest
 pub lack-in : (arcs : List (List (Option Arc))) (splitting : Splitting) (units : Units) (id : ℕ) (nest : Nest) (lack : Lack)

@@ -193,6 +193,7 @@ LacksPast unit round = (round.least ≢ None) × (round.sets < round.takes) × (
 pub record GoesRoundInside (arcs : List (List (Option Arc))) (splitting : Splitting) (id : ℕ) (nest : Nest) (inner : Option ℕ) : Type 0 where
   pub from : ℕ
   pub steps : List Step
+  pub some : steps ≢ []
   pub round : AreSteps arcs splitting id nest.piece from steps from
   pub none : total (taken_of splitting.jumps id) steps ≡ 0
   pub outermost : IsOutermost splitting.jumps id steps inner
@@ -201,3 +202,8 @@ pub record GoesRoundInside (arcs : List (List (Option Arc))) (splitting : Splitt
 abbrev pub IsRest : List (List (Option Arc)) → Splitting → ℕ → Nest → Rest → Type 0
 IsRest arcs splitting id nest NoRest = Unit {0}
 IsRest arcs splitting id nest (Inside inner) = GoesRoundInside arcs splitting id nest inner
+
+-- whatever is left is left to another nest
+abbrev pub IsLeftToOther : Rest → Type 0
+IsLeftToOther (Inside None) = ⊥
+IsLeftToOther _ = Unit {0}

@@ -2,7 +2,8 @@
 
 ghost use Rattle.std.specs.Prelude.{◌≡◌, ◌≢◌, ◌<◌, ◌≤◌, ◌-◌, List, Option, None, Some, true, IfSome, IfOk, IfErr, slice_index_or};
 ghost use Rattle.geos_potentials.specs.Lacks.{IsLackIn, IsUnpaid};
-ghost use Rattle.geos_potentials.specs.Rounds.{HasShare, LinksIn, SetsLow, Adds, IsRound, LacksPast, lesser_of, IsOther, IsRest};
+ghost use Rattle.geos_potentials.specs.Rounds.{HasShare, LinksIn, SetsLow, Adds, IsRound, LacksPast, lesser_of, IsOther, IsRest, IsLeftToOther};
+ghost use Rattle.geos_potentials.specs.Whole.{EachRoundPays};
 ghost use Rattle.geos_potentials.specs.declared.arcs.Arc.{Arc};
 ghost use Rattle.geos_potentials.specs.declared.arcs.Counting.TheVariants.{Sets};
 ghost use Rattle.geos_potentials.specs.declared.nests.Nest.{Nest};
@@ -412,6 +413,7 @@ impl Paying {
         ensures pay { units.new.pay ≡ units.old.pay }
         ensures looked { units.old.looked.count ≤ units.new.looked.count }
         ensures rest { IfOk result (IsRest graph.now.arcs splitting.now self.old.id self.old.nest) }
+        ensures left { EachRoundPays graph.now.arcs splitting.now.jumps → IfOk result IsLeftToOther }
         ensures lack { ((other : Nest) → slice_index_or splitting.now.nests.list self.old.id other ≡ self.old.nest)
             → self.old.id < splitting.now.nests.count → IfErr result (IsUnpaid graph.now.arcs splitting.now units.new) }
     {

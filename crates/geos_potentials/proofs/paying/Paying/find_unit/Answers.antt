@@ -1,4 +1,4 @@
-use Rattle.geos_potentials.proofs.Rounding.{lack-in, goes-inside}
+use Rattle.geos_potentials.proofs.Rounding.{lack-in, goes-inside, left-to-other}
 use Rattle.geos_potentials.proofs.paying.Paying.find_unit.Goals as goal
 
 pub returns-in-Err-clause-lack : goal.returns-in-Err-clause-lack
@@ -12,5 +12,11 @@ pub returns-in_default-least-clause-rest : goal.returns-in_default-least-clause-
 returns-in_default-least-clause-rest c =
     let inv = c.loop-sweep.invariant in
     rw (← inv.nest, ← inv.id)
+    (goes-inside c.args.graph.now.arcs c.args.splitting.now c.find_round.new.units.pay c.loop-sweep.self.id c.loop-sweep.self.nest
+    c.loop-sweep.self.unit c.in-Some.round c.in-Some.ensures.round c.in_default-least.is)
+
+pub returns-in_default-least-clause-left : goal.returns-in_default-least-clause-left
+returns-in_default-least-clause-left c = λ each.
+    left-to-other c.args.graph.now.arcs c.args.splitting.now c.loop-sweep.self.id c.loop-sweep.self.nest c.in-Some.round.inner each
     (goes-inside c.args.graph.now.arcs c.args.splitting.now c.find_round.new.units.pay c.loop-sweep.self.id c.loop-sweep.self.nest
     c.loop-sweep.self.unit c.in-Some.round c.in-Some.ensures.round c.in_default-least.is)
