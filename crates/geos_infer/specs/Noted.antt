@@ -2,17 +2,16 @@
 use Rattle.std.specs.Prelude.{◌≡◌, ◌<◌, ◌+◌, ℕ, zero, suc, Bool, true, false, if◌then◌else◌, None, Some, List, Option, slice_get, slice_index_or}
 use Rattle.geos_image.specs.Parts.{Parts}
 use Rattle.geos_code.specs.Code.{is_loop}
-use Rattle.geos_potentials.specs.Waits.{Waits}
-use Rattle.geos_potentials.specs.Arcs.{arc_at}
-use Rattle.geos_potentials.specs.Demands.{keeps}
-use Rattle.geos_potentials.specs.declared.arcs.Arc.{Arc}
-use Rattle.geos_potentials.specs.declared.jumps.Jump.TheVariants.{Plain, Pays}
+use Rattle.control_graph.specs.Waits.{Waits}
+use Rattle.control_graph.specs.Arcs.{arc_at, keeps}
+use Rattle.control_graph.specs.declared.arcs.Arc.{Arc}
+use Rattle.control_graph.specs.declared.jumps.Jump.TheVariants.{Plain, Pays}
 use Rattle.geos_potentials.specs.declared.nests.Splitting.{Splitting}
 use Rattle.geos_potentials.specs.declared.nests.Nest.{Nest}
-use Rattle.geos_potentials.specs.declared.arcs.Counting.TheVariants.{Sets}
-use Rattle.geos_potentials.specs.declared.pieces.Order.{Order}
-use Rattle.geos_potentials.specs.declared.pieces.Piece.{Piece}
-use Rattle.geos_potentials.specs.Stuck.{HasPlace}
+use Rattle.control_graph.specs.declared.arcs.Counting.TheVariants.{Sets}
+use Rattle.control_graph.specs.declared.pieces.Order.{Order}
+use Rattle.control_graph.specs.declared.pieces.Piece.{Piece}
+use Rattle.control_graph.specs.Orders.{HasPlace}
 use Rattle.geos_infer.specs.declared.trails.Came.{Came}
 use Rattle.geos_infer.specs.declared.trails.Trails.{Trails}
 

@@ -1,8 +1,8 @@
 -- Which causes tell of what stops the search for rows and potentials.
 use Rattle.std.specs.Prelude.{◌≡◌, ◌⊎◌, ℕ, Bool, true, false}
-use Rattle.geos_potentials.specs.Stuck.{HasPlace}
-use Rattle.geos_potentials.specs.declared.pieces.Order.{Order}
-use Rattle.geos_potentials.specs.declared.pieces.Piece.{Piece}
+use Rattle.control_graph.specs.Orders.{HasPlace}
+use Rattle.control_graph.specs.declared.pieces.Order.{Order}
+use Rattle.control_graph.specs.declared.pieces.Piece.{Piece}
 use Rattle.geos_potentials.specs.declared.reason.Reason.{Reason}
 use Rattle.geos_potentials.specs.declared.reason.Reason.TheVariants.{TooMany, NoLoop, InTheWay}
 use Rattle.geos_potentials.specs.declared.search.Halt.{Halt}

@@ -3,8 +3,9 @@
 ghost use Rattle.std.specs.Prelude.{◌≡◌, ◌<◌, ◌≤◌, ℕ, true, false, slice_index, IfOk};
 ghost use Rattle.geos_infer.specs.Ahead.{OnlyAhead, MayPass, NonePasses, IsLongestOver, IsLongestFrom};
 
-use geos_code::{Body, Table, edge_in};
+use geos_code::{Body, edge_in};
 use geos_potentials::taken_at;
+use pc_tables::Table;
 use std::alloc::{AllocError, Global};
 
 /// How many steps are taken behind an edge; 0 where the instruction at the pc has none, or it leaves the routine.

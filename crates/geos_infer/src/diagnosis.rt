@@ -9,11 +9,10 @@ ghost use Rattle.geos_code.specs.Code.{TargetAhead};
 ghost use Rattle.geos_potentials.specs.Constants.{HasLoops};
 ghost use Rattle.geos_potentials.specs.Halts.{IsInTheWay};
 ghost use Rattle.geos_potentials.specs.Reasons.{Halts};
-ghost use Rattle.geos_potentials.specs.Stuck.{HasPlace};
+ghost use Rattle.control_graph.specs.Orders.{HasPlace};
 ghost use Rattle.geos_potentials.specs.declared.reason.Reason.TheVariants.{InTheWay};
 ghost use Rattle.geos_infer.specs.Findings.{IsUnpaid, Stops};
-ghost use Rattle.geos_infer.specs.Tells.{IsOfLoop, IsOfPiece, TellsOf, TellsOfHalt, TellsOfLack, TellsOfPassing, TellsOfReason};
-ghost use Rattle.geos_infer.specs.Tells.{tells_of_looks, tells_of_waiting, tells_of_ways};
+ghost use Rattle.geos_infer.specs.Tells.{IsOfLoop, IsOfPiece, TellsOf, TellsOfHalt, TellsOfLack, TellsOfPassing, TellsOfReason, tells_of_looks, tells_of_waiting, tells_of_ways};
 ghost use Rattle.geos_rows.specs.Reached.{FitWhereReached};
 ghost use Rattle.geos_infer.specs.Noted.{NoTrails};
 ghost use Rattle.geos_infer.specs.Taken.{StepsPass};
@@ -28,13 +27,13 @@ use crate::setting::find_dear;
 use crate::trails::Trails;
 use crate::turns::steps_pass;
 use crate::within::{find_set_again, find_set_within};
+use control_graph::Piece;
 use geos_causes::{BackWay, Cause, Within};
-use geos_code::{Body, Known, Table, body_of, edge_in};
+use geos_code::{Body, Known, body_of, edge_in};
 use geos_image::Image;
-use geos_potentials::{
-    Halt, Halted, Lack, Piece, Reason, Search, Touching, find_touching, some_always_may_pay,
-};
+use geos_potentials::{Halt, Halted, Lack, Reason, Search, Touching, find_touching, some_always_may_pay};
 use geos_rows::Strongest;
+use pc_tables::Table;
 use std::alloc::{AllocError, Global};
 
 /// The edge of the instruction to its target, if that leads back.

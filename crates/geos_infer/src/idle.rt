@@ -8,9 +8,10 @@ ghost use Rattle.geos_infer.specs.Tells.{IsOfLoop, tells_of_ways};
 
 use crate::trails::Trails;
 use crate::within::{comes_round, find_touched_before, find_touched_within, loop_at};
+use control_graph::{Graph, Piece};
 use geos_causes::{Cause, LoopOn};
 use geos_code::{Body, Known};
-use geos_potentials::{Graph, Piece, Search, Touching};
+use geos_potentials::{Search, Touching};
 use std::alloc::{AllocError, Global};
 
 /// The LOOP at a pc, if control goes round by it, and on a way to it nothing sets its counter.

@@ -5,14 +5,15 @@ ghost use Rattle.std.specs.Prelude.{◌≡◌, ◌<◌, true, Some, IfSome, slic
 ghost use Rattle.geos_potentials.specs.Touching.{KnowsTouched};
 ghost use Rattle.geos_infer.specs.Causes.{WaitInTurn, SetsFor, SetsWithin};
 ghost use Rattle.geos_infer.specs.Noted.{PaysInSuch, WasPaidAgain, IsTightAt};
-ghost use Rattle.geos_potentials.specs.declared.jumps.Jump.TheVariants.{Plain, Pays};
+ghost use Rattle.control_graph.specs.declared.jumps.Jump.TheVariants.{Plain, Pays};
 
 use crate::trails::Trails;
 use crate::within::{comes_round, find_set_within, kept_from, loop_at, note_set, sets_at};
+use control_graph::{Graph, Jump, Piece};
 use geos_causes::{BackWay, LoopPair, Within};
 use geos_code::Body;
 use geos_image::MOST_INSTRS;
-use geos_potentials::{Graph, Jump, Piece, Splitting, Touching};
+use geos_potentials::{Splitting, Touching};
 
 /// How many pairs of LOOPs are looked at.
 const PAIRS: u16 = 256;

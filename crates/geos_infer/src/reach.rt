@@ -4,7 +4,7 @@ ghost use Rattle.std.specs.Prelude.{◌≡◌, ◌<◌, ◌⊎◌, ◌*◌, min,
 ghost use Rattle.geos_infer.specs.Turns.{number_in, worth};
 
 use crate::counters::{Counter, number_in};
-use geos_code::Table;
+use pc_tables::Table;
 
 /// What is known of a way to a place.
 #[derive(Clone, Copy)]

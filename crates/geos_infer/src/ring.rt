@@ -8,10 +8,11 @@ ghost use Rattle.geos_causes.specs.declared.back_way.BackWay.{BackWay};
 use crate::in_turn::{nest_of, set_for};
 use crate::trails::Trails;
 use crate::within::{loop_at, note_set};
+use control_graph::Graph;
 use geos_causes::{BackWay, LoopRing};
 use geos_code::Body;
 use geos_image::MOST_INSTRS;
-use geos_potentials::{Graph, Nest, Splitting, Touching};
+use geos_potentials::{Nest, Splitting, Touching};
 
 /// How many loops are followed: so many that one comes round, on a small ring, to the loop with which one began.
 const LOOPS: u16 = 60;

@@ -12,10 +12,11 @@ ghost use Rattle.geos_infer.specs.Tells.{tells_of_setting};
 use crate::trails::Trails;
 use crate::turns::steps_pass;
 use crate::within::{comes_round, is_kept, loop_at};
+use control_graph::{Graph, Jump};
 use geos_causes::{BackWay, ByNumber, ByWord, Cause};
 use geos_code::{Body, Known, bound_of, is_loop, row_of};
 use geos_image::Opcode;
-use geos_potentials::{Graph, Jump, Search, Splitting, Touching, find_dearest};
+use geos_potentials::{Search, Splitting, Touching, find_dearest};
 use geos_rows::Strongest;
 use std::alloc::{AllocError, Global};
 

@@ -6,10 +6,12 @@ ghost use Rattle.geos_potentials.specs.Touching.{KnowsTouched, NotesAllTouched};
 ghost use Rattle.geos_infer.specs.Causes.{IsTrailBut};
 ghost use Rattle.geos_potentials.specs.Trails.{LeadsKeeping, keeps};
 
-use geos_code::{Body, Table, edge_in, two_tables};
+use control_graph::{Graph, Pile};
+use geos_code::{Body, edge_in};
 use geos_image::{Instr, MOST_INSTRS, Opcode};
-use geos_potentials::{Graph, Pile, Touching, touches};
+use geos_potentials::{Touching, touches};
 use geos_verify::Touched;
+use pc_tables::{Table, two_tables};
 use std::alloc::{AllocError, Global};
 
 /// An edge by which control comes to a place.
@@ -92,10 +94,10 @@ fn is_at(given: Option<u16>, pc: u16) -> bool
 
 impl Trails {
     ghost use Rattle.std.specs.Prelude.{◌≡◌, ◌≢◌, ◌<◌, ◌≤◌, ℕ, true, false, None, Some, List, Bool, IfOk, IfSome};
-    ghost use Rattle.geos_potentials.specs.Arcs.{arc_at};
+    ghost use Rattle.control_graph.specs.Arcs.{arc_at};
     ghost use Rattle.geos_potentials.specs.Touching.{KnowsTouched};
-    ghost use Rattle.geos_potentials.specs.Waits.{Waits};
-    ghost use Rattle.geos_potentials.specs.declared.arcs.Arc.{Arc};
+    ghost use Rattle.control_graph.specs.Waits.{Waits};
+    ghost use Rattle.control_graph.specs.declared.arcs.Arc.{Arc};
     ghost use Rattle.geos_infer.specs.Causes.{IsTrailBut};
     ghost use Rattle.geos_infer.specs.Noted.{comes_to, came_at, NoTrails, StayTrails, KeepsIt};
 

@@ -9,9 +9,10 @@ use crate::counters::{
     Counter, counter_at, counters_after, number_in, unless_all_changed, untouched, with_counter,
 };
 use crate::reach::{Reach, Reached, note};
-use geos_code::{Body, Known, Lead, edge_in, is_loop, two_tables};
+use geos_code::{Body, Known, Lead, edge_in, is_loop};
 use geos_potentials::{taken_at, touched_by};
 use geos_verify::Touched;
+use pc_tables::two_tables;
 use std::alloc::{AllocError, Global};
 
 /// A routine, and what is known of its loops.

@@ -9,10 +9,10 @@ use Rattle.geos_image.specs.declared.instr.Instr.{Instr}
 use Rattle.geos_image.specs.declared.row.Row.{Row}
 use Rattle.geos_image.specs.Parts.{Parts, start_of}
 use Rattle.geos_code.specs.Code.{IsPcOf}
-use Rattle.geos_potentials.specs.declared.arcs.Arc.{Arc}
-use Rattle.geos_potentials.specs.Arcs.{arc_at, counting_of, AreArcs, NoArcsOutside}
-use Rattle.geos_potentials.specs.Demands.{taken_from}
-use Rattle.geos_potentials.specs.Parts.{LeadBetween}
+use Rattle.control_graph.specs.declared.arcs.Arc.{Arc}
+use Rattle.control_graph.specs.Arcs.{arc_at, taken_from}
+use Rattle.geos_potentials.specs.Arcs.{counting_of, AreArcs, NoArcsOutside}
+use Rattle.control_graph.specs.Ways.{LeadBetween}
 use Rattle.geos_potentials.proofs.Demand.{is-arc}
 
 -- only a LOOP's edge to its target takes, from a counter that there is

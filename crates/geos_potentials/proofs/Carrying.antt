@@ -2,17 +2,20 @@
 use Rattle.std.proofs.Common.{◌≡◌, ◌≢◌, ◌≤◌, ◌<◌, ◌⊎◌, ℕ, zero, suc, ◌+◌, Bool, true, false, List, [], Option, Some, None, refl, sym, ap, ◌∙◌, subst, arith, inl, inr}
 use Rattle.std.specs.Prelude.{if◌then◌else◌, slice_index, slice_index_or}
 use Rattle.std.proofs.lemmas.Bool.{cases_eq}
-use Rattle.geos_potentials.specs.declared.arcs.Arc.{Arc}
-use Rattle.geos_potentials.specs.declared.arcs.Counting.{Counting}
-use Rattle.geos_potentials.specs.declared.graph.Graph.{Graph}
-use Rattle.geos_potentials.specs.declared.leads.Lead.{Lead}
-use Rattle.geos_potentials.specs.declared.pile.Pile.{Pile}
-use Rattle.geos_potentials.specs.Arcs.{arc_at, unit_at}
+use Rattle.control_graph.specs.declared.arcs.Arc.{Arc}
+use Rattle.control_graph.specs.declared.arcs.Counting.{Counting}
+use Rattle.control_graph.specs.declared.graph.Graph.{Graph}
+use Rattle.control_graph.specs.declared.leads.Lead.{Lead}
+use Rattle.control_graph.specs.declared.pile.Pile.{Pile}
+use Rattle.control_graph.specs.Arcs.{arc_at, keeps}
+use Rattle.geos_potentials.specs.Arcs.{unit_at}
 use Rattle.geos_potentials.specs.Carried.{AreCarriedBut, AreBroughtBack, AreSpreadBut, AreSpread, AreBroughtOn}
-use Rattle.geos_potentials.specs.Demands.{keeps, kept_over, AreRaised}
-use Rattle.geos_potentials.specs.Led.{behind_at, IsAmong, AreLed}
-use Rattle.geos_potentials.specs.Waits.{Waits, HaveRisen}
+use Rattle.geos_potentials.specs.Demands.{kept_over, AreRaised}
+use Rattle.control_graph.specs.Led.{behind_at, IsAmong, AreLed}
+use Rattle.control_graph.specs.Waits.{Waits}
+use Rattle.geos_potentials.specs.Waits.{HaveRisen}
 use Rattle.geos_potentials.proofs.Demand.{grows}
+use Rattle.control_graph.proofs.Edges.{IsLeft}
 
 -- Over an edge
 
@@ -118,10 +121,6 @@ module _ (old next : List (List ℕ)) (before after : Pile) (risen : HaveRisen o
       more (inr (inr waits)) = inr (inr (risen.still arc.to waits))
 
 -- Over all edges into a place
-
--- the edge of a pc is among those that are left of a list, so many of which were taken
-abbrev pub IsLeft : List (List (Option Lead)) → ℕ → Option Lead → ℕ → Bool → Type 0
-IsLeft behind taken lead pc branch = (n : ℕ) × (n + taken ≤ 8192) × IsAmong behind n lead pc branch
 
 -- numbers are carried, but for edges into places that wait, and those that are left of the list into a place
 abbrev pub ArePending : List (List (Option Arc)) → List (List (Option Lead)) → (ℕ → ℕ → Type 0) → List (List ℕ) → Pile → ℕ → ℕ → Option Lead → Type 0

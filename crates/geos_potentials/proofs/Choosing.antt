@@ -6,17 +6,17 @@ use Rattle.std.proofs.lemmas.List.{get_or-set_same, get_or-set_other}
 use Rattle.std.proofs.lemmas.Option.{none-some, same_Some}
 use Rattle.geos_potentials.specs.Arcs.{unit_at}
 use Rattle.geos_potentials.specs.Making.{may_pay_in, NoneMayPayIn, HasPrice, ArePriced, ArePrices, IsSomeChosen}
-use Rattle.geos_potentials.specs.Pieces.{TakesWithin}
-use Rattle.geos_potentials.specs.Stuck.{StandsAt, IsIn}
-use Rattle.geos_potentials.specs.declared.arcs.Arc.{Arc}
+use Rattle.control_graph.specs.Ways.{TakesWithin}
+use Rattle.control_graph.specs.Orders.{StandsAt, IsIn}
+use Rattle.control_graph.specs.declared.arcs.Arc.{Arc}
 use Rattle.geos_potentials.specs.declared.choice.Choice.{Choice}
 use Rattle.geos_potentials.specs.declared.choice.Tier.{Tier}
 use Rattle.geos_potentials.specs.declared.choice.Tier.TheVariants.{Tight}
 use Rattle.geos_potentials.specs.declared.classes.Classes.{Classes}
-use Rattle.geos_potentials.specs.declared.jumps.Jump.{Jump}
-use Rattle.geos_potentials.specs.declared.pieces.Order.{Order}
-use Rattle.geos_potentials.specs.declared.pieces.Piece.{Piece}
-use Rattle.geos_potentials.specs.declared.place.Place.{Place}
+use Rattle.control_graph.specs.declared.jumps.Jump.{Jump}
+use Rattle.control_graph.specs.declared.pieces.Order.{Order}
+use Rattle.control_graph.specs.declared.pieces.Piece.{Piece}
+use Rattle.control_graph.specs.declared.place.Place.{Place}
 
 -- one place stands somewhere
 pub stands-one : (order : Order) (x pc other : ℕ) → StandsAt order x pc → StandsAt order x other → pc ≡ other

@@ -2,10 +2,11 @@
 use Rattle.std.proofs.Common.{◌≡◌, ◌≤◌, ℕ, Bool, List, [], ◌∷◌, Option, Some, refl, sym, arith, inl, inr}
 use Rattle.std.specs.Prelude.{slice_index_or}
 use Rattle.std.proofs.lemmas.Bool.{cases_eq}
-use Rattle.geos_potentials.specs.declared.arcs.Arc.{Arc}
+use Rattle.control_graph.specs.declared.arcs.Arc.{Arc}
 use Rattle.geos_potentials.specs.declared.nests.Splitting.{Splitting}
-use Rattle.geos_potentials.specs.declared.pieces.Piece.{Piece}
-use Rattle.geos_potentials.specs.Arcs.{arc_at, unit_at}
+use Rattle.control_graph.specs.declared.pieces.Piece.{Piece}
+use Rattle.control_graph.specs.Arcs.{arc_at}
+use Rattle.geos_potentials.specs.Arcs.{unit_at}
 use Rattle.geos_potentials.specs.Demands.{AreRaised}
 use Rattle.geos_potentials.specs.Rounds.{Step, StaysInNest, AreSteps, AreCameTo}
 use Rattle.geos_potentials.proofs.Spreading.{raised-all}

@@ -1,26 +1,15 @@
--- Edges and ways that are noted.
-use Rattle.std.proofs.Common.{◌≡◌, ◌≤◌, ◌<◌, ◌⊎◌, ℕ, Bool, ◌+◌, List, [], length, Option, Some, None, slice_get, get_or, set, sym, ap, ◌∙◌, subst, arith, inl, inr}
-use Rattle.std.specs.Prelude.{if◌then◌else◌}
+-- Ways that are noted.
+use Rattle.std.proofs.Common.{◌≡◌, ◌≤◌, ◌<◌, ◌⊎◌, ℕ, ◌+◌, List, length, Option, Some, None, slice_get, get_or, set, sym, ap, ◌∙◌, subst, arith, inl, inr}
 use Rattle.std.proofs.lemmas.Bool.{cases_eq, cases_lt}
 use Rattle.std.proofs.lemmas.List.{get_or_past, get_or-set_same, get_or-set_other, set_past}
 use Rattle.geos_image.specs.declared.point.Point.{Point}
 use Rattle.geos_image.specs.Parts.{Parts}
 use Rattle.geos_code.specs.Code.{IsPcOf}
-use Rattle.geos_potentials.specs.Arcs.{arc_at}
 use Rattle.geos_potentials.specs.Count.{return_steps}
 use Rattle.geos_potentials.specs.Least.{no_way, steps_at, PayAll, AtMost, StayAtMost, Covers, AreLonger}
-use Rattle.geos_potentials.specs.declared.arcs.Arc.{Arc}
 use Rattle.geos_potentials.specs.declared.lengths.Link.{Link}
 use Rattle.geos_potentials.specs.declared.lengths.Lengths.{Lengths}
 use Rattle.geos_potentials.specs.declared.lengths.Way.{Way}
-
-pub arc-other : (arcs : List (List (Option Arc))) (p pc : ℕ) (both : List (Option Arc)) (branch : Bool) → (pc ≡ p → ⊥)
-    → arc_at (set arcs p both) pc branch ≡ arc_at arcs pc branch
-arc-other arcs p pc both branch ne = ap (λ (x : List (Option Arc)). get_or x (if branch then 1 else 0) None) (get_or-set_other arcs p pc both [] ne)
-
-pub arc-same : (arcs : List (List (Option Arc))) (p : ℕ) (both : List (Option Arc)) (branch : Bool) → p < length arcs
-    → arc_at (set arcs p both) p branch ≡ get_or both (if branch then 1 else 0) None
-arc-same arcs p both branch within = ap (λ (x : List (Option Arc)). get_or x (if branch then 1 else 0) None) (get_or-set_same arcs p both [] within)
 
 -- a way that is new takes no more steps than these, nor do others
 pub ends-more : (ways : List Way) (p : ℕ) (way : Way) (want : ℕ → ℕ) (pc : ℕ) → way.steps ≤ want p

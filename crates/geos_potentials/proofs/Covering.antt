@@ -19,21 +19,21 @@ use Rattle.geos_verify.specs.Potentials.{asked_along, asked_branching, is_paid}
 use Rattle.geos_code.proofs.Ends.{leads-one}
 use Rattle.geos_code.specs.Code.{IsPcOf, edge_end}
 use Rattle.geos_code.specs.Edges.{LeadsTo}
-use Rattle.geos_potentials.specs.declared.arcs.Arc.{Arc}
-use Rattle.geos_potentials.specs.declared.arcs.Counting.{Counting}
-use Rattle.geos_potentials.specs.declared.arcs.Counting.TheVariants.{Sets, Takes, Forgets}
+use Rattle.control_graph.specs.declared.arcs.Arc.{Arc}
+use Rattle.control_graph.specs.declared.arcs.Counting.{Counting}
+use Rattle.control_graph.specs.declared.arcs.Counting.TheVariants.{Sets, Takes, Forgets}
 use Rattle.geos_potentials.specs.declared.classes.Classes.{Classes}
-use Rattle.geos_potentials.specs.declared.graph.Graph.{Graph}
-use Rattle.geos_potentials.specs.declared.jumps.Jump.{Jump}
-use Rattle.geos_potentials.specs.declared.jumps.Jump.TheVariants.{Plain}
+use Rattle.control_graph.specs.declared.graph.Graph.{Graph}
+use Rattle.control_graph.specs.declared.jumps.Jump.{Jump}
+use Rattle.control_graph.specs.declared.jumps.Jump.TheVariants.{Plain}
 use Rattle.geos_potentials.specs.declared.lengths.Link.{Link}
 use Rattle.geos_potentials.specs.declared.lengths.Way.{Way}
-use Rattle.geos_potentials.specs.Arcs.{arc_at, unit_at, price_of, paid_by, touched_by, counting_of, IsLink, IsArc, IsArcIf, AreArcs, NoArcsOutside}
+use Rattle.control_graph.specs.Arcs.{arc_at, keeps, taken_from}
+use Rattle.geos_potentials.specs.Arcs.{unit_at, price_of, paid_by, touched_by, counting_of, IsLink, IsArc, IsArcIf, AreArcs, NoArcsOutside}
 use Rattle.geos_potentials.specs.Carried.{AreSpread}
 use Rattle.geos_potentials.specs.Constants.{asked_over, PaysSteps, ConstantsPay, row_known, coefficients_at, potential_in, ArePaidIn}
-use Rattle.geos_potentials.specs.Demands.{keeps, taken_from}
 use Rattle.geos_potentials.specs.Least.{is_free, steps_at, link_at, Covers, IsLookedAt, ArePut}
-use Rattle.geos_potentials.specs.Led.{AreLed}
+use Rattle.control_graph.specs.Led.{AreLed}
 use Rattle.geos_potentials.specs.Numbers.{Numbers}
 use Rattle.geos_potentials.specs.Paid.{HavePaid, HaveFour}
 use Rattle.geos_potentials.specs.Spent.{spent_at, AreFree, AreNotedSet, LoopsSpent}

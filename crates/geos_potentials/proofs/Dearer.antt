@@ -3,7 +3,7 @@ use Rattle.std.proofs.Common.{◌≡◌, ◌≤◌, ◌<◌, ◌+◌, ℕ, List,
 use Rattle.std.proofs.lemmas.Bool.{cases_lt}
 use Rattle.std.proofs.lemmas.Option.{none-some, same_Some}
 use Rattle.geos_potentials.specs.Dearest.{SetsAt, NoneDearer, IsDearest}
-use Rattle.geos_potentials.specs.declared.arcs.Arc.{Arc}
+use Rattle.control_graph.specs.declared.arcs.Arc.{Arc}
 
 module _ (arcs : List (List (Option Arc))) (pay : List (List ℕ)) (start : ℕ) where
   -- this place is the dearest one before an end

@@ -4,22 +4,23 @@ use Rattle.std.specs.Prelude.{max, if◌then◌else◌, slice_index, slice_index
 use Rattle.std.proofs.lemmas.Bool.{cases_eq, cases_lt}
 use Rattle.std.proofs.lemmas.List.{get_or-set_same, get_or-set_other, get_or_past, set_past}
 use Rattle.std.proofs.lemmas.Option.{same_Some, none-some}
-use Rattle.geos_potentials.specs.declared.arcs.Arc.{Arc}
-use Rattle.geos_potentials.specs.declared.arcs.Counting.{Counting}
-use Rattle.geos_potentials.specs.declared.arcs.Counting.TheVariants.{Takes}
+use Rattle.control_graph.specs.declared.arcs.Arc.{Arc}
+use Rattle.control_graph.specs.declared.arcs.Counting.{Counting}
+use Rattle.control_graph.specs.declared.arcs.Counting.TheVariants.{Takes}
 use Rattle.geos_opcodes.specs.declared.opcode.Opcode.{Opcode}
 use Rattle.geos_opcodes.specs.declared.opcode.Opcode.TheVariants.{Setk, Setkw, Loop}
 use Rattle.geos_image.specs.declared.instr.Instr.{Instr}
 use Rattle.geos_image.specs.declared.row.Row.{Row}
 use Rattle.geos_image.specs.Parts.{Parts}
 use Rattle.geos_verify.specs.Lists.{zip2}
-use Rattle.geos_potentials.specs.Arcs.{arc_at, unit_at, counting_of, IsArc, IsArcIf, AreArcs}
+use Rattle.control_graph.specs.Arcs.{arc_at, keeps, taken_from}
+use Rattle.geos_potentials.specs.Arcs.{unit_at, counting_of, IsArc, IsArcIf, AreArcs}
 use Rattle.geos_code.specs.Code.{IsPcOf}
 use Rattle.geos_potentials.specs.Constants.{asks_coefficient, IsAskingWay, AreForLoops, coefficients_at}
 use Rattle.geos_code.specs.Known.{row_of, known_at}
 use Rattle.geos_potentials.specs.Numbers.{zeros}
 use Rattle.geos_potentials.proofs.Asks.{zero-at}
-use Rattle.geos_potentials.specs.Demands.{keeps, kept_over, AreRaised, IsKeptOver, IsWanted, AreWanted, StayWanted, taken_from}
+use Rattle.geos_potentials.specs.Demands.{kept_over, AreRaised, IsKeptOver, IsWanted, AreWanted, StayWanted}
 
 -- units only grow
 pub grows : (old next : List (List ℕ)) (p : ℕ) (numbers : List ℕ) → AreRaised old next p numbers → (at k : ℕ) → unit_at old at k ≤ unit_at next at k

@@ -2,19 +2,20 @@
 use Rattle.std.proofs.Common.{◌≡◌, ◌≤◌, ◌⊎◌, ℕ, ◌+◌, true, List, Option, sym, subst, arith, inl, inr}
 use Rattle.std.specs.Prelude.{slice_index_or}
 use Rattle.std.proofs.lemmas.Bool.{cases_eq}
-use Rattle.geos_potentials.specs.declared.arcs.Arc.{Arc}
-use Rattle.geos_potentials.specs.declared.graph.Graph.{Graph}
-use Rattle.geos_potentials.specs.declared.jumps.Jump.{Jump}
-use Rattle.geos_potentials.specs.declared.jumps.Jump.TheVariants.{Plain}
+use Rattle.control_graph.specs.declared.arcs.Arc.{Arc}
+use Rattle.control_graph.specs.declared.graph.Graph.{Graph}
+use Rattle.control_graph.specs.declared.jumps.Jump.{Jump}
+use Rattle.control_graph.specs.declared.jumps.Jump.TheVariants.{Plain}
 use Rattle.geos_potentials.specs.declared.lengths.Way.{Way}
-use Rattle.geos_potentials.specs.declared.pile.Pile.{Pile}
+use Rattle.control_graph.specs.declared.pile.Pile.{Pile}
 use Rattle.geos_potentials.specs.Arcs.{unit_at}
 use Rattle.geos_potentials.specs.Carried.{AreCarried, AreCarriedBut, AreHeld, Carries, NoneHeld}
 use Rattle.geos_potentials.specs.Demands.{HaveGrown}
-use Rattle.geos_potentials.specs.Led.{AreLed}
+use Rattle.control_graph.specs.Led.{AreLed}
 use Rattle.geos_potentials.specs.Least.{is_free, steps_at}
 use Rattle.geos_potentials.specs.Paid.{LoopPays, FreePay}
-use Rattle.geos_potentials.specs.Waits.{Waits, HaveRisen}
+use Rattle.control_graph.specs.Waits.{Waits}
+use Rattle.geos_potentials.specs.Waits.{HaveRisen}
 use Rattle.geos_potentials.proofs.Carrying.{risen-carried}
 
 pub loop-pays-more : (ways : List Way) (pc to called unit more : ℕ) → unit ≤ more

@@ -10,14 +10,15 @@ use Rattle.geos_image.specs.declared.row.Row.{Row}
 use Rattle.geos_image.specs.Parts.{Parts}
 use Rattle.geos_opcodes.specs.declared.opcode.Opcode.{Opcode}
 use Rattle.geos_opcodes.specs.declared.opcode.Opcode.TheVariants.{Setk, Setkw, Loop, Call}
-use Rattle.geos_potentials.specs.declared.arcs.Arc.{Arc}
-use Rattle.geos_potentials.specs.declared.arcs.Counting.{Counting}
-use Rattle.geos_potentials.specs.declared.arcs.Counting.TheVariants.{Sets, Takes}
-use Rattle.geos_potentials.specs.declared.jumps.Jump.{Jump}
-use Rattle.geos_potentials.specs.declared.jumps.Jump.TheVariants.{Plain}
+use Rattle.control_graph.specs.declared.arcs.Arc.{Arc}
+use Rattle.control_graph.specs.declared.arcs.Counting.{Counting}
+use Rattle.control_graph.specs.declared.arcs.Counting.TheVariants.{Sets, Takes}
+use Rattle.control_graph.specs.declared.jumps.Jump.{Jump}
+use Rattle.control_graph.specs.declared.jumps.Jump.TheVariants.{Plain}
 use Rattle.geos_potentials.specs.declared.lengths.Link.{Link}
-use Rattle.geos_potentials.specs.Arcs.{arc_at, unit_at, price_of, paid_by, counting_of, AreArcs}
-use Rattle.geos_potentials.specs.Demands.{taken_from, left_at, left_in, AreRaised, HaveGrown}
+use Rattle.control_graph.specs.Arcs.{arc_at, taken_from}
+use Rattle.geos_potentials.specs.Arcs.{unit_at, price_of, paid_by, counting_of, AreArcs}
+use Rattle.geos_potentials.specs.Demands.{left_at, left_in, AreRaised, HaveGrown}
 use Rattle.geos_code.specs.Known.{row_of, known_at}
 use Rattle.geos_potentials.specs.Lacks.{PricePasses}
 use Rattle.geos_potentials.specs.Least.{is_free, IsLookedAt, AreLookedAt, AskNoMore, StayAtLoops}

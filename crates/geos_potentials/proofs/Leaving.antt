@@ -4,21 +4,22 @@ use Rattle.std.specs.Prelude.{slice_index_or}
 use Rattle.std.proofs.lemmas.Bool.{false≢true}
 use Rattle.std.proofs.lemmas.Option.{same_Some}
 use Rattle.geos_image.specs.Parts.{Parts, start_of}
-use Rattle.geos_potentials.specs.declared.arcs.Arc.{Arc}
+use Rattle.control_graph.specs.declared.arcs.Arc.{Arc}
 use Rattle.geos_potentials.specs.declared.classes.Classes.{Classes}
-use Rattle.geos_potentials.specs.declared.jumps.Jump.{Jump}
-use Rattle.geos_potentials.specs.declared.jumps.Jump.TheVariants.{Plain, Free, Pays}
-use Rattle.geos_potentials.specs.declared.pieces.Order.{Order}
-use Rattle.geos_potentials.specs.declared.pieces.Piece.{Piece}
-use Rattle.geos_potentials.specs.Arcs.{arc_at}
-use Rattle.geos_potentials.specs.Demands.{taken_from}
+use Rattle.control_graph.specs.declared.jumps.Jump.{Jump}
+use Rattle.control_graph.specs.declared.jumps.Jump.TheVariants.{Plain, Free, Pays}
+use Rattle.control_graph.specs.declared.pieces.Order.{Order}
+use Rattle.control_graph.specs.declared.pieces.Piece.{Piece}
+use Rattle.control_graph.specs.Arcs.{arc_at, taken_from}
 use Rattle.geos_potentials.specs.Least.{is_free}
 use Rattle.geos_potentials.specs.Making.{AreInside, NonePay}
-use Rattle.geos_potentials.specs.Parts.{AreOrdered, IsWayWithin, IsComponent}
-use Rattle.geos_potentials.specs.Pieces.{LeadsWithin, NoneMayPay}
+use Rattle.control_graph.specs.Orders.{AreOrdered, IsIn}
+use Rattle.control_graph.specs.Ways.{IsWayWithin, LeadsWithin}
+use Rattle.control_graph.specs.Parts.{IsComponent}
+use Rattle.geos_potentials.specs.Pieces.{NoneMayPay}
 use Rattle.geos_potentials.specs.Ranks.{noted_idle}
 use Rattle.geos_potentials.specs.Spent.{MayPayAt, AreLeftOut}
-use Rattle.geos_potentials.specs.Stuck.{IsIn, LeadsNotedIdle, IsNotedIdleWay, GoesRoundIdle}
+use Rattle.geos_potentials.specs.Stuck.{LeadsNotedIdle, IsNotedIdleWay, GoesRoundIdle}
 use Rattle.geos_potentials.specs.Whole.{IsPlainWay, EachRoundPays}
 use Rattle.geos_potentials.proofs.Choosing.{not-false}
 use Rattle.geos_potentials.proofs.Making.{in-has, has-in}

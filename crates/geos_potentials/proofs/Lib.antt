@@ -15,8 +15,6 @@ pub mod Numbered
 pub mod Staying
 pub mod Growing
 pub mod Rounding
-pub mod Piled
-pub mod Led
 pub mod Carrying
 pub mod Within
 pub mod Untouched
@@ -27,10 +25,6 @@ pub mod Freeing
 pub mod Sweeping
 pub mod Dearer
 pub mod Placing
-pub mod Deep
-pub mod Deepening
-pub mod Gathering
-pub mod Arranging
 pub mod Parting
 pub mod Wholes
 pub mod Bounding

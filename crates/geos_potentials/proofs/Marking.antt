@@ -3,17 +3,17 @@ use Rattle.std.proofs.Common.{◌≡◌, ◌≤◌, ◌<◌, ◌+◌, ℕ, zero,
 use Rattle.std.specs.Prelude.{slice_index_or, slice_set}
 use Rattle.std.proofs.lemmas.Bool.{cases_eq, false≢true}
 use Rattle.std.proofs.lemmas.List.{get_or-set_same, get_or-set_other}
-use Rattle.geos_potentials.specs.declared.arcs.Arc.{Arc}
+use Rattle.control_graph.specs.declared.arcs.Arc.{Arc}
 use Rattle.geos_potentials.specs.declared.choice.Choice.{Choice}
 use Rattle.geos_potentials.specs.declared.classes.Classes.{Classes}
-use Rattle.geos_potentials.specs.declared.jumps.Jump.{Jump}
-use Rattle.geos_potentials.specs.declared.jumps.Jump.TheVariants.{Plain, Free, Pays}
+use Rattle.control_graph.specs.declared.jumps.Jump.{Jump}
+use Rattle.control_graph.specs.declared.jumps.Jump.TheVariants.{Plain, Free, Pays}
 use Rattle.geos_potentials.specs.declared.nests.Nests.{Nests}
-use Rattle.geos_potentials.specs.declared.pieces.Order.{Order}
-use Rattle.geos_potentials.specs.declared.pieces.Piece.{Piece}
+use Rattle.control_graph.specs.declared.pieces.Order.{Order}
+use Rattle.control_graph.specs.declared.pieces.Piece.{Piece}
 use Rattle.geos_potentials.specs.Making.{may_pay_in, plain_in, AreMarked, IsSomeChosen, StayListed}
-use Rattle.geos_potentials.specs.Pieces.{TakesWithin}
-use Rattle.geos_potentials.specs.Stuck.{IsIn}
+use Rattle.control_graph.specs.Ways.{TakesWithin}
+use Rattle.control_graph.specs.Orders.{IsIn}
 use Rattle.geos_potentials.specs.Tight.{MayPayWhereMarked}
 use Rattle.geos_potentials.specs.Untouched.{is_found}
 use Rattle.geos_potentials.proofs.Making.{IsPlainAt}

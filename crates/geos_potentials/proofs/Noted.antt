@@ -15,14 +15,14 @@ use Rattle.geos_code.specs.Code.{is_loop, IsPcOf}
 use Rattle.geos_code.specs.Edges.{LeadsTo}
 use Rattle.geos_code.specs.Known.{row_of, known_at}
 use Rattle.geos_code.proofs.Ends.{leads-one}
-use Rattle.geos_potentials.specs.declared.arcs.Arc.{Arc}
-use Rattle.geos_potentials.specs.declared.arcs.Counting.{Counting}
+use Rattle.control_graph.specs.declared.arcs.Arc.{Arc}
+use Rattle.control_graph.specs.declared.arcs.Counting.{Counting}
 use Rattle.geos_potentials.specs.declared.classes.Classes.{Classes}
-use Rattle.geos_potentials.specs.declared.pieces.Order.{Order}
-use Rattle.geos_potentials.specs.declared.pieces.Piece.{Piece}
-use Rattle.geos_potentials.specs.Arcs.{arc_at, unit_at, counting_of, touched_by, IsArcIf, IsArc, AreArcs}
+use Rattle.control_graph.specs.declared.pieces.Order.{Order}
+use Rattle.control_graph.specs.declared.pieces.Piece.{Piece}
+use Rattle.control_graph.specs.Arcs.{arc_at, keeps, forgets, taken_from}
+use Rattle.geos_potentials.specs.Arcs.{unit_at, counting_of, touched_by, IsArcIf, IsArc, AreArcs}
 use Rattle.geos_potentials.specs.Carried.{AreSpread}
-use Rattle.geos_potentials.specs.Demands.{keeps, forgets, taken_from}
 use Rattle.geos_potentials.specs.Idle.{MayNotPay, LeadsIdle, IsIdleWay, IsNeverPaid}
 use Rattle.geos_potentials.specs.Making.{AreInside}
 use Rattle.geos_potentials.specs.Ranks.{noted_idle}

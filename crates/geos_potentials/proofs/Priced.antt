@@ -25,8 +25,8 @@ use Rattle.geos_potentials.specs.Halts.{NonePayWith}
 use Rattle.geos_potentials.specs.Numbers.{Numbers, numbers_of, steps_of, coefficients_of}
 use Rattle.geos_potentials.proofs.Numbered.{numbers-set}
 use Rattle.geos_potentials.specs.Steps.{call_steps, taken_at}
-use Rattle.geos_potentials.specs.declared.arcs.Arc.{Arc}
-use Rattle.geos_potentials.specs.declared.jumps.Jump.{Jump}
+use Rattle.control_graph.specs.declared.arcs.Arc.{Arc}
+use Rattle.control_graph.specs.declared.jumps.Jump.{Jump}
 use Rattle.geos_potentials.specs.declared.lengths.Link.{Link}
 use Rattle.geos_potentials.specs.declared.lengths.Way.{Way}
 use Rattle.geos_potentials.proofs.Asks.{called}

@@ -5,11 +5,11 @@ use Rattle.std.proofs.lemmas.Bool.{cases_eq, cases_lt, eq-eqb, ne_eqb, false≢t
 use Rattle.std.proofs.lemmas.Grind.{div_ceil_times}
 use Rattle.std.proofs.lemmas.Nat.{mul-le}
 use Rattle.std.proofs.lemmas.Option.{none-some}
-use Rattle.geos_potentials.specs.declared.arcs.Arc.{Arc}
-use Rattle.geos_potentials.specs.declared.arcs.Counting.{Counting}
-use Rattle.geos_potentials.specs.declared.arcs.Counting.TheVariants.{Sets}
-use Rattle.geos_potentials.specs.declared.jumps.Jump.{Jump}
-use Rattle.geos_potentials.specs.declared.jumps.Jump.TheVariants.{Plain, Free, Pays}
+use Rattle.control_graph.specs.declared.arcs.Arc.{Arc}
+use Rattle.control_graph.specs.declared.arcs.Counting.{Counting}
+use Rattle.control_graph.specs.declared.arcs.Counting.TheVariants.{Sets}
+use Rattle.control_graph.specs.declared.jumps.Jump.{Jump}
+use Rattle.control_graph.specs.declared.jumps.Jump.TheVariants.{Plain, Free, Pays}
 use Rattle.geos_potentials.specs.declared.lengths.Link.{Link}
 use Rattle.geos_potentials.specs.declared.lengths.Share.{Share}
 use Rattle.geos_potentials.specs.declared.lengths.Share.TheVariants.{Nothing, Pays as PaysFor, Costs}
@@ -17,13 +17,14 @@ use Rattle.geos_potentials.specs.declared.nests.Nest.{Nest}
 use Rattle.geos_potentials.specs.declared.nests.Splitting.{Splitting}
 use Rattle.geos_potentials.specs.declared.paying.Rest.TheVariants.{Inside}
 use Rattle.geos_potentials.specs.declared.paying.Round.{Round}
-use Rattle.geos_potentials.specs.declared.pieces.Piece.{Piece}
+use Rattle.control_graph.specs.declared.pieces.Piece.{Piece}
 use Rattle.geos_potentials.specs.declared.units.Lack.{Lack}
 use Rattle.geos_potentials.specs.declared.units.Lack.TheVariants.{SetWithin, Passes, InTurn, Looks}
 use Rattle.geos_potentials.specs.declared.units.Units.{Units}
 use Rattle.geos_potentials.specs.Arcs.{unit_at, price_of, paid_by}
 use Rattle.geos_potentials.specs.Lacks.{IsLackIn, IsUnpaid}
-use Rattle.geos_potentials.specs.Rounds.{Step, total, set_by, set_of, pays_in, taken_of, SetsEnough, dearest_price, most_paid_of, CostsPast, HasShare, LinksIn, SetsLow, Adds, AddsUp, AddsUpTo, IsRound, LacksPast, lesser_of, IsOther, IsOutermost, GoesRoundInside, IsLeftToOther, AreSteps, dearest_of, is_left_out_in}
+use Rattle.geos_potentials.specs.Rounds.{Step, total, set_by, set_of, taken_of, SetsEnough, dearest_price, most_paid_of, CostsPast, HasShare, LinksIn, SetsLow, Adds, AddsUp, AddsUpTo, IsRound, LacksPast, lesser_of, IsOther, IsOutermost, GoesRoundInside, IsLeftToOther, AreSteps, dearest_of}
+use Rattle.control_graph.specs.Jumps.{pays_in, is_left_out_in}
 use Rattle.geos_potentials.specs.Whole.{IsPlainWay, EachRoundPays}
 
 -- One more edge

@@ -3,18 +3,19 @@ use Rattle.std.proofs.Common.{◌≡◌, ◌≤◌, ◌<◌, ◌+◌, ℕ, zero,
 use Rattle.std.specs.Prelude.{slice_index}
 use Rattle.std.proofs.lemmas.Bool.{cases_lt}
 use Rattle.std.proofs.lemmas.Option.{same_Some}
-use Rattle.geos_potentials.specs.declared.arcs.Arc.{Arc}
-use Rattle.geos_potentials.specs.declared.arcs.Counting.TheVariants.{Sets}
-use Rattle.geos_potentials.specs.declared.pieces.Order.{Order}
-use Rattle.geos_potentials.specs.declared.pieces.Piece.{Piece}
-use Rattle.geos_potentials.specs.declared.pile.Pile.{Pile}
-use Rattle.geos_potentials.specs.Arcs.{arc_at, unit_at}
+use Rattle.control_graph.specs.declared.arcs.Arc.{Arc}
+use Rattle.control_graph.specs.declared.arcs.Counting.TheVariants.{Sets}
+use Rattle.control_graph.specs.declared.pieces.Order.{Order}
+use Rattle.control_graph.specs.declared.pieces.Piece.{Piece}
+use Rattle.control_graph.specs.declared.pile.Pile.{Pile}
+use Rattle.control_graph.specs.Arcs.{arc_at}
+use Rattle.geos_potentials.specs.Arcs.{unit_at}
 use Rattle.geos_potentials.specs.Demands.{AreRaised, HaveGrown}
 use Rattle.geos_potentials.specs.Spreads.{SetsSome, AllStandAt}
-use Rattle.geos_potentials.specs.Stuck.{StandsAt, HasPlace}
+use Rattle.control_graph.specs.Orders.{StandsAt, HasPlace}
 use Rattle.geos_potentials.specs.Tight.{StaysAlong, AreSetSoFar}
 use Rattle.geos_potentials.specs.Waits.{HaveRisen}
-use Rattle.geos_potentials.proofs.Placing.{same-stands}
+use Rattle.control_graph.proofs.Placing.{same-stands}
 use Rattle.geos_potentials.proofs.Spreading.{behind-raised}
 use Rattle.geos_potentials.proofs.Untouched.{risen-spread}
 

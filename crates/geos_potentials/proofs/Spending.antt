@@ -3,12 +3,13 @@ use Rattle.std.proofs.Common.{◌≡◌, ◌≤◌, ◌<◌, ℕ, ◌+◌, false
 use Rattle.std.specs.Prelude.{slice_index, slice_index_or, slice_set}
 use Rattle.std.proofs.lemmas.Bool.{cases_eq, cases_lt, eq-eqb, false≢true}
 use Rattle.std.proofs.lemmas.List.{get_or-set_same, get_or-set_other, get_or_past, set_past}
-use Rattle.geos_potentials.specs.declared.arcs.Arc.{Arc}
-use Rattle.geos_potentials.specs.declared.arcs.Counting.TheVariants.{Sets}
+use Rattle.control_graph.specs.declared.arcs.Arc.{Arc}
+use Rattle.control_graph.specs.declared.arcs.Counting.TheVariants.{Sets}
 use Rattle.geos_potentials.specs.declared.classes.Classes.{Classes}
-use Rattle.geos_potentials.specs.declared.jumps.Jump.{Jump}
-use Rattle.geos_potentials.specs.declared.jumps.Jump.TheVariants.{Plain, Free, Pays}
-use Rattle.geos_potentials.specs.Arcs.{arc_at, unit_at}
+use Rattle.control_graph.specs.declared.jumps.Jump.{Jump}
+use Rattle.control_graph.specs.declared.jumps.Jump.TheVariants.{Plain, Free, Pays}
+use Rattle.control_graph.specs.Arcs.{arc_at}
+use Rattle.geos_potentials.specs.Arcs.{unit_at}
 use Rattle.geos_potentials.specs.Demands.{AreRaised, HaveGrown}
 use Rattle.geos_potentials.specs.Least.{is_free}
 use Rattle.geos_potentials.specs.Making.{NonePay}

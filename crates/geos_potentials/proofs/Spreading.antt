@@ -3,8 +3,9 @@ use Rattle.std.proofs.Common.{◌≡◌, ◌≤◌, ◌<◌, ◌⊎◌, ℕ, Boo
 use Rattle.std.specs.Prelude.{slice_index, slice_index_or}
 use Rattle.std.proofs.lemmas.Bool.{cases_eq, cases_lt}
 use Rattle.std.proofs.lemmas.List.{get_or_past}
-use Rattle.geos_potentials.specs.declared.arcs.Arc.{Arc}
-use Rattle.geos_potentials.specs.Arcs.{arc_at, unit_at}
+use Rattle.control_graph.specs.declared.arcs.Arc.{Arc}
+use Rattle.control_graph.specs.Arcs.{arc_at}
+use Rattle.geos_potentials.specs.Arcs.{unit_at}
 use Rattle.geos_potentials.specs.Demands.{kept_over, AreRaised, IsKeptOver}
 use Rattle.geos_potentials.specs.Numbers.{zeros}
 use Rattle.geos_potentials.specs.Spreads.{HasCome, HaveCome, StayCome, ComesBehind, Does, ComeBehind}

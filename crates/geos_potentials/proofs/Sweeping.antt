@@ -5,11 +5,11 @@ use Rattle.std.proofs.lemmas.List.{get_or-set_same, get_or-set_other}
 use Rattle.std.proofs.lemmas.Bool.{cases_eq, cases_lt, false≢true}
 use Rattle.geos_potentials.specs.Least.{no_way, steps_at, link_at, Covers, AreLonger}
 use Rattle.geos_potentials.specs.Looks.{SomeIsLonger, AreCoveredTo}
-use Rattle.geos_potentials.specs.Stuck.{StandsAt}
+use Rattle.control_graph.specs.Orders.{StandsAt}
 use Rattle.geos_potentials.specs.declared.lengths.Link.{Link}
 use Rattle.geos_potentials.specs.declared.lengths.Way.{Way}
-use Rattle.geos_potentials.specs.declared.pieces.Order.{Order}
-use Rattle.geos_potentials.specs.declared.pieces.Piece.{Piece}
+use Rattle.control_graph.specs.declared.pieces.Order.{Order}
+use Rattle.control_graph.specs.declared.pieces.Piece.{Piece}
 use Rattle.geos_potentials.proofs.Choosing.{stands-one}
 
 pub either : (a b : Bool) → (a || b) ≡ true → (a ≡ true) ⊎ (b ≡ true)

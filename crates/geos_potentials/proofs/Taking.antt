@@ -5,26 +5,28 @@ use Rattle.std.proofs.lemmas.Bool.{cases_eq, cases_lt, false≢true}
 use Rattle.std.proofs.lemmas.List.{get_or_default}
 use Rattle.geos_image.specs.Parts.{Parts, start_of}
 use Rattle.geos_code.specs.Code.{IsPcOf}
-use Rattle.geos_potentials.specs.declared.arcs.Arc.{Arc}
+use Rattle.control_graph.specs.declared.arcs.Arc.{Arc}
 use Rattle.geos_potentials.specs.declared.classes.Classes.{Classes}
-use Rattle.geos_potentials.specs.declared.jumps.Jump.{Jump}
-use Rattle.geos_potentials.specs.declared.jumps.Jump.TheVariants.{Plain, Pays}
+use Rattle.control_graph.specs.declared.jumps.Jump.{Jump}
+use Rattle.control_graph.specs.declared.jumps.Jump.TheVariants.{Plain, Pays}
 use Rattle.geos_potentials.specs.declared.nests.Nest.{Nest}
 use Rattle.geos_potentials.specs.declared.nests.Nests.{Nests}
 use Rattle.geos_potentials.specs.declared.nests.Splitting.{Splitting}
 use Rattle.geos_potentials.specs.declared.nests.Waiting.{Waiting}
-use Rattle.geos_potentials.specs.declared.pieces.Order.{Order}
-use Rattle.geos_potentials.specs.declared.pieces.Piece.{Piece}
-use Rattle.geos_potentials.specs.Arcs.{arc_at}
-use Rattle.geos_potentials.specs.Demands.{taken_from}
+use Rattle.control_graph.specs.declared.pieces.Order.{Order}
+use Rattle.control_graph.specs.declared.pieces.Piece.{Piece}
+use Rattle.control_graph.specs.Arcs.{arc_at, taken_from}
 use Rattle.geos_potentials.specs.Making.{AreInside, IsWaiting, IsDue, IsAround, AreMadeSoFar, AreWaitingComponents, CanGoOn, CanMake}
-use Rattle.geos_potentials.specs.Parts.{AreOrdered, IsWayWithin, GoesRoundIn, IsComponent, WaitsAt, WaitInOrder, WaitBefore}
-use Rattle.geos_potentials.specs.Pieces.{LeadsWithin, NoneMayPay}
+use Rattle.control_graph.specs.Orders.{AreOrdered, StandsAt, HasPlace, IsIn}
+use Rattle.control_graph.specs.Ways.{IsWayWithin, GoesRoundIn, LeadsWithin}
+use Rattle.control_graph.specs.Parts.{IsComponent}
+use Rattle.geos_potentials.specs.Splits.{WaitsAt, WaitInOrder, WaitBefore}
+use Rattle.geos_potentials.specs.Pieces.{NoneMayPay}
 use Rattle.geos_potentials.specs.Ranks.{noted_idle}
-use Rattle.geos_potentials.specs.Stuck.{StandsAt, HasPlace, IsIn, LeadsNotedIdle, IsNotedIdleWay, GoesRoundIdle}
+use Rattle.geos_potentials.specs.Stuck.{LeadsNotedIdle, IsNotedIdleWay, GoesRoundIdle}
 use Rattle.geos_potentials.specs.Whole.{IsPlainWay, IsWhole, AreWhole, EachRoundPays, PayInNests}
 use Rattle.geos_potentials.proofs.Making.{in-has, has-in, whole-on}
-use Rattle.geos_potentials.proofs.Placing.{same-stands}
+use Rattle.control_graph.proofs.Placing.{same-stands}
 
 -- The same pieces wait
 

@@ -5,18 +5,18 @@ use Rattle.std.proofs.lemmas.Bool.{cases_eq, cases_lt, eqb-true, eq-eqb, lt-ltb,
 use Rattle.std.proofs.lemmas.List.{get_or_default}
 use Rattle.geos_image.specs.Parts.{Parts}
 use Rattle.geos_code.specs.Code.{IsPcOf}
-use Rattle.geos_potentials.specs.declared.arcs.Arc.{Arc}
+use Rattle.control_graph.specs.declared.arcs.Arc.{Arc}
 use Rattle.geos_potentials.specs.declared.choice.Choice.{Choice}
 use Rattle.geos_potentials.specs.declared.choice.Tier.{Tier}
 use Rattle.geos_potentials.specs.declared.choice.Tier.TheVariants.{Clean, Tight, Unset}
 use Rattle.geos_potentials.specs.declared.classes.Classes.{Classes}
-use Rattle.geos_potentials.specs.declared.jumps.Jump.{Jump}
-use Rattle.geos_potentials.specs.declared.jumps.Jump.TheVariants.{Plain, Free, Pays}
+use Rattle.control_graph.specs.declared.jumps.Jump.{Jump}
+use Rattle.control_graph.specs.declared.jumps.Jump.TheVariants.{Plain, Free, Pays}
 use Rattle.geos_potentials.specs.declared.nests.Nest.{Nest}
 use Rattle.geos_potentials.specs.declared.nests.Splitting.{Splitting}
 use Rattle.geos_potentials.specs.declared.nests.Waiting.{Waiting}
-use Rattle.geos_potentials.specs.declared.pieces.Order.{Order}
-use Rattle.geos_potentials.specs.declared.pieces.Piece.{Piece}
+use Rattle.control_graph.specs.declared.pieces.Order.{Order}
+use Rattle.control_graph.specs.declared.pieces.Piece.{Piece}
 use Rattle.geos_potentials.specs.declared.units.Lack.{Lack}
 use Rattle.geos_potentials.specs.declared.units.Lack.TheVariants.{SetWithin, Passes, InTurn, Looks}
 use Rattle.geos_potentials.specs.declared.units.Units.{Units}
@@ -25,12 +25,12 @@ use Rattle.geos_potentials.specs.Carried.{AreSpread}
 use Rattle.geos_potentials.specs.Demands.{IsKeptOver}
 use Rattle.geos_potentials.specs.Lacks.{IsUnpaid, IsLack}
 use Rattle.geos_potentials.specs.Making.{AreInside, may_pay_in, NoneMayPayIn, AreMarked, LiesInOrApart}
-use Rattle.geos_potentials.specs.Parts.{AreOrdered}
-use Rattle.geos_potentials.specs.Pieces.{TakesWithin}
+use Rattle.control_graph.specs.Orders.{AreOrdered, HasPlace, IsIn}
+use Rattle.control_graph.specs.Ways.{TakesWithin}
 use Rattle.geos_potentials.specs.Ranks.{noted_idle}
-use Rattle.geos_potentials.specs.Rounds.{is_left_out_in}
+use Rattle.control_graph.specs.Jumps.{is_left_out_in}
 use Rattle.geos_potentials.specs.Spreads.{ComeBehind, SetsSome}
-use Rattle.geos_potentials.specs.Stuck.{HasPlace, IsIn, StayNoted, NotesIdle}
+use Rattle.geos_potentials.specs.Stuck.{StayNoted, NotesIdle}
 use Rattle.geos_potentials.specs.Tight.{IsSetWithin, StaysAlong, AreSetNoted, is_tight, IsListed, MayPayWhereMarked, TakesInNest, NoneClean, IsNotedIdle, IsRightlyTight, AreRightlyTight}
 use Rattle.geos_potentials.specs.Whole.{PayInNests, StayNests}
 use Rattle.geos_potentials.proofs.Making.{IsPlainAt, HaveSame, in-has, has-in, split-same}

@@ -13,18 +13,20 @@ use Rattle.geos_image.specs.Keys.{falls_through}
 use Rattle.geos_image.specs.Parts.{Parts, start_of}
 use Rattle.geos_code.specs.Code.{IsPcOf}
 use Rattle.geos_code.specs.Known.{row_of, known_at}
-use Rattle.geos_potentials.specs.declared.arcs.Arc.{Arc}
-use Rattle.geos_potentials.specs.declared.arcs.Counting.{Counting}
-use Rattle.geos_potentials.specs.declared.jumps.Jump.{Jump}
-use Rattle.geos_potentials.specs.declared.jumps.Jump.TheVariants.{Plain, Free, Pays}
-use Rattle.geos_potentials.specs.declared.pile.Pile.{Pile}
-use Rattle.geos_potentials.specs.Arcs.{arc_at, unit_at, touched_by, counting_of, IsArcIf, AreArcs, NoArcsOutside}
+use Rattle.control_graph.specs.declared.arcs.Arc.{Arc}
+use Rattle.control_graph.specs.declared.arcs.Counting.{Counting}
+use Rattle.control_graph.specs.declared.jumps.Jump.{Jump}
+use Rattle.control_graph.specs.declared.jumps.Jump.TheVariants.{Plain, Free, Pays}
+use Rattle.control_graph.specs.declared.pile.Pile.{Pile}
+use Rattle.control_graph.specs.Arcs.{arc_at, forgets, taken_from}
+use Rattle.geos_potentials.specs.Arcs.{unit_at, touched_by, counting_of, IsArcIf, AreArcs, NoArcsOutside}
 use Rattle.geos_potentials.specs.Carried.{AreSpreadBut, AreSpread}
-use Rattle.geos_potentials.specs.Demands.{forgets, taken_from, AreRaised, HaveGrown}
+use Rattle.geos_potentials.specs.Demands.{AreRaised, HaveGrown}
 use Rattle.geos_potentials.specs.Least.{is_free}
 use Rattle.geos_potentials.specs.Spreads.{Does, ComeBehind, ForgetsIt}
 use Rattle.geos_potentials.specs.Untouched.{untouched, is_found, AreNotedBehind, AreUntouched, AreSpentIn}
-use Rattle.geos_potentials.specs.Waits.{Waits, HaveRisen}
+use Rattle.control_graph.specs.Waits.{Waits}
+use Rattle.geos_potentials.specs.Waits.{HaveRisen}
 use Rattle.geos_potentials.specs.Within.{PassesBack, ExceedWithin, HoldsAt, HoldsAtLoops, StayWithinLoops, pays}
 use Rattle.geos_potentials.proofs.Spreading.{behind-raised}
 

@@ -3,15 +3,16 @@ use Rattle.std.proofs.Common.{◌≡◌, ◌<◌, ℕ, List, [], ◌∷◌, leng
 use Rattle.std.specs.Prelude.{slice_index_or, slice_set}
 use Rattle.std.proofs.lemmas.Bool.{cases_eq, cases_lt}
 use Rattle.std.proofs.lemmas.List.{length-set, get_or_past, get_or-set_same, get_or-set_other}
-use Rattle.geos_potentials.specs.declared.arcs.Arc.{Arc}
-use Rattle.geos_potentials.specs.declared.jumps.Jump.{Jump}
-use Rattle.geos_potentials.specs.declared.jumps.Jump.TheVariants.{Plain}
+use Rattle.control_graph.specs.declared.arcs.Arc.{Arc}
+use Rattle.control_graph.specs.declared.jumps.Jump.{Jump}
+use Rattle.control_graph.specs.declared.jumps.Jump.TheVariants.{Plain}
 use Rattle.geos_potentials.specs.declared.nests.Nest.{Nest}
 use Rattle.geos_potentials.specs.declared.nests.Splitting.{Splitting}
-use Rattle.geos_potentials.specs.declared.pieces.Order.{Order}
-use Rattle.geos_potentials.specs.declared.pieces.Piece.{Piece}
-use Rattle.geos_potentials.specs.Rounds.{Step, AreSteps, is_left_out_in}
-use Rattle.geos_potentials.specs.Stuck.{HasPlace, IsIn}
+use Rattle.control_graph.specs.declared.pieces.Order.{Order}
+use Rattle.control_graph.specs.declared.pieces.Piece.{Piece}
+use Rattle.geos_potentials.specs.Rounds.{Step, AreSteps}
+use Rattle.control_graph.specs.Jumps.{is_left_out_in}
+use Rattle.control_graph.specs.Orders.{HasPlace, IsIn}
 use Rattle.geos_potentials.specs.Whole.{AreWhole, StayNests}
 
 pub stay-refl : (s : Splitting) → StayNests s s

@@ -3,17 +3,19 @@ use Rattle.std.proofs.Common.{◌≡◌, ◌≤◌, ◌<◌, ◌⊎◌, ℕ, Boo
 use Rattle.std.specs.Prelude.{slice_index, slice_index_or, slice_set}
 use Rattle.std.proofs.lemmas.Bool.{cases_eq, cases_lt}
 use Rattle.std.proofs.lemmas.List.{get_or-set_same, get_or_past}
-use Rattle.geos_potentials.specs.declared.arcs.Arc.{Arc}
-use Rattle.geos_potentials.specs.declared.graph.Graph.{Graph}
-use Rattle.geos_potentials.specs.declared.jumps.Jump.{Jump}
-use Rattle.geos_potentials.specs.declared.jumps.Jump.TheVariants.{Plain, Free, Pays}
-use Rattle.geos_potentials.specs.declared.pile.Pile.{Pile}
-use Rattle.geos_potentials.specs.Arcs.{arc_at, unit_at}
+use Rattle.control_graph.specs.declared.arcs.Arc.{Arc}
+use Rattle.control_graph.specs.declared.graph.Graph.{Graph}
+use Rattle.control_graph.specs.declared.jumps.Jump.{Jump}
+use Rattle.control_graph.specs.declared.jumps.Jump.TheVariants.{Plain, Free, Pays}
+use Rattle.control_graph.specs.declared.pile.Pile.{Pile}
+use Rattle.control_graph.specs.Arcs.{arc_at, taken_from}
+use Rattle.geos_potentials.specs.Arcs.{unit_at}
 use Rattle.geos_potentials.specs.Carried.{AreCarried, NoneHeld, Nowhere, Carries, StayCarried}
-use Rattle.geos_potentials.specs.Demands.{kept_over, taken_from, AreRaised, StayWanted}
+use Rattle.geos_potentials.specs.Demands.{kept_over, AreRaised, StayWanted}
 use Rattle.geos_potentials.specs.Numbers.{zeros}
-use Rattle.geos_potentials.specs.Rounds.{pays_in}
-use Rattle.geos_potentials.specs.Waits.{Waits, HaveRisen}
+use Rattle.control_graph.specs.Jumps.{pays_in}
+use Rattle.control_graph.specs.Waits.{Waits}
+use Rattle.geos_potentials.specs.Waits.{HaveRisen}
 use Rattle.geos_potentials.specs.Within.{ExceedWithin, StayWithin, StayWithinAt, HoldsAtLoops, StayWithinLoops, pays}
 use Rattle.geos_potentials.proofs.Asks.{zero-at}
 use Rattle.geos_potentials.proofs.Carrying.{none-risen, risen-on, risen-carried, but-less}

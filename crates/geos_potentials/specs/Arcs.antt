@@ -1,19 +1,20 @@
 -- The edges of a routine, with what they cost and what they do to counters.
-use Rattle.std.specs.Prelude.{◌≡◌, ◌≤◌, ℕ, ◌+◌, ◌*◌, Bool, true, false, if◌then◌else◌, List, [], ◌∷◌, Option, Some, None, slice_index, slice_index_or}
+use Rattle.std.specs.Prelude.{◌≡◌, ◌≤◌, ℕ, ◌+◌, ◌*◌, Bool, true, false, List, [], ◌∷◌, Option, Some, None, slice_index, slice_index_or}
 use Rattle.geos_opcodes.specs.declared.opcode.Opcode.{Opcode}
 use Rattle.geos_opcodes.specs.declared.opcode.Opcode.TheVariants.{Setk, Setkw, Loop, Call}
 use Rattle.geos_image.specs.declared.instr.Instr.{Instr}
 use Rattle.geos_image.specs.declared.row.Row.{Row}
 use Rattle.geos_image.specs.Parts.{Parts}
 use Rattle.geos_verify.specs.Rows.{bound}
-use Rattle.geos_potentials.specs.declared.arcs.Arc.{Arc}
-use Rattle.geos_potentials.specs.declared.arcs.Counting.{Counting}
-use Rattle.geos_potentials.specs.declared.arcs.Counting.TheVariants.{Nothing, Sets, Takes, Forgets}
+use Rattle.control_graph.specs.declared.arcs.Arc.{Arc}
+use Rattle.control_graph.specs.declared.arcs.Counting.{Counting}
+use Rattle.control_graph.specs.declared.arcs.Counting.TheVariants.{Nothing, Sets, Takes, Forgets}
 use Rattle.geos_potentials.specs.declared.lengths.Link.{Link}
 use Rattle.geos_code.specs.Code.{IsPcOf}
 use Rattle.geos_code.specs.Known.{row_of, known_at}
 use Rattle.geos_potentials.specs.Steps.{taken_at}
 use Rattle.geos_code.specs.Edges.{LeadsTo}
+use Rattle.control_graph.specs.Arcs.{arc_at}
 
 -- the counters that a routine touches, by a table
 abbrev pub touched_by : List (List Bool) → ℕ → List Bool
@@ -40,10 +41,6 @@ pub record IsArc (image : Parts) (r : ℕ) (known : List (Option Row)) (table : 
 abbrev pub IsArcIf : Parts → ℕ → List (Option Row) → List (List Bool) → ℕ → Bool → Option Arc → Type 0
 IsArcIf image r known table pc branch None = (to : ℕ) → LeadsTo image pc branch to → IsPcOf image r to → ⊥
 IsArcIf image r known table pc branch (Some arc) = IsArc image r known table pc branch arc
-
--- the edge of a pc that is noted
-abbrev pub arc_at : List (List (Option Arc)) → ℕ → Bool → Option Arc
-arc_at arcs pc branch = slice_index_or (slice_index_or arcs pc []) (if branch then 1 else 0) None
 
 -- the edges of routine r are noted
 abbrev pub AreArcs : Parts → ℕ → List (Option Row) → List (List Bool) → List (List (Option Arc)) → Type 0

@@ -1,15 +1,16 @@
 -- Numbers of counters that are at the begin of each edge as they are at its end, or the other way.
 use Rattle.std.specs.Prelude.{◌≡◌, ◌≤◌, ◌<◌, ◌⊎◌, ℕ, Bool, true, false, List, Option, Some, slice_index_or}
-use Rattle.geos_potentials.specs.Arcs.{arc_at, unit_at}
-use Rattle.geos_potentials.specs.Demands.{keeps, taken_from}
-use Rattle.geos_potentials.specs.Led.{AreLed}
+use Rattle.control_graph.specs.Arcs.{arc_at, keeps, taken_from}
+use Rattle.geos_potentials.specs.Arcs.{unit_at}
+use Rattle.control_graph.specs.Led.{AreLed}
 use Rattle.geos_potentials.specs.Least.{is_free}
-use Rattle.geos_potentials.specs.Waits.{Waits, HaveRisen}
-use Rattle.geos_potentials.specs.declared.arcs.Arc.{Arc}
-use Rattle.geos_potentials.specs.declared.graph.Graph.{Graph}
-use Rattle.geos_potentials.specs.declared.jumps.Jump.{Jump}
-use Rattle.geos_potentials.specs.declared.jumps.Jump.TheVariants.{Plain}
-use Rattle.geos_potentials.specs.declared.pile.Pile.{Pile}
+use Rattle.control_graph.specs.Waits.{Waits}
+use Rattle.geos_potentials.specs.Waits.{HaveRisen}
+use Rattle.control_graph.specs.declared.arcs.Arc.{Arc}
+use Rattle.control_graph.specs.declared.graph.Graph.{Graph}
+use Rattle.control_graph.specs.declared.jumps.Jump.{Jump}
+use Rattle.control_graph.specs.declared.jumps.Jump.TheVariants.{Plain}
+use Rattle.control_graph.specs.declared.pile.Pile.{Pile}
 
 -- at places where numbers of counters are held, edges do not count
 abbrev pub Held : Type 1

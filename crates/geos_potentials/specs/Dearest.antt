@@ -1,8 +1,9 @@
 -- Where a counter is set at the greatest price.
 use Rattle.std.specs.Prelude.{◌≡◌, ◌≤◌, ◌<◌, ◌+◌, ℕ, false, List, Option, None, Some}
-use Rattle.geos_potentials.specs.Arcs.{arc_at, price_of}
-use Rattle.geos_potentials.specs.declared.arcs.Arc.{Arc}
-use Rattle.geos_potentials.specs.declared.arcs.Counting.TheVariants.{Sets}
+use Rattle.control_graph.specs.Arcs.{arc_at}
+use Rattle.geos_potentials.specs.Arcs.{price_of}
+use Rattle.control_graph.specs.declared.arcs.Arc.{Arc}
+use Rattle.control_graph.specs.declared.arcs.Counting.TheVariants.{Sets}
 
 -- the edge of a pc to the next instruction sets a counter to more than 0, and that costs so much, where units of counters pay for so much
 pub record SetsAt (arcs : List (List (Option Arc))) (pay : List (List ℕ)) (pc price : ℕ) : Type 0 where

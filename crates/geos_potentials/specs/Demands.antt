@@ -1,27 +1,10 @@
 -- What units of counters are wanted for.
-use Rattle.std.specs.Prelude.{◌≡◌, ◌≢◌, ◌≤◌, ◌<◌, ◌+◌, ◌-◌, ℕ, max, Bool, true, false, ◌==◌, not, if◌then◌else◌, List, [], ◌∷◌, Option, Some, None, slice_index, slice_index_or}
-use Rattle.geos_potentials.specs.declared.arcs.Arc.{Arc}
-use Rattle.geos_potentials.specs.declared.arcs.Counting.{Counting}
-use Rattle.geos_potentials.specs.declared.arcs.Counting.TheVariants.{Sets, Takes, Forgets}
-use Rattle.geos_potentials.specs.Arcs.{arc_at, unit_at}
-
--- Edges and counters
-
--- an edge asks for what is behind it of a counter's coefficient
-abbrev pub keeps : Counting → ℕ → Bool
-keeps (Sets k n) c = not (k == c)
-keeps (Forgets forgotten) c = not (slice_index_or forgotten c false)
-keeps _ c = true
-
--- nothing is known of a counter behind it
-abbrev pub forgets : Counting → ℕ → Bool
-forgets (Forgets forgotten) c = slice_index_or forgotten c false
-forgets _ c = false
-
--- the counter that it takes a unit from
-abbrev pub taken_from : Counting → Option ℕ
-taken_from (Takes k) = Some k
-taken_from _ = None
+use Rattle.std.specs.Prelude.{◌≡◌, ◌≢◌, ◌≤◌, ◌<◌, ◌+◌, ◌-◌, ℕ, max, Bool, true, if◌then◌else◌, List, [], ◌∷◌, Option, Some, slice_index}
+use Rattle.control_graph.specs.declared.arcs.Arc.{Arc}
+use Rattle.control_graph.specs.declared.arcs.Counting.{Counting}
+use Rattle.control_graph.specs.declared.arcs.Counting.TheVariants.{Takes}
+use Rattle.control_graph.specs.Arcs.{arc_at, keeps}
+use Rattle.geos_potentials.specs.Arcs.{unit_at}
 
 -- Numbers of counters at places
 

@@ -6,7 +6,7 @@ use Rattle.geos_potentials.specs.Idle.{IsNeverPaidBy}
 use Rattle.geos_potentials.specs.Constants.{ConstantsPay, row_known, coefficients_at}
 use Rattle.geos_potentials.specs.Lacks.{IsLack}
 use Rattle.geos_potentials.specs.Least.{SomePasses}
-use Rattle.geos_potentials.specs.Stuck.{HasPlace}
+use Rattle.control_graph.specs.Orders.{HasPlace}
 use Rattle.geos_potentials.specs.Accepted.{HasAccepted}
 use Rattle.geos_potentials.specs.Whole.{AreWhole}
 use Rattle.geos_potentials.specs.declared.search.Halt.{Halt}

@@ -1,15 +1,16 @@
 -- Why no units are found.
 use Rattle.std.specs.Prelude.{◌≡◌, ◌≤◌, ◌<◌, ◌+◌, ◌⊎◌, ℕ, Bool, true, List, Option, None, Some, slice_index_or}
 use Rattle.geos_image.specs.Parts.{Parts}
-use Rattle.geos_potentials.specs.Arcs.{arc_at, price_of}
+use Rattle.control_graph.specs.Arcs.{arc_at}
+use Rattle.geos_potentials.specs.Arcs.{price_of}
 use Rattle.geos_potentials.specs.Idle.{MayNotPay}
 use Rattle.geos_potentials.specs.Least.{is_free, steps_at}
 use Rattle.geos_potentials.specs.Rounds.{CostsPast, SetsEnough}
 use Rattle.geos_potentials.specs.Rings.{IsRing}
 use Rattle.geos_potentials.specs.Tight.{NoneClean}
-use Rattle.geos_potentials.specs.declared.arcs.Arc.{Arc}
-use Rattle.geos_potentials.specs.declared.jumps.Jump.{Jump}
-use Rattle.geos_potentials.specs.declared.jumps.Jump.TheVariants.{Plain}
+use Rattle.control_graph.specs.declared.arcs.Arc.{Arc}
+use Rattle.control_graph.specs.declared.jumps.Jump.{Jump}
+use Rattle.control_graph.specs.declared.jumps.Jump.TheVariants.{Plain}
 use Rattle.geos_potentials.specs.declared.lengths.Way.{Way}
 use Rattle.geos_potentials.specs.declared.nests.Nest.{Nest}
 use Rattle.geos_potentials.specs.declared.nests.Nests.{Nests}

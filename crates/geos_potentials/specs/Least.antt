@@ -2,14 +2,14 @@
 use Rattle.std.specs.Prelude.{◌≡◌, ◌≤◌, ◌<◌, ◌+◌, ◌⊎◌, ℕ, Bool, true, false, if◌then◌else◌, List, [], Option, Some, None, slice_get, slice_index, slice_index_or}
 use Rattle.geos_image.specs.Parts.{Parts}
 use Rattle.geos_image.specs.declared.point.Point.{Point}
-use Rattle.geos_potentials.specs.Arcs.{arc_at, unit_at, price_of, paid_by, IsLink}
+use Rattle.control_graph.specs.Arcs.{arc_at, taken_from}
+use Rattle.geos_potentials.specs.Arcs.{unit_at, price_of, paid_by, IsLink}
 use Rattle.geos_code.specs.Code.{IsPcOf}
 use Rattle.geos_potentials.specs.Count.{return_steps}
-use Rattle.geos_potentials.specs.Demands.{taken_from}
 use Rattle.geos_potentials.specs.Numbers.{Numbers}
-use Rattle.geos_potentials.specs.declared.arcs.Arc.{Arc}
-use Rattle.geos_potentials.specs.declared.jumps.Jump.{Jump}
-use Rattle.geos_potentials.specs.declared.jumps.Jump.TheVariants.{Plain, Free}
+use Rattle.control_graph.specs.declared.arcs.Arc.{Arc}
+use Rattle.control_graph.specs.declared.jumps.Jump.{Jump}
+use Rattle.control_graph.specs.declared.jumps.Jump.TheVariants.{Plain, Free}
 use Rattle.geos_potentials.specs.declared.lengths.Lengths.{Lengths}
 use Rattle.geos_potentials.specs.declared.lengths.Link.{Link}
 use Rattle.geos_potentials.specs.declared.lengths.Way.{Way}

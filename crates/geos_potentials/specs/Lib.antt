@@ -20,7 +20,6 @@ pub mod Lacks
 pub mod Looks
 pub mod Rounds
 pub mod Waits
-pub mod Led
 pub mod Carried
 pub mod Within
 pub mod Untouched
@@ -28,10 +27,6 @@ pub mod Reasons
 pub mod Spent
 pub mod Paid
 pub mod Splits
-pub mod Parts
-pub mod Depths
-pub mod Gathers
-pub mod Arranged
 pub mod Cycles
 pub mod Whole
 pub mod Making

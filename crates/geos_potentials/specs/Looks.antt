@@ -1,11 +1,11 @@
 -- What is counted, and what a sweep over places finds.
 use Rattle.std.specs.Prelude.{◌≡◌, ◌≤◌, ◌<◌, ◌+◌, ℕ, Bool, List, Option, min}
 use Rattle.geos_potentials.specs.Least.{steps_at, link_at, Covers}
-use Rattle.geos_potentials.specs.Stuck.{StandsAt}
+use Rattle.control_graph.specs.Orders.{StandsAt}
 use Rattle.geos_potentials.specs.declared.lengths.Link.{Link}
 use Rattle.geos_potentials.specs.declared.lengths.Way.{Way}
-use Rattle.geos_potentials.specs.declared.pieces.Order.{Order}
-use Rattle.geos_potentials.specs.declared.pieces.Piece.{Piece}
+use Rattle.control_graph.specs.declared.pieces.Order.{Order}
+use Rattle.control_graph.specs.declared.pieces.Piece.{Piece}
 
 -- a count rises by so many, up to the most that 32 bits hold
 pub record RisesBy (old more new : ℕ) : Type 0 where

@@ -1,24 +1,25 @@
 -- How nests are made: which LOOPs are chosen, and what holds of pieces while some wait.
 use Rattle.std.specs.Prelude.{◌≡◌, ◌≢◌, ◌≤◌, ◌<◌, ◌⊎◌, ◌==◌, ◌&&◌, ◌+◌, ℕ, suc, Bool, true, false, not, List, [], ◌∷◌, Option, None, Some, slice_index_or}
-use Rattle.geos_potentials.specs.Arcs.{arc_at, unit_at}
-use Rattle.geos_potentials.specs.Demands.{taken_from}
-use Rattle.geos_potentials.specs.Parts.{AreOrdered, LeadBetween, IsWayWithin, IsComponent, WaitsAt, WaitInOrder, WaitBefore}
-use Rattle.geos_potentials.specs.Pieces.{TakesWithin}
+use Rattle.control_graph.specs.Arcs.{arc_at, taken_from}
+use Rattle.geos_potentials.specs.Arcs.{unit_at}
+use Rattle.control_graph.specs.Orders.{AreOrdered, StandsAt, IsIn}
+use Rattle.control_graph.specs.Ways.{LeadBetween, IsWayWithin, TakesWithin}
+use Rattle.control_graph.specs.Parts.{IsComponent}
+use Rattle.geos_potentials.specs.Splits.{WaitsAt, WaitInOrder, WaitBefore}
 use Rattle.geos_potentials.specs.Ranks.{noted_idle}
-use Rattle.geos_potentials.specs.Stuck.{StandsAt, IsIn}
 use Rattle.geos_potentials.specs.Whole.{IsPlainWay, AreWhole, PayInNests}
-use Rattle.geos_potentials.specs.declared.arcs.Arc.{Arc}
+use Rattle.control_graph.specs.declared.arcs.Arc.{Arc}
 use Rattle.geos_potentials.specs.declared.choice.Choice.{Choice}
 use Rattle.geos_potentials.specs.declared.choice.Tier.{Tier}
 use Rattle.geos_potentials.specs.declared.choice.Tier.TheVariants.{Clean, Tight, Unset}
 use Rattle.geos_potentials.specs.declared.classes.Classes.{Classes}
-use Rattle.geos_potentials.specs.declared.jumps.Jump.{Jump}
-use Rattle.geos_potentials.specs.declared.jumps.Jump.TheVariants.{Plain, Pays}
+use Rattle.control_graph.specs.declared.jumps.Jump.{Jump}
+use Rattle.control_graph.specs.declared.jumps.Jump.TheVariants.{Plain, Pays}
 use Rattle.geos_potentials.specs.declared.nests.Nest.{Nest}
 use Rattle.geos_potentials.specs.declared.nests.Nests.{Nests}
 use Rattle.geos_potentials.specs.declared.nests.Splitting.{Splitting}
-use Rattle.geos_potentials.specs.declared.pieces.Order.{Order}
-use Rattle.geos_potentials.specs.declared.pieces.Piece.{Piece}
+use Rattle.control_graph.specs.declared.pieces.Order.{Order}
+use Rattle.control_graph.specs.declared.pieces.Piece.{Piece}
 
 -- Edges
 

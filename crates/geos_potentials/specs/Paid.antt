@@ -1,16 +1,17 @@
 -- What ways and units are found with which each edge is paid for.
 use Rattle.std.specs.Prelude.{◌≡◌, ◌≤◌, ◌<◌, ◌+◌, ◌⊎◌, ℕ, true, List, [], length, Option, Some, slice_index_or}
 use Rattle.geos_image.specs.Parts.{Parts, start_of}
-use Rattle.geos_potentials.specs.Arcs.{arc_at, unit_at}
+use Rattle.control_graph.specs.Arcs.{arc_at, taken_from}
+use Rattle.geos_potentials.specs.Arcs.{unit_at}
 use Rattle.geos_potentials.specs.Carried.{AreCarried, AreHeld, NoneHeld}
-use Rattle.geos_potentials.specs.Demands.{taken_from, HaveGrown}
+use Rattle.geos_potentials.specs.Demands.{HaveGrown}
 use Rattle.geos_potentials.specs.Least.{is_free, steps_at, AreCovered, AreLookedAt, AreShort, CoverReturns}
-use Rattle.geos_potentials.specs.Led.{AreLed}
+use Rattle.control_graph.specs.Led.{AreLed}
 use Rattle.geos_potentials.specs.Within.{StayWithinLoops}
-use Rattle.geos_potentials.specs.declared.arcs.Arc.{Arc}
-use Rattle.geos_potentials.specs.declared.graph.Graph.{Graph}
-use Rattle.geos_potentials.specs.declared.jumps.Jump.{Jump}
-use Rattle.geos_potentials.specs.declared.jumps.Jump.TheVariants.{Plain}
+use Rattle.control_graph.specs.declared.arcs.Arc.{Arc}
+use Rattle.control_graph.specs.declared.graph.Graph.{Graph}
+use Rattle.control_graph.specs.declared.jumps.Jump.{Jump}
+use Rattle.control_graph.specs.declared.jumps.Jump.TheVariants.{Plain}
 use Rattle.geos_potentials.specs.declared.lengths.Link.{Link}
 use Rattle.geos_potentials.specs.declared.lengths.Way.{Way}
 use Rattle.geos_code.specs.Code.{IsPcOf}

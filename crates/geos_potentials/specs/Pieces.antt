@@ -1,31 +1,15 @@
--- Edges that stay in a piece, and LOOPs of it that may not pay.
-use Rattle.std.specs.Prelude.{◌≡◌, ◌<◌, ◌+◌, ◌-◌, ℕ, zero, suc, Bool, true, false, ◌&&◌, if◌then◌else◌, min, nat_le, nat_lt, List, Option, None, Some, slice_get, slice_index, slice_index_or}
-use Rattle.geos_potentials.specs.Arcs.{arc_at}
-use Rattle.geos_potentials.specs.Demands.{taken_from}
+-- What is summed up over a piece, and LOOPs of it that may not pay.
+use Rattle.std.specs.Prelude.{◌≡◌, ◌<◌, ◌+◌, ◌-◌, ℕ, zero, suc, true, false, ◌&&◌, if◌then◌else◌, min, nat_le, nat_lt, List, Option, None, Some, slice_get, slice_index}
+use Rattle.control_graph.specs.Arcs.{arc_at}
 use Rattle.geos_potentials.specs.Ranks.{noted_idle}
 use Rattle.geos_potentials.specs.Rounds.{set_by}
-use Rattle.geos_potentials.specs.Stuck.{HasPlace, IsIn}
-use Rattle.geos_potentials.specs.declared.arcs.Arc.{Arc}
+use Rattle.control_graph.specs.Orders.{IsIn}
+use Rattle.control_graph.specs.declared.arcs.Arc.{Arc}
 use Rattle.geos_potentials.specs.declared.classes.Classes.{Classes}
-use Rattle.geos_potentials.specs.declared.jumps.Jump.{Jump}
-use Rattle.geos_potentials.specs.declared.jumps.Jump.TheVariants.{Plain}
-use Rattle.geos_potentials.specs.declared.pieces.Order.{Order}
-use Rattle.geos_potentials.specs.declared.pieces.Piece.{Piece}
-
--- the edge of a pc leads to a place of a piece, and is no LOOP's that is left out or pays
-pub record LeadsWithin (arcs : List (List (Option Arc))) (jumps : List Jump) (order : Order) (piece : Piece) (pc : ℕ) (branch : Bool)
-    (to : ℕ) : Type 0 where
-  pub arc : Arc
-  pub read : arc_at arcs pc branch ≡ Some arc
-  pub leads : arc.to ≡ to
-  pub stays : HasPlace order piece to
-  pub plain : branch ≡ true → (other : Jump) → slice_index_or jumps pc other ≡ Plain
-
--- such an edge takes a unit from a counter
-pub record TakesWithin (arcs : List (List (Option Arc))) (jumps : List Jump) (order : Order) (piece : Piece) (pc k : ℕ) : Type 0 where
-  pub to : ℕ
-  pub leads : LeadsWithin arcs jumps order piece pc true to
-  pub takes : taken_from leads.arc.counting ≡ Some k
+use Rattle.control_graph.specs.declared.jumps.Jump.{Jump}
+use Rattle.control_graph.specs.declared.pieces.Order.{Order}
+use Rattle.control_graph.specs.declared.pieces.Piece.{Piece}
+use Rattle.control_graph.specs.Ways.{TakesWithin}
 
 -- how much an edge sets a counter to, if there is one and it leads to a place of a piece; else 0
 abbrev pub set_within : Order → Piece → ℕ → Option Arc → ℕ

@@ -1,18 +1,20 @@
 -- Nests that wait on each other.
 use Rattle.std.specs.Prelude.{◌≡◌, ◌≢◌, ◌<◌, ℕ, Bool, true, false, List, [], ◌∷◌, Option, Some, slice_index_or}
-use Rattle.geos_potentials.specs.Arcs.{arc_at, unit_at}
-use Rattle.geos_potentials.specs.Demands.{taken_from, IsKeptOver}
-use Rattle.geos_potentials.specs.Stuck.{HasPlace}
-use Rattle.geos_potentials.specs.Rounds.{Step, AreSteps, pays_in}
-use Rattle.geos_potentials.specs.declared.arcs.Arc.{Arc}
-use Rattle.geos_potentials.specs.declared.arcs.Counting.TheVariants.{Sets}
-use Rattle.geos_potentials.specs.declared.jumps.Jump.{Jump}
-use Rattle.geos_potentials.specs.declared.jumps.Jump.TheVariants.{Plain}
+use Rattle.control_graph.specs.Arcs.{arc_at, taken_from}
+use Rattle.geos_potentials.specs.Arcs.{unit_at}
+use Rattle.geos_potentials.specs.Demands.{IsKeptOver}
+use Rattle.control_graph.specs.Orders.{HasPlace}
+use Rattle.geos_potentials.specs.Rounds.{Step, AreSteps}
+use Rattle.control_graph.specs.Jumps.{pays_in}
+use Rattle.control_graph.specs.declared.arcs.Arc.{Arc}
+use Rattle.control_graph.specs.declared.arcs.Counting.TheVariants.{Sets}
+use Rattle.control_graph.specs.declared.jumps.Jump.{Jump}
+use Rattle.control_graph.specs.declared.jumps.Jump.TheVariants.{Plain}
 use Rattle.geos_potentials.specs.declared.nests.Nest.{Nest}
 use Rattle.geos_potentials.specs.declared.nests.Splitting.{Splitting}
 use Rattle.geos_potentials.specs.declared.nests.Wait.{Wait}
-use Rattle.geos_potentials.specs.declared.pieces.Order.{Order}
-use Rattle.geos_potentials.specs.declared.pieces.Piece.{Piece}
+use Rattle.control_graph.specs.declared.pieces.Order.{Order}
+use Rattle.control_graph.specs.declared.pieces.Piece.{Piece}
 
 -- a nest was last to be paid for again for another, as that was paid for in a round
 pub record IsDueBy (nest : Nest) (on round : ℕ) : Type 0 where

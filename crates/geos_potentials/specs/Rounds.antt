@@ -1,27 +1,23 @@
 -- Ways round in nests, along edges that are noted, and what is paid for on them.
-use Rattle.std.specs.Prelude.{◌≡◌, ◌≢◌, ◌≤◌, ◌<◌, ◌+◌, ◌-◌, ◌*◌, ◌⊎◌, max, min, ◌==◌, ◌&&◌, nat_lt, ℕ, Bool, true, false, if◌then◌else◌, List, [], ◌∷◌, Option, None, Some, slice_index_or}
-use Rattle.geos_potentials.specs.declared.arcs.Arc.{Arc}
-use Rattle.geos_potentials.specs.declared.arcs.Counting.{Counting}
-use Rattle.geos_potentials.specs.declared.arcs.Counting.TheVariants.{Sets}
+use Rattle.std.specs.Prelude.{◌≡◌, ◌≢◌, ◌≤◌, ◌<◌, ◌+◌, ◌-◌, ◌*◌, ◌⊎◌, max, min, ◌==◌, ◌&&◌, ℕ, Bool, true, false, if◌then◌else◌, List, [], ◌∷◌, Option, None, Some, slice_index_or}
+use Rattle.control_graph.specs.declared.arcs.Arc.{Arc}
+use Rattle.control_graph.specs.declared.arcs.Counting.{Counting}
+use Rattle.control_graph.specs.declared.arcs.Counting.TheVariants.{Sets}
 use Rattle.geos_potentials.specs.declared.lengths.Link.{Link}
 use Rattle.geos_potentials.specs.declared.lengths.Share.{Share}
 use Rattle.geos_potentials.specs.declared.lengths.Share.TheVariants.{Nothing, Pays as PaysFor, Costs}
 use Rattle.geos_potentials.specs.declared.paying.Round.{Round}
 use Rattle.geos_potentials.specs.declared.paying.Rest.{Rest}
 use Rattle.geos_potentials.specs.declared.paying.Rest.TheVariants.{Nothing as NoRest, Inside}
-use Rattle.geos_potentials.specs.declared.jumps.Jump.{Jump}
-use Rattle.geos_potentials.specs.declared.jumps.Jump.TheVariants.{Plain, Free, Pays}
+use Rattle.control_graph.specs.declared.jumps.Jump.{Jump}
+use Rattle.control_graph.specs.declared.jumps.Jump.TheVariants.{Plain, Pays}
 use Rattle.geos_potentials.specs.declared.nests.Nest.{Nest}
 use Rattle.geos_potentials.specs.declared.nests.Splitting.{Splitting}
-use Rattle.geos_potentials.specs.declared.pieces.Piece.{Piece}
-use Rattle.geos_potentials.specs.Arcs.{arc_at, unit_at, price_of, paid_by}
-use Rattle.geos_potentials.specs.Stuck.{HasPlace}
-
--- the way of a LOOP to its target is left out in a nest: its counter is 0, or it pays in a nest before that
-abbrev pub is_left_out_in : ℕ → Jump → Bool
-is_left_out_in nest Plain = false
-is_left_out_in nest Free = true
-is_left_out_in nest (Pays other) = nat_lt other nest
+use Rattle.control_graph.specs.declared.pieces.Piece.{Piece}
+use Rattle.control_graph.specs.Arcs.{arc_at}
+use Rattle.geos_potentials.specs.Arcs.{unit_at, price_of, paid_by}
+use Rattle.control_graph.specs.Orders.{HasPlace}
+use Rattle.control_graph.specs.Jumps.{is_left_out_in, pays_in}
 
 -- an edge of a pc leads to a place of a nest's piece, and is no LOOP's way to its target that is left out there
 pub record StaysInNest (splitting : Splitting) (id : ℕ) (piece : Piece) (pc : ℕ) (branch : Bool) (to : ℕ) : Type 0 where
@@ -61,11 +57,6 @@ set_by k _ = 0
 
 abbrev pub set_of : ℕ → Step → ℕ
 set_of k step = set_by k step.arc.counting
-
--- the way to its target of a LOOP that pays in a nest takes a unit
-abbrev pub pays_in : ℕ → Jump → Bool
-pays_in nest (Pays other) = other == nest
-pays_in nest _ = false
 
 abbrev pub taken_of : List Jump → ℕ → Step → ℕ
 taken_of jumps nest step = if step.branch && pays_in nest (slice_index_or jumps step.pc Plain) then 1 else 0

@@ -1,14 +1,14 @@
 -- LOOPs that are left out: those whose counter is 0.
 use Rattle.std.specs.Prelude.{◌≡◌, ◌≤◌, ◌<◌, ℕ, Bool, ◌&&◌, ◌==◌, not, true, false, List, Option, Some, slice_index_or}
-use Rattle.geos_potentials.specs.Arcs.{arc_at, unit_at}
-use Rattle.geos_potentials.specs.Demands.{taken_from}
+use Rattle.control_graph.specs.Arcs.{arc_at, taken_from}
+use Rattle.geos_potentials.specs.Arcs.{unit_at}
 use Rattle.geos_potentials.specs.Least.{is_free}
 use Rattle.geos_potentials.specs.Ranks.{noted_idle}
-use Rattle.geos_potentials.specs.declared.arcs.Arc.{Arc}
-use Rattle.geos_potentials.specs.declared.arcs.Counting.TheVariants.{Sets}
+use Rattle.control_graph.specs.declared.arcs.Arc.{Arc}
+use Rattle.control_graph.specs.declared.arcs.Counting.TheVariants.{Sets}
 use Rattle.geos_potentials.specs.declared.classes.Classes.{Classes}
-use Rattle.geos_potentials.specs.declared.jumps.Jump.{Jump}
-use Rattle.geos_potentials.specs.declared.jumps.Jump.TheVariants.{Plain}
+use Rattle.control_graph.specs.declared.jumps.Jump.{Jump}
+use Rattle.control_graph.specs.declared.jumps.Jump.TheVariants.{Plain}
 
 -- by what is noted a counter is 0 at a pc: it is set on each way there, and to nothing but 0
 abbrev pub spent_at : Classes → ℕ → ℕ → Bool

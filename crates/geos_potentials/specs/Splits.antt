@@ -1,14 +1,14 @@
--- How a piece is split into components, and what is known of these.
-use Rattle.std.specs.Prelude.{◌≡◌, ◌≤◌, ◌<◌, ◌⊎◌, ℕ, ◌+◌, Bool, List, Option, None, slice_index, slice_index_or}
-use Rattle.geos_potentials.specs.Pieces.{LeadsWithin}
-use Rattle.geos_potentials.specs.Stuck.{StandsAt, HasPlace, IsIn}
-use Rattle.geos_potentials.specs.declared.arcs.Arc.{Arc}
-use Rattle.geos_potentials.specs.declared.depth.Depth.{Depth}
-use Rattle.geos_potentials.specs.declared.jumps.Jump.{Jump}
+-- How a piece is split into its components, and which pieces wait to be nests.
+use Rattle.std.specs.Prelude.{◌≡◌, ◌≤◌, ◌<◌, ℕ, Bool, List, Option, None, slice_index_or, ◌∷◌}
+use Rattle.control_graph.specs.Ways.{IsWayWithin}
+use Rattle.control_graph.specs.Orders.{IsIn}
+use Rattle.control_graph.specs.declared.arcs.Arc.{Arc}
+use Rattle.control_graph.specs.declared.jumps.Jump.{Jump}
 use Rattle.geos_potentials.specs.declared.nests.Nests.{Nests}
-use Rattle.geos_potentials.specs.declared.pieces.Order.{Order}
-use Rattle.geos_potentials.specs.declared.pieces.Piece.{Piece}
-use Rattle.geos_potentials.specs.declared.place.Place.{Place}
+use Rattle.control_graph.specs.declared.pieces.Order.{Order}
+use Rattle.control_graph.specs.declared.pieces.Piece.{Piece}
+use Rattle.geos_potentials.specs.declared.nests.Waiting.{Waiting}
+use Rattle.control_graph.specs.Parts.{IsComponent}
 
 -- there are no nests, and none are to be made
 pub record NoNests (nests : Nests) : Type 0 where
@@ -16,33 +16,33 @@ pub record NoNests (nests : Nests) : Type 0 where
   pub waits : nests.waits ≡ 0
   pub inner : (pc : ℕ) → slice_index_or nests.inner pc None ≡ None
 
--- a piece has more than one place, or an edge of its only one stays in it
-abbrev pub HasRound : List (List (Option Arc)) → List Jump → Order → Piece → Type 0
-HasRound arcs jumps order piece = (piece.begin < 4096) × ((piece.begin + 1 < piece.end)
-    ⊎ ((piece.begin + 1 ≡ piece.end)
-    × ((pc : ℕ) → StandsAt order piece.begin pc → (branch : Bool) × (to : ℕ) × LeadsWithin arcs jumps order piece pc branch to)))
+-- Pieces that wait
 
--- Places of a piece
+-- this piece waits, as one of them
+abbrev pub WaitsAt : Nests → ℕ → Piece → Type 0
+WaitsAt nests n piece = (n < nests.waits) × ((other : Waiting) → (slice_index_or nests.waiting n other).piece ≡ piece)
 
--- a place is of a piece: it stands there, or is noted as one that does
-abbrev pub IsOf : Order → Piece → ℕ → Type 0
-IsOf order piece pc = IsIn order piece pc ⊎ HasPlace order piece pc
+-- each piece that waits has a place and stands behind those before it, so that there are no more than places
+pub record WaitInOrder (nests : Nests) : Type 0 where
+  pub few : nests.waits ≤ 4096
+  pub first : (n : ℕ) (piece : Piece) → WaitsAt nests n piece → (n ≤ piece.begin) × (piece.begin < piece.end)
+  pub apart : (n m : ℕ) (piece other : Piece) → n < m → WaitsAt nests n piece → WaitsAt nests m other → piece.end ≤ other.begin
 
--- the first so many of some places are
-abbrev pub AreOf : Order → Piece → List Place → ℕ → Type 0
-AreOf order piece places count = (n : ℕ) (other : Place) → n < count → IsOf order piece (slice_index_or places n other).pc
+-- all pieces that wait stand before a piece, and are no more than its places can follow
+pub record WaitBefore (nests : Nests) (piece : Piece) : Type 0 where
+  pub order : WaitInOrder nests
+  pub before : (n : ℕ) (other : Piece) → WaitsAt nests n other → other.end ≤ piece.begin
+  pub few : nests.waits ≤ piece.begin
 
--- the first so many places on the path of a search are, and those that it has left
-pub record GoesIn (order : Order) (piece : Piece) (depth : Depth) (length : ℕ) : Type 0 where
-  pub path : AreOf order piece depth.path length
-  pub left : AreOf order piece depth.left depth.count
-
--- Components
-
--- a place is of the last component next, or of the one that it was of before; and of that it still is
-abbrev pub StayPlaced : ℕ → List ℕ → List ℕ → Type 0
-StayPlaced last old next = (pc : ℕ) → (slice_index next pc ≡ slice_index old pc) ⊎ ((slice_index old pc ≡ 0) × (slice_index next pc ≡ last))
-
--- the components of places that stand in a piece before some place of it are among the first so many, or not known
-abbrev pub ArePlaced : Order → Piece → List ℕ → ℕ → ℕ → Type 0
-ArePlaced order piece of end count = (x pc : ℕ) → piece.begin ≤ x → x < end → StandsAt order x pc → slice_index of pc ≤ count
+-- a piece is split: the parts of it that wait next are its components in which control goes round, in their order, and wherever control goes
+-- round in it, it does so by the same way in one of them; its places stay in it
+pub record IsSplit (arcs : List (List (Option Arc))) (jumps : List Jump) (order next : Order) (piece : Piece) (before after : Nests) : Type 0 where
+  pub stays : (n : ℕ) (other : Waiting) → n < before.waits → slice_index_or after.waiting n other ≡ slice_index_or before.waiting n other
+  pub more : before.waits ≤ after.waits
+  pub within : (pc : ℕ) → IsIn order piece pc → IsIn next piece pc
+  pub parts : (n : ℕ) (part : Piece) → before.waits ≤ n → WaitsAt after n part
+      → (piece.begin ≤ part.begin) × (part.end ≤ piece.end) × IsComponent arcs jumps next part
+  pub round : (from : ℕ) (branch : Bool) (branches : List Bool) → IsIn order piece from
+      → IsWayWithin arcs jumps order piece from (branch ∷ branches) from
+      → (n : ℕ) × (part : Piece) × (before.waits ≤ n) × WaitsAt after n part × IsIn next part from
+      × IsWayWithin arcs jumps next part from (branch ∷ branches) from

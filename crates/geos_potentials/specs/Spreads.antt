@@ -1,10 +1,11 @@
 -- Where numbers of counters come from that go along edges.
 use Rattle.std.specs.Prelude.{◌≡◌, ◌≤◌, ◌<◌, ℕ, Bool, true, false, List, Option, Some}
-use Rattle.geos_potentials.specs.declared.arcs.Arc.{Arc}
-use Rattle.geos_potentials.specs.declared.arcs.Counting.{Counting}
-use Rattle.geos_potentials.specs.declared.arcs.Counting.TheVariants.{Sets}
-use Rattle.geos_potentials.specs.Arcs.{arc_at, unit_at}
-use Rattle.geos_potentials.specs.Demands.{forgets, IsKeptOver}
+use Rattle.control_graph.specs.declared.arcs.Arc.{Arc}
+use Rattle.control_graph.specs.declared.arcs.Counting.{Counting}
+use Rattle.control_graph.specs.declared.arcs.Counting.TheVariants.{Sets}
+use Rattle.control_graph.specs.Arcs.{arc_at, forgets}
+use Rattle.geos_potentials.specs.Arcs.{unit_at}
+use Rattle.geos_potentials.specs.Demands.{IsKeptOver}
 use Rattle.geos_image.specs.Parts.{Parts}
 use Rattle.geos_code.specs.Code.{IsPcOf}
 

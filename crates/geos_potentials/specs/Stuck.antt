@@ -1,32 +1,17 @@
 -- Where a search for nests stops: pieces in which no LOOP may pay.
-use Rattle.std.specs.Prelude.{◌≡◌, ◌≤◌, ◌<◌, ℕ, Bool, true, List, [], ◌∷◌, Option, Some, slice_index, slice_index_or}
+use Rattle.std.specs.Prelude.{◌≡◌, ℕ, Bool, true, List, [], ◌∷◌, Option, Some, slice_index_or}
 use Rattle.geos_image.specs.Parts.{Parts}
-use Rattle.geos_potentials.specs.Arcs.{arc_at}
+use Rattle.control_graph.specs.Arcs.{arc_at, taken_from}
 use Rattle.geos_potentials.specs.Idle.{MayNotPay}
 use Rattle.geos_code.specs.Code.{IsPcOf}
-use Rattle.geos_potentials.specs.Demands.{taken_from}
 use Rattle.geos_potentials.specs.Numbers.{zeros}
 use Rattle.geos_potentials.specs.Ranks.{noted_idle}
-use Rattle.geos_potentials.specs.Waits.{Waits}
-use Rattle.geos_potentials.specs.declared.arcs.Arc.{Arc}
+use Rattle.control_graph.specs.Waits.{Waits}
+use Rattle.control_graph.specs.declared.arcs.Arc.{Arc}
 use Rattle.geos_potentials.specs.declared.classes.Classes.{Classes}
-use Rattle.geos_potentials.specs.declared.pieces.Order.{Order}
-use Rattle.geos_potentials.specs.declared.pieces.Piece.{Piece}
-use Rattle.geos_potentials.specs.declared.place.Place.{Place}
-
--- Places
-
--- this place stands somewhere in an order
-abbrev pub StandsAt : Order → ℕ → ℕ → Type 0
-StandsAt order x pc = (other : Place) → (slice_index_or order.places x other).pc ≡ pc
-
--- a piece has a place
-abbrev pub HasPlace : Order → Piece → ℕ → Type 0
-HasPlace order piece pc = (piece.begin ≤ slice_index order.at pc) × (slice_index order.at pc < piece.end)
-
--- a place stands in a piece
-abbrev pub IsIn : Order → Piece → ℕ → Type 0
-IsIn order piece pc = (x : ℕ) × (piece.begin ≤ x) × (x < piece.end) × StandsAt order x pc
+use Rattle.control_graph.specs.declared.pieces.Order.{Order}
+use Rattle.control_graph.specs.declared.pieces.Piece.{Piece}
+use Rattle.control_graph.specs.Orders.{HasPlace}
 
 -- Counters that may not pay
 

@@ -1,29 +1,30 @@
 -- What makes a nest tight: LOOPs may pay in it only where their counters are set in it.
 use Rattle.std.specs.Prelude.{◌≡◌, ◌≤◌, ◌<◌, ◌⊎◌, ℕ, Bool, true, false, List, Option, Some, slice_index_or}
-use Rattle.geos_potentials.specs.Arcs.{arc_at, unit_at}
+use Rattle.control_graph.specs.Arcs.{arc_at, taken_from}
+use Rattle.geos_potentials.specs.Arcs.{unit_at}
 use Rattle.geos_potentials.specs.Carried.{AreSpreadBut}
-use Rattle.geos_potentials.specs.Demands.{taken_from, IsKeptOver}
+use Rattle.geos_potentials.specs.Demands.{IsKeptOver}
 use Rattle.geos_potentials.specs.Making.{may_pay_in}
-use Rattle.geos_potentials.specs.Pieces.{TakesWithin}
+use Rattle.control_graph.specs.Ways.{TakesWithin}
 use Rattle.geos_potentials.specs.Ranks.{noted_idle}
 use Rattle.geos_potentials.specs.Rings.{SetsInPiece}
 use Rattle.geos_potentials.specs.Rounds.{StaysInNest}
 use Rattle.geos_potentials.specs.Spreads.{ComeBehind, SetsSome}
-use Rattle.geos_potentials.specs.Stuck.{StandsAt, HasPlace, IsIn}
-use Rattle.geos_potentials.specs.Waits.{Waits}
-use Rattle.geos_potentials.specs.declared.arcs.Arc.{Arc}
+use Rattle.control_graph.specs.Orders.{StandsAt, HasPlace, IsIn}
+use Rattle.control_graph.specs.Waits.{Waits}
+use Rattle.control_graph.specs.declared.arcs.Arc.{Arc}
 use Rattle.geos_potentials.specs.declared.choice.Choice.{Choice}
 use Rattle.geos_potentials.specs.declared.choice.Tier.{Tier}
 use Rattle.geos_potentials.specs.declared.choice.Tier.TheVariants.{Tight}
 use Rattle.geos_potentials.specs.declared.classes.Classes.{Classes}
-use Rattle.geos_potentials.specs.declared.jumps.Jump.{Jump}
-use Rattle.geos_potentials.specs.declared.jumps.Jump.TheVariants.{Plain, Pays}
+use Rattle.control_graph.specs.declared.jumps.Jump.{Jump}
+use Rattle.control_graph.specs.declared.jumps.Jump.TheVariants.{Plain, Pays}
 use Rattle.geos_potentials.specs.declared.nests.Nest.{Nest}
 use Rattle.geos_potentials.specs.declared.nests.Splitting.{Splitting}
 use Rattle.geos_potentials.specs.declared.nests.Waiting.{Waiting}
-use Rattle.geos_potentials.specs.declared.pieces.Order.{Order}
-use Rattle.geos_potentials.specs.declared.pieces.Piece.{Piece}
-use Rattle.geos_potentials.specs.declared.pile.Pile.{Pile}
+use Rattle.control_graph.specs.declared.pieces.Order.{Order}
+use Rattle.control_graph.specs.declared.pieces.Piece.{Piece}
+use Rattle.control_graph.specs.declared.pile.Pile.{Pile}
 
 -- Counters that are set in a piece
 

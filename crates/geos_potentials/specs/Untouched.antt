@@ -3,12 +3,12 @@ use Rattle.std.specs.Prelude.{◌≡◌, ◌≤◌, ◌<◌, ◌+◌, ℕ, Bool,
 use Rattle.geos_opcodes.specs.declared.opcode.Opcode.TheVariants.{Call}
 use Rattle.geos_image.specs.declared.point.Point.{Point}
 use Rattle.geos_image.specs.Parts.{Parts}
-use Rattle.geos_potentials.specs.Arcs.{arc_at, unit_at, touched_by}
-use Rattle.geos_potentials.specs.Demands.{forgets}
+use Rattle.control_graph.specs.Arcs.{arc_at, forgets}
+use Rattle.geos_potentials.specs.Arcs.{unit_at, touched_by}
 use Rattle.geos_potentials.specs.Within.{HoldsAt}
-use Rattle.geos_potentials.specs.declared.arcs.Arc.{Arc}
-use Rattle.geos_potentials.specs.declared.jumps.Jump.{Jump}
-use Rattle.geos_potentials.specs.declared.jumps.Jump.TheVariants.{Plain}
+use Rattle.control_graph.specs.declared.arcs.Arc.{Arc}
+use Rattle.control_graph.specs.declared.jumps.Jump.{Jump}
+use Rattle.control_graph.specs.declared.jumps.Jump.TheVariants.{Plain}
 use Rattle.geos_code.specs.Code.{IsPcOf}
 
 -- it is not noted at a pc that a call has touched a counter

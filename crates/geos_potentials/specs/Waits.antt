@@ -1,12 +1,9 @@
 -- Which places wait.
-use Rattle.std.specs.Prelude.{◌≡◌, ℕ, ◌⊎◌, true, false, List, slice_index_or}
+use Rattle.std.specs.Prelude.{◌≡◌, ℕ, ◌⊎◌, List}
 use Rattle.geos_potentials.specs.Arcs.{unit_at}
 use Rattle.geos_potentials.specs.Demands.{HaveGrown}
-use Rattle.geos_potentials.specs.declared.pile.Pile.{Pile}
-
--- a place waits
-abbrev pub Waits : Pile → ℕ → Type 0
-Waits pile pc = slice_index_or pile.has pc false ≡ true
+use Rattle.control_graph.specs.declared.pile.Pile.{Pile}
+use Rattle.control_graph.specs.Waits.{Waits}
 
 -- no number is less next, a place waits where one has grown, and what waited still does
 pub record HaveRisen (old next : List (List ℕ)) (before after : Pile) : Type 0 where

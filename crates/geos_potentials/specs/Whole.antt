@@ -1,14 +1,14 @@
 -- Nests whose places are a component.
 use Rattle.std.specs.Prelude.{◌≡◌, ◌≤◌, ◌<◌, ℕ, Bool, true, List, [], ◌∷◌, Option, Some, slice_index_or}
-use Rattle.geos_potentials.specs.Arcs.{arc_at}
+use Rattle.control_graph.specs.Arcs.{arc_at}
 use Rattle.geos_potentials.specs.Rounds.{Step, AreSteps}
-use Rattle.geos_potentials.specs.Stuck.{IsIn}
-use Rattle.geos_potentials.specs.declared.arcs.Arc.{Arc}
-use Rattle.geos_potentials.specs.declared.jumps.Jump.{Jump}
-use Rattle.geos_potentials.specs.declared.jumps.Jump.TheVariants.{Plain, Pays}
+use Rattle.control_graph.specs.Orders.{IsIn}
+use Rattle.control_graph.specs.declared.arcs.Arc.{Arc}
+use Rattle.control_graph.specs.declared.jumps.Jump.{Jump}
+use Rattle.control_graph.specs.declared.jumps.Jump.TheVariants.{Plain, Pays}
 use Rattle.geos_potentials.specs.declared.nests.Nest.{Nest}
 use Rattle.geos_potentials.specs.declared.nests.Splitting.{Splitting}
-use Rattle.geos_potentials.specs.declared.pieces.Piece.{Piece}
+use Rattle.control_graph.specs.declared.pieces.Piece.{Piece}
 
 -- steps along noted edges that stay in a nest lead from each of its places to each other
 abbrev pub IsWhole : List (List (Option Arc)) → Splitting → ℕ → Piece → Type 0

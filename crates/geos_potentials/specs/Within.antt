@@ -1,11 +1,11 @@
 -- Where numbers of counters are greater than others, by a law that passes back over edges.
 use Rattle.std.specs.Prelude.{◌≡◌, ◌<◌, ℕ, Bool, true, false, List, Option, Some, slice_index_or}
-use Rattle.geos_potentials.specs.Arcs.{arc_at, unit_at}
+use Rattle.control_graph.specs.Arcs.{arc_at, keeps, taken_from}
+use Rattle.geos_potentials.specs.Arcs.{unit_at}
 use Rattle.geos_potentials.specs.Carried.{AreCarried, NoneHeld}
-use Rattle.geos_potentials.specs.Demands.{keeps, taken_from}
-use Rattle.geos_potentials.specs.declared.arcs.Arc.{Arc}
-use Rattle.geos_potentials.specs.declared.jumps.Jump.{Jump}
-use Rattle.geos_potentials.specs.declared.jumps.Jump.TheVariants.{Plain, Pays}
+use Rattle.control_graph.specs.declared.arcs.Arc.{Arc}
+use Rattle.control_graph.specs.declared.jumps.Jump.{Jump}
+use Rattle.control_graph.specs.declared.jumps.Jump.TheVariants.{Plain, Pays}
 
 -- what holds of a counter where an edge leads that keeps it holds where the edge begins
 abbrev pub PassesBack : List (List (Option Arc)) → (ℕ → ℕ → Bool) → Type 0

@@ -6,9 +6,10 @@ ghost use Rattle.geos_potentials.specs.Constants.{IsAsked, StaysIn};
 ghost use Rattle.geos_potentials.specs.Numbers.{numbers_of, zeros};
 ghost use Rattle.geos_potentials.specs.Count.{asked_steps, asked_coefficients, return_steps, AsksSteps, IsFound};
 
-use geos_code::{Body, Known, Table, edge_in, row_of};
+use geos_code::{Body, Known, edge_in, row_of};
 use geos_image::{Instr, Opcode, Potential};
 use geos_verify::{Asked, asked_along, asked_branching};
+use pc_tables::Table;
 
 /// The potential at each pc.
 pub type Potentials = Table<Potential>;

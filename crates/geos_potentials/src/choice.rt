@@ -1,22 +1,21 @@
 //! Which LOOPs are to pay for ways round among the places of a component.
 
 ghost use Rattle.std.specs.Prelude.{◌≡◌, ◌<◌, ◌≤◌, ◌==◌, ◌+◌, ◌⊎◌, ℕ, true, false, not, min, None, Some, IfSome, IfNone, MatchOption, slice_index_or};
-ghost use Rattle.geos_potentials.specs.Arcs.{arc_at, unit_at};
-ghost use Rattle.geos_potentials.specs.Demands.{taken_from};
+ghost use Rattle.control_graph.specs.Arcs.{arc_at, taken_from};
+ghost use Rattle.geos_potentials.specs.Arcs.{unit_at};
 ghost use Rattle.geos_potentials.specs.Least.{is_free};
 ghost use Rattle.geos_potentials.specs.Making.{may_pay_in, NoneMayPayIn, ArePriced, ArePrices, IsChosen, IsSomeChosen};
-ghost use Rattle.geos_potentials.specs.Pieces.{TakesWithin, NoneMayPay, SumsUp, set_within};
+ghost use Rattle.control_graph.specs.Ways.{TakesWithin};
+ghost use Rattle.geos_potentials.specs.Pieces.{NoneMayPay, SumsUp, set_within};
 ghost use Rattle.geos_potentials.specs.Ranks.{noted_idle};
 ghost use Rattle.geos_potentials.specs.Untouched.{untouched};
 ghost use Rattle.geos_potentials.specs.Within.{HoldsAt};
-ghost use Rattle.geos_potentials.specs.declared.arcs.Arc.{Arc};
+ghost use Rattle.control_graph.specs.declared.arcs.Arc.{Arc};
 ghost use Rattle.geos_potentials.specs.declared.choice.Tier.TheVariants.{Clean, Tight};
-ghost use Rattle.geos_potentials.specs.declared.jumps.Jump.TheVariants.{Plain};
+ghost use Rattle.control_graph.specs.declared.jumps.Jump.TheVariants.{Plain};
 
 use crate::classes::Classes;
-use crate::graph::Graph;
-use crate::jumps::{Jumps, lead_within};
-use crate::pieces::{Order, Piece};
+use control_graph::{Graph, Jumps, Order, Piece, lead_within};
 
 /// Which LOOPs may pay, beside that no call has touched their counter.
 #[derive(Clone, Copy)]

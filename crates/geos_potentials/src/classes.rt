@@ -3,7 +3,7 @@
 ghost use Rattle.std.specs.Prelude.{◌≡◌, ◌≤◌, ◌<◌, ◌+◌, ◌==◌, ◌&&◌, ℕ, true, false, not, slice_index, slice_index_or, IfOk};
 ghost use Rattle.geos_potentials.specs.Arcs.{unit_at};
 ghost use Rattle.geos_potentials.specs.Carried.{AreSpread};
-ghost use Rattle.geos_potentials.specs.Demands.{forgets};
+ghost use Rattle.control_graph.specs.Arcs.{forgets};
 ghost use Rattle.geos_code.specs.Code.{IsPcOf};
 ghost use Rattle.geos_potentials.specs.Ranks.{noted_idle};
 ghost use Rattle.geos_potentials.specs.Spreads.{ComeBehind, ComeFrom, ForgetsIt, SetsTo, SetsSome, AllStandAt};
@@ -11,14 +11,12 @@ ghost use Rattle.geos_potentials.specs.Spent.{spent_at, AreNotedSet};
 ghost use Rattle.geos_potentials.specs.Stuck.{StayNoted, NothingNoted};
 ghost use Rattle.geos_potentials.specs.Tight.{StaysAlong, AreSetNoted, AreSetSoFar};
 ghost use Rattle.geos_potentials.specs.Untouched.{AreNotedBehind};
-ghost use Rattle.geos_potentials.specs.declared.arcs.Counting.TheVariants.{Sets};
+ghost use Rattle.control_graph.specs.declared.arcs.Counting.TheVariants.{Sets};
 
-use crate::arcs::{Arc, Counting};
-use crate::graph::Graph;
-use crate::pieces::{Order, Piece};
-use crate::pile::Pile;
 use crate::spread::{Spread, go_on, number_of, only, raise};
-use geos_code::{Body, Table, two_tables};
+use control_graph::{Arc, Counting, Graph, Order, Piece, Pile};
+use geos_code::Body;
+use pc_tables::{Table, two_tables};
 use std::alloc::{AllocError, Global};
 
 /// What is known of counters at each place.

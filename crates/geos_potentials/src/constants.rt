@@ -8,23 +8,21 @@ ghost use Rattle.geos_potentials.specs.Count.{StaysFrom};
 ghost use Rattle.geos_potentials.specs.Demands.{HaveGrown, StayWanted};
 ghost use Rattle.geos_potentials.specs.Lacks.{AsksPast, FreePasses};
 ghost use Rattle.geos_potentials.specs.Least.{AreEnds, AreLeast, StayAtMost, is_free, IsLookedAt, AreLookedAt, StayAtLoops, NoneOutside, ArePut, SomePasses, steps_at, AreCovered, AreShort, AreLonger, CoverReturns};
-ghost use Rattle.geos_potentials.specs.Led.{AreLed};
+ghost use Rattle.control_graph.specs.Led.{AreLed};
 ghost use Rattle.geos_potentials.specs.Looks.{RisesBy};
 ghost use Rattle.geos_potentials.specs.Numbers.{numbers_of};
 ghost use Rattle.geos_potentials.specs.Paid.{LoopPays, FreePay, AreSayable, HaveFour};
 ghost use Rattle.geos_potentials.specs.Waits.{HaveRisen};
 ghost use Rattle.geos_potentials.specs.Within.{StayWithinAt, StayWithinLoops};
-ghost use Rattle.geos_potentials.specs.declared.jumps.Jump.TheVariants.{Plain};
+ghost use Rattle.control_graph.specs.declared.jumps.Jump.TheVariants.{Plain};
 ghost use Rattle.geos_potentials.specs.declared.units.Lack.TheVariants.{Looks, Passes};
 
 use crate::asked::{Potentials, return_steps};
-use crate::graph::Graph;
-use crate::jumps::Jump;
 use crate::lengths::Link;
 use crate::looks::LOOKS;
 use crate::nests::Splitting;
-use crate::pieces::{Order, Piece};
 use crate::units::{Lack, Units};
+use control_graph::{Graph, Jump, Order, Piece};
 use geos_code::Body;
 use geos_image::Potential;
 

@@ -16,9 +16,10 @@ use crate::search::Search;
 use crate::spent::find_touched;
 use crate::unpaid::round_by;
 use crate::ways::WaysIn;
-use geos_code::{Body, Known, Table, body_of, is_loop, leads_back, two_tables};
+use geos_code::{Body, Known, body_of, is_loop, leads_back};
 use geos_image::Image;
 use geos_verify::Touched;
+use pc_tables::{Table, two_tables};
 use std::alloc::{AllocError, Global};
 
 /// Steps of a routine are counted from its last instruction to its first; `None` where a number is

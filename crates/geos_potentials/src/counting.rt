@@ -2,13 +2,15 @@
 
 ghost use Rattle.std.specs.Prelude.{◌≡◌, ◌<◌, ◌≤◌, ◌+◌, ℕ, Some, true, false, IfSome};
 ghost use Rattle.geos_image.specs.Fields.{FieldsFit};
-ghost use Rattle.geos_potentials.specs.Arcs.{counting_of, IsArcIf};
-ghost use Rattle.geos_potentials.specs.Demands.{taken_from};
+ghost use Rattle.geos_potentials.specs.Arcs.{counting_of, IsArcIf, AreArcs, NoArcsOutside};
+ghost use Rattle.control_graph.specs.Arcs.{taken_from};
 ghost use Rattle.geos_code.specs.Known.{row_of, known_at};
 ghost use Rattle.geos_potentials.specs.Steps.{taken_at};
+ghost use Rattle.geos_potentials.specs.Making.{AreInside};
+ghost use Rattle.control_graph.specs.Led.{AreLed};
 
-use crate::arcs::{Arc, Counting};
 use crate::spent::touched_by;
+use control_graph::{Arc, Counting, Graph};
 use geos_code::{Body, Known, bound_of, edge_in, row_of};
 use geos_image::{Instr, Opcode};
 use geos_verify::Touched;
@@ -82,4 +84,19 @@ pub(crate) fn arc_of(
         called: called_at(body, pc),
         counting: counting_over(body.image.instr(pc), known, touched, pc, branch),
     })
+}
+
+/// Notes the edges of a routine, in the place of those of another.
+pub(crate) fn note_edges(graph: &mut Graph, body: &Body, known: &Known, touched: &Touched)
+    ensures arcs { AreArcs body.now.image.now body.now.r known.now touched.now graph.new.arcs }
+    ensures outside { NoArcsOutside body.now.image.now body.now.r graph.new.arcs }
+    ensures inside { AreInside graph.new.arcs body.now.start body.now.end }
+    ensures led { AreLed graph.new }
+{
+    graph.clear_from(body.start);
+    for pc in body.start..body.end {
+        let along = arc_of(body, known, touched, pc, false);
+        let branching = arc_of(body, known, touched, pc, true);
+        graph.add(pc, along, branching);
+    }
 }

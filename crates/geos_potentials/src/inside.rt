@@ -1,16 +1,13 @@
 //! To which places control comes within a nest.
 
 ghost use Rattle.std.specs.Prelude.{◌≡◌, ◌≤◌, ◌<◌, ◌+◌, ◌*◌, ℕ, true, Some, List, IfSome};
-ghost use Rattle.geos_potentials.specs.Arcs.{arc_at};
+ghost use Rattle.control_graph.specs.Arcs.{arc_at};
 ghost use Rattle.geos_potentials.specs.Demands.{left_in};
 ghost use Rattle.geos_potentials.specs.Rounds.{Step, StaysInNest, AreSteps, AreCameTo};
 
-use crate::arcs::Arc;
-use crate::graph::Graph;
 use crate::nests::Splitting;
-use crate::pieces::Piece;
-use crate::pile::Pile;
 use crate::spread::{Spread, number_of, only, raise};
+use control_graph::{Arc, Graph, Piece, Pile};
 
 /// The edge of a place, if it leads to a place of a nest's piece, and is no LOOP's way to its target that is left out there.
 pub(crate) fn arc_in(

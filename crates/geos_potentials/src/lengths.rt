@@ -2,9 +2,9 @@
 
 ghost use Rattle.std.specs.Prelude.{◌<◌, IfSome};
 
-use crate::pieces::{Order, Piece};
-use geos_code::{Table, two_tables};
+use control_graph::{Order, Piece};
 use geos_image::MOST_INSTRS;
+use pc_tables::{Table, two_tables};
 use std::alloc::{AllocError, Global};
 
 /// What an edge has to do with the unit of the nest that is paid for.

@@ -3,30 +3,21 @@
 //! docs/VERIFIER.md says what potentials are.
 #![tactic(auto)]
 
-mod arcs;
 mod asked;
 mod choice;
 mod classes;
-mod components;
 mod constants;
 mod count;
 mod counting;
 mod cycles;
 mod dearest;
-mod depth;
-mod graph;
 mod idle;
 mod inside;
 mod jumps;
-mod leads;
 mod lengths;
-mod lists;
 mod looks;
 mod nests;
 mod paying;
-mod pieces;
-mod pile;
-mod place;
 mod ranks;
 mod reason;
 mod ring;
@@ -37,17 +28,11 @@ mod units;
 mod unpaid;
 mod ways;
 
-pub use arcs::{Arc, Counting};
 pub use asked::Potentials;
 pub use count::find_potentials;
 pub use counting::taken_at;
 pub use dearest::find_dearest;
-pub use graph::Graph;
-pub use jumps::{Jump, Jumps};
 pub use nests::{Nest, Nests, Splitting, Wait};
-pub use pieces::{Order, Piece};
-pub use pile::Pile;
-pub use place::Place;
 pub use ranks::some_always_may_pay;
 pub use reason::{Halted, Reason, Unfound};
 pub use search::{Halt, Search};

@@ -4,14 +4,13 @@ ghost use Rattle.std.specs.Prelude.{◌≡◌, ◌≢◌, ◌<◌, ◌≤◌, �
 ghost use Rattle.geos_potentials.specs.Least.{StayAtMost, AreLonger, AreCovered};
 ghost use Rattle.geos_potentials.specs.Looks.{RisesBy, SomeIsLonger, AreCoveredIn};
 ghost use Rattle.geos_potentials.specs.Numbers.{zeros};
-ghost use Rattle.geos_potentials.specs.Waits.{Waits};
+ghost use Rattle.control_graph.specs.Waits.{Waits};
 ghost use Rattle.geos_potentials.specs.declared.nests.Nest.{Nest};
 
 use crate::lengths::Lengths;
 use crate::nests::{Nest, Nests};
-use crate::pieces::{Order, Piece};
-use crate::pile::Pile;
 use crate::spread::Spread;
+use control_graph::{Order, Piece, Pile};
 use geos_image::MOST_INSTRS;
 
 /// How much is looked at in all: some 2 s. Of the texts that were made to hurt none took a third of that.

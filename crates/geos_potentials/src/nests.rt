@@ -1,30 +1,31 @@
 //! Nests: places among which control goes round, each with the LOOPs that pay for that.
 
 ghost use Rattle.std.specs.Prelude.{◌≡◌, ◌≢◌, ◌<◌, ◌≤◌, ◌+◌, ℕ, None, Some, true, false, min, IfOk, IfSome, IfNone, IfErr, slice_index, slice_index_or, slice_set};
-ghost use Rattle.geos_potentials.specs.Led.{AreLed};
+ghost use Rattle.control_graph.specs.Led.{AreLed};
 ghost use Rattle.geos_potentials.specs.Making.{AreInside, IsSomeChosen, plain_in, AreMarked, StayListed, CanGoOn, CanMake, NonePay};
-ghost use Rattle.geos_potentials.specs.Parts.{AreOrdered, CanSplit, WaitBefore, WaitInOrder, IsSplit};
+ghost use Rattle.control_graph.specs.Orders.{AreOrdered, HasPlace};
+ghost use Rattle.control_graph.specs.Parts.{CanSplit};
+ghost use Rattle.geos_potentials.specs.Splits.{WaitBefore, WaitInOrder, IsSplit, NoNests};
 ghost use Rattle.geos_potentials.specs.Pieces.{NoneMayPay};
 ghost use Rattle.geos_potentials.specs.Spent.{AreFree, AreLeftOut, MayPayAt, StayFree};
-ghost use Rattle.geos_potentials.specs.Splits.{NoNests, HasRound};
-ghost use Rattle.geos_potentials.specs.Stuck.{StayNoted, GoesRoundIdle, HasPlace};
+ghost use Rattle.control_graph.specs.Ways.{HasRound};
+ghost use Rattle.geos_potentials.specs.Stuck.{StayNoted, GoesRoundIdle};
 ghost use Rattle.geos_potentials.specs.Tight.{IsListed, MayPayWhereMarked, AreRightlyTight, StayRightlyTight};
 ghost use Rattle.geos_potentials.specs.Untouched.{AreUntouched, StayUntouched};
 ghost use Rattle.geos_potentials.specs.Whole.{AreWhole, EachRoundPays, PayInNests};
-ghost use Rattle.geos_potentials.specs.declared.jumps.Jump.TheVariants.{Plain};
+ghost use Rattle.control_graph.specs.declared.jumps.Jump.TheVariants.{Plain};
 ghost use Rattle.geos_potentials.specs.declared.nests.Nest.{Nest};
 ghost use Rattle.geos_potentials.specs.declared.nests.Waiting.{Waiting};
-ghost use Rattle.geos_potentials.specs.declared.pieces.Order.{Order};
-ghost use Rattle.geos_potentials.specs.declared.pieces.Piece.{Piece};
+ghost use Rattle.control_graph.specs.declared.pieces.Order.{Order};
+ghost use Rattle.control_graph.specs.declared.pieces.Piece.{Piece};
 
 use crate::choice::{Choice, Chosen, Tier, choose};
 use crate::classes::Classes;
-use crate::components::Components;
-use crate::graph::Graph;
-use crate::jumps::{Jump, Jumps, lead_within, loops_spent, may_pay};
-use crate::pieces::{Order, Piece};
-use geos_code::{Body, Table, two_tables};
+use crate::jumps::{loops_spent, may_pay};
+use control_graph::{Components, Graph, Jump, Jumps, Order, Piece, lead_within};
+use geos_code::Body;
 use geos_image::MOST_INSTRS;
+use pc_tables::{Table, two_tables};
 use std::alloc::{AllocError, Global};
 
 /// Why a nest is to be paid for again: the counter of another is set in it, for LOOPs that pay in that one, and a unit of it pays for more.
@@ -414,7 +415,7 @@ impl Splitting {
         self.nests.count = 0;
         self.nests.waits = 0;
         self.nests.inner.fill_from(body.start, None);
-        let all = self.order.begin(body);
+        let all = self.order.begin(body.start, body.end);
         self.split(graph, &all, None);
     }
 

@@ -4,21 +4,19 @@ ghost use Rattle.std.specs.Prelude.{◌≡◌, ◌≢◌, ◌<◌, ◌≤◌, �
 ghost use Rattle.geos_potentials.specs.Lacks.{IsLackIn, IsUnpaid};
 ghost use Rattle.geos_potentials.specs.Rounds.{HasShare, LinksIn, SetsLow, Adds, IsRound, LacksPast, lesser_of, IsOther, IsRest, IsLeftToOther};
 ghost use Rattle.geos_potentials.specs.Whole.{EachRoundPays};
-ghost use Rattle.geos_potentials.specs.declared.arcs.Arc.{Arc};
-ghost use Rattle.geos_potentials.specs.declared.arcs.Counting.TheVariants.{Sets};
+ghost use Rattle.control_graph.specs.declared.arcs.Arc.{Arc};
+ghost use Rattle.control_graph.specs.declared.arcs.Counting.TheVariants.{Sets};
 ghost use Rattle.geos_potentials.specs.declared.nests.Nest.{Nest};
 ghost use Rattle.geos_potentials.specs.declared.nests.Splitting.{Splitting};
 ghost use Rattle.geos_potentials.specs.declared.units.Units.{Units};
 
-use crate::arcs::Arc;
-use crate::graph::Graph;
 use crate::inside::arc_in;
-use crate::jumps::Jump;
 use crate::lengths::{Link, Share};
 use crate::looks::LOOKS;
 use crate::nests::{Nest, Splitting};
 use crate::spread::number_of;
 use crate::units::{Lack, Units};
+use control_graph::{Arc, Graph, Jump};
 use geos_image::MOST_INSTRS;
 
 /// How often the unit of a nest is raised to just what a way round lacks, before it is doubled each time.

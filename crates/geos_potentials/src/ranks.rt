@@ -4,14 +4,15 @@ ghost use Rattle.std.specs.Prelude.{◌≡◌, ◌<◌, ◌≤◌, ◌⊎◌, �
 ghost use Rattle.geos_potentials.specs.Touching.{KnowsTouched};
 ghost use Rattle.geos_potentials.specs.Idle.{LeadsIdle, IsNeverPaid};
 ghost use Rattle.geos_potentials.specs.Ranks.{AllRise, AreIdleNoted};
-ghost use Rattle.geos_potentials.specs.Waits.{Waits};
+ghost use Rattle.control_graph.specs.Waits.{Waits};
 
 use crate::classes::Classes;
-use crate::graph::Graph;
+use crate::counting::note_edges;
 use crate::idle::{are_noted, lead_idle};
-use crate::pile::Pile;
 use crate::spent::Touching;
-use geos_code::{Body, Known, Table, two_tables};
+use control_graph::{Graph, Pile};
+use geos_code::{Body, Known};
+use pc_tables::{Table, two_tables};
 use std::alloc::{AllocError, Global};
 
 /// The rank of each place.
@@ -152,7 +153,7 @@ pub fn some_always_may_pay(
 {
     let mut graph = Graph::new(alloc)?;
     let mut classes = Classes::new(alloc)?;
-    graph.note(body, known, &touching.certain);
+    note_edges(&mut graph, body, known, &touching.certain);
     classes.note(body, &graph);
     if are_noted(body, touching, &classes) {
         some_may_pay(alloc, body, &classes)

@@ -4,13 +4,10 @@ ghost use Rattle.std.specs.Prelude.{◌≡◌, ◌<◌, ℕ, true, IfSome};
 ghost use Rattle.geos_potentials.specs.Lacks.{SomeIsDue};
 ghost use Rattle.geos_potentials.specs.Rings.{SetsInPiece, AreKeptFrom, PaysAt, LeadsToPaying, WaitsOn, IsRing};
 
-use crate::arcs::Arc;
-use crate::graph::Graph;
 use crate::inside::comes_in;
 use crate::nests::{Nests, Splitting};
-use crate::pieces::{Order, Piece};
-use crate::pile::Pile;
 use crate::spread::{Spread, go_on, number_of, only, raise};
+use control_graph::{Arc, Graph, Order, Piece, Pile};
 use geos_image::MOST_INSTRS;
 
 // Where a nest waits on another

@@ -21,10 +21,10 @@ ghost use Rattle.geos_potentials.specs.Within.{StayWithinLoops};
 use crate::asked::Potentials;
 use crate::classes::Classes;
 use crate::constants::{find_constants, free_loops, put_potentials};
-use crate::graph::Graph;
+use crate::counting::note_edges;
 use crate::nests::Splitting;
-use crate::pieces::Piece;
 use crate::units::{Lack, Units};
+use control_graph::{Graph, Piece};
 use geos_code::{Body, Known};
 use geos_verify::Touched;
 use std::alloc::{AllocError, Global};
@@ -104,7 +104,7 @@ impl Search {
         ensures noted { AreArcs body.now.image.now body.now.r known.now touched.now self.new.graph.arcs }
         ensures stays { StaysFrom (start_of body.now.image.now.routines (body.now.r + 1)) (numbers_of potentials.old) (numbers_of potentials.new) }
     {
-        self.graph.note(body, known, touched);
+        note_edges(&mut self.graph, body, known, touched);
         self.classes.note(body, &self.graph);
         if let Err(piece) = self.splitting.find(body, &self.graph, &mut self.classes) {
             return Err(Halt::Stuck(piece));
@@ -127,7 +127,7 @@ impl Search {
         ensures none { NotesTouched body.now.image.now touched.now → NotesAllTouched body.now.image.now touched.now
             → IfNone result (IsNeverPaid body.now.image.now body.now.r → ⊥) }
     {
-        self.graph.note(body, known, touched);
+        note_edges(&mut self.graph, body, known, touched);
         self.classes.note(body, &self.graph);
         self.splitting.find_idle(body, &self.graph, &self.classes)
     }

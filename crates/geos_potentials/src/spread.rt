@@ -2,23 +2,20 @@
 
 ghost use Rattle.std.specs.Prelude.{◌≡◌, ◌≤◌, ◌<◌, ◌+◌, ◌*◌, ◌⊎◌, ℕ, true, false, max, length, slice_index, slice_index_or, slice_set};
 ghost use Rattle.geos_verify.specs.Lists.{zip2};
-ghost use Rattle.geos_potentials.specs.Arcs.{arc_at};
+ghost use Rattle.control_graph.specs.Arcs.{arc_at, taken_from};
 ghost use Rattle.geos_potentials.specs.Carried.{AreHeld, NoneHeld, AreBroughtBack, AreBroughtOn, CarriesInto, Carries, SpreadOn};
-ghost use Rattle.geos_potentials.specs.Demands.{kept_over, left_in, taken_from, AreRaised, HaveGrown, StayWanted};
+ghost use Rattle.geos_potentials.specs.Demands.{kept_over, left_in, AreRaised, HaveGrown, StayWanted};
 ghost use Rattle.geos_potentials.specs.Least.{is_free, StayAtLoops};
 ghost use Rattle.geos_potentials.specs.Numbers.{zeros};
 ghost use Rattle.geos_potentials.specs.Spreads.{HaveCome, StayCome};
 ghost use Rattle.geos_potentials.specs.Waits.{HaveRisen};
 ghost use Rattle.geos_potentials.specs.Within.{StayWithin};
-ghost use Rattle.geos_potentials.specs.declared.arcs.Arc.{Arc};
-ghost use Rattle.geos_potentials.specs.declared.jumps.Jump.TheVariants.{Plain};
+ghost use Rattle.control_graph.specs.declared.arcs.Arc.{Arc};
+ghost use Rattle.control_graph.specs.declared.jumps.Jump.TheVariants.{Plain};
 
-use crate::arcs::Arc;
-use crate::graph::Graph;
-use crate::jumps::{Jump, Jumps};
-use crate::pile::Pile;
-use geos_code::Table;
+use control_graph::{Arc, Graph, Jump, Jumps, Pile};
 use geos_image::MOST_INSTRS;
+use pc_tables::Table;
 
 /// A number of each counter at each place.
 pub type Spread = Table<[u32; 4]>;

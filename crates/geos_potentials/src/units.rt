@@ -1,32 +1,29 @@
 //! What a unit of each counter pays for, nest by nest: as much as ways round lack that go through its LOOPs.
 
 ghost use Rattle.std.specs.Prelude.{◌≡◌, ◌≢◌, ◌<◌, ◌≤◌, ◌+◌, ◌-◌, ◌*◌, ℕ, min, true, false, [], Some, IfOk, IfErr, slice_index_or};
-ghost use Rattle.geos_potentials.specs.Arcs.{IsLink, arc_at, unit_at, price_of, paid_by};
+ghost use Rattle.geos_potentials.specs.Arcs.{IsLink, unit_at, price_of, paid_by};
+ghost use Rattle.control_graph.specs.Arcs.{arc_at, taken_from};
 ghost use Rattle.geos_potentials.specs.Carried.{AreCarried, AreHeld, Carries, NoneHeld, StayCarried};
-ghost use Rattle.geos_potentials.specs.Demands.{AreWanted, HaveGrown, StayWanted, taken_from};
+ghost use Rattle.geos_potentials.specs.Demands.{AreWanted, HaveGrown, StayWanted};
 ghost use Rattle.geos_potentials.specs.Lacks.{IsUnpaid, AreDueFor, IsDueAt, PricePasses};
 ghost use Rattle.geos_potentials.specs.Least.{StayAtLoops, StayAtMost, AreLonger, AreCovered};
-ghost use Rattle.geos_potentials.specs.Led.{AreLed};
+ghost use Rattle.control_graph.specs.Led.{AreLed};
 ghost use Rattle.geos_potentials.specs.Looks.{RisesBy, SomeIsLonger, AreCoveredIn};
 ghost use Rattle.geos_potentials.specs.Waits.{HaveRisen};
 ghost use Rattle.geos_potentials.specs.Whole.{StayNests};
 ghost use Rattle.geos_potentials.specs.Within.{StayWithin, StayWithinAt, StayWithinLoops, pays};
-ghost use Rattle.geos_potentials.specs.declared.arcs.Arc.{Arc};
+ghost use Rattle.control_graph.specs.declared.arcs.Arc.{Arc};
 ghost use Rattle.geos_potentials.specs.declared.nests.Nest.{Nest};
 
-use crate::arcs::{Arc, Counting};
-use crate::graph::Graph;
-use crate::jumps::Jumps;
 use crate::lengths::{Lengths, Link, Share};
 use crate::looks::{LOOKS, Looked};
 use crate::nests::{Nest, Splitting, Wait};
 use crate::paying::{Paying, Rest};
-use crate::pieces::{Order, Piece};
-use crate::pile::Pile;
 use crate::ring::find_ring;
 use crate::spread::{Spread, go_back, go_back_free, go_back_from, number_of, only, raise};
-use geos_code::two_tables;
+use control_graph::{Arc, Counting, Graph, Jumps, Order, Piece, Pile};
 use geos_image::MOST_INSTRS;
+use pc_tables::two_tables;
 use std::alloc::{AllocError, Global};
 
 /// After so many rounds over the nests it is first looked for some that wait on each other in a ring, and then each time after twice as many.

@@ -7,7 +7,8 @@ ghost use Rattle.geos_potentials.specs.Idle.{LeadsUnpaid, IsUnpaidWay, GoesRound
 use crate::cycles::has_unpaid_cycle;
 use crate::ways::{Came, WaysIn};
 use geos_causes::BackWay;
-use geos_code::{Body, Table, edge_in, is_loop};
+use geos_code::{Body, edge_in, is_loop};
+use pc_tables::Table;
 
 /// Where an edge of the instruction leads, if it has it, it stays in the routine, and it is no LOOP's way to its target.
 pub(crate) fn lead_unpaid(body: &Body, pc: u16, branch: bool) -> Option<u16>

@@ -2,8 +2,9 @@
 
 ghost use Rattle.std.specs.Prelude.{◌<◌, ◌≤◌, IfSome};
 
-use geos_code::{Body, Lead, Table, edge_in, two_tables};
+use geos_code::{Body, Lead, edge_in};
 use geos_image::MOST_INSTRS;
+use pc_tables::{Table, two_tables};
 use std::alloc::{AllocError, Global};
 
 /// A place on the way that is followed, and how many of its edges were.

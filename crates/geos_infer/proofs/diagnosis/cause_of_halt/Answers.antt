@@ -1,7 +1,7 @@
 use Rattle.std.proofs.Common.{sym, subst}
 use Rattle.std.specs.Prelude.{IfOk, IfSome}
 use Rattle.geos_potentials.specs.Halts.{IsInTheWay}
-use Rattle.geos_potentials.specs.Stuck.{HasPlace}
+use Rattle.control_graph.specs.Orders.{HasPlace}
 use Rattle.geos_potentials.specs.declared.search.Halt.{Halt}
 use Rattle.geos_potentials.proofs.Idling.{never-by}
 use Rattle.geos_infer.specs.Tells.{TellsOfHalt}

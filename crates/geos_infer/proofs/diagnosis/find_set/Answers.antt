@@ -1,5 +1,5 @@
 use Rattle.std.proofs.Common.{sym, subst}
-use Rattle.geos_potentials.specs.Stuck.{HasPlace}
+use Rattle.control_graph.specs.Orders.{HasPlace}
 use Rattle.geos_infer.proofs.diagnosis.find_set.Goals as goal
 
 pub returns-in-Some-clause-place : goal.returns-in-Some-clause-place

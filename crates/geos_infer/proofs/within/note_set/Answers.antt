@@ -1,7 +1,7 @@
 use Rattle.std.proofs.Common.{◌≡◌, ◌<◌, ℕ, subst, arith, inl, inr}
 use Rattle.std.proofs.lemmas.Bool.{cases_eq}
-use Rattle.geos_potentials.specs.Stuck.{StandsAt}
-use Rattle.geos_potentials.proofs.Placing.{same-stands}
+use Rattle.control_graph.specs.Orders.{StandsAt}
+use Rattle.control_graph.proofs.Placing.{same-stands}
 use Rattle.geos_infer.specs.Noted.{SetsIn}
 use Rattle.geos_infer.proofs.within.note_set.Goals as goal
 

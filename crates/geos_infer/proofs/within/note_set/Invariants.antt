@@ -1,6 +1,6 @@
 use Rattle.std.proofs.Common.{◌≡◌, ◌≤◌, ◌<◌, ℕ, true}
-use Rattle.geos_potentials.specs.Stuck.{StandsAt}
-use Rattle.geos_potentials.specs.declared.arcs.Arc.{Arc}
+use Rattle.control_graph.specs.Orders.{StandsAt}
+use Rattle.control_graph.specs.declared.arcs.Arc.{Arc}
 use Rattle.geos_infer.specs.Noted.{comes_to, SetsIn}
 use Rattle.geos_infer.proofs.within.note_set.Given as goal
 

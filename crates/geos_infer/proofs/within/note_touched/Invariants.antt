@@ -1,7 +1,6 @@
 use Rattle.std.proofs.Common.{◌≡◌, ◌≤◌, ◌<◌, ℕ, true, false, Some}
-use Rattle.geos_potentials.specs.Arcs.{arc_at}
-use Rattle.geos_potentials.specs.Demands.{forgets}
-use Rattle.geos_potentials.specs.declared.arcs.Arc.{Arc}
+use Rattle.control_graph.specs.Arcs.{arc_at, forgets}
+use Rattle.control_graph.specs.declared.arcs.Arc.{Arc}
 use Rattle.geos_infer.specs.Noted.{comes_to}
 use Rattle.geos_infer.proofs.within.note_touched.Given as goal
 

@@ -3,7 +3,7 @@ use Rattle.std.proofs.lemmas.Bool.{false≢true}
 use Rattle.std.proofs.lemmas.Option.{same_Some}
 use Rattle.geos_potentials.specs.Arcs.{unit_at}
 use Rattle.geos_potentials.specs.Making.{may_pay_in}
-use Rattle.geos_potentials.specs.Pieces.{TakesWithin}
+use Rattle.control_graph.specs.Ways.{TakesWithin}
 use Rattle.geos_potentials.proofs.Choosing.{priced-more, set-stays, set-new, least-some, price-more}
 use Rattle.geos_potentials.proofs.choice.add_price.Goals as goal
 

@@ -1,7 +1,7 @@
 use Rattle.std.proofs.Common.{◌≡◌, sym, ap, ◌∙◌}
 use Rattle.std.proofs.lemmas.Option.{none-some, same_Some}
-use Rattle.geos_potentials.specs.declared.arcs.Arc.{Arc}
-use Rattle.geos_potentials.specs.Demands.{taken_from}
+use Rattle.control_graph.specs.declared.arcs.Arc.{Arc}
+use Rattle.control_graph.specs.Arcs.{taken_from}
 use Rattle.geos_potentials.proofs.choice.counter_at.Goals as goal
 
 pub returns-in_err-lead_within-clause-all : goal.returns-in_err-lead_within-clause-all

@@ -1,9 +1,9 @@
 use Rattle.std.proofs.Common.{◌≡◌, Bool, true, false, Some, sym, ◌∙◌, inr}
 use Rattle.std.specs.Prelude.{◌&&◌, slice_index_or}
 use Rattle.std.proofs.lemmas.Bool.{and_parts, false≢true}
-use Rattle.geos_potentials.specs.Arcs.{arc_at}
+use Rattle.control_graph.specs.Arcs.{arc_at}
 use Rattle.geos_potentials.specs.Least.{is_free}
-use Rattle.geos_potentials.specs.declared.jumps.Jump.TheVariants.{Plain}
+use Rattle.control_graph.specs.declared.jumps.Jump.TheVariants.{Plain}
 use Rattle.geos_potentials.proofs.constants.link_at.Goals as goal
 
 other-false : (a b : Bool) → (a && b) ≡ false → a ≡ true → b ≡ false

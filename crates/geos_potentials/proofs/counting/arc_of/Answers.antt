@@ -4,7 +4,7 @@ use Rattle.geos_verify.proofs.Places.{if_some}
 use Rattle.std.specs.Prelude.{slice_get}
 use Rattle.geos_potentials.specs.Arcs.{counting_of}
 use Rattle.geos_code.specs.Known.{row_of, known_at}
-use Rattle.geos_potentials.specs.Demands.{taken_from}
+use Rattle.control_graph.specs.Arcs.{taken_from}
 use Rattle.geos_potentials.proofs.Bounding.{taken-few}
 use Rattle.geos_potentials.proofs.counting.arc_of.Goals as goal
 

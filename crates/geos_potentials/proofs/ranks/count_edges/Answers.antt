@@ -3,8 +3,8 @@ use Rattle.std.specs.Prelude.{slice_index}
 use Rattle.std.proofs.lemmas.Bool.{cases_eq}
 use Rattle.geos_potentials.specs.Idle.{LeadsIdle}
 use Rattle.geos_potentials.specs.Ranks.{AreIdleNoted}
-use Rattle.geos_potentials.specs.Waits.{Waits}
-use Rattle.geos_potentials.specs.declared.pile.Pile.{Pile}
+use Rattle.control_graph.specs.Waits.{Waits}
+use Rattle.control_graph.specs.declared.pile.Pile.{Pile}
 use Rattle.geos_potentials.proofs.ranks.count_edges.Goals.{then-at-eq0, else-at-eq0}
 use Rattle.geos_potentials.proofs.ranks.count_edges.Goals as goal
 

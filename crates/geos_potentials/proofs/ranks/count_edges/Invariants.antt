@@ -2,7 +2,7 @@ use Rattle.std.proofs.Common.{◌≡◌, ◌≤◌, ◌<◌, ℕ, Bool}
 use Rattle.std.specs.Prelude.{slice_index}
 use Rattle.geos_potentials.specs.Idle.{LeadsIdle}
 use Rattle.geos_potentials.specs.Ranks.{AreIdleNoted}
-use Rattle.geos_potentials.specs.Waits.{Waits}
+use Rattle.control_graph.specs.Waits.{Waits}
 use Rattle.geos_potentials.proofs.ranks.count_edges.Given as goal
 
 -- the edges from places before pc are counted

@@ -2,7 +2,7 @@ use Rattle.std.proofs.Common.{◌≡◌, ◌<◌, ℕ, List, sym, ap, ◌∙◌,
 use Rattle.std.specs.Prelude.{slice_index, slice_set}
 use Rattle.std.proofs.lemmas.List.{get_or-set_same}
 use Rattle.std.proofs.lemmas.Option.{none-some, same_Some}
-use Rattle.geos_potentials.specs.Waits.{Waits}
+use Rattle.control_graph.specs.Waits.{Waits}
 use Rattle.geos_potentials.proofs.ranks.pass_edge.Goals as goal
 
 pub returns-then-left-eq0-clause-none : goal.returns-then-left-eq0-clause-none

@@ -1,6 +1,6 @@
 use Rattle.std.proofs.Common.{ℕ, Some, sym, ap, ◌∙◌}
-use Rattle.geos_potentials.specs.Rounds.{pays_in}
-use Rattle.geos_potentials.specs.declared.jumps.Jump.TheVariants.{Plain}
+use Rattle.control_graph.specs.Jumps.{pays_in}
+use Rattle.control_graph.specs.declared.jumps.Jump.TheVariants.{Plain}
 use Rattle.geos_potentials.proofs.ring.loop_pays.Goals as goal
 
 pub returns-then-taken-counter : goal.returns-then-taken-counter

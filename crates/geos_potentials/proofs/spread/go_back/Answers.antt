@@ -1,5 +1,5 @@
 use Rattle.geos_potentials.specs.Carried.{NoneHeld, Nowhere}
-use Rattle.geos_potentials.specs.Waits.{Waits}
+use Rattle.control_graph.specs.Waits.{Waits}
 use Rattle.geos_potentials.proofs.Carrying.{take-carried, but-less}
 use Rattle.geos_potentials.proofs.Growing.{grown-on}
 use Rattle.geos_potentials.proofs.spread.go_back.Goals as goal

@@ -2,8 +2,8 @@ use Rattle.std.proofs.Common.{◌≡◌, ◌≤◌, ◌⊎◌, ◌+◌, ◌*◌}
 use Rattle.geos_potentials.specs.Carried.{AreCarriedBut, AreHeld}
 use Rattle.geos_potentials.specs.Demands.{left_in, HaveGrown, StayWanted}
 use Rattle.geos_potentials.specs.Least.{StayAtLoops}
-use Rattle.geos_potentials.specs.Led.{AreLed}
-use Rattle.geos_potentials.specs.Waits.{Waits}
+use Rattle.control_graph.specs.Led.{AreLed}
+use Rattle.control_graph.specs.Waits.{Waits}
 use Rattle.geos_potentials.specs.Within.{StayWithin}
 use Rattle.geos_potentials.proofs.Carrying.{ArePending}
 use Rattle.geos_potentials.proofs.spread.go_back_free_from.Given as goal

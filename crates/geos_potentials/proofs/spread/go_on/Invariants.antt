@@ -2,7 +2,7 @@ use Rattle.std.proofs.Common.{◌+◌, ◌*◌}
 use Rattle.geos_potentials.specs.Carried.{AreSpreadBut}
 use Rattle.geos_potentials.specs.Demands.{left_in, HaveGrown}
 use Rattle.geos_potentials.specs.Spreads.{HaveCome}
-use Rattle.geos_potentials.specs.Waits.{Waits}
+use Rattle.control_graph.specs.Waits.{Waits}
 use Rattle.geos_potentials.proofs.spread.go_on.Given as goal
 
 -- each number comes from where it was at first, and is where edges lead but from places that wait, if it was at first

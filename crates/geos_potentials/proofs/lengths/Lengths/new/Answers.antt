@@ -1,6 +1,6 @@
 use Rattle.std.proofs.Common.{ap}
 use Rattle.geos_potentials.specs.declared.lengths.Way.{Way}
-use Rattle.geos_potentials.proofs.Placing.{none-at}
+use Rattle.control_graph.proofs.Placing.{none-at}
 use Rattle.geos_potentials.proofs.lengths.Lengths.new.Goals as goal
 
 pub returns : goal.returns

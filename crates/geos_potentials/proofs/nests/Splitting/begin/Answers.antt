@@ -1,6 +1,7 @@
 use Rattle.std.proofs.Common.{◌≡◌, ◌≤◌, refl, sym, ap, ◌∙◌, subst, arith, inl, inr}
 use Rattle.geos_potentials.specs.Making.{plain_in}
-use Rattle.geos_potentials.specs.Parts.{AreOrdered, CanSplit}
+use Rattle.control_graph.specs.Orders.{AreOrdered}
+use Rattle.control_graph.specs.Parts.{CanSplit}
 use Rattle.geos_potentials.specs.declared.nests.Splitting.{Splitting}
 use Rattle.geos_potentials.proofs.Marking.{plain-few}
 use Rattle.geos_potentials.proofs.Nesting.{made-split}

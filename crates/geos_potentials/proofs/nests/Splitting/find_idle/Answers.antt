@@ -1,7 +1,7 @@
 use Rattle.std.proofs.Common.{◌≡◌, List, refl, sym, subst, inr}
 use Rattle.geos_potentials.specs.Making.{CanMake, NonePay}
 use Rattle.geos_potentials.specs.Spent.{AreLeftOut, MayPayAt}
-use Rattle.geos_potentials.specs.declared.jumps.Jump.{Jump}
+use Rattle.control_graph.specs.declared.jumps.Jump.{Jump}
 use Rattle.geos_potentials.proofs.Leaving.{round-idle, left-none, no-round}
 use Rattle.geos_potentials.proofs.Taking.{can-make, at-end}
 use Rattle.geos_potentials.proofs.nests.Splitting.find_idle.Goals as goal

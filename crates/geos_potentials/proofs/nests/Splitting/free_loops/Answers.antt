@@ -5,8 +5,8 @@ use Rattle.std.proofs.lemmas.List.{length-set}
 use Rattle.geos_potentials.specs.Making.{NonePay}
 use Rattle.geos_potentials.specs.Spent.{LoopsSpent, AreFree}
 use Rattle.geos_potentials.specs.Untouched.{AreUntouched}
-use Rattle.geos_potentials.specs.declared.jumps.Jump.{Jump}
-use Rattle.geos_potentials.specs.declared.jumps.Jump.TheVariants.{Free}
+use Rattle.control_graph.specs.declared.jumps.Jump.{Jump}
+use Rattle.control_graph.specs.declared.jumps.Jump.TheVariants.{Free}
 use Rattle.geos_potentials.specs.declared.nests.Splitting.{Splitting}
 use Rattle.geos_potentials.proofs.Spending.{spent-untouched, none-free, none-pay, none-pay-free, one-free, not-free}
 use Rattle.geos_potentials.proofs.Untouched.{none-found, untouched-set}

@@ -1,8 +1,9 @@
 use Rattle.std.proofs.Common.{◌≡◌, ℕ, Bool, true, false, sym, ap, ◌∙◌, subst, arith, inl, inr}
 use Rattle.std.specs.Prelude.{is_some}
 use Rattle.std.proofs.lemmas.Bool.{false≢true}
-use Rattle.geos_potentials.specs.Pieces.{LeadsWithin}
-use Rattle.geos_potentials.proofs.Placing.{same-stands, some-lead}
+use Rattle.control_graph.specs.Ways.{LeadsWithin}
+use Rattle.control_graph.proofs.Placing.{same-stands}
+use Rattle.geos_potentials.proofs.Placing.{some-lead}
 use Rattle.geos_potentials.proofs.nests.Splitting.goes_round.Goals as goal
 
 pub returns-then-is_some-clause-only : goal.returns-then-is_some-clause-only

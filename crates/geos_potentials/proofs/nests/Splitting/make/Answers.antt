@@ -1,10 +1,12 @@
 use Rattle.std.proofs.Common.{◌≡◌, ◌≤◌, ◌<◌, ◌+◌, ℕ, List, length, refl, sym, ap, ◌∙◌, subst, arith, inl, inr}
 use Rattle.std.specs.Prelude.{slice_index_or}
 use Rattle.geos_potentials.specs.Making.{AreMarked, AreMadeSoFar, AreWaitingComponents, IsDue, plain_in}
-use Rattle.geos_potentials.specs.Parts.{AreOrdered, CanSplit, WaitBefore}
+use Rattle.control_graph.specs.Orders.{AreOrdered}
+use Rattle.control_graph.specs.Parts.{CanSplit}
+use Rattle.geos_potentials.specs.Splits.{WaitBefore}
 use Rattle.geos_potentials.specs.Tight.{IsListed, MayPayWhereMarked}
 use Rattle.geos_potentials.specs.declared.nests.Nest.{Nest}
-use Rattle.geos_potentials.specs.declared.pieces.Order.{Order}
+use Rattle.control_graph.specs.declared.pieces.Order.{Order}
 use Rattle.geos_potentials.proofs.Leaving.{round-idle}
 use Rattle.geos_potentials.proofs.Marking.{chosen-some}
 use Rattle.geos_potentials.proofs.Nesting.{made-marked, waiting-marked, made-split, due-lies}

@@ -3,16 +3,16 @@ use Rattle.std.specs.Prelude.{slice_set}
 use Rattle.std.proofs.lemmas.Bool.{cases_eq, false≢true}
 use Rattle.geos_potentials.specs.Making.{AreMarked, IsChosen, StayListed, plain_in}
 use Rattle.geos_potentials.specs.Spent.{StayFree}
-use Rattle.geos_potentials.specs.Stuck.{StandsAt}
-use Rattle.geos_potentials.specs.Pieces.{TakesWithin}
+use Rattle.control_graph.specs.Orders.{StandsAt}
+use Rattle.control_graph.specs.Ways.{TakesWithin}
 use Rattle.geos_potentials.specs.Tight.{MayPayWhereMarked}
 use Rattle.geos_potentials.specs.Untouched.{is_found, AreUntouched}
-use Rattle.geos_potentials.specs.declared.jumps.Jump.{Jump}
-use Rattle.geos_potentials.specs.declared.jumps.Jump.TheVariants.{Pays}
+use Rattle.control_graph.specs.declared.jumps.Jump.{Jump}
+use Rattle.control_graph.specs.declared.jumps.Jump.TheVariants.{Pays}
 use Rattle.geos_potentials.specs.declared.nests.Splitting.{Splitting}
-use Rattle.geos_potentials.specs.declared.pieces.Order.{Order}
+use Rattle.control_graph.specs.declared.pieces.Order.{Order}
 use Rattle.geos_potentials.proofs.Marking.{none-marked, one-marked, one-may, plain-set, listed-refl, listed-trans}
-use Rattle.geos_potentials.proofs.Placing.{same-stands}
+use Rattle.control_graph.proofs.Placing.{same-stands}
 use Rattle.geos_potentials.proofs.Spending.{pays-not-free, stay-free-on}
 use Rattle.geos_potentials.proofs.Untouched.{untouched-set}
 use Rattle.geos_potentials.proofs.nests.Splitting.mark.Goals.{then-takes, else-takes}

@@ -1,7 +1,7 @@
 use Rattle.std.proofs.Common.{◌≡◌, ◌≤◌, ◌<◌, ◌⊎◌, ℕ}
 use Rattle.geos_potentials.specs.Making.{AreMarked, IsChosen, StayListed, plain_in}
 use Rattle.geos_potentials.specs.Spent.{StayFree}
-use Rattle.geos_potentials.specs.Stuck.{StandsAt}
+use Rattle.control_graph.specs.Orders.{StandsAt}
 use Rattle.geos_potentials.specs.Tight.{MayPayWhereMarked}
 use Rattle.geos_potentials.specs.Untouched.{StayUntouched}
 use Rattle.geos_potentials.proofs.nests.Splitting.mark.Given as goal

@@ -1,7 +1,7 @@
 use Rattle.std.proofs.Common.{◌≡◌, ◌+◌, ◌-◌, ℕ, List, refl, sym, ◌∙◌, subst, arith}
 use Rattle.std.proofs.lemmas.Bool.{false≢true}
-use Rattle.geos_potentials.specs.Splits.{HasRound}
-use Rattle.geos_potentials.specs.declared.jumps.Jump.{Jump}
+use Rattle.control_graph.specs.Ways.{HasRound}
+use Rattle.control_graph.specs.declared.jumps.Jump.{Jump}
 use Rattle.geos_potentials.proofs.Parting.{IsSplitting, splitting-first, splitting-past, splitting-more, is-split}
 use Rattle.geos_potentials.proofs.nests.Splitting.split.Goals as goal
 

@@ -1,5 +1,6 @@
 use Rattle.std.proofs.Common.{◌≡◌, ◌≤◌, ℕ, length}
-use Rattle.geos_potentials.specs.Parts.{CanSplit, WaitBefore}
+use Rattle.control_graph.specs.Parts.{CanSplit}
+use Rattle.geos_potentials.specs.Splits.{WaitBefore}
 use Rattle.geos_potentials.proofs.Parting.{AreFound, IsSplitting}
 use Rattle.geos_potentials.proofs.nests.Splitting.split.Given as goal
 

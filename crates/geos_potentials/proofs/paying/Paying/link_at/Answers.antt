@@ -1,7 +1,8 @@
 use Rattle.std.proofs.Common.{◌≡◌, Bool, sym, ap, ◌∙◌, subst}
 use Rattle.std.specs.Prelude.{◌&&◌, slice_index_or}
-use Rattle.geos_potentials.specs.Rounds.{HasShare, pays_in}
-use Rattle.geos_potentials.specs.declared.jumps.Jump.TheVariants.{Plain}
+use Rattle.geos_potentials.specs.Rounds.{HasShare}
+use Rattle.control_graph.specs.Jumps.{pays_in}
+use Rattle.control_graph.specs.declared.jumps.Jump.TheVariants.{Plain}
 use Rattle.geos_potentials.proofs.paying.Paying.link_at.Goals.{then-branch, else-branch}
 use Rattle.geos_potentials.proofs.paying.Paying.link_at.Goals as goal
 

@@ -3,10 +3,10 @@ use Rattle.geos_image.specs.Parts.{start_of}
 use Rattle.geos_potentials.specs.Carried.{AreCarried, AreHeld, NoneHeld}
 use Rattle.geos_potentials.specs.Demands.{AreWanted}
 use Rattle.geos_potentials.specs.Least.{is_free, AreLeast, NoneOutside, AskNoMore, AreLookedAt, AreCovered, AreShort}
-use Rattle.geos_potentials.specs.Led.{AreLed}
+use Rattle.control_graph.specs.Led.{AreLed}
 use Rattle.geos_potentials.specs.Paid.{HavePaid, FreePay}
 use Rattle.geos_potentials.specs.Within.{HoldsAtLoops, ExceedWithin, StayWithinLoops}
-use Rattle.geos_potentials.specs.declared.jumps.Jump.{Jump}
+use Rattle.control_graph.specs.declared.jumps.Jump.{Jump}
 use Rattle.geos_potentials.specs.declared.lengths.Lengths.{Lengths}
 use Rattle.geos_potentials.proofs.Growing.{none-asks-more}
 use Rattle.geos_potentials.proofs.Priced.{found-ways}

@@ -1,7 +1,7 @@
 use Rattle.std.proofs.Common.{◌∙◌, arith, inl}
 use Rattle.geos_potentials.specs.Carried.{NoneHeld, Nowhere}
 use Rattle.geos_potentials.specs.Lacks.{PricePasses}
-use Rattle.geos_potentials.specs.Waits.{Waits}
+use Rattle.control_graph.specs.Waits.{Waits}
 use Rattle.geos_potentials.proofs.Carrying.{take-carried, but-less}
 use Rattle.geos_potentials.proofs.Growing.{price-passes-on, either-false}
 use Rattle.geos_potentials.proofs.Wholes.{stay-trans}

@@ -2,8 +2,8 @@ use Rattle.std.proofs.Common.{◌≡◌, ◌+◌, ◌*◌, ◌≤◌, false}
 use Rattle.geos_potentials.specs.Carried.{AreCarriedBut, NoneHeld}
 use Rattle.geos_potentials.specs.Demands.{left_in, StayWanted}
 use Rattle.geos_potentials.specs.Lacks.{PricePasses}
-use Rattle.geos_potentials.specs.Led.{AreLed}
-use Rattle.geos_potentials.specs.Waits.{Waits}
+use Rattle.control_graph.specs.Led.{AreLed}
+use Rattle.control_graph.specs.Waits.{Waits}
 use Rattle.geos_potentials.specs.Within.{StayWithin}
 use Rattle.geos_potentials.specs.Whole.{StayNests}
 use Rattle.geos_potentials.proofs.units.Units.carry.Given as goal

@@ -2,7 +2,7 @@ use Rattle.std.proofs.Common.{◌≡◌, ◌≤◌, List, refl, sym, ap, ◌∙�
 use Rattle.geos_potentials.specs.Carried.{AreCarried, NoneHeld}
 use Rattle.geos_potentials.specs.Demands.{AreWanted}
 use Rattle.geos_potentials.specs.Within.{ExceedWithin, HoldsAtLoops, pays}
-use Rattle.geos_potentials.specs.declared.jumps.Jump.{Jump}
+use Rattle.control_graph.specs.declared.jumps.Jump.{Jump}
 use Rattle.geos_potentials.specs.declared.units.Units.{Units}
 use Rattle.geos_potentials.proofs.units.Units.pay.Goals.{then-nest, else-nest}
 use Rattle.geos_potentials.proofs.Wholes.{stay-trans, stay-set, like-read}

@@ -1,7 +1,7 @@
 use Rattle.std.proofs.Common.{◌≡◌, ◌≤◌, ◌+◌, []}
 use Rattle.geos_potentials.specs.Carried.{AreCarried, NoneHeld}
 use Rattle.geos_potentials.specs.Demands.{AreWanted}
-use Rattle.geos_potentials.specs.Led.{AreLed}
+use Rattle.control_graph.specs.Led.{AreLed}
 use Rattle.geos_potentials.specs.Whole.{StayNests}
 use Rattle.geos_potentials.specs.Within.{StayWithinLoops, pays}
 use Rattle.geos_potentials.proofs.units.Units.pay_all.Given as goal

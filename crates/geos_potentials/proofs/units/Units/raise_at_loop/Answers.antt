@@ -1,7 +1,8 @@
 use Rattle.std.proofs.Common.{◌≡◌, sym, ap, ◌∙◌, subst, arith}
 use Rattle.std.proofs.lemmas.Option.{same_Some}
-use Rattle.geos_potentials.specs.declared.arcs.Arc.{Arc}
-use Rattle.geos_potentials.specs.Demands.{AreRaised, taken_from}
+use Rattle.control_graph.specs.declared.arcs.Arc.{Arc}
+use Rattle.geos_potentials.specs.Demands.{AreRaised}
+use Rattle.control_graph.specs.Arcs.{taken_from}
 use Rattle.geos_potentials.proofs.Demand.{loop-wanted, grows}
 use Rattle.geos_potentials.proofs.Within.{loop-within, raised-number}
 use Rattle.geos_potentials.proofs.units.Units.raise_at_loop.Goals as goal

@@ -1,6 +1,6 @@
 use Rattle.std.proofs.Common.{refl, sym, ap, ◌∙◌, subst, arith}
 use Rattle.geos_potentials.specs.Within.{pays}
-use Rattle.geos_potentials.specs.declared.jumps.Jump.TheVariants.{Plain}
+use Rattle.control_graph.specs.declared.jumps.Jump.TheVariants.{Plain}
 use Rattle.geos_potentials.specs.declared.looks.Looked.{Looked}
 use Rattle.geos_potentials.specs.declared.units.Units.{Units}
 use Rattle.geos_potentials.proofs.Within.{RiseAtLoops, rise-none, rise-more, rise-carried, pays-any}

@@ -1,0 +1,72 @@
+//! LOOPs' ways to their targets: which are left out, and which pay.
+
+ghost use Rattle.std.specs.Prelude.{◌≡◌, ◌<◌, ℕ, Some, IfSome};
+ghost use Rattle.control_graph.specs.Ways.{LeadsWithin};
+
+use crate::graph::Graph;
+use crate::pieces::{Order, Piece};
+use pc_tables::Table;
+
+/// What is found of the way from a place to its target.
+#[derive(Clone, Copy)]
+pub enum Jump {
+    /// It is like any edge; so far, where it is a LOOP's.
+    Plain,
+    /// A LOOP's whose counter is 0: it is left out.
+    Free,
+    /// A LOOP's, which pays in a nest and all that are around it.
+    Pays(u16),
+}
+
+impl Jump {
+    ghost use Rattle.std.specs.Prelude.{◌≡◌};
+    ghost use Rattle.control_graph.specs.Jumps.{pays_in, is_left_out_in};
+
+    /// Whether it is a LOOP's that pays in a nest.
+    pub fn pays_in(self, nest: u16) -> bool
+        ensures { result ≡ pays_in nest self }
+    {
+        match self {
+            Jump::Pays(other) => other == nest,
+            _ => false,
+        }
+    }
+
+    /// Whether it is a LOOP's that is left out, or pays in a nest around one.
+    pub fn is_left_out_in(self, nest: u16) -> bool
+        ensures { result ≡ is_left_out_in nest self }
+    {
+        match self {
+            Jump::Plain => false,
+            Jump::Free => true,
+            Jump::Pays(other) => other < nest,
+        }
+    }
+}
+
+/// What is found of the way from each place to its target.
+pub type Jumps = Table<Jump>;
+
+/// Where an edge leads that stays in a piece, and is no LOOP's way to its target that is left out or pays.
+pub fn lead_within(
+    graph: &Graph,
+    jumps: &Jumps,
+    order: &Order,
+    piece: &Piece,
+    pc: u16,
+    branch: bool,
+) -> Option<u16>
+    requires { pc < 4096 }
+    ensures inside { IfSome result (λ to. to < 4096) }
+    ensures some { IfSome result (LeadsWithin graph.now.arcs jumps.now order.now piece.now pc branch) }
+    ensures all { (to : ℕ) → LeadsWithin graph.now.arcs jumps.now order.now piece.now pc branch to → result ≡ Some to }
+{
+    if branch {
+        match jumps.at(pc) {
+            Jump::Plain => {}
+            _ => return None,
+        }
+    }
+    let to = graph.arc(pc, branch)?.to;
+    if order.has(piece, to) { Some(to) } else { None }
+}

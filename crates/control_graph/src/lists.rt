@@ -1,0 +1,71 @@
+//! Lists of what a search in depth has left: one for each component.
+
+ghost use Rattle.std.specs.Prelude.{◌<◌};
+
+use geos_image::MOST_INSTRS;
+use pc_tables::{Table, two_tables};
+use std::alloc::{AllocError, Global};
+
+/// A place that a search in depth has left, by its number.
+#[derive(Clone, Copy)]
+pub(crate) struct Left {
+    pub(crate) n: u16,
+    ghost inside: { n < 4096 },
+}
+
+/// The places of each component, in the order in which the search has left them: the first one, and behind each the next.
+#[derive(Drop)]
+pub(crate) struct Lists {
+    first: Table<Option<Left>>,
+    behind: Table<Option<Left>>,
+}
+
+impl Lists {
+    ghost use Rattle.std.specs.Prelude.{◌≡◌, ◌<◌, ◌+◌, ℕ, None, IfOk, slice_index_or};
+    ghost use Rattle.control_graph.specs.Arranged.{AreListed};
+
+    /// They are empty.
+    pub(crate) fn new(alloc: Global) -> Result<Lists, AllocError>
+        ensures { IfOk result (λ lists. (component : ℕ) → slice_index_or lists.first component None ≡ None) }
+    {
+        let (first, behind) = two_tables(alloc, None, None)?;
+        Ok(Lists { first, behind })
+    }
+
+    /// They are empty next.
+    pub(crate) fn clear(&mut self)
+        ensures { (component : ℕ → ℕ) (count : ℕ) → AreListed component count count self.new }
+    {
+        self.first.fill_from(0, None);
+    }
+
+    /// The place of a number comes first next among those of its component.
+    pub(crate) fn put(&mut self, component: u16, n: u16)
+        requires { n < 4096 }
+        ensures { (component_of : ℕ → ℕ) (count : ℕ) → component_of n ≡ component → n < count
+            → AreListed component_of count (n + 1) self.old → AreListed component_of count n self.new }
+    {
+        // For what their laws say.
+        self.first.lengths();
+        self.behind.lengths();
+        if component < MOST_INSTRS {
+            self.behind.set(n, self.first.at(component));
+            self.first.set(component, Some(Left { n }));
+        }
+    }
+
+    /// The first place of a component.
+    pub(crate) fn first(&self, component: u16) -> Option<Left>
+        requires { component < 4096 }
+        ensures { result ≡ slice_index_or self.now.first component None }
+    {
+        self.first.at(component)
+    }
+
+    /// The next one behind a place.
+    pub(crate) fn next(&self, place: Left) -> Option<Left>
+        ensures { result ≡ slice_index_or self.now.behind place.n None }
+    {
+        self.behind.at(place.n)
+    }
+}

@@ -1,0 +1,116 @@
+//! The places of a routine in the order in which they are gone over, and pieces of that order.
+
+ghost use Rattle.std.specs.Prelude.{◌≡◌, ◌-◌, ◌≤◌};
+
+use crate::place::Place;
+use pc_tables::{Table, two_tables};
+use std::alloc::{AllocError, Global};
+
+/// The places from one on up to another, in an order of places.
+#[derive(Clone, Copy)]
+pub struct Piece {
+    pub begin: u16,
+    pub end: u16,
+    ghost room: { end ≤ 4096 },
+}
+
+impl Piece {
+    /// How many places there are.
+    pub fn length(&self) -> u32
+        ensures value { result ≡ self.now.end - self.now.begin }
+        ensures few { result ≤ 4096 }
+    {
+        u32::from(self.end.saturating_sub(self.begin))
+    }
+}
+
+/// The places of a routine in some order.
+#[derive(Drop)]
+pub struct Order {
+    /// The place that stands first, and so on.
+    pub places: Table<Place>,
+    /// Where each place stands.
+    pub at: Table<u16>,
+}
+
+impl Order {
+    ghost use Rattle.std.specs.Prelude.{◌≡◌, ◌<◌, ◌≢◌, ◌≤◌, ◌↔◌, ℕ, IsTrue, slice_index, slice_set, IfOk};
+    ghost use Rattle.control_graph.specs.Arranged.{AreRearranged};
+    ghost use Rattle.control_graph.specs.Orders.{AreOrdered, StandsAt};
+
+    /// There are no places.
+    pub fn new(alloc: Global) -> Result<Order, AllocError>
+        ensures { IfOk result (λ order. (pc : ℕ) → slice_index order.at pc ≡ 0) }
+    {
+        let (places, at) = two_tables(alloc, Place { pc: 0 }, 0)?;
+        Ok(Order { places, at })
+    }
+
+    /// The places from one on up to another stand in the order of their pcs; the piece that they are.
+    pub fn begin(&mut self, start: u16, end: u16) -> Piece
+        requires { end ≤ 4096 }
+        ensures begin { result.begin ≡ start }
+        ensures end { result.end ≡ end }
+        ensures stand { (pc : ℕ) → start ≤ pc → pc < end → StandsAt self.new pc pc }
+        ensures at { (pc : ℕ) → start ≤ pc → pc < end → slice_index self.new.at pc ≡ pc }
+    {
+        // For what its law says.
+        self.at.lengths();
+        for pc in start..end {
+            self.put(pc, pc);
+        }
+        Piece { begin: start, end }
+    }
+
+    /// A place stands here.
+    fn put(&mut self, x: u16, pc: u16)
+        requires here { x < 4096 }
+        requires place { pc < 4096 }
+        ensures at { self.new.at ≡ slice_set self.old.at pc x }
+        ensures stands { StandsAt self.new x pc }
+        ensures others { (y place : ℕ) → y ≢ x → StandsAt self.old y place → StandsAt self.new y place }
+        ensures back { (y place : ℕ) → y ≢ x → StandsAt self.new y place → StandsAt self.old y place }
+    {
+        // For what its law says.
+        self.places.lengths();
+        self.places.set(x, Place { pc });
+        self.at.set(pc, x);
+    }
+
+    /// A place stands here, and the place that stood here stands where that one did.
+    pub(crate) fn swap(&mut self, x: u16, pc: u16)
+        requires here { x < 4096 }
+        requires place { pc < 4096 }
+        requires there { slice_index self.old.at pc < 4096 }
+        ensures here { slice_index self.new.at pc ≡ x }
+        ensures rearranged { (start last begin end : ℕ) → AreOrdered self.old start last → start ≤ begin → end ≤ last
+            → start ≤ pc → pc < last → begin ≤ x → x < end → begin ≤ slice_index self.old.at pc → slice_index self.old.at pc < end
+            → AreRearranged self.old self.new start last begin end }
+    {
+        // For what its law says.
+        self.at.lengths();
+        let there = self.at.at(pc);
+        let other = self.place(x);
+        self.put(there, other);
+        self.put(x, pc);
+    }
+
+    /// The place that stands here.
+    pub fn place(&self, x: u16) -> u16
+        requires { x < 4096 }
+        ensures stands { StandsAt self.now x result }
+        ensures inside { result < 4096 }
+    {
+        let Place { pc } = self.places.at(x);
+        pc
+    }
+
+    /// Whether a piece has a place.
+    pub fn has(&self, piece: &Piece, pc: u16) -> bool
+        requires { pc < 4096 }
+        ensures { IsTrue result ↔ (piece.now.begin ≤ slice_index self.now.at pc) × (slice_index self.now.at pc < piece.now.end) }
+    {
+        let x = self.at.at(pc);
+        piece.begin <= x && x < piece.end
+    }
+}

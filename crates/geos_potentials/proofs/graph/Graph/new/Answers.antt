@@ -1,8 +1,0 @@
-use Rattle.geos_potentials.proofs.Placing.{none-at}
-use Rattle.geos_potentials.proofs.graph.Graph.new.Goals as goal
-
-pub returns : goal.returns
-returns c = record {
-  arcs = none-at c.in_ok-arcs.arcs c.in_ok-arcs.ensures;
-  first = c.in_ok-leads.ensures;
-}

@@ -1,0 +1,6 @@
+//! Tables by pc.
+#![tactic(auto)]
+
+mod table;
+
+pub use table::{Table, two_tables};
