@@ -1,8 +1,7 @@
 -- Searches in depth: ways that they find, how much is left to do, and how they begin and end.
-use Rattle.std.proofs.Common.{◌≡◌, ◌≢◌, ◌≤◌, ◌<◌, ◌⊎◌, ℕ, suc, ◌+◌, ◌-◌, Bool, true, false, List, [], ◌∷◌, ◌++◌, length, Option, refl, sym, ap, ◌∙◌, subst, arith, inl, inr, cond}
+use Rattle.std.proofs.Common.{◌≡◌, ◌≢◌, ◌≤◌, ◌<◌, ℕ, ◌+◌, Bool, false, List, [], ◌∷◌, ◌++◌, length, Option, refl, sym, ap, ◌∙◌, subst, arith, inl, inr, cond}
 use Rattle.std.specs.Prelude.{slice_index, slice_index_or, slice_set}
-use Rattle.std.specs.List.{sum_by, count_by}
-use Rattle.std.proofs.lemmas.Bool.{cases_eq, cases_lt, false≢true}
+use Rattle.std.proofs.lemmas.Bool.{cases_eq, cases_lt}
 use Rattle.std.proofs.lemmas.List.{length-set, get_or_past, get_or-set_same, get_or-set_other}
 use Rattle.std.proofs.lemmas.Option.{slice_get-get_or, get_or_from_slice_get}
 use Rattle.std.proofs.lemmas.List.Sums.{sum_by-set, get_or-le-sum_by, count_by-le-length}
@@ -14,9 +13,9 @@ use Rattle.control_graph.specs.declared.jumps.Jump.{Jump}
 use Rattle.control_graph.specs.declared.pieces.Order.{Order}
 use Rattle.control_graph.specs.declared.pieces.Piece.{Piece}
 use Rattle.control_graph.specs.declared.place.Place.{Place}
-use Rattle.control_graph.specs.Depths.{pc_at, first_place, is_followed, is_new, new_in, steps_left, to_do, ComesTo, IsNew, Enters, Leaves, HasWay, StayIn, LeavesInDepth, IsCome, GoesDeep, AreLeft}
+use Rattle.control_graph.specs.Depths.{pc_at, first_place, is_new, new_in, steps_left, to_do, ComesTo, IsNew, HasWay, StayIn, LeavesInDepth, IsCome, GoesDeep, AreLeft}
 use Rattle.control_graph.specs.Ways.{IsWayWithin, LeadBetween, LeadsWithin}
-use Rattle.control_graph.specs.Orders.{IsPieceOf, IsIn}
+use Rattle.control_graph.specs.Orders.{IsPieceOf, IsIn, IsOf, AreOf}
 
 -- Places that are not yet come to, and steps that are left
 
@@ -72,6 +71,19 @@ both-followed New new begun along = absurd (new refl)
 both-followed Begun new begun along = absurd (begun refl)
 both-followed Along new begun along = absurd (along refl)
 both-followed Done new begun along = refl
+
+-- one more place of a piece comes behind so many
+pub more-of : (order : Order) (piece : Piece) (old next : List Place) (n : ℕ) (place : Place) → n < length old
+    → next ≡ slice_set old n place → IsOf order piece place.pc → AreOf order piece old n → AreOf order piece next (n + 1)
+more-of order piece old next n place inside set is all m other few = elim (cases_eq m n) [
+  | inl same ↦ subst (IsOf order piece) (sym (at_next ∙ ap (λ (k : ℕ). (slice_index_or (slice_set old n place) k other).pc) same
+      ∙ ap (λ (p : Place). p.pc) (get_or-set_same old n place other inside))) is
+  | inr ne ↦ subst (IsOf order piece) (sym (at_next ∙ ap (λ (p : Place). p.pc) (get_or-set_other old n m place other ne)))
+      (all m other (omega (arith, few, ne)))
+]
+  where
+    at_next : (slice_index_or next m other).pc ≡ (slice_index_or (slice_set old n place) m other).pc
+    at_next = ap (λ (places : List Place). (slice_index_or places m other).pc) set
 
 -- a place is set
 pub comes-to : (old next : List Place) (n : ℕ) (place : Place) → n < length old → next ≡ slice_set old n place → ComesTo old next n place.pc

@@ -1,11 +1,8 @@
 -- What is known of a search in depth goes on as places are entered, as their edges are followed and as they are left.
-use Rattle.std.proofs.Common.{◌≡◌, ◌≢◌, ◌≤◌, ◌<◌, ◌⊎◌, ℕ, suc, ◌+◌, ◌-◌, Bool, true, false, List, [], ◌∷◌, ◌++◌, length, Option, refl, sym, ap, ◌∙◌, subst, arith, inl, inr, cond}
+use Rattle.std.proofs.Common.{◌≡◌, ◌≢◌, ◌≤◌, ◌<◌, ℕ, ◌+◌, ◌-◌, Bool, true, false, List, length, Option, refl, sym, ap, ◌∙◌, subst, arith, inl, inr}
 use Rattle.std.specs.Prelude.{slice_index, slice_index_or, slice_set}
-use Rattle.std.specs.List.{sum_by, count_by}
 use Rattle.std.proofs.lemmas.Bool.{cases_eq, cases_lt, false≢true}
-use Rattle.std.proofs.lemmas.List.{length-set, get_or_past, get_or-set_same, get_or-set_other}
-use Rattle.std.proofs.lemmas.Option.{slice_get-get_or, get_or_from_slice_get}
-use Rattle.std.proofs.lemmas.List.Sums.{sum_by-set, get_or-le-sum_by, count_by-le-length}
+use Rattle.std.proofs.lemmas.List.{get_or-set_same, get_or-set_other}
 use Rattle.control_graph.specs.declared.arcs.Arc.{Arc}
 use Rattle.control_graph.specs.declared.depth.Depth.{Depth}
 use Rattle.control_graph.specs.declared.depth.Search.{Search}
@@ -14,10 +11,10 @@ use Rattle.control_graph.specs.declared.jumps.Jump.{Jump}
 use Rattle.control_graph.specs.declared.pieces.Order.{Order}
 use Rattle.control_graph.specs.declared.pieces.Piece.{Piece}
 use Rattle.control_graph.specs.declared.place.Place.{Place}
-use Rattle.control_graph.specs.Depths.{pc_at, first_place, is_followed, is_new, new_in, steps_left, to_do, ComesTo, IsNew, Enters, Leaves, HasWay, StayIn, LeavesInDepth, IsCome, GoesDeep, AreLeft}
-use Rattle.control_graph.specs.Ways.{IsWayWithin, LeadBetween, LeadsWithin}
-use Rattle.control_graph.specs.Orders.{IsPieceOf, IsIn}
-use Rattle.control_graph.proofs.Deep.{same-new, less-to-do, same-way, same-lead, way-on, no-way, edge-way, left-stays}
+use Rattle.control_graph.specs.Depths.{pc_at, is_followed, is_new, new_in, steps_left, to_do, IsNew, Enters, Leaves, HasWay, LeavesInDepth, IsCome, GoesDeep}
+use Rattle.control_graph.specs.Ways.{LeadsWithin}
+use Rattle.control_graph.specs.Orders.{IsIn}
+use Rattle.control_graph.proofs.Deep.{same-new, less-to-do, same-way, same-lead, way-on, no-way, left-stays}
 
 -- a place that was not come to comes behind those on the path
 module _ (old next : Depth) (many to : ℕ) (E : Enters old next many to) (new : IsNew old to) (inside : to < length old.searched) where

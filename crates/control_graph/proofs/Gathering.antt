@@ -1,5 +1,5 @@
 -- Components are gathered from the places that a search in depth has left last.
-use Rattle.std.proofs.Common.{◌≡◌, ◌≢◌, ◌≤◌, ◌<◌, ◌⊎◌, ℕ, zero, suc, ◌+◌, ◌-◌, Bool, true, false, List, length, Option, Some, None, refl, sym, ap, ◌∙◌, subst, arith, inl, inr, cond}
+use Rattle.std.proofs.Common.{◌≡◌, ◌≢◌, ◌≤◌, ◌<◌, ◌⊎◌, ℕ, zero, suc, ◌+◌, Bool, List, length, Option, Some, None, sym, ap, ◌∙◌, subst, arith, inl, inr, cond}
 use Rattle.std.specs.Prelude.{slice_index, slice_index_or, slice_set}
 use Rattle.std.proofs.lemmas.Bool.{cases_eq, cases_lt}
 use Rattle.std.proofs.lemmas.List.Sums.{sum_by-set}
@@ -12,7 +12,7 @@ use Rattle.control_graph.specs.declared.pieces.Order.{Order}
 use Rattle.control_graph.specs.declared.pieces.Piece.{Piece}
 use Rattle.control_graph.specs.declared.pile.Pile.{Pile}
 use Rattle.control_graph.specs.Arcs.{arc_at}
-use Rattle.control_graph.specs.Depths.{pc_at, first_place, HasWay, StayIn, LeavesInDepth, AreLeft}
+use Rattle.control_graph.specs.Depths.{pc_at, first_place, HasWay, LeavesInDepth, AreLeft}
 use Rattle.control_graph.specs.Gathers.{is_unknown, unknown_in, IsSearched, AreGatheredFrom, IsGathered, AreAllGathered, Gathers, AreKnownInto, AreKnownBut, WaitIfAdded, StayPlaced}
 use Rattle.control_graph.specs.Led.{behind_at, IsAmong, AreLed}
 use Rattle.control_graph.specs.Orders.{IsPieceOf, HasPlace, IsIn}

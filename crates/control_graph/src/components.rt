@@ -44,10 +44,26 @@ impl Components {
         ensures of { IfOk result (λ components. (pc : ℕ) → slice_index components.of pc ≡ 0) }
         ensures none { IfOk result (λ components. (pc : ℕ) → Waits components.waits pc → ⊥) }
     {
+        // By calls of `drop`, so that the check does not go over each table here.
         let (of, ends) = two_tables(alloc, 0, 0)?;
-        let lists = Lists::new(alloc)?;
-        let waits = Pile::new(alloc)?;
-        let depth = Depth::new(alloc)?;
+        let Ok(lists) = Lists::new(alloc) else {
+            drop(of);
+            drop(ends);
+            return Err(AllocError);
+        };
+        let Ok(waits) = Pile::new(alloc) else {
+            drop(of);
+            drop(ends);
+            drop(lists);
+            return Err(AllocError);
+        };
+        let Ok(depth) = Depth::new(alloc) else {
+            drop(of);
+            drop(ends);
+            drop(lists);
+            drop(waits);
+            return Err(AllocError);
+        };
         Ok(Components {
             depth,
             of,

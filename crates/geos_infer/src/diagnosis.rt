@@ -31,7 +31,9 @@ use control_graph::Piece;
 use geos_causes::{BackWay, Cause, Within};
 use geos_code::{Body, Known, body_of, edge_in};
 use geos_image::Image;
-use geos_potentials::{Halt, Halted, Lack, Reason, Search, Touching, find_touching, some_always_may_pay};
+use geos_potentials::{
+    Halt, Halted, Lack, Reason, Search, Touching, find_touching, some_always_may_pay,
+};
 use geos_rows::Strongest;
 use pc_tables::Table;
 use std::alloc::{AllocError, Global};

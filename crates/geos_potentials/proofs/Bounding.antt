@@ -1,5 +1,5 @@
 -- Edges of a routine lead between its places, and LOOPs alone take, from one of four counters.
-use Rattle.std.proofs.Common.{◌≡◌, ◌≤◌, ◌<◌, ℕ, ◌+◌, Bool, true, false, List, Option, None, Some, refl, sym, ap, ◌∙◌, subst, arith, inl, inr}
+use Rattle.std.proofs.Common.{◌≡◌, ◌<◌, ℕ, ◌+◌, Bool, true, false, List, Option, Some, refl, sym, ◌∙◌, subst, arith, inl, inr}
 use Rattle.std.proofs.lemmas.Bool.{cases_lt}
 use Rattle.std.proofs.lemmas.Option.{same_Some, none-some}
 use Rattle.geos_opcodes.specs.declared.opcode.Opcode.{Opcode}
@@ -10,7 +10,7 @@ use Rattle.geos_image.specs.declared.row.Row.{Row}
 use Rattle.geos_image.specs.Parts.{Parts, start_of}
 use Rattle.geos_code.specs.Code.{IsPcOf}
 use Rattle.control_graph.specs.declared.arcs.Arc.{Arc}
-use Rattle.control_graph.specs.Arcs.{arc_at, taken_from}
+use Rattle.control_graph.specs.Arcs.{taken_from}
 use Rattle.geos_potentials.specs.Arcs.{counting_of, AreArcs, NoArcsOutside}
 use Rattle.control_graph.specs.Ways.{LeadBetween}
 use Rattle.geos_potentials.proofs.Demand.{is-arc}

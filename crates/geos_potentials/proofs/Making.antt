@@ -1,22 +1,18 @@
 -- Nests that are made: while some pieces wait, they are components, and so are the nests.
-use Rattle.std.proofs.Common.{◌≡◌, ◌≤◌, ◌<◌, ◌⊎◌, ◌+◌, ℕ, suc, Bool, true, false, List, [], ◌∷◌, Option, Some, refl, sym, ap, ◌∙◌, subst, arith, inl, inr}
+use Rattle.std.proofs.Common.{◌≡◌, ◌≤◌, ◌<◌, ℕ, Bool, false, List, [], ◌∷◌, Option, sym, ap, ◌∙◌, subst, arith, inl, inr}
 use Rattle.std.specs.Prelude.{slice_index, slice_index_or}
-use Rattle.std.proofs.lemmas.Bool.{cases_eq, cases_lt}
+use Rattle.std.proofs.lemmas.Bool.{cases_lt}
 use Rattle.std.proofs.lemmas.Option.{same_Some}
 use Rattle.control_graph.specs.declared.arcs.Arc.{Arc}
 use Rattle.control_graph.specs.declared.jumps.Jump.{Jump}
-use Rattle.control_graph.specs.declared.jumps.Jump.TheVariants.{Plain, Pays}
-use Rattle.geos_potentials.specs.declared.nests.Nest.{Nest}
-use Rattle.geos_potentials.specs.declared.nests.Nests.{Nests}
+use Rattle.control_graph.specs.declared.jumps.Jump.TheVariants.{Plain}
 use Rattle.geos_potentials.specs.declared.nests.Splitting.{Splitting}
 use Rattle.control_graph.specs.declared.pieces.Order.{Order}
 use Rattle.control_graph.specs.declared.pieces.Piece.{Piece}
-use Rattle.control_graph.specs.Arcs.{arc_at}
-use Rattle.geos_potentials.specs.Making.{AreInside, AreMarked, LiesInOrApart, AreMadeSoFar}
+use Rattle.geos_potentials.specs.Making.{AreInside, LiesInOrApart}
 use Rattle.control_graph.specs.Orders.{AreOrdered, HasPlace, IsIn}
-use Rattle.control_graph.specs.Ways.{IsWayWithin, LeadsWithin}
+use Rattle.control_graph.specs.Ways.{IsWayWithin}
 use Rattle.control_graph.specs.Parts.{IsComponent}
-use Rattle.geos_potentials.specs.Splits.{IsSplit}
 use Rattle.geos_potentials.specs.Rounds.{Step, AreSteps}
 use Rattle.control_graph.specs.Jumps.{is_left_out_in}
 use Rattle.geos_potentials.specs.Whole.{IsPlainWay, IsWhole}

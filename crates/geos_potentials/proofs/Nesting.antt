@@ -1,7 +1,7 @@
 -- Nests and pieces that wait, as LOOPs of a piece come to pay and it is split.
-use Rattle.std.proofs.Common.{◌≡◌, ◌≤◌, ◌<◌, ◌⊎◌, ◌+◌, ℕ, suc, Bool, true, false, List, [], ◌∷◌, Option, Some, refl, sym, ap, ◌∙◌, subst, arith, inl, inr}
-use Rattle.std.specs.Prelude.{nat_lt, slice_index, slice_index_or}
-use Rattle.std.proofs.lemmas.Bool.{cases_eq, cases_lt, le-ltb, false≢true}
+use Rattle.std.proofs.Common.{◌≡◌, ◌≤◌, ◌<◌, ◌⊎◌, ◌+◌, ℕ, Bool, false, List, [], ◌∷◌, Option, refl, sym, ap, ◌∙◌, subst, arith, inl, inr}
+use Rattle.std.specs.Prelude.{slice_index, slice_index_or}
+use Rattle.std.proofs.lemmas.Bool.{cases_lt, le-ltb, false≢true}
 use Rattle.control_graph.specs.declared.arcs.Arc.{Arc}
 use Rattle.control_graph.specs.declared.components.Components.{Components}
 use Rattle.control_graph.specs.declared.jumps.Jump.{Jump}
@@ -12,17 +12,15 @@ use Rattle.geos_potentials.specs.declared.nests.Splitting.{Splitting}
 use Rattle.geos_potentials.specs.declared.nests.Waiting.{Waiting}
 use Rattle.control_graph.specs.declared.pieces.Order.{Order}
 use Rattle.control_graph.specs.declared.pieces.Piece.{Piece}
-use Rattle.control_graph.specs.Arcs.{arc_at}
-use Rattle.geos_potentials.specs.Making.{AreInside, IsMarked, AreMarked, LiesInOrApart, IsWaiting, IsDue, IsAround, AreMadeSoFar, AreWaitingComponents}
+use Rattle.geos_potentials.specs.Making.{AreInside, AreMarked, LiesInOrApart, IsWaiting, IsDue, IsAround, AreMadeSoFar, AreWaitingComponents}
 use Rattle.control_graph.specs.Orders.{AreOrdered, HasPlace, IsIn}
 use Rattle.control_graph.specs.Ways.{IsWayWithin}
 use Rattle.control_graph.specs.Parts.{IsComponent}
-use Rattle.geos_potentials.specs.Splits.{IsSplit, WaitsAt, WaitInOrder, WaitBefore}
-use Rattle.geos_potentials.specs.Rounds.{Step, AreSteps}
+use Rattle.geos_potentials.specs.Splits.{IsSplit, WaitBefore}
 use Rattle.control_graph.specs.Jumps.{is_left_out_in}
 use Rattle.geos_potentials.specs.Untouched.{is_found}
-use Rattle.geos_potentials.specs.Whole.{IsPlainWay, IsWhole, AreWhole, PayInNests}
-use Rattle.geos_potentials.proofs.Making.{IsPlainAt, HaveSame, in-has, in-on, has-in, split-same, way-stays, way-both, plain-back, component-stays, whole-on, way-steps}
+use Rattle.geos_potentials.specs.Whole.{IsWhole}
+use Rattle.geos_potentials.proofs.Making.{IsPlainAt, HaveSame, in-has, in-on, split-same, way-stays, way-both, plain-back, component-stays, whole-on, way-steps}
 
 plain≢pays : (nest : ℕ) → Plain ≡ Pays nest → ⊥
 plain≢pays nest e = false≢true (ap is_found e)

@@ -1,12 +1,9 @@
 -- Pieces that wait are taken, and at first the places of a routine are to be split.
-use Rattle.std.proofs.Common.{◌≡◌, ◌≤◌, ◌<◌, ◌⊎◌, ◌+◌, ℕ, Bool, true, false, List, [], ◌∷◌, length, Option, Some, refl, sym, ap, ◌∙◌, subst, arith, inl, inr}
+use Rattle.std.proofs.Common.{◌≡◌, ◌≤◌, ◌<◌, ◌+◌, ℕ, Bool, List, [], ◌∷◌, length, Option, refl, sym, ap, ◌∙◌, subst, arith, inl, inr}
 use Rattle.std.specs.Prelude.{slice_index, slice_index_or}
-use Rattle.std.proofs.lemmas.Bool.{cases_eq, cases_lt, false≢true}
+use Rattle.std.proofs.lemmas.Bool.{cases_lt}
 use Rattle.std.proofs.lemmas.List.{get_or_default}
-use Rattle.geos_image.specs.Parts.{Parts, start_of}
-use Rattle.geos_code.specs.Code.{IsPcOf}
 use Rattle.control_graph.specs.declared.arcs.Arc.{Arc}
-use Rattle.geos_potentials.specs.declared.classes.Classes.{Classes}
 use Rattle.control_graph.specs.declared.jumps.Jump.{Jump}
 use Rattle.control_graph.specs.declared.jumps.Jump.TheVariants.{Plain, Pays}
 use Rattle.geos_potentials.specs.declared.nests.Nest.{Nest}
@@ -15,17 +12,13 @@ use Rattle.geos_potentials.specs.declared.nests.Splitting.{Splitting}
 use Rattle.geos_potentials.specs.declared.nests.Waiting.{Waiting}
 use Rattle.control_graph.specs.declared.pieces.Order.{Order}
 use Rattle.control_graph.specs.declared.pieces.Piece.{Piece}
-use Rattle.control_graph.specs.Arcs.{arc_at, taken_from}
 use Rattle.geos_potentials.specs.Making.{AreInside, IsWaiting, IsDue, IsAround, AreMadeSoFar, AreWaitingComponents, CanGoOn, CanMake}
-use Rattle.control_graph.specs.Orders.{AreOrdered, StandsAt, HasPlace, IsIn}
-use Rattle.control_graph.specs.Ways.{IsWayWithin, GoesRoundIn, LeadsWithin}
+use Rattle.control_graph.specs.Orders.{AreOrdered, StandsAt}
+use Rattle.control_graph.specs.Ways.{IsWayWithin}
 use Rattle.control_graph.specs.Parts.{IsComponent}
 use Rattle.geos_potentials.specs.Splits.{WaitsAt, WaitInOrder, WaitBefore}
-use Rattle.geos_potentials.specs.Pieces.{NoneMayPay}
-use Rattle.geos_potentials.specs.Ranks.{noted_idle}
-use Rattle.geos_potentials.specs.Stuck.{LeadsNotedIdle, IsNotedIdleWay, GoesRoundIdle}
 use Rattle.geos_potentials.specs.Whole.{IsPlainWay, IsWhole, AreWhole, EachRoundPays, PayInNests}
-use Rattle.geos_potentials.proofs.Making.{in-has, has-in, whole-on}
+use Rattle.geos_potentials.proofs.Making.{has-in, whole-on}
 use Rattle.control_graph.proofs.Placing.{same-stands}
 
 -- The same pieces wait

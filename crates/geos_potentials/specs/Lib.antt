@@ -24,6 +24,7 @@ pub mod Carried
 pub mod Within
 pub mod Untouched
 pub mod Reasons
+pub mod Onward
 pub mod Spent
 pub mod Paid
 pub mod Splits

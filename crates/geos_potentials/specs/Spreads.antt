@@ -6,8 +6,6 @@ use Rattle.control_graph.specs.declared.arcs.Counting.TheVariants.{Sets}
 use Rattle.control_graph.specs.Arcs.{arc_at, forgets}
 use Rattle.geos_potentials.specs.Arcs.{unit_at}
 use Rattle.geos_potentials.specs.Demands.{IsKeptOver}
-use Rattle.geos_image.specs.Parts.{Parts}
-use Rattle.geos_code.specs.Code.{IsPcOf}
 
 -- a number of a counter at a pc stood at another one, from one on, and comes from there by edges that keep the counter
 pub record HasCome (arcs : List (List (Option Arc))) (low : ℕ) (old : List (List ℕ)) (pc k n : ℕ) : Type 0 where

@@ -1,6 +1,6 @@
 //! How many steps are left at most, and what units of counters pay for, routine by routine.
 
-ghost use Rattle.std.specs.Prelude.{◌≡◌, ◌<◌, ◌≤◌, ◌+◌, None, false, is_none, is_some, length, IfOk, IfErr, IfSome};
+ghost use Rattle.std.specs.Prelude.{◌≡◌, ◌<◌, ◌≤◌, ◌+◌, ℕ, None, false, is_none, is_some, length, IfOk, IfErr, IfSome};
 ghost use Rattle.geos_image.specs.Parts.{start_of};
 ghost use Rattle.geos_code.specs.Code.{ForwardIn};
 ghost use Rattle.geos_potentials.specs.Constants.{HasLoops, PayLeastIn, AreLeastFrom};
@@ -8,6 +8,7 @@ ghost use Rattle.geos_potentials.specs.Steps.{NoStepsHoldIn};
 ghost use Rattle.geos_potentials.specs.Count.{CountsOn, AreCounted, StaysFrom};
 ghost use Rattle.geos_potentials.specs.Numbers.{numbers_of};
 ghost use Rattle.geos_potentials.specs.Reasons.{IsReason};
+ghost use Rattle.geos_potentials.specs.Onward.{AreFoundFrom};
 ghost use Rattle.geos_potentials.specs.Touching.{NotesTouched};
 
 use crate::asked::{Potentials, potential_at};
@@ -152,7 +153,9 @@ fn count_in(
             None => Ok(Some(Reason::TooMany)),
         };
     }
-    let tables = tables_of(alloc, body.image, made.take())?;
+    let Ok(tables) = tables_of(alloc, body.image, made.take()) else {
+        return Err(AllocError);
+    };
     match count_loops(body, known, tables, potentials) {
         Ok(tables) => {
             // By a call, so that the check does not go over each table here.
@@ -163,8 +166,31 @@ fn count_in(
     }
 }
 
-/// Counts the steps of so many routines, from the last to the first, with tables once there are any; the first routine for which no
-/// number is found, if there is one.
+/// Counts the steps of one more routine, with tables once there are any; it is left, with the reason, where no number is found.
+fn count_next(
+    alloc: Global,
+    image: &Image,
+    r: u16,
+    known: &Known,
+    tables: &mut Option<Tables>,
+    potentials: &mut Potentials,
+    left: &mut Option<Unfound>,
+) -> Result<(), AllocError>
+    requires there { r < length image.now.routines }
+    requires touched { IfSome tables.old (λ it. NotesTouched image.now it.touched) }
+    ensures { IfOk result (λ _. (count : ℕ) → r < count
+        → AreFoundFrom image.now (r + 1) count known.now potentials.old left.old tables.old
+        → AreFoundFrom image.now r count known.now potentials.new left.new tables.new) }
+{
+    let found = count_in(alloc, &body_of(image, r), known, tables, potentials)?;
+    if let Some(reason) = found {
+        // By a call, so that the check does not go over each table here.
+        drop(left.replace(Unfound { routine: r, reason }));
+    }
+    Ok(())
+}
+
+/// Counts the steps of so many routines, from the last to the first; the first one for which no number is found is left, if there is one.
 fn count_each(
     alloc: Global,
     image: &Image,
@@ -172,23 +198,17 @@ fn count_each(
     known: &Known,
     tables: &mut Option<Tables>,
     potentials: &mut Potentials,
-) -> Result<Option<Unfound>, AllocError>
+    left: &mut Option<Unfound>,
+) -> Result<(), AllocError>
     requires few { routines ≤ length image.now.routines }
-    requires none { tables.old ≡ None }
-    ensures counted { IfOk result (λ _. AreCounted image.now 0 routines (numbers_of potentials.new)) }
-    ensures least { IfOk result (λ left. left ≡ None → AreLeastFrom image.now 0 routines known.now (numbers_of potentials.new)) }
-    ensures within { IfOk result (λ left. IfSome left (λ unfound. unfound.routine < routines)) }
-    ensures none { IfOk result (λ left. IfSome left (λ unfound. NoStepsHoldIn image.now unfound.routine)) }
-    ensures reason { IfOk result (λ left. IfSome left (λ unfound. IsReason image.now unfound.routine known.now unfound.reason)) }
+    requires no_tables { tables.old ≡ None }
+    requires none { left.old ≡ None }
+    ensures { IfOk result (λ _. AreFoundFrom image.now 0 routines known.now potentials.new left.new tables.new) }
 {
-    let mut left = None;
     for r in (0..routines).rev() {
-        let found = count_in(alloc, &body_of(image, r), known, tables, potentials)?;
-        if let Some(reason) = found {
-            drop(left.replace(Unfound { routine: r, reason }));
-        }
+        count_next(alloc, image, r, known, tables, potentials, left)?;
     }
-    Ok(left)
+    Ok(())
 }
 
 /// Finds how many steps are left at most at each instruction of so many routines, and what units of counters pay for, with the rows that
@@ -211,9 +231,24 @@ pub fn find_potentials(
     ensures reason { IfOk result (λ left. IfSome left (λ unfound. IsReason image.now unfound.routine known.now unfound.reason)) }
 {
     let mut tables = None;
-    let left = count_each(alloc, image, routines, known, &mut tables, potentials);
+    let mut left = None;
+    let counted = count_each(
+        alloc,
+        image,
+        routines,
+        known,
+        &mut tables,
+        potentials,
+        &mut left,
+    );
     if let Some(tables) = tables {
         drop(tables);
     }
-    left
+    match counted {
+        Ok(()) => Ok(left),
+        Err(error) => {
+            drop(left);
+            Err(error)
+        }
+    }
 }

@@ -9,5 +9,5 @@ returns-in-None-clause-reason c = (
   λ want forward holds. false≢true (sym (ap is_some c.in-None.is) ∙ (c.sweep.ensures.counts want forward holds).0),
 )
 
-pub returns-in-Ok-clause-touched : goal.returns-in-Ok-clause-touched
-returns-in-Ok-clause-touched c = rw (c.replace.ensures.after, c.in-Ok.ensures.touched) c.in_ok-tables.ensures
+pub returns-in-Ok-count_loops-clause-touched : goal.returns-in-Ok-count_loops-clause-touched
+returns-in-Ok-count_loops-clause-touched c = rw (c.replace.ensures.after, c.in-Ok-count_loops.ensures.touched) c.in-Ok.ensures

@@ -38,8 +38,8 @@ loop-pc-preserved c =
             (c.loop-pc.invariant.noted pc branch within earlier)
         | inr late ↦
             let same : p ≡ pc = omega (arith, lt, late) in
-            subst (λ (n : ℕ). IsArcIf body.image.now body.r c.args.known.now c.args.touched.now n branch (arc_at c.add.new.self.arcs n branch))
-            same (here branch)
+            subst (λ (n : ℕ). IsArcIf body.image.now body.r c.args.known.now c.args.touched.now n branch
+            (arc_at c.add.new.self.arcs n branch)) same (here branch)
       ];
     }
   where
@@ -63,7 +63,8 @@ loop-pc-preserved c =
         → taken_from arc.counting ≡ Some k → (branch ≡ true) × (k < 4)
     taken true arc k read takes = found true c.arc_of-branching.result arc k c.arc_of-branching.ensures.takes
         (sym (c.add.ensures.here true) ∙ read) takes
-    taken false arc k read takes = found false c.arc_of-along.result arc k c.arc_of-along.ensures.takes (sym (c.add.ensures.here false) ∙ read) takes
+    taken false arc k read takes = found false c.arc_of-along.result arc k c.arc_of-along.ensures.takes
+        (sym (c.add.ensures.here false) ∙ read) takes
 
     here : (branch : Bool) → IsArcIf c.args.body.now.image.now c.args.body.now.r c.args.known.now c.args.touched.now
         c.loop-pc.pc branch (arc_at c.add.new.self.arcs c.loop-pc.pc branch)
@@ -74,7 +75,8 @@ loop-pc-preserved c =
 
 pub returns-clause-led : goal.returns-clause-led
 returns-clause-led c = (let body = c.args.body.now in
-    all-led c.loop-pc.graph body.start c.loop-pc.pc (omega (arith, c.loop-pc.auto.pc-end, body.some, body.room, body.short)) c.loop-pc.invariant.led)
+    all-led c.loop-pc.graph body.start c.loop-pc.pc (omega (arith, c.loop-pc.auto.pc-end, body.some, body.room, body.short))
+    c.loop-pc.invariant.led)
 
 pub returns-clause-inside : goal.returns-clause-inside
 returns-clause-inside c = (let body = c.args.body.now in record {

@@ -1,4 +1,4 @@
-use Rattle.std.proofs.Common.{arith, inl, subst}
+use Rattle.std.proofs.Common.{arith, inl, inr, subst}
 use Rattle.geos_potentials.specs.Carried.{AreHeld}
 use Rattle.geos_potentials.proofs.Carrying.{ArePending, step-pending, end-pending}
 use Rattle.geos_potentials.proofs.Growing.{grown-on, stay-on}
@@ -22,8 +22,30 @@ loop-preserved c =
       work = omega (arith, c.go_back_free_over.ensures.work, c.loop.invariant.work);
     }
 
-pub returns-in_default-clause-carried : goal.returns-in_default-clause-carried
-returns-in_default-clause-carried c = λ led before.
+pub returns-in_default : goal.returns-in_default
+returns-in_default c =
     let arcs = c.args.graph.now.arcs in
-    end-pending arcs c.args.graph.now.leads.behind (AreHeld arcs c.args.jumps.now) c.loop.spread c.loop.waits c.args.to c.loop.counter c.loop.lead
-    (inl c.in_default.is) (c.loop.invariant.carried led before)
+    let inv = c.loop.invariant in record {
+      wanted = inv.wanted;
+      more = inv.more;
+      within = inv.within;
+      stay = inv.stay;
+      carried = λ led before.
+          end-pending arcs c.args.graph.now.leads.behind (AreHeld arcs c.args.jumps.now) c.loop.spread c.loop.waits c.args.to c.loop.counter
+          c.loop.lead (inl c.in_default.is) (inv.carried led before);
+      work = inv.work;
+    }
+
+pub returns : goal.returns
+returns c =
+    let arcs = c.args.graph.now.arcs in
+    let inv = c.loop.invariant in record {
+      wanted = inv.wanted;
+      more = inv.more;
+      within = inv.within;
+      stay = inv.stay;
+      carried = λ led before.
+          end-pending arcs c.args.graph.now.leads.behind (AreHeld arcs c.args.jumps.now) c.loop.spread c.loop.waits c.args.to c.loop.counter
+          c.loop.lead (inr (omega (arith, c.loop-test.false))) (inv.carried led before);
+      work = inv.work;
+    }

@@ -1,4 +1,4 @@
-use Rattle.std.proofs.Common.{arith, inl, subst}
+use Rattle.std.proofs.Common.{arith, inl, inr, subst}
 use Rattle.geos_potentials.specs.Carried.{NoneHeld}
 use Rattle.geos_potentials.proofs.Carrying.{ArePending, step-pending, end-pending}
 use Rattle.geos_potentials.proofs.Growing.{grown-on}
@@ -19,6 +19,26 @@ loop-preserved c = record {
   work = omega (arith, c.go_back_over.ensures.work, c.loop.invariant.work);
 }
 
-pub returns-in_default-clause-carried : goal.returns-in_default-clause-carried
-returns-in_default-clause-carried c = λ led before. end-pending c.args.graph.now.arcs c.args.graph.now.leads.behind NoneHeld c.loop.spread
-    c.loop.waits c.args.to c.loop.counter c.loop.lead (inl c.in_default.is) (c.loop.invariant.carried led before)
+pub returns-in_default : goal.returns-in_default
+returns-in_default c =
+    let inv = c.loop.invariant in record {
+      wanted = inv.wanted;
+      more = inv.more;
+      within = inv.within;
+      carried = λ led before.
+          end-pending c.args.graph.now.arcs c.args.graph.now.leads.behind NoneHeld c.loop.spread c.loop.waits c.args.to c.loop.counter
+          c.loop.lead (inl c.in_default.is) (inv.carried led before);
+      work = inv.work;
+    }
+
+pub returns : goal.returns
+returns c =
+    let inv = c.loop.invariant in record {
+      wanted = inv.wanted;
+      more = inv.more;
+      within = inv.within;
+      carried = λ led before.
+          end-pending c.args.graph.now.arcs c.args.graph.now.leads.behind NoneHeld c.loop.spread c.loop.waits c.args.to c.loop.counter
+          c.loop.lead (inr (omega (arith, c.loop-test.false))) (inv.carried led before);
+      work = inv.work;
+    }

@@ -1,8 +1,7 @@
-use Rattle.std.proofs.Common.{◌≡◌, ℕ, Option, refl, sym, ap, ◌∙◌, subst, arith, inl, inr}
+use Rattle.std.proofs.Common.{◌≡◌, ℕ, refl, sym, ◌∙◌, subst, arith, inl, inr}
 use Rattle.std.specs.Prelude.{slice_index}
 use Rattle.control_graph.specs.Gathers.{Gathers, WaitIfAdded, StayPlaced}
 use Rattle.control_graph.specs.declared.depth.Depth.{Depth}
-use Rattle.control_graph.specs.declared.leads.Lead.{Lead}
 use Rattle.control_graph.proofs.Gathering.{AreKnownOrLeft, known-stays, placed-on, waits-on, gathered-on, same-gathered, all-are-left, one-less-left, none-is-left}
 use Rattle.control_graph.proofs.components.Components.add_before.Goals as goal
 

@@ -1,6 +1,6 @@
-use Rattle.std.proofs.Common.{◌≡◌, ℕ, Some, sym, ◌∙◌, subst, arith}
+use Rattle.std.proofs.Common.{sym, ◌∙◌, subst, arith}
 use Rattle.control_graph.specs.Ways.{LeadsWithin}
-use Rattle.control_graph.proofs.Gathering.{more-gathered, same-gathered}
+use Rattle.control_graph.proofs.Gathering.{more-gathered}
 use Rattle.control_graph.proofs.components.Components.add_over.Goals as goal
 
 pub returns-clause-gathers : goal.returns-clause-gathers

@@ -1,9 +1,8 @@
-use Rattle.std.proofs.Common.{◌≡◌, ◌≤◌, ◌<◌, ◌⊎◌, ℕ, ◌+◌, ◌-◌, refl, sym, ap, ◌∙◌, subst, arith, inl, inr}
+use Rattle.std.proofs.Common.{◌≡◌, ◌≤◌, ◌⊎◌, ℕ, ◌+◌, ◌-◌, refl, sym, ap, ◌∙◌, subst, arith, inl, inr}
 use Rattle.std.specs.Prelude.{slice_index}
 use Rattle.control_graph.specs.Depths.{pc_at, first_place, AreLeft}
 use Rattle.control_graph.specs.Gathers.{IsSearched, AreGatheredFrom}
-use Rattle.control_graph.specs.Orders.{IsPieceOf, AreOf}
-use Rattle.control_graph.specs.Ways.{LeadBetween}
+use Rattle.control_graph.specs.Orders.{AreOf}
 use Rattle.control_graph.specs.declared.depth.Depth.{Depth}
 use Rattle.control_graph.proofs.Gathering.{passed, none-gathered, all-gathered, is-searched}
 use Rattle.control_graph.proofs.components.Components.find.Goals as goal

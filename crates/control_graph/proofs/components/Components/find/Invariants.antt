@@ -1,5 +1,4 @@
-use Rattle.std.proofs.Common.{◌≡◌, ◌≤◌, ◌+◌, ℕ}
-use Rattle.std.specs.Prelude.{slice_index}
+use Rattle.std.proofs.Common.{◌≡◌, ◌≤◌, ◌+◌}
 use Rattle.control_graph.specs.Gathers.{IsSearched, AreGatheredFrom, ArePlaced}
 use Rattle.control_graph.specs.Led.{AreLed}
 use Rattle.control_graph.proofs.components.Components.find.Given as goal

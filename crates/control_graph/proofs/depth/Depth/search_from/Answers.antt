@@ -1,4 +1,4 @@
-use Rattle.std.proofs.Common.{◌≡◌, ℕ, subst, arith}
+use Rattle.std.proofs.Common.{◌≡◌, subst, arith}
 use Rattle.control_graph.specs.Depths.{GoesDeep}
 use Rattle.control_graph.proofs.depth.Depth.search_from.Goals as goal
 

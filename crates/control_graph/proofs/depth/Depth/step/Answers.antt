@@ -3,6 +3,7 @@ use Rattle.std.specs.Prelude.{slice_index_or}
 use Rattle.control_graph.specs.Depths.{pc_at, first_place, new_in, to_do, steps_left, GoesDeep}
 use Rattle.control_graph.specs.Orders.{IsOf}
 use Rattle.control_graph.specs.declared.depth.Depth.{Depth}
+use Rattle.control_graph.specs.declared.depth.Search.{Search}
 use Rattle.control_graph.specs.declared.depth.Search.TheVariants.{New, Begun, Along, Done}
 use Rattle.control_graph.specs.declared.place.Place.{Place}
 use Rattle.control_graph.proofs.Deep.{both-followed}
@@ -112,3 +113,23 @@ returns-in_default-clause-deep c = λ G.
     let all : c.args.length ≡ k + 1 = omega (arith, c.requires.some) in
     left-deep arcs jumps order piece old c.leave.new.self k c.at-pc.result.pc c.leave.ensures.leaves last done
     (subst (GoesDeep arcs jumps order piece old) all G)
+
+pub returns-in-Begun-clause-of : goal.returns-in-Begun-clause-of
+returns-in-Begun-clause-of c = λ goes. (let next = c.follow-next.ensures.of goes in record { path = next.path; left = next.left })
+
+pub returns-in-Along-clause-of : goal.returns-in-Along-clause-of
+returns-in-Along-clause-of c = λ goes. (let next = c.follow-next-in-Along.ensures.of goes in record { path = next.path; left = next.left })
+
+pub returns-in_default-clause-room : goal.returns-in_default-clause-room
+returns-in_default-clause-room c =
+    let leaves = c.leave.ensures.leaves in
+    let same = ap new_in leaves.searched in
+    let more = leaves.count in
+    omega (arith, same, more, c.requires.room, c.requires.some)
+
+pub returns-in_default-clause-work : goal.returns-in_default-clause-work
+returns-in_default-clause-work c = (let same = ap to_do c.leave.ensures.leaves.searched in omega (arith, same, c.requires.some))
+
+pub returns-in_default-clause-come : goal.returns-in_default-clause-come
+returns-in_default-clause-come c = λ at come new.
+    come (ap (λ (searched : List Search). slice_index_or searched at New) (sym c.leave.ensures.leaves.searched) ∙ new)

@@ -3,7 +3,6 @@ use Rattle.std.specs.Prelude.{if◌then◌else◌}
 use Rattle.std.proofs.lemmas.Bool.{cases_lt}
 use Rattle.std.proofs.lemmas.List.{get_or_past}
 use Rattle.control_graph.specs.declared.arcs.Arc.{Arc}
-use Rattle.control_graph.specs.Arcs.{arc_at}
 use Rattle.control_graph.proofs.Led.{led-first}
 use Rattle.control_graph.proofs.graph.Graph.clear_from.Goals as goal
 

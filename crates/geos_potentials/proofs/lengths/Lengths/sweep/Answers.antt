@@ -1,7 +1,6 @@
-use Rattle.std.proofs.Common.{◌≡◌, Bool, true, false, List, Option, refl, sym, ◌∙◌, ap, subst, arith, inl, inr}
+use Rattle.std.proofs.Common.{List, Option, refl, sym, ◌∙◌, subst, arith, inl, inr}
 use Rattle.std.proofs.lemmas.Bool.{false≢true}
 use Rattle.geos_potentials.specs.Least.{PayAll, Covers, steps_at, link_at}
-use Rattle.geos_potentials.specs.Looks.{AreCoveredTo}
 use Rattle.geos_potentials.specs.declared.lengths.Link.{Link}
 use Rattle.geos_potentials.specs.declared.lengths.Lengths.{Lengths}
 use Rattle.geos_potentials.proofs.Costs.{longer-on}

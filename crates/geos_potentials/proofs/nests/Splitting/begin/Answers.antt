@@ -1,4 +1,4 @@
-use Rattle.std.proofs.Common.{◌≡◌, ◌≤◌, refl, sym, ap, ◌∙◌, subst, arith, inl, inr}
+use Rattle.std.proofs.Common.{◌≡◌, ◌≤◌, refl, ap, arith}
 use Rattle.geos_potentials.specs.Making.{plain_in}
 use Rattle.control_graph.specs.Orders.{AreOrdered}
 use Rattle.control_graph.specs.Parts.{CanSplit}

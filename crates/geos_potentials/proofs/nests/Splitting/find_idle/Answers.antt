@@ -1,5 +1,5 @@
-use Rattle.std.proofs.Common.{◌≡◌, List, refl, sym, subst, inr}
-use Rattle.geos_potentials.specs.Making.{CanMake, NonePay}
+use Rattle.std.proofs.Common.{List, refl, sym, subst, inr}
+use Rattle.geos_potentials.specs.Making.{NonePay}
 use Rattle.geos_potentials.specs.Spent.{AreLeftOut, MayPayAt}
 use Rattle.control_graph.specs.declared.jumps.Jump.{Jump}
 use Rattle.geos_potentials.proofs.Leaving.{round-idle, left-none, no-round}
