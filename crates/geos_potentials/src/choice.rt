@@ -11,7 +11,7 @@ ghost use Rattle.geos_potentials.specs.Ranks.{noted_idle};
 ghost use Rattle.geos_potentials.specs.Untouched.{untouched};
 ghost use Rattle.geos_potentials.specs.Within.{HoldsAt};
 ghost use Rattle.control_graph.specs.declared.arcs.Arc.{Arc};
-ghost use Rattle.geos_potentials.specs.declared.choice.Tier.TheVariants.{Clean, Tight};
+ghost use Rattle.geos_potentials.specs.declared.choice.Tier.TheVariants.{Clean, Tight, Unset};
 ghost use Rattle.control_graph.specs.declared.jumps.Jump.TheVariants.{Plain};
 
 use crate::classes::Classes;
@@ -93,6 +93,8 @@ impl Chosen {
         ensures plain { result ≡ true → is_free (slice_index_or jumps.now pc Plain) ≡ false }
         ensures within { result ≡ true → TakesWithin graph.now.arcs jumps.now order.now piece.now pc self.now.choice.counter }
         ensures may { result ≡ true → may_pay_in self.now.choice.tier classes.now pc self.now.choice.counter ≡ true }
+        ensures price { result ≡ true → self.now.all ≡ false → (self.now.choice.tier ≡ Tight → ⊥)
+            → unit_at classes.now.prices pc self.now.choice.counter ≡ self.now.choice.price }
         ensures all { IsChosen graph.now.arcs jumps.now order.now classes.now piece.now self.now.choice pc → result ≡ true }
     {
         let Choice {
@@ -220,6 +222,7 @@ fn cheaper(found: Option<Choice>, choice: Choice) -> Choice
 fn cheapest(prices: &[Option<u32>; 4], tier: Tier) -> Option<Choice>
     ensures none { IfNone result ((k : ℕ) → k < 4 → slice_index_or prices.now k None ≡ None) }
     ensures some { IfSome result (λ choice. (choice.tier ≡ tier) × (slice_index_or prices.now choice.counter None ≡ Some choice.price)) }
+    ensures least { IfSome result (λ choice. (k price : ℕ) → k < 4 → slice_index_or prices.now k None ≡ Some price → choice.price ≤ price) }
 {
     let mut found: Option<Choice> = None;
     for counter in 0..4u8 {
@@ -245,6 +248,7 @@ fn set_price(
 ) -> Option<u32>
     ensures none { result ≡ None → price ≡ None }
     ensures only { price ≡ None → result ≡ None }
+    ensures sum { IfSome result (SumsUp graph.now.arcs order.now piece.now counter) }
 {
     match price {
         Some(_) => Some(sum_set(graph, order, piece, counter)),
@@ -261,6 +265,7 @@ fn set_prices(
 ) -> [Option<u32>; 4]
     ensures none { (k : ℕ) → slice_index_or result k None ≡ None → slice_index_or prices.now k None ≡ None }
     ensures only { (k : ℕ) → slice_index_or prices.now k None ≡ None → slice_index_or result k None ≡ None }
+    ensures sums { (k : ℕ) → IfSome (slice_index_or result k None) (SumsUp graph.now.arcs order.now piece.now k) }
 {
     let [p0, p1, p2, p3] = *prices;
     [
@@ -271,7 +276,8 @@ fn set_prices(
     ]
 }
 
-/// The LOOPs that are to pay in a component; none where none may. Where those of a counter that is set in it are, none is clean.
+/// The LOOPs that are to pay in a component; none where none may. Clean ones come first, and then those of a counter that is set in it; those
+/// of one that may not be set before it are chosen only where no others may pay.
 pub(crate) fn choose(
     graph: &Graph,
     jumps: &Jumps,
@@ -283,6 +289,8 @@ pub(crate) fn choose(
     ensures some { IfSome result (IsSomeChosen graph.now.arcs jumps.now order.now classes.now piece.now) }
     ensures tight { IfSome result (λ choice. choice.tier ≡ Tight
         → NoneMayPayIn Clean graph.now.arcs jumps.now order.now classes.now piece.now) }
+    ensures unset { IfSome result (λ choice. choice.tier ≡ Unset
+        → NoneMayPay graph.now.arcs jumps.now order.now classes.now piece.now) }
 {
     let clean = prices(graph, jumps, order, classes, piece, Tier::Clean);
     if let Some(choice) = cheapest(&clean, Tier::Clean) {

@@ -1,5 +1,6 @@
 use Rattle.std.proofs.Common.{◌≡◌, Bool, true, false, not, refl, sym, ap, ◌∙◌}
 use Rattle.std.proofs.lemmas.Bool.{false≢true}
+use Rattle.geos_potentials.specs.declared.choice.Tier.{Tier}
 use Rattle.geos_potentials.specs.declared.choice.Tier.TheVariants.{Clean, Tight, Unset}
 use Rattle.geos_potentials.specs.Pieces.{NoneMayPay}
 use Rattle.geos_potentials.specs.Ranks.{noted_idle}
@@ -46,3 +47,25 @@ returns-in-Some-cheapest-clause-tight c = λ is. none-priced c.args.graph.now.ar
 pub returns-clause-tight : goal.returns-clause-tight
 returns-clause-tight c = if-all c.cheapest-3.result _ (λ choice is. none-priced c.args.graph.now.arcs c.args.jumps.now c.args.order.now
     c.args.classes.now c.args.piece.now Clean c.prices-clean.result c.in_default.ensures.none c.prices-clean.ensures.all)
+
+-- LOOPs of this tier are of a counter that is not set
+abbrev is_unset : Tier → Bool
+is_unset Unset = true
+is_unset _ = false
+
+pub returns-in-Some-clause-unset : goal.returns-in-Some-clause-unset
+returns-in-Some-clause-unset c = λ is. absurd (false≢true (ap is_unset (sym c.in-Some.ensures.some.0 ∙ is)))
+
+pub returns-in-Some-cheapest-clause-unset : goal.returns-in-Some-cheapest-clause-unset
+returns-in-Some-cheapest-clause-unset c = λ is. absurd (false≢true (ap is_unset (sym c.in-Some-cheapest.ensures.some.0 ∙ is)))
+
+pub returns-clause-unset : goal.returns-clause-unset
+returns-clause-unset c =
+    let classes = c.args.classes.now in
+    let none = none-priced c.args.graph.now.arcs c.args.jumps.now c.args.order.now classes c.args.piece.now Tight c.prices-tight.result
+    (λ k few. c.set_prices-sums.ensures.none k (c.in_default-cheapest.ensures.none k few)) c.prices-tight.ensures.all in
+    if-all c.cheapest-3.result _ (λ choice is pc k within few takes. idle (noted_idle classes pc k) (none pc k within few takes))
+  where
+    idle : (b : Bool) → not b ≡ false → b ≡ true
+    idle true is = refl
+    idle false is = absurd (false≢true (sym is))
