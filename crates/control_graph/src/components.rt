@@ -44,26 +44,10 @@ impl Components {
         ensures of { IfOk result (λ components. (pc : ℕ) → slice_index components.of pc ≡ 0) }
         ensures none { IfOk result (λ components. (pc : ℕ) → Waits components.waits pc → ⊥) }
     {
-        // By calls of `drop`, so that the check does not go over each table here.
         let (of, ends) = two_tables(alloc, 0, 0)?;
-        let Ok(lists) = Lists::new(alloc) else {
-            drop(of);
-            drop(ends);
-            return Err(AllocError);
-        };
-        let Ok(waits) = Pile::new(alloc) else {
-            drop(of);
-            drop(ends);
-            drop(lists);
-            return Err(AllocError);
-        };
-        let Ok(depth) = Depth::new(alloc) else {
-            drop(of);
-            drop(ends);
-            drop(lists);
-            drop(waits);
-            return Err(AllocError);
-        };
+        let lists = Lists::new(alloc)?;
+        let waits = Pile::new(alloc)?;
+        let depth = Depth::new(alloc)?;
         Ok(Components {
             depth,
             of,

@@ -256,23 +256,10 @@ impl Splitting {
         ensures nests { IfOk result (λ splitting. NoNests splitting.nests) }
         ensures jumps { IfOk result (λ splitting. (pc : ℕ) → slice_index_or splitting.jumps pc Plain ≡ Plain) }
     {
-        // By calls of `drop`, so that the check does not go over each table here.
         let order = Order::new(alloc)?;
-        let Ok(jumps) = Table::new(alloc, Jump::Plain) else {
-            drop(order);
-            return Err(AllocError);
-        };
-        let Ok(nests) = Nests::new(alloc) else {
-            drop(order);
-            drop(jumps);
-            return Err(AllocError);
-        };
-        let Ok(components) = Components::new(alloc) else {
-            drop(order);
-            drop(jumps);
-            drop(nests);
-            return Err(AllocError);
-        };
+        let jumps = Table::new(alloc, Jump::Plain)?;
+        let nests = Nests::new(alloc)?;
+        let components = Components::new(alloc)?;
         Ok(Splitting {
             order,
             jumps,

@@ -152,19 +152,12 @@ pub fn some_always_may_pay(
     ensures { IfOk result (λ some. some ≡ true → IsNeverPaid body.now.image.now body.now.r → ⊥) }
 {
     let mut graph = Graph::new(alloc)?;
-    let Ok(mut classes) = Classes::new(alloc) else {
-        drop(graph);
-        return Err(AllocError);
-    };
+    let mut classes = Classes::new(alloc)?;
     note_edges(&mut graph, body, known, &touching.certain);
     classes.note(body, &graph);
-    let found = if are_noted(body, touching, &classes) {
+    if are_noted(body, touching, &classes) {
         some_may_pay(alloc, body, &classes)
     } else {
         Ok(false)
-    };
-    // By calls, so that the check does not go over each table here.
-    drop(graph);
-    drop(classes);
-    found
+    }
 }

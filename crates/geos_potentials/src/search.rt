@@ -54,23 +54,10 @@ impl Search {
     pub fn new(alloc: Global) -> Result<Search, AllocError>
         ensures { IfOk result (λ search. search.units.looked.count ≡ 0) }
     {
-        // By calls of `drop`, so that the check does not go over each table here.
         let graph = Graph::new(alloc)?;
-        let Ok(classes) = Classes::new(alloc) else {
-            drop(graph);
-            return Err(AllocError);
-        };
-        let Ok(units) = Units::new(alloc) else {
-            drop(graph);
-            drop(classes);
-            return Err(AllocError);
-        };
-        let Ok(splitting) = Splitting::new(alloc) else {
-            drop(graph);
-            drop(classes);
-            drop(units);
-            return Err(AllocError);
-        };
+        let classes = Classes::new(alloc)?;
+        let units = Units::new(alloc)?;
+        let splitting = Splitting::new(alloc)?;
         Ok(Search {
             graph,
             classes,
