@@ -28,7 +28,7 @@ use Rattle.control_graph.specs.declared.pile.Pile.{Pile}
 
 -- Counters that are set in a piece
 
--- a counter is set in a piece, and edges that keep it lead from there to a pc
+-- a counter is set in a piece, and edges that keep it lead from there to a pc, in the piece or not
 pub record IsSetWithin (arcs : List (List (Option Arc))) (order : Order) (piece : Piece) (k pc : ℕ) : Type 0 where
   pub at : ℕ
   pub arc : Arc
@@ -40,7 +40,8 @@ pub record IsSetWithin (arcs : List (List (Option Arc))) (order : Order) (piece 
 abbrev pub StaysAlong : List (List (Option Arc)) → Order → Piece → ℕ → Type 0
 StaysAlong arcs order piece pc = IsIn order piece pc × ((arc : Arc) → arc_at arcs pc false ≡ Some arc → HasPlace order piece arc.to)
 
--- behind each edge of a place that stands before some of a piece, and that sets a counter in the piece, this has a number that is not 0
+-- of the places of a piece that stand before an end: behind each edge to the next instruction that sets a counter and stays in the piece,
+-- the counter's number is not 0
 abbrev pub AreSetNoted : List (List (Option Arc)) → Order → Piece → ℕ → List (List ℕ) → Type 0
 AreSetNoted arcs order piece end spread = (x at k : ℕ) (arc : Arc) → piece.begin ≤ x → x < end → StandsAt order x at → k < 4
     → SetsInPiece arcs order piece k at arc → 0 < unit_at spread arc.to k
@@ -83,12 +84,12 @@ pub record TakesInNest (arcs : List (List (Option Arc))) (splitting : Splitting)
   pub takes : taken_from arc.counting ≡ Some k
   pub stays : StaysInNest splitting id piece pc true arc.to
 
--- no LOOP that stays in a nest is clean: where it stands, its counter may not pay, or is as it was set in the nest
+-- no LOOP that stays in a nest is clean: where it stands, its counter may not pay, or comes from where it is set in the nest
 abbrev pub NoneClean : List (List (Option Arc)) → (ℕ → ℕ → Type 0) → Splitting → ℕ → Piece → Type 0
 NoneClean arcs idle splitting id piece = (pc k : ℕ) → TakesInNest arcs splitting id piece k pc
     → idle pc k ⊎ IsSetWithin arcs splitting.order piece k pc
 
--- it is noted at a pc that a call has touched a counter, or that this may be as it was where the routine begins
+-- it is noted at a pc that a counter may be as a call has left it that touches it, or as it was where the routine begins
 abbrev pub IsNotedIdle : Classes → ℕ → ℕ → Type 0
 IsNotedIdle classes pc k = noted_idle classes pc k ≡ true
 
@@ -111,6 +112,6 @@ abbrev pub AreRightlyTight : List (List (Option Arc)) → Classes → ℕ → Sp
 AreRightlyTight arcs classes start splitting = (id : ℕ) (other : Nest) → id < splitting.nests.count
     → IsRightlyTight arcs classes start splitting id (slice_index_or splitting.nests.list id other)
 
--- they are next, if they were
+-- each nest is rightly tight next, if each was
 abbrev pub StayRightlyTight : List (List (Option Arc)) → Classes → ℕ → Splitting → Splitting → Type 0
 StayRightlyTight arcs classes start old next = AreRightlyTight arcs classes start old → AreRightlyTight arcs classes start next

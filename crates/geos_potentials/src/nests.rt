@@ -49,7 +49,7 @@ pub struct Nest {
     pub(crate) around: Option<u16>,
     /// How many are around it.
     depth: u16,
-    /// Whether each LOOP in it that may pay has a counter that is set in it, and kept from there to the LOOP.
+    /// Whether some LOOP in it may pay, and each that may has a counter that is set in it, and kept from there to the LOOP.
     pub tight: bool,
     /// Whether it is to be paid for.
     pub(crate) due: bool,

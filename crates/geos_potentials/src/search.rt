@@ -120,8 +120,8 @@ impl Search {
         }
     }
 
-    /// Finds a component in which control goes round, and no LOOP on the way may pay; none where control does so in none, if all is known
-    /// that routines touch.
+    /// Finds a component only where control goes round in the routine on a way on which no LOOP may pay, and none only where it does so
+    /// nowhere, if all is known that routines touch.
     pub fn find_idle(&mut self, body: &Body, known: &Known, touched: &Touched) -> Option<Piece>
         ensures some { NotesTouched body.now.image.now touched.now → IfSome result (λ _. IsNeverPaid body.now.image.now body.now.r) }
         ensures none { NotesTouched body.now.image.now touched.now → NotesAllTouched body.now.image.now touched.now

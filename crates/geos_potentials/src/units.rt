@@ -32,7 +32,7 @@ const ROUNDS: u32 = 64;
 /// Why no units are found.
 #[derive(Clone, Copy)]
 pub enum Lack {
-    /// The counter of a nest is set in it on a way round to more than its LOOPs take from it.
+    /// The counter of a nest is set in it, on a way round, to as much as its LOOPs take from it there, or to more.
     SetWithin(Piece),
     /// What a unit pays for, or what it costs to set its counter, is past what a potential can say.
     Passes,
