@@ -16,3 +16,4 @@ pub mod Kept
 pub mod RoutineLaws
 pub mod ImageLaws
 pub mod Starts
+pub mod RepeatLaws

@@ -2,6 +2,7 @@ pub mod Parts
 pub mod Open
 pub mod Keys
 pub mod Legal
+pub mod Repeats
 pub mod Fields
 pub mod Reading
 pub mod Spelling

@@ -247,6 +247,6 @@ Gives view (Ok x) read = read ≡ Ok (view x)
 Gives view (Err e) read = Fails e read
 
 -- the function puts what reading gives into its place, or gives the fault
-abbrev pub Puts : {Y : Type 0} → Result (Unit {0}) ℕ → Y → Result Y ℕ → Type 0
+abbrev pub Puts : {X Y : Type 0} → Result X ℕ → Y → Result Y ℕ → Type 0
 Puts (Ok done) place read = read ≡ Ok place
 Puts (Err at) place read = read ≡ Err at

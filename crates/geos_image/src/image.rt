@@ -5,6 +5,7 @@ ghost use Rattle.std.specs.Prelude.{false, [], replicate, ◌&&◌, nat_le, leng
 ghost use Rattle.std.specs.List.{list_all};
 ghost use Rattle.geos_image.specs.Parts.{Parts, start_of};
 ghost use Rattle.geos_image.specs.Legal.{is_image, is_formed, are_routines, is_point, rows_stand, row_flags, keyed_parts, is_keyed};
+ghost use Rattle.geos_image.specs.Repeats.{IsRepeated};
 ghost use Rattle.geos_image.specs.Keys.{gives, is_key, branches, falls_through};
 ghost use Rattle.geos_image.specs.Spelling.{version};
 ghost use Rattle.geos_image.specs.Fields.{FieldsFit, TargetFits, CalleeFits};
@@ -27,18 +28,22 @@ pub struct Image {
     pub(crate) keyed: bool,
     pub(crate) routines: Vec<Routine>,
     pub(crate) points: Vec<Point>,
+    /// Where a place behind another is flagged, its entry state is that of the other.
+    pub(crate) repeats: Flags,
 }
 
 impl Model for Image {
     ghost use Rattle.std.specs.Prelude.{◌≡◌, true};
     ghost use Rattle.geos_image.specs.Parts.{Parts};
     ghost use Rattle.geos_image.specs.Legal.{is_image};
+    ghost use Rattle.geos_image.specs.Repeats.{AreRepeats};
 
     ghost Value = { Parts };
 
     ghost view = { λ i. record { keyed = i.keyed; routines = i.routines.items; points = i.points.items } };
 
-    ghost invariant = { λ i. is_image (record { keyed = i.keyed; routines = i.routines.items; points = i.points.items }) ≡ true };
+    ghost invariant = { λ i. (is_image (record { keyed = i.keyed; routines = i.routines.items; points = i.points.items }) ≡ true)
+        × AreRepeats i.repeats i.points.items };
 }
 
 /// Whether each routine may stand behind those before it.
@@ -83,6 +88,13 @@ fn all_flags() -> Flags
     [true; 4096]
 }
 
+/// No flag is set.
+pub(crate) fn no_flags() -> Flags
+    ensures { result ≡ replicate 4096 false }
+{
+    [false; 4096]
+}
+
 /// A flag for each pc at which an image gives a row.
 fn row_flags(keyed: bool, routines: &[Routine], points: &[Point]) -> Flags
     requires few { length routines.now ≤ MOST_ROUTINES }
@@ -119,6 +131,7 @@ fn is_short(routines: &[Routine], points: &[Point]) -> bool
 impl Image {
     /// The image of version 1 of these routines and points; `None` exactly where the format allows none. It
     /// takes no memory.
+    #[tactic(auto, using(crate::proofs::RepeatLaws::none_repeat))]
     pub fn new(routines: Vec<Routine>, points: Vec<Point>) -> Option<Image>
         ensures some { IsSome result ↔ IsTrue (is_image (record { keyed = false; routines = routines.items; points = points.items })) }
         ensures value { IfSome result (λ image. image ≡ record { keyed = false; routines = routines.items; points = points.items }) }
@@ -128,6 +141,7 @@ impl Image {
                 keyed: false,
                 routines,
                 points,
+                repeats: no_flags(),
             })
         } else {
             None
@@ -136,6 +150,7 @@ impl Image {
 
     /// The image of routines and points that are known to be such as the format allows: nothing is looked at. `keyed`
     /// says whether it is of version 2.
+    #[tactic(auto, using(crate::proofs::RepeatLaws::none_repeat))]
     pub fn of_legal(keyed: bool, routines: Vec<Routine>, points: Vec<Point>) -> Image
         requires { is_image (record { keyed = keyed; routines = routines.items; points = points.items }) ≡ true }
         ensures { result ≡ record { keyed = keyed; routines = routines.items; points = points.items } }
@@ -144,11 +159,13 @@ impl Image {
             keyed,
             routines,
             points,
+            repeats: no_flags(),
         }
     }
 
     /// The image of version 2 of these routines and points, with these rows at its key places, in their order; `None`
     /// exactly where the format allows none. Rows that points have are not looked at. It takes no memory.
+    #[tactic(auto, using(crate::proofs::RepeatLaws::none_repeat))]
     pub fn with_keys(routines: Vec<Routine>, points: Vec<Point>, rows: Vec<Row>) -> Option<Image>
         ensures some { IsSome result ↔ IsTrue (is_keyed routines.items points.items rows.items) }
         ensures value { IfSome result (λ image. image ≡ keyed_parts routines.items points.items rows.items) }
@@ -167,6 +184,7 @@ impl Image {
                 keyed: true,
                 routines,
                 points,
+                repeats: no_flags(),
             })
         } else {
             None
@@ -268,6 +286,15 @@ impl Image {
         ensures { IfSome (slice_get self.now.points pc) (λ point. result.now ≡ point.row) }
     {
         &self.points[pc as usize].row
+    }
+
+    /// Whether it is known that the place behind `pc` is given the entry state that `pc` is given. The reader notes it where the bytes are
+    /// the same, which is not promised; of images that were made of points nothing is known.
+    pub fn repeats(&self, pc: u16) -> bool
+        requires { pc + 1 < length self.now.points }
+        ensures { result ≡ true → IsRepeated self.now.points pc }
+    {
+        self.repeats[pc as usize + 1]
     }
 
     /// The entry state at a pc.

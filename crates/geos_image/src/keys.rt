@@ -4,6 +4,7 @@ ghost use Rattle.std.specs.Prelude.{◌≡◌, ◌<◌, ◌≤◌, length, slice
 ghost use Rattle.geos_image.specs.Parts.{instrs_of};
 ghost use Rattle.geos_image.specs.Keys.{falls_through, branches, starts_from, keys_from, target_key, cut_key, flagged};
 ghost use Rattle.geos_image.specs.Keys.{key_flags, flag_count, with_rows, row_for, flag_bit, row_where, kept_rows};
+ghost use Rattle.geos_image.specs.Repeats.{RepeatsBy};
 
 use crate::instr::Instr;
 use crate::legal::{MOST_INSTRS, MOST_ROUTINES};
@@ -127,6 +128,23 @@ pub(crate) fn place_rows(flags: &Flags, points: &mut Vec<Point>, rows: &[Row])
         set_row(&mut points[pc], flags[pc], rows, next);
         next += flag_bit(flags[pc]);
     }
+}
+
+/// Flags for so many places: those are set whose row is that of the place before. `flags` says which places have rows, and `alike`
+/// which of these rows are the row before.
+pub(crate) fn repeats_of(flags: &Flags, alike: &Flags, count: usize) -> Flags
+    requires { count ≤ MOST_INSTRS }
+    ensures { RepeatsBy flags.now alike.now count result }
+{
+    let mut repeats = [false; 4096];
+    let mut before = false;
+    let mut next = 0;
+    for pc in 0..count {
+        repeats[pc] = before && flags[pc] && alike[next];
+        before = flags[pc];
+        next += flag_bit(flags[pc]);
+    }
+    repeats
 }
 
 /// A row, if its place is flagged.

@@ -11,9 +11,9 @@ mod routines;
 mod rows;
 
 use crate::error::ReadError;
-use crate::image::Image;
+use crate::image::{Image, no_flags};
 use crate::instr::Instr;
-use crate::keys::{flag_count, keys_of, place_rows};
+use crate::keys::{flag_count, keys_of, place_rows, repeats_of};
 use crate::legal::{MOST_INSTRS, total_count};
 use crate::reader::points::{bare_at, instrs_at, points_at, rows_at};
 use crate::reader::routines::{header_at, routines_at};
@@ -34,13 +34,15 @@ fn whole_at(
     requires legal { IsCode false routines.items code.now }
     ensures { Gives (λ image. image) result (whole_at bytes.now routines.items code.now at) }
 {
-    let points = points_at(alloc, bytes, code, at)?;
+    let mut repeats = no_flags();
+    let points = points_at(alloc, bytes, code, at, &mut repeats)?;
     let end = at + 58 * code.len();
     if bytes.len() == end {
         Ok(Image {
             keyed: false,
             routines,
             points,
+            repeats,
         })
     } else {
         Err(ReadError::BadImage(end))
@@ -65,14 +67,17 @@ fn keyed_at(
     let flags = keys_of(&routines, &points);
     let count = flag_count(&flags, &points);
     let rows_from = at + 20 * code.len();
-    let rows = rows_at(alloc, bytes, count, rows_from)?;
+    let mut alike = no_flags();
+    let rows = rows_at(alloc, bytes, count, rows_from, &mut alike)?;
     let end = rows_from + 38 * count;
     if bytes.len() == end {
         place_rows(&flags, &mut points, &rows);
+        let repeats = repeats_of(&flags, &alike, code.len());
         Ok(Image {
             keyed: true,
             routines,
             points,
+            repeats,
         })
     } else {
         Err(ReadError::BadImage(end))

@@ -4,11 +4,13 @@ ghost use Rattle.std.specs.Prelude.{◌≡◌, ◌<◌, ◌≤◌, ◌^◌, leng
 ghost use Rattle.std.specs.List.{list_all};
 ghost use Rattle.geos_image.specs.Legal.{is_instr, is_row, LegalWhere};
 ghost use Rattle.geos_image.specs.Parts.{instrs_of};
+ghost use Rattle.geos_image.specs.Repeats.{AreAlike, AreRepeats};
 ghost use Rattle.geos_opcodes.specs.Facts.{limit};
 ghost use Rattle.geos_image.specs.Reading.{byte_below, word_below, fields_at, instr_at, items_at, points_at, row_at, bare_points_at, Gives};
 
 use crate::error::ReadError;
 use crate::instr::Instr;
+use crate::keys::Flags;
 use crate::legal::MOST_INSTRS;
 use crate::point::Point;
 use crate::potential::Potential;
@@ -193,26 +195,29 @@ fn bare(instr: &Instr, potential: Potential) -> Point
     }
 }
 
-/// Each instruction with the row and the potential that the bytes give it.
+/// Each instruction with the row and the potential that the bytes give it. Flags places behind others whose row is that of the place
+/// before.
 #[inline(never)]
 pub(crate) fn points_at(
     alloc: Global,
     bytes: &[u8],
     code: &[Instr],
     start: usize,
+    repeats: &mut Flags,
 ) -> Result<Vec<Point>, ReadError>
     requires place { start < 2 ^ 20 }
     requires short { length code.now ≤ MOST_INSTRS }
     ensures exact { Gives (λ v. v.items) result (points_at bytes.now code.now start) }
     ensures legal { IfOk result (λ v. LegalWhere false code.now v.items) }
     ensures len { IfOk result (λ v. length v.items ≡ length code.now) }
+    ensures repeats { IfOk result (λ v. AreRepeats repeats.new v.items) }
 {
     let mut points = Vec::with_capacity(alloc, code.len())?;
     let mut row = Row::open();
     let mut before = start;
     let mut at = start;
-    for instr in code {
-        row_like(false, bytes, before, at, &mut row)?;
+    for (pc, instr) in code.iter().enumerate() {
+        repeats[pc] = row_like(false, bytes, before, at, &mut row)?;
         let potential = potential_at(bytes, at + ROW_LEN)?;
         points.push_reserved(told(instr, &row, potential));
         before = at;
@@ -245,26 +250,28 @@ pub(crate) fn bare_at(
     Ok(points)
 }
 
-/// So many rows.
+/// So many rows. Flags rows behind others that are the row before.
 #[inline(never)]
 pub(crate) fn rows_at(
     alloc: Global,
     bytes: &[u8],
     count: usize,
     start: usize,
+    alike: &mut Flags,
 ) -> Result<Vec<Row>, ReadError>
     requires place { start < 2 ^ 21 }
     requires short { count ≤ MOST_INSTRS }
     ensures exact { Gives (λ v. v.items) result (items_at (row_at true bytes.now) 38 count start) }
     ensures legal { IfOk result (λ v. list_all (is_row true) v.items ≡ true) }
     ensures len { IfOk result (λ v. length v.items ≡ count) }
+    ensures alike { IfOk result (λ v. AreAlike alike.new v.items) }
 {
     let mut rows = Vec::with_capacity(alloc, count)?;
     let mut row = Row::open();
     let mut before = start;
     let mut at = start;
-    for _ in 0..count {
-        row_like(true, bytes, before, at, &mut row)?;
+    for k in 0..count {
+        alike[k] = row_like(true, bytes, before, at, &mut row)?;
         rows.push_reserved(row);
         before = at;
         at += 38;

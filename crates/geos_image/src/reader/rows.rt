@@ -168,7 +168,7 @@ fn are_same(bytes: &[u8], before: usize, at: usize) -> bool
 }
 
 /// Makes `row` the one that stands at `at`. Where `before` is another offset, `row` is what stands there: it is read anew only
-/// where the bytes differ, which between two instructions they mostly don't.
+/// where the bytes differ, which between two instructions they mostly don't. The answer is whether `row` stayed.
 #[inline(always)]
 pub(crate) fn row_like(
     borrows: bool,
@@ -176,18 +176,20 @@ pub(crate) fn row_like(
     before: usize,
     at: usize,
     row: &mut Row,
-) -> Result<(), Fault>
+) -> Result<bool, Fault>
     requires order { before ≤ at }
     requires place { at < 2 ^ 28 }
     requires known { before < at → row_at borrows bytes.now before ≡ Ok row.old }
     requires fine { before < at → is_row borrows row.old ≡ true }
     ensures exact { Puts result row.new (row_at borrows bytes.now at) }
-    ensures legal { IfOk result (λ done. is_row borrows row.new ≡ true) }
+    ensures legal { IfOk result (λ known. is_row borrows row.new ≡ true) }
+    ensures known { IfOk result (λ known. known ≡ true → (before < at) × (row.new ≡ row.old)) }
 {
     if before == at || !are_same(bytes, before, at) {
         *row = row_at(borrows, bytes, at)?;
+        return Ok(false);
     }
-    Ok(())
+    Ok(true)
 }
 
 /// The numbers of a potential.

@@ -11,7 +11,7 @@ use Rattle.geos_image.proofs.image.Image.start.Goals as goal
 pub returns-clause-room : goal.returns-clause-room
 returns-clause-room c =
     let image = c.args.self.now in
-    let legal : is_image image ≡ true = subst (λ (p : Parts). is_image p ≡ true) c.self.view_is c.self.invariant in
+    let legal : is_image image ≡ true = subst (λ (p : Parts). is_image p ≡ true) c.self.view_is c.self.invariant.0 in
     let start_is : c.total_count.result ≡ start_of image.routines c.args.index = search rules in
     subst (λ (n : ℕ). IfSome (slice_get image.routines c.args.index) (λ routine. n + routine.count ≤ length image.points))
     (sym start_is) (start_of-room image c.args.index legal)
@@ -19,7 +19,7 @@ returns-clause-room c =
 pub returns-clause-given : goal.returns-clause-given
 returns-clause-given c =
     let image = c.args.self.now in
-    let legal : is_image image ≡ true = subst (λ (p : Parts). is_image p ≡ true) c.self.view_is c.self.invariant in
+    let legal : is_image image ≡ true = subst (λ (p : Parts). is_image p ≡ true) c.self.view_is c.self.invariant.0 in
     let start_is : c.total_count.result ≡ start_of image.routines c.args.index = search rules in
     let routine = item_at image.routines c.args.index c.requires in
     let end = start_of-end image.routines c.args.index routine.0 routine.1 in

@@ -1,0 +1,39 @@
+-- Entry states that are given again at the next place.
+use Rattle.std.specs.Prelude.{◌≡◌, ◌<◌, ℕ, ◌+◌, ◌&&◌, Bool, true, false, List, [], ◌∷◌, zero, suc, Some, slice_get, slice_index_or, IfSome}
+use Rattle.std.specs.Option.{is_some}
+use Rattle.geos_image.specs.declared.point.Point.{Point}
+use Rattle.geos_image.specs.declared.row.Row.{Row}
+
+-- the place behind the pc, if there is one, is given a row, and the pc is given that row
+abbrev pub IsRepeated : List Point → ℕ → Type 0
+IsRepeated points pc =
+    IfSome (slice_get points (pc + 1)) (λ next. (is_some next.row ≡ true) × IfSome (slice_get points pc) (λ here. here.row ≡ next.row))
+
+-- each place behind another that is flagged is given a row, which that one is given
+abbrev pub AreRepeats : List Bool → List Point → Type 0
+AreRepeats flags points = (pc : ℕ) → slice_index_or flags (pc + 1) false ≡ true → IsRepeated points pc
+
+-- each row behind another that is flagged is that one
+abbrev pub AreAlike : List Bool → List Row → Type 0
+AreAlike flags rows =
+    (k : ℕ) → slice_index_or flags (k + 1) false ≡ true → IfSome (slice_get rows (k + 1)) (λ next. slice_get rows k ≡ Some next)
+
+-- how many places before the pc are flagged
+abbrev pub flags_before : List Bool → ℕ → ℕ
+flags_before flags zero = 0
+flags_before [] (suc pc) = 0
+flags_before (false ∷ flags) (suc pc) = flags_before flags pc
+flags_before (true ∷ flags) (suc pc) = suc (flags_before flags pc)
+
+-- the place before the pc is flagged
+abbrev pub flag_before : List Bool → ℕ → Bool
+flag_before flags zero = false
+flag_before flags (suc pc) = slice_index_or flags pc false
+
+-- the place and the one before it have rows, and its row is flagged as the row before
+abbrev pub is_repeat : List Bool → List Bool → ℕ → Bool
+is_repeat flags alike pc = flag_before flags pc && slice_index_or flags pc false && slice_index_or alike (flags_before flags pc) false
+
+-- of so many places just the repeats are flagged
+abbrev pub RepeatsBy : List Bool → List Bool → ℕ → List Bool → Type 0
+RepeatsBy flags alike count repeats = (pc : ℕ) → pc < count → slice_index_or repeats pc false ≡ is_repeat flags alike pc
