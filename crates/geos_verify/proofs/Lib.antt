@@ -18,3 +18,4 @@ pub mod Exits
 pub mod KeyedPlaces
 pub mod KeyedRows
 pub mod AcceptedToo
+pub mod GivenAgain

@@ -238,6 +238,11 @@ tests image r routine start pc place =
     ∷ (over_budget routine start pc potential, OverBudget)
     ∷ []
 
+-- the lowest of three rules that refuses the instruction: on locks into a slot, on the slot that is named, and on commits
+abbrev pub slot_misuse : Instr → Row → Option Rule
+slot_misuse i row =
+    first_refusal ((locks_into_held i row, LocksIntoHeld) ∷ (wrong_slot i row, WrongSlot) ∷ (commits_with_held i row, CommitsHeld) ∷ [])
+
 -- the lowest rule that refuses the place at a pc of a routine
 abbrev pub refusal : Parts → ℕ → Routine → ℕ → ℕ → Place → Option Rule
 refusal image r routine start pc place = first_refusal (tests image r routine start pc place)

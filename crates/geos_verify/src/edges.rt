@@ -1,18 +1,23 @@
 //! Where control goes after an instruction, and what is known there.
 
-ghost use Rattle.std.specs.Prelude.{◌≡◌, ◌<◌, length};
+ghost use Rattle.std.specs.Prelude.{◌≡◌, ◌<◌, List, Option, length, true, false};
 ghost use Rattle.geos_image.specs.Fields.{FieldsFit, CalleeFits};
+ghost use Rattle.geos_image.specs.Parts.{Parts};
+ghost use Rattle.geos_image.specs.declared.instr.Instr.{Instr};
+ghost use Rattle.geos_image.specs.declared.row.Pointer.{Pointer};
+ghost use Rattle.geos_image.specs.declared.row.Row.{Row};
 ghost use Rattle.geos_opcodes.specs.Facts.{uses_of};
 ghost use Rattle.geos_verify.specs.Uses.{UsesFit};
-ghost use Rattle.geos_verify.specs.Rows.{has_edge, pairs_after, used, row_along, row_branching, after, HasEdge};
+ghost use Rattle.geos_verify.specs.Rows.{has_edge, bounded, pairs_after, with_pointer, used, row_along, row_branching, after, HasEdge};
 
 use crate::bounds::{bound_result, set_bound};
 use crate::pairs::{with_new, with_pair, without_slot};
 use crate::pointers::{drop_pointers, set_pointer};
 use crate::slots::set_slots;
+use crate::touched::calls;
 use crate::uses::uses_at;
 use geos_image::{Image, Instr, Opcode, Row, branches, falls_through};
-use geos_opcodes::{SlotUse, Uses};
+use geos_opcodes::{PointerUse, SlotUse, Uses};
 
 /// Whether the instruction has the edge: to its target where `branch` says so, else to the next
 /// instruction.
@@ -72,6 +77,27 @@ pub(crate) fn go_along(image: &Image, i: &Instr, uses: Uses, row: &mut Row)
             bound_result(i, row);
             apply_uses(i, uses, row);
         }
+    }
+}
+
+/// Whether a pointer is set by such a use of pointers.
+fn sets_pointer(pointer: PointerUse) -> bool
+    ensures { result ≡ false → (i : Instr) (pointers : List (Option Pointer)) → with_pointer i pointer pointers ≡ pointers }
+{
+    match pointer {
+        PointerUse::Sets | PointerUse::Duplicates => true,
+        _ => false,
+    }
+}
+
+/// Whether the instruction is known to change bounds alone, where it goes on to the next one.
+pub(crate) fn changes_bounds_alone(i: &Instr, uses: Uses) -> bool
+    requires { uses ≡ uses_of i.now.opcode }
+    ensures { result ≡ true → (image : Parts) (row : Row) → row_along image i.now i.now.opcode row ≡ bounded i.now i.now.opcode row }
+{
+    match uses.slot {
+        SlotUse::NoSlot => !sets_pointer(uses.pointer) && !calls(i.opcode),
+        _ => false,
     }
 }
 

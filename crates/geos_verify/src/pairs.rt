@@ -101,9 +101,9 @@ pub(crate) fn are_apart(a: u8, b: u8, pairs: &[bool; 6]) -> bool
 {
     let [p01, p02, p03, p12, p13, p23] = *pairs;
     tells(p01, a, b, (0, 1))
-        | tells(p02, a, b, (0, 2))
-        | tells(p03, a, b, (0, 3))
-        | tells(p12, a, b, (1, 2))
-        | tells(p13, a, b, (1, 3))
-        | tells(p23, a, b, (2, 3))
+        || tells(p02, a, b, (0, 2))
+        || tells(p03, a, b, (0, 3))
+        || tells(p12, a, b, (1, 2))
+        || tells(p13, a, b, (1, 3))
+        || tells(p23, a, b, (2, 3))
 }

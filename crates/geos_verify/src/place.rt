@@ -51,6 +51,10 @@ pub(crate) fn go_on(image: &Image, pc: u16, row: &mut Row)
     if next == len {
         return;
     }
+    // The row that is given here is given there too.
+    if image.repeats(pc) {
+        return;
+    }
     take_given(image, pc, image.given(next), row);
 }
 

@@ -28,6 +28,8 @@ fn may_be_same(row: &Row, a: u8, b: u8) -> bool
 }
 
 /// The pointer, if it leads into a slot that cannot hold the block of slot a.
+// In place: a call would return it through memory.
+#[inline(always)]
 fn kept_beside(row: &Row, a: u8, pointer: Option<Pointer>) -> Option<Pointer>
     ensures { result ≡ stale_where (may_be_same row.now a) pointer }
 {

@@ -6,13 +6,14 @@ ghost use Rattle.geos_image.specs.Keys.{falls_through, branches, gives};
 ghost use Rattle.geos_verify.specs.Places.{places, RowAt};
 ghost use Rattle.geos_verify.specs.Rows.{row_along, row_branching};
 ghost use Rattle.geos_verify.specs.Rules.{has_place, returns, leaves_routine, entry_misfits, call_misfits, exit_misfits, misfits_at};
-ghost use Rattle.geos_verify.specs.Rules.{edge_misfits, unpaid_along, unpaid_branching, edge_unpaid, over_budget, refusal, GoesWithin};
+ghost use Rattle.geos_verify.specs.Rules.{edge_misfits, unpaid_along, unpaid_branching, edge_unpaid, over_budget, refusal, slot_misuse, GoesWithin};
 ghost use Rattle.geos_verify.specs.Touched.{calls};
 ghost use Rattle.geos_opcodes.specs.Facts.{uses_of};
 ghost use Rattle.geos_verify.specs.Uses.{UsesFit};
 
 use crate::body::Body;
-use crate::edges::{go_along, go_to_target};
+use crate::bounds::keeps_bounds;
+use crate::edges::{changes_bounds_alone, go_along, go_to_target};
 use crate::enough::{fits, names_empty_slot};
 use crate::misuse::{
     changes_unmarked, commits_with_held, locks_into_held, passes_end, stale_pointer, wrong_slot,
@@ -23,7 +24,7 @@ use crate::rule::Rule;
 use crate::touched::calls;
 use crate::uses::uses_at;
 use geos_image::{Image, Instr, Opcode, Potential, Routine, Row, branches, falls_through};
-use geos_opcodes::Uses;
+use geos_opcodes::{SlotUse, Uses};
 
 /// Whether the pc is one of the routine's, which begins at `start`.
 pub fn has_place(start: u32, routine: &Routine, pc: u32) -> bool
@@ -95,6 +96,10 @@ fn misfits_along(image: &Image, pc: u16, i: &Instr, uses: Uses, row: &Row) -> bo
     requires known { RowAt image.now pc row.now }
     ensures { result ≡ misfits_at image.now (pc + 1) (row_along image.now i.now i.now.opcode row.now) }
 {
+    // Where the row that is given here is given there too, the rest of it fits itself.
+    if image.repeats(pc) && changes_bounds_alone(i, uses) {
+        return !keeps_bounds(i, row);
+    }
     match image.given(pc + 1) {
         None => false,
         Some(given) => {
@@ -170,6 +175,29 @@ pub fn over_budget(start: u16, routine: &Routine, pc: u16, potential: &Potential
     pc == start && !is_within(routine.budget, potential)
 }
 
+/// The lowest of the rules on locks into a slot, on the slot that is named and on commits that refuses the instruction, if one does.
+// One look at the use for the three of them: most instructions do nothing with slots.
+#[tactic(auto, unfolding(crate::specs::Rules::locks_into_held, crate::specs::Rules::wrong_slot, crate::specs::Rules::commits_with_held))]
+fn slot_misuse(i: &Instr, slot: SlotUse, row: &Row) -> Option<Rule>
+    requires { slot ≡ (uses_of i.now.opcode).slot }
+    ensures { result ≡ slot_misuse i.now row.now }
+{
+    match slot {
+        SlotUse::NoSlot => None,
+        _ => {
+            if locks_into_held(i, slot, row) {
+                Some(Rule::LocksIntoHeld)
+            } else if wrong_slot(i, slot, row) {
+                Some(Rule::WrongSlot)
+            } else if commits_with_held(i, slot, row) {
+                Some(Rule::CommitsHeld)
+            } else {
+                None
+            }
+        }
+    }
+}
+
 /// The lowest rule that refuses an instruction at `pc` of a routine, with what is known there.
 fn refusal_of(body: &Body, pc: u16, i: &Instr, row: &Row, potential: &Potential) -> Option<Rule>
     requires there { pc < length body.now.image.now.points }
@@ -197,12 +225,8 @@ fn refusal_of(body: &Body, pc: u16, i: &Instr, row: &Row, potential: &Potential)
         Some(Rule::PassesEnd)
     } else if changes_unmarked(i, uses, row) {
         Some(Rule::ChangesUnmarked)
-    } else if locks_into_held(i, uses.slot, row) {
-        Some(Rule::LocksIntoHeld)
-    } else if wrong_slot(i, uses.slot, row) {
-        Some(Rule::WrongSlot)
-    } else if commits_with_held(i, uses.slot, row) {
-        Some(Rule::CommitsHeld)
+    } else if let Some(rule) = slot_misuse(i, uses.slot, row) {
+        Some(rule)
     } else if call_misfits(body.image, body.r, i, row) {
         Some(Rule::CallMisfit)
     } else if exit_misfits(routine, i, row) {

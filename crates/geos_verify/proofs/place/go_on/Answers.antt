@@ -1,11 +1,18 @@
 use Rattle.std.proofs.Common.{◌+◌, ◌<◌, length, false, refl, arith}
 use Rattle.geos_verify.specs.Rows.{after}
 use Rattle.geos_verify.proofs.Known.{row-past, row-chosen, goes-on}
+use Rattle.geos_verify.proofs.GivenAgain.{known-again}
 use Rattle.geos_verify.proofs.place.go_on.Goals as goal
 
 pub returns-then-next-len : goal.returns-then-next-len
 returns-then-next-len c =
     row-past c.args.image.now (c.args.pc + 1) c.args.row.now (omega (arith, c.if-next-len.true, c.len-len.ensures.len))
+
+pub returns-then-repeats : goal.returns-then-repeats
+returns-then-repeats c =
+    let image = c.args.image.now in
+    let lt : c.args.pc + 1 < length image.points = omega (arith, c.if-next-len.false, c.len-len.ensures.len, c.requires.there) in
+    known-again image c.args.pc c.args.row.now lt (c.repeats.ensures c.if-repeats.true) c.requires.here
 
 pub take_given-requires-clause-edge : goal.take_given-requires-clause-edge
 take_given-requires-clause-edge c =
