@@ -38,7 +38,7 @@ slice_get-end (x ∷ xs) y = slice_get-end xs y
 abbrev pub LastHas : List Point → Row → Type 0
 LastHas points row = (pc : ℕ) → pc + 1 ≡ length points → IfSome (slice_get points pc) (λ here. here.row ≡ Some row)
 
--- one more point has its own row
+-- a point that is added is the last one
 pub last-push : (points : List Point) (point : Point) (row : Row) → point.row ≡ Some row → LastHas (points ++ point ∷ []) row
 last-push points point row is pc e =
     let end : pc ≡ length points = omega (arith, e, length-append points (point ∷ [])) in
