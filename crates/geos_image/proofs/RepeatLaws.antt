@@ -1,9 +1,9 @@
 -- Laws of entry states that are given again at the next place.
 use Rattle.std.proofs.Common.{◌≡◌, ℕ, ◌+◌, ◌≤◌, ◌<◌, ◌⊎◌, Bool, true, false, List, [], ◌∷◌, ◌++◌, zero, suc, inl, inr, length, Option, Some, None, refl, sym, ap, ◌∙◌, below_more, arith}
-use Rattle.std.specs.Prelude.{◌&&◌, replicate, slice_get, slice_index_or, slice_set, IfSome}
+use Rattle.std.specs.Prelude.{◌&&◌, take, slice_get, slice_index_or, slice_set, IfSome}
 use Rattle.std.specs.Option.{is_some}
 use Rattle.std.proofs.lemmas.Bool.{cases_order, and_parts}
-use Rattle.std.proofs.lemmas.List.{get_or-set_same, get_or-set_other, get_or_past, get_or-replicate, length-append, length-replicate}
+use Rattle.std.proofs.lemmas.List.{get_or-set_same, get_or-set_other, length-append, length-take-le}
 use Rattle.std.proofs.lemmas.Option.{slice_get_past}
 use Rattle.geos_image.specs.declared.point.Point.{Point}
 use Rattle.geos_image.specs.declared.row.Row.{Row}
@@ -12,18 +12,20 @@ use Rattle.geos_image.specs.Keys.{with_rows, flag_bit, flag_count}
 use Rattle.geos_image.specs.Repeats.{IsRepeated, AreRepeats, AreAlike, RepeatsBy, flags_before, is_repeat}
 use Rattle.geos_image.proofs.KeyLaws.{with_rows-length}
 
-blank : (k : ℕ) → slice_index_or (replicate 4096 false) k false ≡ false
-blank k = go (cases_order k 4096) where
-  go : (k ≡ 4096) ⊎ ((k < 4096) ⊎ (4096 < k)) → slice_index_or (replicate 4096 false) k false ≡ false
-  go (inl e) = get_or_past (replicate 4096 false) k false (omega (arith, e, length-replicate 4096 false))
-  go (inr (inl lt)) = get_or-replicate 4096 k false false lt
-  go (inr (inr gt)) = get_or_past (replicate 4096 false) k false (omega (arith, gt, length-replicate 4096 false))
+-- what is flagged in a front part is flagged
+flagged-front : (n : ℕ) (flags : List Bool) (k : ℕ) → slice_index_or (take n flags) k false ≡ true → slice_index_or flags k false ≡ true
+flagged-front zero flags k set = absurd cc
+flagged-front (suc n) [] k set = set
+flagged-front (suc n) (flag ∷ flags) zero set = set
+flagged-front (suc n) (flag ∷ flags) (suc k) set = flagged-front n flags k set
 
--- no flag is set, so none is wrong
-pub none_repeat : (points : List Point) → AreRepeats (replicate 4096 false) points
-none_repeat points pc h =
-    let off = blank (pc + 1) in
-    absurd cc
+-- flags for as many places are right if all are
+pub first-noted : (flags : List Bool) (points : List Point) (n : ℕ) → n ≤ length flags → length points ≡ n → AreRepeats flags points
+    → (length (take n flags) ≡ length points) × AreRepeats (take n flags) points
+first-noted flags points n le len right = (
+  length-take-le n flags le ∙ sym len,
+  λ pc set. right pc (flagged-front n flags (pc + 1) set),
+)
 
 slice_get-front : {A : Type 0} (xs ys : List A) (n : ℕ) → n < length xs → slice_get (xs ++ ys) n ≡ slice_get xs n
 slice_get-front [] ys n lt = absurd (omega (arith, lt))

@@ -1,6 +1,7 @@
 -- Entry states that are given again at the next place.
-use Rattle.std.specs.Prelude.{◌≡◌, ◌<◌, ℕ, ◌+◌, ◌&&◌, Bool, true, false, List, [], ◌∷◌, zero, suc, Some, slice_get, slice_index_or, IfSome}
+use Rattle.std.specs.Prelude.{◌≡◌, ◌<◌, ℕ, ◌+◌, ◌&&◌, Bool, true, false, List, [], ◌∷◌, zero, suc, Option, Some, Vec, length, slice_get, slice_index_or, IfSome}
 use Rattle.std.specs.Option.{is_some}
+use Rattle.std.specs.Global.{Global}
 use Rattle.geos_image.specs.declared.point.Point.{Point}
 use Rattle.geos_image.specs.declared.row.Row.{Row}
 
@@ -12,6 +13,10 @@ IsRepeated points pc =
 -- each place behind another that is flagged is given a row, which that one is given
 abbrev pub AreRepeats : List Bool → List Point → Type 0
 AreRepeats flags points = (pc : ℕ) → slice_index_or flags (pc + 1) false ≡ true → IsRepeated points pc
+
+-- a flag for each place, if there are any, and each that is set is right
+abbrev pub AreNoted : Option (Vec Bool Global) → List Point → Type 0
+AreNoted repeats points = IfSome repeats (λ flags. (length flags.items ≡ length points) × AreRepeats flags.items points)
 
 -- each row behind another that is flagged is that one
 abbrev pub AreAlike : List Bool → List Row → Type 0

@@ -28,22 +28,22 @@ pub struct Image {
     pub(crate) keyed: bool,
     pub(crate) routines: Vec<Routine>,
     pub(crate) points: Vec<Point>,
-    /// Where a place behind another is flagged, its entry state is that of the other.
-    pub(crate) repeats: Flags,
+    /// A flag for each place of an image that was read: where one behind another is flagged, its entry state is that of the other.
+    pub(crate) repeats: Option<Vec<bool>>,
 }
 
 impl Model for Image {
     ghost use Rattle.std.specs.Prelude.{◌≡◌, true};
     ghost use Rattle.geos_image.specs.Parts.{Parts};
     ghost use Rattle.geos_image.specs.Legal.{is_image};
-    ghost use Rattle.geos_image.specs.Repeats.{AreRepeats};
+    ghost use Rattle.geos_image.specs.Repeats.{AreNoted};
 
     ghost Value = { Parts };
 
     ghost view = { λ i. record { keyed = i.keyed; routines = i.routines.items; points = i.points.items } };
 
     ghost invariant = { λ i. (is_image (record { keyed = i.keyed; routines = i.routines.items; points = i.points.items }) ≡ true)
-        × AreRepeats i.repeats i.points.items };
+        × AreNoted i.repeats i.points.items };
 }
 
 /// Whether each routine may stand behind those before it.
@@ -88,13 +88,6 @@ fn all_flags() -> Flags
     [true; 4096]
 }
 
-/// No flag is set.
-pub(crate) fn no_flags() -> Flags
-    ensures { result ≡ replicate 4096 false }
-{
-    [false; 4096]
-}
-
 /// A flag for each pc at which an image gives a row.
 fn row_flags(keyed: bool, routines: &[Routine], points: &[Point]) -> Flags
     requires few { length routines.now ≤ MOST_ROUTINES }
@@ -131,7 +124,6 @@ fn is_short(routines: &[Routine], points: &[Point]) -> bool
 impl Image {
     /// The image of version 1 of these routines and points; `None` exactly where the format allows none. It
     /// takes no memory.
-    #[tactic(auto, using(crate::proofs::RepeatLaws::none_repeat))]
     pub fn new(routines: Vec<Routine>, points: Vec<Point>) -> Option<Image>
         ensures some { IsSome result ↔ IsTrue (is_image (record { keyed = false; routines = routines.items; points = points.items })) }
         ensures value { IfSome result (λ image. image ≡ record { keyed = false; routines = routines.items; points = points.items }) }
@@ -141,7 +133,7 @@ impl Image {
                 keyed: false,
                 routines,
                 points,
-                repeats: no_flags(),
+                repeats: None,
             })
         } else {
             None
@@ -150,7 +142,6 @@ impl Image {
 
     /// The image of routines and points that are known to be such as the format allows: nothing is looked at. `keyed`
     /// says whether it is of version 2.
-    #[tactic(auto, using(crate::proofs::RepeatLaws::none_repeat))]
     pub fn of_legal(keyed: bool, routines: Vec<Routine>, points: Vec<Point>) -> Image
         requires { is_image (record { keyed = keyed; routines = routines.items; points = points.items }) ≡ true }
         ensures { result ≡ record { keyed = keyed; routines = routines.items; points = points.items } }
@@ -159,13 +150,12 @@ impl Image {
             keyed,
             routines,
             points,
-            repeats: no_flags(),
+            repeats: None,
         }
     }
 
     /// The image of version 2 of these routines and points, with these rows at its key places, in their order; `None`
     /// exactly where the format allows none. Rows that points have are not looked at. It takes no memory.
-    #[tactic(auto, using(crate::proofs::RepeatLaws::none_repeat))]
     pub fn with_keys(routines: Vec<Routine>, points: Vec<Point>, rows: Vec<Row>) -> Option<Image>
         ensures some { IsSome result ↔ IsTrue (is_keyed routines.items points.items rows.items) }
         ensures value { IfSome result (λ image. image ≡ keyed_parts routines.items points.items rows.items) }
@@ -184,7 +174,7 @@ impl Image {
                 keyed: true,
                 routines,
                 points,
-                repeats: no_flags(),
+                repeats: None,
             })
         } else {
             None
@@ -294,7 +284,10 @@ impl Image {
         requires { pc + 1 < length self.now.points }
         ensures { result ≡ true → IsRepeated self.now.points pc }
     {
-        self.repeats[pc as usize + 1]
+        match &self.repeats {
+            Some(flags) => flags[pc as usize + 1],
+            None => false,
+        }
     }
 
     /// The entry state at a pc.

@@ -1,6 +1,6 @@
 //! The key places of code.
 
-ghost use Rattle.std.specs.Prelude.{◌≡◌, ◌<◌, ◌≤◌, length, slice_set, true};
+ghost use Rattle.std.specs.Prelude.{◌≡◌, ◌<◌, ◌≤◌, length, slice_set, take, replicate, true, false, IfOk};
 ghost use Rattle.geos_image.specs.Parts.{instrs_of};
 ghost use Rattle.geos_image.specs.Keys.{falls_through, branches, starts_from, keys_from, target_key, cut_key, flagged};
 ghost use Rattle.geos_image.specs.Keys.{key_flags, flag_count, with_rows, row_for, flag_bit, row_where, kept_rows};
@@ -12,9 +12,17 @@ use crate::point::Point;
 use crate::routine::Routine;
 use crate::row::Row;
 use geos_opcodes::{Flow, Opcode, Operand};
+use std::alloc::{AllocError, Global};
 
 /// A flag for each pc that there may be.
 pub type Flags = [bool; 4096];
+
+/// No flag is set.
+pub(crate) fn no_flags() -> Flags
+    ensures { result ≡ replicate 4096 false }
+{
+    [false; 4096]
+}
 
 /// Whether control may go on to the next instruction.
 #[inline(always)]
@@ -136,7 +144,7 @@ pub(crate) fn repeats_of(flags: &Flags, alike: &Flags, count: usize) -> Flags
     requires { count ≤ MOST_INSTRS }
     ensures { RepeatsBy flags.now alike.now count result }
 {
-    let mut repeats = [false; 4096];
+    let mut repeats = no_flags();
     let mut before = false;
     let mut next = 0;
     for pc in 0..count {
@@ -145,6 +153,20 @@ pub(crate) fn repeats_of(flags: &Flags, alike: &Flags, count: usize) -> Flags
         next += flag_bit(flags[pc]);
     }
     repeats
+}
+
+/// The flags of so many places, as many as an image keeps.
+pub(crate) fn first_flags(
+    alloc: Global,
+    flags: &Flags,
+    count: usize,
+) -> Result<Vec<bool>, AllocError>
+    requires { count ≤ MOST_INSTRS }
+    ensures { IfOk result (λ v. v.items ≡ take count flags.now) }
+{
+    let mut first = Vec::with_capacity(alloc, count)?;
+    first.extend_from_slice(&flags[..count])?;
+    Ok(first)
 }
 
 /// A row, if its place is flagged.
@@ -170,7 +192,7 @@ pub fn keys_of(routines: &[Routine], points: &[Point]) -> Flags
     requires short { length points.now ≤ MOST_INSTRS }
     ensures { result ≡ key_flags routines.now (instrs_of points.now) }
 {
-    let mut flags = [false; 4096];
+    let mut flags = no_flags();
     flag_starts(routines, &mut flags);
     flag_all(points, &mut flags);
     flags

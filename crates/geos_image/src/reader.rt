@@ -11,9 +11,9 @@ mod routines;
 mod rows;
 
 use crate::error::ReadError;
-use crate::image::{Image, no_flags};
+use crate::image::Image;
 use crate::instr::Instr;
-use crate::keys::{flag_count, keys_of, place_rows, repeats_of};
+use crate::keys::{first_flags, flag_count, keys_of, no_flags, place_rows, repeats_of};
 use crate::legal::{MOST_INSTRS, total_count};
 use crate::reader::points::{bare_at, instrs_at, points_at, rows_at};
 use crate::reader::routines::{header_at, routines_at};
@@ -38,11 +38,12 @@ fn whole_at(
     let points = points_at(alloc, bytes, code, at, &mut repeats)?;
     let end = at + 58 * code.len();
     if bytes.len() == end {
+        let repeats = first_flags(alloc, &repeats, code.len())?;
         Ok(Image {
             keyed: false,
             routines,
             points,
-            repeats,
+            repeats: Some(repeats),
         })
     } else {
         Err(ReadError::BadImage(end))
@@ -73,11 +74,12 @@ fn keyed_at(
     if bytes.len() == end {
         place_rows(&flags, &mut points, &rows);
         let repeats = repeats_of(&flags, &alike, code.len());
+        let repeats = first_flags(alloc, &repeats, code.len())?;
         Ok(Image {
             keyed: true,
             routines,
             points,
-            repeats,
+            repeats: Some(repeats),
         })
     } else {
         Err(ReadError::BadImage(end))

@@ -4,7 +4,7 @@ ghost use Rattle.std.specs.Prelude.{◌≡◌, ◌↔◌, IsTrue, IsSome, IfSome
 ghost use Rattle.geos_image.specs.Keys.{keyed_of};
 ghost use Rattle.geos_image.specs.Legal.{is_formed, is_image};
 
-use crate::image::{Image, is_formed, no_flags};
+use crate::image::{Image, is_formed};
 use crate::keys::{keep_rows, keys_of};
 use crate::point::Point;
 use crate::routine::Routine;
@@ -59,12 +59,11 @@ impl Whole {
             keyed: true,
             routines: self.routines,
             points,
-            repeats: no_flags(),
+            repeats: None,
         }
     }
 
     /// The image of version 1, with all rows; `None` exactly where a slot is borrowed. It takes no memory.
-    #[tactic(auto, using(crate::proofs::RepeatLaws::none_repeat))]
     pub fn into_image(self) -> Option<Image>
         ensures some { IsSome result ↔ IsTrue (is_image self) }
         ensures value { IfSome result (λ image. image ≡ self) }
@@ -74,7 +73,7 @@ impl Whole {
                 keyed: false,
                 routines: self.routines,
                 points: self.points,
-                repeats: no_flags(),
+                repeats: None,
             })
         } else {
             None

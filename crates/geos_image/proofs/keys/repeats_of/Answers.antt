@@ -34,4 +34,4 @@ loop-pc-preserved c =
     )
 
 pub loop-pc-init : goal.loop-pc-init
-loop-pc-init c = (omega arith, refl, refl, length-replicate 4096 false, λ pc lt. absurd (omega (arith, lt)))
+loop-pc-init c = (omega arith, refl, refl, rw c.no_flags-repeats.ensures (length-replicate 4096 false), λ pc lt. absurd (omega (arith, lt)))

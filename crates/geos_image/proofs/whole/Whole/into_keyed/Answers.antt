@@ -4,7 +4,6 @@ use Rattle.geos_image.specs.Parts.{Parts, instrs_of}
 use Rattle.geos_image.specs.Legal.{is_formed, is_image}
 use Rattle.geos_image.specs.Keys.{key_flags, kept_rows}
 use Rattle.geos_image.proofs.Kept.{keyed-legal}
-use Rattle.geos_image.proofs.RepeatLaws.{none_repeat}
 use Rattle.geos_image.proofs.whole.Whole.into_keyed.Goals as goal
 
 pub invariant_of-result : goal.invariant_of-result
@@ -16,5 +15,5 @@ invariant_of-result c =
     c.keep_rows.ensures ∙ ap (λ (fs : List Bool). kept_rows fs whole.points) flags in (
       subst (λ (ps : List Point). is_image (record { keyed = true; routines = whole.routines; points = ps }) ≡ true)
           (sym points) (keyed-legal whole formed),
-      rw c.no_flags.ensures (none_repeat _),
+      tt,
     )
