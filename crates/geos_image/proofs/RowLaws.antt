@@ -16,6 +16,7 @@ use Rattle.geos_image.specs.Legal.{is_own, is_pointer, is_row}
 use Rattle.geos_image.specs.Ranges.{IsWord, PointerFits, RowFits}
 use Rattle.geos_image.specs.Spelling.{word, flag, slot_code, pointer, pairs_byte, row}
 use Rattle.geos_image.specs.Reading.{guard, byte_at, word_at, byte_below, word_below, items_at, slot_states, slot_of, slot_at, pointer_at, pairs_of, row_at}
+use Rattle.geos_image.specs.Repeats.{are_same}
 use Rattle.geos_image.proofs.SlotLaws.{slot_of_again}
 use Rattle.geos_image.proofs.Steps.{ok_is, after, guard_ok, cond_ok, or_fault_ok, find_passes}
 use Rattle.geos_image.proofs.Places.{plus, IsBytes, Takes, Takes-then, Left, Left-as, four_texts}
@@ -275,13 +276,9 @@ row_fits borrows bytes fits at r h =
 
 -- ---- bytes that are the same
 
--- the bytes of a row stand at both offsets, and are the same
-abbrev pub are_alike : List ℕ → ℕ → ℕ → Bool
-are_alike bytes before at = nat_le (at + 38) (length bytes) && pointwise nat_eq (take 38 (drop before bytes)) (take 38 (drop at bytes))
-
--- where they are, the row of the one offset stands at the other
+-- where the bytes at two offsets are the same, the row of the one stands at the other
 pub row_alike : (borrows : Bool) (bytes : List ℕ) → IsBytes bytes → (before at : ℕ) (r : Row) → before ≤ at → is_row borrows r ≡ true
-    → are_alike bytes before at ≡ true → row_at borrows bytes before ≡ Ok r → row_at borrows bytes at ≡ Ok r
+    → are_same bytes before at ≡ true → row_at borrows bytes before ≡ Ok r → row_at borrows bytes at ≡ Ok r
 row_alike borrows bytes fits before at r order legal alike read =
     let first = take 38 (drop before bytes) in
     let second = take 38 (drop at bytes) in

@@ -1,9 +1,14 @@
 -- Entry states that are given again at the next place.
-use Rattle.std.specs.Prelude.{◌≡◌, ◌<◌, ℕ, ◌+◌, ◌&&◌, Bool, true, false, List, [], ◌∷◌, zero, suc, Option, Some, Vec, length, slice_get, slice_index_or, IfSome}
+use Rattle.std.specs.Prelude.{◌≡◌, ◌<◌, ℕ, ◌+◌, ◌&&◌, Bool, true, false, List, [], ◌∷◌, zero, suc, Option, Some, Vec, length, slice_get, slice_index_or, IfSome, nat_eq, nat_le, take, drop}
+use Rattle.std.specs.Cmp.Lexicographic.{pointwise}
 use Rattle.std.specs.Option.{is_some}
 use Rattle.std.specs.Global.{Global}
 use Rattle.geos_image.specs.declared.point.Point.{Point}
 use Rattle.geos_image.specs.declared.row.Row.{Row}
+
+-- the bytes of a row stand at both offsets, and are the same
+abbrev pub are_same : List ℕ → ℕ → ℕ → Bool
+are_same bytes before at = nat_le (at + 38) (length bytes) && pointwise nat_eq (take 38 (drop before bytes)) (take 38 (drop at bytes))
 
 -- the place behind the pc, if there is one, is given a row, and the pc is given that row
 abbrev pub IsRepeated : List Point → ℕ → Type 0

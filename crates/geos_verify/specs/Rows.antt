@@ -17,12 +17,13 @@ use Rattle.geos_image.specs.Keys.{falls_through, branches}
 use Rattle.geos_opcodes.specs.declared.uses.Kind.{Kind}
 use Rattle.geos_opcodes.specs.declared.uses.Kind.TheVariants.{MemBlock, VmBlock, DbGroup}
 use Rattle.geos_opcodes.specs.declared.uses.SlotUse.{SlotUse}
-use Rattle.geos_opcodes.specs.declared.uses.SlotUse.TheVariants.{LocksNew, Locks, Unlocks, Marks, Compares, Moves, MovesGroup}
+use Rattle.geos_opcodes.specs.declared.uses.SlotUse.TheVariants.{NoSlot, LocksNew, Locks, Unlocks, Marks, Compares, Moves, MovesGroup}
 use Rattle.geos_opcodes.specs.declared.uses.PointerUse.{PointerUse}
 use Rattle.geos_opcodes.specs.declared.uses.PointerUse.TheVariants.{Sets, Duplicates}
 use Rattle.geos_opcodes.specs.declared.uses.Uses.{Uses}
 use Rattle.geos_verify.specs.Lists.{all2}
 use Rattle.geos_verify.specs.Pairs.{slot_pairs, without_slot, with_pair, with_pairs, are_apart}
+use Rattle.geos_verify.specs.Touched.{calls}
 use Rattle.geos_verify.specs.Uses.{same_kind}
 
 -- Edges
@@ -184,6 +185,12 @@ with_pointer i Sets pointers = slice_set pointers i.b (Some (record { slot = i.a
 with_pointer i Duplicates pointers = slice_set pointers i.a (slice_index_or pointers i.b None)
 with_pointer i _ pointers = pointers
 
+-- a pointer is set
+abbrev pub sets_pointer : PointerUse → Bool
+sets_pointer Sets = true
+sets_pointer Duplicates = true
+sets_pointer _ = false
+
 -- After an instruction
 
 -- the row with what an instruction has done to slots, pairs and pointers
@@ -208,6 +215,15 @@ exit_row image r row = elim (slice_get image.routines r) [ None ↦ row | Some r
 abbrev pub row_along : Parts → Instr → Opcode → Row → Row
 row_along image i Call row = exit_row image i.imm row
 row_along image i opcode row = used i (uses_of opcode) (bounded i opcode row)
+
+-- no slot is used
+abbrev pub uses_no_slot : SlotUse → Bool
+uses_no_slot NoSlot = true
+uses_no_slot _ = false
+
+-- only bounds change where control goes on: the instruction uses no slot, sets no pointer and calls nothing
+abbrev pub changes_bounds_alone : Opcode → Bool
+changes_bounds_alone opcode = uses_no_slot (uses_of opcode).slot && not (sets_pointer (uses_of opcode).pointer) && not (calls opcode)
 
 -- the row where control goes to the target
 abbrev pub row_branching : Instr → Opcode → Row → Row

@@ -8,7 +8,8 @@ ghost use Rattle.geos_image.specs.declared.row.Pointer.{Pointer};
 ghost use Rattle.geos_image.specs.declared.row.Row.{Row};
 ghost use Rattle.geos_opcodes.specs.Facts.{uses_of};
 ghost use Rattle.geos_verify.specs.Uses.{UsesFit};
-ghost use Rattle.geos_verify.specs.Rows.{has_edge, bounded, pairs_after, with_pointer, used, row_along, row_branching, after, HasEdge};
+ghost use Rattle.geos_verify.specs.Rows.{has_edge, bounded, pairs_after, with_pointer, sets_pointer, used, row_along, changes_bounds_alone};
+ghost use Rattle.geos_verify.specs.Rows.{row_branching, after, HasEdge};
 
 use crate::bounds::{bound_result, set_bound};
 use crate::pairs::{with_new, with_pair, without_slot};
@@ -82,7 +83,8 @@ pub(crate) fn go_along(image: &Image, i: &Instr, uses: Uses, row: &mut Row)
 
 /// Whether a pointer is set by such a use of pointers.
 fn sets_pointer(pointer: PointerUse) -> bool
-    ensures { result ≡ false → (i : Instr) (pointers : List (Option Pointer)) → with_pointer i pointer pointers ≡ pointers }
+    ensures value { result ≡ sets_pointer pointer }
+    ensures keeps { result ≡ false → (i : Instr) (pointers : List (Option Pointer)) → with_pointer i pointer pointers ≡ pointers }
 {
     match pointer {
         PointerUse::Sets | PointerUse::Duplicates => true,
@@ -90,10 +92,11 @@ fn sets_pointer(pointer: PointerUse) -> bool
     }
 }
 
-/// Whether the instruction is known to change bounds alone, where it goes on to the next one.
+/// Whether the instruction changes bounds alone, where it goes on to the next one.
 pub(crate) fn changes_bounds_alone(i: &Instr, uses: Uses) -> bool
     requires { uses ≡ uses_of i.now.opcode }
-    ensures { result ≡ true → (image : Parts) (row : Row) → row_along image i.now i.now.opcode row ≡ bounded i.now i.now.opcode row }
+    ensures value { result ≡ changes_bounds_alone i.now.opcode }
+    ensures alone { result ≡ true → (image : Parts) (row : Row) → row_along image i.now i.now.opcode row ≡ bounded i.now i.now.opcode row }
 {
     match uses.slot {
         SlotUse::NoSlot => !sets_pointer(uses.pointer) && !calls(i.opcode),

@@ -1,9 +1,9 @@
 //! Rows and potentials.
 
-ghost use Rattle.std.specs.Prelude.{◌≡◌, ◌<◌, ◌≤◌, ◌^◌, ◌+◌, ◌&&◌, ◌||◌, nat_eq, nat_le, length, take, drop, IfOk, Ok, true};
+ghost use Rattle.std.specs.Prelude.{◌≡◌, ◌<◌, ◌≤◌, ◌^◌, ◌&&◌, ◌||◌, ◌==◌, not, IfOk, Ok, true};
 ghost use Rattle.std.specs.List.{list_all};
-ghost use Rattle.std.specs.Cmp.Lexicographic.{pointwise};
 ghost use Rattle.geos_image.specs.Legal.{is_own, is_pointer, is_row};
+ghost use Rattle.geos_image.specs.Repeats.{are_same};
 ghost use Rattle.geos_image.specs.Reading.{word_at, long_at, slot_at, pointer_at, pairs_of, items_at, row_at, potential_at, Puts};
 
 use crate::potential::Potential;
@@ -161,8 +161,7 @@ pub(crate) fn row_at(borrows: bool, bytes: &[u8], at: usize) -> Result<Row, Faul
 fn are_same(bytes: &[u8], before: usize, at: usize) -> bool
     requires order { before ≤ at }
     requires place { at < 2 ^ 28 }
-    ensures { result ≡ (nat_le (at + 38) (length bytes.now)
-        && pointwise nat_eq (take 38 (drop before bytes.now)) (take 38 (drop at bytes.now))) }
+    ensures { result ≡ are_same bytes.now before at }
 {
     at + ROW_LEN <= bytes.len() && bytes[before..before + ROW_LEN] == bytes[at..at + ROW_LEN]
 }
@@ -183,6 +182,7 @@ pub(crate) fn row_like(
     requires fine { before < at → is_row borrows row.old ≡ true }
     ensures exact { Puts result row.new (row_at borrows bytes.now at) }
     ensures legal { IfOk result (λ known. is_row borrows row.new ≡ true) }
+    ensures value { IfOk result (λ known. known ≡ (not (before == at) && are_same bytes.now before at)) }
     ensures known { IfOk result (λ known. known ≡ true → (before < at) × (row.new ≡ row.old)) }
 {
     if before == at || !are_same(bytes, before, at) {

@@ -17,7 +17,7 @@ returns-then-changes_bounds_alone c =
     ap not c.keeps_bounds.ensures
     ∙ fitted-again image c.args.pc c.args.row.now (row_along image i i.opcode c.args.row.now) (bounded i i.opcode c.args.row.now)
     c.requires.next (c.repeats.ensures c.if-repeats.true) c.requires.known
-    (c.changes_bounds_alone.ensures c.if-changes_bounds_alone.true image c.args.row.now)
+    (c.changes_bounds_alone.ensures.alone c.if-changes_bounds_alone.true image c.args.row.now)
 
 pub returns-in-Some : goal.returns-in-Some
 returns-in-Some c =
