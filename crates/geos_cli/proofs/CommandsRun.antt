@@ -27,6 +27,8 @@ use Rattle.geos_cli.specs.declared.script.Mode.{Mode}
 use Rattle.script_commands.specs.declared.command.Numbered.{Numbered}
 use Rattle.geos_cli.specs.declared.script.RefusedCommand.{RefusedCommand}
 use Rattle.geos_input.specs.Counted.{AppendsPart}
+use Rattle.geos_input.specs.Fault.{KeptUnless}
+use Rattle.geos_input.specs.declared.fault.ScriptFault.{ScriptFault}
 use Rattle.script_commands.specs.MayCommit.{may_commit, last_may_commit, is_flush_due}
 use Rattle.script_commands.specs.Outputs.{printed, committed}
 use Rattle.geos_cli.specs.Script.{Does, GoesOn, Prints, PrintsAhead, PrintsPart, PrintsRefused, PrintsTo, PrintsUpTo, From, IsAllowed, Leads, Loads, RunsOn, RunsLent, NotLent, RanCommand, RanCommands, RanScript, RunsScript, StoppedCommand, StoppedCommands, StoppedScript, StopsScript, stage_of}
@@ -416,6 +418,12 @@ if_ok-map (Err e) m p = tt
 pub if_err-map : {A E P Q : Type 0} (r : Result A E) (fault : E) → (P → Q) → IfErr r (λ _. P) → IfErr r (λ e. e ≡ fault → Q)
 if_err-map (Ok x) fault m p = tt
 if_err-map (Err e) fault m p = λ is. m p
+
+-- a stream that is kept by what succeeds, and fails only with this fault, is kept unless the answer is this fault
+pub kept-unless : {A : Type 0} (Q : Type 0) (r : Result A ScriptFault) (fault : ScriptFault) (before now : ℕ) → IfOk r (λ _. now ≡ before)
+    → IfErr r (λ e. (e ≡ fault) × Q) → KeptUnless fault r before now
+kept-unless Q (Ok x) fault before now kept failed = kept
+kept-unless Q (Err e) fault before now kept failed = λ other. absurd (other failed.0)
 
 -- the commands of a script on an image that was loaded
 module _ (mode : Mode) (honest : Type 0) (within : Within) (bytes script : List ℕ) (image : Parts) (kernel later : KernelState)

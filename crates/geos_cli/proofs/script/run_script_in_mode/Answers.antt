@@ -8,7 +8,7 @@ use Rattle.script_commands.specs.declared.command.Numbered.{Numbered}
 use Rattle.script_commands.specs.Lines.{IsAdmitted}
 use Rattle.geos_cli.specs.Script.{Loads, ScriptEndsBy}
 use Rattle.script_commands.proofs.Commands.{commands-admitted}
-use Rattle.geos_cli.proofs.CommandsRun.{if_ok-map, if_err-map, script-ran, script-stopped}
+use Rattle.geos_cli.proofs.CommandsRun.{if_ok-map, if_err-map, kept-unless, script-ran, script-stopped}
 use Rattle.script_commands.proofs.Parts.{only-write}
 use Rattle.geos_cli.proofs.script.run_script_in_mode.Goals as goal
 
@@ -47,6 +47,9 @@ returns-clause-not_asked g c = only-write _ _ c.carry_out_all.result c.carry_out
 
 pub returns-clause-writer_failed : goal.returns-clause-writer_failed
 returns-clause-writer_failed g c = IfErr-weaker c.carry_out_all.result _ _ (λ fault is write. is.1) c.carry_out_all.ensures.failed
+
+pub returns-clause-writer_kept : goal.returns-clause-writer_kept
+returns-clause-writer_kept g c = kept-unless _ c.carry_out_all.result Write _ _ c.carry_out_all.ensures.kept c.carry_out_all.ensures.failed
 
 pub returns-clause-due : goal.returns-clause-due
 returns-clause-due g c =
