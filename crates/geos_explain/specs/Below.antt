@@ -56,7 +56,7 @@ pub use Rattle.geos_verify.specs.Pairs.{slot_pairs, each_pair}
 pub use Rattle.geos_verify.specs.Places.{places}
 pub use Rattle.geos_verify.specs.Potentials.{asked_along, asked_branching, left_with, is_paid}
 pub use Rattle.geos_verify.specs.Refused.{AreRefusals}
-pub use Rattle.geos_verify.specs.Rows.{bound, is_empty, pointer_at, slot_state, after, has_edge, pointer_fits, slot_fits, pair_fits, fits, is_stale, marked_state, may_enter, may_leave, leads_nowhere}
+pub use Rattle.geos_verify.specs.Rows.{bound, is_empty, are_alike, pointer_at, slot_state, after, has_edge, pointer_fits, slot_fits, pair_fits, fits, is_stale, marked_state, may_enter, may_leave, leads_nowhere}
 pub use Rattle.geos_verify.specs.RuleText.{rule_number}
 pub use Rattle.geos_verify.specs.Rules.{call_misfits, has_place, Accepted, FirstRefusal, is_of_file, reach, least_at, refusal, over_budget, HasPoint}
 pub use Rattle.geos_verify.specs.Touched.{calls, points_of}

@@ -1,6 +1,6 @@
--- What a row lacks to fit another, and what makes it known: an instruction that bounds a word, or one that marks a block.
+-- What a row lacks to fit another, and what makes it known: an instruction that bounds a word, marks a block, or compares two.
 use Rattle.std.specs.Prelude.{◌≡◌, ◌≤◌, ◌↔◌, ℕ, Bool, true, ◌&&◌, not, nat_le, if◌then◌else◌, List, [], ◌++◌, Option, None, slice_index_or, codes, decimal, ◌==◌, ◌∷◌}
-use Rattle.geos_explain.specs.Below.{Row, Pointer, SlotState, Empty, is_shaped, texts_below, row_items, zip2, bound, slot_fits, pointer_fits, pair_fits, fits, is_empty, concat, marked_state, slot_state}
+use Rattle.geos_explain.specs.Below.{Row, Pointer, SlotState, Empty, is_shaped, texts_below, row_items, zip2, bound, slot_fits, pointer_fits, pair_fits, fits, is_empty, concat, marked_state, slot_state, slot_pairs, are_alike}
 use Rattle.geos_explain.specs.Uses.{bounding, mark_word}
 
 -- a bound that is wanted and not kept, else any word's
@@ -66,5 +66,26 @@ unfoldable pub mend_of : Row → Row → ℕ → List ℕ
 mend_of known wanted k = bound_mend (lacking known wanted) k ++ mark_mend k (slot_state known k) (slot_state wanted k)
 
 -- what makes known the bounds and the marks that a row lacks of those that another wants
+abbrev pub register_mends : Row → Row → List ℕ
+register_mends known wanted = texts_below 8 (λ k. mend_of known wanted k)
+
+-- two slots hold blocks of one kind, as a comparison wants
+abbrev pub may_compare : SlotState → SlotState → Bool
+may_compare state other = not (is_empty state) && are_alike state other
+
+-- two slots are to be compared, if it is lacking that they differ, and they may be
+unfoldable pub pair_mend : Row → ℕ × ℕ → Bool → List ℕ
+pair_mend known pair lacked =
+    if lacked && may_compare (slot_state known pair.0) (slot_state known pair.1)
+    then concat (codes "; SNE s" ∷ decimal pair.0 ∷ codes " s" ∷ decimal pair.1 ∷ codes " L in front of this tells them apart" ∷ [])
+    else []
+
+-- what makes known these pairs, where they are lacking
+abbrev pub pair_mends : Row → List (ℕ × ℕ) → List Bool → List ℕ
+pair_mends known [] lacked = []
+pair_mends known (pair ∷ pairs) [] = []
+pair_mends known (pair ∷ pairs) (lacks ∷ lacked) = pair_mend known pair lacks ++ pair_mends known pairs lacked
+
+-- what makes known the bounds, the marks and the pairs that a row lacks of those that another wants
 abbrev pub mends : Row → Row → List ℕ
-mends known wanted = texts_below 8 (λ k. mend_of known wanted k)
+mends known wanted = register_mends known wanted ++ pair_mends known slot_pairs (lacking known wanted).pairs

@@ -1,9 +1,11 @@
-//! What a row lacks to fit another, and what makes it known: an instruction that bounds a word, or one that marks a block.
+//! What a row lacks to fit another, and what makes it known: an instruction that bounds a word, marks a block, or compares two.
 
 ghost use Rattle.std.specs.Prelude.{◌≡◌, ◌++◌, OnOk, ◌<◌};
 ghost use Rattle.geos_verify.specs.Lists.{zip2};
+ghost use Rattle.geos_verify.specs.Pairs.{slot_pairs};
 ghost use Rattle.geos_explain.specs.Lacks.{lacking_bound, lacking_slot, lacking_pointer, lacking_pair, lacking, held_item, held_items};
-ghost use Rattle.geos_explain.specs.Lacks.{lacking_items, LacksNothingWhereItFits, bound_mend, lacks_mark, mark_mend, mend_of, mends};
+ghost use Rattle.geos_explain.specs.Lacks.{lacking_items, LacksNothingWhereItFits, bound_mend, lacks_mark, mark_mend, mend_of};
+ghost use Rattle.geos_explain.specs.Lacks.{register_mends, may_compare, pair_mend, pair_mends, mends};
 ghost use Rattle.geos_verify.specs.Rows.{marked_state};
 
 use crate::Done;
@@ -184,11 +186,55 @@ fn put_mend_of(out: &mut Vec<u8>, known: &Row, wanted: &Row, k: u8) -> Done
 
 /// What makes known the bounds and the marks that the row lacks of those that the other wants.
 #[tactic(auto, unfolding(geos_listing::specs::Rows::texts_below))]
-pub(crate) fn put_mends(out: &mut Vec<u8>, known: &Row, wanted: &Row) -> Done
-    ensures { OnOk result (out.new.items ≡ out.old.items ++ mends known.now wanted.now) }
+fn put_register_mends(out: &mut Vec<u8>, known: &Row, wanted: &Row) -> Done
+    ensures { OnOk result (out.new.items ≡ out.old.items ++ register_mends known.now wanted.now) }
 {
     for k in 0..8 {
         put_mend_of(out, known, wanted, k)?;
     }
     Ok(())
+}
+
+/// Whether two slots hold blocks of one kind, as a comparison wants.
+fn may_compare(state: SlotState, other: SlotState) -> bool
+    ensures { result ≡ may_compare state other }
+{
+    match (state, other) {
+        (SlotState::Mem, SlotState::Mem)
+        | (SlotState::Vm { .. }, SlotState::Vm { .. })
+        | (SlotState::Db { .. }, SlotState::Db { .. }) => true,
+        _ => false,
+    }
+}
+
+/// Two slots are to be compared, if it is lacking that they differ, and they may be.
+#[tactic(auto, unfolding(crate::specs::Lacks::pair_mend))]
+fn put_pair_mend(out: &mut Vec<u8>, known: &Row, a: u8, b: u8, lacked: bool) -> Done
+    ensures { OnOk result (out.new.items ≡ out.old.items ++ pair_mend known.now (a, b) lacked) }
+{
+    if !(lacked && may_compare(slot_state(known, a), slot_state(known, b))) {
+        return Ok(());
+    }
+    put!(out; "; SNE s" {a} " s" {b} " L in front of this tells them apart")
+}
+
+/// What makes known the pairs that are lacking.
+fn put_pair_mends(out: &mut Vec<u8>, known: &Row, lacked: &[bool; 6]) -> Done
+    ensures { OnOk result (out.new.items ≡ out.old.items ++ pair_mends known.now slot_pairs lacked.now) }
+{
+    let [p01, p02, p03, p12, p13, p23] = *lacked;
+    put_pair_mend(out, known, 0, 1, p01)?;
+    put_pair_mend(out, known, 0, 2, p02)?;
+    put_pair_mend(out, known, 0, 3, p03)?;
+    put_pair_mend(out, known, 1, 2, p12)?;
+    put_pair_mend(out, known, 1, 3, p13)?;
+    put_pair_mend(out, known, 2, 3, p23)
+}
+
+/// What makes known the bounds, the marks and the pairs that the row lacks of those that the other wants.
+pub(crate) fn put_mends(out: &mut Vec<u8>, known: &Row, wanted: &Row) -> Done
+    ensures { OnOk result (out.new.items ≡ out.old.items ++ mends known.now wanted.now) }
+{
+    put_register_mends(out, known, wanted)?;
+    put_pair_mends(out, known, &lacking(known, wanted).pairs)
 }
