@@ -1,17 +1,19 @@
 -- What is found of the pointers that are not known, for each place where that is told.
 use Rattle.std.specs.Prelude.{◌≡◌, ◌<◌, ◌+◌, ℕ, List, [], take, count_by, Option, Some, None, length, slice_get}
-use Rattle.geos_explain.specs.Below.{Routine, Parts, start_of, uses_of, KnownPlace, Rule, StalePointer, ExitMisfit, places}
+use Rattle.geos_explain.specs.Below.{Routine, Parts, start_of, uses_of, KnownPlace, Rule, StalePointer, ExitMisfit, CallMisfit, places}
 use Rattle.geos_explain.specs.declared.finding.Finding.{Finding}
 use Rattle.geos_explain.specs.declared.finding.Findings.{Findings}
 use Rattle.geos_explain.specs.Places.{Place, Explained, place_at}
-use Rattle.geos_explain.specs.Stale.{first_wanted, stale_used, findings_at}
+use Rattle.geos_explain.specs.Stale.{first_wanted, wanted_by_call, stale_used, findings_at}
 use Rattle.geos_explain.specs.Told.{is_told, rule_at, most_told}
 use Rattle.geos_explain.specs.Lost.{IsFinding}
 
--- the pointers that are not known where a rule is told: those that the instruction uses, or the first that the exit row wants
+-- the pointers that are not known where a rule is told: those that the instruction uses, or the first that the exit row or the called
+-- routine's entry row wants
 abbrev pub told_pointers : Place → Rule → Option ℕ × Option ℕ
 told_pointers place StalePointer = stale_used place.i (uses_of place.i.opcode).pointer place.row
 told_pointers place ExitMisfit = (first_wanted place.row place.routine.exit, None)
+told_pointers place CallMisfit = (wanted_by_call place place.i.opcode, None)
 told_pointers place _ = (None, None)
 
 -- if there is a pointer, something is found of it, and holds

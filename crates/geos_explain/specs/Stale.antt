@@ -1,6 +1,6 @@
 -- Which pointers may be stale where they are used, and where and by what they became so.
 use Rattle.std.specs.Prelude.{ℕ, ◌==◌, Bool, false, ◌&&◌, if◌then◌else◌, List, [], ◌∷◌, ◌++◌, Option, Some, None, slice_get, slice_index_or, codes, decimal, is_some}
-use Rattle.geos_explain.specs.Below.{concat, option_map_or, Instr, Row, KnownPlace, places, Parts, name_of, word_of, uses_of, operands_of, SlotUse, Moves, Unlocks, MovesGroup, PointerUse, Copies, pointer_at, is_stale, Edge, option_or}
+use Rattle.geos_explain.specs.Below.{concat, option_map_or, Instr, Opcode, Call, Row, KnownPlace, places, Parts, name_of, word_of, uses_of, operands_of, SlotUse, Moves, Unlocks, MovesGroup, PointerUse, Copies, pointer_at, is_stale, Edge, option_or}
 use Rattle.geos_explain.specs.Numbers.{pc_text}
 use Rattle.geos_explain.specs.Places.{Place}
 use Rattle.geos_explain.specs.Uses.{slot_behind}
@@ -193,24 +193,30 @@ stale_words place =
     pointer_item stale.0 ++ pointer_item stale.1 ++ codes " may be stale here" ++ finding_item place stale.0 found.first
     ++ finding_item place stale.1 found.second
 
--- a pointer that an exit row wants, where a row knows nothing of it
+-- a pointer that another row wants, where a row knows nothing of it
 abbrev pub if_wanted : Row → Row → ℕ → Option ℕ
-if_wanted row exit p = if is_stale (pointer_at exit p) then None else if_stale row p
+if_wanted row wanted p = if is_stale (pointer_at wanted p) then None else if_stale row p
 
 -- the first of these
 abbrev pub first_wanted : Row → Row → Option ℕ
-first_wanted row exit =
-    option_or (option_or (option_or (if_wanted row exit 0) (if_wanted row exit 1)) (if_wanted row exit 2)) (if_wanted row exit 3)
+first_wanted row wanted =
+    option_or (option_or (option_or (if_wanted row wanted 0) (if_wanted row wanted 1)) (if_wanted row wanted 2)) (if_wanted row wanted 3)
 
--- the call that forgets a pointer that the exit row wants, if there is one
-abbrev pub forgetting_pointer : Place → ℕ → Option ℕ
-forgetting_pointer place p = elim (pointer_at place.routine.exit p) [ None ↦ None | Some pointer ↦ forgetting_call place (Leads p pointer) ]
+-- the first pointer that the entry row of a routine that is called wants, and that is not known
+abbrev pub wanted_by_call : Place → Opcode → Option ℕ
+wanted_by_call place Call =
+    elim (slice_get place.image.routines place.i.imm) [ None ↦ None | Some callee ↦ first_wanted place.row callee.entry ]
+wanted_by_call place _ = None
 
--- why a pointer is not known, unless a call is said to forget it
-abbrev pub unknown_words : Place → ℕ → List ℕ
-unknown_words place p =
-    if is_some (forgetting_pointer place p) then [] else finding_item place (Some p) (findings_at place.findings place.pc).first
+-- the call that forgets a pointer that a row wants, if there is one
+abbrev pub forgetting_pointer : Place → Row → ℕ → Option ℕ
+forgetting_pointer place wanted p = elim (pointer_at wanted p) [ None ↦ None | Some pointer ↦ forgetting_call place (Leads p pointer) ]
 
--- the same of the first pointer that the exit row wants and that is not known, if there is one
-unfoldable pub unknown_item : Place → List ℕ
-unknown_item place = elim (first_wanted place.row place.routine.exit) [ None ↦ [] | Some p ↦ unknown_words place p ]
+-- why a pointer that a row wants is not known, unless a call is said to forget it
+abbrev pub unknown_words : Place → Row → ℕ → List ℕ
+unknown_words place wanted p =
+    if is_some (forgetting_pointer place wanted p) then [] else finding_item place (Some p) (findings_at place.findings place.pc).first
+
+-- the same of the first pointer that a row wants and that is not known, if there is one
+unfoldable pub unknown_item : Place → Row → List ℕ
+unknown_item place wanted = elim (first_wanted place.row wanted) [ None ↦ [] | Some p ↦ unknown_words place wanted p ]

@@ -98,11 +98,15 @@ slot_here place =
     slot_words place.i (uses_of place.i.opcode).slot place.row
     ++ (if is_empty (slot_state place.row place.i.a) then forgotten_text place (Held place.i.a) else [])
 
--- what is to be said of a routine that is called, which call forgets what it wants, and what makes it known
+-- what is to be said of a routine that is called, which call forgets what it wants, what makes it known, and why a pointer is not
 abbrev pub callee_wish : Place → Routine → List ℕ
 callee_wish place callee =
     if nat_lt place.i.imm place.r
-    then lent_items place place.i.imm callee ++ forgotten_items place (lacking place.row callee.entry) ++ mends place.row callee.entry
+    then
+    lent_items place place.i.imm callee
+    ++ forgotten_items place (lacking place.row callee.entry)
+    ++ mends place.row callee.entry
+    ++ unknown_item place callee.entry
     else []
 
 -- the same of the routine that a call names
@@ -117,7 +121,8 @@ call_wish place = wish_of_call place place.i.opcode
 -- a row does not fit the exit row, which call forgets what that wants, what makes it known, and why a pointer is not
 unfoldable pub exit_here : Place → List ℕ
 exit_here place =
-    exit_words place ++ forgotten_items place (lacking place.row place.routine.exit) ++ mends place.row place.routine.exit ++ unknown_item place
+    exit_words place ++ forgotten_items place (lacking place.row place.routine.exit) ++ mends place.row place.routine.exit
+    ++ unknown_item place place.routine.exit
 
 -- what is wrong at a place, by a rule
 unfoldable pub words : Place → Rule → List ℕ

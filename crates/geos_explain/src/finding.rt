@@ -12,7 +12,7 @@ use crate::explained::Explained;
 use crate::place::Place;
 use crate::refusals::rule_at;
 use crate::routines::{ExplainedRoutine, place_at};
-use crate::stale::{first_wanted, stale_used};
+use crate::stale::{first_wanted, stale_used, wanted_by_call};
 use crate::trace::traced;
 use crate::ways::Way;
 use geos_flow::Edge;
@@ -97,13 +97,15 @@ fn rule_told(explained: &Explained, pc: u16) -> Option<Rule>
     }
 }
 
-/// The pointers that are not known where the rule is told: those that the instruction uses, or the first that the exit row wants.
+/// The pointers that are not known where the rule is told: those that the instruction uses, or the first that the exit row or the called
+/// routine's entry row wants.
 fn told_pointers(place: &Place, rule: Rule) -> (Option<u8>, Option<u8>)
     ensures { result ≡ told_pointers (place_of place.now) rule }
 {
     match rule {
         Rule::StalePointer => stale_used(place.i, uses_at(place.i).pointer, place.row),
         Rule::ExitMisfit => (first_wanted(place.row, &place.routine.exit), None),
+        Rule::CallMisfit => (wanted_by_call(place), None),
         _ => (None, None),
     }
 }

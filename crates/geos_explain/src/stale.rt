@@ -6,7 +6,7 @@ ghost use Rattle.geos_explain.specs.Stale.{if_stale, stale_used, pointer_item, r
 ghost use Rattle.geos_explain.specs.Stale.{name_at, call_loss, moved_words, use_loss, how_lost, lost_by, label_wish, refused_at};
 ghost use Rattle.geos_explain.specs.Stale.{unset_words, unreached_words, merged_words, into_empty_wish, into_empty_words, loss_words};
 ghost use Rattle.geos_explain.specs.Stale.{finding_item, stale_words, if_wanted, first_wanted, forgetting_pointer, unknown_words};
-ghost use Rattle.geos_explain.specs.Stale.{unknown_item};
+ghost use Rattle.geos_explain.specs.Stale.{wanted_by_call, unknown_item};
 
 use crate::Done;
 use crate::filled::Filled;
@@ -17,7 +17,7 @@ use crate::place::Place;
 use crate::uses::slot_behind;
 use crate::ways::{Followed, Way, forgets, is_stale, sets, with_hint};
 use geos_flow::Edge;
-use geos_image::{Instr, Row};
+use geos_image::{Instr, Opcode, Row};
 use geos_opcodes::{PointerUse, SlotUse};
 use geos_text::{Part, put_numbered};
 use geos_verify::{Place as KnownPlace, pointer_at, uses_at};
@@ -339,11 +339,11 @@ pub(crate) fn put_stale(out: &mut Vec<u8>, place: &Place) -> Done
     put_finding_item(out, place, second, found.second)
 }
 
-/// The pointer that the exit row wants, where the row knows nothing of it.
-fn if_wanted(row: &Row, exit: &Row, p: u8) -> Option<u8>
-    ensures { result ≡ if_wanted row.now exit.now p }
+/// The pointer that the other row wants, where the row knows nothing of it.
+fn if_wanted(row: &Row, wanted: &Row, p: u8) -> Option<u8>
+    ensures { result ≡ if_wanted row.now wanted.now p }
 {
-    if is_stale(pointer_at(exit, p)) {
+    if is_stale(pointer_at(wanted, p)) {
         None
     } else {
         if_stale(row, p)
@@ -351,43 +351,53 @@ fn if_wanted(row: &Row, exit: &Row, p: u8) -> Option<u8>
 }
 
 /// The first of these.
-pub(crate) fn first_wanted(row: &Row, exit: &Row) -> Option<u8>
-    ensures { result ≡ first_wanted row.now exit.now }
+pub(crate) fn first_wanted(row: &Row, wanted: &Row) -> Option<u8>
+    ensures { result ≡ first_wanted row.now wanted.now }
 {
-    if_wanted(row, exit, 0)
-        .or(if_wanted(row, exit, 1))
-        .or(if_wanted(row, exit, 2))
-        .or(if_wanted(row, exit, 3))
+    if_wanted(row, wanted, 0)
+        .or(if_wanted(row, wanted, 1))
+        .or(if_wanted(row, wanted, 2))
+        .or(if_wanted(row, wanted, 3))
 }
 
-/// The call that forgets a pointer that the exit row wants, if there is one.
-fn forgetting_pointer(place: &Place, p: u8) -> Option<u16>
-    ensures { result ≡ forgetting_pointer (place_of place.now) p }
+/// The first pointer that the entry row of the routine that is called wants, and that is not known.
+pub(crate) fn wanted_by_call(place: &Place) -> Option<u8>
+    ensures { result ≡ wanted_by_call (place_of place.now) place.now.i.now.opcode }
 {
-    match pointer_at(&place.routine.exit, p) {
+    let Opcode::Call = place.i.opcode else {
+        return None;
+    };
+    first_wanted(place.row, &place.image.routine(place.i.imm).entry)
+}
+
+/// The call that forgets a pointer that the row wants, if there is one.
+fn forgetting_pointer(place: &Place, wanted: &Row, p: u8) -> Option<u16>
+    ensures { result ≡ forgetting_pointer (place_of place.now) wanted.now p }
+{
+    match pointer_at(wanted, p) {
         Some(pointer) => forgetting_call(place, Item::Leads(p, pointer)),
         None => None,
     }
 }
 
-/// Why the pointer is not known, unless a call is said to forget it.
-fn put_unknown(out: &mut Vec<u8>, place: &Place, p: u8) -> Done
-    ensures { OnOk result (out.new.items ≡ out.old.items ++ unknown_words (place_of place.now) p) }
+/// Why the pointer that the row wants is not known, unless a call is said to forget it.
+fn put_unknown(out: &mut Vec<u8>, place: &Place, wanted: &Row, p: u8) -> Done
+    ensures { OnOk result (out.new.items ≡ out.old.items ++ unknown_words (place_of place.now) wanted.now p) }
 {
-    if forgetting_pointer(place, p).is_some() {
+    if forgetting_pointer(place, wanted, p).is_some() {
         return Ok(());
     }
     let found = findings_at(place.findings, place.pc);
     put_finding_item(out, place, Some(p), found.first)
 }
 
-/// The same of the first pointer that the exit row wants and that is not known, if there is one.
+/// The same of the first pointer that the row wants and that is not known, if there is one.
 #[tactic(auto, unfolding(crate::specs::Stale::unknown_item))]
-pub(crate) fn put_unknown_item(out: &mut Vec<u8>, place: &Place) -> Done
-    ensures { OnOk result (out.new.items ≡ out.old.items ++ unknown_item (place_of place.now)) }
+pub(crate) fn put_unknown_item(out: &mut Vec<u8>, place: &Place, wanted: &Row) -> Done
+    ensures { OnOk result (out.new.items ≡ out.old.items ++ unknown_item (place_of place.now) wanted.now) }
 {
-    match first_wanted(place.row, &place.routine.exit) {
-        Some(p) => put_unknown(out, place, p),
+    match first_wanted(place.row, wanted) {
+        Some(p) => put_unknown(out, place, wanted, p),
         None => Ok(()),
     }
 }

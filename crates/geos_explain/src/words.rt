@@ -186,7 +186,8 @@ fn put_slot_here(out: &mut Vec<u8>, place: &Place) -> Done
     }
 }
 
-/// What is to be said of the routine that a call names, which call forgets what that wants, and what makes it known.
+/// What is to be said of the routine that a call names, which call forgets what that wants, what makes it known, and why a pointer is
+/// not.
 #[tactic(auto, unfolding(crate::specs::Words::call_wish))]
 fn put_call_wish(out: &mut Vec<u8>, place: &Place) -> Done
     ensures { OnOk result (out.new.items ≡ out.old.items ++ call_wish (place_of place.now)) }
@@ -200,7 +201,8 @@ fn put_call_wish(out: &mut Vec<u8>, place: &Place) -> Done
     }
     put_lent_items(out, place, place.i.imm, callee)?;
     put_forgotten_items(out, place, &lacking(place.row, &callee.entry))?;
-    put_mends(out, place.row, &callee.entry)
+    put_mends(out, place.row, &callee.entry)?;
+    put_unknown_item(out, place, &callee.entry)
 }
 
 /// A row does not fit the exit row, which call forgets what that wants, what makes it known, and why a pointer is not.
@@ -211,7 +213,7 @@ fn put_exit_here(out: &mut Vec<u8>, place: &Place) -> Done
     put_exit(out, place)?;
     put_forgotten_items(out, place, &lacking(place.row, &place.routine.exit))?;
     put_mends(out, place.row, &place.routine.exit)?;
-    put_unknown_item(out, place)
+    put_unknown_item(out, place, &place.routine.exit)
 }
 
 /// What is wrong at the place, by the rule.
