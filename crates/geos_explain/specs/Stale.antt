@@ -121,10 +121,10 @@ abbrev pub refused_at : Parts → Option Meeting → Option ℕ
 refused_at image None = None
 refused_at image (Some m) = refused_on image m.lost
 
--- the pointer is not set from the routine's beginning on
+-- the pointer is not known from the routine's beginning on
 unfoldable pub unset_words : Place → ℕ → Option Meeting → List ℕ
 unset_words place p meeting =
-    (codes "; p" ++ decimal p ++ codes " is not set on the way from the start of the routine: fetch it first")
+    (codes "; p" ++ decimal p ++ codes " is not known on the way from the start of the routine: fetch it first")
     ++ label_wish place.lines (refused_at place.image meeting)
     ++ (if place.routine.public then [] else codes ", or say p" ++ decimal p ++ codes " in the in line")
 

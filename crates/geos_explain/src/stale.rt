@@ -230,12 +230,12 @@ fn put_label_wish(out: &mut Vec<u8>, place: &Place, meeting: Option<Meeting>) ->
     }
 }
 
-/// The pointer is not set from the routine's beginning on; a caller that is a routine may bring it.
+/// The pointer is not known from the routine's beginning on; a caller that is a routine may bring it.
 #[tactic(auto, unfolding(crate::specs::Stale::unset_words))]
 fn put_unset(out: &mut Vec<u8>, place: &Place, p: u8, meeting: Option<Meeting>) -> Done
     ensures { OnOk result (out.new.items ≡ out.old.items ++ unset_words (place_of place.now) p meeting) }
 {
-    put!(out; "; p" {p} " is not set on the way from the start of the routine: fetch it first")?;
+    put!(out; "; p" {p} " is not known on the way from the start of the routine: fetch it first")?;
     put_label_wish(out, place, meeting)?;
     if place.routine.public {
         return Ok(());
