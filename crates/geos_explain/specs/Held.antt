@@ -36,10 +36,19 @@ since_text lines a since =
     then since_words a (codes " the in line") (is_some since.from)
     else elim since.from [ None ↦ [] | Some from ↦ since_words a (pc_text lines from) since.again ]
 
--- the same of a slot that is held and must not be
+-- what to do with a slot that a private routine holds at its return since the `in` line, and that is not borrowed
+abbrev pub kept_wish : HeldAt → Place → ℕ → Bool → List ℕ
+kept_wish Write place a entry = []
+kept_wish Return place a entry =
+    if entry && is_own (slot_state place.row a) && not place.routine.public
+    then codes ": say" ++ state_item a place.row ++ codes " in the out line, or unlock it"
+    else []
+
+-- since where a slot is held that must not be, and what to do
 unfoldable pub since_at : HeldAt → Place → ℕ → List ℕ
 since_at which place a =
-    if is_held_at which place a then since_text place.lines a (held_since place a) else []
+    let since = held_since place a in
+    if is_held_at which place a then since_text place.lines a since ++ kept_wish which place a since.entry else []
 
 -- the same of each slot
 abbrev pub sinces_at : HeldAt → Place → List ℕ

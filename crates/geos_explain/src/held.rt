@@ -3,8 +3,8 @@
 ghost use Rattle.std.specs.Prelude.{◌≡◌, ◌≤◌, ◌++◌, OnOk, drop, length};
 ghost use Rattle.geos_text.specs.Parts.{part_text};
 ghost use Rattle.geos_explain.specs.Places.{place_of};
-ghost use Rattle.geos_explain.specs.Held.{is_held_at, slot_at, slots_at, since_words, since_text, since_at, sinces_at, else_wanted};
-ghost use Rattle.geos_explain.specs.Held.{kept_behind, unmet_words, exit_words, has_borrowed, held_wish, written_behind, written_words};
+ghost use Rattle.geos_explain.specs.Held.{is_held_at, slot_at, slots_at, since_words, since_text, kept_wish, since_at, sinces_at};
+ghost use Rattle.geos_explain.specs.Held.{else_wanted, kept_behind, unmet_words, exit_words, has_borrowed, held_wish, written_behind, written_words};
 
 use crate::Done;
 use crate::lacks::{lacking, put_lacking};
@@ -81,16 +81,32 @@ fn put_since(out: &mut Vec<u8>, lines: &[u32], a: u8, since: Since) -> Done
     }
 }
 
-/// The same of a slot that is held and must not be.
+/// What to do with a slot that a private routine holds at its return since the `in` line, and that is not borrowed.
+fn put_kept_wish(out: &mut Vec<u8>, which: HeldAt, place: &Place, a: u8, entry: bool) -> Done
+    ensures { OnOk result (out.new.items ≡ out.old.items ++ kept_wish which (place_of place.now) a entry) }
+{
+    let HeldAt::Return = which else {
+        return Ok(());
+    };
+    if !entry || !slot_state(place.row, a).is_own() || place.routine.public {
+        return Ok(());
+    }
+    out.extend_from_slice(b": say")?;
+    put_state(out, a, place.row)?;
+    out.extend_from_slice(b" in the out line, or unlock it")
+}
+
+/// Since where a slot is held that must not be, and what to do.
 #[tactic(auto, unfolding(crate::specs::Held::since_at))]
 fn put_since_at(out: &mut Vec<u8>, which: HeldAt, place: &Place, a: u8) -> Done
     ensures { OnOk result (out.new.items ≡ out.old.items ++ since_at which (place_of place.now) a) }
 {
-    if is_held_at(which, place, a) {
-        put_since(out, place.lines, a, held_since(place, a))
-    } else {
-        Ok(())
+    if !is_held_at(which, place, a) {
+        return Ok(());
     }
+    let since = held_since(place, a);
+    put_since(out, place.lines, a, since)?;
+    put_kept_wish(out, which, place, a, since.entry)
 }
 
 /// The same of each slot.
