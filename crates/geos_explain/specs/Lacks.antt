@@ -1,7 +1,8 @@
--- What a row lacks to fit another, and what makes it known: an instruction that bounds a word, marks a block, or compares two.
-use Rattle.std.specs.Prelude.{◌≡◌, ◌≤◌, ◌↔◌, ℕ, Bool, true, ◌&&◌, not, nat_le, if◌then◌else◌, List, [], ◌++◌, Option, None, slice_index_or, codes, decimal, ◌==◌, ◌∷◌}
-use Rattle.geos_explain.specs.Below.{Row, Pointer, SlotState, Empty, is_shaped, texts_below, row_items, zip2, bound, slot_fits, pointer_fits, pair_fits, fits, is_empty, concat, marked_state, slot_state, slot_pairs, are_alike}
-use Rattle.geos_explain.specs.Uses.{bounding, mark_word}
+-- What a row lacks to fit another, and what makes it known: an instruction that bounds a word, marks a block, or compares two, or
+-- more bytes asked for.
+use Rattle.std.specs.Prelude.{◌≡◌, ◌≤◌, ◌↔◌, ℕ, Bool, true, ◌&&◌, not, nat_le, if◌then◌else◌, List, [], ◌++◌, nat_lt, Option, Some, None, slice_index_or, codes, decimal, ◌==◌, ◌∷◌}
+use Rattle.geos_explain.specs.Below.{Row, Pointer, SlotState, Empty, is_shaped, texts_below, row_items, zip2, bound, slot_fits, pointer_fits, pair_fits, fits, is_empty, concat, marked_state, slot_state, pointer_at, slot_pairs, are_alike}
+use Rattle.geos_explain.specs.Uses.{bounding, mark_word, ask_wish}
 
 -- a bound that is wanted and not kept, else any word's
 abbrev pub lacking_bound : ℕ → ℕ → ℕ
@@ -61,11 +62,21 @@ mark_mend a known wanted =
     then concat (codes "; " ∷ mark_word known ∷ codes " s" ∷ decimal a ∷ codes " marks it" ∷ [])
     else []
 
--- what helps of the word and the slot with a number
-unfoldable pub mend_of : Row → Row → ℕ → List ℕ
-mend_of known wanted k = bound_mend (lacking known wanted) k ++ mark_mend k (slot_state known k) (slot_state wanted k)
+-- more bytes are to be asked for where a pointer is set, if it leads into the wanted slot, with too few
+abbrev pub pointer_mend : ℕ → Option Pointer → Option Pointer → List ℕ
+pointer_mend p None wanted = []
+pointer_mend p (Some known) None = []
+pointer_mend p (Some known) (Some wanted) =
+    if known.slot == wanted.slot && nat_lt known.least wanted.least then ask_wish p wanted.least else []
 
--- what makes known the bounds and the marks that a row lacks of those that another wants
+-- what helps of the word, the slot and the pointer with a number
+unfoldable pub mend_of : Row → Row → ℕ → List ℕ
+mend_of known wanted k =
+    bound_mend (lacking known wanted) k
+    ++ mark_mend k (slot_state known k) (slot_state wanted k)
+    ++ pointer_mend k (pointer_at known k) (pointer_at wanted k)
+
+-- what makes known the bounds, the marks and the bytes behind pointers that a row lacks of those that another wants
 abbrev pub register_mends : Row → Row → List ℕ
 register_mends known wanted = texts_below 8 (λ k. mend_of known wanted k)
 
@@ -86,6 +97,6 @@ pair_mends known [] lacked = []
 pair_mends known (pair ∷ pairs) [] = []
 pair_mends known (pair ∷ pairs) (lacks ∷ lacked) = pair_mend known pair lacks ++ pair_mends known pairs lacked
 
--- what makes known the bounds, the marks and the pairs that a row lacks of those that another wants
+-- what makes known what a row lacks of the bounds, marks, pointers and pairs that another wants
 abbrev pub mends : Row → Row → List ℕ
 mends known wanted = register_mends known wanted ++ pair_mends known slot_pairs (lacking known wanted).pairs

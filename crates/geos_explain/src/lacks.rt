@@ -1,19 +1,20 @@
-//! What a row lacks to fit another, and what makes it known: an instruction that bounds a word, marks a block, or compares two.
+//! What a row lacks to fit another, and what makes it known: an instruction that bounds a word, marks a block, or compares two, or
+//! more bytes asked for.
 
 ghost use Rattle.std.specs.Prelude.{◌≡◌, ◌++◌, OnOk, ◌<◌};
 ghost use Rattle.geos_verify.specs.Lists.{zip2};
 ghost use Rattle.geos_verify.specs.Pairs.{slot_pairs};
 ghost use Rattle.geos_explain.specs.Lacks.{lacking_bound, lacking_slot, lacking_pointer, lacking_pair, lacking, held_item, held_items};
-ghost use Rattle.geos_explain.specs.Lacks.{lacking_items, LacksNothingWhereItFits, bound_mend, lacks_mark, mark_mend, mend_of};
-ghost use Rattle.geos_explain.specs.Lacks.{register_mends, may_compare, pair_mend, pair_mends, mends};
+ghost use Rattle.geos_explain.specs.Lacks.{lacking_items, LacksNothingWhereItFits, bound_mend, lacks_mark, mark_mend};
+ghost use Rattle.geos_explain.specs.Lacks.{pointer_mend, mend_of, register_mends, may_compare, pair_mend, pair_mends, mends};
 ghost use Rattle.geos_verify.specs.Rows.{marked_state};
 
 use crate::Done;
-use crate::uses::{mark_word, put_bounding};
+use crate::uses::{mark_word, put_ask_wish, put_bounding};
 use geos_image::{Pointer, Row, SlotState};
 use geos_listing::put_items;
 use geos_text::put_numbered;
-use geos_verify::{is_empty, pointer_fits, slot_fits, slot_state};
+use geos_verify::{is_empty, pointer_at, pointer_fits, slot_fits, slot_state};
 
 /// The bound that is wanted where it is not kept, else that of any word.
 fn lacking_bound(known: u16, wanted: u16) -> u16
@@ -174,17 +175,35 @@ fn put_mark_mend(out: &mut Vec<u8>, a: u8, known: SlotState, wanted: SlotState) 
     put!(out; "; " [mark_word(known)] " s" {a} " marks it")
 }
 
-/// What helps of the word and the slot with a number.
+/// More bytes are to be asked for where the pointer is set, if it leads into the wanted slot, with too few.
+fn put_pointer_mend(
+    out: &mut Vec<u8>,
+    p: u8,
+    known: Option<Pointer>,
+    wanted: Option<Pointer>,
+) -> Done
+    ensures { OnOk result (out.new.items ≡ out.old.items ++ pointer_mend p known wanted) }
+{
+    match (known, wanted) {
+        (Some(known), Some(wanted)) if known.slot == wanted.slot && known.least < wanted.least => {
+            put_ask_wish(out, p, u32::from(wanted.least))
+        }
+        _ => Ok(()),
+    }
+}
+
+/// What helps of the word, the slot and the pointer with a number.
 #[tactic(auto, unfolding(crate::specs::Lacks::mend_of))]
 fn put_mend_of(out: &mut Vec<u8>, known: &Row, wanted: &Row, k: u8) -> Done
     requires { k < 8 }
     ensures { OnOk result (out.new.items ≡ out.old.items ++ mend_of known.now wanted.now k) }
 {
     put_bound_mend(out, &lacking(known, wanted), k)?;
-    put_mark_mend(out, k, slot_state(known, k), slot_state(wanted, k))
+    put_mark_mend(out, k, slot_state(known, k), slot_state(wanted, k))?;
+    put_pointer_mend(out, k, pointer_at(known, k), pointer_at(wanted, k))
 }
 
-/// What makes known the bounds and the marks that the row lacks of those that the other wants.
+/// What makes known the bounds, the marks and the bytes behind pointers that the row lacks of those that the other wants.
 #[tactic(auto, unfolding(geos_listing::specs::Rows::texts_below))]
 fn put_register_mends(out: &mut Vec<u8>, known: &Row, wanted: &Row) -> Done
     ensures { OnOk result (out.new.items ≡ out.old.items ++ register_mends known.now wanted.now) }
@@ -231,7 +250,7 @@ fn put_pair_mends(out: &mut Vec<u8>, known: &Row, lacked: &[bool; 6]) -> Done
     put_pair_mend(out, known, 2, 3, p23)
 }
 
-/// What makes known the bounds, the marks and the pairs that the row lacks of those that the other wants.
+/// What makes known what the row lacks of the bounds, marks, pointers and pairs that the other wants.
 pub(crate) fn put_mends(out: &mut Vec<u8>, known: &Row, wanted: &Row) -> Done
     ensures { OnOk result (out.new.items ≡ out.old.items ++ mends known.now wanted.now) }
 {

@@ -389,7 +389,7 @@ pub(crate) fn past_item(i: &Instr, row: &Row, past: Past) -> Item
 
 /// More bytes are to be asked for where the pointer is set.
 #[tactic(auto, unfolding(crate::specs::Uses::ask_wish))]
-fn put_ask_wish(out: &mut Vec<u8>, p: u8, wanted: u32) -> Done
+pub(crate) fn put_ask_wish(out: &mut Vec<u8>, p: u8, wanted: u32) -> Done
     ensures { OnOk result (out.new.items ≡ out.old.items ++ ask_wish p wanted) }
 {
     if wanted >= 65_536 {
