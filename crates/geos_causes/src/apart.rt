@@ -17,6 +17,8 @@ pub struct Emptied {
     pub state: SlotState,
     /// The name of the routine that it calls, with zeros behind it.
     pub callee: [u8; 16],
+    /// Whether that routine stands before the one of the CALL, as it has to.
+    pub stands_before: bool,
 }
 
 /// How control comes to a place.

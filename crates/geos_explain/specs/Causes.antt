@@ -7,15 +7,25 @@ use Rattle.geos_explain.specs.Numbers.{pc_text}
 abbrev pub name_text : List ℕ → List ℕ
 name_text name = take (unwrap_or (text_end name) 16) name
 
+-- a CALL leaves a slot empty, and is of a routine that does not stand before its own
+unfoldable pub later_text : List ℕ → ℕ → Emptied → List ℕ
+later_text lines a emptied =
+    concat (codes "; CALL at" ∷ pc_text lines emptied.at ∷ codes " leaves s" ∷ decimal a ∷ codes " empty: " ∷ name_text emptied.callee
+    ∷ codes " does not stand before this routine" ∷ [])
+
 -- a CALL leaves a slot empty: that it is held is to be said in the lines of its routine, or, where that locks a block into the slot,
 -- another is to be taken
-unfoldable pub emptied_text : List ℕ → ℕ → Emptied → List ℕ
-emptied_text lines a emptied =
+unfoldable pub unsaid_text : List ℕ → ℕ → Emptied → List ℕ
+unsaid_text lines a emptied =
     concat (codes "; CALL at" ∷ pc_text lines emptied.at ∷ codes " leaves what the out line of " ∷ name_text emptied.callee
     ∷ codes " says: say s" ∷ decimal a ∷ codes "=" ∷ state_word emptied.state
     ∷ codes " in the in and out lines of " ∷ name_text emptied.callee
     ∷ codes "; where " ∷ name_text emptied.callee ∷ codes " locks a block into s" ∷ decimal a
     ∷ codes " itself, hold the block in another slot" ∷ [])
+
+-- what is to be said of a CALL that leaves a slot empty
+abbrev pub emptied_text : List ℕ → ℕ → Emptied → List ℕ
+emptied_text lines a emptied = if emptied.stands_before then unsaid_text lines a emptied else later_text lines a emptied
 
 -- the same, where what the slot held agrees with what it holds on the other way
 abbrev pub emptied_item : List ℕ → ℕ → Option Emptied → SlotState → List ℕ

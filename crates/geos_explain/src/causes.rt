@@ -4,7 +4,8 @@ ghost use Rattle.std.specs.Prelude.{◌≡◌, ◌++◌, OnOk, IfOk, ◌<◌, le
 ghost use Rattle.geos_explain.specs.Causes.{differing_item, differing_items, is_refusable, edge_text, coming_from, coming_text, call_text};
 ghost use Rattle.geos_explain.specs.Causes.{touched_text, touched_before_text, not_set_text, set_in_text, in_turn_text, in_ring_text};
 ghost use Rattle.geos_explain.specs.Causes.{by_word_text, dear_word_text, set_to_text, ways_text, apart_text, back_text, leads_text};
-ghost use Rattle.geos_explain.specs.Causes.{within_text, cause_words, cause_text, name_text, emptied_text, emptied_item, emptied_items};
+ghost use Rattle.geos_explain.specs.Causes.{within_text, cause_words, cause_text, name_text, later_text, unsaid_text, emptied_text};
+ghost use Rattle.geos_explain.specs.Causes.{emptied_item, emptied_items};
 ghost use Rattle.geos_image.specs.Legal.{text_end};
 ghost use Rattle.geos_causes.specs.Slots.{slots_agree};
 
@@ -37,11 +38,22 @@ fn name_text(name: &[u8; 16]) -> &[u8]
     &name[..end]
 }
 
+/// A CALL leaves a slot empty, and is of a routine that does not stand before its own.
+#[tactic(auto, unfolding(crate::specs::Causes::later_text))]
+fn put_later(out: &mut Vec<u8>, lines: &[u32], a: usize, emptied: &Emptied) -> Done
+    ensures { OnOk result (out.new.items ≡ out.old.items ++ later_text lines.now a emptied.now) }
+{
+    put!(out;
+        "; CALL at" (pc_part(lines, emptied.at)) " leaves s" {a} " empty: "
+        bytes(name_text(&emptied.callee)) " does not stand before this routine"
+    )
+}
+
 /// A CALL leaves a slot empty: that it is held is to be said in the lines of its routine, or, where that locks a block into the
 /// slot, another is to be taken.
-#[tactic(auto, unfolding(crate::specs::Causes::emptied_text))]
-fn put_emptied(out: &mut Vec<u8>, lines: &[u32], a: usize, emptied: &Emptied) -> Done
-    ensures { OnOk result (out.new.items ≡ out.old.items ++ emptied_text lines.now a emptied.now) }
+#[tactic(auto, unfolding(crate::specs::Causes::unsaid_text))]
+fn put_unsaid(out: &mut Vec<u8>, lines: &[u32], a: usize, emptied: &Emptied) -> Done
+    ensures { OnOk result (out.new.items ≡ out.old.items ++ unsaid_text lines.now a emptied.now) }
 {
     let name = name_text(&emptied.callee);
     put!(out;
@@ -50,6 +62,17 @@ fn put_emptied(out: &mut Vec<u8>, lines: &[u32], a: usize, emptied: &Emptied) ->
         bytes(name) "; where " bytes(name) " locks a block into s" {a}
         " itself, hold the block in another slot"
     )
+}
+
+/// What is to be said of a CALL that leaves a slot empty.
+fn put_emptied(out: &mut Vec<u8>, lines: &[u32], a: usize, emptied: &Emptied) -> Done
+    ensures { OnOk result (out.new.items ≡ out.old.items ++ emptied_text lines.now a emptied.now) }
+{
+    if emptied.stands_before {
+        put_unsaid(out, lines, a, emptied)
+    } else {
+        put_later(out, lines, a, emptied)
+    }
 }
 
 /// The same, where what the slot held agrees with what it holds on the other way.

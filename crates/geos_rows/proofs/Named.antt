@@ -32,7 +32,7 @@ stays-emptied image r a pc to branch before row emptied past leads stays row_is 
 
 -- a CALL leaves a slot empty
 call-empties : (image : Parts) (r a pc to : ℕ) (before row : Row) (emptied : Emptied) → emptied.at ≡ pc
-    → ComesFromStart image r pc before → CallsBeside image a before emptied → LeadsTo image pc false to → row ≡ after image pc before false
+    → ComesFromStart image r pc before → CallsBeside image r a before emptied → LeadsTo image pc false to → row ≡ after image pc before false
     → is_empty (slot_state row a) ≡ true → IsEmptied image r a to row emptied
 call-empties image r a pc to before row emptied at comes calls leads row_is empty = record {
   before = before;
@@ -56,7 +56,7 @@ stays-named image r a pc to branch before row (Some emptied) past leads stays ro
 
 -- a CALL that is named leaves the slot empty behind it
 pub call-named : (image : Parts) (r a pc to : ℕ) (branch : Bool) (before row : Row) (named : Option Emptied)
-    → IfSome named (λ (emptied : Emptied). emptied.at ≡ pc) → IfSome named (CallsBeside image a before) → ComesFromStart image r pc before
+    → IfSome named (λ (emptied : Emptied). emptied.at ≡ pc) → IfSome named (CallsBeside image r a before) → ComesFromStart image r pc before
     → branch ≡ false → LeadsTo image pc branch to → IsPcOf image r to → row ≡ after image pc before branch
     → is_empty (slot_state row a) ≡ true → IfSome named (IsEmptied image r a to row)
 call-named image r a pc to true before row named at calls comes along leads stays row_is empty = absurd (false≢true (sym along))

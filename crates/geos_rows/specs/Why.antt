@@ -1,5 +1,5 @@
 -- Causes for which no rows or no numbers of steps are found for a routine.
-use Rattle.std.specs.Prelude.{◌≡◌, ℕ, ◌+◌, Bool, true, false, List, [], ◌∷◌, Option, Some, None, IfSome, slice_get, slice_index_or}
+use Rattle.std.specs.Prelude.{◌≡◌, ℕ, ◌+◌, Bool, true, false, List, [], ◌∷◌, Option, Some, None, IfSome, nat_lt, slice_get, slice_index_or}
 use Rattle.geos_image.specs.declared.row.Row.{Row}
 use Rattle.geos_image.specs.declared.point.Point.{Point}
 use Rattle.geos_image.specs.declared.routine.Routine.{Routine}
@@ -50,8 +50,8 @@ Comes image r to from row = elim from [ None ↦ BeginsWith image r to row | Som
 
 -- Slots that a CALL leaves empty
 
--- a CALL, before which slot a is held so, calls the routine of this name, whose `in` line does not say that the slot is held
-pub record CallsBeside (image : Parts) (a : ℕ) (before : Row) (emptied : Emptied) : Type 0 where
+-- a CALL of routine r, before which slot a is held so, calls the routine of this name, whose `in` line does not say that the slot is held
+pub record CallsBeside (image : Parts) (r a : ℕ) (before : Row) (emptied : Emptied) : Type 0 where
   pub held : is_empty emptied.state ≡ false
   pub state : slot_state before a ≡ emptied.state
   pub point : Point
@@ -60,6 +60,7 @@ pub record CallsBeside (image : Parts) (a : ℕ) (before : Row) (emptied : Empti
   pub callee : Routine
   pub called : slice_get image.routines point.instr.imm ≡ Some callee
   pub name : emptied.callee ≡ callee.name
+  pub before_r : emptied.stands_before ≡ nat_lt point.instr.imm r
   pub unsaid : is_empty (slot_state callee.entry a) ≡ true
 
 -- the edges, the last first, lead within routine r from a pc with a row to another, and slot a is empty at each place
@@ -73,7 +74,7 @@ StaysEmpty image r a begin first (edge ∷ edges) pc row =
 pub record IsEmptied (image : Parts) (r a to : ℕ) (row : Row) (emptied : Emptied) : Type 0 where
   pub before : Row
   pub comes : ComesFromStart image r emptied.at before
-  pub calls : CallsBeside image a before emptied
+  pub calls : CallsBeside image r a before emptied
   pub edges : List (ℕ × Bool)
   pub way : StaysEmpty image r a (emptied.at + 1) (after image emptied.at before false) edges to row
 

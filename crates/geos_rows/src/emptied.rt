@@ -15,7 +15,7 @@ use geos_verify::{is_empty, slot_state};
 fn call_beside(body: &Body, pc: u16, before: &Row, a: u8) -> Option<Emptied>
     requires { pc < body.now.end }
     ensures at { IfSome result (λ emptied. emptied.at ≡ pc) }
-    ensures calls { IfSome result (CallsBeside body.now.image.now a before.now) }
+    ensures calls { IfSome result (CallsBeside body.now.image.now body.now.r a before.now) }
 {
     let i = body.image.instr(pc);
     let Opcode::Call = i.opcode else {
@@ -30,6 +30,7 @@ fn call_beside(body: &Body, pc: u16, before: &Row, a: u8) -> Option<Emptied>
         at: pc,
         state,
         callee: callee.name,
+        stands_before: i.imm < body.r,
     })
 }
 
