@@ -34,7 +34,7 @@ pub(crate) enum RequestFault<'a> {
     #[error("bad call: w{} can't be {}", .0, Named(.1))]
     BadNumber(usize, &'a str),
     /// A call of a routine that borrows so many blocks gives more or fewer, or none by its handle.
-    #[error("bad call: {} borrows blocks: {}, each as @h behind the numbers", Named(.0), .1)]
+    #[error("bad call: {} borrows blocks: {}, each as @ and its handle behind the numbers", Named(.0), .1)]
     BadBlocks(&'a str, usize),
     /// A call gives a ninth number.
     #[error("bad call: more than eight numbers")]
