@@ -50,7 +50,8 @@ Comes image r to from row = elim from [ None ↦ BeginsWith image r to row | Som
 
 -- Slots that a CALL leaves empty
 
--- a CALL of routine r, before which slot a is held so, calls the routine of this name, whose `in` line does not say that the slot is held
+-- a CALL of routine r, before which slot a is held so, calls the routine of this name, whose `in` line does not say that the slot is
+-- held, and which stands before routine r or not, as is said
 pub record CallsBeside (image : Parts) (r a : ℕ) (before : Row) (emptied : Emptied) : Type 0 where
   pub held : is_empty emptied.state ≡ false
   pub state : slot_state before a ≡ emptied.state
