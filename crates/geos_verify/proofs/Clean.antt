@@ -216,11 +216,26 @@ misuse-slots i Moves r s e h = subst (λ (xs : List SlotState). is_empty (get_or
 misuse-slots i LooksAt r s e h = subst (λ (xs : List SlotState). is_empty (get_or xs i.a Empty) ≡ false) (sym e) h
 misuse-slots i _ r s e h = refl
 
--- after an instruction too, where exit rows are so
+-- after an instruction too that is no call
+pub beside-calls-clean : (image : Parts) (i : Instr) (opcode : Opcode) (row : Row) → i.opcode ≡ opcode → FieldsFit opcode i
+    → calls opcode ≡ false → IsClean row → wrong_slot i row ≡ false → IsClean (row_along image i opcode row)
+unfolding wrong_slot
+beside-calls-clean image i opcode row is fields goes_on h held =
+    let no_call : opcode ≡ op.Call → ⊥ = (λ same. absurd (called same goes_on)) in
+    let yields = (facts opcode).yields in
+    let slots : (bounded i opcode row).slots ≡ row.slots = result-slots i opcode yields row in
+    let clean : IsClean (bounded i opcode row) = record { clean = result-clean i opcode yields row ∙ h.clean; four = ap length slots ∙ h.four } in
+    let right : misuses_slot i (uses_of opcode).slot row ≡ false = subst (λ o. misuses_slot i (uses_of o).slot row ≡ false) is held in
+    rw (row_along-used image i opcode row no_call) (used-clean i opcode (bounded i opcode row) fields clean
+    (misuse-slots i (uses_of opcode).slot (bounded i opcode row) row slots right))
+  where
+    called : opcode ≡ op.Call → calls opcode ≡ false → ⊥
+    called same e = (let at_call : calls op.Call ≡ false = rw same at e in absurd cc)
+
+-- after a call as well, where exit rows are so
 pub along-clean : (image : Parts) (i : Instr) (opcode : Opcode) (row : Row) → i.opcode ≡ opcode → FieldsFit opcode i
     → ((routine : Routine) → slice_get image.routines i.imm ≡ Some routine → IsClean routine.exit) → IsClean row → wrong_slot i row ≡ false
     → IsClean (row_along image i opcode row)
-unfolding wrong_slot
 along-clean image i opcode row is fields exits h held = by_test (calls opcode) refl
   where
     at_exit : (o : Option Routine) → slice_get image.routines i.imm ≡ o → IsClean (exit_row image i.imm row)
@@ -229,14 +244,4 @@ along-clean image i opcode row is fields exits h held = by_test (calls opcode) r
 
     by_test : (b : Bool) → calls opcode ≡ b → IsClean (row_along image i opcode row)
     by_test true e = rw (is-call opcode e) (at_exit (slice_get image.routines i.imm) refl)
-    by_test false e =
-        let no_call : opcode ≡ op.Call → ⊥ = (λ same. absurd (called same e)) in
-        let yields = (facts opcode).yields in
-        let slots : (bounded i opcode row).slots ≡ row.slots = result-slots i opcode yields row in
-        let clean : IsClean (bounded i opcode row) = record { clean = result-clean i opcode yields row ∙ h.clean; four = ap length slots ∙ h.four } in
-        let right : misuses_slot i (uses_of opcode).slot row ≡ false = subst (λ o. misuses_slot i (uses_of o).slot row ≡ false) is held in
-        rw (row_along-used image i opcode row no_call) (used-clean i opcode (bounded i opcode row) fields clean
-        (misuse-slots i (uses_of opcode).slot (bounded i opcode row) row slots right))
-      where
-        called : opcode ≡ op.Call → calls opcode ≡ false → ⊥
-        called same e = (let at_call : calls op.Call ≡ false = rw same at e in absurd cc)
+    by_test false e = beside-calls-clean image i opcode row is fields e h held

@@ -145,6 +145,12 @@ misuses_slot i _ row = false
 unfoldable pub wrong_slot : Instr → Row → Bool
 wrong_slot i row = misuses_slot i (uses_of i.opcode).slot row
 
+-- the row names no empty slot where the other one names none and the instruction at the pc uses slots as it may
+abbrev pub NamesNoneAfter : Parts → ℕ → Row → Row → Type 0
+NamesNoneAfter image pc before row =
+    names_empty_slot before ≡ false → IfSome (slice_get image.points pc) (λ point. wrong_slot point.instr before ≡ false)
+    → names_empty_slot row ≡ false
+
 -- the slot holds a block of the VM file
 abbrev pub is_of_file : SlotState → Bool
 is_of_file (Vm marked borrowed) = true

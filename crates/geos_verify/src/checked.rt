@@ -48,11 +48,13 @@ fn refusal_in(body: &Body) -> Option<Reject>
     ensures first { IfSome result (λ reject. RefusesNone body.now.image.now body.now.r body.now.routine.now body.now.start reject.pc) }
 {
     let mut row = *body.image.row(body.start);
+    // Whether the row is known to name no empty slot: most rows come of such a one.
+    let mut names_none = false;
     for pc in body.start..body.start + body.routine.count {
-        if let Some(rule) = refusal(body, pc, &row) {
+        if let Some(rule) = refusal(body, pc, &row, names_none) {
             return Some(Reject { pc, rule });
         }
-        go_on(body.image, pc, &mut row);
+        names_none = go_on(body.image, pc, &mut row);
     }
     None
 }

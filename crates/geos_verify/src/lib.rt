@@ -36,6 +36,6 @@ pub use potentials::are_spent;
 pub use refusal::{has_place, over_budget};
 pub use refused::{Refusals, refused_places};
 pub use rule::{Reject, Rule};
-pub use slots::slot_state;
+pub use slots::{are_alike, slot_state};
 pub use touched::{Touched, calls, touched_in};
 pub use uses::uses_at;

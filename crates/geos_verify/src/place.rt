@@ -1,12 +1,14 @@
 //! The places of an image, and what is known at each.
 
-ghost use Rattle.std.specs.Prelude.{◌≡◌, ◌<◌, ◌+◌, length, false, None, IfOk};
+ghost use Rattle.std.specs.Prelude.{◌≡◌, ◌<◌, ◌+◌, length, true, false, None, IfOk};
 ghost use Rattle.geos_verify.specs.Places.{places, or_row, RowAt};
 ghost use Rattle.geos_verify.specs.Rows.{after, HasEdge};
+ghost use Rattle.geos_verify.specs.Rules.{NamesNoneAfter};
 
 use crate::edges::go_along;
+use crate::touched::calls;
 use crate::uses::uses_at;
-use geos_image::{Image, Instr, Potential, Row};
+use geos_image::{Image, Instr, Potential, Row, SlotState};
 use std::alloc::{AllocError, Global};
 
 /// An instruction, with what is known of the registers before it, and a bound on the steps that are left there.
@@ -17,45 +19,61 @@ pub struct Place {
     pub potential: Potential,
 }
 
-/// Makes the row, which is known at `pc`, what is known behind the instruction there.
-fn go_behind(image: &Image, pc: u16, row: &mut Row)
+/// How many slots a row has.
+fn has_four(slots: &[SlotState; 4])
+    ensures { length slots.now ≡ 4 }
+{}
+
+/// Makes the row, which is known at `pc`, what is known behind the instruction there. Answers whether it names no empty slot for that;
+/// of an exit row that is not known.
+fn go_behind(image: &Image, pc: u16, row: &mut Row) -> bool
     requires there { pc < length image.now.points }
     requires edge { HasEdge image.now pc false }
-    ensures { row.new ≡ after image.now pc row.old false }
+    ensures row { row.new ≡ after image.now pc row.old false }
+    ensures names { result ≡ true → NamesNoneAfter image.now pc row.old row.new }
 {
+    has_four(&row.slots);
     let i = image.instr(pc);
     go_along(image, i, uses_at(i), row);
+    !calls(i.opcode)
 }
 
-/// Makes the row, which is known at `pc`, the one that is given behind it, or else what is known there.
-fn take_given(image: &Image, pc: u16, given: &Option<Row>, row: &mut Row)
+/// Makes the row, which is known at `pc`, the one that is given behind it, or else what is known there. Answers whether it names no empty
+/// slot for that; of a row that is given that is not known.
+fn take_given(image: &Image, pc: u16, given: &Option<Row>, row: &mut Row) -> bool
     requires there { pc < length image.now.points }
     requires edge { given.now ≡ None → HasEdge image.now pc false }
-    ensures { row.new ≡ or_row given.now (after image.now pc row.old false) }
+    ensures row { row.new ≡ or_row given.now (after image.now pc row.old false) }
+    ensures names { result ≡ true → NamesNoneAfter image.now pc row.old row.new }
 {
     match given {
-        Some(known) => *row = *known,
+        Some(known) => {
+            *row = *known;
+            false
+        }
         None => go_behind(image, pc, row),
     }
 }
 
 /// Makes the row, which is known at `pc`, the one that is known at the place behind it: the row that the image gives
-/// there, or else what is known behind the instruction. Behind the last place it may be any row.
-pub(crate) fn go_on(image: &Image, pc: u16, row: &mut Row)
+/// there, or else what is known behind the instruction. Behind the last place it may be any row. Answers whether it is known to name no
+/// empty slot, where it named none and the instruction uses slots as it may.
+pub(crate) fn go_on(image: &Image, pc: u16, row: &mut Row) -> bool
     requires there { pc < length image.now.points }
     requires here { RowAt image.now pc row.old }
-    ensures { RowAt image.now (pc + 1) row.new }
+    ensures row { RowAt image.now (pc + 1) row.new }
+    ensures names { result ≡ true → NamesNoneAfter image.now pc row.old row.new }
 {
     let len = image.len();
     let next = pc + 1;
     if next == len {
-        return;
+        return false;
     }
     // The row that is given here is given there too.
     if image.repeats(pc) {
-        return;
+        return true;
     }
-    take_given(image, pc, image.given(next), row);
+    take_given(image, pc, image.given(next), row)
 }
 
 /// What is known at the place behind `pc`, where `row` is known at `pc`.

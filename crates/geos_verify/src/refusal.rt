@@ -5,7 +5,7 @@ ghost use Rattle.geos_image.specs.Fields.{FieldsFit, TargetFits, CalleeFits};
 ghost use Rattle.geos_image.specs.Keys.{falls_through, branches, gives};
 ghost use Rattle.geos_verify.specs.Places.{places, RowAt};
 ghost use Rattle.geos_verify.specs.Rows.{row_along, row_branching};
-ghost use Rattle.geos_verify.specs.Rules.{has_place, returns, leaves_routine, entry_misfits, call_misfits, exit_misfits, misfits_at};
+ghost use Rattle.geos_verify.specs.Rules.{has_place, returns, leaves_routine, entry_misfits, call_misfits, exit_misfits, misfits_at, names_empty_slot};
 ghost use Rattle.geos_verify.specs.Rules.{edge_misfits, unpaid_along, unpaid_branching, edge_unpaid, over_budget, refusal, slot_misuse, GoesWithin};
 ghost use Rattle.geos_verify.specs.Touched.{calls};
 ghost use Rattle.geos_opcodes.specs.Facts.{uses_of};
@@ -198,8 +198,25 @@ fn slot_misuse(i: &Instr, slot: SlotUse, row: &Row) -> Option<Rule>
     }
 }
 
-/// The lowest rule that refuses an instruction at `pc` of a routine, with what is known there.
-fn refusal_of(body: &Body, pc: u16, i: &Instr, row: &Row, potential: &Potential) -> Option<Rule>
+/// Whether a pointer of the row names an empty slot. Where it is known that none does, that is not looked at again.
+fn may_name_empty(row: &Row, names_none: bool) -> bool
+    requires { names_none ≡ true → names_empty_slot row.now ≡ false }
+    ensures { result ≡ names_empty_slot row.now }
+{
+    !names_none && names_empty_slot(row)
+}
+
+/// The lowest rule that refuses an instruction at `pc` of a routine, with what is known there. `names_none` says that the row is known
+/// to name no empty slot.
+fn refusal_of(
+    body: &Body,
+    pc: u16,
+    i: &Instr,
+    row: &Row,
+    potential: &Potential,
+    names_none: bool,
+) -> Option<Rule>
+    requires names { names_none ≡ true → names_empty_slot row.now ≡ false }
     requires there { pc < length body.now.image.now.points }
     requires fields { FieldsFit i.now.opcode i.now }
     requires target { TargetFits (length body.now.image.now.points) i.now }
@@ -215,7 +232,7 @@ fn refusal_of(body: &Body, pc: u16, i: &Instr, row: &Row, potential: &Potential)
     let uses = uses_at(i);
     if leaves_routine(start, routine, pc, i) {
         Some(Rule::LeavesRoutine)
-    } else if names_empty_slot(row) {
+    } else if may_name_empty(row, names_none) {
         Some(Rule::NamesEmptySlot)
     } else if entry_misfits(start, routine, pc, row) {
         Some(Rule::EntryMisfit)
@@ -242,13 +259,22 @@ fn refusal_of(body: &Body, pc: u16, i: &Instr, row: &Row, potential: &Potential)
     }
 }
 
-/// The lowest rule that refuses the place at `pc` of a routine, where `row` is known.
-pub(crate) fn refusal(body: &Body, pc: u16, row: &Row) -> Option<Rule>
+/// The lowest rule that refuses the place at `pc` of a routine, where `row` is known. `names_none` says that it is known to name no
+/// empty slot.
+pub(crate) fn refusal(body: &Body, pc: u16, row: &Row, names_none: bool) -> Option<Rule>
     requires there { pc < length body.now.image.now.points }
+    requires names { names_none ≡ true → names_empty_slot row.now ≡ false }
     requires known { RowAt body.now.image.now pc row.now }
     ensures { IfSome (slice_get (places body.now.image.now) pc)
         (λ place. result ≡ refusal body.now.image.now body.now.r body.now.routine.now body.now.start pc place) }
 {
     let image = body.image;
-    refusal_of(body, pc, image.instr(pc), row, image.potential(pc))
+    refusal_of(
+        body,
+        pc,
+        image.instr(pc),
+        row,
+        image.potential(pc),
+        names_none,
+    )
 }

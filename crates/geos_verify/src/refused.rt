@@ -48,7 +48,7 @@ fn note_refusals(rules: &mut Refusals, body: &Body)
 {
     let mut row = *body.image.row(body.start);
     for pc in body.start..body.start + body.routine.count {
-        rules[usize::from(pc)] = refusal(body, pc, &row);
+        rules[usize::from(pc)] = refusal(body, pc, &row, false);
         row = row_next(body.image, pc, &row);
     }
 }

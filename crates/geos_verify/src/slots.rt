@@ -51,7 +51,7 @@ fn alike(kind: Option<Kind>, other: Option<Kind>) -> bool
 }
 
 /// Whether two slots hold blocks of one kind, or both nothing.
-pub(crate) fn are_alike(state: SlotState, other: SlotState) -> bool
+pub fn are_alike(state: SlotState, other: SlotState) -> bool
     ensures { result ≡ are_alike state other }
 {
     alike(kind_in(state), kind_in(other))

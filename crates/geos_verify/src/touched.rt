@@ -78,7 +78,7 @@ fn touches(table: &Touched, k: u8, points: &[Point]) -> bool
 fn may_touch(points: &[Point]) -> bool
     ensures { result ≡ list_any (λ point. counts point.instr.opcode || calls point.instr.opcode) points.now }
 {
-    points.iter().any(|point| counts(point.instr.opcode) || calls(point.instr.opcode))
+    points.iter().any(|point| counts(point.instr.opcode) | calls(point.instr.opcode))
 }
 
 /// The points of a routine.
