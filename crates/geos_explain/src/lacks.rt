@@ -14,7 +14,7 @@ use crate::uses::{mark_word, put_ask_wish, put_bounding};
 use geos_image::{Pointer, Row, SlotState};
 use geos_listing::put_items;
 use geos_text::put_numbered;
-use geos_verify::{is_empty, pointer_at, pointer_fits, slot_fits, slot_state};
+use geos_verify::{are_alike, is_empty, pointer_at, pointer_fits, slot_fits, slot_state};
 
 /// The bound that is wanted where it is not kept, else that of any word.
 fn lacking_bound(known: u16, wanted: u16) -> u16
@@ -218,12 +218,7 @@ fn put_register_mends(out: &mut Vec<u8>, known: &Row, wanted: &Row) -> Done
 fn may_compare(state: SlotState, other: SlotState) -> bool
     ensures { result ≡ may_compare state other }
 {
-    match (state, other) {
-        (SlotState::Mem, SlotState::Mem)
-        | (SlotState::Vm { .. }, SlotState::Vm { .. })
-        | (SlotState::Db { .. }, SlotState::Db { .. }) => true,
-        _ => false,
-    }
+    !is_empty(state) && are_alike(state, other)
 }
 
 /// Two slots are to be compared, if it is lacking that they differ, and they may be.
