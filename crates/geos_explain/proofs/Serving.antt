@@ -1,10 +1,12 @@
 -- What is said where a potential is above its budget is so.
 use Rattle.std.proofs.Common.{◌≡◌, ◌+◌, ◌≤◌, ◌⊎◌, ℕ, zero, suc, Bool, true, false, not, Option, Some, None, slice_get, refl, subst, inl, inr, arith}
 use Rattle.std.specs.Prelude.{◌&&◌, nat_lt}
+use Rattle.std.proofs.lemmas.Bool.{eqb-true}
+use Rattle.geos_explain.specs.Below.{KnownPlace, places, bound, CounterUse, SetToWord}
 use Rattle.geos_explain.proofs.Below.{and_parts, Instr, Point, Row, Parts, start_of, facts, calls, Ahead, elim_both}
 use Rattle.geos_verify.specs.Rules.{call_misfits}
 use Rattle.geos_explain.proofs.Leads.{leads-is}
-use Rattle.geos_explain.specs.Budgets.{calls_on, calls_on_at, IsNeverServed, WhatIsSaidOfBudgetsHolds, takes, stays_unset, is_unset_at, takes_at, IsTakenUnset, WhatIsSaidOfCountersHolds}
+use Rattle.geos_explain.specs.Budgets.{calls_on, calls_on_at, IsNeverServed, WhatIsSaidOfBudgetsHolds, takes, stays_unset, is_unset_at, takes_at, IsTakenUnset, WhatIsSaidOfCountersHolds, sets_to_any, sets_to_any_at, IsSetToAny, WhatIsSaidOfWordsHolds}
 use Rattle.geos_explain.specs.Places.{Place, first_or, first_of}
 use Rattle.geos_explain.specs.Since.{IsInside}
 use Rattle.geos_explain.proofs.Holding.{inside-at}
@@ -34,6 +36,11 @@ ahead-refused : (image : Parts) (r : ℕ) (i : Instr) (row : Row) → calls i.op
 unfolding call_misfits
 ahead-refused image r i row called ahead = rw (called, ahead) refl
 
+any-parts : (counter : CounterUse) (i : Instr) (row : Row) → sets_to_any counter i row ≡ true
+    → (counter ≡ SetToWord) × (bound row i.b ≡ 65535)
+any-parts SetToWord i row is = (refl, eqb-true (bound row i.b) 65535 is)
+any-parts _ i row is = absurd cc
+
 module _ (place : Place) where
   takes-unset : (k from : ℕ) → IsInside place from → takes_at place k from ≡ true → IsTakenUnset place k from
   unfolding takes_at
@@ -62,6 +69,20 @@ module _ (place : Place) where
         there = e;
         refused = λ row. ahead-refused place.image place.r point.instr row tests.0 tests.1;
       }))
+
+  any-set : (from : ℕ) → IsInside place from → sets_to_any_at place from ≡ true → IsSetToAny place from
+  unfolding sets_to_any_at
+  any-set from inside_here =
+      elim_both (slice_get (places place.image) from) false
+      (λ (known : KnownPlace). sets_to_any (facts known.instr.opcode).counter known.instr known.row)
+      (λ b. b ≡ true → IsSetToAny place from) (λ none is. absurd cc) (λ known e is. (
+      let is_so = any-parts (facts known.instr.opcode).counter known.instr known.row is in
+      record { inside = inside_here; known = known; there = e; sets = is_so.0; any = is_so.1 }))
+
+pub said_of_words : WhatIsSaidOfWordsHolds
+said_of_words place from said =
+    let found = first-of place (sets_to_any_at place) from place.routine.count (omega arith) said in
+    any-set place from found.1 found.0
 
 pub said_of_counters : WhatIsSaidOfCountersHolds
 said_of_counters place k from said =

@@ -1,6 +1,7 @@
--- Which budget serves a routine, and which counters are still to pay at its beginning, from which a LOOP takes though nothing sets them.
+-- Which budget serves a routine, which counters are still to pay at its beginning, from which a LOOP takes though nothing sets them, and
+-- which is set to a word that may be any.
 use Rattle.std.specs.Prelude.{◌≡◌, ℕ, Bool, true, false, ◌&&◌, not, nat_lt, List, [], ◌∷◌, ◌++◌, Option, Some, None, slice_get, codes, if◌then◌else◌, ◌==◌, slice_index, decimal}
-use Rattle.geos_explain.specs.Below.{concat, Instr, Point, Row, call_misfits, calls, CounterUse, SetTo, SetToWord, CountsDown, facts, Parts, Edge, Ahead, step_by, Leads, texts_below}
+use Rattle.geos_explain.specs.Below.{concat, Instr, Point, Row, KnownPlace, places, bound, call_misfits, calls, CounterUse, SetTo, SetToWord, CountsDown, facts, Parts, Edge, Ahead, step_by, Leads, texts_below}
 use Rattle.geos_explain.specs.Notes.{budget_words, budget_wish}
 use Rattle.geos_explain.specs.Numbers.{pc_text}
 use Rattle.geos_explain.specs.Places.{Place, first_of, is_inside}
@@ -97,9 +98,37 @@ serving_words place = elim (calling_on place) [
       ∷ codes " names a routine that does not stand before this one" ∷ [])
 ]
 
--- a potential is above the budget, which budget serves, and which counters are never set
+-- an instruction sets a counter to a word that may be any
+abbrev pub sets_to_any : CounterUse → Instr → Row → Bool
+sets_to_any SetToWord i row = bound row i.b == 65535
+sets_to_any _ i row = false
+
+-- the same of the instruction at a pc
+unfoldable pub sets_to_any_at : Place → ℕ → Bool
+sets_to_any_at place from = elim (slice_get (places place.image) from) [
+  | None ↦ false
+  | Some known ↦ sets_to_any (facts known.instr.opcode).counter known.instr known.row
+]
+
+-- the first such instruction of the routine
+abbrev pub setting_to_any : Place → Option ℕ
+setting_to_any place = first_of place (sets_to_any_at place) place.routine.count
+
+-- what helps there
+unfoldable pub any_words : Place → ℕ → List ℕ
+any_words place from = elim (slice_get place.image.points from) [
+  | None ↦ []
+  | Some point ↦ concat (codes "; w" ∷ decimal point.instr.b ∷ codes " may be 65535 at" ∷ pc_text place.lines from
+      ∷ codes ", which sets k" ∷ decimal point.instr.a ∷ codes ": CHK it by a lower number" ∷ [])
+]
+
+-- the same, if there is such an instruction
+unfoldable pub any_item : Place → List ℕ
+any_item place = elim (setting_to_any place) [ None ↦ [] | Some from ↦ any_words place from ]
+
+-- a potential is above the budget, which budget serves, which counters are never set, and which is set to a word that may be any
 unfoldable pub over_words : Place → List ℕ
-over_words place = budget_words place.routine place.potential ++ serving_words place ++ unset_items place
+over_words place = budget_words place.routine place.potential ++ serving_words place ++ unset_items place ++ any_item place
 
 -- What is said, as a relation
 
@@ -109,6 +138,18 @@ pub record IsNeverServed (place : Place) (from : ℕ) : Type 0 where
   pub point : Point
   pub there : slice_get place.image.points from ≡ Some point
   pub refused : (row : Row) → call_misfits place.image place.r point.instr row ≡ true
+
+-- the instruction at a pc of the routine sets a counter to a word of which nothing is known there
+pub record IsSetToAny (place : Place) (from : ℕ) : Type 0 where
+  pub inside : IsInside place from
+  pub known : KnownPlace
+  pub there : slice_get (places place.image) from ≡ Some known
+  pub sets : (facts known.instr.opcode).counter ≡ SetToWord
+  pub any : bound known.row known.instr.b ≡ 65535
+
+-- an instruction that is named is such a one
+abbrev pub WhatIsSaidOfWordsHolds : Type 0
+WhatIsSaidOfWordsHolds = (place : Place) (from : ℕ) → setting_to_any place ≡ Some from → IsSetToAny place from
 
 -- a call for which no budget is said to serve is one that is refused with each
 abbrev pub WhatIsSaidOfBudgetsHolds : Type 0

@@ -20,9 +20,13 @@ use Rattle.geos_explain.specs.Forgotten.{forgetting_call}
 abbrev pub if_stale : Row → ℕ → Option ℕ
 if_stale row p = if is_stale (pointer_at row p) then Some p else None
 
--- the pointers that an instruction uses, where the row knows nothing of them
+-- the pointer of operand b, if it is another than that of operand a, where the row knows nothing of it
+abbrev pub second_stale : Instr → Row → Option ℕ
+second_stale i row = if i.b == i.a then None else if_stale row i.b
+
+-- the pointers that an instruction uses, each once, where the row knows nothing of them
 abbrev pub stale_used : Instr → PointerUse → Row → Option ℕ × Option ℕ
-stale_used i Copies row = (if_stale row i.a, if_stale row i.b)
+stale_used i Copies row = (if_stale row i.a, second_stale i row)
 stale_used i _ row = (if_stale row i.b, None)
 
 -- a pointer, if there is one

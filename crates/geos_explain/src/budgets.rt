@@ -1,11 +1,12 @@
-//! Which budget serves a routine, and which counters are still to pay at its beginning, from which a LOOP takes though nothing sets
-//! them.
+//! Which budget serves a routine, which counters are still to pay at its beginning, from which a LOOP takes though nothing sets them,
+//! and which is set to a word that may be any.
 
 ghost use Rattle.std.specs.Prelude.{◌≡◌, ◌++◌, OnOk, ◌<◌};
 ghost use Rattle.geos_explain.specs.Places.{place_of};
 ghost use Rattle.geos_explain.specs.Budgets.{calls_on_at, calling_on, serving_words, over_words, WhatIsSaidOfBudgetsHolds, takes};
 ghost use Rattle.geos_explain.specs.Budgets.{gives, pays_at, leaves_alone, is_unset_at, takes_at, unset_loop, unset_item, unset_items};
 ghost use Rattle.geos_explain.specs.Budgets.{WhatIsSaidOfCountersHolds, stays_unset};
+ghost use Rattle.geos_explain.specs.Budgets.{sets_to_any, sets_to_any_at, setting_to_any, any_words, any_item, WhatIsSaidOfWordsHolds};
 ghost use Rattle.geos_flow.specs.Marks.{Marking};
 
 use crate::Done;
@@ -16,7 +17,7 @@ use crate::numbers::pc_part;
 use crate::place::Place;
 use crate::routines::{first_or, is_inside};
 use geos_flow::{Counting, Edge, Heading, Marks, is_marked};
-use geos_image::Instr;
+use geos_image::{Instr, Row};
 use geos_opcodes::CounterUse;
 use geos_verify::calls;
 
@@ -199,14 +200,83 @@ fn put_serving(out: &mut Vec<u8>, place: &Place) -> Done
     }
 }
 
-/// The potential is above the budget, which budget serves, and which counters are never set.
+/// Whether the instruction sets a counter to a word that may be any.
+fn sets_to_any(counter: CounterUse, i: &Instr, row: &Row) -> bool
+    ensures { result ≡ sets_to_any counter i.now row.now }
+{
+    match counter {
+        CounterUse::SetToWord => match row.bounds.get(usize::from(i.b)) {
+            Some(bound) => *bound == u16::MAX,
+            None => false,
+        },
+        _ => false,
+    }
+}
+
+/// The same of the instruction at a pc.
+#[tactic(auto, unfolding(crate::specs::Budgets::sets_to_any_at))]
+fn sets_to_any_at(place: &Place, from: u16) -> bool
+    ensures { result ≡ sets_to_any_at (place_of place.now) from }
+{
+    match place.image.place(from) {
+        Some(known) => sets_to_any(known.instr.opcode.facts().counter, &known.instr, &known.row),
+        None => false,
+    }
+}
+
+/// The first such instruction of the routine.
+#[tactic(auto, unfolding(crate::specs::Places::first_of))]
+fn setting_to_any(place: &Place) -> Option<u16>
+    ensures { result ≡ setting_to_any (place_of place.now) }
+{
+    let start = place.image.start(place.r);
+    let mut first = None;
+    for n in 0..place.routine.count {
+        let from = start + n;
+        first = first_or(first, from, sets_to_any_at(place, from));
+    }
+    first
+}
+
+/// What helps there.
+#[tactic(auto, unfolding(crate::specs::Budgets::any_words))]
+fn put_any(out: &mut Vec<u8>, place: &Place, from: u16) -> Done
+    ensures { OnOk result (out.new.items ≡ out.old.items ++ any_words (place_of place.now) from) }
+{
+    match place.image.point(from) {
+        Some(point) => put!(out;
+            "; w" {point.instr.b} " may be 65535 at" (pc_part(place.lines, from))
+            ", which sets k" {point.instr.a} ": CHK it by a lower number"
+        ),
+        None => Ok(()),
+    }
+}
+
+/// The same, if there is such an instruction.
+#[tactic(auto, unfolding(crate::specs::Budgets::any_item))]
+fn put_any_item(out: &mut Vec<u8>, place: &Place) -> Done
+    ensures { OnOk result (out.new.items ≡ out.old.items ++ any_item (place_of place.now)) }
+{
+    match setting_to_any(place) {
+        Some(from) => put_any(out, place, from),
+        None => Ok(()),
+    }
+}
+
+/// A law: an instruction that is named sets a counter to a word of which nothing is known there.
+pub fn what_is_said_of_words_holds()
+    ensures { WhatIsSaidOfWordsHolds }
+{}
+
+/// The potential is above the budget, which budget serves, which counters are never set, and which is set to a word that may be any.
 #[tactic(auto, unfolding(crate::specs::Budgets::over_words))]
 pub(crate) fn put_over(out: &mut Vec<u8>, place: &Place) -> Done
     ensures { OnOk result (out.new.items ≡ out.old.items ++ over_words (place_of place.now)) }
 {
     put_budget(out, place.routine, place.potential)?;
     put_serving(out, place)?;
-    put_unset_items(out, place)
+    put_unset_items(out, place)?;
+    put_any_item(out, place)
 }
 
 /// A law: a call for which no budget is said to serve is one of the routine, and the rule on calls refuses it whatever the

@@ -66,7 +66,9 @@ mod uses;
 mod ways;
 mod words;
 
-pub use budgets::{what_is_said_of_budgets_holds, what_is_said_of_counters_holds};
+pub use budgets::{
+    what_is_said_of_budgets_holds, what_is_said_of_counters_holds, what_is_said_of_words_holds,
+};
 pub use causes::explain_cause;
 pub use explanation::{
     explain, explain_text, explanation_is_listing_with_notes, explanation_is_text_with_notes,

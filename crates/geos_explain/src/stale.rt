@@ -2,7 +2,7 @@
 
 ghost use Rattle.std.specs.Prelude.{◌≡◌, ◌++◌, OnOk};
 ghost use Rattle.geos_explain.specs.Places.{place_of};
-ghost use Rattle.geos_explain.specs.Stale.{if_stale, stale_used, pointer_item, refused_on, way_text, meeting_head, meeting_item, named};
+ghost use Rattle.geos_explain.specs.Stale.{if_stale, second_stale, stale_used, pointer_item, refused_on, way_text, meeting_head, meeting_item, named};
 ghost use Rattle.geos_explain.specs.Stale.{name_at, call_loss, moved_words, use_loss, how_lost, lost_by, label_wish, refused_at};
 ghost use Rattle.geos_explain.specs.Stale.{unset_words, unreached_words, merged_words, into_empty_wish, into_empty_words, loss_words};
 ghost use Rattle.geos_explain.specs.Stale.{finding_item, stale_words, if_wanted, first_wanted, forgetting_pointer, unknown_words};
@@ -33,12 +33,19 @@ pub(crate) fn if_stale(row: &Row, p: u8) -> Option<u8>
     }
 }
 
-/// The pointers that the instruction uses, where the row knows nothing of them.
+/// The pointer of operand b, if it is another than that of operand a, where the row knows nothing of it.
+fn second_stale(i: &Instr, row: &Row) -> Option<u8>
+    ensures { result ≡ second_stale i.now row.now }
+{
+    if i.b == i.a { None } else { if_stale(row, i.b) }
+}
+
+/// The pointers that the instruction uses, each once, where the row knows nothing of them.
 pub(crate) fn stale_used(i: &Instr, pointer: PointerUse, row: &Row) -> (Option<u8>, Option<u8>)
     ensures { result ≡ stale_used i.now pointer row.now }
 {
     match pointer {
-        PointerUse::Copies => (if_stale(row, i.a), if_stale(row, i.b)),
+        PointerUse::Copies => (if_stale(row, i.a), second_stale(i, row)),
         _ => (if_stale(row, i.b), None),
     }
 }

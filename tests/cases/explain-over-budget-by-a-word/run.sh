@@ -1,0 +1,1 @@
+"$1" explain "$(dirname "$0")/text.asm"

@@ -1,0 +1,3 @@
+routine main public budget 2
+        COPY p0 p0 4
+        RET
