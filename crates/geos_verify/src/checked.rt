@@ -48,7 +48,7 @@ fn refusal_in(body: &Body) -> Option<Reject>
     ensures first { IfSome result (λ reject. RefusesNone body.now.image.now body.now.r body.now.routine.now body.now.start reject.pc) }
 {
     let mut row = *body.image.row(body.start);
-    // Whether the row is known to name no empty slot: most rows come of such a one.
+    // Whether the row is known to name no empty slot, as most rows that come of such a row.
     let mut names_none = false;
     for pc in body.start..body.start + body.routine.count {
         if let Some(rule) = refusal(body, pc, &row, names_none) {

@@ -19,13 +19,13 @@ pub struct Place {
     pub potential: Potential,
 }
 
-/// How many slots a row has.
+/// A law: a row has four slots.
 fn has_four(slots: &[SlotState; 4])
     ensures { length slots.now ≡ 4 }
 {}
 
-/// Makes the row, which is known at `pc`, what is known behind the instruction there. Answers whether it names no empty slot for that;
-/// of an exit row that is not known.
+/// Makes the row, which is known at `pc`, what is known behind the instruction there. Where it answers true, the row names no empty slot
+/// if it named none before and the instruction uses slots as it may. Behind a CALL it answers false: an exit row may name any.
 fn go_behind(image: &Image, pc: u16, row: &mut Row) -> bool
     requires there { pc < length image.now.points }
     requires edge { HasEdge image.now pc false }
@@ -38,8 +38,8 @@ fn go_behind(image: &Image, pc: u16, row: &mut Row) -> bool
     !calls(i.opcode)
 }
 
-/// Makes the row, which is known at `pc`, the one that is given behind it, or else what is known there. Answers whether it names no empty
-/// slot for that; of a row that is given that is not known.
+/// Makes the row, which is known at `pc`, the one that is given behind it, or else what is known there. Where it answers true, the row
+/// names no empty slot, as above. Of a row that is given it answers false.
 fn take_given(image: &Image, pc: u16, given: &Option<Row>, row: &mut Row) -> bool
     requires there { pc < length image.now.points }
     requires edge { given.now ≡ None → HasEdge image.now pc false }
@@ -56,8 +56,8 @@ fn take_given(image: &Image, pc: u16, given: &Option<Row>, row: &mut Row) -> boo
 }
 
 /// Makes the row, which is known at `pc`, the one that is known at the place behind it: the row that the image gives
-/// there, or else what is known behind the instruction. Behind the last place it may be any row. Answers whether it is known to name no
-/// empty slot, where it named none and the instruction uses slots as it may.
+/// there, or else what is known behind the instruction. Behind the last place it may be any row. Where it answers true, the row names no
+/// empty slot if it named none before and the instruction uses slots as it may.
 pub(crate) fn go_on(image: &Image, pc: u16, row: &mut Row) -> bool
     requires there { pc < length image.now.points }
     requires here { RowAt image.now pc row.old }
