@@ -61,7 +61,7 @@ none-refuses image r routine start pc point e =
       budget = t.1.1.1.1.1.0;
     }
 
--- where no rule refuses a place, the next row names no empty slot if it names none for that
+-- where no rule refuses the place at a pc, a row names no empty slot if that follows from the row there and how slots are used
 pub names-none-next : (image : Parts) (r start pc : ℕ) (routine : Routine) (row next : Row) → pc < length image.points
     → IfSome (slice_get (places image) pc) (λ place. None ≡ refusal image r routine start pc place) → RowAt image pc row
     → NamesNoneAfter image pc row next → names_empty_slot next ≡ false
