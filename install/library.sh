@@ -11,8 +11,8 @@ if [ -z "$made" ]; then
     "$top/library/make.sh" "$made" || exit
 fi
 
-version=$(sed -n 's/^## \([0-9][0-9.]*\).*/\1/p' "$top/CHANGELOG.md" | head -n 1)
-date=$(date -r "$top/library/takhvoi.h" +%Y-%m-%d)
+version=$(cat "$top/VERSION")
+date=$(date -u -d "@${SOURCE_DATE_EPOCH:-$(stat -c %Y "$top/library/takhvoi.h")}" +%Y-%m-%d)
 root=$folder/root
 python=$root/share/takhvoi/python
 rust=$root/share/takhvoi/rust

@@ -23,6 +23,7 @@ from typing import NamedTuple, Optional, Union
 from _takhvoi import BAD_FILE, BAD_IMAGE, NOT_ADMITTED, NOT_LOCKED, REFUSED, SHORT_BUFFER, U16, U32
 from _takhvoi import Error, RawFile, bytes_of, library, room, sixteen
 
+__version__ = "0.1.0"
 __all__ = ["Array", "Chunk", "Error", "Image", "Kernel", "LockedBlock", "Outcome", "assemble", "explain", "list_image"]
 
 REGION = 1 << 20

@@ -1,5 +1,5 @@
-# The program is installed below a folder, with its man page and completions, which have all that it says of itself; uninstalled, it
-# leaves nothing but what others have there.
+# The program is installed below a folder, with its man pages, completions and documents. The first page and the completions have all that
+# the program says of itself. Uninstalled, it leaves only what others have there.
 export LC_ALL=C
 folder=$(mktemp -d)
 trap 'rm -rf "$folder"' EXIT
@@ -20,7 +20,9 @@ words() {
 
 run_make "$folder/none" install >/dev/null || echo "nothing is installed of no program: $(ls "$folder")"
 mkdir -p "$root/usr/bin" && : >"$root/usr/bin/other"
-run_make "$1" install && files
+run_make "$1" install && files | grep -v /share/doc/
+(cd "$top" && find docs examples -type f | sort) >"$folder/documents"
+(cd "$root/usr/share/doc/takhvoi" && find docs examples -type f | sort) | diff "$folder/documents" -
 cmp "$1" "$root/usr/bin/geos" && "$root/usr/bin/geos" <"$top/examples/add.session"
 
 page=$root/usr/share/man/man1/geos.1
@@ -33,7 +35,7 @@ while read -r command; do
 done <"$folder/commands"
 sed 's/\\f.//g; s/\\(../ /g; s/\\&//g' "$page" | words >"$folder/paged"
 echo "not in the page: $(words <"$folder/help" | comm -23 - "$folder/paged" | tr '\n' ' ')"
-! command -v groff >/dev/null || groff -man -ww -z "$page" 2>&1
+! command -v groff >/dev/null || groff -man -ww -z "$page" "$root"/usr/share/man/man5/* 2>&1
 
 # What bash completes the last of these words to.
 completed() {

@@ -1,0 +1,256 @@
+"""Runs `geos` from its sources without proving them, for a request that changes no file.
+
+usage: unproved WORD..     the words of `geos`
+
+Standard output and the exit status are the program's own. What an unproved run cannot do is an error in one line.
+Status 3 with nothing said: the request may change a file, or reads one that others may be changing, so it needs the proved program.
+"""
+
+from __future__ import annotations
+
+import streams
+
+CLOSED = streams.open_closed()
+
+import contextlib
+import os
+import re
+import shutil
+import signal
+import stat
+import subprocess
+import sys
+import tempfile
+from collections.abc import Iterator
+from dataclasses import dataclass, field
+from pathlib import Path
+
+from crates import TOP
+
+NEEDS_PROOF = 3
+# What `rt try` takes of standard input and of each file, in bytes.
+MOST_INPUT = 64 << 20
+# How long the program may run, in seconds, once it is compiled.
+MOST_SECONDS = 600
+CURE = "run `./build geos` first, and then again"
+# Lines of `rt try` about its own work, after the program's standard error.
+OWN_LINE = re.compile(rb"(interpreter|checked|races): |run=|rt: ")
+# Names that `rt try` keeps for itself in the folder in which the program runs.
+TAKEN = ("program", "stdin", "stdout", "stderr", "given")
+# The options of `geos` with a word after them.
+WITH_WORD = ("--file", "--only", "--region", "--script", "--steps")
+SCRIPT = "--script="
+
+
+class Refused(Exception):
+    """What an unproved run cannot do, in one line."""
+
+
+def say(text: str) -> None:
+    streams.say(f"geos: {text}")
+
+
+@dataclass
+class Request:
+    """The words of `geos`, and what they ask of files."""
+
+    words: list[str]
+    plain: list[int] = field(default_factory=list)  # places of the command's words that are no options
+    scripts: list[int] = field(default_factory=list)  # places of the words that name a script to explain
+
+    def __post_init__(self) -> None:
+        option = ""
+        for place, word in enumerate(self.words[1:], start=1):
+            if option == "--script" or word.startswith(SCRIPT):
+                self.scripts.append(place)
+            elif option == "--" or not option and (word == "-" or not word.startswith("-")):
+                self.plain.append(place)
+            if option != "--":
+                option = word if not option and word in (*WITH_WORD, "--") else ""
+
+    @property
+    def command(self) -> str:
+        return self.words[0] if self.words else ""
+
+    def needs_proof(self) -> bool:
+        """Whether it may change a file, or reads a VM file."""
+        if self.command in ("call", "trace"):
+            return any(word == "--file" or word.startswith("--file=") for word in self.words)
+        if self.command in ("asm", "budget"):
+            return len(self.plain) > 1 and self.words[self.plain[1]] != "-"
+        return self.command in ("new", "run", "put", "get", "dump", "map")
+
+    def inputs(self) -> list[int]:
+        """Where the words stand that name files to read."""
+        reads = self.command in ("call", "trace", "asm", "budget", "list", "check", "explain")
+        return [*(self.plain[:1] if reads else []), *self.scripts]
+
+    def reads_standard_input(self) -> bool:
+        if not self.words:
+            return True
+        if self.command == "call" and len(self.plain) == 1:
+            return True
+        return any(self.words[place] == "-" for place in self.inputs())
+
+
+@dataclass
+class Trial:
+    """The words and files that the program gets in the folder in which `rt try` runs it."""
+
+    words: list[str]
+    files: dict[str, str] = field(default_factory=dict)  # the name there, and the file's own path
+    renamed: dict[str, str] = field(default_factory=dict)  # the name there, and the word that the caller gave
+
+    def give(self, place: int) -> None:
+        """Gives the program the file that a word names, under the same name if the folder can have that."""
+        word = self.words[place]
+        option = SCRIPT if word.startswith(SCRIPT) else ""
+        name = word = word.removeprefix(option)
+        if os.path.normpath(word) != word or name.split("/")[0] in ("", "..", *TAKEN) or "=" in word:
+            name = f"given/{len(self.renamed)}"
+            self.renamed[name] = word
+            self.words[place] = option + name
+        with contextlib.suppress(OSError):
+            status = os.stat(word)
+            if not stat.S_ISREG(status.st_mode):
+                raise Refused(f"an unproved run reads regular files only, and {word!r} is none; {CURE}")
+            if status.st_size > MOST_INPUT:
+                raise Refused(f"an unproved run reads at most {MOST_INPUT} bytes, and {word!r} has more; {CURE}")
+            if os.access(word, os.R_OK):
+                self.files[name] = os.path.abspath(word)
+
+    def restored(self, said: bytes) -> bytes:
+        """A message of the program with the names that the caller gave."""
+        for name, word in self.renamed.items():
+            said = said.replace(os.fsencode(name), os.fsencode(word))
+        return said
+
+
+def trial_of(request: Request) -> Trial:
+    trial = Trial(list(request.words))
+    for place in request.inputs():
+        if trial.words[place] != "-":
+            trial.give(place)
+    return trial
+
+
+def copy_input(request: Request, to: Path) -> None:
+    """Copies standard input to a file, up to its end."""
+    with to.open("wb") as copy:
+        if not request.reads_standard_input():
+            return
+        if 0 in CLOSED:
+            raise Refused("cannot read standard input: it is closed")
+        if os.isatty(0):
+            raise Refused(f"an unproved run reads no terminal: give a file with `< FILE`, or {CURE}")
+        size = 0
+        while more := os.read(0, 1 << 20):
+            size += len(more)
+            if size > MOST_INPUT:
+                raise Refused(f"an unproved run reads at most {MOST_INPUT} bytes of standard input; {CURE}")
+            copy.write(more)
+
+
+@contextlib.contextmanager
+def folder() -> Iterator[Path]:
+    """A folder for this run, which is removed at its end."""
+    made = Path(tempfile.mkdtemp(prefix="geos-unproved-"))
+    try:
+        yield made
+    finally:
+        shutil.rmtree(made, ignore_errors=True)
+
+
+def command_of(trial: Trial) -> list[str]:
+    command = ["rt", "try", "--steps", "1", "--seconds", str(MOST_SECONDS)]
+    for name, file in trial.files.items():
+        command += ["--data", f"{name}={file}"]
+    return [*command, "--", *trial.words]
+
+
+def run(trial: Trial, given: Path) -> tuple[int, bytes, bytes]:
+    """Compiles the program without proof and runs it. Returns the status of `rt try` and what came on its two streams."""
+    with given.open("rb") as standard_input:
+        command = subprocess.Popen(
+            command_of(trial),
+            cwd=TOP / "crates" / "geos",
+            env={**os.environ, "TMPDIR": str(given.parent)},
+            stdin=standard_input,
+            stdout=subprocess.PIPE,
+            stderr=subprocess.PIPE,
+        )
+    try:
+        printed, said = command.communicate()
+    finally:
+        if command.poll() is None:
+            command.terminate()
+            command.wait()
+    return command.returncode, printed, said
+
+
+def own_lines(said: bytes) -> tuple[bytes, bytes]:
+    """Parts what `rt try` said into the program's standard error and the lines about the run."""
+    lines = said.splitlines(keepends=True)
+    count = len(lines)
+    while count and OWN_LINE.match(lines[count - 1]):
+        count -= 1
+    first = 0
+    while first < count and lines[first].startswith(b"rt: "):
+        first += 1
+    return b"".join(lines[first:count]), b"".join(lines[count:])
+
+
+def write(number: int, text: bytes) -> None:
+    if text and number in CLOSED:
+        raise OSError
+    while text:
+        text = text[os.write(number, text) :]
+
+
+def report(trial: Trial, status: int, printed: bytes, said: bytes) -> int:
+    """Passes on what the program printed and said, and returns its status."""
+    own, about = own_lines(said)
+    if b"run=ended" not in about:
+        reason = (about or said).decode(errors="replace").strip().splitlines()
+        why = next((line for line in reason if line.startswith("checked: ")), reason[-1] if reason else "rt was stopped")
+        raise Refused(f"the unproved run gave no answer: {why.removeprefix('checked: ').removeprefix('no-answer: ')}; {CURE}")
+    with contextlib.suppress(OSError):
+        write(2, trial.restored(own))
+    try:
+        write(1, printed)
+    except OSError:
+        raise Refused("cannot write -") from None
+    return status
+
+
+def answer(words: list[str]) -> int:
+    request = Request(words)
+    if request.needs_proof():
+        return NEEDS_PROOF
+    minutes = subprocess.run([TOP / "build", "--minutes", "geos"], capture_output=True, text=True).stdout.strip()
+    trial = trial_of(request)
+    with folder() as made:
+        given = made / "input"
+        copy_input(request, given)
+        say(
+            "this run uses an unproved build, which takes about 2 minutes to compile; "
+            f"`./build geos` (about {minutes} minutes) or `./test` proves everything, and then ./geos uses the proved program"
+        )
+        status, printed, said = run(trial, given)
+    return report(trial, status, printed, said)
+
+
+def main() -> int:
+    for number in (signal.SIGHUP, signal.SIGINT, signal.SIGTERM):
+        signal.signal(number, lambda number, _: sys.exit(128 + number))
+    try:
+        return answer(sys.argv[1:])
+    except Refused as why:
+        say(str(why))
+    except OSError as error:
+        say(f"the unproved run failed: {error.strerror}; {CURE}")
+    return 1
+
+
+if __name__ == "__main__":
+    sys.exit(main())
