@@ -28,6 +28,16 @@ OF_CRATES = ("src", "specs", "proofs", "must-fail")
 SUFFIXES = ("", ".antt", ".rt", ".edit")
 
 
+@functools.cache
+def words_in(file: Path) -> set[str]:
+    """The words of a file."""
+    return set(re.findall(r"\w+", file.read_text()))
+
+
+def has_word(file: Path, word: str) -> bool:
+    return word in words_in(file)
+
+
 class Files:
     """The files and folders of a repository, without built files."""
 
@@ -52,26 +62,25 @@ class Files:
         return [base / end for base in bases for end in ends if (base / end).exists()]
 
     @functools.cached_property
-    def modules(self) -> dict[str, set[str]]:
-        """The words of each module of definitions and lemmas."""
-        modules: dict[str, set[str]] = {}
+    def modules(self) -> dict[str, list[Path]]:
+        """The files of each module of definitions and lemmas."""
+        modules: dict[str, list[Path]] = {}
         for path in self.paths:
             if path.suffix == ".antt" and path.parent.name in ("specs", "proofs"):
-                modules.setdefault(path.stem, set()).update(re.findall(r"\w+", path.read_text()))
+                modules.setdefault(path.stem, []).append(path)
         return modules
 
     def defines(self, module: str, word: str, page: Path) -> bool:
-        """Whether a module has a word, or any module has both, as a record and a field of it."""
-        if "/" in module:
-            texts = [file.read_text() for file in self.found(module, page) if file.is_file()]
-            return any(re.search(rf"\b{word}\b", text) for text in texts)
-        return any(word in words and (name == module or module in words) for name, words in self.modules.items())
+        """Whether a module has a word, or a module of the page's crate has both, as a record and a field of it."""
+        files = self.found(module, page) if "/" in module else self.modules[module]
+        if any(has_word(file, word) for file in files if file.is_file()):
+            return True
+        return any(has_word(file, module) and has_word(file, word) for file in page.parent.glob("specs/*.antt"))
 
     @functools.cache
     def words_of(self, crate: str) -> set[str]:
         """The words of a crate's sources."""
-        sources = (self.top / "crates" / crate / "src").glob("*.rt")
-        return {word for source in sources for word in re.findall(r"\w+", source.read_text())}
+        return set().union(*map(words_in, (self.top / "crates" / crate / "src").glob("*.rt")))
 
     def is_missing(self, span: str, page: Path) -> bool:
         """Whether a code span names what there is not."""
