@@ -76,7 +76,7 @@ def layers_of(crates: str) -> list[tuple[str, list[str]]]:
 
 
 def layers() -> str:
-    drawing = Drawing("The crates in layers: each depends only on crates before it or below it")
+    drawing = Drawing("The crates in layers, the lowest at the bottom")
     y = 10.0
     for heading, crates in reversed(layers_of(read("crates.txt"))):
         x, row, boxes = 20.0, 0, []
@@ -127,8 +127,8 @@ def pointers() -> str:
         drawing.box(652, 66 + at * 34, (176, 28), "band" if words == "free" else "box", words)
     drawing.arrow((535, 64), (650, 80))
     drawing.text(20, 128, "A handle stays valid.", "small")
-    drawing.text(215, 128, "A locked block does not move;", "small")
-    drawing.text(215, 144, "the chunks in it may.", "small")
+    drawing.text(215, 128, "A locked block moves only when", "small")
+    drawing.text(215, 144, "it grows; its chunks may move.", "small")
     causes = (
         ("the chunks of the block move", moving(instructions, "*moves*")),
         ("items move (s0: a group)", moving(instructions, "*moves items*")),
