@@ -21,7 +21,9 @@ uint32_t takhvoi_file_close(takhvoi_file *file);
 /* Opens a file, and takes its lock. BAD_FILE tells the offset of the first faulty byte in `fault`. */
 TAKHVOI_CALL uint32_t takhvoi_file_open(takhvoi_file *file, const char *path, uint32_t region, uint64_t *fault);
 
-/* Makes a file that is not there yet, takes its lock, and makes it and its name last. Where it is not done, no file is left. */
+/* Makes a file that is not there yet, takes its lock, and makes the file and its path last. The file gets the path only when it is whole; so
+ * if the call is not done, or the program or the machine stops meanwhile, the path has no file. (On a file system without links an empty file
+ * has the path for a moment before.) A stop may leave a file `.geos-part-N` in the folder, which the next call there removes. */
 TAKHVOI_CALL uint32_t takhvoi_file_create(takhvoi_file *file, const char *path, uint32_t area, uint32_t region);
 
 /* A commit, of which nothing is answered as done before the file has it. DISK may also come where the kernel has committed and the file

@@ -18,6 +18,8 @@ ssize_t __real_pread(int fd, void *into, size_t len, off_t at);
 int __real_fdatasync(int fd);
 int __real_fsync(int fd);
 int __real_ftruncate(int fd, off_t len);
+int __real_linkat(int from, const char *old, int to, const char *new, int flags);
+int __real_unlinkat(int folder, const char *path, int flags);
 
 /* Whether this call is the one; then it fails, unless it is only cut short. */
 static int is_chosen(void) {
@@ -46,6 +48,14 @@ int __wrap_fsync(int fd) {
 
 int __wrap_ftruncate(int fd, off_t len) {
     return manner == REFUSED && is_chosen() ? -1 : __real_ftruncate(fd, len);
+}
+
+int __wrap_linkat(int from, const char *old, int to, const char *new, int flags) {
+    return manner == REFUSED && is_chosen() ? -1 : __real_linkat(from, old, to, new, flags);
+}
+
+int __wrap_unlinkat(int folder, const char *path, int flags) {
+    return manner == REFUSED && is_chosen() ? -1 : __real_unlinkat(folder, path, flags);
 }
 
 static void want(int holds, const char *what) {
