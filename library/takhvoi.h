@@ -196,7 +196,9 @@ TAKHVOI_CALL uint32_t takhvoi_ilock(takhvoi_kernel *kernel, uint16_t group, uint
 TAKHVOI_CALL uint32_t takhvoi_igetmap(takhvoi_kernel *kernel, uint16_t *group, uint16_t *item);
 TAKHVOI_CALL uint32_t takhvoi_isetmap(takhvoi_kernel *kernel, uint16_t group, uint16_t item);
 
-/* Commits, which want that no block of the file is locked, and that the host has performed what was noted. Each happens whole or not at all. */
+/* Commits, which want that no block of the file is locked, and that the host has performed what was noted. Each happens whole or not at all.
+ * They do not change a file of the system, but note what is to be written: for a takhvoi_file take takhvoi_file_update, takhvoi_file_save and
+ * takhvoi_file_revert. After these three, takhvoi_file_flush or takhvoi_file_close changes the file. */
 TAKHVOI_CALL uint32_t takhvoi_update(takhvoi_kernel *kernel);
 TAKHVOI_CALL uint32_t takhvoi_save(takhvoi_kernel *kernel);
 TAKHVOI_CALL uint32_t takhvoi_revert(takhvoi_kernel *kernel);
@@ -217,7 +219,7 @@ TAKHVOI_CALL uint32_t takhvoi_unload(takhvoi_kernel *kernel, uint32_t image);
 TAKHVOI_CALL uint32_t takhvoi_routine(takhvoi_kernel *kernel, uint32_t image, const uint8_t *name, size_t name_len, uint16_t *routine);
 /* Runs a public routine: `words` are w0 to w7, before and after. `lent` has the handle of a locked block of the VM file for each slot that the
  * routine borrows, and 0 for the others; no other block of the file is locked. Of the `count` words that it puts out, as many as there is room
- * for come into `output`. */
+ * for come into `output`. What the routine commits is noted, as by the commits above: for a takhvoi_file take takhvoi_file_run. */
 TAKHVOI_CALL uint32_t takhvoi_run(takhvoi_kernel *kernel, uint32_t image, uint16_t routine, uint16_t words[8], const uint16_t lent[4],
                                   uint16_t *output, size_t room, uint32_t *count, uint32_t *steps);
 

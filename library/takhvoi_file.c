@@ -224,12 +224,19 @@ uint32_t takhvoi_file_flush(takhvoi_file *file) {
     return status;
 }
 
-uint32_t takhvoi_file_close(takhvoi_file *file) {
+/* Closes the kernel and the file, and performs nothing. */
+static uint32_t give_up(takhvoi_file *file) {
     uint32_t status = takhvoi_close(&file->kernel);
     if (file->fd >= 0) close(file->fd);
     file->fd = -1;
     file->next = 0;
     return status;
+}
+
+uint32_t takhvoi_file_close(takhvoi_file *file) {
+    uint32_t status = file->kernel.live != 0 ? takhvoi_file_flush(file) : TAKHVOI_DONE;
+    uint32_t closed = give_up(file);
+    return status != TAKHVOI_DONE ? status : closed;
 }
 
 uint32_t takhvoi_file_open(takhvoi_file *file, const char *path, uint32_t region, uint64_t *fault) {
@@ -258,7 +265,7 @@ uint32_t takhvoi_file_open(takhvoi_file *file, const char *path, uint32_t region
         free(bytes);
     }
     if (status == TAKHVOI_DONE) status = takhvoi_file_flush(file);
-    if (status != TAKHVOI_DONE) takhvoi_file_close(file);
+    if (status != TAKHVOI_DONE) give_up(file);
     return status;
 }
 
@@ -276,7 +283,7 @@ uint32_t takhvoi_file_create(takhvoi_file *file, const char *path, uint32_t area
     if (status == TAKHVOI_DONE) status = finish_part(&part, path);
     else unlinkat(part.folder, part.name, 0);
     close(part.folder);
-    if (status != TAKHVOI_DONE) takhvoi_file_close(file);
+    if (status != TAKHVOI_DONE) give_up(file);
     return status;
 }
 

@@ -15,7 +15,9 @@ typedef struct takhvoi_file {
  * done; writes since then are performed again. */
 TAKHVOI_CALL uint32_t takhvoi_file_flush(takhvoi_file *file);
 
-/* What no commit has kept is lost. */
+/* Closes the kernel and the file, and gives the lock back. It first performs what is noted, so a commit that takhvoi_save made lasts as one that
+ * takhvoi_file_save made does. What no commit has kept is lost. DISK if the file refuses: it is closed too, and has what was kept before the
+ * commit or after it. */
 uint32_t takhvoi_file_close(takhvoi_file *file);
 
 /* Opens a file, and takes its lock. BAD_FILE tells the offset of the first faulty byte in `fault`. */
@@ -32,7 +34,7 @@ TAKHVOI_CALL uint32_t takhvoi_file_update(takhvoi_file *file);
 TAKHVOI_CALL uint32_t takhvoi_file_save(takhvoi_file *file);
 TAKHVOI_CALL uint32_t takhvoi_file_revert(takhvoi_file *file);
 
-/* takhvoi_run, whose commits are performed on the file. */
+/* takhvoi_run, and performs the commits of the routine on the file. */
 TAKHVOI_CALL uint32_t takhvoi_file_run(takhvoi_file *file, uint32_t image, uint16_t routine, uint16_t words[8], const uint16_t lent[4],
                                        uint16_t *output, size_t room, uint32_t *count, uint32_t *steps);
 

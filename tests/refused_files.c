@@ -1,6 +1,6 @@
 /* Keeps a block in a file with the library, with each call of the system on the file refused, interrupted or cut short in turn: what was kept
- * stands in the file before or after the commit, the next commit goes on, and where no file was made none is left. It is linked with --wrap
- * of the calls below. usage: refused_files FILE */
+ * stands in the file before or after the commit, the next commit goes on, a close performs a commit that was not performed, and where no file
+ * was made none is left. It is linked with --wrap of the calls below. usage: refused_files FILE */
 #include "takhvoi.h"
 #include <errno.h>
 #include <stdio.h>
@@ -85,21 +85,39 @@ static uint32_t make(takhvoi_file *file, uint16_t *block) {
     return takhvoi_unlock(&file->kernel, TAKHVOI_VM(*block));
 }
 
+/* Opens the file, at the second try if a call of the first one was refused. */
+static void open_file(takhvoi_file *file, const char *path) {
+    uint64_t fault = 0;
+    uint32_t status = takhvoi_file_open(file, path, 1 << 16, &fault);
+    if (status != TAKHVOI_DONE) status = takhvoi_file_open(file, path, 1 << 16, &fault);
+    want(status == TAKHVOI_DONE, takhvoi_error_text(status));
+}
+
 /* The letter that the file has, or `0` for none. The choice of a call goes on in the open. */
 static char kept(const char *path, uint16_t block) {
     takhvoi_file file = TAKHVOI_FILE_NONE;
-    uint64_t fault = 0;
     uint8_t bytes[LEN] = {'0'}, wanted[LEN];
-    uint32_t status = takhvoi_file_open(&file, path, 1 << 16, &fault);
-    if (status != TAKHVOI_DONE) status = takhvoi_file_open(&file, path, 1 << 16, &fault);
-    want(status == TAKHVOI_DONE, takhvoi_error_text(status));
+    open_file(&file, path);
     if (takhvoi_vlock(&file.kernel, block) == TAKHVOI_DONE) {
         want(takhvoi_read(&file.kernel, TAKHVOI_VM(block), 16, 0, bytes, LEN) == TAKHVOI_DONE, "no chunk");
         spell((char)bytes[0], wanted);
         want(memcmp(bytes, wanted, LEN) == 0, "bytes of two commits");
+        want(takhvoi_unlock(&file.kernel, TAKHVOI_VM(block)) == TAKHVOI_DONE, "the block is not locked");
     }
-    takhvoi_file_close(&file);
+    want(takhvoi_file_close(&file) == TAKHVOI_DONE, "a file that is only read is not closed");
     return (char)bytes[0];
+}
+
+/* Closes the file after a commit, and looks whether the file has the letter of the commit, or that of the one before. */
+static void close_after(takhvoi_file *file, const char *path, uint16_t block, char last, char before) {
+    uint32_t status = takhvoi_file_close(file);
+    char letter = kept(path, block);
+    if (status == TAKHVOI_DONE) {
+        want(letter == last, "the last commit is lost");
+    } else {
+        want(manner == REFUSED && status == TAKHVOI_DISK, takhvoi_error_text(status));
+        want(letter == last || letter == before, "neither is kept");
+    }
 }
 
 /* A commit, tried again where it was refused; the answer of the first. */
@@ -109,6 +127,17 @@ static uint32_t save(takhvoi_file *file) {
     want(manner == REFUSED && status == TAKHVOI_DISK, takhvoi_error_text(status));
     if (chosen % 2 == 0) want(takhvoi_file_save(file) == TAKHVOI_DONE, "the next commit does not go on");
     return status;
+}
+
+/* Commits by takhvoi_save in place of takhvoi_file_save: the close performs it. */
+static void commit_by_kernel(const char *path, uint16_t block) {
+    takhvoi_file file = TAKHVOI_FILE_NONE;
+    char before = kept(path, block);
+    if (before == '0') return;
+    open_file(&file, path);
+    want(put(&file, block, 'c') == TAKHVOI_DONE && takhvoi_save(&file.kernel) == TAKHVOI_DONE, "the kernel does not commit");
+    want(takhvoi_save(&file.kernel) == TAKHVOI_PENDING, "it commits again before the host has performed the commit");
+    close_after(&file, path, block, 'c', before);
 }
 
 static void work(const char *path) {
@@ -124,11 +153,13 @@ static void work(const char *path) {
     want(make(&file, &block) == TAKHVOI_DONE && put(&file, block, 'a') == TAKHVOI_DONE, "the block is not made");
     uint32_t first = save(&file);
     want(put(&file, block, 'b') == TAKHVOI_DONE, "the block does not change");
-    uint32_t second = first == TAKHVOI_DONE || chosen % 2 == 0 ? save(&file) : first;
-    takhvoi_file_close(&file);
-    char letter = kept(path, block);
-    if (second == TAKHVOI_DONE || (chosen % 2 == 0)) want(letter == 'b', "the last commit is lost");
-    else want(letter == 'b' || letter == 'a' || (first != TAKHVOI_DONE && letter == '0'), "neither is kept");
+    if (first == TAKHVOI_DONE || chosen % 2 == 0) {
+        uint32_t second = save(&file);
+        close_after(&file, path, block, 'b', second == TAKHVOI_DONE ? 'b' : 'a');
+    } else {
+        close_after(&file, path, block, 'a', '0');
+    }
+    commit_by_kernel(path, block);
 }
 
 int main(int argc, char **argv) {
