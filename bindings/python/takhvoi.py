@@ -8,19 +8,21 @@ A Kernel has blocks of memory and those of its VM file. A block is locked while 
             kernel.set_map_block(block.handle)
         kernel.save()
 
-What the kernel or the library refuses comes as an Error with its number in takhvoi.h and its text. The library is looked for where the
-environment's TAKHVOI_LIBRARY says, beside this file, where `make install-library` puts it, and where the system keeps libraries.
+What the kernel or the library refuses comes as an Error with its number in takhvoi.h and its text. Threads may share a kernel: a method waits
+until those of other threads on it have ended. The library is looked for where the environment's TAKHVOI_LIBRARY says, beside this file, where
+`make install-library` puts it, and where the system keeps libraries.
 """
 
 from __future__ import annotations
 
 import ctypes
 import os
+import threading
 from collections.abc import Callable, Iterator, Sequence
 from types import TracebackType
 from typing import NamedTuple, Optional, Union
 
-from _takhvoi import BAD_FILE, BAD_IMAGE, NOT_ADMITTED, NOT_LOCKED, REFUSED, SHORT_BUFFER, U16, U32
+from _takhvoi import BAD_FILE, BAD_IMAGE, NO_KERNEL, NOT_ADMITTED, NOT_LOCKED, REFUSED, SHORT_BUFFER, U16, U32
 from _takhvoi import Error, RawFile, bytes_of, library, room, sixteen
 
 __version__ = "0.1.0"
@@ -45,6 +47,8 @@ class Kernel:
     """A kernel, with its VM file. It is closed by `with`, `close` or when it goes, and what no commit has kept is lost."""
 
     def __init__(self) -> None:
+        # ctypes lets other threads run during a call, and no two calls may work on one kernel at once.
+        self._turn = threading.RLock()
         self._raw = RawFile()
 
     @classmethod
@@ -71,8 +75,11 @@ class Kernel:
         return kernel
 
     def close(self) -> None:
-        """Closes it. A later call raises an Error."""
-        library.takhvoi_file_close(self._raw)
+        """Closes it. A later call raises an Error, and so does this one if the file refuses what a commit has still to write."""
+        with self._turn:
+            status = library.takhvoi_file_close(self._raw)
+        if status not in (0, NO_KERNEL):
+            raise Error(status)
 
     def __enter__(self) -> Kernel:
         return self
@@ -82,10 +89,11 @@ class Kernel:
 
     def __del__(self) -> None:
         if hasattr(self, "_raw"):
-            self.close()
+            library.takhvoi_file_close(self._raw)
 
     def _call(self, name: str, *given: object) -> None:
-        status = getattr(library, "takhvoi_" + name)(self._raw, *given)
+        with self._turn:
+            status = getattr(library, "takhvoi_" + name)(self._raw, *given)
         if status:
             raise Error(status)
 
@@ -210,7 +218,8 @@ class Kernel:
     def load(self, image: Data) -> Image:
         """Loads an image, which the verifier checks."""
         given, number, place, rule = bytes(image), U32(), ctypes.c_uint64(), U32()
-        status = library.takhvoi_load(self._raw, given, len(given), number, place, rule)
+        with self._turn:
+            status = library.takhvoi_load(self._raw, given, len(given), number, place, rule)
         if status:
             raise Error(status, place.value if status in (BAD_IMAGE, REFUSED) else None, rule.value if status == REFUSED else None)
         return Image(self, number.value)
@@ -234,9 +243,10 @@ class LockedBlock:
 
     def unlock(self) -> None:
         """Gives the lock back, once. A later call of this object, or of its chunks, raises an Error."""
-        if self._is_locked:
-            self._is_locked = False
-            self._kernel._call("unlock", self._block)
+        with self._kernel._turn:
+            if self._is_locked:
+                self._is_locked = False
+                self._kernel._call("unlock", self._block)
 
     def _given(self) -> int:
         if not self._is_locked:
@@ -252,9 +262,10 @@ class LockedBlock:
     def make_chunk(self, content: Union[int, Data]) -> Chunk:
         """Makes a chunk with these bytes, or with so many zero bytes."""
         given = bytes(sixteen(content)) if isinstance(content, int) else bytes(content)
-        chunk = self.chunk(self._kernel._told("lalloc", self._given(), sixteen(len(given))))
-        if not isinstance(content, int):
-            chunk.write(0, given)
+        with self._kernel._turn:
+            chunk = self.chunk(self._kernel._told("lalloc", self._given(), sixteen(len(given))))
+            if not isinstance(content, int):
+                chunk.write(0, given)
         return chunk
 
     def make_array(self, element_size: int = 0) -> Array:
@@ -279,6 +290,7 @@ class _Place:
 
     def __init__(self, block: LockedBlock, handle: int) -> None:
         self._block = block
+        self._turn = block._kernel._turn
         self.handle = sixteen(handle)
 
     def _call(self, name: str, *given: object) -> None:
@@ -301,7 +313,8 @@ class Chunk(_Place):
 
     def read(self, at: int = 0, size: Optional[int] = None) -> bytes:
         """Its bytes from `at` on, so many or all."""
-        return self._read("read", max(len(self) - at, 0) if size is None else size, sixteen(at))
+        with self._turn:
+            return self._read("read", max(len(self) - at, 0) if size is None else size, sixteen(at))
 
     def write(self, at: int, content: Data) -> None:
         """Copies bytes over those from `at` on."""
@@ -332,9 +345,10 @@ class Array(_Place):
         return self._told("cacount")
 
     def __getitem__(self, index: int) -> bytes:
-        if not 0 <= index < len(self):
-            raise IndexError(index)
-        return self._read("caread", self.size(index), index, 0)
+        with self._turn:
+            if not 0 <= index < len(self):
+                raise IndexError(index)
+            return self._read("caread", self.size(index), index, 0)
 
     def __iter__(self) -> Iterator[bytes]:
         for index in range(len(self)):
@@ -355,9 +369,11 @@ class Array(_Place):
 
     def append(self, content: Data) -> None:
         """Appends an element with these bytes."""
-        last, given = len(self), bytes(content)
-        self._call("caadd", sixteen(len(given)))
-        self.write(last, 0, given)
+        given = bytes(content)
+        with self._turn:
+            last = len(self)
+            self._call("caadd", sixteen(len(given)))
+            self.write(last, 0, given)
 
     def insert(self, index: int, size: int) -> None:
         """Inserts an element of zero bytes."""
@@ -398,9 +414,10 @@ class Image:
 
     def unload(self) -> None:
         """Frees it, once. A later run raises an Error."""
-        if self._number is not None:
-            number, self._number = self._number, None
-            self._kernel._call("unload", number)
+        with self._kernel._turn:
+            if self._number is not None:
+                number, self._number = self._number, None
+                self._kernel._call("unload", number)
 
     def _given(self) -> int:
         if self._number is None:
@@ -421,13 +438,14 @@ class Image:
     ) -> Outcome:
         """Runs a public routine, by its number or name. It gets these words in w0 to w7, is lent these locked blocks of the VM file for s0
         to s3, and no other block of the file is locked. It gives as many of the words that it puts out as there is room for."""
-        number = self.routine(routine) if isinstance(routine, str) else sixteen(routine)
         if len(words) > 8 or len(lent) > 4 or any(it is not None and (not it.of_file or it._kernel is not self._kernel) for it in lent):
             raise Error(NOT_ADMITTED)
         given = (U16 * 8)(*map(sixteen, words))
-        handles = (U16 * 4)(*(0 if it is None else it._given() - 65536 for it in lent))
         output, count, steps = (U16 * max(bytes_of(room), 1))(), U32(), U32()
-        self._kernel._call("file_run", self._given(), number, given, handles, output, room, count, steps)
+        with self._kernel._turn:
+            number = self.routine(routine) if isinstance(routine, str) else sixteen(routine)
+            handles = (U16 * 4)(*(0 if it is None else it._given() - 65536 for it in lent))
+            self._kernel._call("file_run", self._given(), number, given, handles, output, room, count, steps)
         return Outcome(list(given), output[: min(count.value, room)], steps.value)
 
 

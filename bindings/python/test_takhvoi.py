@@ -4,7 +4,9 @@ from __future__ import annotations
 
 import os
 import re
+import sys
 import tempfile
+import threading
 import unittest
 
 import _takhvoi
@@ -159,6 +161,46 @@ class Blocks(unittest.TestCase):
             self.assertEqual((refused.exception.number, refused.exception.place), (number, place))
 
 
+class Threads(unittest.TestCase):
+    THREADS = 4
+    ROUNDS = 200
+
+    def setUp(self) -> None:
+        self.addCleanup(sys.setswitchinterval, sys.getswitchinterval())
+        sys.setswitchinterval(1e-6)
+
+    def test_threads_share_a_kernel(self) -> None:
+        with Kernel.in_memory() as kernel, kernel.make_block() as shared:
+            log = shared.make_array()
+            wrong: list[object] = []
+
+            def work(name: int) -> None:
+                try:
+                    for turn in range(self.ROUNDS):
+                        word = b"%d %d" % (name, turn)
+                        with kernel.make_block() as block, kernel.lock(shared.handle):
+                            chunk = block.make_chunk(word)
+                            log.append(word)
+                            if chunk.read() != word:
+                                wrong.append((word, chunk.read()))
+                        kernel.free(block.handle)
+                except Error as error:
+                    wrong.append((name, error))
+
+            threads = [threading.Thread(target=work, args=(name,)) for name in range(self.THREADS)]
+            for thread in threads:
+                thread.start()
+            for thread in threads:
+                thread.join()
+            self.assertEqual(wrong, [])
+            self.assertEqual(kernel.locks(shared.handle), 1)
+            words = list(log)
+            for name in range(self.THREADS):
+                own = [word for word in words if word.startswith(b"%d " % name)]
+                self.assertEqual(own, [b"%d %d" % (name, turn) for turn in range(self.ROUNDS)])
+            self.assertEqual(len(words), self.THREADS * self.ROUNDS)
+
+
 class Files(unittest.TestCase):
     def test_a_file_is_kept_and_locked(self) -> None:
         with tempfile.TemporaryDirectory() as folder:
@@ -197,7 +239,7 @@ class Header(unittest.TestCase):
         texts = {numbers[name]: text for name, text in re.findall(r'case TAKHVOI_(\w+): return "(.*?)";', header)}
         del texts[0]
         self.assertEqual(texts, _takhvoi.TEXTS)
-        for name in ("NOT_LOCKED", "BAD_SIZE", "BAD_FILE", "BAD_IMAGE", "REFUSED", "NOT_ADMITTED", "SHORT_BUFFER"):
+        for name in ("NO_KERNEL", "NOT_LOCKED", "BAD_SIZE", "BAD_FILE", "BAD_IMAGE", "REFUSED", "NOT_ADMITTED", "SHORT_BUFFER"):
             self.assertEqual(numbers[name], getattr(_takhvoi, name))
         declared = set(re.findall(r"uint32_t takhvoi_(\w+)\(", header))
         called = {name for names in [*_takhvoi._CALLS.values(), _takhvoi._TEXT_CALLS, "abi"] for name in names.split()}
