@@ -127,6 +127,13 @@ static inline const char *takhvoi_error_text(uint32_t status) {
 /* That of the library: where it is not TAKHVOI_ABI, this header is another's. */
 uint32_t takhvoi_abi(void);
 
+/* Limits, beside those of region and area:
+ *
+ *   - There are at most 1,024 blocks of memory, and 1,024 blocks and groups of the file. A handle is a number from 1 to 1,024.
+ *   - A block has at most 65,520 bytes, a chunk at most 65,498. The first chunk of a new block is 16, the next one 18.
+ *   - A block is locked at most 65,535 times at once. At the next lock the answer is TAKHVOI_LOCKED.
+ *   - A run puts out at most 1,024 words. */
+
 /* Kernels. The region is all memory for blocks, 65,536 to 16,777,216 bytes. An area is half of what a VM file may keep, 512 to 16,777,216
  * bytes, a multiple of 512. `new` has its VM file in memory. For a file of the system take takhvoi_file_create and takhvoi_file_open, below,
  * which stand on `create`, where a host holds 1,024 zeros and two areas of them, and on `open`, where it holds these bytes. */
@@ -198,7 +205,16 @@ TAKHVOI_CALL uint32_t takhvoi_isetmap(takhvoi_kernel *kernel, uint16_t group, ui
 
 /* Commits, which want that no block of the file is locked, and that the host has performed what was noted. Each happens whole or not at all.
  * They do not change a file of the system, but note what is to be written: for a takhvoi_file take takhvoi_file_update, takhvoi_file_save and
- * takhvoi_file_revert. After these three, takhvoi_file_flush or takhvoi_file_close changes the file. */
+ * takhvoi_file_revert. After these three, takhvoi_file_flush or takhvoi_file_close changes the file. If a commit is refused, blocks and marks
+ * are as they were, and what is kept is as follows.
+ *
+ *   - TAKHVOI_MEMORY: nothing was begun, and the commit may be called again.
+ *   - TAKHVOI_DISK: memory was refused after the commit had begun. If takhvoi_is_sure tells 1, all is as after TAKHVOI_MEMORY. If it tells 0,
+ *     the file has what was kept before or after.
+ *   - TAKHVOI_UNSURE: nothing was begun, since takhvoi_is_sure tells 0. No commit is taken; the file is to be closed and opened again.
+ *
+ * vlock, ilock and the calls on items may answer TAKHVOI_DISK too: then nothing has changed. After TAKHVOI_NO_MEMORY there is no new kernel,
+ * image or text, and everything else is as it was. */
 TAKHVOI_CALL uint32_t takhvoi_update(takhvoi_kernel *kernel);
 TAKHVOI_CALL uint32_t takhvoi_save(takhvoi_kernel *kernel);
 TAKHVOI_CALL uint32_t takhvoi_revert(takhvoi_kernel *kernel);
