@@ -24,8 +24,8 @@ install:
 
 install-library:
 	@made=$$(mktemp -d) || exit; trap 'rm -rf "$$made"' EXIT; \
-	LIBRARY='$(LIBRARY)' install/library.sh '$(PREFIX)' "$$made" && \
-	install/place.sh "$$made/root" '$(root)' $(lists)/installed-library
+	LIBRARY='$(LIBRARY)' library/install.sh "$$made" && \
+	install/place.sh "$$made" '$(root)' $(lists)/installed-library
 
 uninstall:
 	@install/place.sh --remove '$(root)' $(lists)/installed-program $(lists)/installed-library

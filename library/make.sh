@@ -1,8 +1,8 @@
 #!/bin/sh
-# Makes the library: `library/make.sh FOLDER` puts libtakhvoi.a, libtakhvoi.so and the headers for C into the folder. It takes the static
-# library that `./build takhvoi` gives, the host for files (takhvoi_file.c), and of the kit's C code what is called, and leaves no names but
-# our own in one object. With the word by-rattle it takes what Rattle's own compiler makes, where that of LLVM is meant, and makes no
-# libtakhvoi.so.
+# Makes the library: `library/make.sh FOLDER` puts libtakhvoi.a, libtakhvoi.so.N, its link libtakhvoi.so and the headers for C into the
+# folder; N is TAKHVOI_ABI of the header. It takes the static library that `./build takhvoi` gives, the host for files (takhvoi_file.c), and
+# of the kit's C code what is called, and leaves no names but our own in one object. With the word by-rattle it takes what Rattle's own
+# compiler makes, where that of LLVM is meant, and makes no shared library.
 top=$(dirname "$(dirname "$(readlink -f "$0")")")
 
 say() {
@@ -25,4 +25,6 @@ mkdir -p "$1" &&
     ld -r -o "$work/whole.o" "$work/file.o" --whole-archive "$built" --no-whole-archive "$below/libos_c.a" "$below/liblibc_c.a" &&
     objcopy --wildcard --keep-global-symbol='takhvoi_*' "$work/whole.o" "$work/takhvoi.o" &&
     rm -f "$1/libtakhvoi.a" && ar rcs "$1/libtakhvoi.a" "$work/takhvoi.o" || exit
-[ -n "$2" ] || cc -shared -o "$1/libtakhvoi.so" -Wl,-soname,libtakhvoi.so -Wl,--whole-archive "$1/libtakhvoi.a" -Wl,--no-whole-archive
+[ -z "$2" ] || exit 0
+shared=libtakhvoi.so.$(sed -n 's/^#define TAKHVOI_ABI //p' "$top/library/takhvoi.h")
+cc -shared -o "$1/$shared" "-Wl,-soname,$shared" -Wl,--whole-archive "$1/libtakhvoi.a" -Wl,--no-whole-archive && ln -sf "$shared" "$1/libtakhvoi.so"

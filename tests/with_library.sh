@@ -16,7 +16,7 @@ if [ -f "$shared/why" ]; then
 fi
 folder=$(mktemp -d)
 trap 'rm -rf "$folder"' EXIT
-cp "$shared/library"/* "$folder" && cd "$folder" || exit
+cp -P "$shared/library"/* "$folder" && cd "$folder" || exit
 
 # Whether a compiler makes programs with these flags.
 makes() {

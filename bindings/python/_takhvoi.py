@@ -112,7 +112,7 @@ def _find() -> str:
     for path in (os.path.join(here, "libtakhvoi.so"), os.path.join(here, "../../../lib/libtakhvoi.so")):
         if os.path.exists(path):
             return path
-    return ctypes.util.find_library("takhvoi") or "libtakhvoi.so"
+    return ctypes.util.find_library("takhvoi") or f"libtakhvoi.so.{ABI}"
 
 
 def _declared(library: ctypes.CDLL) -> ctypes.CDLL:

@@ -1,18 +1,53 @@
-# The library is installed below a folder: C finds it by pkg-config, Python and Rust where they lie, its man page has all that the header
-# declares, and nothing is left of it when it is uninstalled.
+# The library is installed below a folder, twice: C finds it by pkg-config and CMake, also after the folder has moved, Python and Rust where
+# they lie; its man page has all that the header declares, and nothing is left of it when it is uninstalled.
 . "$top/tests/with_library.sh"
 root=$folder/root
 run_make() {
     make -s -C "$top" LIBRARY="$folder" PREFIX="$root" "$1" 2>&1
 }
 run_make install-library
-(cd "$root" && find . -type f | sort)
+run_make install-library
+(cd "$root" && find . ! -type d | sort)
+# A program that is linked with the shared library asks for the name with the number of the header.
+shared=libtakhvoi.so.$(sed -n 's/^#define TAKHVOI_ABI //p' takhvoi.h)
+cc -std=c99 -o shared -I"$root/include" "$top/library/book.c" -L"$root/lib" -ltakhvoi
+readelf -d shared | grep -c "NEEDED.*\[$shared\]"
+LD_LIBRARY_PATH=$root/lib ./shared s.vm add Bohr 17 && LD_LIBRARY_PATH=$root/lib ./shared s.vm list
+# A file that can't be replaced stays: here no file may be as long as the library.
+sum=$(cksum <"$root/lib/libtakhvoi.a")
+(trap '' XFSZ; ulimit -f 200; run_make install-library) >full
+grep -c 'libtakhvoi.a was not installed' full
+[ "$(cksum <"$root/lib/libtakhvoi.a")" = "$sum" ] || echo "the library has changed"
+find "$root" -name '*.new'
+mv "$root" "$folder/moved"
+root=$folder/moved
 
 PKG_CONFIG_PATH=$root/lib/pkgconfig
 export PKG_CONFIG_PATH
 pkg-config --validate takhvoi && pkg-config --modversion takhvoi
 cc -std=c99 -Wall -Wextra -Werror -o program $(pkg-config --cflags takhvoi) "$top/library/book.c" $(pkg-config --libs takhvoi) &&
     ./program b.vm add Curie 29 && ./program b.vm list
+# CMake takes the static library and the shared one, and no later version than it is.
+if command -v cmake >/dev/null; then
+    mkdir project && cp "$top/library/book.c" project
+    cat >project/CMakeLists.txt <<'END'
+cmake_minimum_required(VERSION 3.13)
+project(book C)
+find_package(takhvoi 0.1 REQUIRED)
+find_package(takhvoi 0.2 QUIET)
+if(takhvoi_FOUND)
+  message(SEND_ERROR "a later version is taken")
+endif()
+find_package(takhvoi REQUIRED)
+foreach(kind takhvoi shared)
+  add_executable(book_${kind} book.c)
+  target_link_libraries(book_${kind} takhvoi::${kind})
+endforeach()
+END
+    cmake -S project -B built -DCMAKE_PREFIX_PATH="$root" >log 2>&1 && cmake --build built >>log 2>&1 || cat log
+    [ "$(built/book_takhvoi b.vm list && built/book_shared b.vm list)" = "Curie 29
+Curie 29" ] || echo "a program that CMake made lists something else"
+fi
 ! command -v python3 >/dev/null || PYTHONDONTWRITEBYTECODE=1 PYTHONPATH="$root/share/takhvoi/python" python3 -c 'import takhvoi'
 if command -v cargo >/dev/null; then
     CARGO_TARGET_DIR=$folder/target cargo build --offline --quiet --manifest-path "$root/share/takhvoi/rust/Cargo.toml" 2>&1
