@@ -42,9 +42,9 @@ class Trial(NamedTuple):
 
 
 class Tools(NamedTuple):
-    """The program that is tried, the disk, the library that leaves out syncs, and a folder for disks."""
+    """The programs that are tried, the disk, the library that leaves out syncs, and a folder for disks."""
 
-    program: str
+    programs: workloads.Programs
     disk: str
     lost_syncs: str
     folder: str
@@ -119,11 +119,11 @@ class _Place:
             os.mkdir(name)
 
 
-def _work(tools: Tools, trial: Trial, folder: str, known: Optional[dict[str, list[str]]], length: object) -> workloads.Run:
+def _work(tools: Tools, trial: Trial, folder: str, known: Optional[workloads.Known], length: object) -> workloads.Run:
     env = dict(os.environ)
     if trial.lost and known is not None:
         env.update(LD_PRELOAD=tools.lost_syncs, LOST=trial.lost)
-    run = workloads.Run(tools.program, folder, length, known, env)
+    run = workloads.Run(tools.programs, folder, length, known, env)
     (workloads.OF_GEOS | workloads.CONTROLS)[trial.workload](run)
     return run
 

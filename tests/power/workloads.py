@@ -15,6 +15,8 @@ from typing import NamedTuple, Optional
 HERE = os.path.dirname(os.path.abspath(__file__))
 ROUTINES = os.path.join(HERE, "blocks.asm")
 ABSENT = "absent"
+# The states of each file, as they were seen.
+Known = dict[str, list[str]]
 # The commits of scripts, in turn. A revert finds a saved state from then on.
 COMMITS = ("update", "save", "update", "revert")
 
@@ -41,11 +43,19 @@ class Timeline:
         return done, begun
 
 
+class Programs(NamedTuple):
+    """geos, and what commits.c makes, if there is a library."""
+
+    geos: str
+    commits: str
+
+
 class Run:
     """A run of a workload in a folder. `length` tells how long the log is. `known` has the states of each file, if they have been seen."""
 
-    def __init__(self, program: str, folder: str, length: Callable[[], int], known: Optional[dict[str, list[str]]], env: dict[str, str]) -> None:
-        self.program, self.folder, self.length, self.known, self.env = program, folder, length, known, env
+    def __init__(self, programs: Programs, folder: str, length: Callable[[], int], known: Optional[Known], env: dict[str, str]) -> None:
+        self.program, self.commits = programs
+        self.folder, self.length, self.known, self.env = folder, length, known, env
         self.timelines: dict[str, Timeline] = {}
         # Bases of SQLite, which are closed when the run is over, since a close commits more.
         self.open: list = []
@@ -88,16 +98,32 @@ class Run:
             for part in parts:
                 self.call(name, part)
             return
-        begun = self.length()
-        words = [self.program, "call", ROUTINES, "--file", self.path(name)]
+        self.lines(name, len(parts), [self.program, "call", ROUTINES, "--file", self.path(name)], "".join(parts))
+
+    def library(self, name: str, commits: int) -> None:
+        """Runs a program of the library that makes a file and commits it, and prints a line behind each."""
+        words = [self.commits, self.path(name)]
+        if self.known is not None:
+            self.lines(name, commits + 1, [*words, str(commits)])
+            return
+        for n in range(commits + 1):
+            subprocess.run([*words, str(n)], check=True, capture_output=True)
+            self.note(name, 0)
+            if n < commits:
+                os.remove(self.path(name))
+
+    def lines(self, name: str, count: int, words: list[str], given: str = "") -> None:
+        """Runs a program that prints so many lines, each behind a change of the file."""
+        begun, told = self.length(), 0
         with subprocess.Popen(words, stdin=subprocess.PIPE, stdout=subprocess.PIPE, env=self.env) as process:
-            process.stdin.write("".join(parts).encode())
+            process.stdin.write(given.encode())
             process.stdin.close()
             while got := os.read(process.stdout.fileno(), 1 << 16):
                 for _ in range(got.count(b"\n")):
                     self.note(name, begun)
-        if process.returncode != 0 or len(self.timelines[name].states) < len(parts):
-            raise RuntimeError(f"a script on {name}: status {process.returncode}")
+                    told += 1
+        if process.returncode != 0 or told != count:
+            raise RuntimeError(f"{' '.join(words)}: status {process.returncode}, {told} lines")
 
 
 def new(run: Run) -> None:
@@ -162,6 +188,13 @@ def asm(run: Run) -> None:
         text = f"routine add public budget 40\n LDI w1 {n}\n" + " OUT w1 end\n" * (1 + n * 7 % 23) + "end:\n RET\n"
         run.geos("out.image", "asm", "-", run.path("out.image"), given=text, look=look_at_bytes)
         run.geos("out.asm", "budget", "-", run.path("out.asm"), given=text, look=look_at_bytes)
+
+
+def library(run: Run) -> None:
+    """A C program makes files and commits with the library."""
+    for name in ("a.vm", "b.vm", "c.vm"):
+        run.library(name, 0)
+    run.library("library.vm", 12)
 
 
 def look_at_bytes(path: str) -> str:
@@ -250,5 +283,5 @@ def sqlite_wal(run: Run) -> None:
     _sqlite(run, "wal", "full")
 
 
-OF_GEOS = {work.__name__: work for work in (new, script, processes, many, big, put, asm)}
+OF_GEOS = {work.__name__: work for work in (new, script, processes, many, big, put, asm, library)}
 CONTROLS = {work.__name__: work for work in (no_sync, replace, sqlite_full, sqlite_extra, sqlite_wal)}
