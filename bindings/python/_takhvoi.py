@@ -66,7 +66,7 @@ class _Kernel(ctypes.Structure):
 
 
 class RawFile(ctypes.Structure):
-    """A kernel on a file of the system, or on none; its kernel is where it begins."""
+    """A kernel on a file of the system, or on none, with fd=-1; its kernel is where it begins."""
 
     _fields_ = [("kernel", _Kernel), ("fd", ctypes.c_int), ("next", ctypes.c_uint32)]
 

@@ -49,7 +49,7 @@ class Kernel:
     def __init__(self) -> None:
         # ctypes lets other threads run during a call, and no two calls may work on one kernel at once.
         self._turn = threading.RLock()
-        self._raw = RawFile()
+        self._raw = RawFile(fd=-1)
 
     @classmethod
     def in_memory(cls, area: int = AREA, region: int = REGION) -> Kernel:

@@ -37,6 +37,11 @@ class Blocks(unittest.TestCase):
         with self.refuses(1):
             self.kernel.lock(block.handle)
 
+    def test_a_kernel_in_memory_closes_no_file(self) -> None:
+        before = os.fstat(0)
+        Kernel.in_memory().close()
+        self.assertEqual(os.fstat(0).st_ino, before.st_ino)
+
     def test_chunks_change(self) -> None:
         with self.kernel.make_block() as block:
             chunk = block.make_chunk(b"abcdef")
