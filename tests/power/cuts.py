@@ -5,6 +5,7 @@ from __future__ import annotations
 import os
 import random
 import struct
+from collections.abc import Callable
 from typing import NamedTuple
 
 WRITE_BEGINS, WRITE_ENDS, FLUSH_BEGINS, FLUSH_ENDS = 1, 2, 3, 4
@@ -118,11 +119,11 @@ class Cut(NamedTuple):
     seed: int
 
 
-def choose(events: list[Event], first: int, last: int, count: int, seed: int, duties: object) -> list[Cut]:
-    """So many cuts between two events, in the order of the log, that leave different disks or, by `duties` of the length of the log, come
-    where different states have to be found; fewer if there are no more."""
+def choose(events: list[Event], moments: range, count: int, seed: int, duties: Callable[[int], object]) -> list[Cut]:
+    """So many cuts behind events of these indices, in the order of the log, that leave different disks or, by `duties` of the length of the log,
+    come where different states have to be found; fewer if there are no more."""
     choices = random.Random(seed)
-    tries = [Cut(choices.randrange(first, last + 1), choices.choice(KINDS), choices.randrange(1 << 30)) for _ in range(count * 12)]
+    tries = [Cut(choices.choice(moments), choices.choice(KINDS), choices.randrange(1 << 30)) for _ in range(count * 12)]
     cache, flushed, index, seen, distinct = Cache(), 0, 0, set(), []
     for cut in sorted(tries):
         while index <= cut.index:

@@ -10,7 +10,7 @@ import subprocess
 import tempfile
 import time
 from collections import Counter
-from collections.abc import Iterator
+from collections.abc import Callable, Iterator
 from contextlib import ExitStack, contextmanager
 from typing import NamedTuple, Optional
 
@@ -100,12 +100,11 @@ def _disk(tools: Tools, folder: str, image: str, log: str, seed: int) -> Iterato
 
 
 class _Recorded(NamedTuple):
-    """A run on the disk, with its log: the events between which the power may be cut."""
+    """A run on the disk, with its log, and behind which events the power may be cut."""
 
     run: workloads.Run
     events: list[cuts.Event]
-    first: int
-    last: int
+    moments: range
 
 
 class _Place:
@@ -119,7 +118,7 @@ class _Place:
             os.mkdir(name)
 
 
-def _work(tools: Tools, trial: Trial, folder: str, known: Optional[workloads.Known], length: object) -> workloads.Run:
+def _work(tools: Tools, trial: Trial, folder: str, known: Optional[workloads.Known], length: Callable[[], int]) -> workloads.Run:
     env = dict(os.environ)
     if trial.lost and known is not None:
         env.update(LD_PRELOAD=tools.lost_syncs, LOST=trial.lost)
@@ -153,7 +152,7 @@ def _record(tools: Tools, trial: Trial, place: _Place, seed: int) -> _Recorded:
     events = cuts.read_log(place.log)
     first = next(n for n, event in enumerate(events) if event.end >= begin)
     last = max(n for n, event in enumerate(events) if event.end <= max(end, events[first].end))
-    return _Recorded(run, events, first, last)
+    return _Recorded(run, events, range(first, last + 1))
 
 
 def _find(line: workloads.Timeline, path: str, length: int) -> str:
@@ -191,7 +190,7 @@ def run(tools: Tools, trial: Trial, count: int, seed: int) -> Counter[str]:
         place = _Place(folder)
         recorded = _record(tools, trial, place, seed)
         duties = lambda length: tuple(line.due(length) for line in recorded.run.timelines.values())
-        chosen = cuts.choose(recorded.events, recorded.first, recorded.last, count, seed, duties)
+        chosen = cuts.choose(recorded.events, recorded.moments, count, seed, duties)
         found: Counter[str] = Counter()
         cache, index = cuts.Cache(), 0
         for cut in chosen:
