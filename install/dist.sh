@@ -36,11 +36,10 @@ if [ -z "$LIBRARY" ]; then
 fi
 export LIBRARY
 
-# stage ROOT PREFIX: all that is installed, below ROOT, for use below PREFIX
+# stage ROOT: all that is installed, below ROOT
 stage() {
-    install/program.sh "$GEOS" "$1" && install/documents.sh "$1" && install/library.sh "$2" "$work/staged" &&
-        cp -RP "$work/staged/root/." "$1" && rm -rf "$work/staged" && prove "$1" >"$work/PROOF" &&
-        install -m 644 "$work/PROOF" "$1/share/doc/takhvoi/PROOF"
+    install/program.sh "$GEOS" "$1" && install/documents.sh "$1" && library/install.sh "$1" &&
+        prove "$1" >"$work/PROOF" && install -m 644 "$work/PROOF" "$1/share/doc/takhvoi/PROOF"
 }
 
 # prove ROOT: the file PROOF of what is below ROOT
@@ -56,7 +55,7 @@ prove() {
 
 archive() {
     root=$work/$name
-    stage "$root" "\${pcfiledir}/../.." && cp "$work/PROOF" "$root/PROOF" || return
+    stage "$root" && cp "$work/PROOF" "$root/PROOF" || return
     for link in README.md CHANGELOG.md docs examples; do
         ln -s "share/doc/takhvoi/$link" "$root/$link" || return
     done
@@ -67,7 +66,7 @@ archive() {
 
 package() {
     root=$work/deb
-    stage "$root/usr" /usr && mkdir "$root/DEBIAN" || return
+    stage "$root/usr" && mkdir "$root/DEBIAN" || return
     needs=$(objdump -T "$root/usr/bin/geos" "$root"/usr/lib/libtakhvoi.so* | sed -n 's/.*GLIBC_\([0-9.]*\).*/\1/p' | sort -Vu | tail -n 1)
     cat >"$root/DEBIAN/control" <<CONTROL
 Package: takhvoi

@@ -4,7 +4,7 @@
 here=$(dirname "$(readlink -f "$0")")
 cd "$(dirname "$here")" || exit
 folder=$1/share/doc/takhvoi
-for file in README.md CHANGELOG.md VERSION bench/README.md $(find docs examples -type f) library/book.c library/book.cpp library/starting.asm bindings/python/book.py; do
+for file in README.md CHANGELOG.md VERSION bench/README.md $(find docs examples -type f); do
     install -D -m 644 "$file" "$folder/$file" || exit
 done
 find "$folder" -name '*.md' | while read -r page; do

@@ -1,21 +1,12 @@
 #!/bin/sh
-# Installs the library: `library/install.sh ROOT` puts it below the folder ROOT, which may be moved afterwards: the static and the shared
-# library, the headers, the man page, files for pkg-config and CMake, what Python and Rust take, and the examples. Each file gets its name when
-# it is whole, so on a full disk an old one stays. `library/install.sh --remove ROOT` removes what was installed.
+# Puts what is installed of the library below the folder ROOT: `library/install.sh ROOT`. ROOT may be moved afterwards. There are the static and
+# the shared library, the headers, the man page, files for pkg-config and CMake, the modules for Python and Rust, and the examples.
 # If LIBRARY is a folder that library/make.sh has filled, its files are taken; otherwise library/make.sh makes them first.
 export LC_ALL=C
 top=$(dirname "$(dirname "$(readlink -f "$0")")")
 
 say() {
     echo "install.sh: $*" >&2
-}
-
-remove() {
-    list=$1/share/takhvoi/installed
-    if [ -f "$list" ]; then
-        while read -r file; do rm -f "$1/$file"; done <"$list"
-    fi
-    rm -rf "$1/share/takhvoi" "$1/lib/cmake/takhvoi"
 }
 
 # go FOLDER FILE..: prints a line for each file that goes into a folder below the root: its path there, and where it is now
@@ -27,8 +18,8 @@ go() {
 
 # Makes the files that depend on the version, and prints a line for each file that is installed.
 plan() {
-    version=$(sed -n 's/^## \([0-9][0-9.]*\).*/\1/p' "$top/CHANGELOG.md" | head -n 1)
-    date=$(date -r "$top/library/takhvoi.h" +%Y-%m-%d)
+    version=$(cat "$top/VERSION")
+    date=$(date -u -d "@${SOURCE_DATE_EPOCH:-$(stat -c %Y "$top/library/takhvoi.h")}" +%Y-%m-%d)
     for file in takhvoi.pc takhvoiConfig.cmake takhvoiConfigVersion.cmake; do
         sed "s|@VERSION@|$version|; s|@ABI@|$abi|" "$top/library/$file.in" >"$work/$file" || return
     done
@@ -45,19 +36,6 @@ plan() {
         "$top/bindings/rust/examples/book.rs"
 }
 
-# put FILE FROM: installs a file
-put() {
-    mkdir -p "$(dirname "$root/$1")" || return
-    install -m 644 "$2" "$root/$1.new" && mv -f "$root/$1.new" "$root/$1" && return
-    rm -f "$root/$1.new"
-    say "$root/$1 was not installed"
-    return 1
-}
-
-if [ "$1" = --remove ] && [ -n "$2" ]; then
-    remove "$2"
-    exit
-fi
 root=$1
 [ -n "$root" ] || { say "give the folder"; exit 2; }
 work=$(mktemp -d) || exit
@@ -69,7 +47,5 @@ if [ -z "$made" ]; then
 fi
 abi=$(sed -n 's/^#define TAKHVOI_ABI //p' "$made/takhvoi.h")
 plan >"$work/plan" || exit
-{ cut -d ' ' -f 1 "$work/plan" && echo lib/libtakhvoi.so; } >"$work/installed" || exit
-echo "share/takhvoi/installed $work/installed" >>"$work/plan"
-while read -r file from; do put "$file" "$from" || exit; done <"$work/plan"
-ln -sf "libtakhvoi.so.$abi" "$root/lib/libtakhvoi.so"
+while read -r file from; do install -D -m 644 "$from" "$root/$file" || exit; done <"$work/plan"
+ln -s "libtakhvoi.so.$abi" "$root/lib/libtakhvoi.so"

@@ -16,7 +16,7 @@ release "$folder/gate" "$folder/dist" | sed "s|$folder/||; s/$version/VERSION/"
 release "$folder/gate" "$folder/again" >/dev/null
 for file in "$folder"/dist/*; do cmp "$file" "$folder/again/$(basename "$file")"; done
 
-# uses ROOT PKGCONFIG: README's commands on the program below a folder, and a C program with its library
+# uses ROOT: README's commands on the program below a folder, and a C program with its library
 uses() (
     mkdir "$folder/use" && cd "$folder/use" || exit
     PATH=/usr/bin:/bin
@@ -26,8 +26,8 @@ uses() (
     sh -e ./commands >printed || echo "status $?"
     sed -n '1p;$p' printed
     ./geos call examples/counter.asm --file counter.vm <examples/counter.script
-    PKG_CONFIG_PATH=$2 cc -std=c99 -Wall -Wextra -Werror -o book $(PKG_CONFIG_PATH=$2 pkg-config $3 --cflags takhvoi) \
-        "$1/share/doc/takhvoi/library/book.c" $(PKG_CONFIG_PATH=$2 pkg-config $3 --libs takhvoi) && ./book b.vm add Curie 29 && ./book b.vm list
+    export PKG_CONFIG_PATH="$1/lib/pkgconfig"
+    cc -std=c99 -Wall -Wextra -Werror -o book $(pkg-config --cflags takhvoi) "$1/share/takhvoi/examples/book.c" $(pkg-config --libs takhvoi) && ./book b.vm add Curie 29 && ./book b.vm list
     for page in geos.1 geos-text.5 geos-script.5 geos-image.5 takhvoi.3; do
         [ -f "$1/share/man/man${page##*.}/$page" ] || echo "there is no page $page"
     done
@@ -37,13 +37,13 @@ mkdir archive && tar -C archive -xf "dist/takhvoi-$version-x86_64-linux.tar.gz" 
 (cd archive && ls && cd ./* && ls && ./geos <examples/add.session && sed "s/$(cat "$folder/commit")/COMMIT/; s/$version/VERSION/; s/[0-9a-f]\{64\}/SUM/; /^SUM  /d" PROOF &&
     grep -E '^[0-9a-f]{64}  ' PROOF | sha256sum -c --quiet)
 root=$(echo "$folder"/archive/*)
-uses "$root" "$root/lib/pkgconfig"
+uses "$root"
 
 mkdir -p deb/var/lib/dpkg/info deb/var/lib/dpkg/updates && : >deb/var/lib/dpkg/status
 dpkg_there() {
     dpkg --root="$folder/deb" --log=/dev/null --force-not-root --force-depends --force-script-chrootless "$@" >log 2>&1 || cat log
 }
 dpkg_there --install dist/takhvoi_*.deb
-uses "$folder/deb/usr" "$folder/deb/usr/lib/pkgconfig" "--define-variable=prefix=$folder/deb/usr"
+uses "$folder/deb/usr"
 dpkg_there --purge takhvoi
 find deb -path deb/var -prune -o ! -type d -print
