@@ -12,7 +12,7 @@ use Rattle.vm_file.specs.Kept.{Kept}
 use Rattle.vm_file.specs.Outcomes.{FindsNoBlock, ReadsOnly}
 use Rattle.vm_file.specs.State.{FileState, Finds, IsOther, ReadsFile, Steadily, pair_of}
 use Rattle.vm_file.proofs.Kept.{cut_is, finds_same, found_before, kept_alike, kept_sure, kept_torn, same_saved, written_alike, written_nothing, written_on}
-use Rattle.vm_file.proofs.Moments.{weaker, goes_on}
+use Rattle.vm_file.proofs.Moments.{weaker, goes_on, at_any_moment}
 use Rattle.vm_file.proofs.StateLaws.{steadily_read, steadily_then}
 
 -- where nothing happened, the file is as it was, and keeps what it kept
@@ -29,7 +29,13 @@ keeps_nothing Memory p k = refl
 keeps_nothing Disk p k = inl refl
 
 module _ {D : Type 0} (medium : Medium D) (how : How) (resident : ℕ → Option (List ℕ)) (cur : Directory) (old : FileState D)
-    (finds : medium.honest old.device → (c : List ℕ) → medium.may_leave old.device c → Finds medium.image old c) where
+    (finds : medium.honest old.device → (c : List ℕ) → medium.may_leave old.device c → Finds medium.image old c)
+    (at_once : (c : List ℕ) → medium.may_have_left old.device old.device c → medium.may_leave old.device c) where
+  -- what a stop at any moment leaves, by what it leaves from the start on
+  at_any : (new : FileState D) → Passes medium.may_have_left old.device new.device (FindsEither medium.image old new) → medium.honest old.device
+      → (c : List ℕ) → medium.may_have_left old.device new.device c → FindsEither medium.image old new c
+  at_any new passes h = at_any_moment medium.may_have_left old.device new.device _ passes (λ c here. inl (finds h c (at_once c here)))
+
   not_begun : (e : CommitError) → (e ≡ Disk → ⊥) → ((let r : Result (Unit {0}) CommitError = Err e in r ≡ Err Unsure) ↔ (old.sure ≡ false))
       → ((let r : Result (Unit {0}) CommitError = Err e in r ≡ Err TooBig) ↔ (old.sure ≡ true) × (old.area < length_after how cur old.saved))
       → CommitsFile medium how resident cur old old (Err e)
@@ -43,6 +49,7 @@ module _ {D : Type 0} (medium : Medium D) (how : How) (resident : ℕ → Option
     bytes = λ h. tt;
     torn = λ h is. absurd (other (err e is));
     other = λ h sure unsure. absurd cc;
+    stopped = λ h c l. inl (finds h c (at_once c l));
     either = λ h s c l. inl l;
     stop = finds;
     stays = λ h. h;
@@ -97,6 +104,7 @@ module _ {D : Type 0} (medium : Medium D) (how : How) (resident : ℕ → Option
           bytes = λ h. tt;
           torn = λ h is. written_nothing medium.image old mid.sure _ reads.same;
           other = λ h was unsure. (let is = ap (λ (f : FileState D). f.sure) r.same in absurd cc);
+          stopped = λ h. at_any mid (reads_find mid h) h;
           either = reads_find mid;
           stop = λ h c l. finds_same medium.image old mid c r.same reads.same (finds h c (reads.stop h c l));
           stays = reads.stays;
@@ -162,6 +170,7 @@ module _ {D : Type 0} (medium : Medium D) (how : How) (resident : ℕ → Option
                 ∙ written_alike medium.image (pair_spelling after) old mid r.same reads.same;
             torn = λ h is. absurd cc;
             other = λ h was unsure. (let is = ap (λ (f : FileState D). f.sure) done in absurd cc);
+            stopped = λ h. at_any new (either_then h) h;
             either = either_then;
             stop = λ h. stop (reads.stays h);
             stays = λ h. stays (reads.stays h);
@@ -190,6 +199,7 @@ module _ {D : Type 0} (medium : Medium D) (how : How) (resident : ℕ → Option
             bytes = λ h. tt;
             torn = λ h is. written_on medium.image old mid new.sure _ r.same reads.same (torn (reads.stays h));
             other = λ h was. holds h;
+            stopped = λ h. at_any new (either_then h) h;
             either = either_then;
             stop = λ h. stop (reads.stays h);
             stays = λ h. stays (reads.stays h);

@@ -4,7 +4,8 @@ use Rattle.std.proofs.lemmas.Bool.{cases_lt}
 use Rattle.std.proofs.lemmas.Result.{on_ok_weaker}
 use Rattle.vm_file.specs.declared.error.OpenError.{OpenError}
 use Rattle.vm_file.specs.Device.{FailedOnce, Medium, Passes, Rose, one_more}
-use Rattle.vm_file.specs.Outcomes.{IsCaused, ReadsOnly, ReadsToFailure}
+use Rattle.vm_file.specs.Outcomes.{IsCaused, LeavesAlike, LeavesBytes, ReadsOnly, ReadsToFailure, WritesOnly}
+use Rattle.vm_file.proofs.Touches.{touched_not}
 
 module _ {D : Type 0} (left : D → D → List ℕ → Type 0) where
   pub weaker : (old new : D) (P Q : List ℕ → Type 0) → ((c : List ℕ) → P c → Q c) → Passes left old new P → Passes left old new Q
@@ -56,3 +57,13 @@ rose before now is = elim (cases_lt (before + 1) (2 ^ 64 - 1)) [
 -- an error has the same cause where nothing failed before
 pub caused_on : (e : OpenError) (before mid now : ℕ) → mid ≡ before → IsCaused mid now e → IsCaused before now e
 caused_on e before mid now same caused = subst (λ (k : ℕ). IsCaused k now e) same caused
+
+-- what a stop at any moment of calls leaves that write in one range, and of calls that only read
+module _ {D : Type 0} (medium : Medium D) (old : D)
+    (at_once : (c : List ℕ) → medium.may_have_left old old c → medium.may_leave old c) where
+  pub leaves_bytes : (at n : ℕ) (new : D) → WritesOnly medium at n old new → LeavesBytes medium at n old new
+  leaves_bytes at n new writes h = at_any_moment medium.may_have_left old new _ (writes.time h)
+      (λ c here. (c, at_once c here, touched_not at n c))
+
+  pub leaves_alike : (new : D) → ReadsOnly medium old new → LeavesAlike medium old new
+  leaves_alike new reads h = at_any_moment medium.may_have_left old new _ (reads.time h) at_once

@@ -139,9 +139,12 @@ pub record CommitsFile {D : Type 0} (medium : Medium D)
   pub torn : medium.honest old.device → result ≡ Err Disk → MayHaveWritten medium.image old new.sure (medium.image new.device)
   -- where it turned unsure, the other area holds the new pair
   pub other : medium.honest old.device → old.sure ≡ true → new.sure ≡ false → IsOther medium.image new (kept_after medium.image resident how cur old)
-  -- what `open` finds after a stop at any moment of the call: the new pair of a commit that was refused only where the file is unsure
+  -- stopped at any moment of the call, `open` finds what the file kept before it, or what it keeps after it: the new pair of a commit that was
+  -- refused only where the file is unsure
+  pub stopped : medium.honest old.device → (c : List ℕ) → medium.may_have_left old.device new.device c → FindsEither medium.image old new c
+  -- and from any state before it on: what a stop may have left up to the call, or the same
   pub either : medium.honest old.device → Passes medium.may_have_left old.device new.device (FindsEither medium.image old new)
-  -- and after one behind it
+  -- stopped after the call, `open` finds what the file keeps then
   pub stop : medium.honest old.device → (c : List ℕ) → medium.may_leave new.device c → Finds medium.image new c
   pub stays : medium.honest old.device → medium.honest new.device
   pub was : medium.honest new.device → medium.honest old.device

@@ -63,6 +63,14 @@ pub record WritesOnly {D : Type 0} (medium : Medium D) (at n : ℕ) (old new : D
   pub stop : medium.honest old → (c : List ℕ) → medium.may_leave new c → AfterWrite at n (medium.may_leave old) c
   pub time : medium.honest old → Passes medium.may_have_left old new (AfterWrite at n (medium.may_leave old))
 
+-- stopped at any moment from the one state to the other, a device has what a stop before might have left, or that with any bytes in this range
+abbrev pub LeavesBytes : {D : Type 0} → Medium D → ℕ → ℕ → D → D → Type 0
+LeavesBytes medium at n old new = medium.honest old → (c : List ℕ) → medium.may_have_left old new c → AfterWrite at n (medium.may_leave old) c
+
+-- stopped so, a device on which nothing is written has what a stop before might have left
+abbrev pub LeavesAlike : {D : Type 0} → Medium D → D → D → Type 0
+LeavesAlike medium old new = medium.honest old → (c : List ℕ) → medium.may_have_left old new c → medium.may_leave old c
+
 -- the bytes are a heap under this handle
 abbrev pub IsHeapUnder : ℕ → List ℕ → Type 0
 IsHeapUnder h bytes = IsHeap bytes × (handle_word bytes ≡ h)

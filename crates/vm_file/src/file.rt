@@ -4,7 +4,7 @@ ghost use Rattle.std.specs.List.{Contains};
 ghost use Rattle.std.specs.Vec.{vec_len, vec_capacity};
 ghost use Rattle.vm_file.specs.Device.{FailedOnce, Only, Passes, Rose};
 ghost use Rattle.vm_file.specs.Outcomes.{BeginsWithSync, CausesDisk, CausesNoBlock, CausesNoBlocks};
-ghost use Rattle.vm_file.specs.Outcomes.{IsCaused, IsHeapUnder, IsRefused, ReadsOnly, WritesOnly};
+ghost use Rattle.vm_file.specs.Outcomes.{IsCaused, IsHeapUnder, IsRefused, LeavesAlike, LeavesBytes, ReadsOnly, WritesOnly};
 ghost use Rattle.vm_file.specs.Reading.{file_at};
 
 use crate::changes::write_area;
@@ -83,6 +83,10 @@ impl<D: Device + Drop> VmFile<D> {
         ensures writes { MatchResult result
             (λ file. WritesOnly D.medium 0 1040 device file.device)
             (λ e. WritesOnly D.medium 0 1040 device e.0) }
+        // Nor does a stop at any moment leave others.
+        ensures stopped { MatchResult result
+            (λ file. LeavesBytes D.medium 0 1040 device file.device)
+            (λ e. LeavesBytes D.medium 0 1040 device e.0) }
         ensures durable { D.medium.honest device → IfOk result (λ file. Only (D.medium.image file.device) (D.medium.may_leave file.device)) }
         ensures cause { MatchResult result
             (λ file. D.medium.failed file.device ≡ D.medium.failed device)
@@ -122,6 +126,9 @@ impl<D: Device + Drop> VmFile<D> {
         ensures reads { MatchResult result
             (λ file. ReadsOnly D.medium device file.device)
             (λ e. ReadsOnly D.medium device e.0) }
+        ensures stopped { MatchResult result
+            (λ file. LeavesAlike D.medium device file.device)
+            (λ e. LeavesAlike D.medium device e.0) }
         ensures cause { MatchResult result
             (λ file. D.medium.failed file.device ≡ D.medium.failed device)
             (λ e. IsCaused (D.medium.failed device) (D.medium.failed e.0) e.1) }

@@ -28,7 +28,8 @@ returns-then-not-self g c =
     let how = c.args.how in
     let old = c.args.self.now in
     let T : FileState g.row.D.Denot → Type 0 = λ f. f.sure ≡ false in
-    unsure_first d.medium how resident cur old (finds_before d.medium _ _ c.self.view_is c.self.invariant) (subst T c.self.view_is c.if-not-self.true)
+    unsure_first d.medium how resident cur old (finds_before d.medium _ _ c.self.view_is c.self.invariant) (g.met.D.Device.at_once old.device)
+    (subst T c.self.view_is c.if-not-self.true)
 
 pub returns-then-self-length : goal.returns-then-self-length
 returns-then-self-length g c =
@@ -39,7 +40,7 @@ returns-then-self-length g c =
     let old = c.args.self.now in
     let T : FileState g.row.D.Denot → Type 0 = λ f. f.sure ≡ true in
     let Big : FileState g.row.D.Denot → Type 0 = λ f. f.area < length_after how cur f.saved in
-    too_big_first d.medium how resident cur old (finds_before d.medium _ _ c.self.view_is c.self.invariant)
+    too_big_first d.medium how resident cur old (finds_before d.medium _ _ c.self.view_is c.self.invariant) (g.met.D.Device.at_once old.device)
     (subst T c.self.view_is c.if-not-self.false)
     (subst Big c.self.view_is (subst (λ n. c.self.inside.area < n) c.length_after-length.ensures.exact c.if-self-length.true))
 
@@ -52,7 +53,7 @@ returns-in-Err g c =
     let old = c.args.self.now in
     let T : FileState g.row.D.Denot → Type 0 = λ f. f.sure ≡ true in
     let Fits : FileState g.row.D.Denot → Type 0 = λ f. length_after how cur f.saved ≤ f.area in
-    memory_first d.medium how resident cur old (finds_before d.medium _ _ c.self.view_is c.self.invariant)
+    memory_first d.medium how resident cur old (finds_before d.medium _ _ c.self.view_is c.self.invariant) (g.met.D.Device.at_once old.device)
     (subst T c.self.view_is c.if-not-self.false)
     (subst Fits c.self.view_is (subst (λ n. n ≤ c.self.inside.area) c.length_after-length.ensures.exact c.if-self-length.false))
 
@@ -66,7 +67,8 @@ returns-in-Err-spell g c =
     let T : FileState g.row.D.Denot → Type 0 = λ f. f.sure ≡ true in
     let Fits : FileState g.row.D.Denot → Type 0 = λ f. length_after how cur f.saved ≤ f.area in
     let r = c.in-Err-spell.ensures in
-    read_failed d.medium how resident cur old (finds_before d.medium _ _ c.self.view_is c.self.invariant) (subst T c.self.view_is c.if-not-self.false)
+    read_failed d.medium how resident cur old (finds_before d.medium _ _ c.self.view_is c.self.invariant) (g.met.D.Device.at_once old.device)
+    (subst T c.self.view_is c.if-not-self.false)
     (subst Fits c.self.view_is (subst (λ n. n ≤ c.self.inside.area) c.length_after-length.ensures.exact c.if-self-length.false))
     c.spell.new.self _ r.read r.cause r.no_block r.no_read
 
@@ -83,7 +85,8 @@ returns-in-Ok-select g c =
     let s = c.in-Ok-select.ensures in
     let S : List ℕ → Type 0 = λ l. Spells (current_after how cur old.saved) (saved_after how cur old.saved)
     (kept_after d.medium.image resident how cur old) l in
-    selected d.medium how resident cur old (finds_before d.medium _ _ c.self.view_is c.self.invariant) (subst T c.self.view_is c.if-not-self.false)
+    selected d.medium how resident cur old (finds_before d.medium _ _ c.self.view_is c.self.invariant) (g.met.D.Device.at_once old.device)
+    (subst T c.self.view_is c.if-not-self.false)
     (subst Fits c.self.view_is (subst (λ n. n ≤ c.self.inside.area) c.length_after-length.ensures.exact c.if-self-length.false))
     c.spell.new.self _ r.read
     c.select.new.self c.deref.result.now r.read.read.ok (λ h. subst S (sym c.deref.ensures.value) (r.spelled h))
@@ -102,7 +105,7 @@ returns g c =
     let s = c.in-Err-select.ensures in
     let S : List ℕ → Type 0 = λ l. Spells (current_after how cur old.saved) (saved_after how cur old.saved)
     (kept_after d.medium.image resident how cur old) l in
-    not_selected d.medium how resident cur old (finds_before d.medium _ _ c.self.view_is c.self.invariant)
+    not_selected d.medium how resident cur old (finds_before d.medium _ _ c.self.view_is c.self.invariant) (g.met.D.Device.at_once old.device)
     (subst T c.self.view_is c.if-not-self.false)
     (subst Fits c.self.view_is (subst (λ n. n ≤ c.self.inside.area) c.length_after-length.ensures.exact c.if-self-length.false))
     c.spell.new.self _ r.read

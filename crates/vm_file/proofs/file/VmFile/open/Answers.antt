@@ -4,6 +4,7 @@ use Rattle.vm_file.specs.declared.directory.Directory.{Directory}
 use Rattle.vm_file.specs.Reading.{File, file_at}
 use Rattle.vm_file.specs.State.{FileState, IsSound, file_of}
 use Rattle.vm_file.proofs.StateLaws.{opens, opens_sound}
+use Rattle.vm_file.proofs.Moments.{leaves_alike}
 use Rattle.vm_file.proofs.Given.{begins_so}
 use Rattle.vm_file.proofs.file.VmFile.open.Goals as goal
 
@@ -47,3 +48,11 @@ returns-in-Ok-clause-begins g c = begins_so g.D.Device.medium _ _ c.args.device 
 
 pub returns-in-Err-clause-begins : goal.returns-in-Err-clause-begins
 returns-in-Err-clause-begins g c = begins_so g.D.Device.medium _ _ c.args.device c.read_file.new.device (λ is. cc) c.in-Err.ensures.begins
+
+pub returns-in-Ok-clause-stopped : goal.returns-in-Ok-clause-stopped
+returns-in-Ok-clause-stopped g c = leaves_alike g.D.Device.medium c.args.device (g.met.D.Device.at_once c.args.device)
+    c.read_file.new.device c.in-Ok.ensures.reads
+
+pub returns-in-Err-clause-stopped : goal.returns-in-Err-clause-stopped
+returns-in-Err-clause-stopped g c = leaves_alike g.D.Device.medium c.args.device (g.met.D.Device.at_once c.args.device)
+    c.read_file.new.device c.in-Err.ensures.reads
