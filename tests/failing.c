@@ -1,7 +1,7 @@
 // The calls of the system that read, write and sync a file, of which some fail or stop the program. FAILING says which and how, as
 // `CALL FIRST LAST HOW`: of the calls of this name, or of all where it is `any`, those from FIRST to LAST, counted from 1. Their names are
 // read, write, fdatasync, fsync and ftruncate; a read or write without an offset is stream-read or stream-write, which are not among any,
-// add no line, and never are of the standard error. HOW is
+// add no line, and never are of the standard error; statx, unlink and flock are not among any either, and add no line. HOW is
 //   fail       EIO, with nothing done
 //   fail-half  EIO, behind the first half of the bytes of a write
 //   fail-all   EIO, behind all bytes of a write
@@ -11,6 +11,7 @@
 //   part-fail  EIO, with nothing done, and before FIRST each call is as with part
 //   byte       one byte is read or written, and the call says so
 //   again      EINTR, with nothing done
+//   busy       EAGAIN, with nothing done
 // Each call adds a line to the file that CALLS names: its name, and its offset and length where it has them.
 #define _GNU_SOURCE
 #include <dlfcn.h>
@@ -20,6 +21,7 @@
 #include <stdio.h>
 #include <stdlib.h>
 #include <string.h>
+#include <sys/stat.h>
 #include <unistd.h>
 
 enum how { DO, FAIL, STOP, PART, BYTE, AGAIN };
@@ -52,6 +54,7 @@ static enum how wanted_begun(int file, const void *bytes, size_t count, off64_t 
     if (!strcmp(how, "part") && count > 1) return PART;
     if (!strcmp(how, "byte") && count > 1) return BYTE;
     if (!strcmp(how, "again")) return errno = EINTR, AGAIN;
+    if (!strcmp(how, "busy")) return errno = EAGAIN, AGAIN;
     return DO;
 }
 
@@ -121,4 +124,22 @@ int ftruncate(int file, off_t length) {
     int (*call)(int, off_t) = next("ftruncate");
     enum how now = begun("ftruncate", file, NULL, 0, 0);
     return now == FAIL || now == AGAIN ? -1 : call(file, length);
+}
+
+// Whether a call that is not among any is refused.
+static int is_refused(const char *name) { return !strcmp(wanted, name) && wanted_begun(-1, NULL, 0, 0) != DO; }
+
+int statx(int folder, const char *path, int flags, unsigned mask, struct statx *found) {
+    int (*call)(int, const char *, int, unsigned, struct statx *) = next("statx");
+    return is_refused("statx") ? -1 : call(folder, path, flags, mask, found);
+}
+
+int unlink(const char *path) {
+    int (*call)(const char *) = next("unlink");
+    return is_refused("unlink") ? -1 : call(path);
+}
+
+int flock(int file, int operation) {
+    int (*call)(int, int) = next("flock");
+    return is_refused("flock") ? -1 : call(file, operation);
 }

@@ -1,7 +1,7 @@
 //! A file that is made whole, or not at all.
 
-use crate::parts::{Part, folder_of};
-use crate::streams::StreamFault;
+use crate::parts::{Part, PartFault, folder_of};
+use crate::streams::{StreamFault, not_written};
 use std::fs::{self, File};
 use std::io::{self, ErrorKind};
 
@@ -29,21 +29,13 @@ fn sync_folder(rt: &HostRuntime, folder: &str) -> io::Result<()> {
     File::open(rt, folder)?.sync_all()
 }
 
-/// Why the file with the path was not made.
-fn fault<'a>(path: &'a str, error: &io::Error) -> StreamFault<'a> {
-    match error.kind() {
-        ErrorKind::OutOfMemory => StreamFault::Memory,
-        _ => StreamFault::Write(path),
-    }
-}
-
 impl<'a> NewFile<'a> {
     /// Begins to make the file with the path, which is empty so far. `StreamFault::Write` where something has that path, also a link that
     /// leads nowhere, or where no file can be made.
     pub fn begin(rt: &HostRuntime, path: &'a str) -> Result<NewFile<'a>, StreamFault<'a>> {
         match begun(rt, path) {
             Ok(part) => Ok(NewFile { path, part }),
-            Err(error) => Err(fault(path, &error)),
+            Err(error) => Err(not_written(path, PartFault::System(error))),
         }
     }
 
@@ -51,23 +43,23 @@ impl<'a> NewFile<'a> {
     pub fn file(&self) -> Result<File, StreamFault<'a>> {
         match self.part.file.try_clone() {
             Ok(file) => Ok(file),
-            Err(error) => Err(fault(self.path, &error)),
+            Err(error) => Err(not_written(self.path, PartFault::System(error))),
         }
     }
 
     /// Gives the file its path, which lasts then. `StreamFault::Write` where something has got that path meanwhile, or where the system
-    /// refuses: then nothing is left.
+    /// refuses: then nothing is left. `StreamFault::Left` where the file has its path, but its part can't be removed.
     pub fn finish(self, rt: &HostRuntime) -> Result<(), StreamFault<'a>> {
         let NewFile { path, part } = self;
-        if let Err(error) = part.give_path(rt, path) {
-            part.discard(rt);
-            return Err(fault(path, &error));
-        }
+        let _locked = match part.give_path(rt, path) {
+            Ok(file) => file,
+            Err(fault) => return Err(not_written(path, fault)),
+        };
         match sync_folder(rt, folder_of(path)) {
             Ok(()) => Ok(()),
             Err(error) => {
                 let _ = fs::remove_file(rt, path);
-                Err(fault(path, &error))
+                Err(not_written(path, PartFault::System(error)))
             }
         }
     }

@@ -4,11 +4,22 @@ use crate::file_id::FileId;
 use std::alloc::{AllocError, Global};
 use std::fs::{self, File, OpenOptions, TryLockError};
 use std::io::{self, ErrorKind};
-use std::os::unix::fs::OpenOptionsExt;
+use std::os::unix::fs::{MetadataExt, OpenOptionsExt};
+use std::thread;
+use std::time::Duration;
+
+/// How many names a part may have in one folder.
+const MOST_NAMES: u32 = 100;
 
 /// How many names of parts are looked through for what stopped runs have left. More than one is there where runs were stopped that
 /// worked in one folder at once.
 const LOOKED_THROUGH: u32 = 16;
+
+/// How often the lock on a part that was just made is asked for.
+const MOST_TRIES: u32 = 5;
+
+/// How long after one another it is asked for, in milliseconds.
+const PAUSE: u64 = 1;
 
 /// A file that is being made in the folder of the one that it becomes, under a name that no other program uses. It is locked while it
 /// is worked on. So one that nobody has locked was left by a run that was stopped, and the next run in the folder removes it.
@@ -38,11 +49,47 @@ fn is_named(rt: &HostRuntime, name: &str, file: &File) -> io::Result<bool> {
     Ok(FileId::of(&open) == FileId::of(&named))
 }
 
-/// Whether the file, which was made under the name, is this run's: another one may have taken it for one that was left, before it was
-/// locked. Where the system has no locks, nobody does.
-fn is_own(rt: &HostRuntime, name: &str, file: &File) -> bool {
-    !matches!(file.try_lock(), Err(TryLockError::WouldBlock))
-        && matches!(is_named(rt, name, file), Ok(true))
+/// Takes the lock on a file that was just made; `false` if another program keeps it. A run that removes the file has it for a moment.
+/// On a system without locks nobody does.
+fn has_lock(rt: &HostRuntime, file: &File) -> bool {
+    for _ in 0..MOST_TRIES {
+        if !matches!(file.try_lock(), Err(TryLockError::WouldBlock)) {
+            return true;
+        }
+        thread::sleep(rt, Duration::from_millis(PAUSE));
+    }
+    false
+}
+
+/// Whether the open file, which was made under the name, has a name still. Not every file system counts the names of a file.
+fn has_name(rt: &HostRuntime, name: &str, file: &File) -> io::Result<bool> {
+    Ok(file.metadata()?.nlink() > 0 || matches!(is_named(rt, name, file), Ok(true)))
+}
+
+/// Removes the name of a file that is not used, unless another run has removed it.
+fn remove_unused(rt: &HostRuntime, name: &str) -> io::Result<()> {
+    match fs::remove_file(rt, name) {
+        Err(error) if error.kind() != ErrorKind::NotFound => Err(error),
+        _ => Ok(()),
+    }
+}
+
+/// The file, which was made under the name, if this run can use it. Another run may have taken it for one that was left, before it was
+/// locked, and removed it. A file that is not used is removed.
+fn own(rt: &HostRuntime, name: &str, file: File) -> io::Result<Option<File>> {
+    let locked = has_lock(rt, &file);
+    match has_name(rt, name, &file) {
+        Ok(true) if locked => Ok(Some(file)),
+        Ok(true) => {
+            remove_unused(rt, name)?;
+            Ok(None)
+        }
+        Ok(false) => Ok(None),
+        Err(error) => {
+            remove_unused(rt, name)?;
+            Err(error)
+        }
+    }
 }
 
 /// Makes a file under the name, where there is none of that name.
@@ -50,8 +97,7 @@ fn made(rt: &HostRuntime, name: &str, mode: u32) -> io::Result<Option<File>> {
     let mut how = OpenOptions::new();
     how.read(true).write(true).create_new(true).mode(mode);
     match how.open(rt, name) {
-        Ok(file) if is_own(rt, name, &file) => Ok(Some(file)),
-        Ok(_) => Ok(None),
+        Ok(file) => own(rt, name, file),
         Err(error) if error.kind() == ErrorKind::AlreadyExists => Ok(None),
         Err(error) => Err(error),
     }
@@ -68,6 +114,21 @@ fn remove_left(rt: &HostRuntime, name: &str, kept: Option<FileId>) -> io::Result
         fs::remove_file(rt, name)?;
     }
     Ok(())
+}
+
+/// Why a part did not become a file, or not that only.
+#[derive(Drop)]
+pub(crate) enum PartFault {
+    /// The system refused it. It is removed, if the system lets it be.
+    System(io::Error),
+    /// It is the file that it was to become, but has this name too, which can't be removed.
+    Left(String),
+}
+
+impl From<io::Error> for PartFault {
+    fn from(error: io::Error) -> PartFault {
+        PartFault::System(error)
+    }
 }
 
 /// Gives the file the path by a rename. An empty file takes the path first, since a rename would replace one that has come meanwhile.
@@ -93,7 +154,7 @@ impl Part {
         for n in 0..LOOKED_THROUGH {
             let _ = remove_left(rt, &part_name(rt.alloc(), folder, n)?, kept);
         }
-        for n in 0..u32::MAX {
+        for n in 0..MOST_NAMES {
             let name = part_name(rt.alloc(), folder, n)?;
             if let Some(file) = made(rt, &name, mode)? {
                 return Ok(Part { name, file });
@@ -102,19 +163,41 @@ impl Part {
         Err(io::Error::from(ErrorKind::AlreadyExists))
     }
 
-    /// Gives it the path, if nothing has that: by a link, which replaces nothing, or on a file system without links by a rename. After
-    /// an error it is still a part.
-    pub(crate) fn give_path(&self, rt: &HostRuntime, path: &str) -> io::Result<()> {
+    /// Gives it the path, if nothing has that: by a link, which replaces nothing, or on a file system without links by a rename. Gives
+    /// the open file, which is locked still.
+    pub(crate) fn give_path(self, rt: &HostRuntime, path: &str) -> Result<File, PartFault> {
         let part = self.name.as_str();
-        match fs::hard_link(rt, part, path) {
-            Ok(()) => {
-                // A second name that can't be removed is removed by the next run.
-                let _ = fs::remove_file(rt, part);
-                Ok(())
-            }
+        let given = match fs::hard_link(rt, part, path) {
+            Ok(()) => return self.without_second_name(rt),
             Err(error) if error.kind() == ErrorKind::AlreadyExists => Err(error),
             Err(_) => rename_to_free(rt, part, path),
+        };
+        match given {
+            Ok(()) => Ok(self.file),
+            Err(error) => Err(self.failed(rt, error)),
         }
+    }
+
+    /// Gives it the path in the place of the file that has that.
+    pub(crate) fn replace(self, rt: &HostRuntime, path: &str) -> Result<(), PartFault> {
+        match fs::rename(rt, self.name.as_str(), path) {
+            Ok(()) => Ok(()),
+            Err(error) => Err(self.failed(rt, error)),
+        }
+    }
+
+    /// Removes the name that it had before it got its path.
+    fn without_second_name(self, rt: &HostRuntime) -> Result<File, PartFault> {
+        match fs::remove_file(rt, self.name.as_str()) {
+            Ok(()) => Ok(self.file),
+            Err(_) => Err(PartFault::Left(self.name)),
+        }
+    }
+
+    /// Removes it, since the system refused something; and says so.
+    pub(crate) fn failed(self, rt: &HostRuntime, error: io::Error) -> PartFault {
+        self.discard(rt);
+        PartFault::System(error)
     }
 
     /// Removes it: it does not become a file.

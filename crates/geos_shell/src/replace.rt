@@ -3,7 +3,7 @@
 use crate::file_id::{FileId, regular_at};
 use crate::kept::is_kept;
 use crate::output::{faults_go_into, goes_into};
-use crate::parts::Part;
+use crate::parts::{Part, PartFault};
 use crate::streams::put;
 use std::fs::{self, File, Metadata, Permissions};
 use std::io::{self, ErrorKind, Write};
@@ -141,19 +141,15 @@ fn put_whole(
     there: Option<Attributes>,
     bytes: &[u8],
     source: &str,
-) -> io::Result<()> {
+) -> Result<(), PartFault> {
     // Nobody gets a right to it that he has not to the one that is there.
     let mode = there.map_or(ANY, |there| there.mode & OWNER);
     let part = Part::beside(rt, path.as_str(), mode, regular_at(rt, source))?;
-    let done = match fill(&part.file, there, bytes) {
-        Ok(()) if there.is_some() => fs::rename(rt, part.name.as_str(), path),
-        Ok(()) => part.give_path(rt, path.as_str()),
-        failed => failed,
-    };
-    if done.is_err() {
-        part.discard(rt);
+    match fill(&part.file, there, bytes) {
+        Ok(()) if there.is_some() => part.replace(rt, path.as_str()),
+        Ok(()) => part.give_path(rt, path.as_str()).map(|_file| ()),
+        Err(error) => Err(part.failed(rt, error)),
     }
-    done
 }
 
 /// Writes the bytes into what has the path, or makes a file.
@@ -167,20 +163,20 @@ fn is_there() -> io::Error {
 }
 
 /// Puts the bytes in the place of the file that the path leads to.
-fn replace_file(rt: &HostRuntime, path: &str, bytes: &[u8], source: &str) -> io::Result<()> {
+fn replace_file(rt: &HostRuntime, path: &str, bytes: &[u8], source: &str) -> Result<(), PartFault> {
     let named = behind_links(rt, path)?;
     match found(rt, named.as_str())? {
-        None => write_into(rt, path, bytes),
+        None => Ok(write_into(rt, path, bytes)?),
         there => put_whole(rt, named.as_path(), there, bytes, source),
     }
 }
 
 /// Makes the file that the path leads to, where there was none. An error where one has come since.
-fn make_file(rt: &HostRuntime, path: &str, bytes: &[u8], source: &str) -> io::Result<()> {
+fn make_file(rt: &HostRuntime, path: &str, bytes: &[u8], source: &str) -> Result<(), PartFault> {
     let named = behind_links(rt, path)?;
     match found(rt, named.as_str())? {
         None => put_whole(rt, named.as_path(), None, bytes, source),
-        Some(_) => Err(is_there()),
+        Some(_) => Err(is_there().into()),
     }
 }
 
@@ -191,16 +187,16 @@ fn put_into_file(
     file: FileId,
     bytes: &[u8],
     source: &str,
-) -> io::Result<()> {
+) -> Result<(), PartFault> {
     if is_kept(rt, path, source)? {
-        return Err(is_there());
+        return Err(is_there().into());
     }
     // A rename would take it from under the standard streams, and what has gone into them would be lost.
     if goes_into(rt, file) {
-        return put(rt, bytes);
+        return Ok(put(rt, bytes)?);
     }
     if faults_go_into(rt, file) {
-        return Err(is_there());
+        return Err(is_there().into());
     }
     replace_file(rt, path, bytes, source)
 }
@@ -210,10 +206,15 @@ fn put_into_file(
 /// the owner. After an error the file is as it was; it is one where the file is the source itself, a VM file, or that of standard error.
 /// What is no file, as a device or a pipe, is written into, and so is the file that the standard output goes into, and one that has no
 /// name any more.
-pub(crate) fn replace(rt: &HostRuntime, path: &str, bytes: &[u8], source: &str) -> io::Result<()> {
+pub(crate) fn replace(
+    rt: &HostRuntime,
+    path: &str,
+    bytes: &[u8],
+    source: &str,
+) -> Result<(), PartFault> {
     match found(rt, path)? {
         None => make_file(rt, path, bytes, source),
         Some(led_to) if led_to.is_file => put_into_file(rt, path, led_to.id, bytes, source),
-        Some(_) => write_into(rt, path, bytes),
+        Some(_) => Ok(write_into(rt, path, bytes)?),
     }
 }

@@ -1,6 +1,7 @@
 //! What is read of files and of the standard input, and written to them or to the standard output.
 
 use crate::output::{keep_from_image, keep_from_output};
+use crate::parts::PartFault;
 use crate::printable::{Named, for_terminal};
 use crate::replace::replace;
 use std::alloc::Global;
@@ -23,8 +24,20 @@ pub enum StreamFault<'a> {
     Read(&'a str),
     #[error("cannot write {}", Named(.0))]
     Write(&'a str),
+    /// The file is written, but a part of this name, which is a second name of it, can't be removed.
+    #[error("cannot remove {}", Named(.0.as_str()))]
+    Left(String),
     #[error("memory")]
     Memory,
+}
+
+/// Why the file with the path was not written, or not that only.
+pub(crate) fn not_written<'a>(path: &'a str, fault: PartFault) -> StreamFault<'a> {
+    match fault {
+        PartFault::Left(name) => StreamFault::Left(name),
+        PartFault::System(error) if error.kind() == ErrorKind::OutOfMemory => StreamFault::Memory,
+        PartFault::System(_) => StreamFault::Write(path),
+    }
 }
 
 /// The first bytes, at most so many.
@@ -95,7 +108,8 @@ pub(crate) fn name_of(path: &str) -> &str {
 
 /// Puts the bytes, which are made of what `source` names, into the file with the path, in the place of what it has; prints them where
 /// the path is `-`. `StreamFault::Write` also where the file is the source itself, or a VM file, also as the standard
-/// output; it is as it was then.
+/// output; it is as it was then. `StreamFault::Left` where the file is
+/// written, but its part can't be removed.
 pub fn write<'a>(
     rt: &HostRuntime,
     path: &'a str,
@@ -108,7 +122,6 @@ pub fn write<'a>(
     }
     match replace(rt, path, bytes, name_of(source)) {
         Ok(()) => Ok(()),
-        Err(error) if error.kind() == ErrorKind::OutOfMemory => Err(StreamFault::Memory),
-        Err(_) => Err(StreamFault::Write(path)),
+        Err(fault) => Err(not_written(path, fault)),
     }
 }
