@@ -1,6 +1,6 @@
 //! A file that is made whole, or not at all.
 
-use crate::parts::{Part, PartFault, folder_of};
+use crate::parts::{Part, PartFault};
 use crate::streams::{StreamFault, not_written};
 use std::fs::{self, File};
 use std::io::{self, ErrorKind};
@@ -22,11 +22,6 @@ fn begun(rt: &HostRuntime, path: &str) -> io::Result<Part> {
         Err(error) if error.kind() == ErrorKind::NotFound => Part::beside(rt, path, ANY, None),
         Err(error) => Err(error),
     }
-}
-
-/// Makes last which files a folder has.
-fn sync_folder(rt: &HostRuntime, folder: &str) -> io::Result<()> {
-    File::open(rt, folder)?.sync_all()
 }
 
 impl<'a> NewFile<'a> {
@@ -51,16 +46,9 @@ impl<'a> NewFile<'a> {
     /// refuses: then nothing is left. `StreamFault::Left` where the file has its path, but its part can't be removed.
     pub fn finish(self, rt: &HostRuntime) -> Result<(), StreamFault<'a>> {
         let NewFile { path, part } = self;
-        let _locked = match part.give_path(rt, path) {
-            Ok(file) => file,
-            Err(fault) => return Err(not_written(path, fault)),
-        };
-        match sync_folder(rt, folder_of(path)) {
+        match part.give_path(rt, path) {
             Ok(()) => Ok(()),
-            Err(error) => {
-                let _ = fs::remove_file(rt, path);
-                Err(not_written(path, PartFault::System(error)))
-            }
+            Err(fault) => Err(not_written(path, fault)),
         }
     }
 

@@ -25,12 +25,13 @@ const PAUSE: u64 = 1;
 /// is worked on. So one that nobody has locked was left by a run that was stopped, and the next run in the folder removes it.
 #[derive(Drop)]
 pub(crate) struct Part {
-    pub(crate) name: String,
+    name: String,
     pub(crate) file: File,
+    folder: File,
 }
 
 /// The folder that a path stands in.
-pub(crate) fn folder_of(path: &str) -> &str {
+fn folder_of(path: &str) -> &str {
     match path.rsplit_once('/') {
         Some(("", _)) => "/",
         Some((folder, _)) => folder,
@@ -116,6 +117,19 @@ fn remove_left(rt: &HostRuntime, name: &str, kept: Option<FileId>) -> io::Result
     Ok(())
 }
 
+/// Gives the file the path, if nothing has that: by a link, which replaces nothing, or on a file system without links by a rename.
+/// `true` if it has its own name too then.
+fn take_free(rt: &HostRuntime, part: &str, path: &str) -> io::Result<bool> {
+    match fs::hard_link(rt, part, path) {
+        Ok(()) => Ok(true),
+        Err(error) if error.kind() == ErrorKind::AlreadyExists => Err(error),
+        Err(_) => {
+            rename_to_free(rt, part, path)?;
+            Ok(false)
+        }
+    }
+}
+
 /// Why a part did not become a file, or not that only.
 #[derive(Drop)]
 pub(crate) enum PartFault {
@@ -143,55 +157,54 @@ fn rename_to_free(rt: &HostRuntime, part: &str, path: &str) -> io::Result<()> {
 
 impl Part {
     /// Makes an empty part in the folder of the path, with the permissions but those that the user's mask takes away. What stopped runs
-    /// have left there is removed first, but for one file that is to be kept; what can't be removed is left.
+    /// have left there is removed first, but for one file that is to be kept; what can't be removed is left. An error also where the
+    /// folder can't be read, since it can't be synced then.
     pub(crate) fn beside(
         rt: &HostRuntime,
         path: &str,
         mode: u32,
         kept: Option<FileId>,
     ) -> io::Result<Part> {
-        let folder = folder_of(path);
+        let name = folder_of(path);
+        let folder = File::open(rt, name)?;
         for n in 0..LOOKED_THROUGH {
-            let _ = remove_left(rt, &part_name(rt.alloc(), folder, n)?, kept);
+            let _ = remove_left(rt, &part_name(rt.alloc(), name, n)?, kept);
         }
         for n in 0..MOST_NAMES {
-            let name = part_name(rt.alloc(), folder, n)?;
+            let name = part_name(rt.alloc(), name, n)?;
             if let Some(file) = made(rt, &name, mode)? {
-                return Ok(Part { name, file });
+                return Ok(Part { name, file, folder });
             }
         }
         Err(io::Error::from(ErrorKind::AlreadyExists))
     }
 
-    /// Gives it the path, if nothing has that: by a link, which replaces nothing, or on a file system without links by a rename. Gives
-    /// the open file, which is locked still.
-    pub(crate) fn give_path(self, rt: &HostRuntime, path: &str) -> Result<File, PartFault> {
-        let part = self.name.as_str();
-        let given = match fs::hard_link(rt, part, path) {
-            Ok(()) => return self.without_second_name(rt),
-            Err(error) if error.kind() == ErrorKind::AlreadyExists => Err(error),
-            Err(_) => rename_to_free(rt, part, path),
+    /// Gives it the path, which lasts then, if nothing has that. It is locked until the path lasts. Where that can't be made last, it is
+    /// removed.
+    pub(crate) fn give_path(self, rt: &HostRuntime, path: &str) -> Result<(), PartFault> {
+        let has_two_names = match take_free(rt, self.name.as_str(), path) {
+            Ok(has_two_names) => has_two_names,
+            Err(error) => return Err(self.failed(rt, error)),
         };
-        match given {
-            Ok(()) => Ok(self.file),
-            Err(error) => Err(self.failed(rt, error)),
+        if has_two_names && fs::remove_file(rt, self.name.as_str()).is_err() {
+            return Err(PartFault::Left(self.name));
         }
-    }
-
-    /// Gives it the path in the place of the file that has that.
-    pub(crate) fn replace(self, rt: &HostRuntime, path: &str) -> Result<(), PartFault> {
-        match fs::rename(rt, self.name.as_str(), path) {
+        match self.folder.sync_all() {
             Ok(()) => Ok(()),
-            Err(error) => Err(self.failed(rt, error)),
+            Err(error) => {
+                let _ = fs::remove_file(rt, path);
+                Err(PartFault::System(error))
+            }
         }
     }
 
-    /// Removes the name that it had before it got its path.
-    fn without_second_name(self, rt: &HostRuntime) -> Result<File, PartFault> {
-        match fs::remove_file(rt, self.name.as_str()) {
-            Ok(()) => Ok(self.file),
-            Err(_) => Err(PartFault::Left(self.name)),
+    /// Gives it the path in the place of the file that has that, and lasts there then. After an error of the last step, the sync of the
+    /// folder, it has the path all the same.
+    pub(crate) fn replace(self, rt: &HostRuntime, path: &str) -> Result<(), PartFault> {
+        if let Err(error) = fs::rename(rt, self.name.as_str(), path) {
+            return Err(self.failed(rt, error));
         }
+        Ok(self.folder.sync_all()?)
     }
 
     /// Removes it, since the system refused something; and says so.

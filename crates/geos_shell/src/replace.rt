@@ -134,7 +134,7 @@ fn fill(mut file: &File, there: Option<Attributes>, bytes: &[u8]) -> io::Result<
 }
 
 /// Puts the bytes beside the file with the path, and renames the whole one, which takes after the one that is there. Where none is there, the
-/// whole one takes the path, if nothing has come that has it. What `source` names is not removed for a part that was left.
+/// whole one takes the path, if nothing has come that has it. It lasts then. What `source` names is not removed for a part that was left.
 fn put_whole(
     rt: &HostRuntime,
     path: Path<'_>,
@@ -147,7 +147,7 @@ fn put_whole(
     let part = Part::beside(rt, path.as_str(), mode, regular_at(rt, source))?;
     match fill(&part.file, there, bytes) {
         Ok(()) if there.is_some() => part.replace(rt, path.as_str()),
-        Ok(()) => part.give_path(rt, path.as_str()).map(|_file| ()),
+        Ok(()) => part.give_path(rt, path.as_str()),
         Err(error) => Err(part.failed(rt, error)),
     }
 }
@@ -202,10 +202,10 @@ fn put_into_file(
 }
 
 /// Puts the bytes, which are made of what `source` names, in the place of the file's, or makes the file: they are written beside it, and
-/// the whole file is renamed. A link stays, and the file that it leads to is replaced; the permissions stay, and where the system lets it
-/// the owner. After an error the file is as it was; it is one where the file is the source itself, a VM file, or that of standard error.
-/// What is no file, as a device or a pipe, is written into, and so is the file that the standard output goes into, and one that has no
-/// name any more.
+/// the whole file is renamed, and lasts then. A link stays, and the file that it leads to is replaced; the permissions stay, and where the
+/// system lets it the owner. After an error the file is as it was, or is the new one if only its folder was not synced; it is an error where
+/// the file is the source itself, a VM file, or that of standard error. What is no file, as a device or a pipe, is written into, and so is
+/// the file that the standard output goes into, and one that has no name any more.
 pub(crate) fn replace(
     rt: &HostRuntime,
     path: &str,
