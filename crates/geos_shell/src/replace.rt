@@ -10,7 +10,7 @@ use std::io::{self, ErrorKind, Write};
 use std::os::unix::fs::{MetadataExt, PermissionsExt, fchown};
 use std::path::{Path, PathBuf};
 
-/// The most links that are followed from one to the next.
+/// The most links that are followed from one to the next, as many as the system follows.
 const MOST_LINKS: u32 = 40;
 
 /// Whether the system says that a path names no link: a file, a folder, or nothing that is there.
@@ -22,7 +22,8 @@ fn is_of_no_link(error: &io::Error) -> bool {
 /// does not say so: else a link might be replaced in the place of its file.
 fn behind_links(rt: &HostRuntime, path: &str) -> io::Result<PathBuf> {
     let mut path = PathBuf::from_str(rt.alloc(), path)?;
-    for _ in 0..MOST_LINKS {
+    // After the last link it is asked once more, which tells that no link is there.
+    for _ in 0..=MOST_LINKS {
         match fs::read_link(rt, path.as_path()) {
             Ok(target) => {
                 path.pop();
