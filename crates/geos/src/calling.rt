@@ -3,13 +3,13 @@
 ghost use Rattle.vm_blocks.specs.Listed.{NoneLocked};
 ghost use Rattle.geos_shell.specs.Limits.{IsRegion};
 
-use crate::files::{Unlocked, open_unlocked, opened};
+use crate::files::{Locked, locked, opened};
 use crate::images::{MOST_READ, read_image};
 use crate::manner::{Manner, run_call_on, run_script_on};
 use crate::request_fault::RequestFault;
 use geos_cli::ScriptFault;
 use geos_kernel::{Kernel, kernel_in_memory};
-use geos_shell::{CallWords, Sharing, read};
+use geos_shell::{CallWords, Lockable, Sharing, read};
 use vm_file::{Device, FileDevice, VmFile};
 
 /// The path of the standard input.
@@ -95,12 +95,12 @@ fn work_on_file<'a>(
 ) -> Result<(), RequestFault<'a>>
     requires { IsRegion region }
 {
-    let Unlocked {
-        device,
-        file: lockable,
-    } = open_unlocked(rt, path, Sharing::Alone)?;
+    let file = Lockable::open(rt, path, Sharing::Alone)?;
     let work = work_of(rt, call);
-    let _lock = lockable.wait(rt)?;
+    let Locked {
+        device,
+        lock: _lock,
+    } = locked(rt, file)?;
     let file = opened(rt, device)?;
     let work = work?;
     work_in(rt, manner, image, &work, region, file)

@@ -2,11 +2,11 @@
 
 ghost use Rattle.geos_shell.specs.Limits.{IsRegion};
 
-use crate::files::{Unlocked, open_unlocked, opened};
+use crate::files::{Locked, lock_to_read, locked, opened};
 use crate::request_fault::RequestFault;
 use geos_cli::{Place, ScriptFault, get_bytes, put_bytes};
 use geos_kernel::Kernel;
-use geos_shell::{ChunkPath, Sharing, print, read};
+use geos_shell::{ChunkPath, Lockable, Sharing, print, read};
 use vm_file::{FileDevice, VmFile};
 
 /// The path of the standard input.
@@ -54,12 +54,12 @@ pub(crate) fn put<'a>(
 ) -> Result<(), RequestFault<'a>>
     requires { IsRegion region }
 {
-    let Unlocked {
-        device,
-        file: lockable,
-    } = open_unlocked(rt, chunk.file, Sharing::Alone)?;
+    let file = Lockable::open(rt, chunk.file, Sharing::Alone)?;
     let bytes = read(rt, STANDARD, MOST_PUT);
-    let _lock = lockable.wait(rt)?;
+    let Locked {
+        device,
+        lock: _lock,
+    } = locked(rt, file)?;
     let file = opened(rt, device)?;
     let bytes = bytes?;
     put_in(rt, place_of(chunk), at, &bytes, region, file)
@@ -92,8 +92,10 @@ fn bytes_of<'a>(
 ) -> Result<Vec<u8>, RequestFault<'a>>
     requires { IsRegion region }
 {
-    let Unlocked { device, file } = open_unlocked(rt, chunk.file, Sharing::Shared)?;
-    let _lock = file.wait(rt)?;
+    let Locked {
+        device,
+        lock: _lock,
+    } = lock_to_read(rt, chunk.file)?;
     let file = opened(rt, device)?;
     bytes_in(rt, place_of(chunk), region, file)
 }

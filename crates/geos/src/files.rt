@@ -50,43 +50,33 @@ pub(crate) fn make_file<'a>(
     }
 }
 
-/// A device on the file with a path, and the file whose lock is still to be had.
+/// A device on the file with a path, and the lock on it.
 #[derive(Drop)]
-pub(crate) struct Unlocked<'a> {
+pub(crate) struct Locked<'a> {
     /// The device.
     pub(crate) device: FileDevice,
-    /// What the lock is on.
-    pub(crate) file: Lockable<'a>,
+    /// The lock.
+    pub(crate) lock: FileLock<'a>,
 }
 
-/// Opens the file with the path, without its lock: to work on it alone, or to read it as others may
-/// meanwhile. Nothing is to be read of it until the lock is had.
-pub(crate) fn open_unlocked<'a>(
+/// Waits for the lock on the file, and gives it with a device on what the path leads to then.
+pub(crate) fn locked<'a>(
     rt: &HostRuntime,
-    path: &'a str,
-    sharing: Sharing,
-) -> Result<Unlocked<'a>, RequestFault<'a>> {
-    let file = Lockable::open(rt, path, sharing)?;
-    match FileDevice::of(file.file()?) {
-        Ok(device) => Ok(Unlocked { device, file }),
-        Err(Disk) => Err(RequestFault::Stream(StreamFault::Read(path))),
+    file: Lockable<'a>,
+) -> Result<Locked<'a>, RequestFault<'a>> {
+    let lock = file.wait(rt)?;
+    match FileDevice::of(lock.file()?) {
+        Ok(device) => Ok(Locked { device, lock }),
+        Err(Disk) => Err(RequestFault::Stream(StreamFault::Read(lock.path()))),
     }
 }
 
-/// A device on the file with a path, and the lock on it.
-#[derive(Drop)]
-struct Locked {
-    /// The device.
-    device: FileDevice,
-    /// The lock.
-    lock: FileLock,
-}
-
 /// Opens the file to read it, and waits for its lock, which others that read it share.
-fn lock_to_read<'a>(rt: &HostRuntime, path: &'a str) -> Result<Locked, RequestFault<'a>> {
-    let Unlocked { device, file } = open_unlocked(rt, path, Sharing::Shared)?;
-    let lock = file.wait(rt)?;
-    Ok(Locked { device, lock })
+pub(crate) fn lock_to_read<'a>(
+    rt: &HostRuntime,
+    path: &'a str,
+) -> Result<Locked<'a>, RequestFault<'a>> {
+    locked(rt, Lockable::open(rt, path, Sharing::Shared)?)
 }
 
 /// Opens the VM file that a device holds.

@@ -2,13 +2,13 @@
 
 ghost use Rattle.geos_shell.specs.Limits.{IsRegion};
 
-use crate::files::{Unlocked, open_unlocked, opened};
+use crate::files::{Locked, locked, opened};
 use crate::images::{MOST_READ, read_image};
 use crate::manner::{Manner, output, run_script_on};
 use crate::request_fault::RequestFault;
 use geos_cli::{Counted, ScriptFault, run_session};
 use geos_kernel::Kernel;
-use geos_shell::{STANDARD, Sharing, keep_from_output, read};
+use geos_shell::{Lockable, STANDARD, Sharing, keep_from_output, read};
 use vm_file::{FileDevice, VmFile};
 
 /// Runs a session on the standard streams, unless it would print into what it reads.
@@ -53,12 +53,12 @@ pub(crate) fn run<'a>(
     requires { IsRegion region }
 {
     let image = read_image(rt, image)?;
-    let Unlocked {
-        device,
-        file: lockable,
-    } = open_unlocked(rt, file, Sharing::Alone)?;
+    let file = Lockable::open(rt, file, Sharing::Alone)?;
     let script = read(rt, script, MOST_READ);
-    let _lock = lockable.wait(rt)?;
+    let Locked {
+        device,
+        lock: _lock,
+    } = locked(rt, file)?;
     let file = opened(rt, device)?;
     let script = script?;
     run_in(rt, manner, &image, &script, region, file)

@@ -4,7 +4,7 @@ ghost use Rattle.vm_blocks.specs.Listed.{NoneLocked};
 ghost use Rattle.geos_shell.specs.Limits.{IsRegion};
 
 use crate::commands::begins_as_image;
-use crate::files::{Unlocked, open_unlocked, opened};
+use crate::files::{Locked, locked, opened};
 use crate::images::MOST_READ;
 use crate::manner::call_fault;
 use crate::request_fault::RequestFault;
@@ -12,7 +12,7 @@ use geos_asm::{Assembled, assemble_with_lines};
 use geos_cli::{ScriptFault, TraceFault, TracedCall, trace_call};
 use geos_image::Image;
 use geos_kernel::{Kernel, kernel_in_memory};
-use geos_shell::{CallWords, Sharing, TraceWords, print, read};
+use geos_shell::{CallWords, Lockable, Sharing, TraceWords, print, read};
 use geos_trace::{put_counts, put_end, put_refused, put_steps};
 use std::alloc::{AllocError, Global};
 use vm_file::Device;
@@ -143,11 +143,10 @@ fn trace_on_file<'a>(
 ) -> Result<(), RequestFault<'a>>
     requires { IsRegion region }
 {
-    let Unlocked {
+    let Locked {
         device,
-        file: lockable,
-    } = open_unlocked(rt, path, Sharing::Alone)?;
-    let _lock = lockable.wait(rt)?;
+        lock: _lock,
+    } = locked(rt, Lockable::open(rt, path, Sharing::Alone)?)?;
     let file = opened(rt, device)?;
     match Kernel::new(rt.alloc(), region, file) {
         Ok(mut kernel) => trace_on(rt, words, traceable, &mut kernel),

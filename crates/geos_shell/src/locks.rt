@@ -29,9 +29,13 @@ pub struct Lockable<'a> {
 /// A lock on a file, which goes when it and the other handles of the same open file are dropped. Only programs that ask for one are kept
 /// off.
 #[derive(Drop)]
-pub struct FileLock {
-    _file: File,
+pub struct FileLock<'a> {
+    path: &'a str,
+    file: File,
 }
+
+/// How often a file is opened anew whose path leads to another one once its lock is had.
+const MOST_REPLACED: u32 = 3;
 
 /// Whether the path leads to a file, and to nothing else: to open a pipe may wait for who writes into it.
 fn is_file(rt: &HostRuntime, path: &str) -> io::Result<bool> {
@@ -46,6 +50,14 @@ fn opened(rt: &HostRuntime, path: &str, sharing: Sharing) -> io::Result<File> {
     let mut how = OpenOptions::new();
     how.read(true).write(matches!(sharing, Sharing::Alone));
     how.open(rt, path)
+}
+
+/// Whether the path leads to the open file, as far as the system says so: another program may have given the path to another file.
+fn leads_to(rt: &HostRuntime, path: &str, file: &File) -> bool {
+    match (fs::metadata(rt, path), file.metadata()) {
+        (Ok(there), Ok(open)) => FileId::of(&there) == FileId::of(&open),
+        _ => false,
+    }
 }
 
 /// Whether the standard output goes into the open file.
@@ -86,7 +98,7 @@ fn had_soon(rt: &HostRuntime, file: &File, sharing: Sharing) -> io::Result<bool>
 }
 
 /// Waits until the file's lock is had. A user at a terminal is told so, if it takes long.
-fn locked(rt: &HostRuntime, file: &File, path: &str, sharing: Sharing) -> io::Result<()> {
+fn lock(rt: &HostRuntime, file: &File, path: &str, sharing: Sharing) -> io::Result<()> {
     if rt.stderr().is_terminal() {
         if had_soon(rt, file, sharing)? {
             return Ok(());
@@ -128,25 +140,49 @@ impl<'a> Lockable<'a> {
         }
     }
 
-    /// The open file, once more. Nothing is to be read of it until the lock is had.
-    pub fn file(&self) -> Result<File, StreamFault<'a>> {
-        match self.file.try_clone() {
-            Ok(file) => Ok(file),
-            Err(error) => Err(fault(self.path, &error)),
-        }
-    }
-
-    /// Waits until the lock on the file is had, and says so where that takes long and standard error is a terminal. `StreamFault::Read`
-    /// where the system has no locks for it.
-    pub fn wait(self, rt: &HostRuntime) -> Result<FileLock, StreamFault<'a>> {
+    /// Takes the lock, and says so where that takes long and standard error is a terminal.
+    fn locked(self, rt: &HostRuntime) -> Result<FileLock<'a>, StreamFault<'a>> {
         let Lockable {
             path,
             sharing,
             file,
         } = self;
-        match locked(rt, &file, path, sharing) {
-            Ok(()) => Ok(FileLock { _file: file }),
+        match lock(rt, &file, path, sharing) {
+            Ok(()) => Ok(FileLock { path, file }),
             Err(error) => Err(fault(path, &error)),
+        }
+    }
+
+    /// Waits until the lock on the file is had, and says so where that takes long and standard error is a terminal. If the path leads to
+    /// another file then, as after a rename, that one is opened and waited for in its place, at most three times. `StreamFault::Read`
+    /// where the system has no locks for it, or where the path leads to another file each time; and the faults of `open`.
+    pub fn wait(self, rt: &HostRuntime) -> Result<FileLock<'a>, StreamFault<'a>> {
+        let (path, sharing) = (self.path, self.sharing);
+        let mut lockable = self;
+        for _ in 0..=MOST_REPLACED {
+            let lock = lockable.locked(rt)?;
+            if leads_to(rt, path, &lock.file) {
+                return Ok(lock);
+            }
+            // Its lock is let go first, since another may wait for it who has the next.
+            drop(lock);
+            lockable = Lockable::open(rt, path, sharing)?;
+        }
+        Err(StreamFault::Read(path))
+    }
+}
+
+impl<'a> FileLock<'a> {
+    /// The path that leads to it.
+    pub fn path(&self) -> &'a str {
+        self.path
+    }
+
+    /// The open file, once more.
+    pub fn file(&self) -> Result<File, StreamFault<'a>> {
+        match self.file.try_clone() {
+            Ok(file) => Ok(file),
+            Err(error) => Err(fault(self.path, &error)),
         }
     }
 }
