@@ -105,10 +105,8 @@ def room(some: list[Crate]) -> Iterator[Path]:
         try:
             (folder / ".git").mkdir(parents=True)
             shutil.copy(TOP / "HANDLES", folder)
-            (folder / "crates.txt").write_text("".join(f"{crate.line}\n" for crate in some))
             for crate in some:
-                for part in COPIED:
-                    copy(crate.folder / part, folder / "crates" / crate.name / part)
+                add(crate, folder)
         except OSError as error:
             raise NotBuilt(f"a build is due, but its sources can't be copied to {folder}: {error.strerror}") from None
         yield folder
@@ -116,21 +114,25 @@ def room(some: list[Crate]) -> Iterator[Path]:
         shutil.rmtree(folder, ignore_errors=True)
 
 
-def copy(part: Path, to: Path) -> None:
-    """Copies a file or a folder, if it is there."""
-    if part.is_dir():
-        shutil.copytree(part, to)
-    elif part.exists():
-        to.parent.mkdir(parents=True, exist_ok=True)
-        shutil.copy(part, to)
+def add(crate: Crate, folder: Path) -> None:
+    """Adds a crate to a repository."""
+    to = folder / "crates" / crate.name
+    to.mkdir(parents=True)
+    for part in map(crate.folder.joinpath, COPIED):
+        if part.is_dir():
+            shutil.copytree(part, to / part.name)
+        elif part.exists():
+            shutil.copy(part, to)
+    with (folder / "crates.txt").open("a") as listed:
+        listed.write(f"{crate.line}\n")
 
 
-def prove(folder: Path, some: list[Crate], names: list[str]) -> None:
-    """Runs `rt ci` in a repository of some crates, on these names or on all, and shows how far it is."""
+def prove(folder: Path, some: list[Crate]) -> None:
+    """Runs `rt ci` in a repository of some crates, and shows how far it is."""
     cores = os.cpu_count() or 1
     progress = Progress(Plan(some, cores))
     command = subprocess.Popen(
-        ["rt", "ci", *names],
+        ["rt", "ci"],
         cwd=folder,
         env={**os.environ, "RT_JOBS": str(cores)},
         stdin=subprocess.DEVNULL,
@@ -161,9 +163,10 @@ def stop(command: subprocess.Popen[str]) -> None:
 
 
 def take(crate: Crate, folder: Path) -> None:
-    """Takes the program or the library from a repository in which its crates were proved."""
+    """Takes the program from a repository in which its crates were proved, or makes the library there."""
     if crate.is_static_library:
-        say(f"making {crate.built.name}: proving {crate.name} once, and compiling it twice")
+        if folder != TOP:
+            add(crate, folder)
         archive = TOP / "library" / "archive.sh"
         if subprocess.run([archive, folder, crate.name, crate.built], stdout=2).returncode:
             raise NotBuilt(f"{crate.name} was not proved, or does not compile")
@@ -178,13 +181,12 @@ def build(all_crates: dict[str, Crate], crate: Crate) -> None:
         sums = crates.sums(all_crates, crate.name)
         if is_built(crate, sums):
             return
-        some = crates.below(all_crates, crate.name)
-        say(f"proving the {len(some)} crates of {crate.name} first, about {whole_minutes(some)} minutes from nothing")
+        # Making a static library proves its own crate, so only those below it are proved before.
+        some = crates.below(all_crates, crate.name)[: -1 if crate.is_static_library else None]
+        say(f"proving {len(some)} crates for {crate.name} first, about {whole_minutes(some)} minutes from nothing")
         with room(some) as folder:
             stamp_of(crate).unlink(missing_ok=True)
-            # Making a static library proves its own crate, so only those below it are proved here.
-            names = [each.name for each in some[:-1]] if crate.is_static_library else []
-            prove(folder, some[:-1] if names else some, names)
+            prove(folder, some)
             take(crate, folder)
         stamp(crate, sums)
 
@@ -197,9 +199,12 @@ def take_all(all_crates: dict[str, Crate], names: list[str], sums: Path) -> None
     """Takes what `rt ci` has built at the top of the repository, if its sources have not changed since `sums` was written."""
     if "".join(crates.sums(all_crates, name) for name in names) != sums.read_text():
         raise NotBuilt("sources have changed since the gate began")
-    for name in names:
-        take(all_crates[name], TOP)
-        stamp(all_crates[name], crates.sums(all_crates, name))
+    # An earlier `rt check` here leaves libraries with a stamp, perhaps of other sources, and `rt ci` puts them back in their places.
+    is_stale = any(TOP.glob("crates/*/out/rlib/stamp"))
+    for crate in map(all_crates.__getitem__, names):
+        if not (crate.is_static_library and is_stale):
+            take(crate, TOP)
+            stamp(crate, crates.sums(all_crates, crate.name))
 
 
 def answer(words: list[str]) -> int:
