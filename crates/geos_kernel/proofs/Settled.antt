@@ -1,24 +1,22 @@
--- A kernel whose device was only read is a kernel, which sees the same.
-use Rattle.std.proofs.Common.{◌≡◌, ◌∙◌, ◌*◌, ◌+◌, ◌≤◌, length, refl, ap, sym, subst, arith}
+-- A kernel on whose device nothing was written is a kernel, which sees the same.
+use Rattle.std.proofs.Common.{◌≡◌, ◌∙◌, refl, ap, sym, subst}
 use Rattle.geos_calls.specs.VmFile.{VmFile}
 use Rattle.block_handles.specs.Store.{Store}
 use Rattle.vm_file.specs.Contents.{pair_in}
 use Rattle.vm_file.specs.Device.{Medium}
-use Rattle.vm_file.specs.Outcomes.{ReadsOnly}
+use Rattle.vm_file.specs.Noting.{Rests}
 use Rattle.vm_file.specs.Reading.{area_of}
-use Rattle.vm_file.specs.State.{FileState, Steadily, pair_of}
+use Rattle.vm_file.specs.State.{FileState, pair_of}
 use Rattle.vm_blocks.specs.FileOf as vm
 use Rattle.vm_blocks.specs.Tied.{IsTied}
 use Rattle.vm_blocks.specs.View.{VmState}
 use Rattle.vm_blocks.proofs.Brings.{tied-file}
-use Rattle.geos_kernel.specs.Files.{Between, LeavesKept, vm_file_of}
 use Rattle.geos_kernel.specs.Kernel.{IsKernel}
-use Rattle.geos_kernel.specs.View.{IsFileOf, core_of, kernel_of, vm_over}
+use Rattle.geos_kernel.specs.View.{IsFileOf, core_of, vm_over}
 use Rattle.geos_kernel.proofs.Seen.{file-known, file-on, file-seen}
-use Rattle.geos_kernel.proofs.Stops.{between-reading}
 
 module _ {D : Type 0} (medium : Medium D) (v w : VmState D) (s : Store) (same : w ≡ record v { file = record v.file { device = w.file.device } })
-    (reads : ReadsOnly medium v.file.device w.file.device)
+    (reads : Rests medium v.file.device w.file.device)
     (failed : medium.failed w.file.device ≡ medium.failed v.file.device) where
   abbrev read_on : FileState D
   read_on = record v.file { device = w.file.device }
@@ -50,13 +48,3 @@ module _ {D : Type 0} (medium : Medium D) (v w : VmState D) (s : Store) (same : 
 
   pub settled-core : core_of medium w s ≡ core_of medium v s
   settled-core = ap (λ x. core_of medium x s) same ∙ seen-on
-
-  steadily : Steadily medium (vm_file_of (kernel_of medium v s)) (vm_file_of (kernel_of medium w s))
-  steadily = λ steady room. (
-    (let area = ap (λ (x : VmState D). x.file.area) same in let long = ap length reads.same in
-        omega (arith, room, area, long)),
-    failed,
-  )
-
-  pub settled-between : LeavesKept medium (kernel_of medium v s) → Between medium (kernel_of medium v s) (kernel_of medium w s)
-  settled-between kept = between-reading medium (kernel_of medium v s) (kernel_of medium w s) reads kept steadily

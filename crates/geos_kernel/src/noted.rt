@@ -1,6 +1,7 @@
 //! What the device of the VM file has noted.
 
 ghost use Rattle.std.specs.Prelude.{◌≡◌};
+ghost use Rattle.vm_file.specs.Noting.{Rests};
 
 use crate::kernel::Kernel;
 use vm_file::{Device, Noting};
@@ -15,16 +16,13 @@ impl<D: Device + Drop> Kernel<D> {
 }
 
 impl<D: Noting + Drop> Kernel<D> {
-    ghost use Rattle.geos_kernel.specs.Files.{Between};
-
     /// Takes it that what the device has noted was performed, and lasts. Nothing else changes.
     pub fn settle(&mut self)
         ensures core { self.new.core ≡ self.old.core }
         ensures settled { D.settles self.old.device self.new.device }
-        ensures between { Between D.medium self.old self.new }
+        ensures rests { Rests D.medium self.old.device self.new.device }
+        ensures failed { D.medium.failed self.new.device ≡ D.medium.failed self.old.device }
     {
-        // what a stop leaves
-        self.vm.is_sure();
         self.vm.settle();
     }
 }

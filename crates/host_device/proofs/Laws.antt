@@ -1,14 +1,15 @@
 -- What a stop may leave of a device that notes its calls, call by call.
-use Rattle.std.proofs.Common.{◌≡◌, ◌∙◌, ◌⊎◌, ℕ, zero, suc, ◌+◌, ◌-◌, ◌≤◌, List, [], ◌∷◌, ◌++◌, drop, length, length-drop, length-take, reverse, refl, ap, sym, subst, inl, inr, arith}
-use Rattle.std.proofs.lemmas.List.{reverse-append}
+use Rattle.std.proofs.Common.{◌≡◌, ◌∙◌, ◌⊎◌, ℕ, zero, suc, ◌+◌, ◌-◌, ◌≤◌, List, [], ◌∷◌, ◌++◌, drop, length, length-drop, length-take, map, reverse, refl, ap, sym, subst, inl, inr, arith}
+use Rattle.std.proofs.lemmas.List.{append-nil, append_assoc, map-append, reverse-append}
 use Rattle.lmem_raw.specs.Bytes.{part, with_part}
 use Rattle.vm_file.specs.Device.{AfterWrite, Only, Touched}
+use Rattle.vm_file.specs.Noting.{Rests}
 use Rattle.vm_file.specs.Outcomes.{ReadsOnly, WritesOnly}
 use Rattle.vm_file.proofs.Touches.{touched_not}
 use Rattle.host_device.specs.declared.device.HostDevice.{HostDevice}
 use Rattle.host_device.specs.declared.step.Step.{Step}
 use Rattle.host_device.specs.declared.step.Step.TheVariants.{Write, Sync}
-use Rattle.host_device.specs.Journal.{Follows, IsStill, IsWriteOf, Leaves, LeavesSince, MayHaveLeft, MayLeave, Settles, before_step, bytes_of, journal_of, leaves_now, medium, performed, steps_of}
+use Rattle.host_device.specs.Journal.{Follows, GoesOn, IsStill, IsWriteOf, Leaves, LeavesSince, MayHaveLeft, MayLeave, Settles, before_step, bytes_of, journal_of, leaves_now, medium, performed, steps_of, told}
 
 -- bytes that are written over and written back
 pub put-back : (bs : List ℕ) (at : ℕ) (ws : List ℕ) → with_part (with_part bs at ws) at (part bs at (length ws)) ≡ bs
@@ -36,10 +37,17 @@ left-more bytes had step before c since = by (suc (length before) - had) refl si
         let P : ℕ → Type 0 = λ n. LeavesSince (before_step bytes step) n before c in
         inl (subst P same past)
 
--- a stop before any step leaves the bytes
-none-left : (bytes : List ℕ) (count : ℕ) (c : List ℕ) → LeavesSince bytes count [] c → c ≡ bytes
-none-left bytes zero c left = left
-none-left bytes (suc count) c left = left
+-- a device goes on over two stretches
+pub goes-then : (a b c : HostDevice) → GoesOn a b → GoesOn b c → GoesOn a c
+goes-then a b c one two = record {
+  more = one.more ++ two.more;
+  notes = two.notes ∙ ap (λ xs. xs ++ two.more) one.notes ∙ append_assoc (map told (journal_of a)) one.more two.more;
+  follows = λ host was. two.follows host (one.follows host was);
+}
+
+-- where it goes on, what is lost later was lost before
+lost-before : (start old new : HostDevice) → GoesOn old new → (GoesOn start new → ⊥) → GoesOn start old → ⊥
+lost-before start old new goes lost went = lost (goes-then start old new went goes)
 
 module _ (old new : HostDevice) where
   -- what reads give may be left
@@ -53,13 +61,21 @@ module _ (old new : HostDevice) where
     may-leave-still : (c : List ℕ) → MayLeave new c → MayLeave old c
     may-leave-still c now = subst (λ es. Leaves (bytes_of old) es c) steps-still (subst (λ bs. Leaves bs (steps_of new) c) still.bytes now)
 
-    left-still : (s : HostDevice) (c : List ℕ) → MayHaveLeft s new c → MayHaveLeft s old c
-    left-still s c past =
-        subst (λ es. LeavesSince (bytes_of old) (length es - length (steps_of s)) es c) steps-still
-        (subst (λ bs. LeavesSince bs (length (steps_of new) - length (steps_of s)) (steps_of new) c) still.bytes past)
-
     pub follows-still : Follows old new
     follows-still host was = subst (λ es. performed host es ≡ bytes_of new) (sym steps-still) (was ∙ sym still.bytes)
+
+    pub goes-still : GoesOn old new
+    goes-still = record {
+      more = [];
+      notes = ap (map told) still.journal ∙ sym (append-nil (map told (journal_of old)));
+      follows = follows-still;
+    }
+
+    left-still : (s : HostDevice) (c : List ℕ) → MayHaveLeft s new c → MayHaveLeft s old c
+    left-still s c (inr lost) = inr (lost-before s old new goes-still lost)
+    left-still s c (inl past) =
+        inl (subst (λ es. LeavesSince (bytes_of old) (length es - length (steps_of s)) es c) steps-still
+        (subst (λ bs. LeavesSince bs (length (steps_of new) - length (steps_of s)) (steps_of new) c) still.bytes past))
 
     pub reads-still : ReadsOnly medium old new
     reads-still = record {
@@ -81,12 +97,20 @@ module _ (old new : HostDevice) where
       time = (λ _ s c past. inl (left-still s c past));
     }
 
+  -- one step more is noted
+  goes-noting : (step : Step) → journal_of new ≡ journal_of old ++ (step ∷ []) → Follows old new → GoesOn old new
+  goes-noting step noted follows = record {
+    more = told step ∷ [];
+    notes = ap (map told) noted ∙ map-append told (journal_of old) (step ∷ []);
+    follows = follows;
+  }
+
   -- a write
-  module _ (at : ℕ) (ws : List ℕ) (step : Step) (w : IsWriteOf old at ws step) (noted : steps_of new ≡ step ∷ steps_of old)
+  module _ (at : ℕ) (ws : List ℕ) (step : Step) (w : IsWriteOf old at ws step) (journal : journal_of new ≡ journal_of old ++ (step ∷ []))
       (written : bytes_of new ≡ with_part (bytes_of old) at ws)
       (torn : Touched at (length ws) (bytes_of old) (bytes_of new)) (long : length w.stood.items ≡ length ws) where
     steps : steps_of new ≡ Write at w.stood w.given ∷ steps_of old
-    steps = noted ∙ ap (λ (step : Step). step ∷ steps_of old) w.is
+    steps = steps-more (journal_of old) (journal_of new) step journal ∙ ap (λ (step : Step). step ∷ steps_of old) w.is
 
     back : with_part (bytes_of new) at w.stood.items ≡ bytes_of old
     back = (λ k. with_part (written k) at (w.was k)) ∙ put-back (bytes_of old) at ws
@@ -96,17 +120,18 @@ module _ (old new : HostDevice) where
         let a = subst (λ es. Leaves (bytes_of new) es c) steps now in
         (a.0, subst (λ bs. Leaves bs (steps_of old) a.0) back a.1, subst (λ n. Touched at n a.0 c) long a.2)
 
-    left-written : (s : HostDevice) (c : List ℕ) → MayHaveLeft s new c → MayHaveLeft s old c ⊎ AfterWrite at (length ws) (MayLeave old) c
-    left-written s c past =
-        let a = subst (λ es. LeavesSince (bytes_of new) (length es - length (steps_of s)) es c) steps past in
-        elim (left-more (bytes_of new) (length (steps_of s)) (Write at w.stood w.given) (steps_of old) c a) [
-          | inl before ↦ inl (subst (λ bs. LeavesSince bs (length (steps_of old) - length (steps_of s)) (steps_of old) c) back before)
-          | inr now ↦ inr (may-leave-written c (subst (λ es. Leaves (bytes_of new) es c) (sym steps) now))
-        ]
-
     pub follows-written : Follows old new
     follows-written host was =
         ap (performed host) steps ∙ (λ k. with_part (was k) at (w.gives k)) ∙ sym written
+
+    left-written : (s : HostDevice) (c : List ℕ) → MayHaveLeft s new c → MayHaveLeft s old c ⊎ AfterWrite at (length ws) (MayLeave old) c
+    left-written s c (inr lost) = inl (inr (lost-before s old new (goes-noting step journal follows-written) lost))
+    left-written s c (inl past) =
+        let a = subst (λ es. LeavesSince (bytes_of new) (length es - length (steps_of s)) es c) steps past in
+        elim (left-more (bytes_of new) (length (steps_of s)) (Write at w.stood w.given) (steps_of old) c a) [
+          | inl before ↦ inl (inl (subst (λ bs. LeavesSince bs (length (steps_of old) - length (steps_of s)) (steps_of old) c) back before))
+          | inr now ↦ inr (may-leave-written c (subst (λ es. Leaves (bytes_of new) es c) (sym steps) now))
+        ]
 
     pub writes-noted : WritesOnly medium at (length ws) old new
     writes-noted = record {
@@ -119,20 +144,24 @@ module _ (old new : HostDevice) where
     }
 
   -- a sync
-  module _ (same : bytes_of new ≡ bytes_of old) (steps : steps_of new ≡ Sync ∷ steps_of old) where
-    pub synced-lasts : Only (bytes_of new) (MayLeave new)
-    synced-lasts c now = subst (λ es. Leaves (bytes_of new) es c) steps now
+  module _ (same : bytes_of new ≡ bytes_of old) (journal : journal_of new ≡ journal_of old ++ (Sync ∷ [])) where
+    synced-steps : steps_of new ≡ Sync ∷ steps_of old
+    synced-steps = steps-more (journal_of old) (journal_of new) Sync journal
 
-    left-synced : (s : HostDevice) (c : List ℕ) → MayHaveLeft s new c → MayHaveLeft s old c ⊎ MayLeave old c
-    left-synced s c past =
-        let a = subst (λ es. LeavesSince (bytes_of new) (length es - length (steps_of s)) es c) steps past in
-        elim (left-more (bytes_of new) (length (steps_of s)) Sync (steps_of old) c a) [
-          | inl before ↦ inl (subst (λ bs. LeavesSince bs (length (steps_of old) - length (steps_of s)) (steps_of old) c) same before)
-          | inr now ↦ inr (left-now same c now)
-        ]
+    pub synced-lasts : Only (bytes_of new) (MayLeave new)
+    synced-lasts c now = subst (λ es. Leaves (bytes_of new) es c) synced-steps now
 
     pub follows-synced : Follows old new
-    follows-synced host was = ap (performed host) steps ∙ was ∙ sym same
+    follows-synced host was = ap (performed host) synced-steps ∙ was ∙ sym same
+
+    left-synced : (s : HostDevice) (c : List ℕ) → MayHaveLeft s new c → MayHaveLeft s old c ⊎ MayLeave old c
+    left-synced s c (inr lost) = inl (inr (lost-before s old new (goes-noting Sync journal follows-synced) lost))
+    left-synced s c (inl past) =
+        let a = subst (λ es. LeavesSince (bytes_of new) (length es - length (steps_of s)) es c) synced-steps past in
+        elim (left-more (bytes_of new) (length (steps_of s)) Sync (steps_of old) c a) [
+          | inl before ↦ inl (inl (subst (λ bs. LeavesSince bs (length (steps_of old) - length (steps_of s)) (steps_of old) c) same before))
+          | inr now ↦ inr (left-now same c now)
+        ]
 
     pub reads-synced : ReadsOnly medium old new
     reads-synced = record {
@@ -144,16 +173,14 @@ module _ (old new : HostDevice) where
     }
 
   -- nothing is noted any more
-  pub reads-settled : Settles old new → ReadsOnly medium old new
-  reads-settled settled =
+  pub rests-settled : Settles old new → Rests medium old new
+  rests-settled settled =
       let none : steps_of new ≡ [] = ap reverse settled.journal in
       record {
         same = settled.bytes;
         stays = (λ _. tt);
         was = (λ _. tt);
         stop = (λ _ c now. left-now settled.bytes c (subst (λ es. Leaves (bytes_of new) es c) none now));
-        time = (λ _ s c past. inr (left-now settled.bytes c (none-left (bytes_of new) (0 - length (steps_of s)) c
-            (subst (λ es. LeavesSince (bytes_of new) (length es - length (steps_of s)) es c) none past))));
       }
 
 -- a part that lies within the bytes has its length

@@ -1,8 +1,9 @@
 -- What is noted for the host, and what a stop leaves while the host performs it.
-use Rattle.std.specs.Prelude.{◌≡◌, ◌⊎◌, ℕ, zero, suc, ◌-◌, List, [], ◌∷◌, Vec, length, reverse, refl, Result, OnErr, OnOk}
+use Rattle.std.specs.Prelude.{◌≡◌, ◌⊎◌, ℕ, zero, suc, ◌-◌, List, [], ◌∷◌, ◌++◌, Vec, length, map, reverse, refl, Result, OnErr, OnOk}
 use Rattle.std.specs.Global.{Global}
 use Rattle.std.proofs.Common.{inl, inr, subst, sym}
 use Rattle.std.proofs.Math.Nat.{sub_self}
+use Rattle.std.proofs.lemmas.List.{append-nil}
 use Rattle.lmem_raw.specs.Bytes.{part, with_part}
 use Rattle.vm_file.specs.Device.{AfterWrite, Medium, Touched}
 use Rattle.vm_file.specs.declared.device.Disk.{Disk}
@@ -54,6 +55,18 @@ steps_of device = reverse (journal_of device)
 abbrev pub Follows : HostDevice → HostDevice → Type 0
 Follows old new = (host : List ℕ) → performed host (steps_of old) ≡ bytes_of old → performed host (steps_of new) ≡ bytes_of new
 
+-- what the host is told of a step: where it writes, and these bytes; and nothing of a sync
+abbrev pub told : Step → List ℕ
+told (Write at stood bytes) = at ∷ bytes.items
+told Sync = []
+
+-- the device goes on from an earlier state: what was noted then is still noted, and more behind it at most; and performing it leads a host
+-- that was led then
+pub record GoesOn (old new : HostDevice) : Type 0 where
+  pub more : List (List ℕ)
+  pub notes : map told (journal_of new) ≡ map told (journal_of old) ++ more
+  pub follows : Follows old new
+
 -- a device on which nothing was written, and nothing noted
 pub record IsStill (old new : HostDevice) : Type 0 where
   pub bytes : bytes_of new ≡ bytes_of old
@@ -90,9 +103,10 @@ IsHonest device = Unit {0}
 abbrev pub MayLeave : HostDevice → List ℕ → Type 0
 MayLeave device c = Leaves (bytes_of device) (steps_of device) c
 
--- a stop since an earlier state left what they had left at some moment since
+-- a stop since an earlier state left what the steps had left at some moment since; and anything if the device does not go on from that state
 abbrev pub MayHaveLeft : HostDevice → HostDevice → List ℕ → Type 0
 MayHaveLeft start device c = LeavesSince (bytes_of device) (length (steps_of device) - length (steps_of start)) (steps_of device) c
+    ⊎ (GoesOn start device → ⊥)
 
 -- a read gives the bytes that stand there, and changes nothing
 abbrev pub MayRead : HostDevice → ℕ → List ℕ → Result (Unit {0}) Disk → HostDevice → Type 0
@@ -134,9 +148,14 @@ leaves_now (Sync ∷ before) bytes = refl
 pub reads_now : (device : HostDevice) → MayLeave device (bytes_of device)
 reads_now device = leaves_now (steps_of device) (bytes_of device)
 
+-- each device goes on from itself
+pub goes_on_here : (device : HostDevice) → GoesOn device device
+goes_on_here device = record { more = []; notes = sym (append-nil (map told (journal_of device))); follows = λ host was. was }
+
 -- in no time a stop may leave what it may leave now
 pub at_once : (device : HostDevice) (c : List ℕ) → MayHaveLeft device device c → MayLeave device c
-at_once device c since =
+at_once device c (inr lost) = absurd (lost (goes_on_here device))
+at_once device c (inl since) =
     let P : ℕ → Type 0 = λ count. LeavesSince (bytes_of device) count (steps_of device) c in
     none (steps_of device) (subst P (sub_self (length (steps_of device))) since)
   where
@@ -146,7 +165,7 @@ at_once device c since =
 
 -- what a stop now may leave, one up to now may have left
 pub by_now : (start device : HostDevice) (c : List ℕ) → MayLeave device c → MayHaveLeft start device c
-by_now start device c now = last (length (steps_of device) - length (steps_of start)) (steps_of device) now
+by_now start device c now = inl (last (length (steps_of device) - length (steps_of start)) (steps_of device) now)
   where
     last : (count : ℕ) (steps : List Step) → Leaves (bytes_of device) steps c → LeavesSince (bytes_of device) count steps c
     last zero [] left = left

@@ -167,12 +167,13 @@ impl Device for HostDevice {
 }
 
 impl Noting for HostDevice {
+    ghost use Rattle.vm_file.specs.Noting.{Rests};
     ghost use Rattle.host_device.specs.Journal.{Settles, medium};
 
     ghost settles = { Settles };
 
     fn settle(&mut self)
-        ensures reads { ReadsOnly medium self.old self.new }
+        ensures rests { Rests medium self.old self.new }
         ensures failed { medium.failed self.new ≡ medium.failed self.old }
         ensures settled { Settles self.old self.new }
     {

@@ -6,7 +6,7 @@ ghost use Rattle.block_handles.specs.Store.{Store};
 ghost use Rattle.geos_calls.specs.Memory.{Memory, is_marked};
 ghost use Rattle.geos_calls.specs.VmCalls.{vuid};
 ghost use Rattle.geos_terms.specs.Names.{group_uid};
-ghost use Rattle.vm_file.specs.Outcomes.{ReadsOnly};
+ghost use Rattle.vm_file.specs.Noting.{Rests};
 ghost use Rattle.vm_file.specs.State.{Finds};
 ghost use Rattle.vm_blocks.specs.Blocks.{uid_of, is_marked_in};
 ghost use Rattle.vm_blocks.specs.DoesRow.{DoesRow};
@@ -176,7 +176,7 @@ impl<D: Noting + Drop> VmBlocks<D> {
     /// Takes it that what the device has noted was performed, and lasts.
     pub fn settle(&mut self)
         ensures same { self.new ≡ record self.old { file = record self.old.file { device = self.new.file.device } } }
-        ensures reads { ReadsOnly D.medium self.old.file.device self.new.file.device }
+        ensures rests { Rests D.medium self.old.file.device self.new.file.device }
         ensures failed { D.medium.failed self.new.file.device ≡ D.medium.failed self.old.file.device }
         ensures settled { D.settles self.old.file.device self.new.file.device }
     {

@@ -6,6 +6,7 @@ use borrow.Author.Tests.{ltb-true}
 use Rattle.vm_file.specs.declared.opened.Opened.{Opened}
 use Rattle.vm_file.specs.Contents.{Pair, pair_in}
 use Rattle.vm_file.specs.Device.{Medium, Only, Touched}
+use Rattle.vm_file.specs.Noting.{Rests}
 use Rattle.vm_file.specs.Outcomes.{ReadsOnly, ReadsToFailure}
 use Rattle.vm_file.specs.Opening.{IsOpened, listed_file}
 use Rattle.vm_file.specs.Reading.{◌>>=◌, header_at, selector_at, pair_at, file_at, File, is_second, base_of, area_of}
@@ -108,8 +109,8 @@ module _ {D : Type 0} (medium : Medium D) where
         });
   }
 
-  -- a file whose device was only read is sound
-  module _ (f : FileState D) (new : D) (sound : IsSound medium f) (reads : ReadsOnly medium f.device new) where
+  -- a file on whose device nothing was written is sound
+  module _ (f : FileState D) (new : D) (sound : IsSound medium f) (reads : Rests medium f.device new) where
     abbrev read_on : FileState D
     read_on = record { device = new; area = f.area; second = f.second; sure = f.sure; current = f.current; saved = f.saved }
 
@@ -132,8 +133,8 @@ module _ {D : Type 0} (medium : Medium D) where
           (λ c l. subst (λ xs. Touched 512 1 xs c) (sym reads.same) (s.1 c (reads.stop h c l))),
         )
 
-    pub read_sound : IsSound medium read_on
-    read_sound = record {
+    pub rests_sound : IsSound medium read_on
+    rests_sound = record {
       area = sound.area;
       current = sound.current;
       saved = sound.saved;
@@ -150,6 +151,11 @@ module _ {D : Type 0} (medium : Medium D) where
             leaves = read_leaves (reads.was h) was.leaves;
           });
     }
+
+  -- and so is one whose device was only read
+  pub read_sound : (f : FileState D) (new : D) → IsSound medium f → ReadsOnly medium f.device new
+      → IsSound medium (let g : FileState D = record { device = new; area = f.area; second = f.second; sure = f.sure; current = f.current; saved = f.saved } in g)
+  read_sound f new sound reads = rests_sound f new sound (record { same = reads.same; stays = reads.stays; was = reads.was; stop = reads.stop })
 
   -- a file of which a call read the device, and one of which another did behind it
   module _ {T E : Type 0} (result : Result T E) where

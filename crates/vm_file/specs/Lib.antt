@@ -8,6 +8,7 @@ pub mod Reading
 pub mod Spelling
 pub mod Laws
 pub mod Outcomes
+pub mod Noting
 pub mod Opening
 pub mod State
 pub mod Places

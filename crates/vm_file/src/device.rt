@@ -3,6 +3,7 @@ ghost use Rattle.std.specs.Prelude.{◌≡◌, ◌+◌, ◌≤◌, ℕ, List, le
 ghost use Rattle.geos_terms.specs.Bytes.{AreBytes};
 ghost use Rattle.lmem_raw.specs.Bytes.{part, with_part};
 ghost use Rattle.vm_file.specs.Device.{Counts, FailedOnce, Medium, NoneFails, Only, one_more};
+ghost use Rattle.vm_file.specs.Noting.{Rests};
 ghost use Rattle.vm_file.specs.Outcomes.{CausesDisk, ReadsOnly, WritesOnly};
 
 use thiserror::Error;
@@ -77,7 +78,7 @@ pub trait Noting: Device {
 
     /// Takes it that all calls that are noted were performed, and that what they wrote lasts. Nothing is noted from then on.
     fn settle(&mut self)
-        ensures reads { ReadsOnly Self.medium self.old self.new }
+        ensures rests { Rests Self.medium self.old self.new }
         ensures failed { Self.medium.failed self.new ≡ Self.medium.failed self.old }
         ensures settled { settles self.old self.new };
 }

@@ -3,6 +3,7 @@ ghost use Rattle.std.specs.Prelude.{◌≡◌, ◌+◌, ◌*◌, ◌≤◌, ◌�
 ghost use Rattle.std.specs.List.{Contains};
 ghost use Rattle.std.specs.Vec.{vec_len, vec_capacity};
 ghost use Rattle.vm_file.specs.Device.{FailedOnce, Only, Passes, Rose};
+ghost use Rattle.vm_file.specs.Noting.{Rests};
 ghost use Rattle.vm_file.specs.Outcomes.{BeginsWithSync, CausesDisk, CausesNoBlock, CausesNoBlocks};
 ghost use Rattle.vm_file.specs.Outcomes.{IsCaused, IsHeapUnder, IsRefused, LeavesAlike, LeavesBytes, ReadsOnly, WritesOnly};
 ghost use Rattle.vm_file.specs.Reading.{file_at};
@@ -486,7 +487,7 @@ impl<D: Noting + Drop> VmFile<D> {
     /// Takes it that what the device has noted was performed, and lasts.
     pub fn settle(&mut self)
         ensures same { self.new ≡ record self.old { device = self.new.device } }
-        ensures reads { ReadsOnly D.medium self.old.device self.new.device }
+        ensures rests { Rests D.medium self.old.device self.new.device }
         ensures failed { D.medium.failed self.new.device ≡ D.medium.failed self.old.device }
         ensures settled { D.settles self.old.device self.new.device }
     {

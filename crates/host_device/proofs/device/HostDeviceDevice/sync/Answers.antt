@@ -1,7 +1,6 @@
 use Rattle.std.proofs.Common.{refl}
-use Rattle.host_device.specs.declared.step.Step.TheVariants.{Sync}
-use Rattle.host_device.proofs.Laws.{reads-synced, steps-more}
+use Rattle.host_device.proofs.Laws.{reads-synced}
 use Rattle.host_device.proofs.device.HostDeviceDevice.sync.Goals as goal
 
 pub returns-clause-reads : goal.returns-clause-reads
-returns-clause-reads c = reads-synced _ _ refl (steps-more _ _ Sync c.in-Ok.ensures.items)
+returns-clause-reads c = reads-synced _ _ refl c.in-Ok.ensures.items
