@@ -1,4 +1,5 @@
 pub mod Calling
+pub mod Notes
 pub mod Numbers
 pub mod Shapes
 pub mod Starting

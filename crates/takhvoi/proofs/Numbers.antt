@@ -1,5 +1,5 @@
 -- Lists in which elements are put and set.
-use Rattle.std.proofs.Common.{◌≡◌, ◌<◌, ℕ, zero, suc, true, List, [], ◌∷◌, ◌++◌, length, Option, Some, None, is_none, slice_get, slice_index_or, slice_set, refl, ap, arith}
+use Rattle.std.proofs.Common.{◌≡◌, ◌<◌, ◌≤◌, ℕ, zero, suc, true, List, [], ◌∷◌, ◌++◌, length, Option, Some, None, is_none, slice_get, slice_index_or, slice_set, refl, ap, arith}
 
 -- elements stay where one is put behind them
 pub stays_behind : {X : Type 0} (xs : List X) (y : X) (n : ℕ) (x : X) → slice_get xs n ≡ Some x → slice_get (xs ++ y ∷ []) n ≡ Some x
@@ -16,6 +16,12 @@ is_last (z ∷ xs) y = is_last xs y
 pub none_past : {X : Type 0} (xs : List (Option X)) (x : X) → slice_get xs (length xs) ≡ Some (Some x) → ⊥
 none_past [] x e = absurd cc
 none_past (z ∷ xs) x e = none_past xs x e
+
+-- nor is there one past the last
+pub none_from : {X : Type 0} (xs : List X) (n : ℕ) (x : X) → length xs ≤ n → slice_get xs n ≡ Some x → ⊥
+none_from [] n x past e = absurd cc
+none_from (z ∷ xs) zero x past e = absurd (omega (arith, past))
+none_from (z ∷ xs) (suc n) x past e = none_from xs n x (omega (arith, past)) e
 
 -- an element that is none is no other
 pub none_there : {X : Type 0} (xs : List (Option X)) (n : ℕ) (d : Option X) (x : X) → is_none (slice_index_or xs n d) ≡ true

@@ -1,7 +1,8 @@
 -- What a span tells of the reference for which it stands.
-use Rattle.std.proofs.Common.{◌≡◌, ℕ, Result, Ok, Err, refl}
+use Rattle.std.proofs.Common.{◌≡◌, ◌∙◌, ℕ, Result, Ok, Err, refl, ap}
 use Rattle.std.specs.Prelude.{IfOk, OnErr}
 use Rattle.geos_terms.specs.declared.refusal.Refusal.{Refusal}
+use Rattle.geos_terms.specs.Refusals.{refusal_number}
 use Rattle.geos_calls.specs.Effects.{Reference}
 use Rattle.geos_kernel.specs.declared.span.Span.{Span}
 use Rattle.geos_kernel.specs.Kernel.{StandsFor}
@@ -19,3 +20,9 @@ given-span s span (Err why) P stands holds = absurd stands
 pub given-no-refusal : (s : KernelState) (span : Span) (given : Result Reference Refusal) (P : Type 0) → StandsFor s (Ok span) given → OnErr given P
 given-no-refusal s span (Ok ref) P stands = tt
 given-no-refusal s span (Err why) P stands = absurd stands
+
+-- and one that was refused tells the refusal's number
+pub given-refused : (s : KernelState) (why : Refusal) (given : Result Reference Refusal) (status : ℕ) (P : Reference → Type 0)
+    → StandsFor s (Err why) given → status ≡ refusal_number why → IsStatus given status × IfOk given P
+given-refused s why (Err other) status P same is = (is ∙ ap refusal_number same, tt)
+given-refused s why (Ok ref) status P same is = absurd same

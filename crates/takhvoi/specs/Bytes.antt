@@ -6,13 +6,14 @@ use Rattle.geos_calls.specs.Effects.{Call, Reference}
 use Rattle.geos_kernel.specs.Kernel.{Calls}
 use Rattle.geos_kernel.specs.View.{KernelState}
 use Rattle.takhvoi.specs.declared.system.System.{System}
-use Rattle.takhvoi.specs.Answers.{IsStatus}
+use Rattle.takhvoi.specs.Answers.{IsStatus, ReadsDevice}
 
--- the kernel answered with a reference as the call's row says, of n bytes, and the number is that of its reply
+-- the kernel answered with a reference as the call's row says, of n bytes, and read the device at most; the number is that of its reply
 abbrev pub IsReferred : Call Reference → ℕ → ℕ → System → System → Type 0
 IsReferred call n status old new =
-    (reply : Result Reference Refusal) × Calls (Unit {0}) call reply old.kernel.core new.kernel.core × IsStatus reply status
-    × IfOk reply (λ ref. n ≡ ref.len)
+    ReadsDevice old new
+    × ((reply : Result Reference Refusal) × Calls (Unit {0}) call reply old.kernel.core new.kernel.core × IsStatus reply status
+    × IfOk reply (λ ref. n ≡ ref.len))
 
 -- bytes are those that are loaded from an offset of the reference on
 abbrev pub AreLoaded : Reference → ℕ → List ℕ → KernelState → Type 0
@@ -34,8 +35,8 @@ IsMeasured call n status old new =
     × IsStatus reply status × IfOk reply (λ ref. n ≡ ref.len))
 
 -- the kernel answered with a reference as the call's row says, and the number is that of its reply; where there is one, the bytes were
--- stored there
+-- stored there; the device was asked nothing
 abbrev pub IsWritten : Call Reference → ℕ → List ℕ → ℕ → System → System → Type 0
 IsWritten call at bytes status old new =
     (reply : Result Reference Refusal) × Calls (Unit {0}) call reply old.kernel.core old.kernel.core × IsStatus reply status
-    × OnErr reply (new.kernel ≡ old.kernel) × IfOk reply (λ ref. Calls (Unit {0}) (store ref at bytes) (Ok tt) old.kernel.core new.kernel.core)
+    × OnErr reply (new.kernel ≡ old.kernel) × (new.kernel.device ≡ old.kernel.device) × IfOk reply (λ ref. Calls (Unit {0}) (store ref at bytes) (Ok tt) old.kernel.core new.kernel.core)

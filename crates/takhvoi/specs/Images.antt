@@ -1,19 +1,23 @@
 -- What loading and running images come to.
-use Rattle.std.specs.Prelude.{◌≡◌, ◌≤◌, ℕ, true, Some, None, IfSome, List, length, take, unwrap_or, slice_get, Ok}
+use Rattle.std.specs.Prelude.{◌≡◌, ◌⊎◌, ◌≤◌, ℕ, [], false, true, Some, None, IfSome, List, length, take, unwrap_or, slice_get, Ok}
 use Rattle.geos_image.specs.Legal.{text_end}
 use Rattle.geos_image.specs.Parts.{Parts}
 use Rattle.geos_image.specs.Reading.{image_at}
 use Rattle.geos_image.specs.declared.routine.Routine.{Routine}
+use Rattle.geos_entry.specs.Entry.{admits, entry_slots}
 use Rattle.geos_verify.specs.declared.rule.Reject.{Reject}
 use Rattle.geos_verify.specs.Rules.{FirstRefusal}
 use Rattle.geos_verify.specs.RuleText.{rule_number}
 use Rattle.geos_calls.specs.VmFile.{VmFile}
-use Rattle.geos_kernel.specs.View.{IsFileOf}
+use Rattle.geos_kernel.specs.View.{IsFileOf, memory_of}
 use Rattle.geos_machine.specs.declared.outcome.Outcome.{Outcome}
-use Rattle.geos_machine.specs.Runs.{RanWith, Throughout}
-use Rattle.host_device.specs.Journal.{medium}
+use Rattle.geos_machine.specs.Lent.{Lends}
+use Rattle.geos_machine.specs.Runs.{OpensAsOneOf, RanWith, Throughout, begin, kept_along}
+use Rattle.host_device.specs.Journal.{bytes_of, journal_of, medium}
 use Rattle.host_device.specs.declared.device.HostDevice.{HostDevice}
 use Rattle.takhvoi.specs.declared.system.System.{System}
+use Rattle.takhvoi.specs.Journal.{Leads, MayStopAt}
+use Rattle.takhvoi.specs.Own.{IsPending}
 
 -- the number stands for this image
 abbrev pub StandsFor : System → ℕ → Parts → Type 0
@@ -22,19 +26,26 @@ StandsFor system n image = slice_get system.images.items n ≡ Some (Some image)
 -- the kernel is as it was, and each number that stood for an image stands for it
 pub record Keeps (old new : System) : Type 0 where
   pub kernel : new.kernel ≡ old.kernel
+  pub hosted : new.hosted ≡ old.hosted
   pub images : (n : ℕ) (image : Parts) → StandsFor old n image → StandsFor new n image
+
+-- 0, 111, 112 or 113
+abbrev pub LoadsOrTells : ℕ → Type 0
+LoadsOrTells status = (status ≡ 0) ⊎ ((status ≡ 111) ⊎ ((status ≡ 112) ⊎ (status ≡ 113)))
 
 -- where it is done, the bytes spell an image that was checked, and the number stands for it; the kernel and the other images stay
 abbrev pub IsLoaded : List ℕ → ℕ → ℕ → System → System → Type 0
 IsLoaded bytes n status old new =
-    (status ≡ 0 → (image : Parts) × (image_at bytes ≡ Ok image) × StandsFor new n image) × Keeps old new
+    (status ≡ 0 → (image : Parts) × (image_at bytes ≡ Ok image) × StandsFor new n image) × LoadsOrTells status × Keeps old new
 
--- where it is done, the number stands for nothing from then on; the kernel and the other images stay
+-- where it is done, the number stands for nothing from then on; the kernel and the other images stay. Otherwise it stands for nothing, the
+-- answer is 114, and nothing changes
 abbrev pub IsUnloaded : ℕ → ℕ → System → System → Type 0
 IsUnloaded n status old new =
-    (new.kernel ≡ old.kernel)
+    (new.kernel ≡ old.kernel) × (new.hosted ≡ old.hosted)
     × (status ≡ 0 → slice_get new.images.items n ≡ Some None)
     × ((m : ℕ) (image : Parts) → (m ≡ n → ⊥) → StandsFor old m image → StandsFor new m image)
+    × ((status ≡ 0 → ⊥) → (status ≡ 114) × (new ≡ old) × ((image : Parts) → StandsFor old n image → ⊥))
 
 -- the bytes spell an image, and this is the first instruction that a rule refuses, with the lowest such rule
 abbrev pub IsRejected : List ℕ → ℕ → ℕ → Type 0
@@ -42,9 +53,19 @@ IsRejected bytes place rule =
     (image : Parts) × (reject : Reject) × (image_at bytes ≡ Ok image) × FirstRefusal image reject × (place ≡ reject.pc)
     × (rule ≡ rule_number reject.rule)
 
+-- 114: the number stands for no image, whose routine admits these words, and to which the kernel lends these blocks
+abbrev pub NotAdmitted : ℕ → ℕ → List ℕ → List ℕ → ℕ → System → Type 0
+NotAdmitted n routine words handles status s =
+    (status ≡ 114) × ((image : Parts) → StandsFor s n image → admits image routine words ≡ true
+    → Lends s.kernel.core (entry_slots image routine) handles → ⊥)
+
+-- 106 or 114: the run may not begin
+abbrev pub MayNotRun : ℕ → ℕ → List ℕ → List ℕ → ℕ → System → Type 0
+MayNotRun n routine words handles status s = NotAdmitted n routine words handles status s ⊎ IsPending status s
+
 -- the number stands for a checked image, of which the model's run, on these words and with these blocks lent, met no fault and came to
--- such words, such an output in front of the buffer, so long, and so many steps; a host that is stopped while it
--- performs what the run has left noted has what the run had as kept in one of its states
+-- such words, such an output in front of the buffer, so long, and so many steps; nothing was noted before it; what it noted leads a host to what
+-- the device holds; and a host that is stopped while it performs that has what the run had as kept in one of its states
 pub record HasRun (n routine : ℕ) (words handles after room output : List ℕ) (count steps status : ℕ) (old new : System) : Type 0 where
   pub done : status ≡ 0
   pub image : Parts
@@ -54,6 +75,11 @@ pub record HasRun (n routine : ℕ) (words handles after room output : List ℕ)
   pub ran : (f : VmFile) → IsFileOf (Unit {0}) old.kernel.core f
       → RanWith (Unit {0}) (Throughout medium old.kernel.device left) image routine words handles old.kernel.core new.kernel.core outcome f
   pub device : old.hosted ≡ true → new.kernel.device ≡ left
+  pub begins : journal_of old.kernel.device ≡ []
+  pub leads : old.hosted ≡ true → Leads (bytes_of old.kernel.device) new.kernel.device
+  pub stops : old.hosted ≡ true → (f : VmFile) (is : IsFileOf (Unit {0}) old.kernel.core f) (c : List ℕ) → MayStopAt new.kernel.device c
+      → OpensAsOneOf (kept_along image (ran f is).ran.choices (begin image routine words handles (memory_of old.kernel.core f))) c
+  pub alone : old.hosted ≡ false → journal_of new.kernel.device ≡ []
   pub words_out : after ≡ outcome.words
   pub put_out : take (length outcome.output.items) output ≡ take (length room) outcome.output.items
   pub count_is : count ≡ length outcome.output.items

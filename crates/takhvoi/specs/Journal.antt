@@ -1,14 +1,18 @@
 -- What C is told of the journal, and what commits come to.
-use Rattle.std.specs.Prelude.{◌≡◌, ℕ, true, List, length, Option, Some, None, slice_get}
+use Rattle.std.specs.Prelude.{◌≡◌, ◌<◌, ◌+◌, ◌⊎◌, ℕ, false, true, List, [], length, Option, Some, None, slice_get}
 use Rattle.lmem_raw.specs.Bytes.{part}
 use Rattle.vm_file.specs.declared.commit.How.{How}
 use Rattle.vm_blocks.specs.ListedCalls.{keeper_of}
 use Rattle.geos_calls.specs.VmCalls.{commit}
+use Rattle.geos_calls.specs.VmFile.{VmFile}
+use Rattle.vm_blocks.specs.Found.{OpensAsKept}
 use Rattle.geos_kernel.specs.Files.{Between}
-use Rattle.host_device.specs.Journal.{Settles, journal_of, medium}
+use Rattle.geos_kernel.specs.View.{IsFileOf, KernelOn}
+use Rattle.host_device.specs.Journal.{LeavesSince, Settles, bytes_of, journal_of, medium, performed, steps_of}
+use Rattle.host_device.specs.declared.device.HostDevice.{HostDevice}
 use Rattle.host_device.specs.declared.step.Step.{Step}
 use Rattle.host_device.specs.declared.step.Step.TheVariants.{Write, Sync}
-use Rattle.takhvoi.specs.Answers.{IsAnswer}
+use Rattle.takhvoi.specs.Answers.{IsReply}
 use Rattle.takhvoi.specs.declared.system.System.{System}
 
 -- what is told of a step, if there is one: 1 for a write, with where it begins and how many bytes it has; 2 for a sync; and 0 for none
@@ -22,9 +26,18 @@ abbrev pub HasBytes : Option Step → ℕ → List ℕ → Type 0
 HasBytes (Some (Write at stood bytes)) from part_of = part_of ≡ part bytes.items from (length part_of)
 HasBytes step from part_of = ⊥
 
+-- there is no such step that is a write, or it has not so many bytes from one of them on
+abbrev pub LacksBytes : Option Step → ℕ → ℕ → Type 0
+LacksBytes (Some (Write at stood bytes)) from n = length bytes.items < from + n
+LacksBytes step from n = Unit {0}
+
 -- the step of the journal with a number
 abbrev pub step_at : System → ℕ → Option Step
 step_at system n = slice_get (journal_of system.kernel.device) n
+
+-- 105: the step with a number does not have these bytes
+abbrev pub NoSuchBytes : ℕ → ℕ → ℕ → ℕ → System → Type 0
+NoSuchBytes number from n status s = (status ≡ 105) × LacksBytes (step_at s number) from n
 
 -- nothing is noted any more, and nothing else has changed
 pub record IsSettled (status : ℕ) (old new : System) : Type 0 where
@@ -32,6 +45,23 @@ pub record IsSettled (status : ℕ) (old new : System) : Type 0 where
   pub core : new.kernel.core ≡ old.kernel.core
   pub device : Settles old.kernel.device new.kernel.device
 
--- the commit answered as its row says; a host that is stopped while it performs what is noted has what was kept before or after
+-- performing what is noted makes of the bytes that the host holds what the device holds
+abbrev pub Leads : List ℕ → HostDevice → Type 0
+Leads host device = performed host (steps_of device) ≡ bytes_of device
+
+-- a host that had performed all that was noted earlier, and is stopped while it performs what is noted, may be left with these bytes
+abbrev pub MayStopAt : HostDevice → List ℕ → Type 0
+MayStopAt device c = LeavesSince (bytes_of device) (length (steps_of device)) (steps_of device) c
+
+-- a commit on a file that a host has, which had performed all: what is noted leads it to what the device holds; and if it is stopped
+-- meanwhile, the file opens as what was kept before or after
+pub record IsNoted (old new : KernelOn HostDevice) : Type 0 where
+  pub leads : Leads (bytes_of old.device) new.device
+  pub stops : (f g : VmFile) → IsFileOf (Unit {0}) old.core f → IsFileOf (Unit {0}) new.core g → (c : List ℕ) → MayStopAt new.device c
+      → OpensAsKept f.kept c ⊎ OpensAsKept g.kept c
+  pub between : Between medium old new
+
+-- the commit answered as its row says, with nothing noted before; what it noted is for the host, and forgotten if there is none
 abbrev pub IsCommitted : How → ℕ → System → System → Type 0
-IsCommitted how status old new = IsAnswer (commit (keeper_of how)) status old new × (old.hosted ≡ true → Between medium old.kernel new.kernel)
+IsCommitted how status old new = IsReply (commit (keeper_of how)) status old new × (journal_of old.kernel.device ≡ [])
+    × (old.hosted ≡ true → IsNoted old.kernel new.kernel) × (old.hosted ≡ false → journal_of new.kernel.device ≡ [])

@@ -4,5 +4,6 @@ pub mod Held
 pub mod Images
 pub mod Journal
 pub mod Names
+pub mod Own
 pub mod Starts
 pub mod Texts

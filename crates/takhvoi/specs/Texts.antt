@@ -1,5 +1,5 @@
 -- What calls on texts and images give.
-use Rattle.std.specs.Prelude.{◌≡◌, ℕ, true, List, Option, Ok}
+use Rattle.std.specs.Prelude.{◌≡◌, ◌<◌, ◌⊎◌, ℕ, true, List, length, Option, Ok}
 use Rattle.geos_image.specs.Parts.{Parts}
 use Rattle.geos_image.specs.Reading.{image_at}
 use Rattle.geos_verify.specs.declared.rule.Reject.{Reject}
@@ -9,6 +9,14 @@ use Rattle.geos_explain.specs.Explanation.{AreItsRefusals, IsExplanationOf}
 use Rattle.geos_source.specs.declared.fault.BadLine as fault
 use Rattle.geos_asm.specs.Assembling.{IsAssembled, IsWhyNoImage}
 use Rattle.geos_asm.specs.declared.error.AssembleError.TheVariants.{BadLine}
+
+-- what was wanted has so many bytes, more than there is room for
+abbrev pub IsLonger : (List ℕ → Type 0) → ℕ → ℕ → Type 0
+IsLonger wanted told room = (bytes : List ℕ) × wanted bytes × (told ≡ length bytes) × (room < length bytes)
+
+-- 0, 111, 112 or 115
+abbrev pub GivesOrTells : ℕ → Type 0
+GivesOrTells status = (status ≡ 0) ⊎ ((status ≡ 111) ⊎ ((status ≡ 112) ⊎ (status ≡ 115)))
 
 -- the bytes spell an image of the text, with rows at its key places
 abbrev pub IsImageOf : List ℕ → List ℕ → Type 0

@@ -1,12 +1,13 @@
 //! Bytes of chunks, and of elements of arrays, are copied out and in.
 
-ghost use Rattle.std.specs.Prelude.{◌≡◌, ◌+◌, ◌≤◌, length, IfSome};
+ghost use Rattle.std.specs.Prelude.{◌≡◌, ◌≢◌, ◌+◌, ◌<◌, ◌≤◌, length, IfNone, IfSome};
 ghost use Rattle.geos_calls.specs.ArrayCalls as arrays;
 ghost use Rattle.geos_calls.specs.Calls as table;
 ghost use Rattle.geos_calls.specs.ChunkCalls.{least, refer_row};
 ghost use Rattle.takhvoi.specs.Answers.{Done, On, Served};
 ghost use Rattle.takhvoi.specs.Bytes.{IsCopied, IsMeasured, IsWritten};
 ghost use Rattle.takhvoi.specs.Names.{name_of};
+ghost use Rattle.takhvoi.specs.Own.{MayNotRead, MayNotWrite, NotLocked};
 
 use crate::chunks::may_change;
 use crate::handle::Handle;
@@ -19,7 +20,8 @@ use std::alloc::Global;
 
 /// The end of a range of bytes, if a chunk can have so many.
 fn end_of(at: u16, len: usize) -> Option<u16>
-    ensures { IfSome result (λ end. end ≡ at + len) }
+    ensures some { IfSome result (λ end. end ≡ at + len) }
+    ensures none { IfNone result (65535 < at + len) }
 {
     if len <= usize::from(u16::MAX - at) {
         Some(at + len as u16)
@@ -30,7 +32,7 @@ fn end_of(at: u16, len: usize) -> Option<u16>
 
 fn read_in(system: &mut System, name: Name, refer: Refer, at: u16, into: &mut [u8]) -> u32
     requires { at + length into.old ≤ least refer }
-    ensures { Done (IsCopied (refer_row name refer) at into.new) result system.old system.new }
+    ensures { Done (MayNotRead name at (length into.old)) (IsCopied (refer_row name refer) at into.new) result system.old system.new }
 {
     if system.kernel.locks(name) == 0 {
         return NOT_LOCKED;
@@ -54,7 +56,7 @@ fn read(
     into: &mut [u8],
 ) -> u32
     requires { at + length into.old ≤ least refer }
-    ensures { Served (IsCopied (refer_row (name_of block) refer) at into.new) result handle.old handle.new }
+    ensures { Served (MayNotRead (name_of block) at (length into.old)) (IsCopied (refer_row (name_of block) refer) at into.new) result handle.old handle.new }
 {
     let Some(mut system) = take(alloc, handle) else {
         return NO_KERNEL;
@@ -66,7 +68,7 @@ fn read(
 
 fn write_in(system: &mut System, name: Name, refer: Refer, at: u16, from: &[u8]) -> u32
     requires { at + length from.now ≤ least refer }
-    ensures { Done (IsWritten (refer_row name refer) at from.now) result system.old system.new }
+    ensures { Done (MayNotWrite name at (length from.now)) (IsWritten (refer_row name refer) at from.now) result system.old system.new }
 {
     if system.kernel.locks(name) == 0 {
         return NOT_LOCKED;
@@ -86,7 +88,7 @@ fn write_in(system: &mut System, name: Name, refer: Refer, at: u16, from: &[u8])
 /// Stores bytes into what the value refers to, from an offset on.
 fn write(alloc: Global, handle: &mut Handle, block: u32, refer: Refer, at: u16, from: &[u8]) -> u32
     requires { at + length from.now ≤ least refer }
-    ensures { Served (IsWritten (refer_row (name_of block) refer) at from.now) result handle.old handle.new }
+    ensures { Served (MayNotWrite (name_of block) at (length from.now)) (IsWritten (refer_row (name_of block) refer) at from.now) result handle.old handle.new }
 {
     let Some(mut system) = take(alloc, handle) else {
         return NO_KERNEL;
@@ -99,7 +101,7 @@ fn write(alloc: Global, handle: &mut Handle, block: u32, refer: Refer, at: u16, 
 /// Says that no chunk has so many bytes, where the handle holds a kernel.
 fn refuse(alloc: Global, handle: &mut Handle) -> u32
     ensures same { On (λ old new. new ≡ old) result handle.old handle.new }
-    ensures own { 100 ≤ result }
+    ensures own { handle.old.live ≢ 0 → result ≡ 105 }
 {
     let Some(system) = take(alloc, handle) else {
         return NO_KERNEL;
@@ -118,7 +120,7 @@ pub extern "C" fn takhvoi_read(
     at: u16,
     into: &mut [u8],
 ) -> u32
-    ensures { Served (IsCopied (table.deref (name_of block) chunk (at + length into.old)) at into.new) result handle.old handle.new }
+    ensures { Served (MayNotRead (name_of block) at (length into.old)) (IsCopied (table.deref (name_of block) chunk (at + length into.old)) at into.new) result handle.old handle.new }
 {
     match end_of(at, into.len()) {
         Some(end) => read(
@@ -144,7 +146,7 @@ pub extern "C" fn takhvoi_caread(
     at: u16,
     into: &mut [u8],
 ) -> u32
-    ensures { Served (IsCopied (arrays.caelt (name_of block) chunk index (at + length into.old)) at into.new) result handle.old handle.new }
+    ensures { Served (MayNotRead (name_of block) at (length into.old)) (IsCopied (arrays.caelt (name_of block) chunk index (at + length into.old)) at into.new) result handle.old handle.new }
 {
     match end_of(at, into.len()) {
         Some(end) => read(
@@ -164,7 +166,7 @@ pub extern "C" fn takhvoi_caread(
 }
 
 fn measure(system: &mut System, name: Name, refer: Refer, told: &mut u16) -> u32
-    ensures { Done (IsMeasured (refer_row name refer) told.new) result system.old system.new }
+    ensures { Done (NotLocked name) (IsMeasured (refer_row name refer) told.new) result system.old system.new }
 {
     if system.kernel.locks(name) == 0 {
         return NOT_LOCKED;
@@ -180,7 +182,7 @@ fn measure(system: &mut System, name: Name, refer: Refer, told: &mut u16) -> u32
 
 /// Tells how many bytes the value refers to.
 fn tell_length(alloc: Global, handle: &mut Handle, block: u32, refer: Refer, told: &mut u16) -> u32
-    ensures { Served (IsMeasured (refer_row (name_of block) refer) told.new) result handle.old handle.new }
+    ensures { Served (NotLocked (name_of block)) (IsMeasured (refer_row (name_of block) refer) told.new) result handle.old handle.new }
 {
     let Some(mut system) = take(alloc, handle) else {
         return NO_KERNEL;
@@ -200,7 +202,7 @@ pub extern "C" fn takhvoi_casize(
     index: u16,
     told: &mut u16,
 ) -> u32
-    ensures { Served (IsMeasured (arrays.caelt (name_of block) chunk index 0) told.new) result handle.old handle.new }
+    ensures { Served (NotLocked (name_of block)) (IsMeasured (arrays.caelt (name_of block) chunk index 0) told.new) result handle.old handle.new }
 {
     tell_length(
         alloc,
@@ -225,7 +227,7 @@ pub extern "C" fn takhvoi_write(
     at: u16,
     from: &[u8],
 ) -> u32
-    ensures { Served (IsWritten (table.deref (name_of block) chunk (at + length from.now)) at from.now) result handle.old handle.new }
+    ensures { Served (MayNotWrite (name_of block) at (length from.now)) (IsWritten (table.deref (name_of block) chunk (at + length from.now)) at from.now) result handle.old handle.new }
 {
     match end_of(at, from.len()) {
         Some(end) => write(
@@ -251,7 +253,7 @@ pub extern "C" fn takhvoi_cawrite(
     at: u16,
     from: &[u8],
 ) -> u32
-    ensures { Served (IsWritten (arrays.caelt (name_of block) chunk index (at + length from.now)) at from.now) result handle.old handle.new }
+    ensures { Served (MayNotWrite (name_of block) at (length from.now)) (IsWritten (arrays.caelt (name_of block) chunk index (at + length from.now)) at from.now) result handle.old handle.new }
 {
     match end_of(at, from.len()) {
         Some(end) => write(

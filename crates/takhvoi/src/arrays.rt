@@ -3,6 +3,7 @@
 ghost use Rattle.geos_calls.specs.ArrayCalls as table;
 ghost use Rattle.takhvoi.specs.Answers.{IsAnswer, IsTold, Served};
 ghost use Rattle.takhvoi.specs.Names.{name_of};
+ghost use Rattle.takhvoi.specs.Own.{MayNotChange, NotLocked};
 
 use crate::chunks::{ask, change, make};
 use crate::handle::Handle;
@@ -18,7 +19,7 @@ pub extern "C" fn takhvoi_canew(
     element_size: u16,
     told: &mut u16,
 ) -> u32
-    ensures { Served (IsTold (table.canew (name_of block) element_size) told.new) result handle.old handle.new }
+    ensures { Served (MayNotChange (name_of block)) (IsTold (table.canew (name_of block) element_size) told.new) result handle.old handle.new }
 {
     make(alloc, handle, block, Make::Canew { element_size }, told)
 }
@@ -32,7 +33,7 @@ pub extern "C" fn takhvoi_caadd(
     chunk: u16,
     len: u16,
 ) -> u32
-    ensures { Served (IsAnswer (table.caadd (name_of block) chunk len)) result handle.old handle.new }
+    ensures { Served (MayNotChange (name_of block)) (IsAnswer (table.caadd (name_of block) chunk len)) result handle.old handle.new }
 {
     change(alloc, handle, block, Change::Caadd { c: chunk, n: len })
 }
@@ -47,7 +48,7 @@ pub extern "C" fn takhvoi_cains(
     index: u16,
     len: u16,
 ) -> u32
-    ensures { Served (IsAnswer (table.cains (name_of block) chunk index len)) result handle.old handle.new }
+    ensures { Served (MayNotChange (name_of block)) (IsAnswer (table.cains (name_of block) chunk index len)) result handle.old handle.new }
 {
     change(
         alloc,
@@ -70,7 +71,7 @@ pub extern "C" fn takhvoi_cadel(
     chunk: u16,
     index: u16,
 ) -> u32
-    ensures { Served (IsAnswer (table.cadel (name_of block) chunk index)) result handle.old handle.new }
+    ensures { Served (MayNotChange (name_of block)) (IsAnswer (table.cadel (name_of block) chunk index)) result handle.old handle.new }
 {
     change(alloc, handle, block, Change::Cadel { c: chunk, i: index })
 }
@@ -78,7 +79,7 @@ pub extern "C" fn takhvoi_cadel(
 /// Takes all elements out.
 #[unsafe(no_mangle)]
 pub extern "C" fn takhvoi_cazero(alloc: Global, handle: &mut Handle, block: u32, chunk: u16) -> u32
-    ensures { Served (IsAnswer (table.cazero (name_of block) chunk)) result handle.old handle.new }
+    ensures { Served (MayNotChange (name_of block)) (IsAnswer (table.cazero (name_of block) chunk)) result handle.old handle.new }
 {
     change(alloc, handle, block, Change::Cazero { c: chunk })
 }
@@ -93,7 +94,7 @@ pub extern "C" fn takhvoi_caresize(
     index: u16,
     len: u16,
 ) -> u32
-    ensures { Served (IsAnswer (table.caresize (name_of block) chunk index len)) result handle.old handle.new }
+    ensures { Served (MayNotChange (name_of block)) (IsAnswer (table.caresize (name_of block) chunk index len)) result handle.old handle.new }
 {
     change(
         alloc,
@@ -116,7 +117,7 @@ pub extern "C" fn takhvoi_cacount(
     chunk: u16,
     told: &mut u16,
 ) -> u32
-    ensures { Served (IsTold (table.cacount (name_of block) chunk) told.new) result handle.old handle.new }
+    ensures { Served (NotLocked (name_of block)) (IsTold (table.cacount (name_of block) chunk) told.new) result handle.old handle.new }
 {
     ask(alloc, handle, block, Ask::Cacount { c: chunk }, told)
 }

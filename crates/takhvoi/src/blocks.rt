@@ -8,6 +8,7 @@ ghost use Rattle.vm_blocks.specs.View.{held_at};
 ghost use Rattle.geos_calls.specs.Calls as table;
 ghost use Rattle.takhvoi.specs.Answers.{Done, IsAnswer, IsFlag, IsTold, Looks, Served};
 ghost use Rattle.takhvoi.specs.Names.{name_of};
+ghost use Rattle.takhvoi.specs.Own.{NoOwn, NotLocked};
 
 use crate::handle::Handle;
 use crate::held::{put, take};
@@ -16,7 +17,7 @@ use crate::system::System;
 use std::alloc::Global;
 
 fn mnew(system: &mut System, told: &mut u16) -> u32
-    ensures { Done (IsTold table.mnew told.new) result system.old system.new }
+    ensures { Done NoOwn (IsTold table.mnew told.new) result system.old system.new }
 {
     tell(system.kernel.mnew(), told)
 }
@@ -24,7 +25,7 @@ fn mnew(system: &mut System, told: &mut u16) -> u32
 /// Makes a block of 64 bytes, locks it, and tells its handle.
 #[unsafe(no_mangle)]
 pub extern "C" fn takhvoi_mnew(alloc: Global, handle: &mut Handle, told: &mut u16) -> u32
-    ensures { Served (IsTold table.mnew told.new) result handle.old handle.new }
+    ensures { Served NoOwn (IsTold table.mnew told.new) result handle.old handle.new }
 {
     let Some(mut system) = take(alloc, handle) else {
         return NO_KERNEL;
@@ -35,7 +36,7 @@ pub extern "C" fn takhvoi_mnew(alloc: Global, handle: &mut Handle, told: &mut u1
 }
 
 fn mlock(system: &mut System, block: u16) -> u32
-    ensures { Done (IsAnswer (table.mlock block)) result system.old system.new }
+    ensures { Done NoOwn (IsAnswer (table.mlock block)) result system.old system.new }
 {
     end(system.kernel.mlock(block))
 }
@@ -43,7 +44,7 @@ fn mlock(system: &mut System, block: u16) -> u32
 /// Locks a block of memory once more.
 #[unsafe(no_mangle)]
 pub extern "C" fn takhvoi_mlock(alloc: Global, handle: &mut Handle, block: u16) -> u32
-    ensures { Served (IsAnswer (table.mlock block)) result handle.old handle.new }
+    ensures { Served NoOwn (IsAnswer (table.mlock block)) result handle.old handle.new }
 {
     let Some(mut system) = take(alloc, handle) else {
         return NO_KERNEL;
@@ -54,7 +55,7 @@ pub extern "C" fn takhvoi_mlock(alloc: Global, handle: &mut Handle, block: u16) 
 }
 
 fn unlock(system: &mut System, block: u32) -> u32
-    ensures { Done (IsAnswer (table.unlock (name_of block))) result system.old system.new }
+    ensures { Done (NotLocked (name_of block)) (IsAnswer (table.unlock (name_of block))) result system.old system.new }
 {
     let name = name_of(block);
     if system.kernel.locks(name) == 0 {
@@ -67,7 +68,7 @@ fn unlock(system: &mut System, block: u32) -> u32
 /// Unlocks a block of either owner, or a group, once.
 #[unsafe(no_mangle)]
 pub extern "C" fn takhvoi_unlock(alloc: Global, handle: &mut Handle, block: u32) -> u32
-    ensures { Served (IsAnswer (table.unlock (name_of block))) result handle.old handle.new }
+    ensures { Served (NotLocked (name_of block)) (IsAnswer (table.unlock (name_of block))) result handle.old handle.new }
 {
     let Some(mut system) = take(alloc, handle) else {
         return NO_KERNEL;
@@ -78,7 +79,7 @@ pub extern "C" fn takhvoi_unlock(alloc: Global, handle: &mut Handle, block: u32)
 }
 
 fn mfree(system: &mut System, block: u16) -> u32
-    ensures { Done (IsAnswer (table.mfree block)) result system.old system.new }
+    ensures { Done NoOwn (IsAnswer (table.mfree block)) result system.old system.new }
 {
     end(system.kernel.mfree(block))
 }
@@ -86,7 +87,7 @@ fn mfree(system: &mut System, block: u16) -> u32
 /// Frees a block of memory that is not locked.
 #[unsafe(no_mangle)]
 pub extern "C" fn takhvoi_mfree(alloc: Global, handle: &mut Handle, block: u16) -> u32
-    ensures { Served (IsAnswer (table.mfree block)) result handle.old handle.new }
+    ensures { Served NoOwn (IsAnswer (table.mfree block)) result handle.old handle.new }
 {
     let Some(mut system) = take(alloc, handle) else {
         return NO_KERNEL;
@@ -104,7 +105,7 @@ pub extern "C" fn takhvoi_locks(
     block: u32,
     told: &mut u16,
 ) -> u32
-    ensures { Served (Looks (told.new ≡ locks_of handle.old.value.kernel.core.blocks (slot_of (name_of block)))) result handle.old handle.new }
+    ensures { Served NoOwn (Looks (told.new ≡ locks_of handle.old.value.kernel.core.blocks (slot_of (name_of block)))) result handle.old handle.new }
 {
     let Some(system) = take(alloc, handle) else {
         return NO_KERNEL;
@@ -122,7 +123,7 @@ pub extern "C" fn takhvoi_marked(
     block: u16,
     told: &mut u16,
 ) -> u32
-    ensures { Served (Looks (IsFlag told.new (is_marked_in (held_at handle.old.value.kernel.core.vm block)))) result handle.old handle.new }
+    ensures { Served NoOwn (Looks (IsFlag told.new (is_marked_in (held_at handle.old.value.kernel.core.vm block)))) result handle.old handle.new }
 {
     let Some(system) = take(alloc, handle) else {
         return NO_KERNEL;

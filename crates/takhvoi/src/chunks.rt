@@ -1,11 +1,18 @@
 //! Calls on the chunks of a locked block.
 
-ghost use Rattle.std.specs.Prelude.{IsTrue};
+ghost use Rattle.std.specs.Prelude.{◌≡◌, false, IsFalse, IsTrue};
+ghost use Rattle.block_handles.specs.Names.{slot_of};
+ghost use Rattle.block_handles.specs.Store.{bytes_of};
+ghost use Rattle.geos_terms.specs.Heap.{IsCompact};
+ghost use Rattle.geos_terms.specs.declared.name.Owner.TheVariants as owner;
+ghost use Rattle.vm_blocks.specs.Blocks.{is_marked_in};
+ghost use Rattle.vm_blocks.specs.View.{held_at};
 ghost use Rattle.geos_calls.specs.Calls as table;
 ghost use Rattle.geos_calls.specs.ChunkCalls.{ask_row, change_row, make_row};
 ghost use Rattle.geos_kernel.specs.View.{MayChange};
 ghost use Rattle.takhvoi.specs.Answers.{Done, IsAnswer, IsTold, Served};
 ghost use Rattle.takhvoi.specs.Names.{name_of};
+ghost use Rattle.takhvoi.specs.Own.{MayNotChange, NotLocked};
 
 use crate::handle::Handle;
 use crate::held::{put, take};
@@ -17,7 +24,8 @@ use std::alloc::Global;
 
 /// Whether the bytes of a block may be changed: where it is one of the VM file, it is marked.
 pub(crate) fn may_change(system: &System, name: Name) -> bool
-    ensures { IsTrue result → MayChange system.now.kernel.core name }
+    ensures yes { IsTrue result → MayChange system.now.kernel.core name }
+    ensures no { IsFalse result → (name.owner ≡ owner.Vm) × (is_marked_in (held_at system.now.kernel.core.vm name.h) ≡ false) }
 {
     match name.owner {
         Owner::Mem => true,
@@ -26,7 +34,8 @@ pub(crate) fn may_change(system: &System, name: Name) -> bool
 }
 
 fn change_in(system: &mut System, name: Name, change: Change) -> u32
-    ensures { Done (IsAnswer (change_row name change)) result system.old system.new }
+    ensures done { Done (MayNotChange name) (IsAnswer (change_row name change)) result system.old system.new }
+    ensures compact { change ≡ Change.Lcontract → result ≡ 0 → IsCompact (bytes_of system.new.kernel.core.blocks (slot_of name)) }
 {
     if system.kernel.locks(name) == 0 {
         return NOT_LOCKED;
@@ -39,7 +48,8 @@ fn change_in(system: &mut System, name: Name, change: Change) -> u32
 
 /// Changes the chunks of a block, as the value says.
 pub(crate) fn change(alloc: Global, handle: &mut Handle, block: u32, change: Change) -> u32
-    ensures { Served (IsAnswer (change_row (name_of block) change)) result handle.old handle.new }
+    ensures served { Served (MayNotChange (name_of block)) (IsAnswer (change_row (name_of block) change)) result handle.old handle.new }
+    ensures compact { change ≡ Change.Lcontract → result ≡ 0 → IsCompact (bytes_of handle.new.value.kernel.core.blocks (slot_of (name_of block))) }
 {
     let Some(mut system) = take(alloc, handle) else {
         return NO_KERNEL;
@@ -50,7 +60,7 @@ pub(crate) fn change(alloc: Global, handle: &mut Handle, block: u32, change: Cha
 }
 
 fn make_in(system: &mut System, name: Name, make: Make, told: &mut u16) -> u32
-    ensures { Done (IsTold (make_row name make) told.new) result system.old system.new }
+    ensures { Done (MayNotChange name) (IsTold (make_row name make) told.new) result system.old system.new }
 {
     if system.kernel.locks(name) == 0 {
         return NOT_LOCKED;
@@ -69,7 +79,7 @@ pub(crate) fn make(
     make: Make,
     told: &mut u16,
 ) -> u32
-    ensures { Served (IsTold (make_row (name_of block) make) told.new) result handle.old handle.new }
+    ensures { Served (MayNotChange (name_of block)) (IsTold (make_row (name_of block) make) told.new) result handle.old handle.new }
 {
     let Some(mut system) = take(alloc, handle) else {
         return NO_KERNEL;
@@ -80,7 +90,7 @@ pub(crate) fn make(
 }
 
 fn ask_in(system: &mut System, name: Name, ask: Ask, told: &mut u16) -> u32
-    ensures { Done (IsTold (ask_row name ask) told.new) result system.old system.new }
+    ensures { Done (NotLocked name) (IsTold (ask_row name ask) told.new) result system.old system.new }
 {
     if system.kernel.locks(name) == 0 {
         return NOT_LOCKED;
@@ -90,7 +100,7 @@ fn ask_in(system: &mut System, name: Name, ask: Ask, told: &mut u16) -> u32
 
 /// Tells a number of the chunks of a block, as the value says.
 pub(crate) fn ask(alloc: Global, handle: &mut Handle, block: u32, ask: Ask, told: &mut u16) -> u32
-    ensures { Served (IsTold (ask_row (name_of block) ask) told.new) result handle.old handle.new }
+    ensures { Served (NotLocked (name_of block)) (IsTold (ask_row (name_of block) ask) told.new) result handle.old handle.new }
 {
     let Some(mut system) = take(alloc, handle) else {
         return NO_KERNEL;
@@ -109,7 +119,7 @@ pub extern "C" fn takhvoi_lalloc(
     len: u16,
     told: &mut u16,
 ) -> u32
-    ensures { Served (IsTold (table.lalloc (name_of block) len) told.new) result handle.old handle.new }
+    ensures { Served (MayNotChange (name_of block)) (IsTold (table.lalloc (name_of block) len) told.new) result handle.old handle.new }
 {
     make(alloc, handle, block, Make::Lalloc { n: len }, told)
 }
@@ -117,7 +127,7 @@ pub extern "C" fn takhvoi_lalloc(
 /// Frees a chunk.
 #[unsafe(no_mangle)]
 pub extern "C" fn takhvoi_lfree(alloc: Global, handle: &mut Handle, block: u32, chunk: u16) -> u32
-    ensures { Served (IsAnswer (table.lfree (name_of block) chunk)) result handle.old handle.new }
+    ensures { Served (MayNotChange (name_of block)) (IsAnswer (table.lfree (name_of block) chunk)) result handle.old handle.new }
 {
     change(alloc, handle, block, Change::Lfree { c: chunk })
 }
@@ -131,7 +141,7 @@ pub extern "C" fn takhvoi_lrealloc(
     chunk: u16,
     len: u16,
 ) -> u32
-    ensures { Served (IsAnswer (table.lrealloc (name_of block) chunk len)) result handle.old handle.new }
+    ensures { Served (MayNotChange (name_of block)) (IsAnswer (table.lrealloc (name_of block) chunk len)) result handle.old handle.new }
 {
     change(alloc, handle, block, Change::Lrealloc { c: chunk, n: len })
 }
@@ -146,7 +156,7 @@ pub extern "C" fn takhvoi_lins(
     at: u16,
     len: u16,
 ) -> u32
-    ensures { Served (IsAnswer (table.lins (name_of block) chunk at len)) result handle.old handle.new }
+    ensures { Served (MayNotChange (name_of block)) (IsAnswer (table.lins (name_of block) chunk at len)) result handle.old handle.new }
 {
     change(
         alloc,
@@ -170,7 +180,7 @@ pub extern "C" fn takhvoi_ldel(
     at: u16,
     len: u16,
 ) -> u32
-    ensures { Served (IsAnswer (table.ldel (name_of block) chunk at len)) result handle.old handle.new }
+    ensures { Served (MayNotChange (name_of block)) (IsAnswer (table.ldel (name_of block) chunk at len)) result handle.old handle.new }
 {
     change(
         alloc,
@@ -187,7 +197,8 @@ pub extern "C" fn takhvoi_ldel(
 /// Moves the chunks of a block together, so that its free bytes are in one piece.
 #[unsafe(no_mangle)]
 pub extern "C" fn takhvoi_lcontract(alloc: Global, handle: &mut Handle, block: u32) -> u32
-    ensures { Served (IsAnswer (table.lcontract (name_of block))) result handle.old handle.new }
+    ensures served { Served (MayNotChange (name_of block)) (IsAnswer (table.lcontract (name_of block))) result handle.old handle.new }
+    ensures compact { result ≡ 0 → IsCompact (bytes_of handle.new.value.kernel.core.blocks (slot_of (name_of block))) }
 {
     change(alloc, handle, block, Change::Lcontract)
 }
@@ -201,7 +212,7 @@ pub extern "C" fn takhvoi_lsize(
     chunk: u16,
     told: &mut u16,
 ) -> u32
-    ensures { Served (IsTold (table.lsize (name_of block) chunk) told.new) result handle.old handle.new }
+    ensures { Served (NotLocked (name_of block)) (IsTold (table.lsize (name_of block) chunk) told.new) result handle.old handle.new }
 {
     ask(alloc, handle, block, Ask::Lsize { c: chunk }, told)
 }

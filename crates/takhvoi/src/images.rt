@@ -1,12 +1,12 @@
 //! Images are loaded, and their routines run.
 
 ghost use Rattle.std.specs.Option.{option_copied};
-ghost use Rattle.std.specs.Prelude.{◌≡◌, ◌≤◌, ℕ, Err, Some, IfSome, length, slice_get, take};
+ghost use Rattle.std.specs.Prelude.{◌≡◌, ◌≤◌, ◌⊎◌, ℕ, Err, Some, IfNone, IfSome, length, slice_get, take};
 ghost use Rattle.geos_image.specs.Parts.{Parts};
 ghost use Rattle.geos_image.specs.Reading.{image_at};
 ghost use Rattle.takhvoi.specs.Answers.{Done, Looks, On, Served};
 ghost use Rattle.geos_verify.specs.RuleText.{rule_number};
-ghost use Rattle.takhvoi.specs.Images.{HasRoutine, HasRun, IsLoaded, IsNamed, IsRejected, IsUnloaded};
+ghost use Rattle.takhvoi.specs.Images.{HasRoutine, HasRun, IsLoaded, IsNamed, IsRejected, IsUnloaded, MayNotRun};
 
 use crate::handle::Handle;
 use crate::held::{put, take};
@@ -40,7 +40,7 @@ fn lowest_free(images: &Vec<Option<Checked>>) -> usize
 fn append(images: &mut Vec<Option<Checked>>, checked: Checked, number: &mut u32) -> u32
     ensures stands { result ≡ 0 → slice_get images.new.items number.new ≡ Some (Some checked) }
     ensures stay { (n : ℕ) (image : Parts) → slice_get images.old.items n ≡ Some (Some image) → slice_get images.new.items n ≡ Some (Some image) }
-    ensures own { result ≤ 111 }
+    ensures own { (result ≡ 0) ⊎ (result ≡ 111) }
 {
     let next = images.len();
     if next >= MOST_IMAGES {
@@ -58,7 +58,7 @@ fn append(images: &mut Vec<Option<Checked>>, checked: Checked, number: &mut u32)
 fn keep(images: &mut Vec<Option<Checked>>, checked: Checked, number: &mut u32) -> u32
     ensures stands { result ≡ 0 → slice_get images.new.items number.new ≡ Some (Some checked) }
     ensures stay { (n : ℕ) (image : Parts) → slice_get images.old.items n ≡ Some (Some image) → slice_get images.new.items n ≡ Some (Some image) }
-    ensures own { result ≤ 111 }
+    ensures own { (result ≡ 0) ⊎ (result ≡ 111) }
 {
     let free = lowest_free(images);
     if free >= images.len() {
@@ -132,7 +132,7 @@ pub extern "C" fn takhvoi_load(
     status
 }
 
-#[tactic(auto, using(crate::proofs::Numbers::set_is, crate::proofs::Numbers::others_stay))]
+#[tactic(auto, using(crate::proofs::Numbers::set_is, crate::proofs::Numbers::others_stay, crate::proofs::Numbers::none_from))]
 fn unload_in(system: &mut System, number: u32) -> u32
     ensures { IsUnloaded number result system.old system.new }
 {
@@ -159,7 +159,8 @@ pub extern "C" fn takhvoi_unload(alloc: Global, handle: &mut Handle, number: u32
 
 /// The image that a number stands for.
 fn image_of(images: &Vec<Option<Checked>>, number: u32) -> Option<&Checked>
-    ensures { IfSome (option_copied result) (λ image. slice_get images.now.items number ≡ Some (Some image)) }
+    ensures some { IfSome (option_copied result) (λ image. slice_get images.now.items number ≡ Some (Some image)) }
+    ensures none { IfNone (option_copied result) ((image : Parts) → slice_get images.now.items number ≡ Some (Some image) → ⊥) }
 {
     match images.get(number as usize) {
         Some(Some(checked)) => Some(checked),
@@ -185,7 +186,7 @@ fn run_in(
     count: &mut u32,
     steps: &mut u32,
 ) -> u32
-    ensures { Done (HasRun number routine words.old handles.now words.new output.old output.new count.new steps.new) result system.old system.new }
+    ensures { Done (MayNotRun number routine words.old handles.now) (HasRun number routine words.old handles.now words.new output.old output.new count.new steps.new) result system.old system.new }
 {
     let System {
         kernel,
@@ -202,6 +203,8 @@ fn run_in(
     if !is_performed(kernel) {
         return PENDING;
     }
+    // what the file keeps before it
+    kernel.memory_is_legal();
     let outcome = machine.run_in_place(checked, routine, words, handles, kernel);
     rest(kernel, *hosted);
     *words = outcome.words;
@@ -226,7 +229,7 @@ pub extern "C" fn takhvoi_run(
     count: &mut u32,
     steps: &mut u32,
 ) -> u32
-    ensures { Served (HasRun number routine words.old handles.now words.new output.old output.new count.new steps.new) result handle.old handle.new }
+    ensures { Served (MayNotRun number routine words.old handles.now) (HasRun number routine words.old handles.now words.new output.old output.new count.new steps.new) result handle.old handle.new }
 {
     let Some(mut system) = take(alloc, handle) else {
         return NO_KERNEL;

@@ -3,8 +3,9 @@
 ghost use Rattle.geos_terms.specs.Names.{vm};
 ghost use Rattle.geos_calls.specs.ChunkCalls.{change_row, make_row};
 ghost use Rattle.geos_calls.specs.ItemCalls as table;
-ghost use Rattle.takhvoi.specs.Answers.{Done, IsAnswer, IsTold, IsToldTwo, Served};
+ghost use Rattle.takhvoi.specs.Answers.{Done, IsAnswer, IsAnswerRead, IsTold, IsToldRead, IsToldTwo, Served};
 ghost use Rattle.takhvoi.specs.Bytes.{IsReferred};
+ghost use Rattle.takhvoi.specs.Own.{NoOwn};
 
 use crate::handle::Handle;
 use crate::held::{put, take};
@@ -14,7 +15,7 @@ use geos_calls::{Change, Make};
 use std::alloc::Global;
 
 fn gnew(system: &mut System, told: &mut u16) -> u32
-    ensures { Done (IsTold table.gnew told.new) result system.old system.new }
+    ensures { Done NoOwn (IsTold table.gnew told.new) result system.old system.new }
 {
     tell(system.kernel.gnew(), told)
 }
@@ -22,7 +23,7 @@ fn gnew(system: &mut System, told: &mut u16) -> u32
 /// Makes a group, marks it, and tells its handle.
 #[unsafe(no_mangle)]
 pub extern "C" fn takhvoi_gnew(alloc: Global, handle: &mut Handle, told: &mut u16) -> u32
-    ensures { Served (IsTold table.gnew told.new) result handle.old handle.new }
+    ensures { Served NoOwn (IsTold table.gnew told.new) result handle.old handle.new }
 {
     let Some(mut system) = take(alloc, handle) else {
         return NO_KERNEL;
@@ -33,7 +34,7 @@ pub extern "C" fn takhvoi_gnew(alloc: Global, handle: &mut Handle, told: &mut u1
 }
 
 fn gfree(system: &mut System, group: u16) -> u32
-    ensures { Done (IsAnswer (table.gfree group)) result system.old system.new }
+    ensures { Done NoOwn (IsAnswer (table.gfree group)) result system.old system.new }
 {
     end(system.kernel.gfree(group))
 }
@@ -41,7 +42,7 @@ fn gfree(system: &mut System, group: u16) -> u32
 /// Frees a group that is not locked, with its items.
 #[unsafe(no_mangle)]
 pub extern "C" fn takhvoi_gfree(alloc: Global, handle: &mut Handle, group: u16) -> u32
-    ensures { Served (IsAnswer (table.gfree group)) result handle.old handle.new }
+    ensures { Served NoOwn (IsAnswer (table.gfree group)) result handle.old handle.new }
 {
     let Some(mut system) = take(alloc, handle) else {
         return NO_KERNEL;
@@ -52,14 +53,14 @@ pub extern "C" fn takhvoi_gfree(alloc: Global, handle: &mut Handle, group: u16) 
 }
 
 fn make_in(system: &mut System, group: u16, make: Make, told: &mut u16) -> u32
-    ensures { Done (IsTold (table.on_group group (make_row (vm group) make)) told.new) result system.old system.new }
+    ensures { Done NoOwn (IsToldRead (table.on_group group (make_row (vm group) make)) told.new) result system.old system.new }
 {
     tell(system.kernel.item_make(group, make), told)
 }
 
 /// Makes an item of a group, as the value says, and tells its handle.
 fn make(alloc: Global, handle: &mut Handle, group: u16, make: Make, told: &mut u16) -> u32
-    ensures { Served (IsTold (table.on_group group (make_row (vm group) make)) told.new) result handle.old handle.new }
+    ensures { Served NoOwn (IsToldRead (table.on_group group (make_row (vm group) make)) told.new) result handle.old handle.new }
 {
     let Some(mut system) = take(alloc, handle) else {
         return NO_KERNEL;
@@ -78,20 +79,20 @@ pub extern "C" fn takhvoi_inew(
     len: u16,
     told: &mut u16,
 ) -> u32
-    ensures { Served (IsTold (table.inew group len) told.new) result handle.old handle.new }
+    ensures { Served NoOwn (IsToldRead (table.inew group len) told.new) result handle.old handle.new }
 {
     make(alloc, handle, group, Make::Lalloc { n: len }, told)
 }
 
 fn change_in(system: &mut System, group: u16, change: Change) -> u32
-    ensures { Done (IsAnswer (table.on_group group (change_row (vm group) change))) result system.old system.new }
+    ensures { Done NoOwn (IsAnswerRead (table.on_group group (change_row (vm group) change))) result system.old system.new }
 {
     end(system.kernel.item_change(group, change))
 }
 
 /// Changes the items of a group, as the value says.
 fn change(alloc: Global, handle: &mut Handle, group: u16, change: Change) -> u32
-    ensures { Served (IsAnswer (table.on_group group (change_row (vm group) change))) result handle.old handle.new }
+    ensures { Served NoOwn (IsAnswerRead (table.on_group group (change_row (vm group) change))) result handle.old handle.new }
 {
     let Some(mut system) = take(alloc, handle) else {
         return NO_KERNEL;
@@ -104,7 +105,7 @@ fn change(alloc: Global, handle: &mut Handle, group: u16, change: Change) -> u32
 /// Frees an item.
 #[unsafe(no_mangle)]
 pub extern "C" fn takhvoi_ifree(alloc: Global, handle: &mut Handle, group: u16, item: u16) -> u32
-    ensures { Served (IsAnswer (table.ifree group item)) result handle.old handle.new }
+    ensures { Served NoOwn (IsAnswerRead (table.ifree group item)) result handle.old handle.new }
 {
     change(alloc, handle, group, Change::Lfree { c: item })
 }
@@ -118,7 +119,7 @@ pub extern "C" fn takhvoi_irealloc(
     item: u16,
     len: u16,
 ) -> u32
-    ensures { Served (IsAnswer (table.irealloc group item len)) result handle.old handle.new }
+    ensures { Served NoOwn (IsAnswerRead (table.irealloc group item len)) result handle.old handle.new }
 {
     change(alloc, handle, group, Change::Lrealloc { c: item, n: len })
 }
@@ -133,7 +134,7 @@ pub extern "C" fn takhvoi_iins(
     at: u16,
     len: u16,
 ) -> u32
-    ensures { Served (IsAnswer (table.iins group item at len)) result handle.old handle.new }
+    ensures { Served NoOwn (IsAnswerRead (table.iins group item at len)) result handle.old handle.new }
 {
     change(
         alloc,
@@ -157,7 +158,7 @@ pub extern "C" fn takhvoi_idel(
     at: u16,
     len: u16,
 ) -> u32
-    ensures { Served (IsAnswer (table.idel group item at len)) result handle.old handle.new }
+    ensures { Served NoOwn (IsAnswerRead (table.idel group item at len)) result handle.old handle.new }
 {
     change(
         alloc,
@@ -172,7 +173,7 @@ pub extern "C" fn takhvoi_idel(
 }
 
 fn ilock(system: &mut System, group: u16, item: u16, told: &mut u16) -> u32
-    ensures { Done (IsReferred (table.ilock group item 0) told.new) result system.old system.new }
+    ensures { Done NoOwn (IsReferred (table.ilock group item 0) told.new) result system.old system.new }
 {
     match system.kernel.ilock(group, item, 0) {
         Ok(span) => {
@@ -192,7 +193,7 @@ pub extern "C" fn takhvoi_ilock(
     item: u16,
     told: &mut u16,
 ) -> u32
-    ensures { Served (IsReferred (table.ilock group item 0) told.new) result handle.old handle.new }
+    ensures { Served NoOwn (IsReferred (table.ilock group item 0) told.new) result handle.old handle.new }
 {
     let Some(mut system) = take(alloc, handle) else {
         return NO_KERNEL;
@@ -203,7 +204,7 @@ pub extern "C" fn takhvoi_ilock(
 }
 
 fn igetmap(system: &mut System, group: &mut u16, item: &mut u16) -> u32
-    ensures { Done (IsToldTwo table.igetmap group.new item.new) result system.old system.new }
+    ensures { Done NoOwn (IsToldTwo table.igetmap group.new item.new) result system.old system.new }
 {
     let map = system.kernel.igetmap();
     *group = map.0;
@@ -219,7 +220,7 @@ pub extern "C" fn takhvoi_igetmap(
     group: &mut u16,
     item: &mut u16,
 ) -> u32
-    ensures { Served (IsToldTwo table.igetmap group.new item.new) result handle.old handle.new }
+    ensures { Served NoOwn (IsToldTwo table.igetmap group.new item.new) result handle.old handle.new }
 {
     let Some(mut system) = take(alloc, handle) else {
         return NO_KERNEL;
@@ -230,7 +231,7 @@ pub extern "C" fn takhvoi_igetmap(
 }
 
 fn isetmap(system: &mut System, group: u16, item: u16) -> u32
-    ensures { Done (IsAnswer (table.isetmap group item)) result system.old system.new }
+    ensures { Done NoOwn (IsAnswer (table.isetmap group item)) result system.old system.new }
 {
     end(system.kernel.isetmap(group, item))
 }
@@ -238,7 +239,7 @@ fn isetmap(system: &mut System, group: u16, item: u16) -> u32
 /// Names the map item; the group 0 and the item 0 for none.
 #[unsafe(no_mangle)]
 pub extern "C" fn takhvoi_isetmap(alloc: Global, handle: &mut Handle, group: u16, item: u16) -> u32
-    ensures { Served (IsAnswer (table.isetmap group item)) result handle.old handle.new }
+    ensures { Served NoOwn (IsAnswer (table.isetmap group item)) result handle.old handle.new }
 {
     let Some(mut system) = take(alloc, handle) else {
         return NO_KERNEL;

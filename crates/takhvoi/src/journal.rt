@@ -1,10 +1,11 @@
 //! What the device has noted is told, for the host to perform.
 
 ghost use Rattle.std.specs.Option.{option_copied};
-ghost use Rattle.std.specs.Prelude.{◌≡◌, [], true};
+ghost use Rattle.std.specs.Prelude.{◌≡◌, [], false, length, true};
 ghost use Rattle.host_device.specs.Journal.{journal_of};
 ghost use Rattle.takhvoi.specs.Answers.{Done, Looks, Served};
-ghost use Rattle.takhvoi.specs.Journal.{HasBytes, IsSettled, IsStep, step_at};
+ghost use Rattle.takhvoi.specs.Journal.{HasBytes, IsSettled, IsStep, LacksBytes, NoSuchBytes, step_at};
+ghost use Rattle.takhvoi.specs.Own.{NoOwn};
 
 use crate::handle::Handle;
 use crate::held::{put, take};
@@ -16,7 +17,8 @@ use std::alloc::Global;
 
 /// Whether nothing is noted that the host has not performed.
 pub(crate) fn is_performed(kernel: &Kernel<HostDevice>) -> bool
-    ensures { result ≡ true → journal_of kernel.now.device ≡ [] }
+    ensures none { result ≡ true → journal_of kernel.now.device ≡ [] }
+    ensures some { result ≡ false → journal_of kernel.now.device ≡ [] → ⊥ }
 {
     kernel.device().journal().is_empty()
 }
@@ -25,6 +27,7 @@ pub(crate) fn is_performed(kernel: &Kernel<HostDevice>) -> bool
 pub(crate) fn rest(kernel: &mut Kernel<HostDevice>, hosted: bool)
     ensures core { kernel.new.core ≡ kernel.old.core }
     ensures hosted { hosted ≡ true → kernel.new ≡ kernel.old }
+    ensures alone { hosted ≡ false → journal_of kernel.new.device ≡ [] }
 {
     if !hosted {
         kernel.settle();
@@ -56,7 +59,7 @@ pub extern "C" fn takhvoi_step(
     at: &mut u64,
     len: &mut u64,
 ) -> u32
-    ensures { Served (Looks (IsStep (step_at handle.old.value number) kind.new at.new len.new)) result handle.old handle.new }
+    ensures { Served NoOwn (Looks (IsStep (step_at handle.old.value number) kind.new at.new len.new)) result handle.old handle.new }
 {
     let Some(system) = take(alloc, handle) else {
         return NO_KERNEL;
@@ -74,7 +77,7 @@ pub extern "C" fn takhvoi_step(
 /// Copies bytes of a write, where it has them.
 fn copy_step(step: Option<&Step>, from: u64, into: &mut [u8]) -> u32
     ensures copied { result ≡ 0 → HasBytes (option_copied step.entry) from into.new }
-    ensures own { (result ≡ 0 → ⊥) → result ≡ 105 }
+    ensures own { (result ≡ 0 → ⊥) → (result ≡ 105) × LacksBytes (option_copied step.entry) from (length into.old) }
 {
     let Some(Step::Write(_, _, bytes)) = step else {
         return BAD_SIZE;
@@ -97,7 +100,7 @@ pub extern "C" fn takhvoi_step_bytes(
     from: u64,
     into: &mut [u8],
 ) -> u32
-    ensures { Served (Looks (HasBytes (step_at handle.old.value number) from into.new)) result handle.old handle.new }
+    ensures { Served (NoSuchBytes number from (length into.old)) (Looks (HasBytes (step_at handle.old.value number) from into.new)) result handle.old handle.new }
 {
     let Some(system) = take(alloc, handle) else {
         return NO_KERNEL;
@@ -112,7 +115,7 @@ pub extern "C" fn takhvoi_step_bytes(
 }
 
 fn settle(system: &mut System) -> u32
-    ensures { Done IsSettled result system.old system.new }
+    ensures { Done NoOwn IsSettled result system.old system.new }
 {
     system.kernel.settle();
     DONE
@@ -121,7 +124,7 @@ fn settle(system: &mut System) -> u32
 /// Says that the host has performed every step, in order, and that what it wrote lasts. Nothing is noted from then on.
 #[unsafe(no_mangle)]
 pub extern "C" fn takhvoi_performed(alloc: Global, handle: &mut Handle) -> u32
-    ensures { Served IsSettled result handle.old handle.new }
+    ensures { Served NoOwn IsSettled result handle.old handle.new }
 {
     let Some(mut system) = take(alloc, handle) else {
         return NO_KERNEL;

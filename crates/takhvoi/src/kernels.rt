@@ -1,9 +1,11 @@
 //! Kernels are made and freed.
 
-ghost use Rattle.std.specs.Prelude.{◌≡◌, ◌≢◌, ◌⊎◌, ◌≤◌, Err, false, true};
+ghost use Rattle.std.specs.Prelude.{◌≡◌, ◌≢◌, ◌⊎◌, ◌≤◌, Err, [], false, true};
+ghost use Rattle.host_device.specs.Journal.{journal_of};
 ghost use Rattle.vm_file.specs.Reading.{file_at, is_area};
 ghost use Rattle.takhvoi.specs.Answers.{IsFlag, Looks, Served};
-ghost use Rattle.takhvoi.specs.Starts.{Began, IsNew, IsOpened};
+ghost use Rattle.takhvoi.specs.Own.{NoOwn};
+ghost use Rattle.takhvoi.specs.Starts.{Began, IsMade, IsNew, IsNoRegion, IsOpened, IsStarted};
 
 use crate::handle::Handle;
 use crate::held::{put, take};
@@ -25,7 +27,8 @@ fn is_area(area: u32) -> bool
 
 /// Whether the region may have so many bytes.
 fn is_region(region: u32) -> bool
-    ensures { result ≡ true → (65536 ≤ region) × (region ≤ 16777216) }
+    ensures yes { result ≡ true → (65536 ≤ region) × (region ≤ 16777216) }
+    ensures no { result ≡ false → IsNoRegion region }
 {
     65_536 <= region && region <= 16_777_216
 }
@@ -43,7 +46,10 @@ fn start(
     ensures kept { handle.old.live ≢ 0 → (handle.new.live ≢ 0) × (handle.new.value ≡ handle.old.value) }
     ensures began { result ≡ 0 → Began file region handle.new.value.kernel.core }
     ensures hosts { result ≡ 0 → handle.new.value.hosted ≡ hosted }
-    ensures own { result ≡ 0 ⊎ (result ≡ 104 ⊎ result ≡ 111) }
+    ensures device { result ≡ 0 → hosted ≡ true → handle.new.value.kernel.device ≡ file.device }
+    ensures alone { result ≡ 0 → hosted ≡ false → journal_of handle.new.value.kernel.device ≡ [] }
+    ensures none { (result ≡ 0 → ⊥) → handle.old.live ≡ 0 → handle.new.live ≡ 0 }
+    ensures own { IsStarted handle.old.live result }
 {
     if let Some(system) = take(alloc, handle) {
         put(handle, system);
@@ -67,6 +73,8 @@ fn start_new(alloc: Global, handle: &mut Handle, area: u32, region: u32, hosted:
     ensures made { result ≡ 0 → (handle.old.live ≡ 0) × (handle.new.live ≡ 1) }
     ensures kept { handle.old.live ≢ 0 → (handle.new.live ≢ 0) × (handle.new.value ≡ handle.old.value) }
     ensures new { result ≡ 0 → IsNew area region hosted handle.new.value }
+    ensures none { (result ≡ 0 → ⊥) → handle.old.live ≡ 0 → handle.new.live ≡ 0 }
+    ensures own { IsMade handle.old.live area region result }
 {
     if !is_region(region) {
         return BAD_SIZE;
@@ -90,6 +98,8 @@ pub extern "C" fn takhvoi_new(alloc: Global, handle: &mut Handle, area: u32, reg
     ensures made { result ≡ 0 → (handle.old.live ≡ 0) × (handle.new.live ≡ 1) }
     ensures kept { handle.old.live ≢ 0 → (handle.new.live ≢ 0) × (handle.new.value ≡ handle.old.value) }
     ensures new { result ≡ 0 → IsNew area region false handle.new.value }
+    ensures none { (result ≡ 0 → ⊥) → handle.old.live ≡ 0 → handle.new.live ≡ 0 }
+    ensures own { IsMade handle.old.live area region result }
 {
     start_new(alloc, handle, area, region, false)
 }
@@ -100,6 +110,8 @@ pub extern "C" fn takhvoi_create(alloc: Global, handle: &mut Handle, area: u32, 
     ensures made { result ≡ 0 → (handle.old.live ≡ 0) × (handle.new.live ≡ 1) }
     ensures kept { handle.old.live ≢ 0 → (handle.new.live ≢ 0) × (handle.new.value ≡ handle.old.value) }
     ensures new { result ≡ 0 → IsNew area region true handle.new.value }
+    ensures none { (result ≡ 0 → ⊥) → handle.old.live ≡ 0 → handle.new.live ≡ 0 }
+    ensures own { IsMade handle.old.live area region result }
 {
     start_new(alloc, handle, area, region, true)
 }
@@ -117,6 +129,8 @@ pub extern "C" fn takhvoi_open(
     ensures kept { handle.old.live ≢ 0 → (handle.new.live ≢ 0) × (handle.new.value ≡ handle.old.value) }
     ensures opened { result ≡ 0 → IsOpened bytes.now region handle.new.value }
     ensures bad { result ≡ 110 → file_at bytes.now ≡ Err fault.new }
+    ensures none { (result ≡ 0 → ⊥) → handle.old.live ≡ 0 → handle.new.live ≡ 0 }
+    ensures own { (result ≡ 110) ⊎ ((result ≡ 105) × IsNoRegion region ⊎ IsStarted handle.old.live result) }
 {
     if !is_region(region) {
         return BAD_SIZE;
@@ -141,7 +155,7 @@ pub extern "C" fn takhvoi_open(
 /// Tells whether the VM file is sure of what it keeps: 1 or 0. Where it is not, it takes no commit, and is to be opened again.
 #[unsafe(no_mangle)]
 pub extern "C" fn takhvoi_is_sure(alloc: Global, handle: &mut Handle, sure: &mut u16) -> u32
-    ensures { Served (Looks (IsFlag sure.new handle.old.value.kernel.core.vm.file.sure)) result handle.old handle.new }
+    ensures { Served NoOwn (Looks (IsFlag sure.new handle.old.value.kernel.core.vm.file.sure)) result handle.old handle.new }
 {
     let Some(system) = take(alloc, handle) else {
         return NO_KERNEL;

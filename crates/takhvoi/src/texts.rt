@@ -1,9 +1,9 @@
 //! Texts and images, as bytes.
 
-ghost use Rattle.std.specs.Prelude.{◌≡◌, Err, IfOk, length, take};
+ghost use Rattle.std.specs.Prelude.{◌≡◌, ◌<◌, ◌⊎◌, Err, IfOk, length, take};
 ghost use Rattle.geos_asm.specs.Assembling.{HasNoRows};
 ghost use Rattle.geos_image.specs.Reading.{image_at};
-ghost use Rattle.takhvoi.specs.Texts.{HasFaultAt, IsExplainedAs, IsExplanation, IsImageOf, IsListedAs};
+ghost use Rattle.takhvoi.specs.Texts.{GivesOrTells, HasFaultAt, IsExplainedAs, IsExplanation, IsImageOf, IsListedAs, IsLonger};
 
 use crate::status::{BAD_IMAGE, DONE, NO_MEMORY, REFUSED, SHORT_BUFFER};
 use geos_asm::{AssembleError, assemble};
@@ -17,7 +17,7 @@ use std::alloc::{AllocError, Global};
 fn give(bytes: &[u8], into: &mut [u8], told: &mut u64) -> u32
     ensures told { told.new ≡ length bytes.now }
     ensures given { result ≡ 0 → take (length bytes.now) into.new ≡ bytes.now }
-    ensures short { (result ≡ 0 → ⊥) → result ≡ 115 }
+    ensures short { (result ≡ 0 → ⊥) → (result ≡ 115) × (length into.old < length bytes.now) }
 {
     let n = bytes.len();
     *told = n as u64;
@@ -40,6 +40,8 @@ pub extern "C" fn takhvoi_assemble(
     ensures image { result ≡ 0 → IsImageOf text.now (take told.new into.new) }
     ensures fault { result ≡ 112 → HasFaultAt text.now told.new }
     ensures no_rows { result ≡ 113 → HasNoRows text.now told.new }
+    ensures short { result ≡ 115 → IsLonger (IsImageOf text.now) told.new (length into.old) }
+    ensures own { (result ≡ 113) ⊎ GivesOrTells result }
 {
     match assemble(alloc, text) {
         Ok(image) => match geos_image::write(alloc, &image) {
@@ -64,6 +66,8 @@ pub extern "C" fn takhvoi_assemble(
 pub extern "C" fn takhvoi_list(alloc: Global, bytes: &[u8], into: &mut [u8], told: &mut u64) -> u32
     ensures listed { result ≡ 0 → IsListedAs bytes.now (take told.new into.new) }
     ensures bad { result ≡ 112 → image_at bytes.now ≡ Err told.new }
+    ensures short { result ≡ 115 → IsLonger (IsListedAs bytes.now) told.new (length into.old) }
+    ensures own { GivesOrTells result }
 {
     let image = match geos_image::read(alloc, bytes) {
         Ok(image) => image,
@@ -102,6 +106,8 @@ pub extern "C" fn takhvoi_explain(
 ) -> u32
     ensures explained { result ≡ 0 → IsExplainedAs bytes.now (take told.new into.new) }
     ensures bad { result ≡ 112 → image_at bytes.now ≡ Err told.new }
+    ensures short { result ≡ 115 → IsLonger (IsExplainedAs bytes.now) told.new (length into.old) }
+    ensures own { GivesOrTells result }
 {
     let image = match geos_image::read(alloc, bytes) {
         Ok(image) => image,

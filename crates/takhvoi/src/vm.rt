@@ -1,8 +1,10 @@
 //! Calls on blocks of the VM file, and on the file.
 
+ghost use Rattle.geos_terms.specs.Names.{vm};
 ghost use Rattle.geos_calls.specs.VmCalls as table;
-ghost use Rattle.takhvoi.specs.Answers.{Done, IsAnswer, IsTold, Served};
+ghost use Rattle.takhvoi.specs.Answers.{Done, IsAnswer, IsAnswerRead, IsTold, Served};
 ghost use Rattle.takhvoi.specs.Journal.{IsCommitted};
+ghost use Rattle.takhvoi.specs.Own.{MayNotCommit, NoOwn, NotLocked};
 
 use crate::handle::Handle;
 use crate::held::{put, take};
@@ -14,7 +16,7 @@ use std::alloc::Global;
 use vm_file::How;
 
 fn vnew(system: &mut System, uid: u16, told: &mut u16) -> u32
-    ensures { Done (IsTold (table.vnew uid) told.new) result system.old system.new }
+    ensures { Done NoOwn (IsTold (table.vnew uid) told.new) result system.old system.new }
 {
     tell(system.kernel.vnew(uid), told)
 }
@@ -22,7 +24,7 @@ fn vnew(system: &mut System, uid: u16, told: &mut u16) -> u32
 /// Makes a block of the VM file with a user ID, marks it, locks it, and tells its handle.
 #[unsafe(no_mangle)]
 pub extern "C" fn takhvoi_vnew(alloc: Global, handle: &mut Handle, uid: u16, told: &mut u16) -> u32
-    ensures { Served (IsTold (table.vnew uid) told.new) result handle.old handle.new }
+    ensures { Served NoOwn (IsTold (table.vnew uid) told.new) result handle.old handle.new }
 {
     let Some(mut system) = take(alloc, handle) else {
         return NO_KERNEL;
@@ -33,7 +35,7 @@ pub extern "C" fn takhvoi_vnew(alloc: Global, handle: &mut Handle, uid: u16, tol
 }
 
 fn vlock(system: &mut System, block: u16) -> u32
-    ensures { Done (IsAnswer (table.vlock block)) result system.old system.new }
+    ensures { Done NoOwn (IsAnswerRead (table.vlock block)) result system.old system.new }
 {
     end(system.kernel.vlock(block))
 }
@@ -41,7 +43,7 @@ fn vlock(system: &mut System, block: u16) -> u32
 /// Locks a block of the VM file once more, which brings it into memory.
 #[unsafe(no_mangle)]
 pub extern "C" fn takhvoi_vlock(alloc: Global, handle: &mut Handle, block: u16) -> u32
-    ensures { Served (IsAnswer (table.vlock block)) result handle.old handle.new }
+    ensures { Served NoOwn (IsAnswerRead (table.vlock block)) result handle.old handle.new }
 {
     let Some(mut system) = take(alloc, handle) else {
         return NO_KERNEL;
@@ -52,7 +54,7 @@ pub extern "C" fn takhvoi_vlock(alloc: Global, handle: &mut Handle, block: u16) 
 }
 
 fn vdirty(system: &mut System, block: u16) -> u32
-    ensures { Done (IsAnswer (table.vdirty block)) result system.old system.new }
+    ensures { Done (NotLocked (vm block)) (IsAnswer (table.vdirty block)) result system.old system.new }
 {
     let name = Name::vm(block);
     if system.kernel.locks(name) == 0 {
@@ -65,7 +67,7 @@ fn vdirty(system: &mut System, block: u16) -> u32
 /// Marks a block of the VM file, or a group, that is locked: a commit will write it.
 #[unsafe(no_mangle)]
 pub extern "C" fn takhvoi_vdirty(alloc: Global, handle: &mut Handle, block: u16) -> u32
-    ensures { Served (IsAnswer (table.vdirty block)) result handle.old handle.new }
+    ensures { Served (NotLocked (vm block)) (IsAnswer (table.vdirty block)) result handle.old handle.new }
 {
     let Some(mut system) = take(alloc, handle) else {
         return NO_KERNEL;
@@ -76,7 +78,7 @@ pub extern "C" fn takhvoi_vdirty(alloc: Global, handle: &mut Handle, block: u16)
 }
 
 fn vfree(system: &mut System, block: u16) -> u32
-    ensures { Done (IsAnswer (table.vfree block)) result system.old system.new }
+    ensures { Done NoOwn (IsAnswer (table.vfree block)) result system.old system.new }
 {
     end(system.kernel.vfree(block))
 }
@@ -84,7 +86,7 @@ fn vfree(system: &mut System, block: u16) -> u32
 /// Frees a block of the VM file that is not locked.
 #[unsafe(no_mangle)]
 pub extern "C" fn takhvoi_vfree(alloc: Global, handle: &mut Handle, block: u16) -> u32
-    ensures { Served (IsAnswer (table.vfree block)) result handle.old handle.new }
+    ensures { Served NoOwn (IsAnswer (table.vfree block)) result handle.old handle.new }
 {
     let Some(mut system) = take(alloc, handle) else {
         return NO_KERNEL;
@@ -95,7 +97,7 @@ pub extern "C" fn takhvoi_vfree(alloc: Global, handle: &mut Handle, block: u16) 
 }
 
 fn vfind(system: &mut System, start: u16, uid: u16, told: &mut u16) -> u32
-    ensures { Done (IsTold (table.vfind start uid) told.new) result system.old system.new }
+    ensures { Done NoOwn (IsTold (table.vfind start uid) told.new) result system.old system.new }
 {
     tell(system.kernel.vfind(start, uid), told)
 }
@@ -109,7 +111,7 @@ pub extern "C" fn takhvoi_vfind(
     uid: u16,
     told: &mut u16,
 ) -> u32
-    ensures { Served (IsTold (table.vfind start uid) told.new) result handle.old handle.new }
+    ensures { Served NoOwn (IsTold (table.vfind start uid) told.new) result handle.old handle.new }
 {
     let Some(mut system) = take(alloc, handle) else {
         return NO_KERNEL;
@@ -120,7 +122,7 @@ pub extern "C" fn takhvoi_vfind(
 }
 
 fn vuid(system: &mut System, block: u16, told: &mut u16) -> u32
-    ensures { Done (IsTold (table.vuid block) told.new) result system.old system.new }
+    ensures { Done NoOwn (IsTold (table.vuid block) told.new) result system.old system.new }
 {
     tell(system.kernel.vuid(block), told)
 }
@@ -133,7 +135,7 @@ pub extern "C" fn takhvoi_vuid(
     block: u16,
     told: &mut u16,
 ) -> u32
-    ensures { Served (IsTold (table.vuid block) told.new) result handle.old handle.new }
+    ensures { Served NoOwn (IsTold (table.vuid block) told.new) result handle.old handle.new }
 {
     let Some(mut system) = take(alloc, handle) else {
         return NO_KERNEL;
@@ -144,7 +146,7 @@ pub extern "C" fn takhvoi_vuid(
 }
 
 fn vgetmap(system: &mut System, told: &mut u16) -> u32
-    ensures { Done (IsTold table.vgetmap told.new) result system.old system.new }
+    ensures { Done NoOwn (IsTold table.vgetmap told.new) result system.old system.new }
 {
     *told = system.kernel.vgetmap();
     DONE
@@ -153,7 +155,7 @@ fn vgetmap(system: &mut System, told: &mut u16) -> u32
 /// Tells the map block; 0 for none.
 #[unsafe(no_mangle)]
 pub extern "C" fn takhvoi_vgetmap(alloc: Global, handle: &mut Handle, told: &mut u16) -> u32
-    ensures { Served (IsTold table.vgetmap told.new) result handle.old handle.new }
+    ensures { Served NoOwn (IsTold table.vgetmap told.new) result handle.old handle.new }
 {
     let Some(mut system) = take(alloc, handle) else {
         return NO_KERNEL;
@@ -164,7 +166,7 @@ pub extern "C" fn takhvoi_vgetmap(alloc: Global, handle: &mut Handle, told: &mut
 }
 
 fn vsetmap(system: &mut System, block: u16) -> u32
-    ensures { Done (IsAnswer (table.vsetmap block)) result system.old system.new }
+    ensures { Done NoOwn (IsAnswer (table.vsetmap block)) result system.old system.new }
 {
     end(system.kernel.vsetmap(block))
 }
@@ -172,7 +174,7 @@ fn vsetmap(system: &mut System, block: u16) -> u32
 /// Names the map block; 0 for none.
 #[unsafe(no_mangle)]
 pub extern "C" fn takhvoi_vsetmap(alloc: Global, handle: &mut Handle, block: u16) -> u32
-    ensures { Served (IsAnswer (table.vsetmap block)) result handle.old handle.new }
+    ensures { Served NoOwn (IsAnswer (table.vsetmap block)) result handle.old handle.new }
 {
     let Some(mut system) = take(alloc, handle) else {
         return NO_KERNEL;
@@ -183,7 +185,7 @@ pub extern "C" fn takhvoi_vsetmap(alloc: Global, handle: &mut Handle, block: u16
 }
 
 fn commit_in(system: &mut System, how: How) -> u32
-    ensures { Done (IsCommitted how) result system.old system.new }
+    ensures { Done MayNotCommit (IsCommitted how) result system.old system.new }
 {
     if !system.kernel.vm_unlocked() {
         return FILE_LOCKED;
@@ -191,6 +193,8 @@ fn commit_in(system: &mut System, how: How) -> u32
     if !is_performed(&system.kernel) {
         return PENDING;
     }
+    // what a stop leaves before it
+    system.kernel.memory_is_legal();
     let status = end(system.kernel.commit(how));
     rest(&mut system.kernel, system.hosted);
     status
@@ -198,7 +202,7 @@ fn commit_in(system: &mut System, how: How) -> u32
 
 /// Keeps the pair of directories that `how` names, where no block of the VM file is locked.
 fn commit(alloc: Global, handle: &mut Handle, how: How) -> u32
-    ensures { Served (IsCommitted how) result handle.old handle.new }
+    ensures { Served MayNotCommit (IsCommitted how) result handle.old handle.new }
 {
     let Some(mut system) = take(alloc, handle) else {
         return NO_KERNEL;
@@ -211,7 +215,7 @@ fn commit(alloc: Global, handle: &mut Handle, how: How) -> u32
 /// Keeps what the VM file has now, beside what was saved.
 #[unsafe(no_mangle)]
 pub extern "C" fn takhvoi_update(alloc: Global, handle: &mut Handle) -> u32
-    ensures { Served (IsCommitted How.Update) result handle.old handle.new }
+    ensures { Served MayNotCommit (IsCommitted How.Update) result handle.old handle.new }
 {
     commit(alloc, handle, How::Update)
 }
@@ -219,7 +223,7 @@ pub extern "C" fn takhvoi_update(alloc: Global, handle: &mut Handle) -> u32
 /// Keeps what the VM file has now, and saves it.
 #[unsafe(no_mangle)]
 pub extern "C" fn takhvoi_save(alloc: Global, handle: &mut Handle) -> u32
-    ensures { Served (IsCommitted How.Save) result handle.old handle.new }
+    ensures { Served MayNotCommit (IsCommitted How.Save) result handle.old handle.new }
 {
     commit(alloc, handle, How::Save)
 }
@@ -227,7 +231,7 @@ pub extern "C" fn takhvoi_save(alloc: Global, handle: &mut Handle) -> u32
 /// Goes back to what was saved, and keeps that.
 #[unsafe(no_mangle)]
 pub extern "C" fn takhvoi_revert(alloc: Global, handle: &mut Handle) -> u32
-    ensures { Served (IsCommitted How.Revert) result handle.old handle.new }
+    ensures { Served MayNotCommit (IsCommitted How.Revert) result handle.old handle.new }
 {
     commit(alloc, handle, How::Revert)
 }

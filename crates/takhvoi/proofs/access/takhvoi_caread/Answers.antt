@@ -1,13 +1,14 @@
 -- The range ends where it is said to.
-use Rattle.std.proofs.Common.{subst}
+use Rattle.std.proofs.Common.{length, subst}
 use Rattle.geos_calls.specs.ArrayCalls as table
 use Rattle.takhvoi.specs.Answers.{Served}
 use Rattle.takhvoi.specs.Bytes.{IsCopied}
 use Rattle.takhvoi.specs.Names.{name_of}
+use Rattle.takhvoi.specs.Own.{MayNotRead}
 use Rattle.takhvoi.proofs.access.takhvoi_caread.Goals as goal
 
 pub returns-in-Some : goal.returns-in-Some
 returns-in-Some c =
-    subst (λ n. Served (IsCopied (table.caelt (name_of c.args.block) c.args.chunk c.args.index n) c.args.at c.read.new.into)
+    subst (λ n. Served (MayNotRead (name_of c.args.block) c.args.at (length c.args.into.now)) (IsCopied (table.caelt (name_of c.args.block) c.args.chunk c.args.index n) c.args.at c.read.new.into)
     c.read.result c.args.handle.now c.read.new.handle)
-    c.in-Some.ensures c.read.ensures
+    c.in-Some.ensures.some c.read.ensures

@@ -1,11 +1,13 @@
 -- The run's kernel rests after it: what is seen of it stays, and with a host all of it.
-use Rattle.std.proofs.Common.{◌≡◌, ◌≤◌, Some, slice_get, length, take, refl, ap, sym, subst, arith, rules}
+use Rattle.std.proofs.Common.{◌≡◌, ◌≤◌, [], Some, slice_get, length, take, refl, ap, sym, subst, arith, rules}
 use Rattle.std.specs.Prelude.{IfSome}
 use Rattle.geos_calls.specs.VmFile.{VmFile}
 use Rattle.geos_kernel.specs.View.{IsFileOf, KernelOn}
 use Rattle.geos_machine.specs.Runs.{RanWith, Throughout}
-use Rattle.host_device.specs.Journal.{medium}
+use Rattle.host_device.specs.Journal.{GoesOn, bytes_of, journal_of, medium}
 use Rattle.host_device.specs.declared.device.HostDevice.{HostDevice}
+use Rattle.takhvoi.specs.Journal.{Leads, MayStopAt}
+use Rattle.takhvoi.proofs.Notes.{goes-running, leads-from, since-then}
 use Rattle.takhvoi.proofs.images.run_in.Goals as goal
 
 pub returns : goal.returns
@@ -15,14 +17,19 @@ returns c =
     let image = c.in-Some.checked.now in
     let outcome = c.run_in_place-outcome.result.now in
     let left = c.run_in_place-outcome.new.kernel.device in
-    let loaded : slice_get system.images.items c.args.number ≡ Some (Some image) = c.in-Some.ensures in
+    let loaded : slice_get system.images.items c.args.number ≡ Some (Some image) = c.in-Some.ensures.some in
     let ran : (f : VmFile) → IsFileOf (Unit {0}) old.core f
     → RanWith (Unit {0}) (Throughout medium old.device left) image c.args.routine c.args.words.now c.args.handles.now
     old.core c.run_in_place-outcome.new.kernel.core outcome f = c.run_in_place-outcome.ensures.ran in
     let put : take (length outcome.output.items) c.put_words.new.into ≡ take (length c.args.output.now) outcome.output.items =
     subst (λ ws. take (length ws) c.put_words.new.into ≡ take (length c.args.output.now) ws) c.as_slice.ensures.value c.put_words.ensures in
     let count : c.len.result ≡ length outcome.output.items = search rules in
+    let begins : journal_of old.device ≡ [] = c.is_performed.ensures.none (search rules) in
+    let known = c.memory_is_legal.ensures.file in
+    let first = ran known.0 known.1 in
+    let goes : GoesOn old.device left = goes-running old.device left _ (first.stops tt).1 in
     let within : IfSome (slice_get image.routines c.args.routine) (λ r. outcome.steps ≤ r.budget) = c.run_in_place-outcome.ensures.budget in (
+      refl,
       refl,
       (λ came. record {
         done = refl;
@@ -33,6 +40,13 @@ returns c =
         ran = λ f is. subst (λ s. RanWith (Unit {0}) (Throughout medium old.device left) image c.args.routine
             c.args.words.now c.args.handles.now old.core s outcome f) (sym c.rest.ensures.core) (ran f is);
         device = λ hosted. ap (λ (k : KernelOn HostDevice). k.device) (c.rest.ensures.hosted hosted);
+        begins = begins;
+        leads = λ hosted. subst (λ (k : KernelOn HostDevice). Leads (bytes_of old.device) k.device) (sym (c.rest.ensures.hosted hosted))
+            (leads-from old.device left begins goes);
+        stops = λ hosted f is found stopped. ((subst (λ s. RanWith (Unit {0}) (Throughout medium old.device left) image c.args.routine
+            c.args.words.now c.args.handles.now old.core s outcome f) (sym c.rest.ensures.core) (ran f is)).stops tt).1 found (since-then old.device left begins found
+            (subst (λ (k : KernelOn HostDevice). MayStopAt k.device found) (c.rest.ensures.hosted hosted) stopped));
+        alone = c.rest.ensures.alone;
         words_out = refl;
         put_out = put;
         count_is = count;

@@ -1,0 +1,15 @@
+-- The device was read at most.
+use Rattle.std.proofs.Common.{refl, arith}
+use Rattle.takhvoi.proofs.Notes.{reads-device}
+use Rattle.takhvoi.proofs.items.change_in.Goals as goal
+
+pub returns : goal.returns
+returns c = (
+  refl,
+  refl,
+  (λ _. (
+    (c.item_change.result, c.item_change.ensures.calls, c.end.ensures.status),
+    reads-device _ _ c.item_change.ensures.device.reads,
+  )),
+  λ past. absurd (omega (arith, past, c.end.ensures.small)),
+)

@@ -1,0 +1,12 @@
+-- The device was read at most.
+use Rattle.std.proofs.Common.{refl, arith}
+use Rattle.takhvoi.proofs.Notes.{reads-device}
+use Rattle.takhvoi.proofs.vm.vlock.Goals as goal
+
+pub returns : goal.returns
+returns c = (
+  refl,
+  refl,
+  (λ _. ((c.vlock.result, c.vlock.ensures.calls, c.end.ensures.status), reads-device _ _ c.vlock.ensures.device.reads)),
+  λ past. absurd (omega (arith, past, c.end.ensures.small)),
+)

@@ -1,0 +1,51 @@
+-- When a number of the library's own comes, from 100 on. 100 comes only where a handle holds no kernel, and 111 may come at any time.
+use Rattle.std.specs.Prelude.{◌≡◌, ◌<◌, ◌+◌, ◌⊎◌, ℕ, [], false}
+use Rattle.block_handles.specs.Names.{slot_of}
+use Rattle.block_handles.specs.Store.{locks_of}
+use Rattle.geos_terms.specs.declared.name.Owner.TheVariants.{Vm}
+use Rattle.geos_terms.specs.declared.name.Name.{Name}
+use Rattle.vm_blocks.specs.Blocks.{is_marked_in}
+use Rattle.vm_blocks.specs.Listed.{NoneLocked}
+use Rattle.vm_blocks.specs.View.{held_at}
+use Rattle.host_device.specs.Journal.{journal_of}
+use Rattle.takhvoi.specs.declared.system.System.{System}
+
+-- none of these numbers comes
+abbrev pub NoOwn : ℕ → System → Type 0
+NoOwn status s = ⊥
+
+-- 101: the block is not locked
+abbrev pub NotLocked : Name → ℕ → System → Type 0
+NotLocked name status s = (status ≡ 101) × (locks_of s.kernel.core.blocks (slot_of name) ≡ 0)
+
+-- 102: the block is one of the VM file, and not marked
+abbrev pub NotMarked : Name → ℕ → System → Type 0
+NotMarked name status s = (status ≡ 102) × (name.owner ≡ Vm) × (is_marked_in (held_at s.kernel.core.vm name.h) ≡ false)
+
+-- 101 or 102: the bytes of the block may not be changed
+abbrev pub MayNotChange : Name → ℕ → System → Type 0
+MayNotChange name status s = NotLocked name status s ⊎ NotMarked name status s
+
+-- 103: a block of the VM file is locked
+abbrev pub FileLocked : ℕ → System → Type 0
+FileLocked status s = (status ≡ 103) × (NoneLocked s.kernel.core.blocks → ⊥)
+
+-- 105: so many bytes from an offset on reach past all that a chunk may have
+abbrev pub PastChunk : ℕ → ℕ → ℕ → Type 0
+PastChunk at n status = (status ≡ 105) × (65535 < at + n)
+
+-- 106: something is noted that the host has not performed
+abbrev pub IsPending : ℕ → System → Type 0
+IsPending status s = (status ≡ 106) × (journal_of s.kernel.device ≡ [] → ⊥)
+
+-- 103 or 106: a commit may not begin
+abbrev pub MayNotCommit : ℕ → System → Type 0
+MayNotCommit status s = FileLocked status s ⊎ IsPending status s
+
+-- 101 or 105: these bytes of the block may not be read
+abbrev pub MayNotRead : Name → ℕ → ℕ → ℕ → System → Type 0
+MayNotRead name at n status s = NotLocked name status s ⊎ PastChunk at n status
+
+-- 101, 102 or 105: these bytes of the block may not be written
+abbrev pub MayNotWrite : Name → ℕ → ℕ → ℕ → System → Type 0
+MayNotWrite name at n status s = MayNotChange name status s ⊎ PastChunk at n status
