@@ -177,7 +177,7 @@ module _ (other good : Type 0) (alike : other ↔ good) (within : Within) (image
     lasts = λ g. allowed.lasts (alike.1 g);
   }
 
-  leads-alike : (result : Result (Unit {0}) Refusal) (text : List ℕ)
+  pub leads-alike : (result : Result (Unit {0}) Refusal) (text : List ℕ)
       → Leads other within kernel later (λ before after keeps. Does (IsAllowed other) image c result before after text keeps)
       → Leads good within kernel later (λ before after keeps. Does (IsAllowed good) image c result before after text keeps)
   leads-alike result text leads f tied =

@@ -1,6 +1,6 @@
 -- Commands whose outputs are printed in a form, one after another.
 use Rattle.std.proofs.Common.{◌≡◌, ◌<◌, ◌≤◌, ◌+◌, ℕ, suc, List, [], ◌∷◌, ◌++◌, length, take, drop, get_or, refl, sym, ap, ◌∙◌, subst, inl, inr, append_assoc, append-nil, take-append-drop, drop-cons}
-use Rattle.std.specs.Prelude.{◌⊎◌, Option, Some, None, Result, Ok, Err, IfErr}
+use Rattle.std.specs.Prelude.{◌⊎◌, ◌↔◌, Option, Some, None, Result, Ok, Err, IfErr}
 use Rattle.std.specs.Io.KnownBytes.{Appends, Keeps}
 use Rattle.std.proofs.KnownBytes.{Appends-kept, Appends-nil, Appends-trans}
 use Rattle.std.proofs.lemmas.List.{take_more, take_all}
@@ -25,6 +25,7 @@ use Rattle.geos_text.specs.Words.{most_bytes}
 use Rattle.script_commands.specs.Lines.{commands_of, IsBadLine}
 use Rattle.geos_cli.specs.Script.{Loads, GoesOn, RanCommand, StoppedCommand, IsBadImage}
 use Rattle.geos_cli.specs.WithNames.{RanNoting}
+use Rattle.geos_cli.proofs.WholeRuns.{Started, leads-more, leads-none, leads-part, leads-refused}
 
 -- a command that was stopped while it printed into memory was carried out all the same
 pub stopped-plainly : {D : Type 0} (medium : Medium D) (form : Form) (image : Parts) (command : Command)
@@ -107,8 +108,9 @@ module _ {D : Type 0} (medium : Medium D) (form : Form) (image : Parts) where
       )
 
   -- before the first command
-  pub none-ran : (mode : Mode) (kernel : KernelOn D) (a : Option (List ℕ)) → RanInForm medium form mode image [] None kernel kernel a a
-  none-ran mode kernel a = ([], (refl, refl), Appends-nil a)
+  pub none-ran : (mode : Mode) (kernel : KernelOn D) (a : Option (List ℕ)) → Started medium kernel
+      → RanInForm medium form mode image [] None kernel kernel a a
+  none-ran mode kernel a started = ([], (refl, refl), Appends-nil a, leads-none medium image mode kernel started)
 
   module _ (mode : Mode) (commands : List Numbered) (k : ℕ) (kernel between : KernelOn D) (a b : Option (List ℕ)) where
     -- behind the last one
@@ -116,7 +118,8 @@ module _ {D : Type 0} (medium : Medium D) (form : Form) (image : Parts) where
         → RanInForm medium form mode image commands None kernel between a b
     all-ran past ran = subst (λ cs. RanInForm medium form mode image cs None kernel between a b) (take_all k commands past) ran
 
-    module _ (default : Numbered) (later : KernelOn D) (c : Option (List ℕ)) (in_range : k < length commands) where
+    module _ (default : Numbered) (later : KernelOn D) (c : Option (List ℕ)) (in_range : k < length commands)
+        (alike : medium.honest between.device ↔ medium.honest kernel.device) where
       abbrev here : Numbered
       here = get_or commands k default
 
@@ -129,11 +132,12 @@ module _ {D : Type 0} (medium : Medium D) (form : Form) (image : Parts) where
           → RanInForm medium form mode image (take k commands) None kernel between a b
           → RanShown medium form image here.command result between later b c
           → RanInForm medium form mode image (take (k + 1) commands) None kernel later a c
-      more-ran result goes (text, runs, appends) (plain, own, shows) =
+      more-ran result goes (text, runs, appends, leads) (plain, own, shows) =
           let all = runs-more mode (take k commands) kernel between later text here result plain runs own goes in (
             text ++ shown_in form image here.command plain,
             rw (take_more commands k default in_range) all,
             Appends-trans a b c text (shown_in form image here.command plain) appends shows,
+            leads-more medium image commands k default kernel between later in_range alike mode result goes plain leads own,
           )
 
       -- it was refused, and the script does not go on
@@ -142,7 +146,7 @@ module _ {D : Type 0} (medium : Medium D) (form : Form) (image : Parts) where
           → RanInForm medium form mode image (take k commands) None kernel between a b
           → RanShown medium form image here.command result between later b c
           → RanInForm medium form mode image commands (Some refused) kernel later a c
-      refused-ran refused strict at result is (text, runs, appends) (plain, own, shows) =
+      refused-ran refused strict at result is (text, runs, appends, leads) (plain, own, shows) =
           let ends : RefusesInForm medium form mode image commands refused kernel later (text ++ shown_in form image here.command plain) = record {
             done = take k commands;
             last = here;
@@ -158,15 +162,15 @@ module _ {D : Type 0} (medium : Medium D) (form : Form) (image : Parts) where
           } in (
             text ++ shown_in form image here.command plain,
             (strict, ends),
-            Appends-trans a b c text
-                (shown_in form image here.command plain) appends shows,
+            Appends-trans a b c text (shown_in form image here.command plain) appends shows,
+            leads-refused medium image commands k default kernel between later in_range alike mode refused at result is plain leads own,
           )
 
       -- it was not begun, or the writer failed, or memory was refused, while it was printed
       pub stopped-at : RanInForm medium form mode image (take k commands) None kernel between a b
           → StoppedNext medium form image here.command between later b c
           → StoppedInForm medium form mode image commands kernel later a c
-      stopped-at (text, runs, appends) (part, ends, shows) = (
+      stopped-at (text, runs, appends, leads) (part, ends, shows) = (
         text ++ part,
         record {
           done = take k commands;
@@ -181,6 +185,7 @@ module _ {D : Type 0} (medium : Medium D) (form : Form) (image : Parts) where
           written = refl;
         },
         Appends-trans a b c text part appends shows,
+        leads-part medium image commands k default kernel between later in_range alike mode form part leads ends,
       )
 
 -- the commands of a script on an image that was loaded

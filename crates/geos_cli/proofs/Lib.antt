@@ -14,5 +14,6 @@ pub mod RunsKeep
 pub mod Sessions
 pub mod StepsKeep
 pub mod TracedRuns
+pub mod WholeRuns
 pub mod LentLocks
 pub mod LentRuns

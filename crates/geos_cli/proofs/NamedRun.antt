@@ -1,6 +1,6 @@
 -- Lines with names, carried out one after another.
 use Rattle.std.proofs.Common.{◌≡◌, ◌<◌, ◌≤◌, ◌+◌, ℕ, suc, List, [], ◌∷◌, ◌++◌, length, map, take, drop, get_or, refl, sym, ap, ◌∙◌, subst, inl, inr, append_assoc, append-nil, take-append-drop, drop-cons}
-use Rattle.std.specs.Prelude.{Bool, true, false, if◌then◌else◌, Option, Some, None, option_and_then, Result, Err, IfSome}
+use Rattle.std.specs.Prelude.{◌↔◌, Bool, true, false, if◌then◌else◌, Option, Some, None, option_and_then, Result, Err, IfSome}
 use Rattle.std.specs.Io.KnownBytes.{Appends}
 use Rattle.std.proofs.KnownBytes.{Appends-nil, Appends-trans}
 use Rattle.std.proofs.lemmas.List.{map-append, take_more, take_all}
@@ -22,11 +22,12 @@ use Rattle.geos_cli.specs.declared.script.RefusedCommand.{RefusedCommand}
 use Rattle.geos_cli.specs.declared.with_names.EarlyEnd.{EarlyEnd}
 use Rattle.geos_cli.specs.declared.with_names.EarlyEnd.TheVariants.{Refused, BadLine}
 use Rattle.script_commands.specs.Forms.{shown_in}
-use Rattle.geos_cli.specs.InForm.{Leaves, RanShown, RunsPlainly, StoppedNext}
+use Rattle.geos_cli.specs.InForm.{EndsAt, Leaves, RanShown, RunsPlainly, StoppedNext}
 use Rattle.script_commands.specs.Names.{Names, Said, command_in, first_put_out, if_kept, in_place, lines_said, may_keep, names_behind, names_of, said_by}
 use Rattle.geos_cli.specs.Script.{GoesOn, RanCommand}
 use Rattle.script_commands.specs.Lines.{IsAdmitted, command_of}
-use Rattle.geos_cli.specs.WithNames.{ComesTo, IsBadNamed, LoadsNamed, RanLines, RanNamedScript, RanNoting, RunsLines, StoppedLines, StoppedNamedScript}
+use Rattle.geos_cli.specs.WithNames.{ComesTo, IsBadNamed, LeadsFirst, LeadsLines, LoadsNamed, RanLines, RanNamedScript, RanNoting, RunsLines, StoppedLines, StoppedNamedScript}
+use Rattle.geos_cli.proofs.WholeRuns.{Started, lines-more, lines-none}
 use Rattle.script_commands.proofs.Commands.{command_of-admitted}
 
 -- a command ran, and printed into nothing so far; a writer got that in the form, and this is the word that it put out first
@@ -85,6 +86,7 @@ module _ {D : Type 0} (medium : Medium D) (form : Form) (mode : Mode) (image : P
   -- lines ran from no name on to these names, and a writer got their text
   abbrev pub RanSoFar : List Said → Names → KernelOn D → KernelOn D → Option (List ℕ) → Option (List ℕ) → Type 0
   RanSoFar lines names kernel later a b = (text : List ℕ) × RunsLines medium form mode image lines [] kernel names later text × Appends a b text
+      × LeadsLines medium image lines names kernel later
 
   -- one more line is carried out behind the others
   pub runs-more : (lines : List Said) (names mid : Names) (kernel between later : KernelOn D) (text : List ℕ)
@@ -122,8 +124,8 @@ module _ {D : Type 0} (medium : Medium D) (form : Form) (mode : Mode) (image : P
       )
 
   -- before the first line
-  pub none-ran : (kernel : KernelOn D) (a : Option (List ℕ)) → RanSoFar [] [] kernel kernel a a
-  none-ran kernel a = ([], (refl, refl, refl), Appends-nil a)
+  pub none-ran : (kernel : KernelOn D) (a : Option (List ℕ)) → Started medium kernel → RanSoFar [] [] kernel kernel a a
+  none-ran kernel a started = ([], (refl, refl, refl), Appends-nil a, lines-none medium image kernel started)
 
   module _ (lines : List Line) (k : ℕ) (names : Names) (kernel between : KernelOn D) (a b : Option (List ℕ))
       (so_far : RanSoFar (map said_by (take k lines)) names kernel between a b) where
@@ -131,7 +133,7 @@ module _ {D : Type 0} (medium : Medium D) (form : Form) (mode : Mode) (image : P
     pub all-ran : length lines ≤ k → RanLines medium form mode image (map said_by lines) None kernel between a b
     all-ran past =
         let whole = subst (λ ls. RanSoFar (map said_by ls) names kernel between a b) (take_all k lines past) so_far in
-        (whole.0, (names, whole.1), whole.2)
+        (whole.0, (names, whole.1), whole.2, (names, whole.3))
 
     module _ (default : Line) (in_range : k < length lines) where
       abbrev here : Said
@@ -147,10 +149,15 @@ module _ {D : Type 0} (medium : Medium D) (form : Form) (mode : Mode) (image : P
         runs = so_far.1;
       }
 
+      -- those before it were carried out
+      begun : LeadsFirst medium image (map said_by lines) kernel between
+      unfolding comes
+      begun = (names, map said_by (take k lines), here ∷ map said_by (drop (suc k) lines), comes.in_order, so_far.3)
+
       -- it is no command
       pub ended-badly : (n : ℕ) → n ≡ here.number → command_in image names here.words ≡ None
           → RanLines medium form mode image (map said_by lines) (Some (BadLine n)) kernel between a b
-      ended-badly n at none = (so_far.0, (names, here, comes, at, none), so_far.2)
+      ended-badly n at none = (so_far.0, (names, here, comes, at, none), so_far.2, begun)
 
       -- it was not begun
       pub not-begun : StoppedLines medium form mode image (map said_by lines) kernel between a b
@@ -168,9 +175,33 @@ module _ {D : Type 0} (medium : Medium D) (form : Form) (mode : Mode) (image : P
           written = sym (append-nil so_far.0);
         },
         so_far.2,
+        begun,
       )
 
-      module _ (command : Command) (named : command_in image names here.words ≡ Some command) (later : KernelOn D) (c : Option (List ℕ)) where
+      module _ (command : Command) (named : command_in image names here.words ≡ Some command) (later : KernelOn D) (c : Option (List ℕ))
+          (alike : medium.honest between.device ↔ medium.honest kernel.device) where
+        -- it was carried out behind them
+        with-this : (result : Result (Unit {0}) Refusal) (plain : List ℕ) → RunsPlainly medium image command result between later plain
+            → LeadsLines medium image (map said_by (take k lines) ++ here ∷ []) (names_behind names here.words (first_put_out plain)) kernel later
+        with-this result plain own = lines-more medium image kernel (map said_by (take k lines)) names between later alike here command result plain
+            so_far.3 named own
+
+        and-this : (result : Result (Unit {0}) Refusal) (plain : List ℕ) → RunsPlainly medium image command result between later plain
+            → LeadsFirst medium image (map said_by lines) kernel later
+        unfolding comes
+        and-this result plain own = (
+          names_behind names here.words (first_put_out plain),
+          map said_by (take k lines) ++ here ∷ [],
+          map said_by (drop (suc k) lines),
+          comes.in_order ∙ sym (append_assoc (map said_by (take k lines)) (here ∷ []) (map said_by (drop (suc k) lines))),
+          with-this result plain own,
+        )
+
+        -- or not begun
+        as-far : (part : List ℕ) → EndsAt medium form image command between later part → LeadsFirst medium image (map said_by lines) kernel later
+        as-far part (inl (same, none)) = subst (λ last. LeadsFirst medium image (map said_by lines) kernel last) (sym same) begun
+        as-far part (inr (result, plain, rest, runs, shown)) = and-this result plain runs
+
         -- it was carried out, and the script goes on
         pub more-ran : (result : Result (Unit {0}) Refusal) (word : Option ℕ) → GoesOn mode result
             → RanNoting medium form image command result word between later b c
@@ -186,6 +217,9 @@ module _ {D : Type 0} (medium : Medium D) (form : Form) (mode : Mode) (image : P
                   (subst (λ ls. RunsLines medium form mode image ls [] kernel (names_behind names here.words (first_put_out plain)) later
                   (so_far.0 ++ shown_in form image command plain)) (sym same) all),
               Appends-trans a b c so_far.0 (shown_in form image command plain) so_far.2 shows,
+              subst (λ w. LeadsLines medium image (map said_by (take (k + 1) lines)) (names_behind names here.words w) kernel later) (sym put)
+                  (subst (λ ls. LeadsLines medium image ls (names_behind names here.words (first_put_out plain)) kernel later) (sym same)
+                  (with-this result plain own)),
             )
 
         -- it was refused, and the script does not go on
@@ -212,6 +246,7 @@ module _ {D : Type 0} (medium : Medium D) (form : Form) (mode : Mode) (image : P
             },
           ),
           Appends-trans a b c so_far.0 (shown_in form image command plain) so_far.2 shows,
+          and-this result plain own,
         )
 
         -- it was not begun, or the writer failed, or memory was refused, while it was printed
@@ -230,6 +265,7 @@ module _ {D : Type 0} (medium : Medium D) (form : Form) (mode : Mode) (image : P
             written = refl;
           },
           Appends-trans a b c so_far.0 part so_far.2 shows,
+          as-far part ends,
         )
 
         -- memory was refused behind it

@@ -23,7 +23,7 @@ use Rattle.geos_cli.specs.declared.script.RefusedCommand.{RefusedCommand}
 use Rattle.geos_cli.specs.Calls.{Asks}
 use Rattle.script_commands.specs.Forms.{shown_in}
 use Rattle.script_commands.specs.Lines.{commands_of, on_line}
-use Rattle.geos_cli.specs.Script.{GoesOn, Loads, RanCommand}
+use Rattle.geos_cli.specs.Script.{From, GoesOn, LeadsOn, Loads, PrintsTo, RanCommand}
 
 -- a command is carried out, from kernel to kernel, and comes to this result; this is what it prints plainly
 abbrev pub RunsPlainly : {D : Type 0} → Medium D → Parts → Command → Result (Unit {0}) Refusal → KernelOn D → KernelOn D → List ℕ → Type 0
@@ -105,17 +105,31 @@ pub record StopsInForm {D : Type 0} (medium : Medium D) (form : Form) (mode : Mo
   pub ends : EndsAt medium form image next.command between later part
   pub written : text ≡ earlier ++ part
 
--- commands ran, and a writer got their text
+-- commands lead from the one kernel to the other, all or up to this refused one, and print this plainly; stopped at any moment from the one
+-- to the other, `open` finds what the model's run of them has as kept in one of its states
+abbrev pub LeadsTo : {D : Type 0} → Medium D → Mode → Parts → List Numbered → Option RefusedCommand → KernelOn D → KernelOn D → Type 0
+LeadsTo medium mode image commands refused kernel later =
+    (plain : List ℕ)
+    × LeadsOn medium kernel later (λ allows before after keeps. From (PrintsTo mode allows image commands refused before after plain) before keeps)
+
+-- so do the first of them, those that were carried out, whatever each came to
+abbrev pub LeadsPart : {D : Type 0} → Medium D → Parts → List Numbered → KernelOn D → KernelOn D → Type 0
+LeadsPart medium image commands kernel later =
+    (done : List Numbered) × (others : List Numbered) × (commands ≡ done ++ others) × LeadsTo medium Lenient image done None kernel later
+
+-- commands ran, a writer got their text, and this is what a stop meanwhile leaves
 abbrev pub RanInForm : {D : Type 0} → Medium D → Form → Mode → Parts → List Numbered → Option RefusedCommand → KernelOn D
     → KernelOn D → Option (List ℕ) → Option (List ℕ) → Type 0
 RanInForm medium form mode image commands refused kernel later old new =
     (text : List ℕ) × RunsTo medium form mode image commands refused kernel later text × Appends old new text
+    × LeadsTo medium mode image commands refused kernel later
 
--- commands were stopped, and a writer got their text up to there
+-- commands were stopped, a writer got their text up to there, and this is what a stop meanwhile leaves
 abbrev pub StoppedInForm : {D : Type 0} → Medium D → Form → Mode → Parts → List Numbered → KernelOn D → KernelOn D
     → Option (List ℕ) → Option (List ℕ) → Type 0
 StoppedInForm medium form mode image commands kernel later old new =
     (text : List ℕ) × StopsInForm medium form mode image commands kernel later text × Appends old new text
+    × LeadsPart medium image commands kernel later
 
 -- a script ran on the image that the bytes spell, to its end or to this refused command, and a writer got its text
 abbrev pub RanScriptInForm : {D : Type 0} → Medium D → Form → Mode → List ℕ → List ℕ → Option RefusedCommand → KernelOn D

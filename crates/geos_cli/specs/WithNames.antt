@@ -2,6 +2,7 @@
 use Rattle.std.specs.Prelude.{◌≡◌, ◌<◌, ◌≤◌, ◌⊎◌, ℕ, List, [], ◌∷◌, ◌++◌, length, Option, Some, None, Result, Ok, Err}
 use Rattle.std.specs.Io.KnownBytes.{Appends}
 use Rattle.vm_file.specs.Device.{Medium}
+use Rattle.geos_calls.specs.VmFile.{Kept}
 use Rattle.geos_terms.specs.declared.refusal.Refusal.{Refusal}
 use Rattle.geos_kernel.specs.View.{KernelOn}
 use Rattle.geos_image.specs.Parts.{Parts}
@@ -20,7 +21,7 @@ use Rattle.geos_cli.specs.declared.with_names.EarlyEnd.TheVariants.{Refused, Bad
 use Rattle.script_commands.specs.Forms.{shown_in}
 use Rattle.geos_cli.specs.InForm.{EndsAt, RunsPlainly}
 use Rattle.script_commands.specs.Names.{Names, Said, command_in, first_bad_in, first_put_out, lines_said, names_behind}
-use Rattle.geos_cli.specs.Script.{GoesOn}
+use Rattle.geos_cli.specs.Script.{Allows, Does, From, GoesOn, LeadsOn, Stage}
 
 -- a command was carried out, from kernel to kernel, came to this result, and put out this word first, or none; a writer got its text in
 -- the form
@@ -96,17 +97,51 @@ pub record StopsLines {D : Type 0} (medium : Medium D) (form : Form) (mode : Mod
       × EndsAt medium form image command between later part)
   pub written : text ≡ earlier ++ part
 
--- lines ran, and a writer got their text
+-- lines lead from stage to stage, and from names to names, one after another, each where the one before left them: a line does what the
+-- command of the same line with numbers in the place of names does, and that is what the file keeps meanwhile
+abbrev pub DoesLines : Allows → Parts → List Said → Names → Names → Stage → Stage → List Kept → Type 0
+DoesLines allows image [] names left before after keeps = (left ≡ names) × (after ≡ before) × (keeps ≡ [])
+DoesLines allows image (line ∷ lines) names left before after keeps =
+    (command : Command)
+    × (between : Stage)
+    × (plain : List ℕ)
+    × (own : List Kept)
+    × (rest : List Kept)
+    × (result : Result (Unit {0}) Refusal)
+    × (command_in image names line.words ≡ Some command)
+    × Does allows image command result before between plain own
+    × DoesLines allows image lines (names_behind names line.words (first_put_out plain)) left between after rest
+    × (keeps ≡ own ++ rest)
+
+-- lines lead from the one kernel to the other, from no name on to these; stopped at any moment from the one to the other, `open` finds what
+-- the model's run of them has as kept in one of its states
+abbrev pub LeadsLines : {D : Type 0} → Medium D → Parts → List Said → Names → KernelOn D → KernelOn D → Type 0
+LeadsLines medium image lines left kernel later =
+    LeadsOn medium kernel later (λ allows before after keeps. From (DoesLines allows image lines [] left before after) before keeps)
+
+-- so do the first of them, those that were carried out, whatever each came to
+abbrev pub LeadsFirst : {D : Type 0} → Medium D → Parts → List Said → KernelOn D → KernelOn D → Type 0
+LeadsFirst medium image lines kernel later =
+    (names : Names) × (done : List Said) × (others : List Said) × (lines ≡ done ++ others) × LeadsLines medium image done names kernel later
+
+-- so do all of them or, where the script ended before the last one, the first ones
+abbrev pub LeadsLinesTo : {D : Type 0} → Medium D → Parts → List Said → Option EarlyEnd → KernelOn D → KernelOn D → Type 0
+LeadsLinesTo medium image lines None kernel later = (names : Names) × LeadsLines medium image lines names kernel later
+LeadsLinesTo medium image lines (Some end) kernel later = LeadsFirst medium image lines kernel later
+
+-- lines ran, a writer got their text, and this is what a stop meanwhile leaves
 abbrev pub RanLines : {D : Type 0} → Medium D → Form → Mode → Parts → List Said → Option EarlyEnd → KernelOn D
     → KernelOn D → Option (List ℕ) → Option (List ℕ) → Type 0
 RanLines medium form mode image lines end kernel later old new =
     (text : List ℕ) × RunsLinesTo medium form mode image lines end kernel later text × Appends old new text
+    × LeadsLinesTo medium image lines end kernel later
 
--- lines were stopped, and a writer got their text up to there
+-- lines were stopped, a writer got their text up to there, and this is what a stop meanwhile leaves
 abbrev pub StoppedLines : {D : Type 0} → Medium D → Form → Mode → Parts → List Said → KernelOn D → KernelOn D
     → Option (List ℕ) → Option (List ℕ) → Type 0
 StoppedLines medium form mode image lines kernel later old new =
     (text : List ℕ) × StopsLines medium form mode image lines kernel later text × Appends old new text
+    × LeadsFirst medium image lines kernel later
 
 -- lines are those of a script that say something, and none is bad, whatever numbers their names will stand for
 abbrev pub IsGood : Parts → List ℕ → List Said → Type 0

@@ -77,11 +77,13 @@ pub fn run_script_in_form<W: Write, D: Device + Drop>(
     out: &mut Counted<W>,
 ) -> Result<Option<RefusedCommand>, ScriptFault>
     requires unlocked { NoneLocked kernel.old.core.blocks }
-    // Each command did what it does plainly, and the writer got what they printed, in the form.
+    // Each command did what it does plainly, and the writer got what they printed, in the form. Stopped at any moment,
+    // opening the file finds what the model's run of the script has as kept in one of its states.
     ensures ran { IfOk result (λ refused. RanScriptInForm D.medium form mode image.now script.now refused kernel.old kernel.new
         (W.contents out.old.stream) (W.contents out.new.stream)) }
     ensures due { IfErr result (ScriptEndsBy image.now script.now) }
-    // Nothing ran and nothing was written, or some commands did, and the writer got a beginning of their text.
+    // Nothing ran and nothing was written, or some commands did, and the writer got a beginning of their text. A stop then
+    // leaves what the model's run of these has as kept.
     ensures left { IfErr result (λ fault. Leaves fault
         ((kernel.new ≡ kernel.old) × Keeps (W.contents out.old.stream) (W.contents out.new.stream))
         (StoppedScriptInForm D.medium form mode image.now script.now kernel.old kernel.new (W.contents out.old.stream) (W.contents out.new.stream))) }
@@ -113,11 +115,13 @@ pub fn run_call_in_form<W: Write, D: Device + Drop>(
     out: &mut Counted<W>,
 ) -> Result<(), CallFault>
     requires unlocked { NoneLocked kernel.old.core.blocks }
-    // The call did what it does plainly, and the writer got what it printed, in the form.
+    // The call did what it does plainly, and the writer got what it printed, in the form. Stopped at any moment, opening
+    // the file finds what the model's run of the call has as kept in one of its states.
     ensures ran { IfOk result (λ _. RanCallInForm D.medium form image.now name.now (texts words.now) kernel.old kernel.new
         (W.contents out.old.stream) (W.contents out.new.stream)) }
     ensures due { IfErr result (CallEndsBy image.now name.now (texts words.now)) }
-    // Nothing ran and nothing was written, or the call did, and the writer got a beginning of its text.
+    // Nothing ran and nothing was written, or the call did, and the writer got a beginning of its text. A stop then leaves
+    // what the model's run of it has as kept.
     ensures left { IfErr result (λ fault. LeavesCall fault
         ((kernel.new ≡ kernel.old) × Keeps (W.contents out.old.stream) (W.contents out.new.stream))
         (StoppedCallInForm D.medium form image.now name.now (texts words.now) kernel.old kernel.new (W.contents out.old.stream) (W.contents out.new.stream))) }

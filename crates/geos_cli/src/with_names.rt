@@ -108,11 +108,13 @@ pub fn run_script_with_names<W: Write, D: Device + Drop>(
     out: &mut Counted<W>,
 ) -> Result<Option<EarlyEnd>, ScriptFault>
     requires unlocked { NoneLocked kernel.old.core.blocks }
-    // Each line did what the same line with numbers does plainly, and the writer got what they printed, in the form.
+    // Each line did what the same line with numbers does plainly, and the writer got what they printed, in the form. Stopped
+    // at any moment, opening the file finds what the model's run of the lines has as kept in one of its states.
     ensures ran { IfOk result (λ end. RanNamedScript D.medium form mode image.now script.now end kernel.old kernel.new
         (W.contents out.old.stream) (W.contents out.new.stream)) }
     ensures due { IfErr result (NamedScriptEndsBy image.now script.now) }
-    // Nothing ran and nothing was written, or some lines did, and the writer got a beginning of their text.
+    // Nothing ran and nothing was written, or some lines did, and the writer got a beginning of their text. A stop then leaves
+    // what the model's run of these has as kept.
     ensures left { IfErr result (λ fault. Leaves fault
         ((kernel.new ≡ kernel.old) × Keeps (W.contents out.old.stream) (W.contents out.new.stream))
         (StoppedNamedScript D.medium form mode image.now script.now kernel.old kernel.new (W.contents out.old.stream) (W.contents out.new.stream))) }

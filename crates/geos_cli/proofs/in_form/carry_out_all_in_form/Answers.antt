@@ -1,7 +1,8 @@
-use Rattle.std.proofs.Common.{◌∙◌, refl, arith}
+use Rattle.std.proofs.Common.{◌∙◌, inl, refl, arith}
 use Rattle.vm_file.proofs.StateLaws.{steadily_then}
 use Rattle.geos_kernel.specs.Files.{vm_file_of}
 use Rattle.geos_machine.proofs.Honest.{alike-on}
+use Rattle.geos_machine.proofs.Stops.{stops-first}
 use Rattle.geos_cli.proofs.InFormRun.{none-ran, more-ran, all-ran, refused-ran, stopped-at}
 use Rattle.geos_cli.proofs.NamedRun.{shown-of}
 use Rattle.script_commands.proofs.Parts.{IfErr-any}
@@ -9,7 +10,9 @@ use Rattle.geos_cli.proofs.in_form.carry_out_all_in_form.Goals as goal
 
 pub loop-numbered-init : goal.loop-numbered-init
 loop-numbered-init g c = (
-  none-ran g.D.Device.medium c.args.form c.args.checked.now c.args.mode c.args.kernel.now (g.W.Write.contents c.args.out.now.stream),
+  none-ran g.D.Device.medium c.args.form c.args.checked.now c.args.mode c.args.kernel.now (g.W.Write.contents c.args.out.now.stream)
+      (λ f tied h. stops-first g.D.Device.medium c.args.kernel.now f tied (g.met.D.Device.at_once c.args.kernel.now.device)
+      c.memory_is_legal.ensures.kept h _ (λ x opens. inl opens)),
   refl,
   ((λ h. h), (λ h. h)),
   c.requires.unlocked,
@@ -28,7 +31,8 @@ pub loop-numbered-preserved : goal.loop-numbered-preserved
 loop-numbered-preserved g c =
     let shown = shown-of g.D.Device.medium c.args.form c.args.checked.now _ _ _ _ _ _ _ c.in_ok-done.ensures.ok in (
       more-ran g.D.Device.medium c.args.form c.args.checked.now c.args.mode c.args.commands.now c.loop-numbered.numbered-index
-          _ _ _ _ _ _ _ c.loop-numbered-test.true _ c.in_default.ensures c.loop-numbered.invariant.0 shown,
+          c.args.kernel.now c.loop-numbered.kernel _ _ _ _ _ c.loop-numbered-test.true c.loop-numbered.invariant.2 _ c.in_default.ensures
+          c.loop-numbered.invariant.0 shown,
       c.in_ok-done.ensures.kept ∙ c.loop-numbered.invariant.1,
       alike-on _ _ _ c.carry_out_next.ensures.honest c.loop-numbered.invariant.2,
       c.carry_out_next.ensures.unlocked,
@@ -41,7 +45,8 @@ loop-numbered-preserved g c =
 pub returns-in_err-done-clause-stopped : goal.returns-in_err-done-clause-stopped
 returns-in_err-done-clause-stopped g c =
     IfErr-any _ (stopped-at g.D.Device.medium c.args.form c.args.checked.now c.args.mode c.args.commands.now
-    c.loop-numbered.numbered-index _ _ _ _ _ _ _ c.loop-numbered-test.true c.loop-numbered.invariant.0 c.in_err-done.ensures.stopped)
+    c.loop-numbered.numbered-index c.args.kernel.now c.loop-numbered.kernel _ _ _ _ _ c.loop-numbered-test.true
+    c.loop-numbered.invariant.2 c.loop-numbered.invariant.0 c.in_err-done.ensures.stopped)
 
 pub returns-clause-sees : goal.returns-clause-sees
 returns-clause-sees g c = (c.memory_is_legal.ensures.sees, c.loop-numbered.invariant.4)
@@ -53,8 +58,8 @@ pub returns-in-Some-clause-ran : goal.returns-in-Some-clause-ran
 returns-in-Some-clause-ran g c =
     let shown = shown-of g.D.Device.medium c.args.form c.args.checked.now _ _ _ _ _ _ _ c.in_ok-done.ensures.ok in
     refused-ran g.D.Device.medium c.args.form c.args.checked.now c.args.mode c.args.commands.now c.loop-numbered.numbered-index
-    _ _ _ _ _ _ _ c.loop-numbered-test.true c.in-Some.refused c.in-Some.ensures.0 c.in-Some.ensures.1 _
-    c.in-Some.ensures.2 c.loop-numbered.invariant.0 shown
+    c.args.kernel.now c.loop-numbered.kernel _ _ _ _ _ c.loop-numbered-test.true c.loop-numbered.invariant.2
+    c.in-Some.refused c.in-Some.ensures.0 c.in-Some.ensures.1 _ c.in-Some.ensures.2 c.loop-numbered.invariant.0 shown
 
 pub returns-in-Some-clause-sees : goal.returns-in-Some-clause-sees
 returns-in-Some-clause-sees g c = (c.memory_is_legal.ensures.sees, c.carry_out_next.ensures.sees.1)

@@ -1,12 +1,28 @@
-use Rattle.std.proofs.Common.{◌∙◌, ◌+◌, refl, sym, subst, take, get_or, map, arith}
+use Rattle.std.proofs.Common.{◌∙◌, ◌+◌, [], ap, inl, refl, sym, subst, take, get_or, map, arith}
 use Rattle.vm_file.proofs.StateLaws.{steadily_then}
 use Rattle.geos_kernel.specs.Files.{vm_file_of}
 use Rattle.geos_machine.proofs.Honest.{alike-on}
+use Rattle.geos_machine.proofs.Stops.{stops-first}
 use Rattle.geos_text.specs.Words.{words}
 use Rattle.script_commands.specs.Names.{names_of, said_by}
-use Rattle.geos_cli.proofs.NamedRun.{RanSoFar, admitted-named, all-ran, any_line, ended-badly, more-ran, named-in, not-begun, refused-ran, stopped-at, stopped-behind}
+use Rattle.geos_cli.proofs.NamedRun.{RanSoFar, admitted-named, all-ran, any_line, ended-badly, more-ran, named-in, none-ran, not-begun, refused-ran, stopped-at, stopped-behind}
 use Rattle.script_commands.proofs.Parts.{IfErr-any}
 use Rattle.geos_cli.proofs.with_names.carry_out_lines.Goals as goal
+
+pub loop-line-init : goal.loop-line-init
+loop-line-init g c = (
+  subst (λ ns. RanSoFar g.D.Device.medium c.args.form c.args.mode c.args.checked.now [] ns c.args.kernel.now c.args.kernel.now
+      (g.W.Write.contents c.args.out.now.stream) (g.W.Write.contents c.args.out.now.stream)) (sym (ap names_of c.new-names.ensures.items))
+      (none-ran g.D.Device.medium c.args.form c.args.mode c.args.checked.now c.args.kernel.now (g.W.Write.contents c.args.out.now.stream)
+      (λ f tied h. stops-first g.D.Device.medium c.args.kernel.now f tied (g.met.D.Device.at_once c.args.kernel.now.device)
+      c.memory_is_legal.ensures.kept h _ (λ x opens. inl opens))),
+  refl,
+  ((λ h. h), (λ h. h)),
+  c.requires.unlocked,
+  c.memory_is_legal.ensures.sees,
+  (λ steady room. (room, refl)),
+  c.new-progress.ensures,
+)
 
 pub returns-in_err-command-clause-stopped : goal.returns-in_err-command-clause-stopped
 returns-in_err-command-clause-stopped g c =
@@ -33,7 +49,7 @@ returns-in_err-done-clause-stopped g c =
     IfErr-any _ (stopped-at g.D.Device.medium c.args.form c.args.mode c.args.checked.now c.args.lines.now c.loop-line.line-index
     (names_of c.loop-line.names.items) c.args.kernel.now c.loop-line.kernel (g.W.Write.contents c.args.out.now.stream)
     (g.W.Write.contents c.loop-line.out.stream) c.loop-line.invariant.0 any_line c.loop-line-test.true c.in-Some.command named
-    c.carry_out_next.new.kernel (g.W.Write.contents c.carry_out_next.new.out.stream) c.in_err-done.ensures.stopped)
+    c.carry_out_next.new.kernel (g.W.Write.contents c.carry_out_next.new.out.stream) c.loop-line.invariant.2 c.in_err-done.ensures.stopped)
 
 pub returns-in-Some-ended_by-clause-ran : goal.returns-in-Some-ended_by-clause-ran
 returns-in-Some-ended_by-clause-ran g c =
@@ -43,7 +59,7 @@ returns-in-Some-ended_by-clause-ran g c =
     refused-ran g.D.Device.medium c.args.form c.args.mode c.args.checked.now c.args.lines.now c.loop-line.line-index
     (names_of c.loop-line.names.items) c.args.kernel.now c.loop-line.kernel (g.W.Write.contents c.args.out.now.stream)
     (g.W.Write.contents c.loop-line.out.stream) c.loop-line.invariant.0 any_line c.loop-line-test.true c.in-Some.command named
-    c.carry_out_next.new.kernel (g.W.Write.contents c.carry_out_next.new.out.stream) c.in-Some-ended_by.refused
+    c.carry_out_next.new.kernel (g.W.Write.contents c.carry_out_next.new.out.stream) c.loop-line.invariant.2 c.in-Some-ended_by.refused
     ended.0 ended.1 _ _ ended.2 c.in_ok-done.ensures.ok
 
 pub returns-in_err-keep-clause-stopped : goal.returns-in_err-keep-clause-stopped
@@ -54,7 +70,7 @@ returns-in_err-keep-clause-stopped g c =
     c.loop-line.line-index (names_of c.loop-line.names.items) c.args.kernel.now c.loop-line.kernel
     (g.W.Write.contents c.args.out.now.stream) (g.W.Write.contents c.loop-line.out.stream) c.loop-line.invariant.0 any_line
     c.loop-line-test.true c.in-Some.command named c.carry_out_next.new.kernel (g.W.Write.contents c.carry_out_next.new.out.stream)
-    _ _ c.in_ok-done.ensures.ok)
+    c.loop-line.invariant.2 _ _ c.in_ok-done.ensures.ok)
 
 pub loop-line-preserved : goal.loop-line-preserved
 loop-line-preserved g c =
@@ -63,7 +79,7 @@ loop-line-preserved g c =
     let more = more-ran g.D.Device.medium c.args.form c.args.mode c.args.checked.now c.args.lines.now c.loop-line.line-index
     (names_of c.loop-line.names.items) c.args.kernel.now c.loop-line.kernel (g.W.Write.contents c.args.out.now.stream)
     (g.W.Write.contents c.loop-line.out.stream) c.loop-line.invariant.0 any_line c.loop-line-test.true c.in-Some.command named
-    c.carry_out_next.new.kernel (g.W.Write.contents c.carry_out_next.new.out.stream) _ _ c.in_default-ended_by.ensures
+    c.carry_out_next.new.kernel (g.W.Write.contents c.carry_out_next.new.out.stream) c.loop-line.invariant.2 _ _ c.in_default-ended_by.ensures
     c.in_ok-done.ensures.ok in (
       subst (λ ns. RanSoFar g.D.Device.medium c.args.form c.args.mode c.args.checked.now
           (map said_by (take (c.loop-line.line-index + 1) c.args.lines.now)) ns c.args.kernel.now c.carry_out_next.new.kernel
