@@ -8,6 +8,7 @@ ghost use Rattle.geos_asm.specs.Budgets.{IsCutRound, IsLineAlike, HasOtherBudget
 use crate::assembler::assemble_with_lines;
 use crate::calls::{first_calling_on, line_of};
 use crate::error::BudgetError;
+use crate::least::budgets_in_order;
 use crate::unset::{LoopOn, first_unset_loop};
 use geos_image::Image;
 use geos_text::{first_word, is_blank, number_up_to, put_numbered, without_comment};
@@ -196,9 +197,21 @@ fn drafted(alloc: Global, text: &[u8], budgets: &[u32]) -> Result<Draft, BudgetE
     Ok(Draft { text: new, found })
 }
 
+/// The budgets to begin with: mostly the ones that are found for the text with them. What is answered does not rest on that.
+fn first_budgets(alloc: Global, text: &[u8]) -> Vec<u32> {
+    let Ok(plain) = with_budgets(alloc, text, &[]) else {
+        return Vec::new(alloc);
+    };
+    match budgets_in_order(alloc, &plain) {
+        Ok(budgets) => budgets,
+        Err(_) => Vec::new(alloc),
+    }
+}
+
 /// The text with the least budget that is found for each routine in the place of its own: the constant of the potential at its first
 /// instruction. A `?` may stand for a budget. All other bytes stay. What is found for a routine depends on the budgets of those that it
-/// calls, so each round finds one more on a chain of calls.
+/// calls, so they are found in the order of the routines. If those that are found for the whole text differ, rounds follow, each of which
+/// finds one more on a chain of calls.
 ///
 /// The faults are those of `assemble`, of the text with other budgets; or `CallsOn`, with the line of the first CALL of a routine that does
 /// not stand before its own; or `NotSet`, with that of a LOOP which takes from a counter that nothing sets on a way to it.
@@ -206,7 +219,11 @@ pub fn with_least_budgets(alloc: Global, text: &[u8]) -> Result<Vec<u8>, BudgetE
     ensures budgeted { IfOk result (λ new. IsBudgeted text.now new.items) }
     ensures fault { IfErr result (IsWhyNoBudgets text.now) }
 {
-    let mut draft = drafted(alloc, text, &[])?;
+    let first = first_budgets(alloc, text);
+    let mut draft = drafted(alloc, text, &first)?;
+    if draft.found == first {
+        return Ok(draft.text);
+    }
     for _ in 0..MOST_ROUTINES {
         let next = drafted(alloc, text, &draft.found)?;
         if next.found == draft.found {

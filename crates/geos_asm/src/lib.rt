@@ -8,6 +8,7 @@ mod budgets;
 mod calls;
 mod cause;
 mod error;
+mod least;
 mod unset;
 
 pub use assembler::{Assembled, assemble, assemble_all_rows, assemble_with_lines};
