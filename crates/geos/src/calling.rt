@@ -3,7 +3,7 @@
 ghost use Rattle.vm_blocks.specs.Listed.{NoneLocked};
 ghost use Rattle.geos_shell.specs.Limits.{IsRegion};
 
-use crate::files::{Locked, locked, opened};
+use crate::files::{Locked, opened, wait_for};
 use crate::images::{MOST_READ, read_image};
 use crate::manner::{Manner, run_call_on, run_script_on};
 use crate::request_fault::RequestFault;
@@ -100,7 +100,7 @@ fn work_on_file<'a>(
     let Locked {
         device,
         lock: _lock,
-    } = locked(rt, file)?;
+    } = wait_for(rt, file)?;
     let file = opened(rt, device)?;
     let work = work?;
     work_in(rt, manner, image, &work, region, file)

@@ -2,7 +2,7 @@
 
 ghost use Rattle.geos_shell.specs.Limits.{IsRegion};
 
-use crate::files::{Locked, lock_to_read, locked, opened};
+use crate::files::{Locked, lock_to_read, opened, wait_for};
 use crate::request_fault::RequestFault;
 use geos_cli::{Place, ScriptFault, get_bytes, put_bytes};
 use geos_kernel::Kernel;
@@ -59,7 +59,7 @@ pub(crate) fn put<'a>(
     let Locked {
         device,
         lock: _lock,
-    } = locked(rt, file)?;
+    } = wait_for(rt, file)?;
     let file = opened(rt, device)?;
     let bytes = bytes?;
     put_in(rt, place_of(chunk), at, &bytes, region, file)

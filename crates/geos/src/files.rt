@@ -60,7 +60,7 @@ pub(crate) struct Locked<'a> {
 }
 
 /// Waits for the lock on the file, and gives it with a device on what the path leads to then.
-pub(crate) fn locked<'a>(
+pub(crate) fn wait_for<'a>(
     rt: &HostRuntime,
     file: Lockable<'a>,
 ) -> Result<Locked<'a>, RequestFault<'a>> {
@@ -76,7 +76,7 @@ pub(crate) fn lock_to_read<'a>(
     rt: &HostRuntime,
     path: &'a str,
 ) -> Result<Locked<'a>, RequestFault<'a>> {
-    locked(rt, Lockable::open(rt, path, Sharing::Shared)?)
+    wait_for(rt, Lockable::open(rt, path, Sharing::Shared)?)
 }
 
 /// Opens the VM file that a device holds.

@@ -2,7 +2,7 @@
 
 ghost use Rattle.geos_shell.specs.Limits.{IsRegion};
 
-use crate::files::{Locked, locked, opened};
+use crate::files::{Locked, opened, wait_for};
 use crate::images::{MOST_READ, read_image};
 use crate::manner::{Manner, output, run_script_on};
 use crate::request_fault::RequestFault;
@@ -58,7 +58,7 @@ pub(crate) fn run<'a>(
     let Locked {
         device,
         lock: _lock,
-    } = locked(rt, file)?;
+    } = wait_for(rt, file)?;
     let file = opened(rt, device)?;
     let script = script?;
     run_in(rt, manner, &image, &script, region, file)

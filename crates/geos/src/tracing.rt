@@ -4,7 +4,7 @@ ghost use Rattle.vm_blocks.specs.Listed.{NoneLocked};
 ghost use Rattle.geos_shell.specs.Limits.{IsRegion};
 
 use crate::commands::begins_as_image;
-use crate::files::{Locked, locked, opened};
+use crate::files::{Locked, opened, wait_for};
 use crate::images::MOST_READ;
 use crate::manner::call_fault;
 use crate::request_fault::RequestFault;
@@ -146,7 +146,7 @@ fn trace_on_file<'a>(
     let Locked {
         device,
         lock: _lock,
-    } = locked(rt, Lockable::open(rt, path, Sharing::Alone)?)?;
+    } = wait_for(rt, Lockable::open(rt, path, Sharing::Alone)?)?;
     let file = opened(rt, device)?;
     match Kernel::new(rt.alloc(), region, file) {
         Ok(mut kernel) => trace_on(rt, words, traceable, &mut kernel),

@@ -155,7 +155,7 @@ impl<'a> Lockable<'a> {
 
     /// Waits until the lock on the file is had, and says so where that takes long and standard error is a terminal. If the path leads to
     /// another file then, as after a rename, that one is opened and waited for in its place, at most three times. `StreamFault::Read`
-    /// where the system has no locks for it, or where the path leads to another file each time; and the faults of `open`.
+    /// if the system has no locks for it, or if the path leads to another file each time; and the faults of `open`.
     pub fn wait(self, rt: &HostRuntime) -> Result<FileLock<'a>, StreamFault<'a>> {
         let (path, sharing) = (self.path, self.sharing);
         let mut lockable = self;

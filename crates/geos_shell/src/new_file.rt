@@ -43,7 +43,7 @@ impl<'a> NewFile<'a> {
     }
 
     /// Gives the file its path, which lasts then. `StreamFault::Write` where something has got that path meanwhile, or where the system
-    /// refuses: then nothing is left. `StreamFault::Left` where the file has its path, but its part can't be removed.
+    /// refuses: then nothing is left. `StreamFault::Left` if the file has its path, but its part can't be removed.
     pub fn finish(self, rt: &HostRuntime) -> Result<(), StreamFault<'a>> {
         let NewFile { path, part } = self;
         match part.give_path(rt, path) {

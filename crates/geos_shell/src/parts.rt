@@ -157,7 +157,7 @@ fn rename_to_free(rt: &HostRuntime, part: &str, path: &str) -> io::Result<()> {
 
 impl Part {
     /// Makes an empty part in the folder of the path, with the permissions but those that the user's mask takes away. What stopped runs
-    /// have left there is removed first, but for one file that is to be kept; what can't be removed is left. An error also where the
+    /// have left there is removed first, but for one file that is to be kept; what can't be removed is left. An error also if the
     /// folder can't be read, since it can't be synced then.
     pub(crate) fn beside(
         rt: &HostRuntime,
@@ -179,8 +179,8 @@ impl Part {
         Err(io::Error::from(ErrorKind::AlreadyExists))
     }
 
-    /// Gives it the path, which lasts then, if nothing has that. It is locked until the path lasts. Where that can't be made last, it is
-    /// removed.
+    /// Gives it the path, which lasts then, if nothing has that. It is locked until the path lasts. If the folder can't be synced, the
+    /// path is removed.
     pub(crate) fn give_path(self, rt: &HostRuntime, path: &str) -> Result<(), PartFault> {
         let has_two_names = match take_free(rt, self.name.as_str(), path) {
             Ok(has_two_names) => has_two_names,

@@ -108,7 +108,7 @@ pub(crate) fn name_of(path: &str) -> &str {
 
 /// Puts the bytes, which are made of what `source` names, into the file with the path, in the place of what it has; prints them where
 /// the path is `-`. `StreamFault::Write` also where the file is the source itself, or a VM file, also as the standard
-/// output; it is as it was then. `StreamFault::Left` where the file is
+/// output; it is as it was then. `StreamFault::Left` if the file is
 /// written, but its part can't be removed.
 pub fn write<'a>(
     rt: &HostRuntime,
