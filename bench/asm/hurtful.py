@@ -1,6 +1,6 @@
 """Times `geos asm` on texts that are made to hurt: 4,096 instructions or one MiB of text each. Beside each time stands its ratio to that
 of a text of 4,095 additions, assembled in the same run. It fails where a ratio is past its bound, which is many times what was measured:
-where no other is given, one that stands for some one second.
+where no other is given, one that stands for some one second. Last comes `geos budget`, with its ratio to `asm` of the same text.
 
     python3 hurtful.py PROGRAM
 """
@@ -16,6 +16,7 @@ HEAD = ["routine a public budget 4294967295"]
 MOST_TEXT = 1_048_576
 RUNS = 5
 MOST_RATIO = 200
+MOST_BUDGET_RATIO = 4
 
 
 def heads(n):
@@ -157,6 +158,13 @@ def shuffled(n, seed):
     return [*HEAD, *(f"SETK k{k} 3" for k in range(4)), "JMP b0", *places, f"b{n}: RET"]
 
 
+def chain_of_calls(n):
+    """LOOPs as in `prices`, and 30 routines, each of which calls the one before it."""
+    names = ["a", *(f"a{i}" for i in range(30))]
+    calls = zip(names[1:], names)
+    return [*prices(n), *(line for name, called in calls for line in (f"routine {name} budget 1", f"CALL {called}", "RET"))]
+
+
 def texts():
     """Each text with what it is, and its bound where that is not the usual one."""
     n = 2040
@@ -198,12 +206,12 @@ def texts():
     yield "1 MiB of items of an entry row", [*HEAD, "in " + "w0<=9 " * 170_000, "RET"]
 
 
-def least(program, text, image):
-    """The least time of some runs, in seconds."""
+def least(program, command, text, out):
+    """The least time of some runs of a command, in seconds."""
     times = []
     for _ in range(RUNS):
         start = time.perf_counter()
-        subprocess.run([program, "asm", text, image], stderr=subprocess.DEVNULL, check=False)
+        subprocess.run([program, command, text, out], stderr=subprocess.DEVNULL, check=False)
         times.append(time.perf_counter() - start)
     return min(times)
 
@@ -213,16 +221,22 @@ def main():
     base = None
     past = []
     with tempfile.TemporaryDirectory() as folder:
-        text, image = Path(folder, "text.asm"), Path(folder, "image")
+        text, out = Path(folder, "text.asm"), Path(folder, "out")
         for name, lines, *most in texts():
             written = "\n".join(lines) + "\n"
             assert len(written) <= MOST_TEXT, name
             text.write_text(written)
-            taken = least(sys.argv[1], text, image)
+            taken = least(sys.argv[1], "asm", text, out)
             base = base or taken
             print(f"{name}: {1000 * taken:.0f} ms, {taken / base:.1f}")
             if (most[0] if most else MOST_RATIO) < taken / base:
                 past.append(name)
+        text.write_text("\n".join(chain_of_calls(670)) + "\n")
+        taken = least(sys.argv[1], "budget", text, out)
+        ratio = taken / least(sys.argv[1], "asm", text, out)
+        print(f"budget of 30 CALLs in a chain, behind 670 LOOPs with a SETK of their own number: {1000 * taken:.0f} ms, {ratio:.1f} times its asm")
+        if MOST_BUDGET_RATIO < ratio:
+            past.append("budget")
     if past:
         sys.exit("past its bound: " + "; ".join(past))
 
