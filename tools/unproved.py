@@ -98,7 +98,8 @@ class Trial:
     """The words and files that the program gets in the folder in which `rt try` runs it."""
 
     words: list[str]
-    files: dict[str, str] = field(default_factory=dict)  # the name there, and the file's own path
+    copies: Path  # the folder that the copies of files go to
+    files: dict[str, Path] = field(default_factory=dict)  # the name there, and the copy
     renamed: dict[str, str] = field(default_factory=dict)  # the name there, and the word that the caller gave
 
     def give(self, place: int) -> None:
@@ -106,18 +107,25 @@ class Trial:
         word = self.words[place]
         option = SCRIPT if word.startswith(SCRIPT) else ""
         name = word = word.removeprefix(option)
+        if not_text(word):
+            return  # the program refuses it
         if os.path.normpath(word) != word or name.split("/")[0] in ("", "..", *TAKEN) or "=" in word:
             name = f"given/{len(self.renamed)}"
             self.renamed[name] = word
             self.words[place] = option + name
-        with contextlib.suppress(OSError):
-            status = os.stat(word)
-            if not stat.S_ISREG(status.st_mode):
+        try:
+            if not stat.S_ISREG(os.stat(word).st_mode):
                 raise Refused(f"an unproved run reads regular files only, and {word!r} is none; {CURE}")
-            if status.st_size > MOST_INPUT:
+            file = os.open(word, os.O_RDONLY)
+        except OSError:
+            return  # the program finds no such file either
+        # A copy, as a name like /dev/stdin means another file to `rt`, and as others may change the file.
+        self.files[name] = self.copies / str(len(self.files))
+        try:
+            if not copied(file, self.files[name]):
                 raise Refused(f"an unproved run reads at most {MOST_INPUT} bytes, and {word!r} has more; {CURE}")
-            if os.access(word, os.R_OK):
-                self.files[name] = os.path.abspath(word)
+        finally:
+            os.close(file)
 
     def restored(self, said: bytes) -> bytes:
         """A message of the program with the names that the caller gave."""
@@ -126,8 +134,29 @@ class Trial:
         return said
 
 
-def trial_of(request: Request) -> Trial:
-    trial = Trial(list(request.words))
+def not_text(word: str) -> bool:
+    """Whether a word of the command line is not UTF-8."""
+    try:
+        word.encode()
+    except UnicodeEncodeError:
+        return True
+    return False
+
+
+def copied(number: int, to: Path) -> bool:
+    """Copies a stream up to its end to a file, if it is not too long."""
+    size = 0
+    with to.open("wb") as copy:
+        while more := os.read(number, 1 << 20):
+            size += len(more)
+            if size > MOST_INPUT:
+                return False
+            copy.write(more)
+    return True
+
+
+def trial_of(request: Request, copies: Path) -> Trial:
+    trial = Trial(list(request.words), copies)
     for place in request.inputs():
         if trial.words[place] != "-":
             trial.give(place)
@@ -136,19 +165,15 @@ def trial_of(request: Request) -> Trial:
 
 def copy_input(request: Request, to: Path) -> None:
     """Copies standard input to a file, up to its end."""
-    with to.open("wb") as copy:
-        if not request.reads_standard_input():
-            return
-        if 0 in CLOSED:
-            raise Refused("cannot read standard input: it is closed")
-        if os.isatty(0):
-            raise Refused(f"an unproved run reads no terminal: give a file with `< FILE`, or {CURE}")
-        size = 0
-        while more := os.read(0, 1 << 20):
-            size += len(more)
-            if size > MOST_INPUT:
-                raise Refused(f"an unproved run reads at most {MOST_INPUT} bytes of standard input; {CURE}")
-            copy.write(more)
+    if not request.reads_standard_input():
+        to.touch()
+        return
+    if 0 in CLOSED:
+        raise Refused("cannot read standard input: it is closed")
+    if os.isatty(0):
+        raise Refused(f"an unproved run reads no terminal: give a file with `< FILE`, or {CURE}")
+    if not copied(0, to):
+        raise Refused(f"an unproved run reads at most {MOST_INPUT} bytes of standard input; {CURE}")
 
 
 @contextlib.contextmanager
@@ -228,8 +253,8 @@ def answer(words: list[str]) -> int:
     if request.needs_proof():
         return NEEDS_PROOF
     minutes = subprocess.run([TOP / "build", "--minutes", "geos"], capture_output=True, text=True).stdout.strip()
-    trial = trial_of(request)
     with folder() as made:
+        trial = trial_of(request, made)
         given = made / "input"
         copy_input(request, given)
         say(
