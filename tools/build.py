@@ -20,7 +20,6 @@ import contextlib
 import fcntl
 import os
 import shutil
-import signal
 import subprocess
 import sys
 from collections.abc import Iterator
@@ -239,8 +238,7 @@ def can_be_built(crate: Crate) -> bool:
 
 
 def main() -> int:
-    for number in (signal.SIGHUP, signal.SIGINT, signal.SIGTERM):
-        signal.signal(number, lambda number, _: sys.exit(128 + number))
+    streams.end_on_signals()
     try:
         return answer(sys.argv[1:])
     except NotBuilt as why:

@@ -1,9 +1,12 @@
-"""Standard streams that a caller has closed."""
+"""Standard streams that a caller has closed, and signals that end a command."""
 
 from __future__ import annotations
 
 import contextlib
 import os
+import signal
+import sys
+from types import FrameType
 
 
 def open_closed() -> set[int]:
@@ -25,3 +28,20 @@ def say(text: str, end: str = "\n") -> None:
     """Prints text on standard error, if that can be written."""
     with contextlib.suppress(OSError):
         os.write(2, (text + end).encode(errors="backslashreplace"))
+
+
+ENDING = (signal.SIGHUP, signal.SIGINT, signal.SIGQUIT, signal.SIGTERM)
+
+
+def end(number: int, _: FrameType | None) -> None:
+    """Ends this process in order. A second signal does not cut that short."""
+    for each in ENDING:
+        signal.signal(each, signal.SIG_IGN)
+    sys.exit(128 + number)
+
+
+def end_on_signals() -> None:
+    """Lets signals end this process in order. One that `nohup` ignores stays so."""
+    for number in ENDING:
+        if number != signal.SIGHUP or signal.getsignal(number) != signal.SIG_IGN:
+            signal.signal(number, end)

@@ -16,7 +16,6 @@ import contextlib
 import os
 import re
 import shutil
-import signal
 import stat
 import subprocess
 import sys
@@ -266,8 +265,7 @@ def answer(words: list[str]) -> int:
 
 
 def main() -> int:
-    for number in (signal.SIGHUP, signal.SIGINT, signal.SIGTERM):
-        signal.signal(number, lambda number, _: sys.exit(128 + number))
+    streams.end_on_signals()
     try:
         return answer(sys.argv[1:])
     except Refused as why:
