@@ -1,6 +1,7 @@
 """Builds a program or a static library of crates/, and proves each crate that it stands on.
 
 usage: build NAME              builds NAME, unless it is built from the present sources, and prints its path
+       build --run WORD..      builds geos, and then runs ./geos with these words
        build --has NAME        prints its path if it is built from the present sources; otherwise ends with status 1
        build --minutes NAME    prints how many minutes a build takes from nothing on this machine
        build --sums NAME..     prints the checksums of what these are built from
@@ -209,6 +210,9 @@ def take_all(all_crates: dict[str, Crate], names: list[str], sums: Path) -> None
 def answer(words: list[str]) -> int:
     """Does what the words say, and returns the exit status."""
     all_crates = crates.read()
+    if words[:1] == ["--run"]:
+        build(all_crates, all_crates["geos"])
+        streams.become(TOP / "geos", *words[1:])
     flag = words.pop(0) if words and words[0].startswith("--") else ""
     sums = Path(words.pop()) if flag == "--take" and words else None
     if not words or not all(name in all_crates and can_be_built(all_crates[name]) for name in words):
@@ -228,7 +232,7 @@ def answer(words: list[str]) -> int:
             build(all_crates, crate)
         print(crate.built)
     else:
-        say(f"there is no {flag}; `build NAME`, `--has`, `--minutes`, `--sums` and `--take` are there")
+        say(f"there is no {flag}; `build NAME`, `--run`, `--has`, `--minutes`, `--sums` and `--take` are there")
         return 2
     return 0
 

@@ -6,7 +6,9 @@ import contextlib
 import os
 import signal
 import sys
+from pathlib import Path
 from types import FrameType
+from typing import NoReturn
 
 
 def open_closed() -> set[int]:
@@ -45,3 +47,10 @@ def end_on_signals() -> None:
     for number in ENDING:
         if number != signal.SIGHUP or signal.getsignal(number) != signal.SIG_IGN:
             signal.signal(number, end)
+
+
+def become(program: Path, *words: str) -> NoReturn:
+    """Runs another program in this process, so that a signal to it ends all. A stream that was closed is so again."""
+    for number in (signal.SIGPIPE, signal.SIGXFSZ):
+        signal.signal(number, signal.SIG_DFL)  # Python ignores them
+    os.execv(program, [str(program), *words])

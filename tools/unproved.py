@@ -3,7 +3,7 @@
 usage: unproved WORD..     the words of `geos`
 
 Standard output and the exit status are the program's own. What an unproved run cannot do is an error in one line.
-Status 3 with nothing said: the request may change a file, or reads one that others may be changing, so it needs the proved program.
+A request that may change a file, or reads one that others may be changing, needs the proved program, which `build --run` builds and runs.
 """
 
 from __future__ import annotations
@@ -26,7 +26,6 @@ from pathlib import Path
 
 from crates import TOP
 
-NEEDS_PROOF = 3
 # What `rt try` takes of standard input and of each file, in bytes.
 MOST_INPUT = 64 << 20
 # How long the program may run, in seconds, once it is compiled.
@@ -250,7 +249,7 @@ def report(trial: Trial, status: int, printed: bytes, said: bytes) -> int:
 def answer(words: list[str]) -> int:
     request = Request(words)
     if request.needs_proof():
-        return NEEDS_PROOF
+        streams.become(TOP / "build", "--run", *words)
     minutes = subprocess.run([TOP / "build", "--minutes", "geos"], capture_output=True, text=True).stdout.strip()
     with folder() as made:
         trial = trial_of(request, made)
