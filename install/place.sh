@@ -3,6 +3,7 @@
 # under names of their own, and then renamed, so that a full disk leaves what was installed before. ROOT/LIST then names each file, and each
 # folder that was made. `place.sh --remove ROOT LIST..` removes what these lists name; a folder in which there is something stays.
 export LC_ALL=C
+umask 022
 
 if [ "$1" = --remove ]; then
     cd "$2" 2>/dev/null || exit 0
