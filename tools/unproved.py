@@ -70,8 +70,16 @@ class Request:
     def command(self) -> str:
         return self.words[0] if self.words else ""
 
+    @property
+    def asks_for_help(self) -> bool:
+        """Whether it prints help, or is refused: no command does anything with one of these words before `--`."""
+        end = self.words.index("--") if "--" in self.words else None
+        return not {"-h", "--help"}.isdisjoint(self.words[:end])
+
     def needs_proof(self) -> bool:
         """Whether it may change a file, or reads a VM file."""
+        if self.asks_for_help:
+            return False
         if self.command in ("call", "trace"):
             return any(word == "--file" or word.startswith("--file=") for word in self.words)
         if self.command in ("asm", "budget"):
@@ -80,13 +88,15 @@ class Request:
 
     def inputs(self) -> list[int]:
         """Where the words stand that name files to read."""
+        if self.asks_for_help:
+            return []
         reads = self.command in ("call", "trace", "asm", "budget", "list", "check", "explain")
         return [*(self.plain[:1] if reads else []), *self.scripts]
 
     def reads_standard_input(self) -> bool:
         if not self.words:
             return True
-        if self.command == "call" and len(self.plain) == 1:
+        if self.command == "call" and len(self.plain) == 1 and not self.asks_for_help:
             return True
         return any(self.words[place] == "-" for place in self.inputs())
 
