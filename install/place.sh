@@ -18,6 +18,7 @@ stage=$(cd "$1" && pwd) && list=$3 && mkdir -p "$2" && cd "$2" || exit
 part=.takhvoi-$$
 work=$(mktemp -d) || exit
 trap 'rm -rf "$work"' EXIT
+trap 'stopped=yes' HUP INT TERM
 : >"$work/old"
 [ ! -f "$list" ] || cp "$list" "$work/old"
 (cd "$stage" && { find . ! -type d; echo "./$list"; } | sed 's|^\./||' | sort -u) >"$work/files"
@@ -33,6 +34,8 @@ copy_of() {
 }
 copy_all() {
     while IFS= read -r file; do
+        [ -z "$stopped" ] || return 1
+        [ ! -d "$file" ] || [ -L "$file" ] || { echo "place.sh: $file is a folder" >&2 && return 1; }
         mkdir -p "$(dirname "$file")" && cp -P --preserve=mode "$stage/$file" "$(copy_of "$file")" || return
     done <"$work/files"
 }
@@ -42,8 +45,9 @@ if ! copy_all; then
     echo "place.sh: nothing was installed below $2" >&2
     exit 1
 fi
+trap '' HUP INT TERM
 while IFS= read -r file; do
-    mv -f "$(copy_of "$file")" "$file" || exit
+    mv -fT "$(copy_of "$file")" "$file" || exit
 done <"$work/files"
 # What an older version had, and this one has not.
 grep -v '/$' "$work/old" | grep -vxF -f "$work/files" | while IFS= read -r file; do rm -f "$file"; done
