@@ -108,7 +108,7 @@ def room(some: list[Crate]) -> Iterator[Path]:
             for crate in some:
                 add(crate, folder)
         except OSError as error:
-            raise NotBuilt(f"a build is due, but its sources can't be copied to {folder}: {error.strerror}") from None
+            raise NotBuilt(f"a build is due, but its sources can't be copied to {folder}: {error.strerror or error}") from None
         yield folder
     finally:
         shutil.rmtree(folder, ignore_errors=True)
@@ -120,7 +120,7 @@ def add(crate: Crate, folder: Path) -> None:
     to.mkdir(parents=True)
     for part in map(crate.folder.joinpath, COPIED):
         if part.is_dir():
-            shutil.copytree(part, to / part.name)
+            shutil.copytree(part, to / part.name, ignore_dangling_symlinks=True)  # an editor's locks
         elif part.exists():
             shutil.copy(part, to)
     with (folder / "crates.txt").open("a") as listed:
