@@ -185,9 +185,14 @@ def build(all_crates: dict[str, Crate], crate: Crate) -> None:
         some = crates.below(all_crates, crate.name)[: -1 if crate.is_static_library else None]
         say(f"proving {len(some)} crates for {crate.name} first, about {whole_minutes(some)} minutes from nothing")
         with room(some) as folder:
+            if crates.sums(all_crates, crate.name) != sums:
+                raise NotBuilt("sources have changed while they were copied; run it again")
             stamp_of(crate).unlink(missing_ok=True)
             prove(folder, some)
             take(crate, folder)
+        # The sources of a static library itself are copied last.
+        if crate.is_static_library and not sums.endswith(crates.sums({crate.name: crate}, crate.name)):
+            raise NotBuilt(f"sources of {crate.name} have changed since the build began; run it again")
         stamp(crate, sums)
 
 
