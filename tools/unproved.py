@@ -20,6 +20,7 @@ import stat
 import subprocess
 import sys
 import tempfile
+import unicodedata
 from collections.abc import Iterator
 from dataclasses import dataclass, field
 from pathlib import Path
@@ -136,10 +137,16 @@ class Trial:
             os.close(file)
 
     def restored(self, said: bytes) -> bytes:
-        """A message of the program with the names that the caller gave."""
-        for name, word in self.renamed.items():
-            said = said.replace(os.fsencode(name), os.fsencode(word))
-        return said
+        """A message of the program with the names that the caller gave, written as the program writes names."""
+        names = {os.fsencode(name): shown(word) for name, word in self.renamed.items()}
+        return re.sub(rb"given/[0-9]+", lambda found: names.get(found[0], found[0]), said)
+
+
+def shown(word: str) -> bytes:
+    """A name in a message: '' for an empty one, and the bytes of control characters in hexadecimal."""
+    return "".join(
+        "".join(f"\\x{byte:02x}" for byte in each.encode()) if unicodedata.category(each) == "Cc" else each for each in word
+    ).encode() or b"''"
 
 
 def not_text(word: str) -> bool:
