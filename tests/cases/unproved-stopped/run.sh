@@ -10,20 +10,28 @@ stopped() {
     signal=$1
     shift
     setsid "$@" >found 2>said </dev/null &
-    for turn in 1 2 3 4 5 6 7 8 9 10 11 12 13 14 15 16 17 18 19 20; do
-        pgrep -f "stub_rt.py $program" >/dev/null && break
-        sleep 0.2
-    done
+    until_at_work 1
     sleep 0.3
     kill -s "$signal" -- -$!
     wait $!
     status=$?
-    for turn in 1 2 3 4 5 6 7 8 9 10; do
-        pgrep -f "stub_rt.py $program" >/dev/null || break
-        sleep 0.2
-    done
-    echo "$signal: status $status, at work: $(pgrep -f "stub_rt.py $program" | wc -l), printed: $(cat found)"
+    until_at_work 0
+    echo "$signal: status $status, at work: $(at_work), printed: $(cat found)"
     made
+}
+
+# How many stand-ins for rt are at work.
+at_work() {
+    pgrep -f "stub_rt.py $program" | wc -l
+}
+
+# until_at_work COUNT: waits for at most a minute until so many are at work
+until_at_work() {
+    turn=0
+    while [ "$(at_work)" -ne "$1" ] && [ "$turn" -lt 300 ]; do
+        sleep 0.2
+        turn=$((turn + 1))
+    done
 }
 cp "$1" "$folder/program"
 program=$folder/program
