@@ -83,7 +83,7 @@ Description: memory of PC/GEOS with a bytecode verifier, proved
  and a library for C, C++, Rust and Python.
 CONTROL
     (cd "$root" && find usr -type f | sort | xargs md5sum) >"$root/DEBIAN/md5sums" &&
-        dpkg-deb --root-owner-group -Zgzip --build "$root" "$work/takhvoi_${version}_amd64.deb" >&2
+        dpkg-deb --root-owner-group -Zgzip --build "$root" "$work/takhvoi_${version}_amd64.deb" >/dev/null
 }
 
 archive && package && mkdir -p "$1" || fail "no packages were written"

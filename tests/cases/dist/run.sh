@@ -34,7 +34,7 @@ uses() (
     rm -rf "$folder/use"
 )
 mkdir archive && tar -C archive -xf "dist/takhvoi-$version-x86_64-linux.tar.gz" || exit
-(cd archive && ls && cd ./* && ls && ./geos <examples/add.session && sed "s/$(cat "$folder/commit")/COMMIT/; s/$version/VERSION/; s/[0-9a-f]\{64\}/SUM/; /^SUM  /d" PROOF &&
+(cd archive && ls | sed "s/$version/VERSION/" && cd ./* && ls && ./geos <examples/add.session && sed "s/[0-9a-f]\{64\}/SUM/; /^SUM  /d; s/$(cat "$folder/commit")/COMMIT/; s/^Takhvoi $version/Takhvoi VERSION/" PROOF &&
     grep -E '^[0-9a-f]{64}  ' PROOF | sha256sum -c --quiet)
 root=$(echo "$folder"/archive/*)
 uses "$root"
