@@ -208,8 +208,11 @@ def take_all(all_crates: dict[str, Crate], names: list[str], sums: Path) -> None
     is_stale = any(TOP.glob("crates/*/out/rlib/stamp"))
     for crate in map(all_crates.__getitem__, names):
         if not (crate.is_static_library and is_stale):
-            take(crate, TOP)
-            stamp(crate, crates.sums(all_crates, crate.name))
+            try:
+                take(crate, TOP)
+                stamp(crate, crates.sums(all_crates, crate.name))
+            except (NotBuilt, OSError) as why:  # a later `build` builds this one
+                say(f"{crate.name} was not taken: {why}")
 
 
 def answer(words: list[str]) -> int:
