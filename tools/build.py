@@ -165,6 +165,7 @@ def stop(command: subprocess.Popen[str]) -> None:
 def take(crate: Crate, folder: Path) -> None:
     """Takes the program from a repository in which its crates were proved, or makes the library there."""
     if crate.is_static_library:
+        crate.built.parent.mkdir(exist_ok=True)
         if folder != TOP:
             add(crate, folder)
         archive = TOP / "library" / "archive.sh"
