@@ -16,6 +16,9 @@ TMPDIR=$folder/tmp
 export PATH TMPDIR
 cd "$folder" || exit
 
+# How many crates the program takes, with its own.
+crates=$(PYTHONPATH=$top/tools python3 -B -c 'import crates; print(len(crates.below(crates.read(), "geos")))')
+
 # The files that runs left in the checkout's folders for output, and in the folder for temporary files.
 made() {
     (cd "$folder" && find top/out top/crates/*/out tmp ! -type d 2>/dev/null | sort)

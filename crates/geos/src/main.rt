@@ -3,16 +3,8 @@
 
 ghost use Rattle.geos_shell.specs.Limits.{KeepsLimits};
 
-mod calling;
-mod chunks;
-mod commands;
-mod files;
-mod images;
-mod manner;
-mod request_fault;
+mod fault;
 mod requests;
-mod running;
-mod tracing;
 
 use geos_shell::{Answer, Request, keep_stream_numbers, requested, words};
 use requests::carry_out;
@@ -21,7 +13,7 @@ use std::process::ExitCode;
 
 /// Says what is wrong in one line on standard error.
 fn fail<F: Display + Drop>(rt: &HostRuntime, fault: F) -> ExitCode {
-    // Where standard error fails, the status alone tells.
+    // If standard error fails, only the status tells.
     let _ = eprintln!(rt; "{fault}");
     ExitCode::FAILURE
 }
@@ -38,7 +30,7 @@ fn answered(rt: &HostRuntime, words: &[String], answer: &Answer) -> ExitCode {
 fn run_request(rt: &HostRuntime, request: Request) -> ExitCode
     requires { KeepsLimits request }
 {
-    // A fault would be written over what the file has, so that the status alone tells.
+    // A fault would be written over what the file has, so only the status tells.
     if request.has_faults(rt) {
         return ExitCode::FAILURE;
     }

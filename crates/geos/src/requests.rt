@@ -2,20 +2,18 @@
 
 ghost use Rattle.geos_shell.specs.Limits.{KeepsLimits, RunsWithinLimits, WorksWithinLimits};
 
-use crate::calling::call as run_call;
-use crate::chunks::{get, put};
-use crate::files::{draw_file, make_file, print_file};
-use crate::images::{assemble, budget, check, explain, explain_script, list};
-use crate::manner::Manner;
-use crate::request_fault::RequestFault;
-use crate::running::{run, session};
-use crate::tracing::trace;
+use crate::fault::RequestFault;
 use geos_cli::Mode;
 use geos_dump::Detail;
+use geos_files::{draw_file, make_file, print_file};
+use geos_runs::{Manner, Traceable, call as run_call, get, put, run, session, trace};
 use geos_scripts::NameUse;
 use geos_shell::{FileRequest, Request, RoutineRequest, TextRequest};
+use geos_texts::{
+    Runnable, assemble, budget, check, explain, explain_script, list, read_image, read_runnable,
+};
 
-/// What a script does behind a refused command.
+/// What a script does after a refused command.
 fn mode_of(strict: bool) -> Mode {
     if strict { Mode::Strict } else { Mode::Lenient }
 }
@@ -34,12 +32,13 @@ fn detail_of(chunks: bool) -> Detail {
     if chunks { Detail::Bytes } else { Detail::Lines }
 }
 
-/// Runs routines, as it is asked for.
+/// Runs routines as the request asks. Words are taken from left to right: the image is read, or assembled from a text, before the VM file
+/// is opened.
 fn run_routines<'a>(rt: &HostRuntime, request: RoutineRequest<'a>) -> Result<(), RequestFault<'a>>
     requires { RunsWithinLimits request }
 {
     match request {
-        RoutineRequest::Session => session(rt),
+        RoutineRequest::Session => Ok(session(rt)?),
         RoutineRequest::Call {
             image,
             call,
@@ -48,15 +47,28 @@ fn run_routines<'a>(rt: &HostRuntime, request: RoutineRequest<'a>) -> Result<(),
             strict,
             form,
         } => {
-            let manner = Manner::new(mode_of(strict), NameUse::Allowed, form);
-            run_call(rt, &manner, image, call, file, region)
+            let manner = Manner {
+                mode: mode_of(strict),
+                names: NameUse::Allowed,
+                form,
+            };
+            let image = read_image(rt, image)?;
+            Ok(run_call(rt, &manner, &image, call, file, region)?)
         }
         RoutineRequest::Trace {
             image,
             words,
             file,
             region,
-        } => trace(rt, image, &words, file, region),
+        } => {
+            let Runnable { image, lines } = read_runnable(rt, image)?;
+            let lines = lines.as_ref().map(|lines| lines.as_slice());
+            let traceable = Traceable {
+                image: &image,
+                lines,
+            };
+            Ok(trace(rt, &traceable, &words, file, region)?)
+        }
         RoutineRequest::Run {
             image,
             file,
@@ -66,46 +78,53 @@ fn run_routines<'a>(rt: &HostRuntime, request: RoutineRequest<'a>) -> Result<(),
             names,
             form,
         } => {
-            let manner = Manner::new(mode_of(strict), use_of(names), form);
-            run(rt, &manner, image, file, script, region)
+            let manner = Manner {
+                mode: mode_of(strict),
+                names: use_of(names),
+                form,
+            };
+            let image = read_image(rt, image)?;
+            Ok(run(rt, &manner, &image, file, script, region)?)
         }
     }
 }
 
-/// Does with a text or an image what is asked for.
+/// Works on a text or an image as the request asks.
 fn work_on_text<'a>(rt: &HostRuntime, request: TextRequest<'a>) -> Result<(), RequestFault<'a>> {
     match request {
         TextRequest::Assemble {
             text,
             image,
             all_rows,
-        } => assemble(rt, text, image, all_rows),
-        TextRequest::Budget { text, new } => budget(rt, text, new),
-        TextRequest::List(path) => list(rt, path),
-        TextRequest::Check(path) => check(rt, path),
-        TextRequest::Explain(path) => explain(rt, path),
+        } => assemble(rt, text, image, all_rows)?,
+        TextRequest::Budget { text, new } => budget(rt, text, new)?,
+        TextRequest::List(path) => list(rt, path)?,
+        TextRequest::Check(path) => check(rt, path)?,
+        TextRequest::Explain(path) => explain(rt, path)?,
         TextRequest::ExplainScript {
             image,
             script,
             names,
-        } => explain_script(rt, image, script, use_of(names)),
+        } => explain_script(rt, image, script, use_of(names))?,
     }
+    Ok(())
 }
 
-/// Does with a VM file what is asked for.
+/// Works on a VM file as the request asks.
 fn work_on_file<'a>(rt: &HostRuntime, request: FileRequest<'a>) -> Result<(), RequestFault<'a>>
     requires { WorksWithinLimits request }
 {
     match request {
-        FileRequest::New { file, area } => make_file(rt, file, area),
-        FileRequest::Put { chunk, at, region } => put(rt, &chunk, at, region),
-        FileRequest::Get { chunk, region } => get(rt, &chunk, region),
-        FileRequest::Dump { file, chunks } => print_file(rt, file, detail_of(chunks)),
-        FileRequest::Map { file, width } => draw_file(rt, file, width),
+        FileRequest::New { file, area } => make_file(rt, file, area)?,
+        FileRequest::Put { chunk, at, region } => put(rt, &chunk, at, region)?,
+        FileRequest::Get { chunk, region } => get(rt, &chunk, region)?,
+        FileRequest::Dump { file, chunks } => print_file(rt, file, detail_of(chunks))?,
+        FileRequest::Map { file, width } => draw_file(rt, file, width)?,
     }
+    Ok(())
 }
 
-/// Does what is asked for.
+/// Carries out a request.
 pub(crate) fn carry_out<'a>(rt: &HostRuntime, request: Request<'a>) -> Result<(), RequestFault<'a>>
     requires { KeepsLimits request }
 {

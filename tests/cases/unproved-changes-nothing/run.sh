@@ -8,7 +8,8 @@ proves() {
     rm -rf "$folder/top/crates/geos/out" "$folder/top/out"
     "$folder/top/geos" "$@" <"$folder/counter.script" >found 2>said
     status=$?
-    echo "$1: status $status, $(sed -n '1s/[0-9]* minutes/N minutes/p' said), $(grep -c 'crates: [a-z_]* is proved' said) crates"
+    echo "$1: status $status, $(sed -n '1s/[0-9]* minutes/N minutes/p' said), $(grep -c 'crates: [a-z_]* is proved' said) crates" |
+        sed "s/ $crates crates/ ALL crates/g"
 }
 proves new counter.vm
 proves call counter.asm --file counter.vm

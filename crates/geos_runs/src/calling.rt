@@ -3,17 +3,14 @@
 ghost use Rattle.vm_blocks.specs.Listed.{NoneLocked};
 ghost use Rattle.geos_shell.specs.Limits.{IsRegion};
 
-use crate::files::{Locked, opened, wait_for};
-use crate::images::{MOST_READ, read_image};
+use crate::MOST_READ;
+use crate::fault::RunFault;
 use crate::manner::{Manner, run_call_on, run_script_on};
-use crate::request_fault::RequestFault;
 use geos_cli::ScriptFault;
+use geos_files::{Locked, opened, wait_for};
 use geos_kernel::{Kernel, kernel_in_memory};
-use geos_shell::{CallWords, Lockable, Sharing, read};
+use geos_shell::{CallWords, Lockable, STANDARD, Sharing, read};
 use vm_file::{Device, FileDevice, VmFile};
-
-/// The path of the standard input.
-const STANDARD: &str = "-";
 
 /// What is run.
 #[derive(Drop)]
@@ -24,11 +21,8 @@ enum Work<'a> {
     Script(Vec<u8>),
 }
 
-/// What is run: the call, or where there is none the script on the standard input.
-fn work_of<'a>(
-    rt: &HostRuntime,
-    call: Option<CallWords<'a>>,
-) -> Result<Work<'a>, RequestFault<'a>> {
+/// What is run: the call, or if there is none, the script on the standard input.
+fn work_of<'a>(rt: &HostRuntime, call: Option<CallWords<'a>>) -> Result<Work<'a>, RunFault<'a>> {
     match call {
         Some(call) => Ok(Work::Call(call)),
         None => Ok(Work::Script(read(rt, STANDARD, MOST_READ)?)),
@@ -42,7 +36,7 @@ fn work_on<'a, D: Device + Drop>(
     image: &[u8],
     work: &Work<'a>,
     kernel: &mut Kernel<D>,
-) -> Result<(), RequestFault<'a>>
+) -> Result<(), RunFault<'a>>
     requires { NoneLocked kernel.old.core.blocks }
 {
     match work {
@@ -58,12 +52,12 @@ fn work_in_memory<'a>(
     image: &[u8],
     work: &Work<'a>,
     region: u32,
-) -> Result<(), RequestFault<'a>>
+) -> Result<(), RunFault<'a>>
     requires { IsRegion region }
 {
     match kernel_in_memory(rt.alloc(), region) {
         Ok(mut kernel) => work_on(rt, manner, image, work, &mut kernel),
-        Err(_) => Err(RequestFault::Session(ScriptFault::Memory)),
+        Err(_) => Err(RunFault::Session(ScriptFault::Memory)),
     }
 }
 
@@ -75,16 +69,16 @@ fn work_in<'a>(
     work: &Work<'a>,
     region: u32,
     file: VmFile<FileDevice>,
-) -> Result<(), RequestFault<'a>>
+) -> Result<(), RunFault<'a>>
     requires { IsRegion region }
 {
     match Kernel::new(rt.alloc(), region, file) {
         Ok(mut kernel) => work_on(rt, manner, image, work, &mut kernel),
-        Err(_) => Err(RequestFault::Session(ScriptFault::Memory)),
+        Err(_) => Err(RunFault::Session(ScriptFault::Memory)),
     }
 }
 
-/// Runs it on the VM file with the path, whose lock is waited for when a script has been read, as of `run`.
+/// Runs it on the VM file with the path. It waits for the file's lock after it has read the script, as `run` does.
 fn work_on_file<'a>(
     rt: &HostRuntime,
     manner: &Manner,
@@ -92,7 +86,7 @@ fn work_on_file<'a>(
     path: &'a str,
     call: Option<CallWords<'a>>,
     region: u32,
-) -> Result<(), RequestFault<'a>>
+) -> Result<(), RunFault<'a>>
     requires { IsRegion region }
 {
     let file = Lockable::open(rt, path, Sharing::Alone)?;
@@ -106,24 +100,23 @@ fn work_on_file<'a>(
     work_in(rt, manner, image, &work, region, file)
 }
 
-/// Runs one call of the routines in a text or an image, or without one the script on the standard input, which is not read otherwise; on
-/// a VM file, or without one on a new one in memory; with so many bytes for blocks in memory.
-pub(crate) fn call<'a>(
+/// Runs one call of the routines of an image; without a call it reads the standard input and runs that script. It runs on the VM file with
+/// the path `file`, or without a path on a new one in memory. `region` is the number of bytes for blocks in memory.
+pub fn call<'a>(
     rt: &HostRuntime,
     manner: &Manner,
-    image: &'a str,
+    image: &[u8],
     call: Option<CallWords<'a>>,
     file: Option<&'a str>,
     region: u32,
-) -> Result<(), RequestFault<'a>>
+) -> Result<(), RunFault<'a>>
     requires { IsRegion region }
 {
-    let image = read_image(rt, image)?;
     match file {
-        Some(path) => work_on_file(rt, manner, &image, path, call, region),
+        Some(path) => work_on_file(rt, manner, image, path, call, region),
         None => {
             let work = work_of(rt, call)?;
-            work_in_memory(rt, manner, &image, &work, region)
+            work_in_memory(rt, manner, image, &work, region)
         }
     }
 }

@@ -2,17 +2,17 @@
 
 ghost use Rattle.geos_shell.specs.Limits.{IsRegion};
 
-use crate::files::{Locked, opened, wait_for};
-use crate::images::{MOST_READ, read_image};
+use crate::MOST_READ;
+use crate::fault::RunFault;
 use crate::manner::{Manner, output, run_script_on};
-use crate::request_fault::RequestFault;
 use geos_cli::{Counted, ScriptFault, run_session};
+use geos_files::{Locked, opened, wait_for};
 use geos_kernel::Kernel;
 use geos_shell::{Lockable, STANDARD, Sharing, keep_from_output, read};
 use vm_file::{FileDevice, VmFile};
 
 /// Runs a session on the standard streams, unless it would print into what it reads.
-pub(crate) fn session<'a>(rt: &HostRuntime) -> Result<(), RequestFault<'a>> {
+pub fn session<'a>(rt: &HostRuntime) -> Result<(), RunFault<'a>> {
     keep_from_output(rt, STANDARD)?;
     let mut out = output(rt)?;
     Ok(run_session(rt.alloc(), &mut Counted::new(rt.stdin()), &mut out)?)
@@ -26,33 +26,30 @@ fn run_in<'a>(
     script: &[u8],
     region: u32,
     file: VmFile<FileDevice>,
-) -> Result<(), RequestFault<'a>>
+) -> Result<(), RunFault<'a>>
     requires { IsRegion region }
 {
     match Kernel::new(rt.alloc(), region, file) {
         Ok(mut kernel) => run_script_on(rt, manner, image, script, &mut kernel),
-        Err(_) => Err(RequestFault::Session(ScriptFault::Memory)),
+        Err(_) => Err(RunFault::Session(ScriptFault::Memory)),
     }
 }
 
-/// Runs a script on a VM file, with so many bytes for blocks in memory; to its end, or, strictly, to its first
-/// refused command, which is a fault then. The words are gone through
-/// from left to right: the image is read, or assembled of a text, the file opened, the script read; then it runs.
+/// Runs a script of an image on a VM file, with `region` bytes for blocks in memory. In strict mode it ends at the first refused command,
+/// which is `RunFault::Refused`.
 ///
-/// The file's lock is waited for when the script has been read, so that the file is not kept from
-/// others while a script is to come: who writes it may want the file first. What the file holds is
-/// looked at under the lock, and its faults are said before one of the script all the same.
-pub(crate) fn run<'a>(
+/// It waits for the file's lock after it has read the script. So it keeps the file from nobody who is still writing the script. It reads
+/// the file under the lock, and reports a fault of the file before a fault of the script.
+pub fn run<'a>(
     rt: &HostRuntime,
     manner: &Manner,
-    image: &'a str,
+    image: &[u8],
     file: &'a str,
     script: &'a str,
     region: u32,
-) -> Result<(), RequestFault<'a>>
+) -> Result<(), RunFault<'a>>
     requires { IsRegion region }
 {
-    let image = read_image(rt, image)?;
     let file = Lockable::open(rt, file, Sharing::Alone)?;
     let script = read(rt, script, MOST_READ);
     let Locked {
@@ -61,5 +58,5 @@ pub(crate) fn run<'a>(
     } = wait_for(rt, file)?;
     let file = opened(rt, device)?;
     let script = script?;
-    run_in(rt, manner, &image, &script, region, file)
+    run_in(rt, manner, image, &script, region, file)
 }

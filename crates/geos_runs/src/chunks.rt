@@ -2,15 +2,12 @@
 
 ghost use Rattle.geos_shell.specs.Limits.{IsRegion};
 
-use crate::files::{Locked, lock_to_read, opened, wait_for};
-use crate::request_fault::RequestFault;
+use crate::fault::RunFault;
 use geos_cli::{Place, ScriptFault, get_bytes, put_bytes};
+use geos_files::{Locked, lock_to_read, opened, wait_for};
 use geos_kernel::Kernel;
-use geos_shell::{ChunkPath, Lockable, Sharing, print, read};
+use geos_shell::{ChunkPath, Lockable, STANDARD, Sharing, print, read};
 use vm_file::{FileDevice, VmFile};
-
-/// The path of the standard input.
-const STANDARD: &str = "-";
 
 /// The most bytes that are read to be put: one more than a chunk may have.
 const MOST_PUT: u64 = 65_536;
@@ -24,7 +21,7 @@ fn place_of(chunk: &ChunkPath<'_>) -> Place {
     }
 }
 
-/// Writes bytes into a chunk of an open VM file, and updates that.
+/// Writes bytes into a chunk of an open VM file, and updates the file.
 fn put_in<'a>(
     rt: &HostRuntime,
     place: Place,
@@ -32,26 +29,26 @@ fn put_in<'a>(
     bytes: &[u8],
     region: u32,
     file: VmFile<FileDevice>,
-) -> Result<(), RequestFault<'a>>
+) -> Result<(), RunFault<'a>>
     requires { IsRegion region }
 {
     let Ok(mut kernel) = Kernel::new(rt.alloc(), region, file) else {
-        return Err(RequestFault::Session(ScriptFault::Memory));
+        return Err(RunFault::Session(ScriptFault::Memory));
     };
     match put_bytes(&mut kernel, place, at, bytes) {
         Ok(()) => Ok(()),
-        Err(refusal) => Err(RequestFault::NotDone(refusal.number())),
+        Err(refusal) => Err(RunFault::NotDone(refusal.number())),
     }
 }
 
-/// Writes the standard input into a chunk of a VM file, and updates that. Its lock is waited for when the input has been read, as of
-/// `run`.
-pub(crate) fn put<'a>(
+/// Writes the standard input into a chunk of a VM file, and updates the file. It waits for the file's lock after it has read the input, as
+/// `run` does. `RunFault::NotDone` if a call of the kernel is refused; then the file holds what it held.
+pub fn put<'a>(
     rt: &HostRuntime,
     chunk: &ChunkPath<'a>,
     at: Option<u16>,
     region: u32,
-) -> Result<(), RequestFault<'a>>
+) -> Result<(), RunFault<'a>>
     requires { IsRegion region }
 {
     let file = Lockable::open(rt, chunk.file, Sharing::Alone)?;
@@ -71,25 +68,25 @@ fn bytes_in<'a>(
     place: Place,
     region: u32,
     file: VmFile<FileDevice>,
-) -> Result<Vec<u8>, RequestFault<'a>>
+) -> Result<Vec<u8>, RunFault<'a>>
     requires { IsRegion region }
 {
     let Ok(mut kernel) = Kernel::new(rt.alloc(), region, file) else {
-        return Err(RequestFault::Session(ScriptFault::Memory));
+        return Err(RunFault::Session(ScriptFault::Memory));
     };
     match get_bytes(rt.alloc(), &mut kernel, place) {
         Ok(Ok(bytes)) => Ok(bytes),
-        Ok(Err(refusal)) => Err(RequestFault::NotDone(refusal.number())),
-        Err(_) => Err(RequestFault::Session(ScriptFault::Memory)),
+        Ok(Err(refusal)) => Err(RunFault::NotDone(refusal.number())),
+        Err(_) => Err(RunFault::Session(ScriptFault::Memory)),
     }
 }
 
-/// The bytes of a chunk of a VM file, whose lock is let go before they are printed: whoever reads them may want the file next.
+/// The bytes of a chunk of a VM file. Its lock is let go before they are printed: whoever reads them may want the file next.
 fn bytes_of<'a>(
     rt: &HostRuntime,
     chunk: &ChunkPath<'a>,
     region: u32,
-) -> Result<Vec<u8>, RequestFault<'a>>
+) -> Result<Vec<u8>, RunFault<'a>>
     requires { IsRegion region }
 {
     let Locked {
@@ -100,12 +97,8 @@ fn bytes_of<'a>(
     bytes_in(rt, place_of(chunk), region, file)
 }
 
-/// Prints the bytes of a chunk of a VM file.
-pub(crate) fn get<'a>(
-    rt: &HostRuntime,
-    chunk: &ChunkPath<'a>,
-    region: u32,
-) -> Result<(), RequestFault<'a>>
+/// Prints the bytes of a chunk of a VM file. `RunFault::NotDone` if a call of the kernel is refused.
+pub fn get<'a>(rt: &HostRuntime, chunk: &ChunkPath<'a>, region: u32) -> Result<(), RunFault<'a>>
     requires { IsRegion region }
 {
     let bytes = bytes_of(rt, chunk, region)?;

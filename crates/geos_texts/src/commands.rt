@@ -4,8 +4,8 @@ ghost use Rattle.std.specs.Prelude.{◌≡◌, true, false, IfOk, IfErr, IfSome,
 ghost use Rattle.geos_asm.specs.Assembling.{IsAssembled, IsWhyNoImage};
 ghost use Rattle.geos_image.specs.Reading.{image_at, Fails};
 ghost use Rattle.geos_source.specs.InstrLines.{instr_lines};
-ghost use Rattle.geos.specs.Commands.{IsAssembledAs, TakesVersion2, IsImageOf, IsWhyNoneOf, IsListed};
-ghost use Rattle.geos.specs.Commands.{IsJudged, IsExplained, IsExplainedText, IsFaultTold, begins_as_image};
+ghost use Rattle.geos_texts.specs.Commands.{IsAssembledAs, TakesVersion2, IsImageOf, IsWhyNoneOf, IsListed};
+ghost use Rattle.geos_texts.specs.Commands.{IsJudged, IsExplained, IsExplainedText, IsFaultTold, begins_as_image};
 
 use geos_asm::{
     AssembleError, Assembled, Unassembled, assemble, assemble_all_rows, assemble_or_tell,

@@ -1,20 +1,19 @@
-//! Why a request was not carried out.
+//! Why something was not run.
 
-use geos_asm::{AssembleError, BudgetError};
 use geos_cli::ScriptFault;
-use geos_dump::DumpError;
-use geos_image::ReadError;
+use geos_files::FileFault;
 use geos_shell::{Named, StreamFault};
-use geos_verify::Reject;
 use thiserror::Error;
-use vm_file::{CreateError, OpenError};
 
-/// Why a request was not carried out.
+/// Why a session, a script, a call or a trace was not run, or a chunk was not written or read.
 #[derive(Debug, Drop, Error)]
-pub(crate) enum RequestFault<'a> {
+pub enum RunFault<'a> {
     /// What a path names was not read or written.
     #[error(transparent)]
     Stream(#[from] StreamFault<'a>),
+    /// The VM file was not opened.
+    #[error(transparent)]
+    File(#[from] FileFault<'a>),
     /// A session, or a script, has a fault.
     #[error(transparent)]
     Session(#[from] ScriptFault),
@@ -39,28 +38,4 @@ pub(crate) enum RequestFault<'a> {
     /// A call gives a ninth number.
     #[error("bad call: more than eight numbers")]
     TooManyNumbers,
-    /// A text is not assembled.
-    #[error(transparent)]
-    Assemble(#[from] AssembleError),
-    /// A text has no budgets that serve.
-    #[error(transparent)]
-    Budget(#[from] BudgetError),
-    /// An image of version 1 is wanted of a text with a borrowed slot.
-    #[error("a borrowed slot takes version 2")]
-    TakesVersion2,
-    /// The bytes are no image.
-    #[error(transparent)]
-    Read(#[from] ReadError),
-    /// The verifier refuses the image.
-    #[error(transparent)]
-    Reject(Reject),
-    /// The VM file was not made.
-    #[error(transparent)]
-    Create(CreateError),
-    /// The VM file was not opened.
-    #[error(transparent)]
-    Open(OpenError),
-    /// The VM file was not shown.
-    #[error(transparent)]
-    Dump(#[from] DumpError),
 }

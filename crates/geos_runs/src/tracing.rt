@@ -3,42 +3,24 @@
 ghost use Rattle.vm_blocks.specs.Listed.{NoneLocked};
 ghost use Rattle.geos_shell.specs.Limits.{IsRegion};
 
-use crate::commands::begins_as_image;
-use crate::files::{Locked, opened, wait_for};
-use crate::images::MOST_READ;
+use crate::fault::RunFault;
 use crate::manner::call_fault;
-use crate::request_fault::RequestFault;
-use geos_asm::{Assembled, assemble_with_lines};
 use geos_cli::{ScriptFault, TraceFault, TracedCall, trace_call};
+use geos_files::{Locked, opened, wait_for};
 use geos_image::Image;
 use geos_kernel::{Kernel, kernel_in_memory};
-use geos_shell::{CallWords, Lockable, Sharing, TraceWords, print, read};
+use geos_shell::{CallWords, Lockable, Sharing, TraceWords, print};
 use geos_trace::{put_counts, put_end, put_refused, put_steps};
 use std::alloc::{AllocError, Global};
 use vm_file::Device;
 
-/// What is run: an image, and of a text the line of each instruction.
-#[derive(Drop)]
-struct Traceable {
-    image: Vec<u8>,
-    lines: Option<Vec<u32>>,
-}
-
-/// What a path names: an image, or a text, which is assembled.
-fn read_traceable<'a>(rt: &HostRuntime, path: &'a str) -> Result<Traceable, RequestFault<'a>> {
-    let bytes = read(rt, path, MOST_READ)?;
-    if begins_as_image(&bytes) {
-        return Ok(Traceable {
-            image: bytes,
-            lines: None,
-        });
-    }
-    let Assembled { image, lines } = assemble_with_lines(rt.alloc(), &bytes)?;
-    let image = geos_image::write(rt.alloc(), &image).map_err(|_| ScriptFault::Memory)?;
-    Ok(Traceable {
-        image,
-        lines: Some(lines),
-    })
+/// What is traced: an image, and of a text the line of each instruction.
+#[derive(Clone, Copy)]
+pub struct Traceable<'a> {
+    /// The bytes of the image.
+    pub image: &'a [u8],
+    /// For each pc the number of its line, counted from 1, if the image was made from a text.
+    pub lines: Option<&'a [u32]>,
 }
 
 /// The budget of the routine that was called.
@@ -76,10 +58,10 @@ fn refused_text(alloc: Global, refusal: u16) -> Result<Vec<u8>, AllocError> {
 }
 
 /// The fault of a traced call, by what is wrong.
-fn trace_fault<'a>(words: &TraceWords<'a>, fault: TraceFault) -> RequestFault<'a> {
+fn trace_fault<'a>(words: &TraceWords<'a>, fault: TraceFault) -> RunFault<'a> {
     match fault {
         TraceFault::Call(fault) => call_fault(&words.call, fault),
-        TraceFault::NoRoutine => RequestFault::NoSuchRoutine(words.only.unwrap_or("")),
+        TraceFault::NoRoutine => RunFault::NoSuchRoutine(words.only.unwrap_or("")),
     }
 }
 
@@ -87,9 +69,9 @@ fn trace_fault<'a>(words: &TraceWords<'a>, fault: TraceFault) -> RequestFault<'a
 fn trace_on<'a, D: Device + Drop>(
     rt: &HostRuntime,
     words: &TraceWords<'a>,
-    traceable: &Traceable,
+    traceable: &Traceable<'_>,
     kernel: &mut Kernel<D>,
-) -> Result<(), RequestFault<'a>>
+) -> Result<(), RunFault<'a>>
     requires { NoneLocked kernel.old.core.blocks }
 {
     let alloc = rt.alloc();
@@ -97,7 +79,7 @@ fn trace_on<'a, D: Device + Drop>(
     let CallWords { name, words: given } = &words.call;
     let traced = match trace_call(
         alloc,
-        &traceable.image,
+        traceable.image,
         name,
         given,
         words.only,
@@ -107,14 +89,13 @@ fn trace_on<'a, D: Device + Drop>(
         Ok(traced) => traced,
         Err(fault) => return Err(trace_fault(words, fault)),
     };
-    let lines = traceable.lines.as_ref().map(|lines| lines.as_slice());
     let text = match traced {
-        Ok(traced) => text_of(alloc, words, lines, &traced),
+        Ok(traced) => text_of(alloc, words, traceable.lines, &traced),
         Err(refusal) => refused_text(alloc, refusal.number()),
     };
     match text {
         Ok(text) => Ok(print(rt, &text)?),
-        Err(_) => Err(RequestFault::Session(ScriptFault::Memory)),
+        Err(_) => Err(RunFault::Session(ScriptFault::Memory)),
     }
 }
 
@@ -122,25 +103,25 @@ fn trace_on<'a, D: Device + Drop>(
 fn trace_in_memory<'a>(
     rt: &HostRuntime,
     words: &TraceWords<'a>,
-    traceable: &Traceable,
+    traceable: &Traceable<'_>,
     region: u32,
-) -> Result<(), RequestFault<'a>>
+) -> Result<(), RunFault<'a>>
     requires { IsRegion region }
 {
     match kernel_in_memory(rt.alloc(), region) {
         Ok(mut kernel) => trace_on(rt, words, traceable, &mut kernel),
-        Err(_) => Err(RequestFault::Session(ScriptFault::Memory)),
+        Err(_) => Err(RunFault::Session(ScriptFault::Memory)),
     }
 }
 
-/// Runs it on the VM file with the path, whose lock is waited for.
+/// Runs it on the VM file with the path, after it has waited for the file's lock.
 fn trace_on_file<'a>(
     rt: &HostRuntime,
     words: &TraceWords<'a>,
-    traceable: &Traceable,
+    traceable: &Traceable<'_>,
     path: &'a str,
     region: u32,
-) -> Result<(), RequestFault<'a>>
+) -> Result<(), RunFault<'a>>
     requires { IsRegion region }
 {
     let Locked {
@@ -150,24 +131,23 @@ fn trace_on_file<'a>(
     let file = opened(rt, device)?;
     match Kernel::new(rt.alloc(), region, file) {
         Ok(mut kernel) => trace_on(rt, words, traceable, &mut kernel),
-        Err(_) => Err(RequestFault::Session(ScriptFault::Memory)),
+        Err(_) => Err(RunFault::Session(ScriptFault::Memory)),
     }
 }
 
-/// Runs one call of the routines in a text or an image, on a VM file, or without one on a new one in memory, with so many bytes for
-/// blocks in memory; and prints its steps, or how often each line ran, and then what is left of the budget.
-pub(crate) fn trace<'a>(
+/// Runs one call of the routines of an image, on the VM file with the path `file`, or without a path on a new one in memory. `region` is
+/// the number of bytes for blocks in memory. It prints the steps, or how often each line ran, and then what is left of the budget.
+pub fn trace<'a>(
     rt: &HostRuntime,
-    image: &'a str,
+    traceable: &Traceable<'_>,
     words: &TraceWords<'a>,
     file: Option<&'a str>,
     region: u32,
-) -> Result<(), RequestFault<'a>>
+) -> Result<(), RunFault<'a>>
     requires { IsRegion region }
 {
-    let traceable = read_traceable(rt, image)?;
     match file {
-        Some(path) => trace_on_file(rt, words, &traceable, path, region),
-        None => trace_in_memory(rt, words, &traceable, region),
+        Some(path) => trace_on_file(rt, words, traceable, path, region),
+        None => trace_in_memory(rt, words, traceable, region),
     }
 }

@@ -1,36 +1,32 @@
-//! The commands on texts and images that a path names.
+//! The requests on texts and images that a path names.
 
 use crate::commands::{
     Explained, assemble_all_rows_bytes, assemble_bytes, begins_as_image, check_bytes,
-    explain_bytes, explain_text_bytes, image_bytes, list_bytes,
+    explain_bytes, explain_text_bytes, list_bytes,
 };
-use crate::request_fault::RequestFault;
+use crate::fault::TextFault;
+use crate::runnable::read_image;
 use geos_asm::{AssembleError, with_least_budgets};
-use geos_cli::{MOST_BYTES, ScriptFault};
+use geos_input::{MOST_BYTES, ScriptFault};
 use geos_scripts::{BadLines, NameUse, tell_bad_lines};
 use geos_shell::{StreamFault, print, print_lines, read, write};
 
 /// The most bytes that are read of a file: one more than a text may have, and more than any image has.
 pub(crate) const MOST_READ: u64 = MOST_BYTES as u64 + 1;
 
-/// The bytes of an image that a path names, or that is assembled of the text there.
-pub(crate) fn read_image<'a>(rt: &HostRuntime, path: &'a str) -> Result<Vec<u8>, RequestFault<'a>> {
-    let bytes = read(rt, path, MOST_READ)?;
-    Ok(image_bytes(rt.alloc(), bytes)?)
-}
-
-/// Makes the image of a text, with all rows or with those at its key places.
-pub(crate) fn assemble<'a>(
+/// Writes the image of a text to the path `image`, with all rows or with those at its key places. `TextFault::TakesVersion2` if all rows are
+/// wanted of a text that borrows a slot; otherwise the faults of `geos_asm::assemble` and of the two streams.
+pub fn assemble<'a>(
     rt: &HostRuntime,
     text: &'a str,
     image: &'a str,
     all_rows: bool,
-) -> Result<(), RequestFault<'a>> {
+) -> Result<(), TextFault<'a>> {
     let bytes = read(rt, text, MOST_READ)?;
     let bytes = if all_rows {
         match assemble_all_rows_bytes(rt.alloc(), &bytes)? {
             Some(bytes) => bytes,
-            None => return Err(RequestFault::TakesVersion2),
+            None => return Err(TextFault::TakesVersion2),
         }
     } else {
         assemble_bytes(rt.alloc(), &bytes)?
@@ -38,34 +34,30 @@ pub(crate) fn assemble<'a>(
     Ok(write(rt, image, &bytes, text)?)
 }
 
-/// Writes a text with the least budget of each routine.
-pub(crate) fn budget<'a>(
-    rt: &HostRuntime,
-    text: &'a str,
-    new: &'a str,
-) -> Result<(), RequestFault<'a>> {
+/// Writes a text with the least budget of each routine to the path `new`. `TextFault::Budget` if no budgets are enough.
+pub fn budget<'a>(rt: &HostRuntime, text: &'a str, new: &'a str) -> Result<(), TextFault<'a>> {
     let bytes = read(rt, text, MOST_READ)?;
     let bytes = with_least_budgets(rt.alloc(), &bytes)?;
     Ok(write(rt, new, &bytes, text)?)
 }
 
-/// Prints the listing of an image.
-pub(crate) fn list<'a>(rt: &HostRuntime, path: &'a str) -> Result<(), RequestFault<'a>> {
+/// Prints the listing of an image. `TextFault::Read` if the bytes are no image.
+pub fn list<'a>(rt: &HostRuntime, path: &'a str) -> Result<(), TextFault<'a>> {
     let bytes = read(rt, path, MOST_READ)?;
     let text = list_bytes(rt.alloc(), &bytes)?;
     Ok(print(rt, &text)?)
 }
 
-/// Prints `accepted` where the image may run, and else says where it is refused.
-pub(crate) fn check<'a>(rt: &HostRuntime, path: &'a str) -> Result<(), RequestFault<'a>> {
+/// Prints `accepted` if the image may run. `TextFault::Reject` if the verifier refuses it, `TextFault::Read` if the bytes are no image.
+pub fn check<'a>(rt: &HostRuntime, path: &'a str) -> Result<(), TextFault<'a>> {
     let bytes = read(rt, path, MOST_READ)?;
     match check_bytes(rt.alloc(), &bytes)? {
         None => Ok(print(rt, b"accepted\n")?),
-        Some(reject) => Err(RequestFault::Reject(reject)),
+        Some(reject) => Err(TextFault::Reject(reject)),
     }
 }
 
-/// Prints why a text is not assembled: what is told of it, but of a VM file that it is one, since its lines say nothing.
+/// Prints why a text is not assembled. Of a VM file it says that it is one, since lines of it mean nothing.
 fn print_why<'a>(rt: &HostRuntime, text: &[u8], told: &[u8]) -> Result<(), StreamFault<'a>> {
     if text.starts_with(b"GVM1") {
         print(
@@ -77,20 +69,20 @@ fn print_why<'a>(rt: &HostRuntime, text: &[u8], told: &[u8]) -> Result<(), Strea
     }
 }
 
-/// What there is to say of a text. Where it is not assembled, it prints why.
-fn explained_text<'a>(rt: &HostRuntime, text: &[u8]) -> Result<Explained, RequestFault<'a>> {
+/// What there is to say of a text. If the text is not assembled, it prints why.
+fn explained_text<'a>(rt: &HostRuntime, text: &[u8]) -> Result<Explained, TextFault<'a>> {
     match explain_text_bytes(rt.alloc(), text) {
         Ok(Ok(explained)) => Ok(explained),
         Ok(Err(faulty)) => {
             print_why(rt, text, &faulty.told)?;
-            Err(RequestFault::Assemble(faulty.fault))
+            Err(TextFault::Assemble(faulty.fault))
         }
-        Err(_) => Err(RequestFault::Assemble(AssembleError::Memory)),
+        Err(_) => Err(TextFault::Assemble(AssembleError::Memory)),
     }
 }
 
 /// What there is to say of an image, or of a text.
-fn explained<'a>(rt: &HostRuntime, bytes: &[u8]) -> Result<Explained, RequestFault<'a>> {
+fn explained<'a>(rt: &HostRuntime, bytes: &[u8]) -> Result<Explained, TextFault<'a>> {
     if begins_as_image(bytes) {
         Ok(explain_bytes(rt.alloc(), bytes)?)
     } else {
@@ -98,32 +90,32 @@ fn explained<'a>(rt: &HostRuntime, bytes: &[u8]) -> Result<Explained, RequestFau
     }
 }
 
-/// Prints the listing of the image, or the lines of the text, with what is known at each instruction; then says where
-/// the image is refused, if it is.
-pub(crate) fn explain<'a>(rt: &HostRuntime, path: &'a str) -> Result<(), RequestFault<'a>> {
+/// Prints the listing of an image, or the lines of a text, with what is known at each instruction. After that, `TextFault::Reject` if the
+/// verifier refuses the image.
+pub fn explain<'a>(rt: &HostRuntime, path: &'a str) -> Result<(), TextFault<'a>> {
     let bytes = read(rt, path, MOST_READ)?;
     let explained = explained(rt, &bytes)?;
     print_lines(rt, &explained.text)?;
     match explained.reject {
-        Some(reject) => Err(RequestFault::Reject(reject)),
+        Some(reject) => Err(TextFault::Reject(reject)),
         None => Ok(()),
     }
 }
 
-/// Prints what is wrong with each bad line of a script, for an image or a text; then says which line is the first. Its lines may
-/// write names for words, or may not.
-pub(crate) fn explain_script<'a>(
+/// Prints what is wrong with each bad line of a script, for an image or a text. After that, `TextFault::Script` names the first such line.
+/// `names` says whether lines may write names for words.
+pub fn explain_script<'a>(
     rt: &HostRuntime,
     image: &'a str,
     script: &'a str,
     names: NameUse,
-) -> Result<(), RequestFault<'a>> {
+) -> Result<(), TextFault<'a>> {
     let image = read_image(rt, image)?;
     let script = read(rt, script, MOST_READ)?;
     let BadLines { told, first } = tell_bad_lines(rt.alloc(), &image, &script, names)?;
     print_lines(rt, &told)?;
     match first {
-        Some(line) => Err(RequestFault::Session(ScriptFault::BadScript(line))),
+        Some(line) => Err(TextFault::Script(ScriptFault::BadScript(line))),
         None => Ok(()),
     }
 }

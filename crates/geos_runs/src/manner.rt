@@ -2,7 +2,7 @@
 
 ghost use Rattle.vm_blocks.specs.Listed.{NoneLocked};
 
-use crate::request_fault::RequestFault;
+use crate::fault::RunFault;
 use geos_cli::{
     CallFault, Counted, EarlyEnd, Form, Mode, RefusedCommand, ScriptFault, Writing, run_call,
     run_call_in_form, run_script_in_form, run_script_in_mode, run_script_with_names,
@@ -17,24 +17,16 @@ use vm_file::Device;
 
 /// How a script or a call is run.
 #[derive(Clone, Copy)]
-pub(crate) struct Manner {
-    /// What a script does behind a refused command.
-    pub(crate) mode: Mode,
+pub struct Manner {
+    /// What a script does after a refused command.
+    pub mode: Mode,
     /// Whether its lines may write names for words that calls put out.
-    pub(crate) names: NameUse,
+    pub names: NameUse,
     /// How outputs are written.
-    pub(crate) form: OutputForm,
+    pub form: OutputForm,
 }
 
-impl Manner {
-    /// So a script or a call is run.
-    pub(crate) fn new(mode: Mode, names: NameUse, form: OutputForm) -> Manner {
-        Manner { mode, names, form }
-    }
-}
-
-/// Standard output behind a buffer, with what is asked of it counted. `ScriptFault::Memory` where
-/// there is none for the buffer.
+/// Standard output through a buffer, with what is asked of it counted. `ScriptFault::Memory` if there is no memory for the buffer.
 pub(crate) fn output(
     rt: &HostRuntime,
 ) -> Result<Counted<BufWriter<Printer<'_, HostRuntime>, Global>>, ScriptFault> {
@@ -107,7 +99,7 @@ pub(crate) fn run_script_on<'a, D: Device + Drop>(
     image: &[u8],
     script: &[u8],
     kernel: &mut Kernel<D>,
-) -> Result<(), RequestFault<'a>>
+) -> Result<(), RunFault<'a>>
     requires { NoneLocked kernel.old.core.blocks }
 {
     let mut out = output(rt)?;
@@ -116,9 +108,9 @@ pub(crate) fn run_script_on<'a, D: Device + Drop>(
     match end {
         None => Ok(()),
         Some(EarlyEnd::Refused(RefusedCommand { line, refusal })) => {
-            Err(RequestFault::Refused(line, refusal.number()))
+            Err(RunFault::Refused(line, refusal.number()))
         }
-        Some(EarlyEnd::BadLine(line)) => Err(RequestFault::Session(ScriptFault::BadScript(line))),
+        Some(EarlyEnd::BadLine(line)) => Err(RunFault::Session(ScriptFault::BadScript(line))),
     }
 }
 
@@ -142,14 +134,14 @@ fn run_call_in<W: Write, D: Device + Drop>(
 }
 
 /// The fault of a call, by what is wrong.
-pub(crate) fn call_fault<'a>(call: &CallWords<'a>, fault: CallFault) -> RequestFault<'a> {
+pub(crate) fn call_fault<'a>(call: &CallWords<'a>, fault: CallFault) -> RunFault<'a> {
     match fault {
-        CallFault::Script(fault) => RequestFault::Session(fault),
-        CallFault::BadBlocks(count) => RequestFault::BadBlocks(call.name, count),
-        CallFault::BadWord(0) => RequestFault::NoRoutine(call.name),
+        CallFault::Script(fault) => RunFault::Session(fault),
+        CallFault::BadBlocks(count) => RunFault::BadBlocks(call.name, count),
+        CallFault::BadWord(0) => RunFault::NoRoutine(call.name),
         CallFault::BadWord(word) => match call.words.get(word - 1) {
-            Some(number) if word <= 8 => RequestFault::BadNumber(word - 1, *number),
-            _ => RequestFault::TooManyNumbers,
+            Some(number) if word <= 8 => RunFault::BadNumber(word - 1, *number),
+            _ => RunFault::TooManyNumbers,
         },
     }
 }
@@ -161,7 +153,7 @@ pub(crate) fn run_call_on<'a, D: Device + Drop>(
     image: &[u8],
     call: &CallWords<'a>,
     kernel: &mut Kernel<D>,
-) -> Result<(), RequestFault<'a>>
+) -> Result<(), RunFault<'a>>
     requires { NoneLocked kernel.old.core.blocks }
 {
     let mut out = output(rt)?;
@@ -171,6 +163,6 @@ pub(crate) fn run_call_on<'a, D: Device + Drop>(
     }
     match out.flush() {
         Ok(()) => Ok(()),
-        Err(_) => Err(RequestFault::Session(ScriptFault::Write)),
+        Err(_) => Err(RunFault::Session(ScriptFault::Write)),
     }
 }

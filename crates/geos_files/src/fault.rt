@@ -1,0 +1,23 @@
+//! Why a VM file was not made, opened or shown.
+
+use geos_dump::DumpError;
+use geos_shell::StreamFault;
+use thiserror::Error;
+use vm_file::{CreateError, OpenError};
+
+/// Why a VM file was not made, opened or shown.
+#[derive(Debug, Drop, Error)]
+pub enum FileFault<'a> {
+    /// What a path names was not read or written.
+    #[error(transparent)]
+    Stream(#[from] StreamFault<'a>),
+    /// The VM file was not made.
+    #[error(transparent)]
+    Create(CreateError),
+    /// The VM file was not opened.
+    #[error(transparent)]
+    Open(OpenError),
+    /// The VM file was not shown.
+    #[error(transparent)]
+    Dump(#[from] DumpError),
+}

@@ -1,0 +1,12 @@
+//! VM files of the system for the program `geos`: they are made, opened under their lock, and shown.
+//!
+//! It knows nothing of images, so that it is proved beside the crates that do.
+#![tactic(auto)]
+
+mod fault;
+mod files;
+mod shown;
+
+pub use fault::FileFault;
+pub use files::{Locked, lock_to_read, make_file, opened, wait_for};
+pub use shown::{draw_file, print_file};

@@ -1,0 +1,22 @@
+//! What the program `geos` runs: sessions, scripts, calls and traces, on a VM file of the system or on one in memory; and chunks of a
+//! VM file that are written and read.
+//!
+//! It takes the bytes of images, so that it is proved beside the crates that make images of texts.
+#![tactic(auto)]
+
+mod calling;
+mod chunks;
+mod fault;
+mod manner;
+mod running;
+mod tracing;
+
+pub use calling::call;
+pub use chunks::{get, put};
+pub use fault::RunFault;
+pub use manner::Manner;
+pub use running::{run, session};
+pub use tracing::{Traceable, trace};
+
+/// The most bytes that are read of a script: one more than a script may have.
+pub(crate) const MOST_READ: u64 = geos_cli::MOST_BYTES as u64 + 1;
