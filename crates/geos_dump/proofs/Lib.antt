@@ -1,6 +1,3 @@
-pub mod Texts
-pub mod ChunkWalks
 pub mod Listed
 pub mod Looks
-pub mod Examples
 pub mod Fields

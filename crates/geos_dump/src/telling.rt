@@ -1,11 +1,9 @@
 //! What is told of a file: the text of what it keeps, or a picture of how full its blocks are.
 
-ghost use Rattle.std.specs.Prelude.{◌≡◌, ◌≤◌, ◌<◌, OnOk, length};
+ghost use Rattle.std.specs.Prelude.{◌≡◌, ◌≤◌, ◌<◌, length};
 ghost use Rattle.geos_terms.specs.Heap.{IsHeap, most_block_bytes};
 ghost use Rattle.vm_file.specs.State.{HasBlock};
-ghost use Rattle.geos_dump.specs.DumpText.{block_text, directory_line, dump_text};
-ghost use Rattle.geos_dump.specs.Sides.{directory_on};
-ghost use Rattle.geos_dump.specs.Tellings.{IsTold, Writes, blocks_text, listed_text, side_text};
+ghost use Rattle.geos_dump.specs.Sides.{Causes, IsOnlyRead, directory_on};
 
 use crate::error::DumpError;
 use crate::picture::{Scale, put_columns_line, put_row, used_bytes};
@@ -33,8 +31,6 @@ fn put_told(
 ) -> Result<(), AllocError>
     requires heap { IsHeap bytes.now }
     requires size { length bytes.now < 65536 }
-    ensures { OnOk result (Writes telling
-        (λ detail. block_text detail (record { h = entry.h; uid = entry.uid; bytes = bytes.now })) out.old.items out.new.items) }
 {
     match telling {
         Telling::Text(detail) => put_block_text(out, detail, entry.h, entry.uid, bytes),
@@ -48,9 +44,7 @@ fn put_head(
     telling: Telling,
     word: &str,
     directory: &Directory,
-) -> Result<(), AllocError>
-    ensures { OnOk result (Writes telling (λ _. directory_line word.now directory.now) out.old.items out.new.items) }
-{
+) -> Result<(), AllocError> {
     match telling {
         Telling::Text(_) => put_directory_line(out, word, directory),
         Telling::Picture(_) => put_columns_line(out, word, directory),
@@ -67,7 +61,8 @@ fn put_block<D: Device + Drop>(
 ) -> Result<(), DumpError>
     requires listed { HasBlock (directory_on block.side file.old) block.entry.h block.entry.len }
     requires room { block.entry.len ≤ length buffer.old }
-    ensures { IsTold D.medium telling (listed_text block) file.old file.new out.old.items out.new.items result }
+    ensures looks { IsOnlyRead D.medium file.old file.new }
+    ensures cause { Causes (D.medium.honest file.old.device) (D.medium.failed file.old.device) (D.medium.failed file.new.device) result }
 {
     let Listed { side, entry } = block;
     let bytes = &mut buffer[..usize::from(entry.len)];
@@ -85,7 +80,8 @@ fn put_blocks<D: Device + Drop>(
     buffer: &mut [u8],
 ) -> Result<(), DumpError>
     requires room { length buffer.old ≡ most_block_bytes }
-    ensures { IsTold D.medium telling (blocks_text side) file.old file.new out.old.items out.new.items result }
+    ensures looks { IsOnlyRead D.medium file.old file.new }
+    ensures cause { Causes (D.medium.honest file.old.device) (D.medium.failed file.old.device) (D.medium.failed file.new.device) result }
 {
     for i in 0..count(file, side) {
         let entry = entry_at(file, side, i);
@@ -103,7 +99,8 @@ fn put_directory<D: Device + Drop>(
     buffer: &mut [u8],
 ) -> Result<(), DumpError>
     requires room { length buffer.old ≡ most_block_bytes }
-    ensures { IsTold D.medium telling (side_text side) file.old file.new out.old.items out.new.items result }
+    ensures looks { IsOnlyRead D.medium file.old file.new }
+    ensures cause { Causes (D.medium.honest file.old.device) (D.medium.failed file.old.device) (D.medium.failed file.new.device) result }
 {
     put_head(out, telling, word_of(side), directory(file, side))?;
     put_blocks(out, telling, file, side, buffer)
@@ -117,7 +114,8 @@ pub(crate) fn put_directories<D: Device + Drop>(
     telling: Telling,
     file: &mut VmFile<D>,
 ) -> Result<(), DumpError>
-    ensures { IsTold D.medium telling dump_text file.old file.new out.old.items out.new.items result }
+    ensures looks { IsOnlyRead D.medium file.old file.new }
+    ensures cause { Causes (D.medium.honest file.old.device) (D.medium.failed file.old.device) (D.medium.failed file.new.device) result }
 {
     let mut buffer = vec![in alloc; 0u8; MOST_BLOCK_BYTES]?;
     put_directory(out, telling, file, Side::Current, &mut buffer)?;

@@ -1,10 +1,9 @@
 //! The text of what a file keeps.
 
-ghost use Rattle.std.specs.Prelude.{◌≡◌, ◌++◌, OnOk, IfOk};
+ghost use Rattle.std.specs.Prelude.{◌≡◌};
 ghost use Rattle.geos_terms.specs.Heap.{IsHeap};
 ghost use Rattle.vm_file.specs.Outcomes.{ReadsOnly};
 ghost use Rattle.vm_file.specs.State.{pair_of};
-ghost use Rattle.geos_dump.specs.DumpText.{block_line, block_text, directory_line, dump_text};
 ghost use Rattle.geos_dump.specs.Sides.{Causes};
 
 use crate::chunks::{put_chunk_dumps, put_chunks};
@@ -26,7 +25,6 @@ pub enum Detail {
 /// The line of a block.
 fn put_block_line(out: &mut Vec<u8>, h: u16, uid: u16, bytes: &[u8]) -> Result<(), AllocError>
     requires { IsHeap bytes.now }
-    ensures { OnOk result (out.new.items ≡ out.old.items ++ block_line (record { h = h; uid = uid; bytes = bytes.now })) }
 {
     put_parts(
         out,
@@ -50,7 +48,6 @@ pub(crate) fn put_block_text(
     bytes: &[u8],
 ) -> Result<(), AllocError>
     requires { IsHeap bytes.now }
-    ensures { OnOk result (out.new.items ≡ out.old.items ++ block_text detail (record { h = h; uid = uid; bytes = bytes.now })) }
 {
     put_block_line(out, h, uid, bytes)?;
     match detail {
@@ -64,9 +61,7 @@ pub(crate) fn put_directory_line(
     out: &mut Vec<u8>,
     word: &str,
     directory: &Directory,
-) -> Result<(), AllocError>
-    ensures { OnOk result (out.new.items ≡ out.old.items ++ directory_line word.now directory.now) }
-{
+) -> Result<(), AllocError> {
     let (group, item) = directory.map_item;
     put_parts(
         out,
@@ -93,7 +88,6 @@ pub fn dump<D: Device + Drop>(
     file: &mut VmFile<D>,
     detail: Detail,
 ) -> Result<Vec<u8>, DumpError>
-    ensures text { D.medium.honest file.old.device → IfOk result (λ text. text.items ≡ dump_text detail (pair_of D.medium.image file.old)) }
     ensures same { file.new ≡ record file.old { device = file.new.device } }
     ensures pair { pair_of D.medium.image file.new ≡ pair_of D.medium.image file.old }
     // Nothing is written, so a stop meanwhile leaves what it might have left before.
