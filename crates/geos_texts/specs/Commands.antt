@@ -12,7 +12,6 @@ use Rattle.geos_explain.specs.Explanation.{AreItsRefusals, IsExplanationOf, IsVe
 use Rattle.geos_explain.specs.Texts.{IsTextExplanationOf}
 use Rattle.geos_source.specs.InstrLines.{instr_lines}
 use Rattle.geos_explain.specs.Causes.{cause_text}
-use Rattle.geos_lines.specs.Telling.{TellsFaults}
 use Rattle.geos_causes.specs.declared.cause.Cause.{Cause}
 use Rattle.geos_source.specs.Coded.{IsTextOf}
 use Rattle.geos_asm.specs.Assembling.{IsAssembled, IsCauseIn, IsWhyNoImage}
@@ -43,10 +42,9 @@ IsExplainedText text told reject =
     (image : Parts) × IsAssembled text image
     × ((refused : List (Option Rule)) × AreItsRefusals image reject refused × IsTextExplanationOf text (instr_lines text) image refused told)
 
--- the fault is the first one of the text, and what is told is a sentence on each faulty line; or a routine of it has no rows, and what is
--- told is the cause
+-- the fault is the first one of the text; or a routine of it has no rows, and what is told is the cause
 abbrev pub IsFaultTold : List ℕ → AssembleError → List ℕ → Type 0
-IsFaultTold text (BadLine fault) told = IsWhyNoImage text (BadLine fault) × TellsFaults text told
+IsFaultTold text (BadLine fault) told = IsWhyNoImage text (BadLine fault)
 IsFaultTold text (NoRows line) told = IsWhyNoImage text (NoRows line)
     × ((cause : Cause) × (instrs : List Instr) × IsCauseIn text line cause instrs × (told ≡ cause_text (instr_lines text) instrs cause))
 IsFaultTold text Memory told = ⊥
