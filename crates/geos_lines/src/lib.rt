@@ -4,6 +4,7 @@
 //! docs/FORMATS.md has the sentences.
 #![tactic(auto)]
 
+mod faulty;
 mod forms;
 mod instr_lines;
 mod names;
@@ -12,6 +13,7 @@ mod sentences;
 mod told;
 mod words;
 
+pub use faulty::{FaultyLine, FaultyLines, MOST_TOLD, faulty_lines};
 pub use sentences::put_word;
-pub use told::{MOST_TOLD, put_more, put_told, tell_faults};
+pub use told::{put_line_number, put_more, tell_faults};
 pub use words::{Word, word_from};

@@ -64,8 +64,19 @@ impl NamesSoFar {
         }
     }
 
+    /// Takes the names of the next line. Returns its first name that was used before, and its statement.
+    pub(crate) fn take_line<'a>(
+        &mut self,
+        line: &'a [u8],
+        number: usize,
+    ) -> Result<(Option<Twice<'a>>, Statement<'a>), AllocError> {
+        let (twice, statement) = self.take_labels(line, number)?;
+        let twice = self.take_routine(twice, statement, number)?;
+        Ok((twice, statement))
+    }
+
     /// The first name of the line that was used before, of labels; and the line's statement.
-    pub(crate) fn take_labels<'a>(
+    fn take_labels<'a>(
         &mut self,
         line: &'a [u8],
         number: usize,
@@ -93,7 +104,7 @@ impl NamesSoFar {
     }
 
     /// The first name of a line that was used before, if the name of the routine that it begins was.
-    pub(crate) fn take_routine<'a>(
+    fn take_routine<'a>(
         &mut self,
         twice: Option<Twice<'a>>,
         statement: Statement<'a>,

@@ -1,16 +1,13 @@
-//! All faulty lines of a text are told of.
+//! A sentence on each faulty line of a text.
 
-ghost use Rattle.std.specs.Prelude.{◌≡◌, ◌≤◌, ◌+◌, ◌↔◌, ◌++◌, ℕ, List, [], None, IfOk, OnOk};
-ghost use Rattle.geos_source.specs.Texts.{fault_of};
-ghost use Rattle.geos_lines.specs.Telling.{TellsFaults, also, line_of, more_line, sentence};
-
+use crate::faulty::{FaultyLine, FaultyLines, faulty_lines};
 use crate::instr_lines::put_instr;
-use crate::names::{NamesSoFar, Statement, Twice};
+use crate::names::{Statement, Twice};
 use crate::other_lines::{put_items, put_routine};
 use crate::sentences::{put_text, put_word};
 use crate::words::Word;
-use geos_source::{BadLine, Why, faults_of};
-use geos_text::{Part, first_line, put_numbered, put_parts, without_comment};
+use geos_source::Why;
+use geos_text::put_numbered;
 use std::alloc::{AllocError, Global};
 
 /// Appends the sentence on a name that was used before.
@@ -106,19 +103,14 @@ fn put_form(out: &mut Vec<u8>, statement: Statement) -> Result<(), AllocError> {
 }
 
 /// Appends what is wrong with a line.
-fn put_saying(
-    out: &mut Vec<u8>,
-    number: usize,
-    statement: Statement,
-    twice: Option<Twice>,
-    why: Why,
-) -> Result<(), AllocError> {
-    match why {
-        Why::UsedTwice => match twice {
+fn put_saying(out: &mut Vec<u8>, line: &FaultyLine) -> Result<(), AllocError> {
+    let statement = line.statement;
+    match line.fault.why {
+        Why::UsedTwice => match line.twice {
             Some(twice) => put_twice(out, twice),
             None => put_text(out, "a name is used twice"),
         },
-        Why::TooMany => put_text(out, too_many(number, statement)),
+        Why::TooMany => put_text(out, too_many(line.fault.line, statement)),
         Why::OutOfPlace => put_misplaced(out, statement),
         Why::UnknownWord | Why::WrongOperands | Why::OutOfRange | Why::Undefined => put_form(
             out, statement,
@@ -126,133 +118,36 @@ fn put_saying(
     }
 }
 
-/// What is wrong with a line.
-fn saying(
-    alloc: Global,
-    number: usize,
-    statement: Statement,
-    twice: Option<Twice>,
-    why: Why,
-) -> Result<Vec<u8>, AllocError> {
-    let mut out = Vec::new(alloc);
-    put_saying(&mut out, number, statement, twice, why)?;
-    Ok(out)
+/// Appends what is before the sentence on a line: `line N: `. `AllocError` if the allocator refuses memory.
+pub fn put_line_number(out: &mut Vec<u8>, number: usize) -> Result<(), AllocError> {
+    put_numbered(out, "line ", number as u64)?;
+    put_text(out, ": ")
 }
 
-/// Appends the line of output on a faulty line. `AllocError` where the allocator refuses memory.
-pub fn put_told(out: &mut Vec<u8>, number: usize, saying: &[u8]) -> Result<(), AllocError>
-    ensures { OnOk result (out.new.items ≡ out.old.items ++ sentence number saying.now) }
-{
-    put_parts(
-        out,
-        &[
-            Part::Numbered("line ", number as u64),
-            Part::Text(": "),
-            Part::Bytes(saying),
-            Part::Text("\n"),
-        ],
-    )
-}
-
-/// How many faulty lines are told of.
-pub const MOST_TOLD: usize = 1000;
-
-/// Appends how many more lines are faulty, if any is. `AllocError` where the allocator refuses memory.
-pub fn put_more(out: &mut Vec<u8>, more: usize) -> Result<(), AllocError>
-    ensures { OnOk result (out.new.items ≡ out.old.items ++ more_line more) }
-{
+/// Appends how many more lines are faulty, if any is. `AllocError` if the allocator refuses memory.
+pub fn put_more(out: &mut Vec<u8>, more: usize) -> Result<(), AllocError> {
     if more == 0 {
         return Ok(());
     }
-    put_parts(
-        out,
-        &[
-            Part::Numbered(".. and ", more as u64),
-            Part::Text(" more\n"),
-        ],
-    )
+    put_numbered(out, ".. and ", more as u64)?;
+    put_text(out, " more\n")
 }
 
-/// What is told so far.
-#[derive(Drop)]
-struct Telling {
-    names: NamesSoFar,
-    out: Vec<u8>,
-    /// Of how many lines it is, and how many other ones are faulty.
-    told: usize,
-    untold: usize,
-    ghost few: { told ≤ 1000 },
+/// Appends the line of output on a faulty line.
+fn put_told(out: &mut Vec<u8>, line: &FaultyLine) -> Result<(), AllocError> {
+    put_line_number(out, line.fault.line)?;
+    put_saying(out, line)?;
+    put_text(out, "\n")
 }
 
-impl Telling {
-    ghost use Rattle.geos_lines.specs.Telling.{IsToldSoFar};
-
-    /// Nothing is told but a fault that is on no line of the text.
-    fn begin(alloc: Global, other: Option<BadLine>) -> Result<Telling, AllocError>
-        ensures told { IfOk result (λ telling. IsToldSoFar (line_of other) telling.out.items telling.told telling.untold) }
-        ensures few { IfOk result (λ telling. telling.told + telling.untold ≤ 1) }
-    {
-        let mut telling = Telling {
-            names: NamesSoFar::new(alloc),
-            out: Vec::new(alloc),
-            told: 0,
-            untold: 0,
-        };
-        match other {
-            None => Ok(telling),
-            Some(fault) => {
-                telling.take_line(alloc, fault.line, &[], Some(fault.why))?;
-                Ok(telling)
-            }
-        }
+/// The explanation of the faulty lines of a text: a line on each of the first 1,000, in order, and how many more there are.
+/// `AllocError` if the allocator refuses memory.
+pub fn tell_faults(alloc: Global, text: &[u8]) -> Result<Vec<u8>, AllocError> {
+    let FaultyLines { lines, more } = faulty_lines(alloc, text)?;
+    let mut out = Vec::new(alloc);
+    for line in &lines {
+        put_told(&mut out, line)?;
     }
-
-    /// Takes a line, and tells of it if it is faulty, and not too many were before.
-    fn take_line(
-        &mut self,
-        alloc: Global,
-        number: usize,
-        line: &[u8],
-        why: Option<Why>,
-    ) -> Result<(), AllocError>
-        requires { self.old.told + self.old.untold ≤ number }
-        ensures told { OnOk result ((earlier : List ℕ) → IsToldSoFar earlier self.old.out.items self.old.told self.old.untold
-            → IsToldSoFar (also number why earlier) self.new.out.items self.new.told self.new.untold) }
-        ensures few { OnOk result (self.new.told + self.new.untold ≤ self.old.told + self.old.untold + 1) }
-    {
-        let (twice, statement) = self.names.take_labels(without_comment(line), number)?;
-        let twice = self.names.take_routine(twice, statement, number)?;
-        match why {
-            None => Ok(()),
-            Some(_) if self.told == MOST_TOLD => {
-                self.untold += 1;
-                Ok(())
-            }
-            Some(why) => {
-                let saying = saying(alloc, number, statement, twice, why)?;
-                put_told(&mut self.out, number, &saying)?;
-                self.told += 1;
-                Ok(())
-            }
-        }
-    }
-}
-
-/// What there is to say of the faulty lines of a text: a line on each of the first 1,000, in their order, and how many more there are.
-/// `AllocError` where the allocator refuses memory.
-pub fn tell_faults(alloc: Global, text: &[u8]) -> Result<Vec<u8>, AllocError>
-    ensures told { IfOk result (λ told. TellsFaults text.now told.items) }
-    ensures silent { IfOk result (λ told. (told.items ≡ []) ↔ (fault_of text.now ≡ None)) }
-{
-    let faults = faults_of(alloc, text)?;
-    let mut telling = Telling::begin(alloc, faults.rest)?;
-    let mut rest = text;
-    for i in 0..faults.lines.len() {
-        let (line, behind) = first_line(rest);
-        rest = behind;
-        telling.take_line(alloc, i + 1, line, faults.lines[i])?;
-    }
-    let mut out = telling.out;
-    put_more(&mut out, telling.untold)?;
+    put_more(&mut out, more)?;
     Ok(out)
 }
