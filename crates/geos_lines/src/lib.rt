@@ -4,6 +4,7 @@
 //! docs/FORMATS.md has the sentences.
 #![tactic(auto)]
 
+mod diagnostics;
 mod faulty;
 mod forms;
 mod instr_lines;
@@ -13,6 +14,7 @@ mod sentences;
 mod told;
 mod words;
 
+pub use diagnostics::diagnose_faults;
 pub use faulty::{FaultyLine, FaultyLines, MOST_TOLD, faulty_lines};
 pub use sentences::put_word;
 pub use told::{put_line_number, put_more, tell_faults};

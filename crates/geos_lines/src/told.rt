@@ -103,7 +103,7 @@ fn put_form(out: &mut Vec<u8>, statement: Statement) -> Result<(), AllocError> {
 }
 
 /// Appends what is wrong with a line.
-fn put_saying(out: &mut Vec<u8>, line: &FaultyLine) -> Result<(), AllocError> {
+pub(crate) fn put_saying(out: &mut Vec<u8>, line: &FaultyLine) -> Result<(), AllocError> {
     let statement = line.statement;
     match line.fault.why {
         Why::UsedTwice => match line.twice {
