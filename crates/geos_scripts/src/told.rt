@@ -1,18 +1,18 @@
-//! All bad lines of a script are told of.
+//! A sentence on each bad line of a script.
 
 ghost use Rattle.std.specs.Prelude.{◌≡◌, Ok, IfOk};
 ghost use Rattle.geos_image.specs.Parts.{Parts};
 ghost use Rattle.geos_image.specs.Reading.{image_at};
 ghost use Rattle.geos_verify.specs.Rules.{Accepted};
 ghost use Rattle.script_commands.specs.BadLines.{first_of, numbers};
-ghost use Rattle.geos_scripts.specs.Bad.{TellsBad, TellsEach, bad_ones};
+ghost use Rattle.geos_scripts.specs.Bad.{bad_ones, named_by_run};
 
 use crate::keeping::fault_of;
 use crate::names::{NameUse, Names};
 use crate::sentences::put_fault;
 use geos_image::Image;
 use geos_input::{MOST_BYTES, ScriptFault};
-use geos_lines::{MOST_TOLD, put_more, put_told};
+use geos_lines::{MOST_TOLD, put_line_number, put_more};
 use geos_verify::{Checked, check};
 use script_commands::{Line, bad_lines, bad_lines_with_names};
 use std::alloc::{AllocError, Global};
@@ -26,21 +26,19 @@ pub struct BadLines {
     pub first: Option<usize>,
 }
 
-/// A sentence on each of some bad lines.
+/// A line on each of some bad lines: its number, and a sentence on its fault.
 fn sentences<'a>(
     alloc: Global,
     image: &Image,
     bad: &[Line<'a>],
     mut names: Names<'a>,
-) -> Result<Vec<u8>, AllocError>
-    ensures { IfOk result (λ told. TellsEach (numbers bad.now) told.items) }
-{
+) -> Result<Vec<u8>, AllocError> {
     let mut told = Vec::new(alloc);
     for line in bad {
         names.come_to(line)?;
-        let mut saying = Vec::new(alloc);
-        put_fault(&mut saying, fault_of(image, &names, line.text))?;
-        put_told(&mut told, line.number, &saying)?;
+        put_line_number(&mut told, line.number)?;
+        put_fault(&mut told, fault_of(image, &names, line.text))?;
+        told.push(b'\n')?;
     }
     Ok(told)
 }
@@ -77,7 +75,7 @@ fn told_of(
     script: &[u8],
     names: NameUse,
 ) -> Result<BadLines, AllocError>
-    ensures { IfOk result (TellsBad names checked.now script.now) }
+    ensures { IfOk result (λ bad. bad.first ≡ named_by_run names checked.now script.now) }
 {
     let bad = bad_ones(alloc, checked, script, names)?;
     let kept = Names::new(alloc, script, names);
@@ -98,8 +96,8 @@ pub fn tell_bad_lines(
     script: &[u8],
     names: NameUse,
 ) -> Result<BadLines, ScriptFault>
-    ensures told { IfOk result (λ bad. (parts : Parts) × (image_at image.now ≡ Ok parts) × Accepted parts
-        × TellsBad names parts script.now bad) }
+    ensures first { IfOk result (λ bad. (parts : Parts) × (image_at image.now ≡ Ok parts) × Accepted parts
+        × (bad.first ≡ named_by_run names parts script.now)) }
 {
     if script.len() > MOST_BYTES {
         return Err(ScriptFault::TooLong);
