@@ -4,7 +4,7 @@ ghost use Rattle.std.specs.Prelude.{◌≡◌, IfOk, true};
 ghost use Rattle.geos_shell.specs.Limits.{IsArea};
 
 use crate::fault::FileFault;
-use geos_shell::{FileLock, Lockable, NewFile, Sharing, StreamFault};
+use geos_shell::{FileLock, Lockable, NewFile, Reason, Sharing, StreamFault};
 use std::fs::File;
 use vm_file::{Disk, FileDevice, VmFile, device_length};
 
@@ -13,7 +13,7 @@ fn fill_new<'a>(rt: &HostRuntime, path: &'a str, file: File, area: u32) -> Resul
     requires { IsArea area }
 {
     let Ok(device) = FileDevice::of_length(file, device_length(area)) else {
-        return Err(FileFault::Stream(StreamFault::Write(path)));
+        return Err(FileFault::Stream(StreamFault::Write(path, Reason::Other)));
     };
     match VmFile::create(rt.alloc(), device, area) {
         Ok(_file) => Ok(()),
@@ -57,7 +57,7 @@ pub fn wait_for<'a>(rt: &HostRuntime, file: Lockable<'a>) -> Result<Locked<'a>, 
     let lock = file.wait(rt)?;
     match FileDevice::of(lock.file()?) {
         Ok(device) => Ok(Locked { device, lock }),
-        Err(Disk) => Err(StreamFault::Read(lock.path())),
+        Err(Disk) => Err(StreamFault::Read(lock.path(), Reason::Other)),
     }
 }
 

@@ -4,7 +4,7 @@ use crate::faults::are_in_words;
 use crate::streams::{StreamFault, print};
 use clap::Error;
 use clap::error::ErrorKind;
-use std::alloc::Global;
+use std::alloc::{AllocError, Global};
 use std::process::ExitCode;
 
 /// The status where the words on the command line are wrong.
@@ -23,6 +23,21 @@ pub enum Answer {
     Memory,
 }
 
+/// The text without the tip to write `--` before a word that begins with `-`: no command takes such a word.
+fn without_tip(alloc: Global, text: &str) -> Result<String, AllocError> {
+    let mut kept = String::new(alloc);
+    for paragraph in text.split("\n\n") {
+        if paragraph.starts_with("  tip: to pass '") {
+            continue;
+        }
+        if !kept.is_empty() {
+            kept.push_str("\n\n")?;
+        }
+        kept.push_str(paragraph)?;
+    }
+    Ok(kept)
+}
+
 impl Answer {
     /// What `clap` says of the words.
     pub(crate) fn of(alloc: Global, error: &Error) -> Answer {
@@ -30,7 +45,10 @@ impl Answer {
             return Answer::Memory;
         }
         match format!(in alloc; "{error}") {
-            Ok(text) if error.use_stderr() => Answer::Misuse(text),
+            Ok(text) if error.use_stderr() => match without_tip(alloc, &text) {
+                Ok(text) => Answer::Misuse(text),
+                Err(_) => Answer::Memory,
+            },
             Ok(text) => Answer::Text(text),
             Err(_) => Answer::Memory,
         }

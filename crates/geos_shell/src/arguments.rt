@@ -185,6 +185,12 @@ impl Flag {
     }
 }
 
+/// The flag that every command may be given, and the program without one.
+pub(crate) const DIAGNOSTICS: NameText = NameText {
+    name: "diagnostics",
+    about: "Adds lines `FILE:LINE: error: ..` or `FILE: note: ..` to a fault, as on a terminal",
+};
+
 /// A word behind a name that a command may be given.
 #[derive(Clone, Copy)]
 pub(crate) enum Setting {

@@ -1,7 +1,7 @@
 //! The command line, as `clap` takes it.
 
 use crate::answer::Answer;
-use crate::arguments::{Argument, NameText, NumberName, Setting, WORDS};
+use crate::arguments::{Argument, DIAGNOSTICS, NameText, NumberName, Setting, WORDS};
 use crate::commands::{CommandText, command_texts};
 use crate::help::{ABOUT, SESSION, USAGES};
 use clap::{Arg, ArgAction, ArgMatches, Command, Error};
@@ -112,7 +112,10 @@ fn bare_program<'a>(alloc: Global) -> Command<'a> {
 /// The program with its commands.
 fn program<'a>(alloc: Global) -> Result<Command<'a>, AllocError> {
     let commands = commands(alloc)?;
-    bare_program(alloc).bin_name("geos")?.subcommands(commands)
+    bare_program(alloc)
+        .bin_name("geos")?
+        .arg(flag(alloc, DIAGNOSTICS).global(true))?
+        .subcommands(commands)
 }
 
 /// The words behind the program's name. An error is what they are answered where one of them is no text.

@@ -1,5 +1,6 @@
 //! The numbers of the standard streams, which no file of the program's gets.
 
+use crate::reason::Reason;
 use crate::streams::StreamFault;
 use std::fs::File;
 use std::os::fd::{AsRawFd, IntoRawFd};
@@ -22,7 +23,7 @@ pub fn keep_stream_numbers<'a>(rt: &HostRuntime) -> Result<(), StreamFault<'a>> 
             Ok(file) => {
                 let _ = file.into_raw_fd();
             }
-            Err(_) => return Err(StreamFault::Read(ROOT)),
+            Err(error) => return Err(StreamFault::Read(ROOT, Reason::of(&error))),
         }
     }
     Ok(())

@@ -21,6 +21,7 @@ mod numbers;
 mod output;
 mod parts;
 mod printable;
+mod reason;
 mod replace;
 mod request;
 mod streams;
@@ -33,7 +34,9 @@ pub use locks::{FileLock, Lockable, Sharing};
 pub use new_file::NewFile;
 pub use output::keep_from_output;
 pub use printable::Named;
+pub use reason::Reason;
 pub use request::{
-    CallWords, ChunkPath, FileRequest, Request, RoutineRequest, TextRequest, TraceWords, requested,
+    Asked, CallWords, ChunkPath, FileRequest, Request, RoutineRequest, TextRequest, TraceWords,
+    requested,
 };
-pub use streams::{STANDARD, StreamFault, print, print_lines, read, write};
+pub use streams::{STANDARD, StreamFault, print, print_lines, read, tell_typist, write};

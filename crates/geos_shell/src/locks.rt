@@ -3,6 +3,7 @@
 use crate::file_id::FileId;
 use crate::output::goes_into;
 use crate::printable::Printable;
+use crate::reason::Reason;
 use crate::streams::{STANDARD, StreamFault};
 use std::fs::{self, File, OpenOptions, TryLockError};
 use std::io::{self, ErrorKind, IsTerminal};
@@ -116,7 +117,7 @@ fn lock(rt: &HostRuntime, file: &File, path: &str, sharing: Sharing) -> io::Resu
 fn fault<'a>(path: &'a str, error: &io::Error) -> StreamFault<'a> {
     match error.kind() {
         ErrorKind::OutOfMemory => StreamFault::Memory,
-        _ => StreamFault::Read(path),
+        _ => StreamFault::Read(path, Reason::of(error)),
     }
 }
 
@@ -130,7 +131,7 @@ impl<'a> Lockable<'a> {
         sharing: Sharing,
     ) -> Result<Lockable<'a>, StreamFault<'a>> {
         match opened(rt, path, sharing) {
-            Ok(file) if is_output(rt, &file) => Err(StreamFault::Write(STANDARD)),
+            Ok(file) if is_output(rt, &file) => Err(StreamFault::Write(STANDARD, Reason::InUse)),
             Ok(file) => Ok(Lockable {
                 path,
                 sharing,
@@ -168,7 +169,7 @@ impl<'a> Lockable<'a> {
             drop(lock);
             lockable = Lockable::open(rt, path, sharing)?;
         }
-        Err(StreamFault::Read(path))
+        Err(StreamFault::Read(path, Reason::InUse))
     }
 }
 

@@ -2,6 +2,7 @@
 
 use crate::file_id::{FileId, regular_at};
 use crate::kept::is_kept;
+use crate::reason::Reason;
 use crate::streams::{STANDARD, StreamFault, is_stream, name_of};
 
 /// What the system calls the file that the standard output goes into.
@@ -29,7 +30,7 @@ pub(crate) fn faults_go_into(rt: &HostRuntime, file: FileId) -> bool {
 /// `StreamFault::Write` of `-` where both are one file.
 pub fn keep_from_output<'a>(rt: &HostRuntime, path: &str) -> Result<(), StreamFault<'a>> {
     match regular_at(rt, name_of(path)) {
-        Some(file) if goes_into(rt, file) => Err(StreamFault::Write(STANDARD)),
+        Some(file) if goes_into(rt, file) => Err(StreamFault::Write(STANDARD, Reason::InUse)),
         _ => Ok(()),
     }
 }
@@ -46,6 +47,6 @@ pub(crate) fn keep_from_image<'a>(
     }
     match is_kept(rt, OUTPUT, name_of(source)) {
         Ok(false) => Ok(()),
-        _ => Err(StreamFault::Write(path)),
+        _ => Err(StreamFault::Write(path, Reason::Exists)),
     }
 }

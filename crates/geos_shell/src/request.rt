@@ -4,6 +4,7 @@ ghost use Rattle.std.specs.Prelude.{IfOk};
 ghost use Rattle.geos_shell.specs.Limits.{KeepsLimits, RunsWithinLimits, WorksWithinLimits};
 
 use crate::answer::Answer;
+use crate::arguments::DIAGNOSTICS;
 use crate::command_line::matches_of;
 use crate::forms::OutputForm;
 use crate::help::Usage;
@@ -15,6 +16,7 @@ use crate::printable::{Printable, has_control};
 use crate::streams::{STANDARD, is_stream};
 use clap::{ArgMatches, Error};
 use std::alloc::{AllocError, Global};
+use std::io::IsTerminal;
 
 /// A call of the routine with the name, on these numbers, and on the blocks behind them.
 #[derive(Drop)]
@@ -152,6 +154,21 @@ pub enum Request<'a> {
     Text(TextRequest<'a>),
     /// To work on a VM file.
     File(FileRequest<'a>),
+}
+
+/// A request, and how its faults are reported.
+#[derive(Drop)]
+pub struct Asked<'a> {
+    /// What is to be done.
+    pub request: Request<'a>,
+    diagnostics: bool,
+}
+
+impl Asked<'_> {
+    /// Whether a fault is followed by lines that say more: `--diagnostics` asks for them, and a terminal as standard error gets them.
+    pub fn wants_diagnostics(&self, rt: &HostRuntime) -> bool {
+        self.diagnostics || rt.stderr().is_terminal()
+    }
 }
 
 /// A word that the command wants, so it is there.
@@ -411,13 +428,24 @@ fn answer_to(alloc: Global, words: &[String], error: &Error) -> Answer {
     }
 }
 
-/// What the words behind the program's name ask for. An error is what they are answered where they
-/// ask for nothing to be done.
-pub fn requested<'a>(alloc: Global, words: &'a [String]) -> Result<Request<'a>, Answer>
-    ensures { IfOk result KeepsLimits }
+/// The request of the words, and how its faults are reported.
+fn asked_of<'a>(alloc: Global, matches: &ArgMatches<'a>) -> Result<Asked<'a>, Misuse>
+    ensures { IfOk result (λ asked. KeepsLimits asked.request) }
+{
+    let request = request_of(alloc, matches)?;
+    let diagnostics = matches.get_flag(DIAGNOSTICS.name);
+    Ok(Asked {
+        request,
+        diagnostics,
+    })
+}
+
+/// What the words after the program's name ask for. An error is the answer to words that ask for nothing to be done.
+pub fn requested<'a>(alloc: Global, words: &'a [String]) -> Result<Asked<'a>, Answer>
+    ensures { IfOk result (λ asked. KeepsLimits asked.request) }
 {
     match matches_of(alloc, words) {
-        Ok(matches) => request_of(alloc, &matches).map_err(|misuse| misuse.answer(alloc)),
+        Ok(matches) => asked_of(alloc, &matches).map_err(|misuse| misuse.answer(alloc)),
         Err(error) => Err(answer_to(alloc, words, &error)),
     }
 }

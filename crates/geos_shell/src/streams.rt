@@ -3,6 +3,7 @@
 use crate::output::{keep_from_image, keep_from_output};
 use crate::parts::PartFault;
 use crate::printable::{Named, for_terminal};
+use crate::reason::Reason;
 use crate::replace::replace;
 use std::alloc::Global;
 use std::io::{ErrorKind, IsTerminal, Read, Write};
@@ -20,15 +21,30 @@ pub(crate) fn is_stream(path: &str) -> bool {
 /// Why bytes were not read, or not written.
 #[derive(Debug, Drop, Error)]
 pub enum StreamFault<'a> {
+    /// The file with the path can't be read.
     #[error("cannot read {}", Named(.0))]
-    Read(&'a str),
+    Read(&'a str, Reason),
+    /// The file with the path can't be written.
     #[error("cannot write {}", Named(.0))]
-    Write(&'a str),
+    Write(&'a str, Reason),
     /// The file is written, but a part of this name, which is a second name of it, can't be removed.
     #[error("cannot remove {}", Named(.0.as_str()))]
     Left(String),
+    /// An allocation was refused.
     #[error("memory")]
     Memory,
+}
+
+impl<'a> StreamFault<'a> {
+    /// The path that can't be read or written, and why.
+    pub fn reason(&self) -> Option<(&'a str, Reason)> {
+        match self {
+            StreamFault::Read(path, reason) | StreamFault::Write(path, reason) => {
+                Some((*path, *reason))
+            }
+            StreamFault::Left(_) | StreamFault::Memory => None,
+        }
+    }
 }
 
 /// Why the file with the path was not written, or not that only.
@@ -36,7 +52,7 @@ pub(crate) fn not_written<'a>(path: &'a str, fault: PartFault) -> StreamFault<'a
     match fault {
         PartFault::Left(name) => StreamFault::Left(name),
         PartFault::System(error) if error.kind() == ErrorKind::OutOfMemory => StreamFault::Memory,
-        PartFault::System(_) => StreamFault::Write(path),
+        PartFault::System(error) => StreamFault::Write(path, Reason::of(&error)),
     }
 }
 
@@ -48,7 +64,7 @@ fn bytes_of<R: Read + Drop>(alloc: Global, input: R, most: u64) -> io::Result<Ve
 }
 
 /// Says that the standard input is read, to a user who has to type it.
-fn tell_typist(rt: &HostRuntime) {
+pub fn tell_typist(rt: &HostRuntime) {
     if rt.stdin().is_terminal() && rt.stderr().is_terminal() {
         let _ = eprintln!(rt; "reading from the terminal, to its end (Ctrl-D)");
     }
@@ -70,7 +86,7 @@ pub fn read<'a>(rt: &HostRuntime, path: &'a str, most: u64) -> Result<Vec<u8>, S
     match bytes_at(rt, path, most) {
         Ok(bytes) => Ok(bytes),
         Err(error) if error.kind() == ErrorKind::OutOfMemory => Err(StreamFault::Memory),
-        Err(_) => Err(StreamFault::Read(path)),
+        Err(error) => Err(StreamFault::Read(path, Reason::of(&error))),
     }
 }
 
@@ -85,7 +101,7 @@ pub(crate) fn put(rt: &HostRuntime, bytes: &[u8]) -> io::Result<()> {
 pub fn print<'a>(rt: &HostRuntime, bytes: &[u8]) -> Result<(), StreamFault<'a>> {
     match put(rt, bytes) {
         Ok(()) => Ok(()),
-        Err(_) => Err(StreamFault::Write(STANDARD)),
+        Err(error) => Err(StreamFault::Write(STANDARD, Reason::of(&error))),
     }
 }
 
