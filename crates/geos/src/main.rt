@@ -6,7 +6,8 @@ ghost use Rattle.geos_shell.specs.Limits.{KeepsLimits};
 mod fault;
 mod requests;
 
-use geos_shell::{Answer, Request, keep_stream_numbers, requested, words};
+use geos_shell::{Answer, Asked, keep_stream_numbers, requested, words};
+use fault::RequestFault;
 use requests::carry_out;
 use std::fmt::Display;
 use std::process::ExitCode;
@@ -26,24 +27,34 @@ fn answered(rt: &HostRuntime, words: &[String], answer: &Answer) -> ExitCode {
     }
 }
 
-/// Does what is asked for, and gives the program's status.
-fn run_request(rt: &HostRuntime, request: Request) -> ExitCode
-    requires { KeepsLimits request }
+/// Says what is wrong in one line on standard error, and in further lines if they are wanted.
+fn fail_request(rt: &HostRuntime, fault: &RequestFault<'_>, wants_diagnostics: bool) -> ExitCode {
+    let _ = eprintln!(rt; "{fault}");
+    if wants_diagnostics {
+        fault.tell_more(rt);
+    }
+    ExitCode::FAILURE
+}
+
+/// Carries out a request, and returns the program's status.
+fn run_request(rt: &HostRuntime, asked: Asked) -> ExitCode
+    requires { KeepsLimits asked.request }
 {
     // A fault would be written over what the file has, so only the status tells.
-    if request.has_faults(rt) {
+    if asked.request.has_faults(rt) {
         return ExitCode::FAILURE;
     }
-    match carry_out(rt, request) {
+    let wants_diagnostics = asked.wants_diagnostics(rt);
+    match carry_out(rt, asked.request) {
         Ok(()) => ExitCode::SUCCESS,
-        Err(fault) => fail(rt, fault),
+        Err(fault) => fail_request(rt, &fault, wants_diagnostics),
     }
 }
 
 /// Does what the words ask for, and gives the program's status.
 fn run(rt: &HostRuntime, words: &[String]) -> ExitCode {
     match requested(rt.alloc(), words) {
-        Ok(request) => run_request(rt, request),
+        Ok(asked) => run_request(rt, asked),
         Err(answer) => answered(rt, words, &answer),
     }
 }

@@ -8,12 +8,13 @@ use crate::manner::{Manner, output, run_script_on};
 use geos_cli::{Counted, ScriptFault, run_session};
 use geos_files::{Locked, opened, wait_for};
 use geos_kernel::Kernel;
-use geos_shell::{Lockable, STANDARD, Sharing, keep_from_output, read};
+use geos_shell::{Lockable, STANDARD, Sharing, keep_from_output, read, tell_typist};
 use vm_file::{FileDevice, VmFile};
 
 /// Runs a session on the standard streams, unless it would print into what it reads.
 pub fn session<'a>(rt: &HostRuntime) -> Result<(), RunFault<'a>> {
     keep_from_output(rt, STANDARD)?;
+    tell_typist(rt);
     let mut out = output(rt)?;
     Ok(run_session(rt.alloc(), &mut Counted::new(rt.stdin()), &mut out)?)
 }
