@@ -19,7 +19,7 @@ geos call IN [NAME [N..]] [--file FILE] [--region N] [--strict] [FORM]
        geos dump FILE [--chunks]
        geos map FILE [--width N]
        geos < SESSION
-       geos help [COMMAND]";
+       geos help [COMMAND | TOPIC]";
 
 /// A command of which the usage is said alone. It names its text, as `More` does.
 #[derive(Clone, Copy)]
@@ -66,6 +66,7 @@ A text to begin with:
 Example:
   geos call add.asm add 2 3         prints 5, where add.asm has that text
   geos help call                    says more
+  geos help DEREF                   says what an instruction does; so do help V4, help refused 4, help why 2
 docs/AUTHORS.md says how to write a routine, docs/FORMATS.md has the form of texts, docs/INSTRUCTIONS.md
 the instructions, examples/README.md the routines of that folder in words.
 

@@ -1,0 +1,35 @@
+//! `geos help TOPIC`, of an instruction, a rule, a refusal or a fault of a text.
+
+use geos_topics::topic;
+use std::alloc::{AllocError, Global};
+
+/// The words after `help`, each after a space but the first.
+fn joined(alloc: Global, words: &[String]) -> Result<String, AllocError> {
+    let mut all = String::new(alloc);
+    for word in words {
+        if !all.is_empty() {
+            all.push(' ')?;
+        }
+        all.push_str(word.as_str())?;
+    }
+    Ok(all)
+}
+
+/// The text on the topic that words ask for: those after `help`, also in small letters. `None` if they ask for none.
+pub(crate) fn topic_of(alloc: Global, words: &[String]) -> Result<Option<String>, AllocError> {
+    let Some((help, rest)) = words.split_first() else {
+        return Ok(None);
+    };
+    if help.as_str() != "help" {
+        return Ok(None);
+    }
+    let asked = joined(alloc, rest)?;
+    let found = match topic(asked.as_str()) {
+        Some(text) => Some(text),
+        None => topic(asked.to_ascii_uppercase(alloc)?.as_str()),
+    };
+    match found {
+        Some(text) => Ok(Some(format!(in alloc; "{text}\n")?)),
+        None => Ok(None),
+    }
+}

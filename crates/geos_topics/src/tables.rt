@@ -1,0 +1,592 @@
+//! What is said of instructions, rules, refusals and faults. Made by tools/topics.py from the documents.
+
+/// What is said of each instruction. An entry begins with the instruction's name; an empty line is between two.
+pub(crate) const INSTRUCTIONS: &str = "\
+LDI wa n
+wa = n.
+Example: LDI w2 0    (in examples/accounts.asm)
+
+MOV wa wb
+wa = wb.
+Example: MOV w5 w4    (in examples/index.asm)
+
+ADD wa wb wc
+wa = wb + wc, modulo 65,536.
+Example: ADD w5 w5 w2    (in examples/accounts.asm)
+
+SUB wa wb wc
+wa = wb - wc, modulo 65,536.
+Example: SUB w4 w4 w2    (in examples/accounts.asm)
+
+AND wa wb n
+wa = wb and n, bit by bit.
+
+SHR wa wb n
+wa = wb / 2^n, rounded down; n is 0 to 15.
+Example: SHR w6 w6 1    (in examples/index.asm)
+
+MULI wa wb n
+wa = wb * n, modulo 65,536.
+Example: MULI w3 w0 2    (in examples/notes.asm)
+
+CHK wa n L
+to L if wa is above n.
+Example: CHK w3 100 both    (in examples/line.asm)
+
+JMP L
+to L.
+Example: JMP not_made    (in examples/accounts.asm)
+
+BEQ wa wb L
+to L if wa is wb.
+Example: BEQ w3 w2 make    (in examples/accounts.asm)
+
+BLT wa wb L
+to L if wa is below wb.
+Example: BLT w4 w2 both    (in examples/accounts.asm)
+
+SETK ka n
+ka = n.
+Example: SETK k0 19    (in examples/accounts.asm)
+
+SETKW ka wb
+ka = wb.
+Example: SETKW k0 w3    (in examples/line.asm)
+
+LOOP ka L
+if ka is above 0: takes 1 from it, to L.
+Example: LOOP k0 next    (in examples/accounts.asm)
+
+CALL n
+calls routine n of the image.
+Example: CALL double    (in examples/call.asm)
+
+RET
+returns; the outermost return ends the run.
+Example: RET    (in examples/accounts.asm)
+
+OUT wa L
+outputs wa.
+It is refused, with the number in w7, and control goes to L: 10 (the output is full).
+Example: OUT w7 open_end    (in examples/accounts.asm)
+
+MNEW sa wb L
+makes a block, and locks it into sa; wb = its handle.
+It is refused, with the number in w7, and control goes to L: 5 (no handle is free); 4 (no
+room in the region).
+Example: MNEW s0 w0 e    (in examples/heap.asm)
+
+MLOCK sa wb L
+locks the block wb into sa.
+It is refused, with the number in w7, and control goes to L: 1 (no block has this handle, or
+the block is no group and a group is required); 7 (the block is locked, or has 65,535
+locks).
+Example: MLOCK s0 w0 enter_end    (in examples/index.asm)
+
+MUNLOCK sa
+unlocks the block of sa, and empties sa.
+Example: MUNLOCK s0    (in examples/heap.asm)
+
+MFREE wa L
+frees the block wa.
+It is refused, with the number in w7, and control goes to L: 1 (no block has this handle, or
+the block is no group and a group is required); 7 (the block is locked, or has 65,535
+locks).
+Example: MFREE w0 not_made    (in examples/line.asm)
+
+SNE sa sb L
+to L if sa and sb hold one block.
+Example: SNE s0 s1 both    (in examples/accounts.asm)
+
+LALLOC sa wb wc L
+wb = a new chunk of wc zero bytes. It moves the chunks of the block: pointers to them become
+stale.
+It is refused, with the number in w7, and control goes to L: 6 (the block would need more
+than 65,520 bytes, or the commit more than an area of the file); 4 (no room in the region).
+Example: LALLOC s0 w5 w4 undo    (in examples/accounts.asm)
+
+LFREE sa wb L
+frees the chunk wb. It moves the chunks of the block: pointers to them become stale.
+It is refused, with the number in w7, and control goes to L: 2 (no chunk has this handle).
+
+LREALLOC sa wb wc L
+resizes the chunk wb to wc bytes. It moves the chunks of the block: pointers to them become
+stale.
+It is refused, with the number in w7, and control goes to L: 2 (no chunk has this handle); 6
+(the block would need more than 65,520 bytes, or the commit more than an area of the file);
+4 (no room in the region).
+Example: LREALLOC s0 w2 w1 cut_done    (in examples/line.asm)
+
+LINS sa wb wc wd L
+inserts wd zero bytes at wc of the chunk wb. It moves the chunks of the block: pointers to
+them become stale.
+It is refused, with the number in w7, and control goes to L: 2 (no chunk has this handle);
+14 (the offset or bytes lie past the end of the chunk, or of the pointer's bytes; or a map
+item other than 0 has no group); 6 (the block would need more than 65,520 bytes, or the
+commit more than an area of the file); 4 (no room in the region).
+Example: LINS s0 w1 w2 w3 insert_end    (in examples/lend.asm)
+
+LDEL sa wb wc wd L
+deletes the wd bytes at wc of the chunk wb. It moves the chunks of the block: pointers to
+them become stale.
+It is refused, with the number in w7, and control goes to L: 2 (no chunk has this handle);
+14 (the offset or bytes lie past the end of the chunk, or of the pointer's bytes; or a map
+item other than 0 has no group).
+Example: LDEL s0 w3 w1 w2 still_there    (in examples/line.asm)
+
+LSIZE sa wb wc L
+wb = the length of the chunk wc.
+It is refused, with the number in w7, and control goes to L: 2 (no chunk has this handle).
+Example: LSIZE s0 w4 w2 both    (in examples/line.asm)
+
+DEREF sa pb wc n L
+pb = the chunk wc, of at least n bytes.
+It is refused, with the number in w7, and control goes to L: 2 (no chunk has this handle); 3
+(the chunk or element is shorter than requested).
+Example: DEREF s0 p0 w5 2 undo    (in examples/accounts.asm)
+
+LCONTRACT sa
+compacts the block: one free chunk at its end, or none. It moves the chunks of the block:
+pointers to them become stale.
+
+LDB wa pb n
+wa = the byte at n of pb.
+
+LDW wa pb n
+wa = the word at n of pb.
+Example: LDW w4 p0 0    (in examples/accounts.asm)
+
+STB wa pb n
+the byte at n of pb = the low byte of wa.
+
+STW wa pb n
+the word at n of pb = wa.
+Example: STW w1 p0 0    (in examples/accounts.asm)
+
+LDXB wa pb wc
+wa = the byte at wc of pb; wc is within it.
+
+LDXW wa pb wc
+wa = the word at wc of pb, as LDXB.
+
+STXB wa pb wc
+the byte at wc of pb = the low byte of wa, as LDXB.
+
+STXW wa pb wc
+the word at wc of pb = wa, as LDXB.
+
+LDCB wa pb wc L
+wa = the byte at wc of pb, tested as it runs.
+It is refused, with the number in w7, and control goes to L: 14 (the offset or bytes lie
+past the end of the chunk, or of the pointer's bytes; or a map item other than 0 has no
+group).
+Example: LDCB w1 p1 w5 both    (in examples/line.asm)
+
+LDCW wa pb wc L
+wa = the word at wc of pb, as LDCB.
+It is refused, with the number in w7, and control goes to L: 14 (the offset or bytes lie
+past the end of the chunk, or of the pointer's bytes; or a map item other than 0 has no
+group).
+Example: LDCW w6 p0 w5 next    (in examples/index.asm)
+
+STCB wa pb wc L
+the byte at wc of pb = the low byte of wa, as LDCB.
+It is refused, with the number in w7, and control goes to L: 14 (the offset or bytes lie
+past the end of the chunk, or of the pointer's bytes; or a map item other than 0 has no
+group).
+Example: STCB w2 p0 w1 unlock    (in examples/line.asm)
+
+STCW wa pb wc L
+the word at wc of pb = wa, as LDCB.
+It is refused, with the number in w7, and control goes to L: 14 (the offset or bytes lie
+past the end of the chunk, or of the pointer's bytes; or a map item other than 0 has no
+group).
+Example: STCW w3 p0 w5 unlock    (in examples/index.asm)
+
+MOVP pa pb
+pa = pb.
+
+COPY pa pb n
+the first n bytes of pa = those of pb, as they were.
+Example: COPY p0 p1 2    (in examples/lend.asm)
+
+PLEN wa pb
+wa = the length of pb in bytes.
+Example: PLEN w5 p0    (in examples/index.asm)
+
+CANEW sa wb n L
+wb = a new chunk, an empty array: elements of n bytes, of varying sizes for n 0. It moves
+the chunks of the block: pointers to them become stale.
+It is refused, with the number in w7, and control goes to L: 6 (the block would need more
+than 65,520 bytes, or the commit more than an area of the file); 4 (no room in the region).
+Example: CANEW s0 w1 0 made    (in examples/index.asm)
+
+CAADD sa wb wc L
+appends an element of wc zero bytes to the array wb. It moves the chunks of the block:
+pointers to them become stale.
+It is refused, with the number in w7, and control goes to L: 2 (no chunk has this handle); 8
+(the chunk's bytes are no array, or one whose elements can't be resized); 6 (the block would
+need more than 65,520 bytes, or the commit more than an area of the file); 4 (no room in the
+region).
+Example: CAADD s0 w1 w2 added    (in examples/records.asm)
+
+CAINS sa wb wc wd L
+inserts an element of wd zero bytes at index wc of the array wb, at most the count. It moves
+the chunks of the block: pointers to them become stale.
+It is refused, with the number in w7, and control goes to L: 2 (no chunk has this handle); 8
+(the chunk's bytes are no array, or one whose elements can't be resized); 9 (the array has
+no such element, or no such place for one); 6 (the block would need more than 65,520 bytes,
+or the commit more than an area of the file); 4 (no room in the region).
+Example: CAINS s0 w1 w4 w6 unlock    (in examples/index.asm)
+
+CADEL sa wb wc L
+deletes element wc of the array wb. It moves the chunks of the block: pointers to them
+become stale.
+It is refused, with the number in w7, and control goes to L: 2 (no chunk has this handle); 8
+(the chunk's bytes are no array, or one whose elements can't be resized); 9 (the array has
+no such element, or no such place for one).
+Example: CADEL s0 w1 w2 x    (in examples/records.asm)
+
+CACOUNT sa wb wc L
+wb = the count of elements of the array wc.
+It is refused, with the number in w7, and control goes to L: 2 (no chunk has this handle); 8
+(the chunk's bytes are no array, or one whose elements can't be resized).
+Example: CACOUNT s0 w4 w1 added    (in examples/records.asm)
+
+CAELT sa pb wc wd n L
+pb = element wd of the array wc, of at least n bytes.
+It is refused, with the number in w7, and control goes to L: 2 (no chunk has this handle); 8
+(the chunk's bytes are no array, or one whose elements can't be resized); 9 (the array has
+no such element, or no such place for one); 3 (the chunk or element is shorter than
+requested).
+Example: CAELT s0 p0 w1 w4 2 place    (in examples/index.asm)
+
+CAZERO sa wb L
+deletes all elements of the array wb; their size stays. It moves the chunks of the block:
+pointers to them become stale.
+It is refused, with the number in w7, and control goes to L: 2 (no chunk has this handle); 8
+(the chunk's bytes are no array, or one whose elements can't be resized).
+Example: CAZERO s0 w1 cleared    (in examples/index.asm)
+
+CARESIZE sa wb wc wd L
+resizes element wc of the array wb to wd bytes. It moves the chunks of the block: pointers
+to them become stale.
+It is refused, with the number in w7, and control goes to L: 2 (no chunk has this handle); 8
+(the chunk's bytes are no array, or one whose elements can't be resized); 9 (the array has
+no such element, or no such place for one); 6 (the block would need more than 65,520 bytes,
+or the commit more than an area of the file); 4 (no room in the region).
+Example: CARESIZE s0 w1 w4 w6 unlock    (in examples/index.asm)
+
+VNEW sa wb wc L
+makes a marked block of the file with user ID wc, and locks it into sa; wb = its handle.
+It is refused, with the number in w7, and control goes to L: 15 (the user ID of groups,
+65,280, is given, or a group is given instead of a block); 5 (no handle is free); 4 (no room
+in the region).
+Example: VNEW s0 w3 w0 not_made    (in examples/accounts.asm)
+
+VLOCK sa wb L
+locks the file's block wb into sa.
+It is refused, with the number in w7, and control goes to L: 1 (no block has this handle, or
+the block is no group and a group is required); 15 (the user ID of groups, 65,280, is given,
+or a group is given instead of a block); 7 (the block is locked, or has 65,535 locks); 4 (no
+room in the region); 11 (the device failed).
+Example: VLOCK s0 w4 none    (in examples/accounts.asm)
+
+VDIRTY sa
+marks the block of sa.
+Example: VDIRTY s0    (in examples/accounts.asm)
+
+VUNLOCK sa
+unlocks the block of sa, and empties sa.
+Example: VUNLOCK s0    (in examples/accounts.asm)
+
+VFREE wa L
+frees the file's block wa; unmaps it.
+It is refused, with the number in w7, and control goes to L: 1 (no block has this handle, or
+the block is no group and a group is required); 15 (the user ID of groups, 65,280, is given,
+or a group is given instead of a block); 7 (the block is locked, or has 65,535 locks).
+Example: VFREE w3 not_made    (in examples/accounts.asm)
+
+VFIND wa wb wc L
+wa = the lowest handle above wb of a block with user ID wc, or 0.
+It is refused, with the number in w7, and control goes to L: 15 (the user ID of groups,
+65,280, is given, or a group is given instead of a block).
+Example: VFIND w3 w2 w0 not_made    (in examples/accounts.asm)
+
+VUID wa wb L
+wa = the user ID of the file's block or group wb.
+It is refused, with the number in w7, and control goes to L: 1 (no block has this handle, or
+the block is no group and a group is required).
+Example: VUID w3 w0 next_one    (in examples/accounts.asm)
+
+VGETMAP wa
+wa = the map block, or 0.
+Example: VGETMAP w0    (in examples/counter.asm)
+
+VSETMAP wa L
+the map block is wa; 0 for none.
+It is refused, with the number in w7, and control goes to L: 1 (no block has this handle, or
+the block is no group and a group is required); 15 (the user ID of groups, 65,280, is given,
+or a group is given instead of a block).
+Example: VSETMAP w0 undo    (in examples/counter.asm)
+
+VUPDATE L
+commits the current blocks as current, the saved ones as saved.
+It is refused, with the number in w7, and control goes to L: 12 (a commit failed late, so it
+is unknown what the device has; nothing more is written to it); 6 (the block would need more
+than 65,520 bytes, or the commit more than an area of the file); 13 (memory for writing the
+file was refused); 11 (the device failed).
+
+VSAVE L
+commits the current blocks as current and as saved.
+It is refused, with the number in w7, and control goes to L: 12 (a commit failed late, so it
+is unknown what the device has; nothing more is written to it); 6 (the block would need more
+than 65,520 bytes, or the commit more than an area of the file); 13 (memory for writing the
+file was refused); 11 (the device failed).
+Example: VSAVE not_saved    (in examples/accounts.asm)
+
+VREVERT L
+commits the saved blocks as current and as saved; they are the file's blocks again.
+It is refused, with the number in w7, and control goes to L: 12 (a commit failed late, so it
+is unknown what the device has; nothing more is written to it); 6 (the block would need more
+than 65,520 bytes, or the commit more than an area of the file); 13 (memory for writing the
+file was refused); 11 (the device failed).
+Example: VREVERT not_made    (in examples/accounts.asm)
+
+GNEW wa L
+wa = a new group, marked and not locked.
+It is refused, with the number in w7, and control goes to L: 5 (no handle is free); 4 (no
+room in the region).
+Example: GNEW w0 not_made    (in examples/notes.asm)
+
+GFREE wa L
+frees the group wa; unmaps a map item in it.
+It is refused, with the number in w7, and control goes to L: 1 (no block has this handle, or
+the block is no group and a group is required); 7 (the block is locked, or has 65,535
+locks).
+Example: GFREE w0 not_made    (in examples/notes.asm)
+
+INEW wa wb wc L
+wa = a new item of wc zero bytes in the group wb. It moves the items of the group: pointers
+to them become stale.
+It is refused, with the number in w7, and control goes to L: 1 (no block has this handle, or
+the block is no group and a group is required); 4 (no room in the region); 11 (the device
+failed); 6 (the block would need more than 65,520 bytes, or the commit more than an area of
+the file).
+Example: INEW w1 w0 w2 undo_open    (in examples/notes.asm)
+
+IFREE wa wb L
+frees the item wb of the group wa. It moves the items of the group: pointers to them become
+stale.
+It is refused, with the number in w7, and control goes to L: 1 (no block has this handle, or
+the block is no group and a group is required); 4 (no room in the region); 11 (the device
+failed); 2 (no chunk has this handle).
+Example: IFREE w2 w5 unlock    (in examples/notes.asm)
+
+IREALLOC wa wb wc L
+resizes the item wb of the group wa to wc bytes. It moves the items of the group: pointers
+to them become stale.
+It is refused, with the number in w7, and control goes to L: 1 (no block has this handle, or
+the block is no group and a group is required); 4 (no room in the region); 11 (the device
+failed); 2 (no chunk has this handle); 6 (the block would need more than 65,520 bytes, or
+the commit more than an area of the file).
+
+IINS wa wb wc wd L
+inserts wd zero bytes at wc of the item wb of the group wa. It moves the items of the group:
+pointers to them become stale.
+It is refused, with the number in w7, and control goes to L: 1 (no block has this handle, or
+the block is no group and a group is required); 4 (no room in the region); 11 (the device
+failed); 2 (no chunk has this handle); 14 (the offset or bytes lie past the end of the
+chunk, or of the pointer's bytes; or a map item other than 0 has no group); 6 (the block
+would need more than 65,520 bytes, or the commit more than an area of the file).
+Example: IINS w2 w3 w4 w6 undo    (in examples/notes.asm)
+
+IDEL wa wb wc wd L
+deletes the wd bytes at wc of the item wb of the group wa. It moves the items of the group:
+pointers to them become stale.
+It is refused, with the number in w7, and control goes to L: 1 (no block has this handle, or
+the block is no group and a group is required); 4 (no room in the region); 11 (the device
+failed); 2 (no chunk has this handle); 14 (the offset or bytes lie past the end of the
+chunk, or of the pointer's bytes; or a map item other than 0 has no group).
+Example: IDEL w1 w2 w3 w5 kept    (in examples/notes.asm)
+
+ILOCK sa pb wc wd n L
+locks the group wc into sa; pb = its item wd, of at least n bytes.
+It is refused, with the number in w7, and control goes to L: 1 (no block has this handle, or
+the block is no group and a group is required); 7 (the block is locked, or has 65,535
+locks); 4 (no room in the region); 11 (the device failed); 2 (no chunk has this handle); 3
+(the chunk or element is shorter than requested).
+Example: ILOCK s0 p0 w2 w3 0 not_added    (in examples/notes.asm)
+
+IDIRTY sa
+marks the group of sa.
+Example: IDIRTY s0    (in examples/notes.asm)
+
+IUNLOCK sa
+unlocks the group of sa, and empties sa.
+Example: IUNLOCK s0    (in examples/notes.asm)
+
+IGETMAP wa wb
+wa = the map item's group, then wb = the item; both 0 for none.
+Example: IGETMAP w0 w1    (in examples/notes.asm)
+
+ISETMAP wa wb L
+the map item is the item wb of the group wa, whether it exists or not; 0 and 0 for none.
+It is refused, with the number in w7, and control goes to L: 1 (no block has this handle, or
+the block is no group and a group is required); 14 (the offset or bytes lie past the end of
+the chunk, or of the pointer's bytes; or a map item other than 0 has no group).
+Example: ISETMAP w0 w1 undo_open    (in examples/notes.asm)";
+
+/// What is said of each rule of the verifier, each refusal, and each fault of a text.
+pub(crate) const OTHERS: &str = "\
+V1 LeavesRoutine
+Refused: a branch or the fall-through leaves the routine.
+Cure: end with RET or JMP; name only labels of the same routine.
+docs/VERIFIER.md has the rule, docs/ERRORS.md an example.
+
+V2 NamesEmptySlot
+Refused: a pointer of the row leads into an empty slot.
+Cure: lock a block into the slot first; name the slot of each pointer in `in` and `out`.
+docs/VERIFIER.md has the rule, docs/ERRORS.md an example.
+
+V3 EntryMisfit
+Refused: first pc: the entry row does not imply the row here; or the routine is public and
+its entry or exit row breaks the rules.
+Cure: in `in` and `out` of a public routine have no pointers, and only borrowed slots: `vm@`
+in `in` without `#`, and the same slots, marked or not, in `out`.
+docs/VERIFIER.md has the rule, docs/ERRORS.md an example.
+
+V4 StalePointer
+Refused: a pointer that is read, written, copied (by MOVP too) or measured is stale.
+Cure: fetch the pointer again, by DEREF or CAELT, after what may have moved it (an item
+call: in every group), and where paths meet. Tell slots apart by SNE. Add the pointer to the
+callee's `out`.
+docs/VERIFIER.md has the rule, docs/ERRORS.md an example.
+
+V5 PassesEnd
+Refused: a read or a write may pass the least length of its pointer.
+Cure: require more bytes in DEREF or CAELT; bound the index by CHK or AND; or use the tested
+form.
+docs/VERIFIER.md has the rule, docs/ERRORS.md an example.
+
+V6 ChangesUnmarked
+Refused: a slot with a VM block or DB group not known to be marked is written through a
+pointer, or its chunks are changed by an instruction that moves the chunks of the block.
+Cure: mark the block before the change, by VDIRTY, or a group by IDIRTY.
+docs/VERIFIER.md has the rule, docs/ERRORS.md an example.
+
+V7 LocksIntoHeld
+Refused: a block is locked into a slot that is not empty.
+Cure: unlock the slot first, or use another one.
+docs/VERIFIER.md has the rule, docs/ERRORS.md an example.
+
+V8 WrongSlot
+Refused: a slot is used, other than to lock into it, that is empty or has a block of the
+wrong kind; or a borrowed slot is unlocked. SNE requires two blocks of one kind.
+Cure: lock a block into the slot on each path; leave borrowed blocks to the caller.
+docs/VERIFIER.md has the rule, docs/ERRORS.md an example.
+
+V9 CommitsHeld
+Refused: VUPDATE, VSAVE or VREVERT while a slot has a VM block or a DB group.
+Cure: unlock all blocks of the VM file before it is written, by VUNLOCK and IUNLOCK.
+docs/VERIFIER.md has the rule, docs/ERRORS.md an example.
+
+V10 CallMisfit
+Refused: CALL of a routine that does not come before its own, or whose entry row the row
+does not imply.
+Cure: put the callee before the caller; lock, fetch, bound and tell apart what its `in`
+says; empty the slots that it locks itself.
+docs/VERIFIER.md has the rule, docs/ERRORS.md an example.
+
+V11 ExitMisfit
+Refused: RET if the row does not imply the exit row.
+Cure: on each path to RET unlock what `out` does not name, by the cleanup chain.
+docs/VERIFIER.md has the rule, docs/ERRORS.md an example.
+
+V12 EdgeMisfit
+Refused: the row after an instruction does not imply the row where the edge leads.
+Cure: remove the unreachable instruction.
+docs/VERIFIER.md has the rule, docs/ERRORS.md an example.
+
+V13 EdgeUnpaid
+Refused: an edge is not paid for.
+Cure: have a LOOP on each cycle; bound the word of SETKW; use another counter if a CALL
+touches it.
+docs/VERIFIER.md has the rule, docs/ERRORS.md an example.
+
+V14 OverBudget
+Refused: first pc: the potential's constant is above the budget, or a coefficient is above
+0.
+Cure: increase the budget; bound the word of SETKW; set the counter on each path to its
+loop.
+docs/VERIFIER.md has the rule, docs/ERRORS.md an example.
+
+refused 1 BadHandle
+No block has this handle, or the block is no group and a group is required.
+
+refused 2 BadChunk
+No chunk has this handle.
+
+refused 3 Short
+The chunk or element is shorter than requested.
+
+refused 4 NoRoom
+No room in the region.
+
+refused 5 NoHandle
+No handle is free.
+
+refused 6 TooBig
+The block would need more than 65,520 bytes, or the commit more than an area of the file.
+
+refused 7 Locked
+The block is locked, or has 65,535 locks.
+
+refused 8 BadArray
+The chunk's bytes are no array, or one whose elements can't be resized.
+
+refused 9 BadElement
+The array has no such element, or no such place for one.
+
+refused 10 Full
+The output is full.
+
+refused 11 Disk
+The device failed.
+
+refused 12 Unsure
+A commit failed late, so it is unknown what the device has; nothing more is written to it.
+
+refused 13 Memory
+Memory for writing the file was refused.
+
+refused 14 Range
+The offset or bytes lie past the end of the chunk, or of the pointer's bytes; or a map item
+other than 0 has no group.
+
+refused 15 Reserved
+The user ID of groups, 65,280, is given, or a group is given instead of a block.
+
+why 1 UnknownWord
+The first word after the labels is no instruction, and none of `routine`, `in`, `out`.
+
+why 2 WrongOperands
+Operands are too few or too many (then none is read), or one has another form, as `9x`,
+`-1`, `0x1`, `w8`, `w01` or `s1#s1`.
+
+why 3 OutOfRange
+A number exceeds its range: 15 for SHR, 4,294,967,295 for a budget, 65,535 for others.
+
+why 4 Undefined
+No label, or no routine, has the name.
+
+why 5 UsedTwice
+An earlier label, or routine, has the name.
+
+why 6 TooMany
+The 33rd routine, the 4,097th instruction; at line 1, a text that is too long.
+
+why 7 OutOfPlace
+`in` or `out` twice or elsewhere; an instruction before any routine; a routine without
+instruction, at its first line; a label before `routine`, `in`, `out` or the end of the
+text, at its line; a text without routine, at line 1.";
