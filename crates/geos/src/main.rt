@@ -6,8 +6,8 @@ ghost use Rattle.geos_shell.specs.Limits.{KeepsLimits};
 mod fault;
 mod requests;
 
-use geos_shell::{Answer, Asked, keep_stream_numbers, requested, words};
 use fault::RequestFault;
+use geos_shell::{Answer, Asked, keep_stream_numbers, requested, words};
 use requests::carry_out;
 use std::fmt::Display;
 use std::process::ExitCode;
