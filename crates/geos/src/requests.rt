@@ -6,12 +6,10 @@ use crate::fault::RequestFault;
 use geos_cli::Mode;
 use geos_dump::Detail;
 use geos_files::{draw_file, make_file, print_file};
-use geos_runs::{Manner, Traceable, call as run_call, get, put, run, session, trace};
+use geos_runs::{Manner, RunFault, Traceable, call as run_call, get, put, run, session, trace};
 use geos_scripts::NameUse;
 use geos_shell::{FileRequest, Request, RoutineRequest, TextRequest};
-use geos_texts::{
-    Runnable, assemble, budget, check, explain, explain_script, list, read_image, read_runnable,
-};
+use geos_texts::{Runnable, assemble, budget, check, explain, explain_script, list};
 
 /// What a script does after a refused command.
 fn mode_of(strict: bool) -> Mode {
@@ -30,6 +28,14 @@ fn use_of(names: bool) -> NameUse {
 /// How much of a VM file is printed.
 fn detail_of(chunks: bool) -> Detail {
     if chunks { Detail::Bytes } else { Detail::Lines }
+}
+
+/// What came of a run of these routines.
+fn ran<'a>(done: Result<(), RunFault<'a>>, routines: Runnable<'a>) -> Result<(), RequestFault<'a>> {
+    match done {
+        Ok(()) => Ok(()),
+        Err(fault) => Err(RequestFault::Ran(fault, routines)),
+    }
 }
 
 /// Runs routines as the request asks. Words are taken from left to right: the image is read, or assembled from a text, before the VM file
@@ -52,8 +58,9 @@ fn run_routines<'a>(rt: &HostRuntime, request: RoutineRequest<'a>) -> Result<(),
                 names: NameUse::Allowed,
                 form,
             };
-            let image = read_image(rt, image)?;
-            Ok(run_call(rt, &manner, &image, call, file, region)?)
+            let routines = Runnable::read(rt, image)?;
+            let done = run_call(rt, &manner, &routines.image, call, file, region);
+            ran(done, routines)
         }
         RoutineRequest::Trace {
             image,
@@ -61,13 +68,13 @@ fn run_routines<'a>(rt: &HostRuntime, request: RoutineRequest<'a>) -> Result<(),
             file,
             region,
         } => {
-            let Runnable { image, lines } = read_runnable(rt, image)?;
-            let lines = lines.as_ref().map(|lines| lines.as_slice());
+            let routines = Runnable::read(rt, image)?;
             let traceable = Traceable {
-                image: &image,
-                lines,
+                image: &routines.image,
+                lines: routines.lines(),
             };
-            Ok(trace(rt, &traceable, &words, file, region)?)
+            let done = trace(rt, &traceable, &words, file, region);
+            ran(done, routines)
         }
         RoutineRequest::Run {
             image,
@@ -83,8 +90,9 @@ fn run_routines<'a>(rt: &HostRuntime, request: RoutineRequest<'a>) -> Result<(),
                 names: use_of(names),
                 form,
             };
-            let image = read_image(rt, image)?;
-            Ok(run(rt, &manner, &image, file, script, region)?)
+            let routines = Runnable::read(rt, image)?;
+            let done = run(rt, &manner, &routines.image, file, script, region);
+            ran(done, routines)
         }
     }
 }

@@ -14,9 +14,9 @@ pub enum FileFault<'a> {
     /// The VM file was not made.
     #[error(transparent)]
     Create(CreateError),
-    /// The VM file was not opened.
-    #[error(transparent)]
-    Open(OpenError),
+    /// The VM file with the path was not opened.
+    #[error("{1}")]
+    Open(&'a str, OpenError),
     /// The VM file was not shown.
     #[error(transparent)]
     Dump(#[from] DumpError),

@@ -67,12 +67,16 @@ pub fn lock_to_read<'a>(rt: &HostRuntime, path: &'a str) -> Result<Locked<'a>, S
     wait_for(rt, Lockable::open(rt, path, Sharing::Shared)?)
 }
 
-/// Opens the VM file that a device holds. `FileFault::Open` if it holds none, or memory or the device fails.
-pub fn opened<'a>(rt: &HostRuntime, device: FileDevice) -> Result<VmFile<FileDevice>, FileFault<'a>>
+/// Opens the VM file with the path, which a device holds. `FileFault::Open` if it holds none, or memory or the device fails.
+pub fn opened<'a>(
+    rt: &HostRuntime,
+    path: &'a str,
+    device: FileDevice,
+) -> Result<VmFile<FileDevice>, FileFault<'a>>
     ensures { IfOk result (λ file. file.sure ≡ true) }
 {
     match VmFile::open(rt.alloc(), device) {
         Ok(file) => Ok(file),
-        Err((_device, error)) => Err(FileFault::Open(error)),
+        Err((_device, error)) => Err(FileFault::Open(path, error)),
     }
 }

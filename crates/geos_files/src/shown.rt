@@ -17,7 +17,7 @@ fn text_of_file<'a>(
         device,
         lock: _lock,
     } = lock_to_read(rt, path)?;
-    let mut file = opened(rt, device)?;
+    let mut file = opened(rt, path, device)?;
     Ok(dump(rt.alloc(), &mut file, detail)?)
 }
 
@@ -41,7 +41,7 @@ fn map_of_file<'a>(rt: &HostRuntime, path: &'a str, width: u32) -> Result<Vec<u8
     } = lock_to_read(rt, path)?;
     let areas = read_areas(&mut device);
     // If the areas were not read, it may be no VM file: that is reported first.
-    let mut file = opened(rt, device)?;
+    let mut file = opened(rt, path, device)?;
     let areas = areas.map_err(DumpError::from)?;
     Ok(map(rt.alloc(), &mut file, areas, width as u16)?)
 }

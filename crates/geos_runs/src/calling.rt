@@ -95,7 +95,7 @@ fn work_on_file<'a>(
         device,
         lock: _lock,
     } = wait_for(rt, file)?;
-    let file = opened(rt, device)?;
+    let file = opened(rt, path, device)?;
     let work = work?;
     work_in(rt, manner, image, &work, region, file)
 }

@@ -57,7 +57,7 @@ pub fn put<'a>(
         device,
         lock: _lock,
     } = wait_for(rt, file)?;
-    let file = opened(rt, device)?;
+    let file = opened(rt, chunk.file, device)?;
     let bytes = bytes?;
     put_in(rt, place_of(chunk), at, &bytes, region, file)
 }
@@ -93,7 +93,7 @@ fn bytes_of<'a>(
         device,
         lock: _lock,
     } = lock_to_read(rt, chunk.file)?;
-    let file = opened(rt, device)?;
+    let file = opened(rt, chunk.file, device)?;
     bytes_in(rt, place_of(chunk), region, file)
 }
 

@@ -51,13 +51,14 @@ pub fn run<'a>(
 ) -> Result<(), RunFault<'a>>
     requires { IsRegion region }
 {
-    let file = Lockable::open(rt, file, Sharing::Alone)?;
+    let path = file;
+    let file = Lockable::open(rt, path, Sharing::Alone)?;
     let script = read(rt, script, MOST_READ);
     let Locked {
         device,
         lock: _lock,
     } = wait_for(rt, file)?;
-    let file = opened(rt, device)?;
+    let file = opened(rt, path, device)?;
     let script = script?;
     run_in(rt, manner, image, &script, region, file)
 }

@@ -128,7 +128,7 @@ fn trace_on_file<'a>(
         device,
         lock: _lock,
     } = wait_for(rt, Lockable::open(rt, path, Sharing::Alone)?)?;
-    let file = opened(rt, device)?;
+    let file = opened(rt, path, device)?;
     match Kernel::new(rt.alloc(), region, file) {
         Ok(mut kernel) => trace_on(rt, words, traceable, &mut kernel),
         Err(_) => Err(RunFault::Session(ScriptFault::Memory)),

@@ -40,4 +40,4 @@ pub use request::{
     Asked, CallWords, ChunkPath, FileRequest, Request, RoutineRequest, TextRequest, TraceWords,
     requested,
 };
-pub use streams::{STANDARD, StreamFault, print, print_lines, read, tell_typist, write};
+pub use streams::{STANDARD, StreamFault, print, print_lines, read, tell, tell_typist, write};

@@ -117,6 +117,13 @@ pub fn print_lines<'a>(rt: &HostRuntime, text: &[u8]) -> Result<(), StreamFault<
     }
 }
 
+/// Appends lines to standard error, with control characters by their bytes. If that fails, the status alone tells.
+pub fn tell(rt: &HostRuntime, lines: &[u8]) {
+    if let Ok(shown) = for_terminal(rt.alloc(), lines) {
+        let _ = eprint!(rt; "{shown}");
+    }
+}
+
 /// What the system calls the file that a path names, also that of the standard input.
 pub(crate) fn name_of(path: &str) -> &str {
     if is_stream(path) { "/dev/stdin" } else { path }

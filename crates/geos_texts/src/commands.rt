@@ -9,6 +9,7 @@ ghost use Rattle.geos_texts.specs.Commands.{IsJudged, IsExplained, IsExplainedTe
 
 use geos_asm::{
     AssembleError, Assembled, Unassembled, assemble, assemble_all_rows, assemble_or_tell,
+    assemble_with_lines,
 };
 use geos_explain::{explain, explain_cause, explain_text};
 use geos_image::ReadError;
@@ -102,16 +103,47 @@ pub(crate) fn begins_as_image(bytes: &[u8]) -> bool
     bytes.starts_with(b"GRT1")
 }
 
-/// The bytes of the image that bytes are or that is made of them: themselves, where they begin as an image does, else those of the
-/// image of the text that they are. The faults are those of `geos_asm::assemble`.
-pub(crate) fn image_bytes(alloc: Global, bytes: Vec<u8>) -> Result<Vec<u8>, AssembleError>
-    ensures image { IfOk result (λ image. IsImageOf bytes.items image.items) }
-    ensures fault { IfErr result (IsWhyNoneOf bytes.items) }
+/// The bytes of an image, and of a text the line of each instruction.
+#[derive(Drop)]
+pub(crate) struct Made {
+    pub(crate) image: Vec<u8>,
+    pub(crate) lines: Option<Vec<u32>>,
+}
+
+/// A text without an image, and its fault of `geos_asm::assemble`.
+#[derive(Drop)]
+pub(crate) struct NotMade {
+    pub(crate) text: Vec<u8>,
+    pub(crate) fault: AssembleError,
+}
+
+/// The image of a text, as bytes, with the line of each instruction. Its faults are those of `geos_asm::assemble`.
+fn made_of_text(alloc: Global, text: &[u8]) -> Result<Made, AssembleError>
+    ensures image { IfOk result (λ made. IsAssembledAs text.now false made.image.items) }
+    ensures fault { IfErr result (IsWhyNoImage text.now) }
+{
+    let Assembled { image, lines } = assemble_with_lines(alloc, text)?;
+    Ok(Made {
+        image: geos_image::write(alloc, &image)?,
+        lines: Some(lines),
+    })
+}
+
+/// The image that bytes are, if they begin as an image does, and otherwise the image of the text that they are.
+pub(crate) fn image_of(alloc: Global, bytes: Vec<u8>) -> Result<Made, NotMade>
+    ensures image { IfOk result (λ made. IsImageOf bytes.items made.image.items) }
+    ensures fault { IfErr result (λ not_made. IsWhyNoneOf bytes.items not_made.fault) }
+    ensures text { IfErr result (λ not_made. not_made.text.items ≡ bytes.items) }
 {
     if begins_as_image(&bytes) {
-        Ok(bytes)
-    } else {
-        assemble_bytes(alloc, &bytes)
+        return Ok(Made {
+            image: bytes,
+            lines: None,
+        });
+    }
+    match made_of_text(alloc, &bytes) {
+        Ok(made) => Ok(made),
+        Err(fault) => Err(NotMade { text: bytes, fault }),
     }
 }
 

@@ -1,11 +1,47 @@
 //! Why a request on a text or an image was not carried out.
 
+use crate::diagnostics::of_text;
+use crate::runnable::Runnable;
 use geos_asm::{AssembleError, BudgetError};
 use geos_image::ReadError;
 use geos_input::ScriptFault;
-use geos_shell::StreamFault;
+use geos_shell::{Named, StreamFault};
 use geos_verify::Reject;
+use std::alloc::Global;
+use std::fmt::{self, Display, Formatter};
 use thiserror::Error;
+
+/// A text that is not assembled, and its fault.
+#[derive(Debug, Drop)]
+pub struct FaultyText<'a> {
+    /// The path that was read.
+    pub path: &'a str,
+    /// The text.
+    pub text: Vec<u8>,
+    /// Its fault.
+    pub fault: AssembleError,
+}
+
+impl Display for FaultyText<'_> {
+    fn fmt<W: fmt::Write>(&self, f: &mut Formatter<W>) -> fmt::Result {
+        self.fault.fmt(f)
+    }
+}
+
+/// An image that the verifier refuses, and its first refusal.
+#[derive(Debug, Drop)]
+pub struct Refused<'a> {
+    /// The image.
+    pub image: Runnable<'a>,
+    /// The first refusal.
+    pub reject: Reject,
+}
+
+impl Display for Refused<'_> {
+    fn fmt<W: fmt::Write>(&self, f: &mut Formatter<W>) -> fmt::Result {
+        self.reject.fmt(f)
+    }
+}
 
 /// Why a request on a text or an image was not carried out.
 #[derive(Debug, Drop, Error)]
@@ -17,8 +53,8 @@ pub enum TextFault<'a> {
     #[error(transparent)]
     Script(#[from] ScriptFault),
     /// A text is not assembled.
-    #[error(transparent)]
-    Assemble(#[from] AssembleError),
+    #[error("{0}")]
+    Assemble(FaultyText<'a>),
     /// A text has no budgets that are enough.
     #[error(transparent)]
     Budget(#[from] BudgetError),
@@ -28,7 +64,51 @@ pub enum TextFault<'a> {
     /// The bytes are no image.
     #[error(transparent)]
     Read(#[from] ReadError),
-    /// The verifier refuses the image.
+    /// The verifier refuses an image.
+    #[error("{0}")]
+    Refused(Refused<'a>),
+    /// A text that is not assembled, of which all is printed that there is to say.
     #[error(transparent)]
-    Reject(Reject),
+    Unexplained(AssembleError),
+    /// The verifier refuses an image that was explained.
+    #[error(transparent)]
+    Explained(Reject),
+}
+
+impl TextFault<'_> {
+    /// What more there is to say of the fault, as diagnostics: lines `FILE:LINE: error: ..`. Empty if there is no more, or no memory.
+    pub fn diagnostics(&self, alloc: Global) -> Vec<u8> {
+        match self {
+            TextFault::Assemble(faulty) => faulty.diagnostics(alloc),
+            TextFault::Refused(refused) => refused.image.told(alloc),
+            _ => Vec::new(alloc),
+        }
+    }
+}
+
+impl FaultyText<'_> {
+    fn diagnostics(&self, alloc: Global) -> Vec<u8> {
+        let path = Named(self.path);
+        let Ok(file) = format!(in alloc; "{path}") else {
+            return Vec::new(alloc);
+        };
+        match of_text(alloc, &file, &self.text) {
+            Ok(told) => told,
+            Err(_) => Vec::new(alloc),
+        }
+    }
+}
+
+impl Runnable<'_> {
+    /// Why the verifier refuses the image, as diagnostics. Empty if it refuses nothing, if the bytes encode no image, or if there is no memory.
+    pub fn told(&self, alloc: Global) -> Vec<u8> {
+        let path = Named(self.path);
+        let Ok(file) = format!(in alloc; "{path}") else {
+            return Vec::new(alloc);
+        };
+        match self.diagnostics(alloc, &file) {
+            Ok(told) => told,
+            Err(_) => Vec::new(alloc),
+        }
+    }
 }

@@ -4,10 +4,11 @@
 #![tactic(auto)]
 
 mod commands;
+mod diagnostics;
 mod fault;
 mod requests;
 mod runnable;
 
-pub use fault::TextFault;
+pub use fault::{FaultyText, Refused, TextFault};
 pub use requests::{assemble, budget, check, explain, explain_script, list};
-pub use runnable::{Runnable, read_image, read_runnable};
+pub use runnable::Runnable;

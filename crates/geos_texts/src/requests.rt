@@ -4,9 +4,9 @@ use crate::commands::{
     Explained, assemble_all_rows_bytes, assemble_bytes, begins_as_image, check_bytes,
     explain_bytes, explain_text_bytes, list_bytes,
 };
-use crate::fault::TextFault;
-use crate::runnable::read_image;
-use geos_asm::{AssembleError, with_least_budgets};
+use crate::fault::{FaultyText, Refused, TextFault};
+use crate::runnable::Runnable;
+use geos_asm::{AssembleError, BudgetError, with_least_budgets};
 use geos_input::{MOST_BYTES, ScriptFault};
 use geos_scripts::{BadLines, NameUse, tell_bad_lines};
 use geos_shell::{StreamFault, print, print_lines, read, write};
@@ -23,37 +23,47 @@ pub fn assemble<'a>(
     all_rows: bool,
 ) -> Result<(), TextFault<'a>> {
     let bytes = read(rt, text, MOST_READ)?;
-    let bytes = if all_rows {
-        match assemble_all_rows_bytes(rt.alloc(), &bytes)? {
-            Some(bytes) => bytes,
-            None => return Err(TextFault::TakesVersion2),
-        }
+    let made = if all_rows {
+        assemble_all_rows_bytes(rt.alloc(), &bytes)
     } else {
-        assemble_bytes(rt.alloc(), &bytes)?
+        assemble_bytes(rt.alloc(), &bytes).map(Some)
     };
-    Ok(write(rt, image, &bytes, text)?)
+    match made {
+        Ok(Some(made)) => Ok(write(rt, image, &made, text)?),
+        Ok(None) => Err(TextFault::TakesVersion2),
+        Err(fault) => Err(not_assembled(text, bytes, fault)),
+    }
+}
+
+/// The fault of a text that is not assembled.
+fn not_assembled<'a>(path: &'a str, text: Vec<u8>, fault: AssembleError) -> TextFault<'a> {
+    TextFault::Assemble(FaultyText { path, text, fault })
 }
 
 /// Writes a text with the least budget of each routine to the path `new`. `TextFault::Budget` if no budgets are enough.
 pub fn budget<'a>(rt: &HostRuntime, text: &'a str, new: &'a str) -> Result<(), TextFault<'a>> {
     let bytes = read(rt, text, MOST_READ)?;
-    let bytes = with_least_budgets(rt.alloc(), &bytes)?;
-    Ok(write(rt, new, &bytes, text)?)
+    match with_least_budgets(rt.alloc(), &bytes) {
+        Ok(made) => Ok(write(rt, new, &made, text)?),
+        Err(BudgetError::Assemble(fault)) => Err(not_assembled(text, bytes, fault)),
+        Err(fault) => Err(TextFault::Budget(fault)),
+    }
 }
 
-/// Prints the listing of an image. `TextFault::Read` if the bytes are no image.
+/// Prints the listing of an image, or of the image of a text. `TextFault::Read` if the bytes begin as an image does and are none.
 pub fn list<'a>(rt: &HostRuntime, path: &'a str) -> Result<(), TextFault<'a>> {
-    let bytes = read(rt, path, MOST_READ)?;
-    let text = list_bytes(rt.alloc(), &bytes)?;
+    let image = Runnable::read(rt, path)?.image;
+    let text = list_bytes(rt.alloc(), &image)?;
     Ok(print(rt, &text)?)
 }
 
-/// Prints `accepted` if the image may run. `TextFault::Reject` if the verifier refuses it, `TextFault::Read` if the bytes are no image.
+/// Prints `accepted` if the image, or the image of a text, may run. `TextFault::Refused` if the verifier refuses it, and `TextFault::Read` if
+/// the bytes begin as an image does and are none.
 pub fn check<'a>(rt: &HostRuntime, path: &'a str) -> Result<(), TextFault<'a>> {
-    let bytes = read(rt, path, MOST_READ)?;
-    match check_bytes(rt.alloc(), &bytes)? {
+    let image = Runnable::read(rt, path)?;
+    match check_bytes(rt.alloc(), &image.image)? {
         None => Ok(print(rt, b"accepted\n")?),
-        Some(reject) => Err(TextFault::Reject(reject)),
+        Some(reject) => Err(TextFault::Refused(Refused { image, reject })),
     }
 }
 
@@ -75,9 +85,9 @@ fn explained_text<'a>(rt: &HostRuntime, text: &[u8]) -> Result<Explained, TextFa
         Ok(Ok(explained)) => Ok(explained),
         Ok(Err(faulty)) => {
             print_why(rt, text, &faulty.told)?;
-            Err(TextFault::Assemble(faulty.fault))
+            Err(TextFault::Unexplained(faulty.fault))
         }
-        Err(_) => Err(TextFault::Assemble(AssembleError::Memory)),
+        Err(_) => Err(TextFault::Unexplained(AssembleError::Memory)),
     }
 }
 
@@ -90,14 +100,14 @@ fn explained<'a>(rt: &HostRuntime, bytes: &[u8]) -> Result<Explained, TextFault<
     }
 }
 
-/// Prints the listing of an image, or the lines of a text, with what is known at each instruction. After that, `TextFault::Reject` if the
-/// verifier refuses the image.
+/// Prints the listing of an image, or the lines of a text, with what is known at each instruction. After that, `TextFault::Explained` if
+/// the verifier refuses the image, and `TextFault::Unexplained` if the text is not assembled.
 pub fn explain<'a>(rt: &HostRuntime, path: &'a str) -> Result<(), TextFault<'a>> {
     let bytes = read(rt, path, MOST_READ)?;
     let explained = explained(rt, &bytes)?;
     print_lines(rt, &explained.text)?;
     match explained.reject {
-        Some(reject) => Err(TextFault::Reject(reject)),
+        Some(reject) => Err(TextFault::Explained(reject)),
         None => Ok(()),
     }
 }
@@ -110,7 +120,7 @@ pub fn explain_script<'a>(
     script: &'a str,
     names: NameUse,
 ) -> Result<(), TextFault<'a>> {
-    let image = read_image(rt, image)?;
+    let image = Runnable::read(rt, image)?.image;
     let script = read(rt, script, MOST_READ)?;
     let BadLines { told, first } = tell_bad_lines(rt.alloc(), &image, &script, names)?;
     print_lines(rt, &told)?;

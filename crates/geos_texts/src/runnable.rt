@@ -1,41 +1,54 @@
-//! What a path names is made an image, so that it can be run.
+//! What a path names is made an image, so that it can be checked and run.
 
-use crate::commands::{begins_as_image, image_bytes};
-use crate::fault::TextFault;
+use crate::commands::{Made, image_of};
+use crate::fault::{FaultyText, TextFault};
 use crate::requests::MOST_READ;
-use geos_asm::{Assembled, assemble_with_lines};
-use geos_input::ScriptFault;
+use geos_explain::diagnose;
+use geos_image::ReadError;
 use geos_shell::read;
+use geos_verify::{check, refused_places};
+use std::alloc::Global;
 
-/// The bytes of an image that a path names, or that is assembled from the text there. `TextFault::Stream` if the path cannot be read, and
-/// `TextFault::Assemble` if the text has no image.
-pub fn read_image<'a>(rt: &HostRuntime, path: &'a str) -> Result<Vec<u8>, TextFault<'a>> {
-    let bytes = read(rt, path, MOST_READ)?;
-    Ok(image_bytes(rt.alloc(), bytes)?)
-}
-
-/// An image, and of a text the line of each instruction.
-#[derive(Drop)]
-pub struct Runnable {
+/// An image that a path names, or that is made of the text there.
+#[derive(Debug, Drop)]
+pub struct Runnable<'a> {
+    /// The path.
+    pub path: &'a str,
     /// The bytes of the image.
     pub image: Vec<u8>,
-    /// For each pc the number of its line, counted from 1, if the image was made from a text.
+    /// For each pc the number of its line, counted from 1, if the image was made of a text.
     pub lines: Option<Vec<u32>>,
 }
 
-/// What a path names: an image, or a text, which is assembled. The faults are those of `read_image`.
-pub fn read_runnable<'a>(rt: &HostRuntime, path: &'a str) -> Result<Runnable, TextFault<'a>> {
-    let bytes = read(rt, path, MOST_READ)?;
-    if begins_as_image(&bytes) {
-        return Ok(Runnable {
-            image: bytes,
-            lines: None,
-        });
+impl<'a> Runnable<'a> {
+    /// Reads what a path names: an image, or a text, which is assembled. `TextFault::Stream` if the path cannot be read, and
+    /// `TextFault::Assemble` if the text has no image.
+    pub fn read(rt: &HostRuntime, path: &'a str) -> Result<Runnable<'a>, TextFault<'a>> {
+        let bytes = read(rt, path, MOST_READ)?;
+        match image_of(rt.alloc(), bytes) {
+            Ok(Made { image, lines }) => Ok(Runnable { path, image, lines }),
+            Err(not_made) => Err(TextFault::Assemble(FaultyText {
+                path,
+                text: not_made.text,
+                fault: not_made.fault,
+            })),
+        }
     }
-    let Assembled { image, lines } = assemble_with_lines(rt.alloc(), &bytes)?;
-    let image = geos_image::write(rt.alloc(), &image).map_err(|_| ScriptFault::Memory)?;
-    Ok(Runnable {
-        image,
-        lines: Some(lines),
-    })
+
+    /// The line of each instruction in the text; none of an image without a text.
+    pub fn lines(&self) -> Option<&[u32]> {
+        self.lines.as_ref().map(|lines| lines.as_slice())
+    }
+
+    /// Why the verifier refuses the image, as diagnostics. Empty if it refuses nothing. `file` is the path as it is written in them.
+    /// `ReadError::BadImage` if the bytes encode no image.
+    pub fn diagnostics(&self, alloc: Global, file: &str) -> Result<Vec<u8>, ReadError> {
+        match check(geos_image::read(alloc, &self.image)?) {
+            Ok(_checked) => Ok(Vec::new(alloc)),
+            Err((image, _reject)) => {
+                let lines = self.lines().unwrap_or(&[]);
+                Ok(diagnose(alloc, file, lines, &image, &refused_places(&image))?)
+            }
+        }
+    }
 }
