@@ -4,8 +4,9 @@ ghost use Rattle.std.specs.Prelude.{◌<◌, ◌≤◌, length};
 
 use crate::calls::first_calling_on;
 use geos_code::{Body, Known, body_of};
+use geos_counters::find_touching;
 use geos_image::{Image, Potential, Routine, Row};
-use geos_potentials::{Potentials, Search, find_touching};
+use geos_potentials::{Potentials, Search};
 use geos_rows::{KnownRows, find_rows};
 use geos_source::{parse, skeleton};
 use geos_verify::{Touched, calls};

@@ -22,8 +22,8 @@ use Rattle.geos_verify.specs.Potentials.{pays, pays_setting, pays_taking, pays_c
 use Rattle.geos_verify.specs.Rules.{returns, leaves_routine, names_empty_slot, entry_misfits, call_misfits, misfits_at, edge_misfits, unpaid_along, unpaid_branching, edge_unpaid, over_budget, tests, refusal}
 use Rattle.geos_verify.proofs.Places.{place-at}
 use Rattle.geos_verify.proofs.Passed.{Passed, none-refuses}
-use Rattle.geos_potentials.specs.Steps.{call_steps}
-use Rattle.geos_potentials.specs.Numbers.{zeros}
+use Rattle.geos_counters.specs.Steps.{call_steps}
+use Rattle.geos_counters.specs.Counters.{zeros}
 use Rattle.geos_infer.specs.Points.{potential_of}
 use Rattle.geos_verify.proofs.Pairwise.{both}
 use Rattle.geos_potentials.proofs.Asks.{zero-at, set-zero, called}

@@ -12,7 +12,7 @@ use Rattle.geos_image.specs.Parts.{Parts}
 use Rattle.geos_verify.specs.Lists.{zip2}
 use Rattle.geos_infer.specs.declared.counters.Counter.{Counter}
 use Rattle.geos_infer.specs.declared.counters.Counter.TheVariants.{Kept, Is, Unknown}
-use Rattle.geos_potentials.specs.Numbers.{zeros}
+use Rattle.geos_counters.specs.Counters.{zeros}
 use Rattle.geos_infer.specs.Turns.{counter_at, all_are, IsSo, AreSo, unless_changed, loop_after, counters_after}
 use Rattle.geos_infer.specs.Taken.{Counts}
 

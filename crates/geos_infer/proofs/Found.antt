@@ -21,9 +21,10 @@ use Rattle.geos_verify.proofs.Places.{item_at, place_bounds, places-length, give
 use Rattle.geos_code.specs.Known.{clean, row_of, known_at}
 use Rattle.geos_code.specs.Code.{Edge, IsPcOf, Forward, ForwardIn, SameCode, instrs_of, instr_of, edge_end, edge_row}
 use Rattle.geos_rows.specs.Solutions.{RowsHoldIn}
-use Rattle.geos_potentials.specs.Steps.{StepsHoldIn, call_steps}
+use Rattle.geos_counters.specs.Steps.{StepsHoldIn, call_steps}
 use Rattle.geos_rows.specs.Flow.{KnownAt, edge_number, Flowing, HaveFlowed}
-use Rattle.geos_potentials.specs.Numbers.{Numbers, zeros}
+use Rattle.geos_potentials.specs.Numbers.{Numbers}
+use Rattle.geos_counters.specs.Counters.{zeros}
 use Rattle.geos_potentials.specs.Count.{Counting, CountedIn, AreCounted}
 use Rattle.geos_infer.specs.Points.{potential_of, PointsOf, RoutinesOf}
 use Rattle.geos_potentials.specs.Accepted.{HasAccepted}

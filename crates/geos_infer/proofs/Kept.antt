@@ -2,8 +2,8 @@
 use Rattle.std.proofs.Common.{◌+◌, ℕ, Bool, List, [], ◌∷◌, Option, Some}
 use Rattle.geos_image.specs.Parts.{Parts}
 use Rattle.geos_infer.specs.Causes.{ComesRound, IsTrailBut, IsKeptBut}
-use Rattle.geos_potentials.specs.Idle.{IsKept}
-use Rattle.geos_potentials.specs.Trails.{IsTrail}
+use Rattle.geos_counters.specs.Idle.{IsKept}
+use Rattle.geos_counters.specs.Trails.{IsTrail}
 
 -- a way that comes to a place at its end alone is a way
 trail-any : (image : Parts) (r : ℕ) (counter but : Option ℕ) (from : ℕ) (branches : List Bool) (to : ℕ)

@@ -7,12 +7,12 @@ use Rattle.geos_image.specs.declared.row.Row.{Row}
 use Rattle.geos_image.specs.Parts.{Parts, start_of}
 use Rattle.geos_infer.specs.Ahead.{OnlyAhead, TakesAlong, NonePasses, GoesOn, IsLongestOver, IsLongestFrom}
 use Rattle.geos_infer.specs.Causes.{LoopsTo, ComesRound, NoOtherHolds}
-use Rattle.geos_potentials.specs.Idle.{IsKept}
+use Rattle.geos_counters.specs.Idle.{IsKept}
 use Rattle.geos_code.specs.Code.{IsPcOf}
-use Rattle.geos_potentials.specs.Numbers.{zeros}
-use Rattle.geos_potentials.specs.Steps.{most_steps, taken_at}
+use Rattle.geos_counters.specs.Counters.{zeros}
+use Rattle.geos_counters.specs.Steps.{most_steps, taken_at}
 use Rattle.geos_infer.specs.Taken.{Place, Takes}
-use Rattle.geos_potentials.specs.Trails.{IsTrail}
+use Rattle.geos_counters.specs.Trails.{IsTrail}
 use Rattle.geos_code.specs.Edges.{LeadsTo}
 use Rattle.geos_causes.specs.declared.back_way.BackWay.{BackWay}
 use Rattle.geos_causes.specs.declared.cause.Cause.TheVariants.{SlotsDiffer, NoLoop, SetWithin, SetAgain, TouchedWithin, TouchedBefore, NotSet, InTurn, InRing, StepsPass, WordUnbounded, NumberHigh, WordDear, NumberDear, GivenUp, StepsMayPass, NoSteps, Unfound, Unknown}

@@ -19,8 +19,8 @@ use Rattle.geos_infer.specs.declared.counters.Counter.TheVariants.{Kept, Is, Unk
 use Rattle.geos_infer.specs.declared.reach.Reach.{Reach}
 use Rattle.geos_code.specs.Code.{IsPcOf}
 use Rattle.geos_infer.specs.Turns.{counter_at, all_are, IsSo, AreSo, number_in, unless_changed, counters_after, Begin, begin_at, begin_from, ComesTo, AlwaysComesTo, GoOn, AreReached, IsTurn, AreTurns}
-use Rattle.geos_potentials.specs.Numbers.{zeros}
-use Rattle.geos_potentials.specs.Steps.{call_steps, most_steps, taken_at}
+use Rattle.geos_counters.specs.Counters.{zeros}
+use Rattle.geos_counters.specs.Steps.{call_steps, most_steps, taken_at}
 use Rattle.geos_infer.specs.Taken.{Place, Counts, Goes, Takes, StepsPassBy, word_at}
 use Rattle.geos_code.specs.Edges.{LeadsTo}
 use Rattle.geos_infer.proofs.Changes.{so-set, so-behind, kept-so, zeros-so, counts-to}

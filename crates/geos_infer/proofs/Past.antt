@@ -13,7 +13,7 @@ use Rattle.geos_verify.proofs.RowsFit.{fits-refl, fits-trans}
 use Rattle.geos_semantics.specs.Lists.{dot}
 use Rattle.geos_code.specs.Code.{IsPcOf, edge_row}
 use Rattle.geos_code.specs.Known.{row_of, known_at, clean}
-use Rattle.geos_potentials.specs.Numbers.{zeros}
+use Rattle.geos_counters.specs.Counters.{zeros}
 use Rattle.geos_rows.specs.Reached.{EdgeFits, FitWhereReached, AreAtMostAny}
 use Rattle.geos_rows.specs.Solutions.{RowsHoldIn}
 use Rattle.geos_infer.specs.Taken.{NoneIsAcceptedPast, StepsPass, WordsPass, word_at}

@@ -6,7 +6,7 @@ use Rattle.geos_rows.specs.Solutions.{NoRowsHoldIn}
 use Rattle.geos_rows.specs.Why.{AreApart, MeetAlike}
 use Rattle.geos_causes.specs.declared.apart.Apart.{Apart}
 use Rattle.geos_rows.proofs.Weakening.{never-apart}
-use Rattle.geos_potentials.specs.Steps.{NoStepsHoldIn}
+use Rattle.geos_counters.specs.Steps.{NoStepsHoldIn}
 use Rattle.geos_infer.specs.Findings.{IsUnpaid, IsObstacle, Stops}
 use Rattle.geos_infer.specs.Theorem.{NothingHoldsIn, HasReason}
 use Rattle.geos_infer.specs.declared.finding.Unpaid.{Unpaid}

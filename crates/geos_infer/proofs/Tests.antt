@@ -9,7 +9,7 @@ use Rattle.geos_verify.specs.Touched.{calls, touches}
 use Rattle.geos_verify.proofs.Places.{item_at, if_some}
 use Rattle.geos_code.specs.Code.{is_loop}
 use Rattle.geos_infer.specs.Causes.{loops_on}
-use Rattle.geos_potentials.specs.Idle.{calls_touching, PassesAt}
+use Rattle.geos_counters.specs.Idle.{calls_touching, PassesAt}
 use Rattle.geos_code.proofs.Back.{loop-only}
 
 module _ (image : Parts) (pc : ℕ) (i : Instr) (lt : pc < length image.points)

@@ -28,7 +28,7 @@ use Rattle.geos_verify.proofs.Places.{place_bounds, place_true, item_at, places-
 use Rattle.geos_verify.proofs.Leads.{leads-along, leads-branching, may_return, may_begin, begins-within}
 use Rattle.geos_code.specs.Code.{Edge, IsPcOf, ClosedIn, Entered, EnteredIn, SameCode, Forward, ForwardIn, instrs_of, edge_row}
 use Rattle.geos_rows.specs.Solutions.{RowsHoldIn}
-use Rattle.geos_potentials.specs.Steps.{StepsHoldIn, call_steps}
+use Rattle.geos_counters.specs.Steps.{StepsHoldIn, call_steps}
 use Rattle.geos_code.proofs.Bodies.{lies}
 use Rattle.geos_code.proofs.Ends.{code-length, code-place, place-code-at, same-edge, map-get, ends-at}
 use Rattle.geos_potentials.proofs.Asks.{called}

@@ -2,7 +2,7 @@
 use Rattle.std.specs.Prelude.{◌≡◌, ◌≤◌, ◌<◌, ◌+◌, ◌⊎◌, ℕ, Bool, List, [], ◌∷◌, slice_index}
 use Rattle.geos_image.specs.Parts.{Parts}
 use Rattle.geos_code.specs.Code.{IsPcOf, TargetAhead}
-use Rattle.geos_potentials.specs.Steps.{most_steps, taken_at}
+use Rattle.geos_counters.specs.Steps.{most_steps, taken_at}
 use Rattle.geos_code.specs.Edges.{LeadsTo}
 
 -- each edge of routine r to a target in it leads ahead

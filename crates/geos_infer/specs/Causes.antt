@@ -12,7 +12,7 @@ use Rattle.geos_rows.specs.Reached.{FitWhereReached}
 use Rattle.geos_potentials.specs.Accepted.{HasAccepted}
 use Rattle.geos_code.specs.Edges.{LeadsTo}
 use Rattle.geos_rows.specs.Why.{AreApart, MeetAlike}
-use Rattle.geos_potentials.specs.Trails.{IsTrail, LeadsKeeping}
+use Rattle.geos_counters.specs.Trails.{IsTrail, LeadsKeeping}
 use Rattle.geos_infer.specs.Taken as taken
 use Rattle.geos_infer.specs.Ahead.{MayPass, NonePasses}
 use Rattle.geos_causes.specs.declared.back_way.BackWay.{BackWay}
@@ -24,7 +24,7 @@ use Rattle.geos_causes.specs.declared.cause.ByWord.{ByWord}
 use Rattle.geos_causes.specs.declared.cause.ByNumber.{ByNumber}
 use Rattle.geos_causes.specs.declared.cause.Cause.{Cause}
 use Rattle.geos_causes.specs.declared.cause.Cause.TheVariants.{SlotsDiffer, NoLoop, SetWithin, SetAgain, TouchedWithin, TouchedBefore, NotSet, InTurn, InRing, StepsPass, WordUnbounded, NumberHigh, WordDear, NumberDear, GivenUp, StepsMayPass, NoSteps, Unfound, Unknown}
-use Rattle.geos_potentials.specs.Idle.{GoesRound, PassesAt, calls_touching, IsKept, IsUnset, IsNeverPaid}
+use Rattle.geos_counters.specs.Idle.{GoesRound, PassesAt, calls_touching, IsKept, IsUnset, IsNeverPaid}
 
 -- an instruction of routine r leads back within it by its target
 pub record LeadsBack (image : Parts) (r : ℕ) (back : BackWay) : Type 0 where

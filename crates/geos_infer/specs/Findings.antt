@@ -4,7 +4,7 @@ use Rattle.geos_image.specs.Parts.{Parts}
 use Rattle.geos_rows.specs.Reached.{FitWhereReached}
 use Rattle.geos_rows.specs.Why.{AreApart}
 use Rattle.geos_potentials.specs.Reasons.{IsReason}
-use Rattle.geos_potentials.specs.Steps.{NoStepsHoldIn}
+use Rattle.geos_counters.specs.Steps.{NoStepsHoldIn}
 use Rattle.geos_infer.specs.Theorem.{NoneIsAccepted, NothingHoldsIn}
 use Rattle.geos_infer.specs.declared.finding.Unpaid.{Unpaid}
 use Rattle.geos_infer.specs.declared.finding.Obstacle.{Obstacle}

@@ -9,9 +9,9 @@ use Rattle.geos_verify.specs.Rows.{bound}
 use Rattle.geos_verify.specs.Touched.{touches}
 use Rattle.geos_code.specs.Code.{IsPcOf}
 use Rattle.geos_code.specs.Known.{known_at}
-use Rattle.geos_potentials.specs.Numbers.{zeros}
+use Rattle.geos_counters.specs.Counters.{zeros}
 use Rattle.geos_rows.specs.Reached.{AreAtMostAny}
-use Rattle.geos_potentials.specs.Steps.{taken_at, most_steps}
+use Rattle.geos_counters.specs.Steps.{taken_at, most_steps}
 use Rattle.geos_potentials.specs.Accepted.{HasAccepted}
 use Rattle.geos_code.specs.Edges.{LeadsTo}
 

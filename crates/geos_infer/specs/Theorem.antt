@@ -9,7 +9,7 @@ use Rattle.geos_infer.specs.declared.error.InferError.TheVariants.{NoRows, Memor
 use Rattle.geos_code.specs.Code.{Forward, ForwardIn, SameCode}
 use Rattle.geos_rows.specs.Solutions.{RowsHoldIn}
 use Rattle.geos_potentials.specs.Reasons.{IsReason}
-use Rattle.geos_potentials.specs.Steps.{StepsHoldIn}
+use Rattle.geos_counters.specs.Steps.{StepsHoldIn}
 use Rattle.geos_potentials.specs.declared.reason.Reason.{Reason}
 use Rattle.geos_rows.specs.Reached.{AllHoldWhereReached, FitWhereReached}
 use Rattle.geos_rows.specs.Why.{MeetAlike}

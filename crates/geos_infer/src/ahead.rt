@@ -4,7 +4,7 @@ ghost use Rattle.std.specs.Prelude.{◌≡◌, ◌<◌, ◌≤◌, ℕ, true, fa
 ghost use Rattle.geos_infer.specs.Ahead.{OnlyAhead, MayPass, NonePasses, IsLongestOver, IsLongestFrom};
 
 use geos_code::{Body, edge_in};
-use geos_potentials::taken_at;
+use geos_counters::taken_at;
 use pc_tables::Table;
 use std::alloc::{AllocError, Global};
 

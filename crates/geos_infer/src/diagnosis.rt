@@ -3,8 +3,8 @@
 ghost use Rattle.std.specs.Prelude.{◌≡◌, ◌<◌, ◌≤◌, true, false, IfSome, IfNone, IfOk};
 ghost use Rattle.geos_infer.specs.Ahead.{OnlyAhead};
 ghost use Rattle.geos_infer.specs.Causes.{LeadsBack, SetsWithin, Holds, NoOtherHolds, NoneIsAcceptedFor, tells_of_slots};
-ghost use Rattle.geos_potentials.specs.Touching.{KnowsTouched};
-ghost use Rattle.geos_potentials.specs.Idle.{IsNeverPaid};
+ghost use Rattle.geos_counters.specs.Touching.{KnowsTouched};
+ghost use Rattle.geos_counters.specs.Idle.{IsNeverPaid};
 ghost use Rattle.geos_code.specs.Code.{TargetAhead};
 ghost use Rattle.geos_potentials.specs.Constants.{HasLoops};
 ghost use Rattle.geos_potentials.specs.Halts.{IsInTheWay};
@@ -30,10 +30,9 @@ use crate::within::{find_set_again, find_set_within};
 use control_graph::Piece;
 use geos_causes::{BackWay, Cause, Within};
 use geos_code::{Body, Known, body_of, edge_in};
+use geos_counters::{Touching, find_touching};
 use geos_image::Image;
-use geos_potentials::{
-    Halt, Halted, Lack, Reason, Search, Touching, find_touching, some_always_may_pay,
-};
+use geos_potentials::{Halt, Halted, Lack, Reason, Search, some_always_may_pay};
 use geos_rows::Strongest;
 use pc_tables::Table;
 use std::alloc::{AllocError, Global};

@@ -1,8 +1,8 @@
 //! Ways round on which no LOOP may pay: why one of them may not.
 
 ghost use Rattle.std.specs.Prelude.{◌≡◌, ◌<◌, true, IfSome, IfOk};
-ghost use Rattle.geos_potentials.specs.Idle.{IsNeverPaid};
-ghost use Rattle.geos_potentials.specs.Touching.{KnowsTouched};
+ghost use Rattle.geos_counters.specs.Idle.{IsNeverPaid};
+ghost use Rattle.geos_counters.specs.Touching.{KnowsTouched};
 ghost use Rattle.geos_infer.specs.Causes.{TakesUnset, Holds};
 ghost use Rattle.geos_infer.specs.Tells.{IsOfLoop, tells_of_ways};
 
@@ -11,7 +11,8 @@ use crate::within::{comes_round, find_touched_before, find_touched_within, loop_
 use control_graph::{Graph, Piece};
 use geos_causes::{Cause, LoopOn};
 use geos_code::{Body, Known};
-use geos_potentials::{Search, Touching};
+use geos_counters::Touching;
+use geos_potentials::Search;
 use std::alloc::{AllocError, Global};
 
 /// The LOOP at a pc, if control goes round by it, and on a way to it nothing sets its counter.

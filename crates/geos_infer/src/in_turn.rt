@@ -2,7 +2,7 @@
 //! other; or a loop that waits on itself.
 
 ghost use Rattle.std.specs.Prelude.{◌≡◌, ◌<◌, true, Some, IfSome, slice_index_or};
-ghost use Rattle.geos_potentials.specs.Touching.{KnowsTouched};
+ghost use Rattle.geos_counters.specs.Touching.{KnowsTouched};
 ghost use Rattle.geos_infer.specs.Causes.{WaitInTurn, SetsFor, SetsWithin};
 ghost use Rattle.geos_infer.specs.Noted.{PaysInSuch, WasPaidAgain, IsTightAt};
 ghost use Rattle.control_graph.specs.declared.jumps.Jump.TheVariants.{Plain, Pays};
@@ -12,8 +12,9 @@ use crate::within::{comes_round, find_set_within, kept_from, loop_at, note_set, 
 use control_graph::{Graph, Jump, Piece};
 use geos_causes::{BackWay, LoopPair, Within};
 use geos_code::Body;
+use geos_counters::Touching;
 use geos_image::MOST_INSTRS;
-use geos_potentials::{Splitting, Touching};
+use geos_potentials::Splitting;
 
 /// How many pairs of LOOPs are looked at.
 const PAIRS: u16 = 256;

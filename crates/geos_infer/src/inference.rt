@@ -9,7 +9,7 @@ ghost use Rattle.geos_potentials.specs.Numbers.{numbers_of};
 ghost use Rattle.geos_infer.specs.Points.{PointsOf, RoutinesOf};
 ghost use Rattle.geos_rows.specs.Flow.{HaveFlowed};
 ghost use Rattle.geos_rows.specs.Reached.{AllHoldWhereReached, FitWhereReached, KeptRowsHold, RowsThatHoldPass};
-ghost use Rattle.geos_potentials.specs.Steps.{NoStepsHoldIn};
+ghost use Rattle.geos_counters.specs.Steps.{NoStepsHoldIn};
 ghost use Rattle.geos_infer.specs.Theorem.{FindsWhatThereIs, NoneIsAccepted, NothingHoldsIn, NamesRoutine, HasReason, IsInferred};
 ghost use Rattle.geos_infer.specs.Findings.{IsWhyNone};
 ghost use Rattle.geos_rows.specs.Why.{MeetAlike};

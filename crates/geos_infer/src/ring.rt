@@ -1,7 +1,7 @@
 //! Loops that wait on each other in a ring: each sets the counter of the next.
 
 ghost use Rattle.std.specs.Prelude.{◌≡◌, ◌<◌, true, List, IfSome};
-ghost use Rattle.geos_potentials.specs.Touching.{KnowsTouched};
+ghost use Rattle.geos_counters.specs.Touching.{KnowsTouched};
 ghost use Rattle.geos_infer.specs.Causes.{LoopsTo, SetsFor, WaitOn, WaitInRing};
 ghost use Rattle.geos_causes.specs.declared.back_way.BackWay.{BackWay};
 
@@ -11,8 +11,9 @@ use crate::within::{loop_at, note_set};
 use control_graph::Graph;
 use geos_causes::{BackWay, LoopRing};
 use geos_code::Body;
+use geos_counters::Touching;
 use geos_image::MOST_INSTRS;
-use geos_potentials::{Nest, Splitting, Touching};
+use geos_potentials::{Nest, Splitting};
 
 /// How many loops are followed: so many that one comes round, on a small ring, to the loop with which one began.
 const LOOPS: u16 = 60;

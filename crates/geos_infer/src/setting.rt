@@ -2,9 +2,9 @@
 
 ghost use Rattle.std.specs.Prelude.{◌≡◌, ◌<◌, ◌≤◌, ◌-◌, ◌*◌, true, IfSome, IfOk};
 ghost use Rattle.geos_infer.specs.Noted.{loops_in};
-ghost use Rattle.geos_potentials.specs.Touching.{KnowsTouched};
+ghost use Rattle.geos_counters.specs.Touching.{KnowsTouched};
 ghost use Rattle.geos_infer.specs.Causes.{LoopsTo, PaysForLoop, IsAtMost, Holds};
-ghost use Rattle.geos_potentials.specs.Idle.{IsKept};
+ghost use Rattle.geos_counters.specs.Idle.{IsKept};
 ghost use Rattle.geos_rows.specs.Reached.{FitWhereReached, AreAtMostAny};
 ghost use Rattle.geos_infer.specs.Taken.{WordsPass};
 ghost use Rattle.geos_infer.specs.Tells.{tells_of_setting};
@@ -15,8 +15,9 @@ use crate::within::{comes_round, is_kept, loop_at};
 use control_graph::{Graph, Jump};
 use geos_causes::{BackWay, ByNumber, ByWord, Cause};
 use geos_code::{Body, Known, bound_of, is_loop, row_of};
+use geos_counters::Touching;
 use geos_image::Opcode;
-use geos_potentials::{Search, Splitting, Touching, find_dearest};
+use geos_potentials::{Search, Splitting, find_dearest};
 use geos_rows::Strongest;
 use std::alloc::{AllocError, Global};
 

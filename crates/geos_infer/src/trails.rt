@@ -2,14 +2,14 @@
 
 ghost use Rattle.std.specs.Prelude.{◌≡◌, ◌≢◌, ◌<◌, true, false, Some, List, Bool, IfSome};
 ghost use Rattle.geos_image.specs.Parts.{Parts};
-ghost use Rattle.geos_potentials.specs.Touching.{KnowsTouched, NotesAllTouched};
+ghost use Rattle.geos_counters.specs.Touching.{KnowsTouched, NotesAllTouched};
 ghost use Rattle.geos_infer.specs.Causes.{IsTrailBut};
-ghost use Rattle.geos_potentials.specs.Trails.{LeadsKeeping, keeps};
+ghost use Rattle.geos_counters.specs.Trails.{LeadsKeeping, keeps};
 
 use control_graph::{Graph, Pile};
 use geos_code::{Body, edge_in};
+use geos_counters::{Touching, touches};
 use geos_image::{Instr, MOST_INSTRS, Opcode};
-use geos_potentials::{Touching, touches};
 use geos_verify::Touched;
 use pc_tables::{Table, two_tables};
 use std::alloc::{AllocError, Global};
@@ -95,7 +95,7 @@ fn is_at(given: Option<u16>, pc: u16) -> bool
 impl Trails {
     ghost use Rattle.std.specs.Prelude.{◌≡◌, ◌≢◌, ◌<◌, ◌≤◌, ℕ, true, false, None, Some, List, Bool, IfOk, IfSome};
     ghost use Rattle.control_graph.specs.Arcs.{arc_at};
-    ghost use Rattle.geos_potentials.specs.Touching.{KnowsTouched};
+    ghost use Rattle.geos_counters.specs.Touching.{KnowsTouched};
     ghost use Rattle.control_graph.specs.Waits.{Waits};
     ghost use Rattle.control_graph.specs.declared.arcs.Arc.{Arc};
     ghost use Rattle.geos_infer.specs.Causes.{IsTrailBut};

@@ -10,7 +10,7 @@ use crate::counters::{
 };
 use crate::reach::{Reach, Reached, note};
 use geos_code::{Body, Known, Lead, edge_in, is_loop};
-use geos_potentials::{taken_at, touched_by};
+use geos_counters::{taken_at, touched_by};
 use geos_verify::Touched;
 use pc_tables::two_tables;
 use std::alloc::{AllocError, Global};

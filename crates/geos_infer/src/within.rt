@@ -5,17 +5,17 @@ ghost use Rattle.geos_infer.specs.Noted.{comes_to, SetsIn, StayTrails};
 ghost use Rattle.control_graph.specs.Arcs.{arc_at, forgets};
 ghost use Rattle.control_graph.specs.Orders.{HasPlace, StandsAt};
 ghost use Rattle.control_graph.specs.declared.arcs.Arc.{Arc};
-ghost use Rattle.geos_potentials.specs.Touching.{KnowsTouched};
+ghost use Rattle.geos_counters.specs.Touching.{KnowsTouched};
 ghost use Rattle.geos_infer.specs.Causes.{LoopsTo, ComesRound, IsKeptBut, ComesBut, sets_counter, SetsWithin, SetsInTurn, TouchesWithin, TouchesBefore};
-ghost use Rattle.geos_potentials.specs.Idle.{IsKept, PassesAt, calls_touching};
+ghost use Rattle.geos_counters.specs.Idle.{IsKept, PassesAt, calls_touching};
 ghost use Rattle.geos_code.specs.Code.{IsPcOf};
 
 use crate::trails::{Came, Trails};
 use control_graph::{Graph, Order, Piece};
 use geos_causes::{BackWay, Within};
 use geos_code::{Body, edge_in, is_loop};
+use geos_counters::{Touching, touches};
 use geos_image::{Instr, Opcode};
-use geos_potentials::{Touching, touches};
 
 /// The way of the LOOP at a pc to its target, and its counter.
 pub(crate) fn loop_at(body: &Body, from: u16) -> Option<(BackWay, u8)>

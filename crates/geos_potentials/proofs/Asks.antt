@@ -7,7 +7,6 @@ use Rattle.geos_image.specs.declared.instr.Instr.{Instr}
 use Rattle.geos_image.specs.declared.row.Row.{Row}
 use Rattle.geos_image.specs.declared.potential.Potential.{Potential}
 use Rattle.geos_image.specs.declared.point.Point.{Point}
-use Rattle.geos_image.specs.declared.routine.Routine.{Routine}
 use Rattle.geos_image.specs.Parts.{Parts}
 use Rattle.geos_verify.specs.declared.asked.Asked.{Asked}
 use Rattle.geos_verify.specs.Lists.{zip2}
@@ -18,9 +17,10 @@ use Rattle.geos_verify.specs.Potentials.{asks, asks_setting, asked_along, asked_
 use Rattle.geos_verify.proofs.Places.{item_at, if_some}
 use Rattle.geos_code.specs.declared.edges.Lead.{Lead}
 use Rattle.geos_code.specs.Edges.{leads_ahead, edge_ahead}
-use Rattle.geos_potentials.specs.Numbers.{Numbers, zeros}
+use Rattle.geos_potentials.specs.Numbers.{Numbers}
+use Rattle.geos_counters.specs.Counters.{zeros}
 use Rattle.geos_potentials.specs.Count.{edge_steps, return_steps, steps_at, ZerosFrom, asked_steps, asked_coefficients, AsksFor, HasSteps}
-use Rattle.geos_potentials.specs.Steps.{call_steps, most_steps, taken_at}
+use Rattle.geos_counters.specs.Steps.{call_steps, most_steps}
 use Rattle.geos_code.proofs.Back.{none-ahead, read-ahead}
 
 -- Where no counter counts behind an edge, it asks for steps alone
@@ -105,35 +105,6 @@ module _ (image : Parts) (limit pc : ℕ) (branch : Bool) (lt : pc < length imag
           → AsksFor (q.constant + 1 + call_steps image i) (Some (if b then asked_branching i i.opcode q else asked_along image i i.opcode row q))
       by_branch true has free = asks-branching image i i.opcode q has free
       by_branch false has free = asks-along image i i.opcode row q free
-
-no-call : (opcode : Opcode) → (opcode ≡ Call → ⊥) → calls opcode ≡ false
-no-call Call other = absurd (other refl)
-no-call _ other = refl
-
--- What is read at a pc
-
-module _ (image : Parts) (pc : ℕ) (i : Instr) (lt : pc < length image.points)
-    (there : IfSome (slice_get image.points pc) (λ point. i ≡ point.instr)) where
-  -- it takes a step, and what a call takes beside it
-  taken-is : (steps : ℕ) → steps ≡ 1 + call_steps image i → steps ≡ taken_at image pc
-  taken-is steps is =
-      let found = item_at image.points pc lt in
-      let same : i ≡ found.0.instr = if_some (λ point. i ≡ point.instr) (slice_get image.points pc) found.0 found.1 there in
-      let at : taken_at image pc ≡ 1 + call_steps image found.0.instr =
-      ap (λ (o : Option Point). elim o [ None ↦ 0 | Some point ↦ 1 + call_steps image point.instr ]) found.1 in
-      is ∙ ap (λ (x : Instr). 1 + call_steps image x) same ∙ sym at
-
-  pub taken-call : (routine : Routine) → i.opcode ≡ Call → slice_get image.routines i.imm ≡ Some routine → 1 + routine.budget ≡ taken_at image pc
-  taken-call routine is read =
-      let calls_it : calls i.opcode ≡ true = ap calls is in
-      let budget : budget_of image i.imm ≡ routine.budget = ap (λ (o : Option Routine). elim o [ None ↦ 0 | Some x ↦ x.budget ]) read in
-      let steps : call_steps image i ≡ routine.budget = rw calls_it budget in
-      taken-is (1 + routine.budget) (ap (λ (n : ℕ). 1 + n) (sym steps))
-
-  pub taken-else : (i.opcode ≡ Call → ⊥) → 1 ≡ taken_at image pc
-  taken-else other =
-      let steps : call_steps image i ≡ 0 = rw (no-call i.opcode other) refl in
-      taken-is 1 (ap (λ (n : ℕ). 1 + n) (sym steps))
 
 -- Both edges of an instruction
 

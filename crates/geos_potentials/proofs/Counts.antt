@@ -12,9 +12,10 @@ use Rattle.geos_verify.specs.Rules.{returns}
 use Rattle.geos_verify.proofs.Places.{item_at, if_some}
 use Rattle.geos_verify.specs.Rows.{has_edge}
 use Rattle.geos_code.specs.Code.{Edge, IsPcOf, ForwardIn, instrs_of, edge_end}
-use Rattle.geos_potentials.specs.Steps.{StepsHoldIn, call_steps, most_steps}
+use Rattle.geos_counters.specs.Steps.{StepsHoldIn, call_steps, most_steps}
 use Rattle.geos_code.specs.Edges.{leads_ahead}
-use Rattle.geos_potentials.specs.Numbers.{Numbers, zeros}
+use Rattle.geos_potentials.specs.Numbers.{Numbers}
+use Rattle.geos_counters.specs.Counters.{zeros}
 use Rattle.geos_potentials.specs.Count.{edge_steps, return_steps, steps_at, Counting, ZerosFrom, HasSteps, Counted, CountedIn, StaysFrom, CountsOn, AreCounted}
 use Rattle.geos_verify.proofs.Pairwise.{both}
 use Rattle.geos_code.proofs.Ends.{code-at, code-length}

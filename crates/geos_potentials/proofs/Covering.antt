@@ -29,7 +29,8 @@ use Rattle.control_graph.specs.declared.jumps.Jump.TheVariants.{Plain}
 use Rattle.geos_potentials.specs.declared.lengths.Link.{Link}
 use Rattle.geos_potentials.specs.declared.lengths.Way.{Way}
 use Rattle.control_graph.specs.Arcs.{arc_at, keeps, taken_from}
-use Rattle.geos_potentials.specs.Arcs.{unit_at, price_of, paid_by, touched_by, counting_of, IsLink, IsArc, IsArcIf, AreArcs, NoArcsOutside}
+use Rattle.geos_potentials.specs.Arcs.{unit_at, price_of, paid_by, counting_of, IsLink, IsArc, IsArcIf, AreArcs, NoArcsOutside}
+use Rattle.geos_counters.specs.Counters.{touched_by}
 use Rattle.geos_potentials.specs.Carried.{AreSpread}
 use Rattle.geos_potentials.specs.Constants.{asked_over, PaysSteps, ConstantsPay, row_known, coefficients_at, potential_in, ArePaidIn}
 use Rattle.geos_potentials.specs.Least.{is_free, steps_at, link_at, Covers, IsLookedAt, ArePut}
@@ -37,7 +38,7 @@ use Rattle.control_graph.specs.Led.{AreLed}
 use Rattle.geos_potentials.specs.Numbers.{Numbers}
 use Rattle.geos_potentials.specs.Paid.{HavePaid, HaveFour}
 use Rattle.geos_potentials.specs.Spent.{spent_at, AreFree, AreNotedSet, LoopsSpent}
-use Rattle.geos_potentials.specs.Steps.{call_steps, taken_at}
+use Rattle.geos_counters.specs.Steps.{call_steps, taken_at}
 use Rattle.geos_potentials.specs.Untouched.{AreSpentIn}
 use Rattle.geos_potentials.specs.Within.{PassesBack, HoldsAtLoops, ExceedWithin}
 use Rattle.geos_potentials.proofs.Asks.{called}

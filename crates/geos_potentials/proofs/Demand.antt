@@ -18,7 +18,7 @@ use Rattle.geos_potentials.specs.Arcs.{unit_at, counting_of, IsArc, IsArcIf, Are
 use Rattle.geos_code.specs.Code.{IsPcOf}
 use Rattle.geos_potentials.specs.Constants.{asks_coefficient, IsAskingWay, AreForLoops, coefficients_at}
 use Rattle.geos_code.specs.Known.{row_of, known_at}
-use Rattle.geos_potentials.specs.Numbers.{zeros}
+use Rattle.geos_counters.specs.Counters.{zeros}
 use Rattle.geos_potentials.proofs.Asks.{zero-at}
 use Rattle.geos_potentials.specs.Demands.{kept_over, AreRaised, IsKeptOver, IsWanted, AreWanted, StayWanted}
 

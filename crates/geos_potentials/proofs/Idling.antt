@@ -18,16 +18,17 @@ use Rattle.geos_potentials.specs.declared.classes.Classes.{Classes}
 use Rattle.control_graph.specs.declared.pieces.Order.{Order}
 use Rattle.control_graph.specs.declared.pieces.Piece.{Piece}
 use Rattle.control_graph.specs.Arcs.{arc_at, keeps, forgets, taken_from}
-use Rattle.geos_potentials.specs.Arcs.{unit_at, counting_of, touched_by, AreArcs}
+use Rattle.geos_potentials.specs.Arcs.{unit_at, counting_of, AreArcs}
+use Rattle.geos_counters.specs.Counters.{touched_by}
 use Rattle.geos_code.specs.Code.{is_loop, IsPcOf}
-use Rattle.geos_potentials.specs.Idle.{calls_touching, MayNotPay, LeadsIdle, IsIdleWay, IsIdleWayBy, IsNeverPaid, IsNeverPaidBy}
-use Rattle.geos_potentials.specs.Touching.{NotesTouched}
+use Rattle.geos_counters.specs.Idle.{calls_touching, MayNotPay, LeadsIdle, IsIdleWay, IsIdleWayBy, IsNeverPaid, IsNeverPaidBy}
+use Rattle.geos_counters.specs.Touching.{NotesTouched}
 use Rattle.geos_potentials.specs.Demands.{IsKeptOver}
 use Rattle.geos_code.specs.Known.{row_of, known_at}
 use Rattle.geos_potentials.specs.Spreads.{ComeBehind, ComeFrom, ForgetsIt}
 use Rattle.control_graph.specs.Orders.{HasPlace}
 use Rattle.geos_potentials.specs.Stuck.{NotesIdle, LeadsNotedIdle, IsNotedIdleWay, GoesRoundIdle}
-use Rattle.geos_potentials.specs.Trails.{IsTrail, LeadsKeeping, keeps_counter}
+use Rattle.geos_counters.specs.Trails.{IsTrail, LeadsKeeping, keeps_counter}
 use Rattle.geos_code.specs.Edges.{LeadsTo}
 use Rattle.geos_potentials.proofs.Demand.{is-arc}
 

@@ -1,6 +1,5 @@
 pub mod Counts
 pub mod Asks
-pub mod Noting
 pub mod Costs
 pub mod Priced
 pub mod Rising

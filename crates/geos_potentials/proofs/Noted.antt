@@ -21,15 +21,16 @@ use Rattle.geos_potentials.specs.declared.classes.Classes.{Classes}
 use Rattle.control_graph.specs.declared.pieces.Order.{Order}
 use Rattle.control_graph.specs.declared.pieces.Piece.{Piece}
 use Rattle.control_graph.specs.Arcs.{arc_at, keeps, forgets, taken_from}
-use Rattle.geos_potentials.specs.Arcs.{unit_at, counting_of, touched_by, IsArcIf, IsArc, AreArcs}
+use Rattle.geos_potentials.specs.Arcs.{unit_at, counting_of, IsArcIf, IsArc, AreArcs}
+use Rattle.geos_counters.specs.Counters.{touched_by}
 use Rattle.geos_potentials.specs.Carried.{AreSpread}
-use Rattle.geos_potentials.specs.Idle.{MayNotPay, LeadsIdle, IsIdleWay, IsNeverPaid}
+use Rattle.geos_counters.specs.Idle.{MayNotPay, LeadsIdle, IsIdleWay, IsNeverPaid}
 use Rattle.geos_potentials.specs.Making.{AreInside}
 use Rattle.geos_potentials.specs.Ranks.{noted_idle}
 use Rattle.geos_potentials.specs.Spreads.{AllStandAt}
 use Rattle.geos_potentials.specs.Stuck.{LeadsNotedIdle, IsNotedIdleWay, GoesRoundIdle}
-use Rattle.geos_potentials.specs.Touching.{NotesTouched, NotesAllTouched}
-use Rattle.geos_potentials.specs.Trails.{IsTrail, keeps_counter}
+use Rattle.geos_counters.specs.Touching.{NotesTouched, NotesAllTouched}
+use Rattle.geos_counters.specs.Trails.{IsTrail, keeps_counter}
 use Rattle.geos_potentials.specs.Untouched.{AreNotedBehind}
 use Rattle.geos_potentials.proofs.Idling.{noted-by}
 use Rattle.geos_potentials.proofs.Untouched.{call-forgets}

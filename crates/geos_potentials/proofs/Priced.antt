@@ -24,7 +24,7 @@ use Rattle.geos_potentials.specs.Least.{SomePasses, steps_at, link_at, PaysLink,
 use Rattle.geos_potentials.specs.Halts.{NonePayWith}
 use Rattle.geos_potentials.specs.Numbers.{Numbers, numbers_of, steps_of, coefficients_of}
 use Rattle.geos_potentials.proofs.Numbered.{numbers-set}
-use Rattle.geos_potentials.specs.Steps.{call_steps, taken_at}
+use Rattle.geos_counters.specs.Steps.{call_steps, taken_at}
 use Rattle.control_graph.specs.declared.arcs.Arc.{Arc}
 use Rattle.control_graph.specs.declared.jumps.Jump.{Jump}
 use Rattle.geos_potentials.specs.declared.lengths.Link.{Link}

@@ -5,9 +5,9 @@ use Rattle.std.proofs.lemmas.Bool.{cases_eq, cases_lt}
 use Rattle.std.proofs.lemmas.List.{get_or-set_same, get_or-set_other, set_past}
 use Rattle.geos_image.specs.Parts.{Parts, start_of}
 use Rattle.geos_code.specs.Code.{IsPcOf}
-use Rattle.geos_potentials.specs.Idle.{IsIdleWay, IsNeverPaid, MayNotPay}
+use Rattle.geos_counters.specs.Idle.{IsIdleWay, IsNeverPaid, MayNotPay}
 use Rattle.geos_potentials.specs.Ranks.{AllRise, AreIdleNoted, noted_idle}
-use Rattle.geos_potentials.specs.Trails.{IsTrail, LeadsKeeping}
+use Rattle.geos_counters.specs.Trails.{IsTrail, LeadsKeeping}
 use Rattle.geos_potentials.specs.declared.classes.Classes.{Classes}
 
 module _ (image : Parts) (r : ℕ) (ranks : List ℕ) (rise : AllRise image r ranks) where

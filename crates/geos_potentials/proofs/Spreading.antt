@@ -7,7 +7,7 @@ use Rattle.control_graph.specs.declared.arcs.Arc.{Arc}
 use Rattle.control_graph.specs.Arcs.{arc_at}
 use Rattle.geos_potentials.specs.Arcs.{unit_at}
 use Rattle.geos_potentials.specs.Demands.{kept_over, AreRaised, IsKeptOver}
-use Rattle.geos_potentials.specs.Numbers.{zeros}
+use Rattle.geos_counters.specs.Counters.{zeros}
 use Rattle.geos_potentials.specs.Spreads.{HasCome, HaveCome, StayCome, ComesBehind, Does, ComeBehind}
 use Rattle.geos_potentials.proofs.Asks.{zero-at}
 use Rattle.geos_potentials.proofs.Demand.{kept-some}

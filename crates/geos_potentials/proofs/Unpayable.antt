@@ -24,10 +24,10 @@ use Rattle.geos_verify.proofs.Leads.{leads-along, leads-branching, may_begin}
 use Rattle.geos_verify.proofs.Places.{item_at}
 use Rattle.geos_semantics.proofs.Paid.{spent-at}
 use Rattle.geos_code.specs.Code.{is_loop, IsPcOf}
-use Rattle.geos_potentials.specs.Idle.{calls_touching, MayNotPay, LeadsIdle, IsIdleWay, IsNeverPaid}
-use Rattle.geos_potentials.specs.Numbers.{zeros}
+use Rattle.geos_counters.specs.Idle.{calls_touching, MayNotPay, LeadsIdle, IsIdleWay, IsNeverPaid}
+use Rattle.geos_counters.specs.Counters.{zeros}
 use Rattle.geos_potentials.specs.Accepted.{HasAccepted}
-use Rattle.geos_potentials.specs.Trails.{IsTrail, keeps_counter}
+use Rattle.geos_counters.specs.Trails.{IsTrail, keeps_counter}
 use Rattle.geos_code.specs.Edges.{LeadsTo}
 use Rattle.geos_potentials.proofs.Accepted.{same-instr, point-of, four-at, touches-same, along-steps}
 use Rattle.geos_code.proofs.Bounds.{bound-at}

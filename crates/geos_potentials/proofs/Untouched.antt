@@ -19,7 +19,8 @@ use Rattle.control_graph.specs.declared.jumps.Jump.{Jump}
 use Rattle.control_graph.specs.declared.jumps.Jump.TheVariants.{Plain, Free, Pays}
 use Rattle.control_graph.specs.declared.pile.Pile.{Pile}
 use Rattle.control_graph.specs.Arcs.{arc_at, forgets, taken_from}
-use Rattle.geos_potentials.specs.Arcs.{unit_at, touched_by, counting_of, IsArcIf, AreArcs, NoArcsOutside}
+use Rattle.geos_potentials.specs.Arcs.{unit_at, counting_of, IsArcIf, AreArcs, NoArcsOutside}
+use Rattle.geos_counters.specs.Counters.{touched_by}
 use Rattle.geos_potentials.specs.Carried.{AreSpreadBut, AreSpread}
 use Rattle.geos_potentials.specs.Demands.{AreRaised, HaveGrown}
 use Rattle.geos_potentials.specs.Least.{is_free}

@@ -12,7 +12,7 @@ use Rattle.control_graph.specs.Arcs.{arc_at, taken_from}
 use Rattle.geos_potentials.specs.Arcs.{unit_at}
 use Rattle.geos_potentials.specs.Carried.{AreCarried, NoneHeld, Nowhere, Carries, StayCarried}
 use Rattle.geos_potentials.specs.Demands.{kept_over, AreRaised, StayWanted}
-use Rattle.geos_potentials.specs.Numbers.{zeros}
+use Rattle.geos_counters.specs.Counters.{zeros}
 use Rattle.control_graph.specs.Jumps.{pays_in}
 use Rattle.control_graph.specs.Waits.{Waits}
 use Rattle.geos_potentials.specs.Waits.{HaveRisen}

@@ -1,5 +1,5 @@
 -- The edges of a routine, with what they cost and what they do to counters.
-use Rattle.std.specs.Prelude.{◌≡◌, ◌≤◌, ℕ, ◌+◌, ◌*◌, Bool, true, false, List, [], ◌∷◌, Option, Some, None, slice_index, slice_index_or}
+use Rattle.std.specs.Prelude.{◌≡◌, ◌≤◌, ℕ, ◌+◌, ◌*◌, Bool, true, false, List, [], Option, Some, None, slice_index, slice_index_or}
 use Rattle.geos_opcodes.specs.declared.opcode.Opcode.{Opcode}
 use Rattle.geos_opcodes.specs.declared.opcode.Opcode.TheVariants.{Setk, Setkw, Loop, Call}
 use Rattle.geos_image.specs.declared.instr.Instr.{Instr}
@@ -12,13 +12,10 @@ use Rattle.control_graph.specs.declared.arcs.Counting.TheVariants.{Nothing, Sets
 use Rattle.geos_potentials.specs.declared.lengths.Link.{Link}
 use Rattle.geos_code.specs.Code.{IsPcOf}
 use Rattle.geos_code.specs.Known.{row_of, known_at}
-use Rattle.geos_potentials.specs.Steps.{taken_at}
+use Rattle.geos_counters.specs.Steps.{taken_at}
+use Rattle.geos_counters.specs.Counters.{touched_by}
 use Rattle.geos_code.specs.Edges.{LeadsTo}
 use Rattle.control_graph.specs.Arcs.{arc_at}
-
--- the counters that a routine touches, by a table
-abbrev pub touched_by : List (List Bool) → ℕ → List Bool
-touched_by table r = slice_index_or table r (false ∷ false ∷ false ∷ false ∷ [])
 
 -- what an edge of an instruction does to counters: SETK sets its own, SETKW to what the row says of the word, LOOP takes a unit where it
 -- goes to its target, and leaves 0 behind it; of the counters that a called routine touches nothing is known

@@ -14,7 +14,8 @@ use Rattle.geos_verify.specs.Potentials.{asked_along, asked_branching, left_with
 use Rattle.geos_code.specs.Code.{Edge, IsPcOf, instrs_of}
 use Rattle.geos_potentials.specs.Count.{return_steps}
 use Rattle.geos_code.specs.Known.{row_of, known_at}
-use Rattle.geos_potentials.specs.Numbers.{Numbers, zeros}
+use Rattle.geos_potentials.specs.Numbers.{Numbers}
+use Rattle.geos_counters.specs.Counters.{zeros}
 use Rattle.geos_code.specs.Edges.{LeadsTo}
 
 -- what an edge of an instruction asks, where q is the potential at its end

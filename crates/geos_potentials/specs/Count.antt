@@ -7,8 +7,9 @@ use Rattle.geos_code.specs.Code.{Edge, ForwardIn, instrs_of, edge_end}
 use Rattle.geos_verify.specs.declared.asked.Asked.{Asked}
 use Rattle.geos_image.specs.declared.potential.Potential.{Potential}
 use Rattle.geos_code.specs.Edges.{leads_ahead}
-use Rattle.geos_potentials.specs.Numbers.{Numbers, zeros}
-use Rattle.geos_potentials.specs.Steps.{StepsHoldIn, call_steps, most_steps}
+use Rattle.geos_potentials.specs.Numbers.{Numbers}
+use Rattle.geos_counters.specs.Counters.{zeros}
+use Rattle.geos_counters.specs.Steps.{StepsHoldIn, call_steps, most_steps}
 
 -- what an edge that leads ahead asks for
 abbrev pub edge_steps : Parts → ℕ → ℕ → Instr → Bool → List ℕ → ℕ

@@ -1,7 +1,7 @@
 -- How many edges lead into each place that no counter pays for, and which of them is noted.
 use Rattle.std.specs.Prelude.{◌≡◌, ◌⊎◌, ℕ, List, Option, None, Some, slice_index_or}
 use Rattle.geos_image.specs.Parts.{Parts}
-use Rattle.geos_potentials.specs.Idle.{LeadsUnpaid}
+use Rattle.geos_counters.specs.Idle.{LeadsUnpaid}
 use Rattle.geos_potentials.specs.declared.ways.Came.{Came}
 use Rattle.geos_potentials.specs.declared.ways.WaysIn.{WaysIn}
 

@@ -2,7 +2,7 @@
 use Rattle.std.specs.Prelude.{ℕ, List, Option}
 use Rattle.geos_image.specs.declared.row.Row.{Row}
 use Rattle.geos_image.specs.Parts.{Parts}
-use Rattle.geos_potentials.specs.Idle.{IsNeverPaidBy}
+use Rattle.geos_counters.specs.Idle.{IsNeverPaidBy}
 use Rattle.geos_potentials.specs.Constants.{ConstantsPay, row_known, coefficients_at}
 use Rattle.geos_potentials.specs.Lacks.{IsLack}
 use Rattle.geos_potentials.specs.Least.{SomePasses}

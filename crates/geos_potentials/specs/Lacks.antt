@@ -3,7 +3,7 @@ use Rattle.std.specs.Prelude.{◌≡◌, ◌≤◌, ◌<◌, ◌+◌, ◌⊎◌,
 use Rattle.geos_image.specs.Parts.{Parts}
 use Rattle.control_graph.specs.Arcs.{arc_at}
 use Rattle.geos_potentials.specs.Arcs.{price_of}
-use Rattle.geos_potentials.specs.Idle.{MayNotPay}
+use Rattle.geos_counters.specs.Idle.{MayNotPay}
 use Rattle.geos_potentials.specs.Least.{is_free, steps_at}
 use Rattle.geos_potentials.specs.Rounds.{CostsPast, SetsEnough}
 use Rattle.geos_potentials.specs.Rings.{IsRing}

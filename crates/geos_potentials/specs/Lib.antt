@@ -1,6 +1,5 @@
 pub mod Numbers
 pub mod Count
-pub mod Trails
 pub mod Arcs
 pub mod Constants
 pub mod Least
@@ -12,9 +11,6 @@ pub mod Stuck
 pub mod Halts
 pub mod Pieces
 pub mod Accepted
-pub mod Idle
-pub mod Steps
-pub mod Touching
 pub mod Rings
 pub mod Lacks
 pub mod Looks

@@ -1,5 +1,5 @@
 -- Steps and coefficients at each pc.
-use Rattle.std.specs.Prelude.{ℕ, List, [], ◌∷◌, map}
+use Rattle.std.specs.Prelude.{ℕ, List, map}
 use Rattle.geos_image.specs.declared.potential.Potential.{Potential}
 
 -- the steps, and the coefficients of the counters, by pc
@@ -18,7 +18,3 @@ coefficients_of p = p.coefficients
 -- those of potentials
 abbrev pub numbers_of : List Potential → Numbers
 numbers_of potentials = record { steps = map steps_of potentials; coefficients = map coefficients_of potentials }
-
--- no counter counts
-abbrev pub zeros : List ℕ
-zeros = 0 ∷ 0 ∷ 0 ∷ 0 ∷ []

@@ -7,8 +7,8 @@ use Rattle.geos_potentials.specs.Constants.{AreLeastFrom}
 use Rattle.geos_potentials.specs.Count.{AreCounted}
 use Rattle.geos_potentials.specs.Numbers.{numbers_of}
 use Rattle.geos_potentials.specs.Reasons.{IsReason}
-use Rattle.geos_potentials.specs.Steps.{NoStepsHoldIn}
-use Rattle.geos_potentials.specs.Touching.{NotesTouched}
+use Rattle.geos_counters.specs.Steps.{NoStepsHoldIn}
+use Rattle.geos_counters.specs.Touching.{NotesTouched}
 use Rattle.geos_potentials.specs.declared.count.Tables.{Tables}
 use Rattle.geos_potentials.specs.declared.reason.Unfound.{Unfound}
 

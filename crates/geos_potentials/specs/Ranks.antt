@@ -3,8 +3,8 @@ use Rattle.std.specs.Prelude.{◌≡◌, ◌<◌, ◌+◌, ℕ, Bool, true, fals
 use Rattle.geos_image.specs.Parts.{Parts, start_of}
 use Rattle.geos_potentials.specs.Arcs.{unit_at}
 use Rattle.geos_code.specs.Code.{IsPcOf}
-use Rattle.geos_potentials.specs.Idle.{PassesAt, calls_touching, LeadsIdle}
-use Rattle.geos_potentials.specs.Trails.{LeadsKeeping}
+use Rattle.geos_counters.specs.Idle.{PassesAt, calls_touching, LeadsIdle}
+use Rattle.geos_counters.specs.Trails.{LeadsKeeping}
 use Rattle.geos_potentials.specs.declared.classes.Classes.{Classes}
 
 -- ranks rise along each edge of routine r that is no LOOP's way to its target on which the counter may pay

@@ -5,9 +5,9 @@ use Rattle.geos_image.specs.Parts.{Parts}
 use Rattle.geos_potentials.specs.Arcs.{AreArcs}
 use Rattle.geos_potentials.specs.Constants.{HasLoops}
 use Rattle.geos_potentials.specs.Halts.{IsInTheWay}
-use Rattle.geos_potentials.specs.Idle.{GoesRound}
-use Rattle.geos_potentials.specs.Steps.{NoStepsHoldIn}
-use Rattle.geos_potentials.specs.Touching.{NotesTouched}
+use Rattle.geos_counters.specs.Idle.{GoesRound}
+use Rattle.geos_counters.specs.Steps.{NoStepsHoldIn}
+use Rattle.geos_counters.specs.Touching.{NotesTouched}
 use Rattle.geos_potentials.specs.declared.reason.Halted.{Halted}
 use Rattle.geos_potentials.specs.declared.reason.Reason.{Reason}
 use Rattle.geos_potentials.specs.declared.reason.Reason.TheVariants.{TooMany, NoLoop, InTheWay}

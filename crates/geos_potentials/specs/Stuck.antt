@@ -2,9 +2,9 @@
 use Rattle.std.specs.Prelude.{◌≡◌, ℕ, Bool, true, List, [], ◌∷◌, Option, Some, slice_index_or}
 use Rattle.geos_image.specs.Parts.{Parts}
 use Rattle.control_graph.specs.Arcs.{arc_at, taken_from}
-use Rattle.geos_potentials.specs.Idle.{MayNotPay}
+use Rattle.geos_counters.specs.Idle.{MayNotPay}
 use Rattle.geos_code.specs.Code.{IsPcOf}
-use Rattle.geos_potentials.specs.Numbers.{zeros}
+use Rattle.geos_counters.specs.Counters.{zeros}
 use Rattle.geos_potentials.specs.Ranks.{noted_idle}
 use Rattle.control_graph.specs.Waits.{Waits}
 use Rattle.control_graph.specs.declared.arcs.Arc.{Arc}

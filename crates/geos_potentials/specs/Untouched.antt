@@ -4,7 +4,8 @@ use Rattle.geos_opcodes.specs.declared.opcode.Opcode.TheVariants.{Call}
 use Rattle.geos_image.specs.declared.point.Point.{Point}
 use Rattle.geos_image.specs.Parts.{Parts}
 use Rattle.control_graph.specs.Arcs.{arc_at, forgets}
-use Rattle.geos_potentials.specs.Arcs.{unit_at, touched_by}
+use Rattle.geos_potentials.specs.Arcs.{unit_at}
+use Rattle.geos_counters.specs.Counters.{touched_by}
 use Rattle.geos_potentials.specs.Within.{HoldsAt}
 use Rattle.control_graph.specs.declared.arcs.Arc.{Arc}
 use Rattle.control_graph.specs.declared.jumps.Jump.{Jump}

@@ -3,7 +3,8 @@
 ghost use Rattle.std.specs.Prelude.{◌≡◌, ◌<◌, ◌≤◌, max, IfSome};
 ghost use Rattle.geos_verify.specs.Lists.{zip2};
 ghost use Rattle.geos_potentials.specs.Constants.{IsAsked, StaysIn};
-ghost use Rattle.geos_potentials.specs.Numbers.{numbers_of, zeros};
+ghost use Rattle.geos_potentials.specs.Numbers.{numbers_of};
+ghost use Rattle.geos_counters.specs.Counters.{zeros};
 ghost use Rattle.geos_potentials.specs.Count.{asked_steps, asked_coefficients, return_steps, AsksSteps, IsFound};
 
 use geos_code::{Body, Known, edge_in, row_of};

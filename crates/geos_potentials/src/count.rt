@@ -4,20 +4,20 @@ ghost use Rattle.std.specs.Prelude.{◌≡◌, ◌<◌, ◌≤◌, ◌+◌, ℕ,
 ghost use Rattle.geos_image.specs.Parts.{start_of};
 ghost use Rattle.geos_code.specs.Code.{ForwardIn};
 ghost use Rattle.geos_potentials.specs.Constants.{HasLoops, PayLeastIn, AreLeastFrom};
-ghost use Rattle.geos_potentials.specs.Steps.{NoStepsHoldIn};
+ghost use Rattle.geos_counters.specs.Steps.{NoStepsHoldIn};
 ghost use Rattle.geos_potentials.specs.Count.{CountsOn, AreCounted, StaysFrom};
 ghost use Rattle.geos_potentials.specs.Numbers.{numbers_of};
 ghost use Rattle.geos_potentials.specs.Reasons.{IsReason};
 ghost use Rattle.geos_potentials.specs.Onward.{AreFoundFrom};
-ghost use Rattle.geos_potentials.specs.Touching.{NotesTouched};
+ghost use Rattle.geos_counters.specs.Touching.{NotesTouched};
 
 use crate::asked::{Potentials, potential_at};
 use crate::reason::{Halted, Reason, Unfound};
 use crate::search::Search;
-use crate::spent::find_touched;
 use crate::unpaid::round_by;
 use crate::ways::WaysIn;
 use geos_code::{Body, Known, body_of, is_loop, leads_back};
+use geos_counters::find_touched;
 use geos_image::Image;
 use geos_verify::Touched;
 use pc_tables::{Table, two_tables};

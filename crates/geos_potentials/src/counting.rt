@@ -1,17 +1,16 @@
 //! What the edges of an instruction cost, and what they do to counters.
 
-ghost use Rattle.std.specs.Prelude.{◌≡◌, ◌<◌, ◌≤◌, ◌+◌, ℕ, Some, true, false, IfSome};
+ghost use Rattle.std.specs.Prelude.{◌≡◌, ◌<◌, ℕ, Some, true, false, IfSome};
 ghost use Rattle.geos_image.specs.Fields.{FieldsFit};
 ghost use Rattle.geos_potentials.specs.Arcs.{counting_of, IsArcIf, AreArcs, NoArcsOutside};
 ghost use Rattle.control_graph.specs.Arcs.{taken_from};
 ghost use Rattle.geos_code.specs.Known.{row_of, known_at};
-ghost use Rattle.geos_potentials.specs.Steps.{taken_at};
 ghost use Rattle.geos_potentials.specs.Making.{AreInside};
 ghost use Rattle.control_graph.specs.Led.{AreLed};
 
-use crate::spent::touched_by;
 use control_graph::{Arc, Counting, Graph};
 use geos_code::{Body, Known, bound_of, edge_in, row_of};
+use geos_counters::{called_at, touched_by};
 use geos_image::{Instr, Opcode};
 use geos_verify::Touched;
 
@@ -43,27 +42,6 @@ fn counting_over(i: &Instr, known: &Known, touched: &Touched, pc: u16, branch: b
         Opcode::Loop => Counting::Takes(i.a),
         _ => Counting::Nothing,
     }
-}
-
-/// The budget of the routine that the instruction at a pc calls; 0 where it calls none.
-fn called_at(body: &Body, pc: u16) -> u32
-    requires { pc < body.now.end }
-    ensures { 1 + result ≡ taken_at body.now.image.now pc }
-{
-    let i = body.image.instr(pc);
-    match i.opcode {
-        Opcode::Call => body.image.routine(i.imm).budget,
-        _ => 0,
-    }
-}
-
-/// What the instruction at a pc takes: a step, and the budget of the routine that it calls.
-pub fn taken_at(body: &Body, pc: u16) -> u64
-    requires { pc < body.now.end }
-    ensures value { result ≡ taken_at body.now.image.now pc }
-    ensures small { result ≤ 4294967296 }
-{
-    1 + u64::from(called_at(body, pc))
 }
 
 /// The edge of the instruction at a pc, if it stays in the routine.

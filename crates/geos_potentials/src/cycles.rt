@@ -3,7 +3,7 @@
 ghost use Rattle.std.specs.Prelude.{◌≡◌, ◌<◌, ◌≤◌, ◌+◌, ℕ, Bool, false, slice_set};
 ghost use Rattle.geos_code.specs.Code.{ForwardIn};
 ghost use Rattle.geos_potentials.specs.Cycles.{left_at};
-ghost use Rattle.geos_potentials.specs.Idle.{LeadsUnpaid};
+ghost use Rattle.geos_counters.specs.Idle.{LeadsUnpaid};
 
 use crate::unpaid::lead_unpaid;
 use crate::ways::WaysIn;

@@ -1,17 +1,17 @@
 //! Where LOOPs may not pay: there the counter is as it was where the routine begins, or as a call left it.
 
 ghost use Rattle.std.specs.Prelude.{◌≡◌, ◌<◌, ◌≤◌, ℕ, true, Some, IfSome};
-ghost use Rattle.geos_potentials.specs.Touching.{KnowsTouched, NotesTouched, NotesAllTouched};
-ghost use Rattle.geos_potentials.specs.Idle.{calls_touching, LeadsIdle};
+ghost use Rattle.geos_counters.specs.Touching.{KnowsTouched, NotesTouched, NotesAllTouched};
+ghost use Rattle.geos_counters.specs.Idle.{calls_touching, LeadsIdle};
 ghost use Rattle.geos_code.specs.Code.{IsPcOf};
 ghost use Rattle.geos_potentials.specs.Ranks.{noted_idle, GoesOn, IsNotedBehind, AreNotedFrom, AreIdleNoted};
-ghost use Rattle.geos_potentials.specs.Trails.{keeps_counter};
+ghost use Rattle.geos_counters.specs.Trails.{keeps_counter};
 ghost use Rattle.geos_code.specs.Edges.{LeadsTo};
 ghost use Rattle.geos_image.specs.Parts.{Parts};
 
 use crate::classes::Classes;
-use crate::spent::{Touching, touches};
 use geos_code::{Body, edge_in, is_loop};
+use geos_counters::{Touching, touches};
 use geos_image::{Instr, Opcode};
 use geos_verify::Touched;
 

@@ -3,7 +3,7 @@
 ghost use Rattle.std.specs.Prelude.{◌≡◌, ◌≢◌, ◌<◌, ◌≤◌, ◌+◌, ◌-◌, ◌*◌, ℕ, List, true, false, IfSome, IfNone, slice_index_or};
 ghost use Rattle.geos_potentials.specs.Least.{StayAtMost, AreLonger, AreCovered};
 ghost use Rattle.geos_potentials.specs.Looks.{RisesBy, SomeIsLonger, AreCoveredIn};
-ghost use Rattle.geos_potentials.specs.Numbers.{zeros};
+ghost use Rattle.geos_counters.specs.Counters.{zeros};
 ghost use Rattle.control_graph.specs.Waits.{Waits};
 ghost use Rattle.geos_potentials.specs.declared.nests.Nest.{Nest};
 

@@ -1,17 +1,17 @@
 //! Whether control goes round in a routine only where a LOOP may pay: then places have ranks that rise along all other edges.
 
 ghost use Rattle.std.specs.Prelude.{◌≡◌, ◌<◌, ◌≤◌, ◌⊎◌, ℕ, Bool, true, slice_index, IfOk};
-ghost use Rattle.geos_potentials.specs.Touching.{KnowsTouched};
-ghost use Rattle.geos_potentials.specs.Idle.{LeadsIdle, IsNeverPaid};
+ghost use Rattle.geos_counters.specs.Touching.{KnowsTouched};
+ghost use Rattle.geos_counters.specs.Idle.{LeadsIdle, IsNeverPaid};
 ghost use Rattle.geos_potentials.specs.Ranks.{AllRise, AreIdleNoted};
 ghost use Rattle.control_graph.specs.Waits.{Waits};
 
 use crate::classes::Classes;
 use crate::counting::note_edges;
 use crate::idle::{are_noted, lead_idle};
-use crate::spent::Touching;
 use control_graph::{Graph, Pile};
 use geos_code::{Body, Known};
+use geos_counters::Touching;
 use pc_tables::{Table, two_tables};
 use std::alloc::{AllocError, Global};
 

@@ -4,12 +4,12 @@ ghost use Rattle.std.specs.Prelude.{◌≡◌, ◌+◌, List, [], Bool, Option, 
 ghost use Rattle.geos_image.specs.Parts.{start_of};
 ghost use Rattle.geos_image.specs.declared.row.Row.{Row};
 ghost use Rattle.geos_potentials.specs.Arcs.{AreArcs};
-ghost use Rattle.geos_potentials.specs.Touching.{NotesTouched, NotesAllTouched};
+ghost use Rattle.geos_counters.specs.Touching.{NotesTouched, NotesAllTouched};
 ghost use Rattle.geos_potentials.specs.Constants.{ArePaidIn, AreLeastIn, AreLeastWith, AreForLoops, coefficients_at};
 ghost use Rattle.geos_potentials.specs.Count.{StaysFrom};
 ghost use Rattle.geos_potentials.specs.Demands.{AreWanted};
 ghost use Rattle.geos_potentials.specs.Halts.{IsInTheWay};
-ghost use Rattle.geos_potentials.specs.Idle.{IsNeverPaid};
+ghost use Rattle.geos_counters.specs.Idle.{IsNeverPaid};
 ghost use Rattle.geos_potentials.specs.Lacks.{IsUnpaid};
 ghost use Rattle.geos_potentials.specs.Least.{steps_at};
 ghost use Rattle.geos_potentials.specs.Numbers.{numbers_of};

@@ -6,7 +6,7 @@ ghost use Rattle.control_graph.specs.Arcs.{arc_at, taken_from};
 ghost use Rattle.geos_potentials.specs.Carried.{AreHeld, NoneHeld, AreBroughtBack, AreBroughtOn, CarriesInto, Carries, SpreadOn};
 ghost use Rattle.geos_potentials.specs.Demands.{kept_over, left_in, AreRaised, HaveGrown, StayWanted};
 ghost use Rattle.geos_potentials.specs.Least.{is_free, StayAtLoops};
-ghost use Rattle.geos_potentials.specs.Numbers.{zeros};
+ghost use Rattle.geos_counters.specs.Counters.{zeros};
 ghost use Rattle.geos_potentials.specs.Spreads.{HaveCome, StayCome};
 ghost use Rattle.geos_potentials.specs.Waits.{HaveRisen};
 ghost use Rattle.geos_potentials.specs.Within.{StayWithin};

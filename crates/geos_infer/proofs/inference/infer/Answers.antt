@@ -1,5 +1,5 @@
 use Rattle.std.proofs.Common.{◌≡◌, ◌<◌, ◌∙◌, ℕ, length, sym, subst}
-use Rattle.geos_potentials.specs.Steps.{NoStepsHoldIn}
+use Rattle.geos_counters.specs.Steps.{NoStepsHoldIn}
 use Rattle.geos_rows.specs.Why.{MeetAlike}
 use Rattle.geos_infer.specs.Findings.{IsWhyNone}
 use Rattle.geos_infer.specs.Theorem.{NothingHoldsIn, HasReason}

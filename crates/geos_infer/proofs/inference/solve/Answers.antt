@@ -5,7 +5,7 @@ use Rattle.geos_potentials.specs.Constants.{AreLeastFrom}
 use Rattle.geos_potentials.specs.Count.{AreCounted}
 use Rattle.geos_potentials.specs.Numbers.{numbers_of}
 use Rattle.geos_potentials.specs.Reasons.{IsReason}
-use Rattle.geos_potentials.specs.Steps.{NoStepsHoldIn}
+use Rattle.geos_counters.specs.Steps.{NoStepsHoldIn}
 use Rattle.geos_potentials.specs.declared.reason.Unfound.{Unfound}
 use Rattle.geos_potentials.proofs.Staying.{not-some}
 use Rattle.geos_rows.specs.Flow.{HaveFlowed}

@@ -1,5 +1,5 @@
 use Rattle.std.proofs.Common.{◌<◌, ◌+◌, ◌-◌, None, sym, arith}
-use Rattle.geos_potentials.specs.Steps.{most_steps, taken_at}
+use Rattle.geos_counters.specs.Steps.{most_steps, taken_at}
 use Rattle.geos_code.proofs.Bodies.{in-body}
 use Rattle.geos_infer.proofs.Onward.{passes}
 use Rattle.geos_infer.proofs.turns.some_pass.Goals as goal

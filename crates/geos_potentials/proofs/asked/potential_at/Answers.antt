@@ -4,7 +4,7 @@ use Rattle.std.proofs.lemmas.Bool.{cases_lt}
 use Rattle.geos_verify.specs.Lists.{zip2}
 use Rattle.geos_potentials.specs.Count.{asked_coefficients}
 use Rattle.geos_potentials.specs.Numbers.{numbers_of}
-use Rattle.geos_potentials.specs.Steps.{most_steps}
+use Rattle.geos_counters.specs.Steps.{most_steps}
 use Rattle.geos_potentials.proofs.Asks.{found-some, found-none}
 use Rattle.geos_potentials.proofs.asked.potential_at.Goals as goal
 

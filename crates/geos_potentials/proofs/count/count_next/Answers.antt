@@ -6,7 +6,7 @@ use Rattle.geos_image.specs.Parts.{Parts}
 use Rattle.geos_potentials.specs.Count.{CountsOn}
 use Rattle.geos_potentials.specs.Numbers.{numbers_of}
 use Rattle.geos_potentials.specs.Reasons.{IsReason}
-use Rattle.geos_potentials.specs.Touching.{NotesTouched}
+use Rattle.geos_counters.specs.Touching.{NotesTouched}
 use Rattle.geos_potentials.specs.declared.count.Tables.{Tables}
 use Rattle.geos_potentials.specs.declared.reason.Reason.{Reason}
 use Rattle.geos_potentials.proofs.Counts.{counts-in, are_counted-more}

@@ -1,6 +1,6 @@
 use Rattle.std.proofs.Common.{◌≤◌, ℕ, List}
 use Rattle.geos_code.specs.Code.{ForwardIn}
-use Rattle.geos_potentials.specs.Steps.{StepsHoldIn}
+use Rattle.geos_counters.specs.Steps.{StepsHoldIn}
 use Rattle.geos_potentials.specs.Numbers.{numbers_of}
 use Rattle.geos_potentials.specs.Count.{Counted, StaysFrom}
 use Rattle.geos_potentials.proofs.count.sweep.Given as goal

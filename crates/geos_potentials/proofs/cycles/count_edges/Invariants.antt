@@ -1,6 +1,6 @@
 use Rattle.std.proofs.Common.{◌≤◌, ◌<◌, ℕ, Bool}
 use Rattle.geos_potentials.specs.Cycles.{left_at}
-use Rattle.geos_potentials.specs.Idle.{LeadsUnpaid}
+use Rattle.geos_counters.specs.Idle.{LeadsUnpaid}
 use Rattle.geos_potentials.proofs.cycles.count_edges.Given as goal
 
 -- the edges from places before pc are counted

@@ -5,7 +5,7 @@ use Rattle.std.proofs.lemmas.Option.{none-some, same_Some}
 use Rattle.geos_image.specs.declared.instr.Instr.{Instr}
 use Rattle.geos_verify.proofs.Places.{if_some}
 use Rattle.geos_potentials.specs.Ranks.{noted_idle}
-use Rattle.geos_potentials.specs.Trails.{keeps_counter}
+use Rattle.geos_counters.specs.Trails.{keeps_counter}
 use Rattle.geos_potentials.proofs.idle.goes_on.Goals as goal
 
 pub returns-then-not-is_idle : goal.returns-then-not-is_idle

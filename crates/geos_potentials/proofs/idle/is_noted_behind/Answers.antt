@@ -3,7 +3,7 @@ use Rattle.std.specs.Prelude.{slice_get}
 use Rattle.std.proofs.lemmas.Bool.{false≢true}
 use Rattle.geos_image.specs.declared.instr.Instr.{Instr}
 use Rattle.geos_verify.proofs.Places.{if_some}
-use Rattle.geos_potentials.specs.Idle.{calls_touching}
+use Rattle.geos_counters.specs.Idle.{calls_touching}
 use Rattle.geos_potentials.proofs.idle.is_noted_behind.Goals as goal
 
 pub returns-then-not-may_touch : goal.returns-then-not-may_touch

@@ -6,7 +6,7 @@ use Rattle.geos_image.specs.Fields.{FieldsFit}
 use Rattle.geos_image.specs.declared.instr.Instr.{Instr}
 use Rattle.geos_verify.proofs.Places.{if_some}
 use Rattle.geos_code.specs.Code.{is_loop}
-use Rattle.geos_potentials.specs.Idle.{MayNotPay}
+use Rattle.geos_counters.specs.Idle.{MayNotPay}
 use Rattle.geos_code.proofs.Back.{loop-only}
 use Rattle.geos_code.proofs.Bodies.{in-body}
 use Rattle.geos_potentials.proofs.Rising.{idle-noted}

@@ -1,7 +1,7 @@
 use Rattle.std.proofs.Common.{◌≡◌, ◌<◌, ℕ, Bool, true, false, inl, inr, subst, arith}
 use Rattle.std.specs.Prelude.{slice_index}
 use Rattle.std.proofs.lemmas.Bool.{cases_lt}
-use Rattle.geos_potentials.specs.Idle.{LeadsIdle}
+use Rattle.geos_counters.specs.Idle.{LeadsIdle}
 use Rattle.geos_potentials.proofs.ranks.all_rise.Goals as goal
 
 pub loop-pc-init : goal.loop-pc-init

@@ -1,7 +1,7 @@
 use Rattle.std.proofs.Common.{◌<◌, ℕ, Bool}
 use Rattle.std.specs.Prelude.{slice_index}
 use Rattle.geos_code.specs.Code.{IsPcOf}
-use Rattle.geos_potentials.specs.Idle.{LeadsIdle}
+use Rattle.geos_counters.specs.Idle.{LeadsIdle}
 use Rattle.geos_potentials.proofs.ranks.all_rise.Given as goal
 
 -- ranks rise along the edges from before pc

@@ -1,7 +1,7 @@
 use Rattle.std.proofs.Common.{◌≡◌, ◌<◌, ℕ, Bool, true, false, sym, subst, arith, inl, inr}
 use Rattle.std.specs.Prelude.{slice_index}
 use Rattle.std.proofs.lemmas.Bool.{cases_eq}
-use Rattle.geos_potentials.specs.Idle.{LeadsIdle}
+use Rattle.geos_counters.specs.Idle.{LeadsIdle}
 use Rattle.geos_potentials.specs.Ranks.{AreIdleNoted}
 use Rattle.control_graph.specs.Waits.{Waits}
 use Rattle.control_graph.specs.declared.pile.Pile.{Pile}

@@ -1,6 +1,6 @@
 use Rattle.std.proofs.Common.{◌≡◌, ◌≤◌, ◌<◌, ℕ, Bool}
 use Rattle.std.specs.Prelude.{slice_index}
-use Rattle.geos_potentials.specs.Idle.{LeadsIdle}
+use Rattle.geos_counters.specs.Idle.{LeadsIdle}
 use Rattle.geos_potentials.specs.Ranks.{AreIdleNoted}
 use Rattle.control_graph.specs.Waits.{Waits}
 use Rattle.geos_potentials.proofs.ranks.count_edges.Given as goal

@@ -1,5 +1,5 @@
 use Rattle.std.proofs.Common.{ℕ, List, Bool, [], ◌∷◌, refl, subst, arith}
-use Rattle.geos_potentials.specs.Idle.{IsUnpaidWay}
+use Rattle.geos_counters.specs.Idle.{IsUnpaidWay}
 use Rattle.geos_potentials.proofs.unpaid.leads_on.Goals as goal
 
 pub loop-init : goal.loop-init

@@ -1,5 +1,5 @@
 use Rattle.std.proofs.Common.{◌<◌, List, Bool}
-use Rattle.geos_potentials.specs.Idle.{IsUnpaidWay}
+use Rattle.geos_counters.specs.Idle.{IsUnpaidWay}
 use Rattle.geos_potentials.proofs.unpaid.leads_on.Given as goal
 
 -- the edges that were looked at lead on from here

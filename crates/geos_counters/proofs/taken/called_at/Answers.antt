@@ -1,6 +1,6 @@
 use Rattle.std.proofs.Common.{arith}
-use Rattle.geos_potentials.proofs.Asks.{taken-call, taken-else}
-use Rattle.geos_potentials.proofs.counting.called_at.Goals as goal
+use Rattle.geos_counters.proofs.Takes.{taken-call, taken-else}
+use Rattle.geos_counters.proofs.taken.called_at.Goals as goal
 
 pub returns-in-Call : goal.returns-in-Call
 returns-in-Call c =

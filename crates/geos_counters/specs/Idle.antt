@@ -6,7 +6,7 @@ use Rattle.geos_image.specs.Parts.{Parts, start_of}
 use Rattle.geos_verify.specs.Touched.{calls, touches}
 use Rattle.geos_code.specs.Code.{IsPcOf, is_loop}
 use Rattle.geos_code.specs.Edges.{LeadsTo}
-use Rattle.geos_potentials.specs.Trails.{IsTrail}
+use Rattle.geos_counters.specs.Trails.{IsTrail}
 
 -- the instruction at a pc has an edge to one of routine r, and it is no LOOP's way to its target, for which a counter may pay
 pub record LeadsUnpaid (image : Parts) (r pc : ℕ) (branch : Bool) (to : ℕ) : Type 0 where

@@ -2,14 +2,14 @@
 
 ghost use Rattle.std.specs.Prelude.{◌≡◌};
 ghost use Rattle.geos_verify.specs.Touched.{noted};
-ghost use Rattle.geos_potentials.specs.Arcs.{touched_by};
-ghost use Rattle.geos_potentials.specs.Touching.{NotesTouched, NotesOwn, NotesAllTouched, KnowsTouched};
+ghost use Rattle.geos_counters.specs.Counters.{touched_by};
+ghost use Rattle.geos_counters.specs.Touching.{NotesTouched, NotesOwn, NotesAllTouched, KnowsTouched};
 
 use geos_image::Image;
 use geos_verify::{Touched, touched_in};
 
 /// Which counters each routine touches; a routine may call those before it.
-pub(crate) fn find_touched(image: &Image) -> Touched
+pub fn find_touched(image: &Image) -> Touched
     ensures only { NotesTouched image.now result }
     ensures own { NotesOwn image.now result }
 {

@@ -9,7 +9,7 @@ use Rattle.geos_image.specs.declared.instr.Instr.{Instr}
 use Rattle.geos_image.specs.declared.routine.Routine.{Routine}
 use Rattle.geos_image.specs.Parts.{Parts, start_of}
 use Rattle.geos_verify.specs.Touched.{calls, counts, points_of, touches_here, touches_within, noted, touches, touches_by, noted_by}
-use Rattle.geos_potentials.specs.Touching.{NotesAllTouched, touches_by_those_before}
+use Rattle.geos_counters.specs.Touching.{NotesAllTouched, touches_by_those_before}
 
 or-implied : (a b c : Bool) → (b ≡ true → c ≡ true) → (a || b) ≡ true → (a || c) ≡ true
 or-implied true b c h e = refl

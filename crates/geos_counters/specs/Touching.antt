@@ -3,7 +3,7 @@ use Rattle.std.specs.Prelude.{◌≡◌, ◌<◌, ℕ, Bool, ◌&&◌, nat_lt, L
 use Rattle.std.specs.List.{list_any}
 use Rattle.geos_image.specs.Parts.{Parts}
 use Rattle.geos_verify.specs.Touched.{noted, points_of, touches, touches_here}
-use Rattle.geos_potentials.specs.declared.spent.Touching.{Touching}
+use Rattle.geos_counters.specs.declared.spent.Touching.{Touching}
 
 -- a table says only what routines do touch
 abbrev pub NotesTouched : Parts → List (List Bool) → Type 0

@@ -1,7 +1,7 @@
 use Rattle.std.proofs.Common.{◌≡◌, length, subst, arith}
 use Rattle.geos_image.proofs.Instrs.{image_parts}
-use Rattle.geos_potentials.proofs.Noting.{IsWhole, notes-whole, notes-full}
-use Rattle.geos_potentials.proofs.spent.may_touch.Goals as goal
+use Rattle.geos_counters.proofs.Noting.{IsWhole, notes-whole, notes-full}
+use Rattle.geos_counters.proofs.spent.may_touch.Goals as goal
 
 pub returns-then-ne : goal.returns-then-ne
 returns-then-ne c =

@@ -1,8 +1,8 @@
 use Rattle.std.proofs.Common.{◌≡◌, ◌<◌, ℕ, length, refl, subst, arith, add-one, ◌∙◌}
 use Rattle.std.proofs.lemmas.List.{length-set}
 use Rattle.geos_image.proofs.Instrs.{image_parts}
-use Rattle.geos_potentials.proofs.Noting.{NotesWithin, NotesOwnBelow, notes-blank, notes-step, own-step}
-use Rattle.geos_potentials.proofs.spent.find_touched.Goals as goal
+use Rattle.geos_counters.proofs.Noting.{NotesWithin, NotesOwnBelow, notes-blank, notes-step, own-step}
+use Rattle.geos_counters.proofs.spent.find_touched.Goals as goal
 
 pub loop-r-init : goal.loop-r-init
 loop-r-init c = (notes-blank c.args.image.now 32, refl, λ k r few lt. absurd (omega (arith, lt)))

@@ -1,0 +1,5 @@
+pub mod Counters
+pub mod Touching
+pub mod Trails
+pub mod Idle
+pub mod Steps
