@@ -13,9 +13,9 @@ use Rattle.geos_source.proofs.SkeletonLaws.{skeleton-code}
 use Rattle.geos_code.specs.Code.{SameCode}
 use Rattle.geos_rows.specs.Reached.{AllHoldWhereReached}
 use Rattle.geos_infer.specs.Theorem.{FindsWhatThereIs, NoneIsAccepted, NothingHoldsIn}
-use Rattle.geos_infer.specs.Causes.{Holds, tells_of_slots}
+use Rattle.loop_causes.specs.Causes.{Holds, tells_of_slots}
 use Rattle.geos_infer.specs.Findings.{Stops}
-use Rattle.geos_infer.specs.Tells.{TellsOf}
+use Rattle.geos_asm.specs.Assembling.{TellsOf}
 use Rattle.geos_rows.specs.Why.{MeetAlike}
 use Rattle.geos_infer.proofs.Keyed.{keyed-code, found-keyed, all-hold-keyed}
 use Rattle.geos_causes.specs.declared.cause.Cause.{Cause}

@@ -14,12 +14,15 @@ use Rattle.geos_code.specs.Code.{Forward}
 use Rattle.geos_rows.specs.Reached.{AllHoldWhereReached}
 use Rattle.geos_potentials.specs.Accepted.{HasAccepted}
 use Rattle.geos_infer.specs.Theorem.{FindsWhatThereIs, NoneIsAccepted, NothingHoldsIn}
-use Rattle.geos_infer.specs.Causes.{Holds, tells_of_slots}
+use Rattle.loop_causes.specs.Causes.{Holds, tells_of_slots}
 use Rattle.geos_infer.specs.Findings.{Stops}
-use Rattle.geos_infer.specs.Tells.{TellsOf}
 use Rattle.geos_rows.specs.Why.{MeetAlike}
 use Rattle.geos_causes.specs.declared.cause.Cause.{Cause}
+use Rattle.geos_causes.specs.declared.cause.Cause.TheVariants as causes
+use Rattle.geos_diagnosis.specs.Tells.{TellsOfReason}
 use Rattle.geos_infer.specs.declared.finding.Finding.{Finding}
+use Rattle.geos_infer.specs.declared.finding.Obstacle.{Obstacle}
+use Rattle.geos_infer.specs.declared.finding.Obstacle.TheVariants.{SlotsDiffer, NoSteps}
 use Rattle.geos_asm.specs.declared.cause.Unassembled.{Unassembled}
 use Rattle.geos_asm.specs.declared.cause.Unassembled.TheVariants as unassembled
 use Rattle.geos_asm.specs.declared.error.AssembleError.{AssembleError}
@@ -71,6 +74,11 @@ abbrev pub IsWhyNoImage : List ℕ → AssembleError → Type 0
 IsWhyNoImage text (BadLine fault) = code_of text ≡ Err fault
 IsWhyNoImage text (NoRows line) = HasNoRows text line
 IsWhyNoImage text Memory = Unit {0}
+
+-- a cause tells of what is in the way
+abbrev pub TellsOf : Obstacle → Cause → Type 0
+TellsOf (SlotsDiffer apart) told = told ≡ causes.SlotsDiffer apart
+TellsOf (NoSteps unpaid) told = TellsOfReason unpaid.reason told
 
 -- the cause holds of a routine of the text's code that begins at the line, and is that slots differ wherever ways of control meet so; and
 -- it tells of what stops the search for rows and potentials there

@@ -1,12 +1,18 @@
 //! The image of a text, or why there is none, with the cause.
 
-ghost use Rattle.std.specs.Prelude.{◌≡◌, true, IfOk, IfErr};
+ghost use Rattle.std.specs.Prelude.{◌≡◌, true, false, IfOk, IfErr};
+ghost use Rattle.geos_infer.specs.Findings.{Stops};
+ghost use Rattle.geos_rows.specs.Why.{MeetAlike};
 ghost use Rattle.geos_source.specs.InstrLines.{instr_lines};
-ghost use Rattle.geos_asm.specs.Assembling.{IsAssembled, RunsIfAnyDoes, IsWhyUnassembled, unassembled_by};
+ghost use Rattle.loop_causes.specs.Causes.{Holds, tells_of_slots};
+ghost use Rattle.geos_asm.specs.Assembling.{IsAssembled, RunsIfAnyDoes, IsWhyUnassembled, TellsOf, unassembled_by};
 ghost use Rattle.geos_asm.specs.declared.cause.Unassembled.TheVariants.{Memory};
 
 use crate::assembler::Assembled;
-use geos_infer::{Cause, FindError, find_cause, find_image};
+use geos_causes::Cause;
+use geos_diagnosis::find_cause;
+use geos_image::Image;
+use geos_infer::{FindError, Finding, Obstacle, find_image};
 use geos_source::{BadLine, ParseError, Parsed, parse, skeleton};
 use std::alloc::{AllocError, Global};
 
@@ -41,6 +47,26 @@ impl From<ParseError> for Unassembled {
     }
 }
 
+/// Why no rows or no numbers of steps are found for the routine of a finding. If paths meet with slots that differ in more than marks, that
+/// is the cause.
+fn cause_of(alloc: Global, image: &Image, finding: &Finding) -> Result<Cause, AllocError>
+    requires { Stops image.now finding.now }
+    ensures holds { IfOk result (Holds image.now finding.now.routine) }
+    ensures tells { IfOk result (TellsOf finding.now.obstacle) }
+    ensures slots { IfOk result (λ cause. tells_of_slots cause ≡ false → MeetAlike image.now finding.now.routine) }
+{
+    match &finding.obstacle {
+        Obstacle::SlotsDiffer(apart) => Ok(Cause::SlotsDiffer(*apart)),
+        Obstacle::NoSteps(unpaid) => find_cause(
+            alloc,
+            image,
+            finding.routine,
+            &unpaid.known,
+            &unpaid.reason,
+        ),
+    }
+}
+
 /// The image of an assembly text, with the line of each instruction, where `assemble` answers one; else why there is none. Where no rows
 /// are found, that is a cause which holds of the routine, and tells of what stopped the search for rows and numbers of steps there.
 pub fn assemble_or_tell(alloc: Global, text: &[u8]) -> Result<Assembled, Unassembled>
@@ -60,7 +86,7 @@ pub fn assemble_or_tell(alloc: Global, text: &[u8]) -> Result<Assembled, Unassem
         Err(FindError::Stopped(finding)) => {
             let routine = &parsed.routines[usize::from(finding.routine)];
             let line = routine.line;
-            let cause = find_cause(alloc, &blank, &finding);
+            let cause = cause_of(alloc, &blank, &finding);
             // By a call, so that the check does not go over each table here.
             drop(finding);
             Err(Unassembled::NoRows(line, cause?, parsed))

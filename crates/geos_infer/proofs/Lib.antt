@@ -3,16 +3,10 @@ pub mod Wanted
 pub mod Accepting
 pub mod Found
 pub mod Stopping
-pub mod Telling
 pub mod Keyed
 pub mod Copies
-pub mod Changes
-pub mod Onward
 pub mod Past
 pub mod Refused
-pub mod Longest
 pub mod Answering
 pub mod Final
 pub mod Holding
-pub mod Tests
-pub mod Kept

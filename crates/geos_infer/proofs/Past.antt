@@ -16,7 +16,8 @@ use Rattle.geos_code.specs.Known.{row_of, known_at, clean}
 use Rattle.geos_counters.specs.Counters.{zeros}
 use Rattle.geos_rows.specs.Reached.{EdgeFits, FitWhereReached, AreAtMostAny}
 use Rattle.geos_rows.specs.Solutions.{RowsHoldIn}
-use Rattle.geos_infer.specs.Taken.{NoneIsAcceptedPast, StepsPass, WordsPass, word_at}
+use Rattle.geos_infer.specs.Refusals.{NoneIsAcceptedPast}
+use Rattle.loop_causes.specs.Taken.{StepsPass, WordsPass, word_at}
 use Rattle.geos_potentials.specs.Accepted.{HasAccepted}
 use Rattle.geos_potentials.proofs.Asks.{zero-at}
 use Rattle.geos_code.proofs.Cleaning.{clean-least}

@@ -24,7 +24,7 @@ use Rattle.geos_verify.proofs.Leads.{leads-along, leads-branching, may_return}
 use Rattle.geos_semantics.proofs.Paid.{pays-value, pays_setting-value, pays_taking-value, pays_calling-value, spent-at}
 use Rattle.geos_code.specs.Code.{IsPcOf, instr_of}
 use Rattle.geos_counters.specs.Steps.{call_steps, taken_at}
-use Rattle.geos_infer.specs.Taken.{Place, Counts, Takes, word_at}
+use Rattle.loop_causes.specs.Taken.{Place, Counts, Takes, word_at}
 use Rattle.geos_potentials.specs.Accepted.{HasAccepted}
 use Rattle.geos_code.specs.Edges.{LeadsTo}
 use Rattle.geos_potentials.proofs.Asks.{called}

@@ -1,9 +1,4 @@
 pub mod Points
 pub mod Theorem
 pub mod Findings
-pub mod Taken
-pub mod Turns
-pub mod Ahead
-pub mod Causes
-pub mod Tells
-pub mod Noted
+pub mod Refusals

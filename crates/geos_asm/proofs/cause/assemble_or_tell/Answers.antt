@@ -22,8 +22,8 @@ returns-in-Ok-clause-accepted c =
     found.what_there_is in
     subst (RunsIfAnyDoes text) (sym c.into_keyed.ensures.value) (runs_if_any text whole made)
 
-pub find_cause-cause-requires : goal.find_cause-cause-requires
-find_cause-cause-requires c = subst (IsWhyNone c.in_ok-blank.blank) c.in-Err-Stopped.field-0-is c.in-Err-Stopped.ensures.why
+pub cause_of-cause-requires : goal.cause_of-cause-requires
+cause_of-cause-requires c = subst (IsWhyNone c.in_ok-blank.blank) c.in-Err-Stopped.field-0-is c.in-Err-Stopped.ensures.why
 
 pub returns-in_ok-cause-in-Err-Stopped-clause-why : goal.returns-in_ok-cause-in-Err-Stopped-clause-why
 returns-in_ok-cause-in-Err-Stopped-clause-why c =

@@ -1,5 +1,0 @@
-use Rattle.std.proofs.Common.{refl}
-use Rattle.geos_infer.proofs.diagnosis.cause_of_set.Goals as goal
-
-pub returns-in-Some-clause-tells : goal.returns-in-Some-clause-tells
-returns-in-Some-clause-tells c = record { pc = c.in-Some.within.back.from; there = c.in-Some.ensures.place; loop = refl }

@@ -1,7 +1,0 @@
-use Rattle.std.proofs.Common.{sym, subst}
-use Rattle.control_graph.specs.Orders.{HasPlace}
-use Rattle.geos_infer.proofs.diagnosis.find_set.Goals as goal
-
-pub returns-in-Some-clause-place : goal.returns-in-Some-clause-place
-returns-in-Some-clause-place c = subst (HasPlace c.args.search.now.splitting.order c.args.piece.now) (sym c.in-Some.ensures.at)
-    (c.has.ensures.0 c.if-has.true)

@@ -1,4 +1,0 @@
-use Rattle.geos_infer.proofs.diagnosis.least_steps_pass.Goals as goal
-
-pub returns : goal.returns
-returns c = λ is. (c.in_ok-nothing.nothing, c.in_ok-nothing.ensures, c.in_ok-passes.ensures is)

@@ -1,5 +1,0 @@
-use Rattle.std.proofs.Common.{◌<◌}
-use Rattle.geos_infer.proofs.trails.Trails.origin.Given as goal
-
-abbrev pub invariant-loop : goal.invariant-loop
-invariant-loop l = l.at < 4096

@@ -1,5 +1,0 @@
-use Rattle.geos_infer.specs.Turns.{AreTurns}
-use Rattle.geos_infer.proofs.turns.note_turns.Given as goal
-
-abbrev pub invariant-loop-pc : goal.invariant-loop-pc
-invariant-loop-pc l = AreTurns l.rows l.body.image.now l.body.r l.turns

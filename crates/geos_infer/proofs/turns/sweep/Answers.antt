@@ -1,4 +1,0 @@
-use Rattle.geos_infer.proofs.turns.sweep.Goals as goal
-
-pub loop-preserved : goal.loop-preserved
-loop-preserved c = λ begin all. c.go_all.ensures begin (c.loop.invariant begin all)

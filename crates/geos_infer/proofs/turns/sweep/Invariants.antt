@@ -1,6 +1,0 @@
-use Rattle.geos_infer.specs.Turns.{StayReached}
-use Rattle.geos_infer.proofs.turns.sweep.Given as goal
-
--- so far what the table says of ways stays so
-abbrev pub invariant-loop : goal.invariant-loop
-invariant-loop l = StayReached l.loops.rows.now l.loops.body.image.now l.loops.body.r l.low l.high l.initial.reached l.reached
