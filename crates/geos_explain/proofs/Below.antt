@@ -13,23 +13,19 @@ pub use Rattle.geos_flow.specs.declared.edge.Edge.{Edge}
 pub use Rattle.geos_flow.specs.declared.search.Heading.{Heading}
 pub use Rattle.geos_flow.specs.declared.search.Heading.TheVariants.{Back, Ahead}
 pub use Rattle.geos_image.proofs.Instrs.{image_parts}
-pub use Rattle.geos_image.proofs.Starts.{some_routine, start_of-next, start_of-le, start_of-end}
+pub use Rattle.geos_image.proofs.Starts.{start_of-end}
 pub use Rattle.geos_image.specs.Keys.{branches, falls_through}
 pub use Rattle.geos_image.specs.Legal.{is_shaped, is_image}
 pub use Rattle.geos_image.specs.Open.{open_row}
 pub use Rattle.geos_image.specs.Parts.{start_of, Parts}
 pub use Rattle.geos_image.specs.declared.instr.Instr.{Instr}
 pub use Rattle.geos_image.specs.declared.point.Point.{Point}
-pub use Rattle.geos_image.specs.declared.routine.Routine.{Routine}
 pub use Rattle.geos_image.specs.declared.row.Pointer.{Pointer}
 pub use Rattle.geos_image.specs.declared.row.Row.{Row}
 pub use Rattle.geos_image.specs.declared.row.SlotState.{SlotState}
 pub use Rattle.geos_image.specs.declared.row.SlotState.TheVariants.{Empty, Mem, Vm, Db}
 pub use Rattle.geos_listing.proofs.Limits.{KeepsLimits-at}
-pub use Rattle.geos_listing.specs.Instrs.{name_of, label_line, instr_code}
-pub use Rattle.geos_listing.specs.Rows.{row_items}
 pub use Rattle.geos_opcodes.specs.Facts.{facts}
-pub use Rattle.geos_text.proofs.Texts.{some-written}
 pub use Rattle.geos_verify.proofs.Known.{at_place-is, by-parts}
 pub use Rattle.geos_verify.proofs.Places.{point-of, found-within, places-length}
 pub use Rattle.geos_verify.proofs.RowsFit.{fits-trans}
@@ -37,24 +33,14 @@ pub use Rattle.geos_verify.specs.Lists.{zip2, all2}
 pub use Rattle.geos_verify.specs.Pairs.{slot_pairs, each_pair}
 pub use Rattle.geos_verify.specs.Places.{places, at_place}
 pub use Rattle.geos_verify.specs.Rows.{pointer_at, after, has_edge, slot_fits, pointer_fits, pair_fits, is_empty, is_stale, may_be_given, may_be_one, may_enter, is_left, may_leave, fits, at_point, HasEdge}
-pub use Rattle.geos_verify.specs.RuleText.{rule_number}
-pub use Rattle.geos_verify.specs.Rules.{over_budget}
 pub use Rattle.geos_verify.specs.Touched.{calls}
 pub use Rattle.geos_verify.specs.declared.place.Place.{Place as KnownPlace}
 pub use Rattle.geos_verify.specs.declared.rule.Rule.{Rule}
-pub use Rattle.geos_verify.specs.declared.rule.Rule.TheVariants.{OverBudget}
 pub use Rattle.std.proofs.Math.ListN.{drop_of_length-le}
 pub use Rattle.std.proofs.Math.Seq.{get_or-append_seam, drop-cons}
-pub use Rattle.std.proofs.lemmas.Bool.{cases_eq, cases_lt, cond_both, and_parts, eqb-true, not-true, and_from, or_cases, or_left, or_right, not_from_false, le-leb, leb-true, lt-ltb, ltb-true, ne_eqb}
+pub use Rattle.std.proofs.lemmas.Bool.{cases_eq, cases_lt, cond_both, and_parts, eqb-true, not-true, and_from, or_cases, or_left, or_right, not_from_false, le-leb, leb-true, lt-ltb, ltb-true}
 pub use Rattle.std.proofs.lemmas.Bool.Decides.{nat_tests}
-pub use Rattle.std.proofs.lemmas.Grind.{common_steps}
-pub use Rattle.std.proofs.lemmas.List.{get_or-set_same, get_or-set_other, set_past, get_or_append_left, append-nil, get_or-map, drop_at, get_or_past, take_all, take_rest, append_assoc}
-pub use Rattle.std.proofs.lemmas.List.Elements.{All-nil, All-cons, All-append}
-pub use Rattle.std.proofs.lemmas.List.Folds.{concat-append}
-pub use Rattle.std.proofs.lemmas.List.Sums.{count_by_more_yes, count_by_more_no}
+pub use Rattle.std.proofs.lemmas.List.{get_or-set_same, get_or-set_other, set_past, get_or_append_left, get_or-map, take_rest}
 pub use Rattle.std.proofs.lemmas.Option.{same_Some, slice_get_within, slice_get_past}
-pub use Rattle.std.proofs.lemmas.Result.{on_ok_weaker}
-pub use Rattle.std.specs.List.{concat, list_all}
-pub use Rattle.std.specs.Option.{option_or, option_map_or}
-pub use Rattle.std.specs.Result.{is_ok}
-pub use Rattle.std.specs.Str.Lines.{lines}
+pub use Rattle.std.specs.List.{list_all}
+pub use Rattle.std.specs.Option.{option_or}

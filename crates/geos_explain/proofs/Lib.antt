@@ -3,16 +3,12 @@ mod Below
 mod Comes
 mod Fits
 mod Forgetting
-mod Found
 mod FoundWays
 mod Holding
 mod Leads
 mod Losing
-mod Noted
 mod Outside
 mod Places
 mod Reached
 mod Repeating
 mod Serving
-mod Told
-mod Untold

@@ -1,9 +1,7 @@
 -- Which budget serves a routine, which counters are still to pay at its beginning, from which a LOOP takes though nothing sets them, and
 -- which is set to a word that may be any.
-use Rattle.std.specs.Prelude.{◌≡◌, ℕ, Bool, true, false, ◌&&◌, not, nat_lt, List, [], ◌∷◌, ◌++◌, Option, Some, None, slice_get, codes, if◌then◌else◌, ◌==◌, slice_index, decimal}
-use Rattle.geos_explain.specs.Below.{concat, Instr, Point, Row, KnownPlace, places, bound, call_misfits, calls, CounterUse, SetTo, SetToWord, CountsDown, facts, Parts, Edge, Ahead, step_by, Leads, texts_below}
-use Rattle.geos_explain.specs.Notes.{budget_words, budget_wish}
-use Rattle.geos_explain.specs.Numbers.{pc_text}
+use Rattle.std.specs.Prelude.{◌≡◌, ℕ, Bool, true, false, ◌&&◌, not, nat_lt, Option, Some, None, slice_get, ◌==◌, slice_index}
+use Rattle.geos_explain.specs.Below.{Instr, Point, Row, KnownPlace, places, bound, call_misfits, calls, CounterUse, SetTo, SetToWord, CountsDown, facts, Parts, Edge, Ahead, step_by, Leads}
 use Rattle.geos_explain.specs.Places.{Place, first_of, is_inside}
 use Rattle.geos_explain.specs.Since.{IsInside}
 use Rattle.geos_explain.specs.Led.{leads}
@@ -49,20 +47,6 @@ takes_at place k from = elim (slice_get place.image.points from) [
 abbrev pub unset_loop : Place → ℕ → Option ℕ
 unset_loop place k = first_of place (takes_at place k) place.routine.count
 
--- the counter is not set on the way to an instruction that takes from it, where there is such an instruction
-abbrev pub found_text : List ℕ → ℕ → Option ℕ → List ℕ
-found_text lines k None = []
-found_text lines k (Some pc) =
-    concat (codes "; k" ∷ decimal k ∷ codes " is not set on the way to LOOP at" ∷ pc_text lines pc ∷ codes ": set it first by SETK or SETKW" ∷ [])
-
--- the same of a counter that still pays at a place
-unfoldable pub unset_item : Place → ℕ → List ℕ
-unset_item place k = if pays_at place.image k place.pc then found_text place.lines k (unset_loop place k) else []
-
--- the same of each counter
-abbrev pub unset_items : Place → List ℕ
-unset_items place = texts_below 4 (λ k. unset_item place k)
-
 -- What is said, as a relation on ways
 
 -- a way leads from the place to an instruction of its routine that takes from the counter, on which no instruction sets the
@@ -90,14 +74,6 @@ calls_on_at place from = elim (slice_get place.image.points from) [ None ↦ fal
 abbrev pub calling_on : Place → Option ℕ
 calling_on place = first_of place (calls_on_at place) place.routine.count
 
--- which budget serves: none where there is such a call, else the least that the potential is within
-unfoldable pub serving_words : Place → List ℕ
-serving_words place = elim (calling_on place) [
-  | None ↦ budget_wish place.potential
-  | Some from ↦ concat (codes ": no budget serves while CALL at" ∷ pc_text place.lines from
-      ∷ codes " names a routine that does not stand before this one" ∷ [])
-]
-
 -- an instruction sets a counter to a word that may be any
 abbrev pub sets_to_any : CounterUse → Instr → Row → Bool
 sets_to_any SetToWord i row = bound row i.b == 65535
@@ -113,22 +89,6 @@ sets_to_any_at place from = elim (slice_get (places place.image) from) [
 -- the first such instruction of the routine
 abbrev pub setting_to_any : Place → Option ℕ
 setting_to_any place = first_of place (sets_to_any_at place) place.routine.count
-
--- what helps there
-unfoldable pub any_words : Place → ℕ → List ℕ
-any_words place from = elim (slice_get place.image.points from) [
-  | None ↦ []
-  | Some point ↦ concat (codes "; w" ∷ decimal point.instr.b ∷ codes " may be 65535 at" ∷ pc_text place.lines from
-      ∷ codes ", which sets k" ∷ decimal point.instr.a ∷ codes ": CHK it by a lower number" ∷ [])
-]
-
--- the same, if there is such an instruction
-unfoldable pub any_item : Place → List ℕ
-any_item place = elim (setting_to_any place) [ None ↦ [] | Some from ↦ any_words place from ]
-
--- a potential is above the budget, which budget serves, which counters are never set, and which is set to a word that may be any
-unfoldable pub over_words : Place → List ℕ
-over_words place = budget_words place.routine place.potential ++ serving_words place ++ unset_items place ++ any_item place
 
 -- What is said, as a relation
 

@@ -1,7 +1,7 @@
 -- Which call forgets what is to be known at a place, since behind it only what its routine's `out` line says is known; and which
 -- instruction moves an index going round a loop.
-use Rattle.std.specs.Prelude.{◌≡◌, ℕ, Bool, true, false, ◌&&◌, not, nat_lt, nat_le, Option, Some, None, slice_get, slice_index_or, ◌||◌, ◌==◌, if◌then◌else◌, List, [], ◌∷◌, codes, decimal}
-use Rattle.geos_explain.specs.Below.{KnownPlace, places, Row, after, bound, has_edge, is_empty, pointer_at, pointer_fits, slot_fits, slot_state, Edge, Back, end_of, step_by, IsLedFrom, concat, Instr, Opcode, Add, Sub, Muli, word_of}
+use Rattle.std.specs.Prelude.{◌≡◌, ℕ, Bool, true, false, ◌&&◌, not, nat_lt, nat_le, Option, Some, None, slice_get, slice_index_or, ◌||◌, ◌==◌, if◌then◌else◌}
+use Rattle.geos_explain.specs.Below.{KnownPlace, places, Row, after, bound, has_edge, is_empty, pointer_at, pointer_fits, slot_fits, slot_state, Edge, Back, end_of, step_by, IsLedFrom, Instr, Opcode, Add, Sub, Muli}
 use Rattle.geos_explain.specs.declared.forgotten.Item.{Item}
 use Rattle.geos_explain.specs.declared.forgotten.Item.TheVariants.{Bound, Slot, Held, Leads, Apart}
 use Rattle.geos_explain.specs.Led.{leads}
@@ -9,7 +9,6 @@ use Rattle.geos_explain.specs.Lost.{ComesTo}
 use Rattle.geos_explain.specs.Places.{Place, comes_alike, is_inside, last_of}
 use Rattle.geos_explain.specs.Since.{IsInside}
 use Rattle.geos_explain.specs.Ways.{forgets}
-use Rattle.geos_explain.specs.Numbers.{pc_text}
 
 -- a row knows an item
 abbrev pub knows : Row → Item → Bool
@@ -93,21 +92,6 @@ if_round place item (Some from) = if is_lacked_from place item from place.pc the
 -- back to it
 abbrev pub moving : Place → Item → ℕ → Option ℕ
 moving place item w = if_round place item (last_of place (moves_at place item w) place.routine.count)
-
--- an instruction moves a word going round, and it is not known then to be at most so much
-unfoldable pub moved_words : Place → ℕ → ℕ → ℕ → Instr → List ℕ
-moved_words place w most from i =
-    concat (codes "; " ∷ word_of i.opcode ∷ codes " at" ∷ pc_text place.lines from ∷ codes " moves w" ∷ decimal w
-    ∷ codes " going round, and w" ∷ decimal w ∷ codes "<=" ∷ decimal most ∷ codes " is not known then" ∷ [])
-
--- the same, if there is an instruction at a pc
-abbrev pub moved_from : Place → ℕ → ℕ → ℕ → List ℕ
-moved_from place w most from = elim (slice_get (places place.image) from) [ None ↦ [] | Some point ↦ moved_words place w most from point.instr ]
-
--- which instruction moves an index going round, where a bound of it is wanted, if one does
-unfoldable pub moved_text : Place → Item → List ℕ
-moved_text place (Bound w most) = elim (moving place (Bound w most) w) [ None ↦ [] | Some from ↦ moved_from place w most from ]
-moved_text place _ = []
 
 -- What is said, as a relation on ways
 

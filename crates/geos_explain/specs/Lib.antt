@@ -1,5 +1,4 @@
 pub mod Below
-pub mod Numbers
 pub mod Public
 pub mod Led
 pub mod Standing
@@ -16,10 +15,8 @@ pub mod Forgotten
 pub mod Calls
 pub mod Steps
 pub mod Budgets
-pub mod Words
 pub mod Told
 pub mod Repeated
-pub mod Findings
 pub mod Refusals
 pub mod Explanation
 pub mod Texts

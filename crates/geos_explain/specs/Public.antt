@@ -1,7 +1,6 @@
 -- What the entry and exit rows of a public routine say and may not say.
-use Rattle.std.specs.Prelude.{◌≡◌, ◌↔◌, ℕ, Bool, true, ◌&&◌, ◌||◌, not, if◌then◌else◌, List, [], map, ◌++◌, slice_index_or, codes}
-use Rattle.geos_explain.specs.Below.{Row, SlotState, Empty, Vm, Routine, is_own, is_shaped, open_row, row_items, zip2, slot_pairs, each_pair, is_empty, may_enter, may_leave}
-use Rattle.geos_explain.specs.Numbers.{also_are}
+use Rattle.std.specs.Prelude.{◌≡◌, ◌↔◌, ℕ, Bool, true, ◌&&◌, ◌||◌, not, if◌then◌else◌, List, map, slice_index_or}
+use Rattle.geos_explain.specs.Below.{Row, SlotState, Empty, Vm, is_own, is_shaped, open_row, zip2, slot_pairs, each_pair, is_empty, may_enter, may_leave}
 
 -- a slot that is held and not borrowed, else an empty one
 abbrev pub own_only : SlotState → SlotState
@@ -48,32 +47,18 @@ kept_only entry exit = if is_own entry || is_own exit then exit else Empty
 abbrev pub kept_slots : Row → Row → Row
 kept_slots entry exit = record open_row { slots = zip2 kept_only entry.slots exit.slots }
 
--- what an entry row wants that not every caller from outside has
-unfoldable pub entry_faults : Row → List ℕ
-entry_faults entry =
-    also_are (row_items (own_slots entry)) (codes " held in the in line, and not borrowed")
-    ++ also_are (row_items (marked_slots entry)) (codes " marked in the in line, which no caller from outside promises")
-    ++ also_are (row_items (held_pairs entry)) (codes " known in the in line, and a caller from outside may lend one block twice")
-    ++ also_are (row_items (known_pointers entry)) (codes " known in the in line")
+-- nothing is said against an entry row and an exit row: each row of what is said has no item
+pub record HasNoFaults (entry exit : Row) : Type 0 where
+  pub own : own_slots entry ≡ open_row
+  pub marked : marked_slots entry ≡ open_row
+  pub pairs : held_pairs entry ≡ open_row
+  pub pointers : known_pointers entry ≡ open_row
+  pub missing : missing_slots entry exit ≡ open_row
+  pub kept : kept_slots entry exit ≡ open_row
+  pub left : known_pointers exit ≡ open_row
 
--- that slots which a row has borrowed are missing in an exit row
-unfoldable pub missing_words : Row → Row → List ℕ
-missing_words row exit = also_are (row_items (missing_slots row exit)) (codes " borrowed from the caller, and missing in the out line")
-
--- what an exit row lacks of what was borrowed, and what else it holds or knows
-unfoldable pub exit_faults : Row → Row → List ℕ
-exit_faults entry exit =
-    missing_words entry exit
-    ++ also_are (row_items (kept_slots entry exit)) (codes " held in the out line, and not borrowed in both lines")
-    ++ also_are (row_items (known_pointers exit)) (codes " known in the out line")
-
--- how a public routine begins and ends, and what its rows say otherwise
-unfoldable pub public_words : Routine → List ℕ
-public_words routine =
-    codes " a public routine begins and ends with empty or borrowed slots and stale pointers" ++ entry_faults routine.entry ++ exit_faults routine.entry routine.exit
-
--- nothing is said against an entry row and an exit row exactly where a caller from outside may enter and leave by them
+-- nothing is said against them exactly where a caller from outside may enter and leave by them
 abbrev pub NoFaultsWhereItMayEnterAndLeave : Type 0
 NoFaultsWhereItMayEnterAndLeave =
     (entry exit : Row) → is_shaped entry ≡ true → is_shaped exit ≡ true
-    → (entry_faults entry ++ exit_faults entry exit ≡ []) ↔ (may_enter entry && may_leave entry exit ≡ true)
+    → HasNoFaults entry exit ↔ (may_enter entry && may_leave entry exit ≡ true)

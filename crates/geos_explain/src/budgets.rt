@@ -1,13 +1,13 @@
 //! Which budget serves a routine, which counters are still to pay at its beginning, from which a LOOP takes though nothing sets them,
 //! and which is set to a word that may be any.
 
-ghost use Rattle.std.specs.Prelude.{◌≡◌, ◌++◌, OnOk, ◌<◌};
-ghost use Rattle.geos_explain.specs.Places.{place_of};
-ghost use Rattle.geos_explain.specs.Budgets.{calls_on_at, calling_on, serving_words, over_words, WhatIsSaidOfBudgetsHolds, takes};
-ghost use Rattle.geos_explain.specs.Budgets.{gives, pays_at, leaves_alone, is_unset_at, takes_at, unset_loop, unset_item, unset_items};
-ghost use Rattle.geos_explain.specs.Budgets.{WhatIsSaidOfCountersHolds, stays_unset};
-ghost use Rattle.geos_explain.specs.Budgets.{sets_to_any, sets_to_any_at, setting_to_any, any_words, any_item, WhatIsSaidOfWordsHolds};
+ghost use Rattle.std.specs.Prelude.{◌≡◌, ◌<◌};
 ghost use Rattle.geos_flow.specs.Marks.{Marking};
+ghost use Rattle.geos_explain.specs.Places.{place_of};
+ghost use Rattle.geos_explain.specs.Budgets.{takes, gives, pays_at, leaves_alone, stays_unset, is_unset_at, takes_at, unset_loop};
+ghost use Rattle.geos_explain.specs.Budgets.{IsTakenUnset, WhatIsSaidOfCountersHolds, calls_on_at, calling_on, IsNeverServed};
+ghost use Rattle.geos_explain.specs.Budgets.{WhatIsSaidOfBudgetsHolds, sets_to_any, sets_to_any_at, setting_to_any, IsSetToAny};
+ghost use Rattle.geos_explain.specs.Budgets.{WhatIsSaidOfWordsHolds};
 
 use crate::Done;
 use crate::filled::Filled;
@@ -125,30 +125,31 @@ fn unset_loop(place: &Place, k: u8) -> Option<u16>
     first
 }
 
-/// A counter that still pays at a place is not set on the way to an instruction that takes from it, where there is such an
-/// instruction.
-#[tactic(auto, unfolding(crate::specs::Budgets::unset_item))]
+/// The counter is not set on the way to the instruction at a pc that takes from it.
+fn put_unset_loop(out: &mut Vec<u8>, place: &Place, k: u8, pc: u16) -> Done
+    requires { IsTakenUnset (place_of place.now) k pc }
+{
+    put!(out;
+        "; k" {k} " is not set on the way to LOOP at" (pc_part(place.lines, pc))
+        ": set it first by SETK or SETKW"
+    )
+}
+
+/// The same of a counter that still pays at a place, where there is such an instruction.
 fn put_unset_item(out: &mut Vec<u8>, place: &Place, k: u8) -> Done
     requires { k < 4 }
-    ensures { OnOk result (out.new.items ≡ out.old.items ++ unset_item (place_of place.now) k) }
 {
     if !pays_at(place.image, k, place.pc) {
         return Ok(());
     }
     match unset_loop(place, k) {
-        Some(pc) => put!(out;
-            "; k" {k} " is not set on the way to LOOP at" (pc_part(place.lines, pc))
-            ": set it first by SETK or SETKW"
-        ),
+        Some(pc) => put_unset_loop(out, place, k, pc),
         None => Ok(()),
     }
 }
 
 /// The same of each counter.
-#[tactic(auto, unfolding(geos_listing::specs::Rows::texts_below))]
-pub(crate) fn put_unset_items(out: &mut Vec<u8>, place: &Place) -> Done
-    ensures { OnOk result (out.new.items ≡ out.old.items ++ unset_items (place_of place.now)) }
-{
+pub(crate) fn put_unset_items(out: &mut Vec<u8>, place: &Place) -> Done {
     for k in 0..4 {
         put_unset_item(out, place, k)?;
     }
@@ -186,16 +187,20 @@ fn calling_on(place: &Place) -> Option<u16>
     first
 }
 
-/// Which budget serves: none where there is such a call, else the least that the potential is within.
-#[tactic(auto, unfolding(crate::specs::Budgets::serving_words))]
-fn put_serving(out: &mut Vec<u8>, place: &Place) -> Done
-    ensures { OnOk result (out.new.items ≡ out.old.items ++ serving_words (place_of place.now)) }
+/// No budget serves because of the call at a pc.
+fn put_never_served(out: &mut Vec<u8>, place: &Place, from: u16) -> Done
+    requires { IsNeverServed (place_of place.now) from }
 {
+    put!(out;
+        ": no budget serves while CALL at" (pc_part(place.lines, from))
+        " names a routine that does not stand before this one"
+    )
+}
+
+/// Which budget serves: none where there is such a call, else the least that the potential is within.
+fn put_serving(out: &mut Vec<u8>, place: &Place) -> Done {
     match calling_on(place) {
-        Some(from) => put!(out;
-            ": no budget serves while CALL at" (pc_part(place.lines, from))
-            " names a routine that does not stand before this one"
-        ),
+        Some(from) => put_never_served(out, place, from),
         None => put_budget_wish(out, place.potential),
     }
 }
@@ -239,9 +244,8 @@ fn setting_to_any(place: &Place) -> Option<u16>
 }
 
 /// What helps there.
-#[tactic(auto, unfolding(crate::specs::Budgets::any_words))]
 fn put_any(out: &mut Vec<u8>, place: &Place, from: u16) -> Done
-    ensures { OnOk result (out.new.items ≡ out.old.items ++ any_words (place_of place.now) from) }
+    requires { IsSetToAny (place_of place.now) from }
 {
     match place.image.point(from) {
         Some(point) => put!(out;
@@ -253,10 +257,7 @@ fn put_any(out: &mut Vec<u8>, place: &Place, from: u16) -> Done
 }
 
 /// The same, if there is such an instruction.
-#[tactic(auto, unfolding(crate::specs::Budgets::any_item))]
-fn put_any_item(out: &mut Vec<u8>, place: &Place) -> Done
-    ensures { OnOk result (out.new.items ≡ out.old.items ++ any_item (place_of place.now)) }
-{
+fn put_any_item(out: &mut Vec<u8>, place: &Place) -> Done {
     match setting_to_any(place) {
         Some(from) => put_any(out, place, from),
         None => Ok(()),
@@ -269,10 +270,7 @@ pub fn what_is_said_of_words_holds()
 {}
 
 /// The potential is above the budget, which budget serves, which counters are never set, and which is set to a word that may be any.
-#[tactic(auto, unfolding(crate::specs::Budgets::over_words))]
-pub(crate) fn put_over(out: &mut Vec<u8>, place: &Place) -> Done
-    ensures { OnOk result (out.new.items ≡ out.old.items ++ over_words (place_of place.now)) }
-{
+pub(crate) fn put_over(out: &mut Vec<u8>, place: &Place) -> Done {
     put_budget(out, place.routine, place.potential)?;
     put_serving(out, place)?;
     put_unset_items(out, place)?;

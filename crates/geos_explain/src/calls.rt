@@ -1,12 +1,11 @@
 //! What is said of a call that forgets what is to be known at a place.
 
-ghost use Rattle.std.specs.Prelude.{◌≡◌, ◌<◌, ◌++◌, OnOk};
-ghost use Rattle.geos_explain.specs.Places.{place_of};
-ghost use Rattle.geos_explain.specs.Calls.{only_pair, item_text, lines_of, call_head, kept_wish, forgotten_at, forgotten_text};
-ghost use Rattle.geos_explain.specs.Calls.{forgotten_item, bound_wanted, slot_wanted, pointer_wanted, pair_wanted, forgotten_of};
-ghost use Rattle.geos_explain.specs.Calls.{forgotten_items, lent_item, lent_of, lent_items, changes, changes_here, changes_slot, slot_kept};
-ghost use Rattle.geos_explain.specs.Calls.{changed_by, changed_words};
 ghost use Rattle.std.specs.List.{list_any};
+ghost use Rattle.std.specs.Prelude.{◌≡◌, ◌<◌};
+ghost use Rattle.geos_explain.specs.Forgotten.{IsForgottenBy};
+ghost use Rattle.geos_explain.specs.Places.{place_of};
+ghost use Rattle.geos_explain.specs.Calls.{bound_wanted, slot_wanted, pointer_wanted, pair_wanted, changes, changes_here, changes_slot};
+ghost use Rattle.geos_explain.specs.Calls.{slot_kept, changed_by, only_pair};
 
 use crate::Done;
 use crate::filled::Filled;
@@ -82,10 +81,7 @@ pub(crate) fn changed_by(image: &Filled, r: u16, item: Item) -> Option<u8>
 }
 
 /// Routine r, of this name, changes the slot; where it locks a block into it, another slot helps.
-#[tactic(auto, unfolding(crate::specs::Calls::changed_words))]
-pub(crate) fn put_changed(out: &mut Vec<u8>, image: &Filled, r: u16, name: &[u8], a: u8) -> Done
-    ensures { OnOk result (out.new.items ≡ out.old.items ++ changed_words image.now r name.now a) }
-{
+pub(crate) fn put_changed(out: &mut Vec<u8>, image: &Filled, r: u16, name: &[u8], a: u8) -> Done {
     if changes_slot(image, false, r, a) {
         put!(out; " " bytes(name) " locks or unlocks s" {a} " itself: hold the block in another slot")
     } else {
@@ -105,10 +101,7 @@ fn only_pair(pair: u8) -> Row
 }
 
 /// The item as it stands in a line `in` or `out`; of a slot that is to be held, what the row says that it holds.
-#[tactic(auto, unfolding(crate::specs::Calls::item_text))]
-fn put_item(out: &mut Vec<u8>, row: &Row, item: Item) -> Done
-    ensures { OnOk result (out.new.items ≡ out.old.items ++ item_text row.now item) }
-{
+fn put_item(out: &mut Vec<u8>, row: &Row, item: Item) -> Done {
     match item {
         Item::Bound(w, most) => put!(out; " w" {w} "<=" {most}),
         Item::Slot(a, state) => put!(out; " s" {a} "=" [state_word(state)]),
@@ -119,18 +112,12 @@ fn put_item(out: &mut Vec<u8>, row: &Row, item: Item) -> Done
 }
 
 /// The lines of a routine in which something is to be said.
-#[tactic(auto, unfolding(crate::specs::Calls::lines_of))]
-fn put_lines_of(out: &mut Vec<u8>, name: &[u8]) -> Done
-    ensures { OnOk result (out.new.items ≡ out.old.items ++ lines_of name.now) }
-{
+fn put_lines_of(out: &mut Vec<u8>, name: &[u8]) -> Done {
     put!(out; " in the in and out lines of " bytes(name))
 }
 
 /// A call of a routine leaves only what its `out` line says.
-#[tactic(auto, unfolding(crate::specs::Calls::call_head))]
-fn put_call_head(out: &mut Vec<u8>, place: &Place, from: u16, r: u16) -> Done
-    ensures { OnOk result (out.new.items ≡ out.old.items ++ call_head (place_of place.now) from r) }
-{
+fn put_call_head(out: &mut Vec<u8>, place: &Place, from: u16, r: u16) -> Done {
     put!(out;
         "; CALL at" (pc_part(place.lines, from)) " leaves what the out line of "
         bytes(name_at(place.image, r)) " says"
@@ -139,10 +126,7 @@ fn put_call_head(out: &mut Vec<u8>, place: &Place, from: u16, r: u16) -> Done
 
 /// What helps where a call of routine r forgets the item, which the row knows: to say it in the lines of that routine, unless the
 /// routine changes its slot: where it locks a block into it, to take another slot.
-#[tactic(auto, unfolding(crate::specs::Calls::kept_wish))]
-fn put_kept_wish(out: &mut Vec<u8>, place: &Place, item: Item, r: u16, row: &Row) -> Done
-    ensures { OnOk result (out.new.items ≡ out.old.items ++ kept_wish (place_of place.now) item r row.now) }
-{
+fn put_kept_wish(out: &mut Vec<u8>, place: &Place, item: Item, r: u16, row: &Row) -> Done {
     if let Some(a) = changed_by(place.image, r, item) {
         out.extend_from_slice(b", and")?;
         return put_changed(out, place.image, r, name_at(place.image, r), a);
@@ -153,7 +137,6 @@ fn put_kept_wish(out: &mut Vec<u8>, place: &Place, item: Item, r: u16, row: &Row
 }
 
 /// A call forgets the item, and what helps.
-#[tactic(auto, unfolding(crate::specs::Calls::forgotten_at))]
 fn put_forgotten_at(
     out: &mut Vec<u8>,
     place: &Place,
@@ -161,17 +144,14 @@ fn put_forgotten_at(
     from: u16,
     point: &KnownPlace,
 ) -> Done
-    ensures { OnOk result (out.new.items ≡ out.old.items ++ forgotten_at (place_of place.now) item from point.now) }
+    requires { IsForgottenBy (place_of place.now) item from }
 {
     put_call_head(out, place, from, point.instr.imm)?;
     put_kept_wish(out, place, item, point.instr.imm, &point.row)
 }
 
 /// The call that forgets the item on a way to the place, if there is one.
-#[tactic(auto, unfolding(crate::specs::Calls::forgotten_text))]
-pub(crate) fn put_forgotten(out: &mut Vec<u8>, place: &Place, item: Item) -> Done
-    ensures { OnOk result (out.new.items ≡ out.old.items ++ forgotten_text (place_of place.now) item) }
-{
+pub(crate) fn put_forgotten(out: &mut Vec<u8>, place: &Place, item: Item) -> Done {
     match forgetting_call(place, item) {
         Some(from) => match place.image.place(from) {
             Some(point) => put_forgotten_at(out, place, item, from, point),
@@ -182,9 +162,7 @@ pub(crate) fn put_forgotten(out: &mut Vec<u8>, place: &Place, item: Item) -> Don
 }
 
 /// The same, if there is an item.
-fn put_forgotten_item(out: &mut Vec<u8>, place: &Place, item: Option<Item>) -> Done
-    ensures { OnOk result (out.new.items ≡ out.old.items ++ forgotten_item (place_of place.now) item) }
-{
+fn put_forgotten_item(out: &mut Vec<u8>, place: &Place, item: Option<Item>) -> Done {
     match item {
         Some(item) => put_forgotten(out, place, item),
         None => Ok(()),
@@ -238,10 +216,8 @@ fn pair_wanted(row: &Row, k: u8) -> Option<Item>
 }
 
 /// The calls that forget the items with a number that a row wants.
-#[tactic(auto, unfolding(crate::specs::Calls::forgotten_of))]
 fn put_forgotten_of(out: &mut Vec<u8>, place: &Place, wanted: &Row, k: u8) -> Done
     requires { k < 8 }
-    ensures { OnOk result (out.new.items ≡ out.old.items ++ forgotten_of (place_of place.now) wanted.now k) }
 {
     put_forgotten_item(out, place, bound_wanted(wanted, k))?;
     put_forgotten_item(out, place, slot_wanted(wanted, k))?;
@@ -250,10 +226,7 @@ fn put_forgotten_of(out: &mut Vec<u8>, place: &Place, wanted: &Row, k: u8) -> Do
 }
 
 /// The calls that forget what a row wants, for each item.
-#[tactic(auto, unfolding(geos_listing::specs::Rows::texts_below))]
-pub(crate) fn put_forgotten_items(out: &mut Vec<u8>, place: &Place, wanted: &Row) -> Done
-    ensures { OnOk result (out.new.items ≡ out.old.items ++ forgotten_items (place_of place.now) wanted.now) }
-{
+pub(crate) fn put_forgotten_items(out: &mut Vec<u8>, place: &Place, wanted: &Row) -> Done {
     for k in 0..8 {
         put_forgotten_of(out, place, wanted, k)?;
     }
@@ -262,10 +235,7 @@ pub(crate) fn put_forgotten_items(out: &mut Vec<u8>, place: &Place, wanted: &Row
 
 /// What a slot holds that is held at a call of routine r, and what helps: to say it in the lines of that routine, unless the routine
 /// changes the slot: where it locks a block into it, to take another slot.
-#[tactic(auto, unfolding(crate::specs::Calls::lent_item))]
-fn put_lent(out: &mut Vec<u8>, place: &Place, r: u16, callee: &Routine, a: u8) -> Done
-    ensures { OnOk result (out.new.items ≡ out.old.items ++ lent_item (place_of place.now) r callee.now a) }
-{
+fn put_lent(out: &mut Vec<u8>, place: &Place, r: u16, callee: &Routine, a: u8) -> Done {
     if let Some(a) = changed_by(place.image, r, Item::Held(a)) {
         out.extend_from_slice(b";")?;
         return put_changed(out, place.image, r, callee.name_text(), a);
@@ -276,10 +246,7 @@ fn put_lent(out: &mut Vec<u8>, place: &Place, r: u16, callee: &Routine, a: u8) -
 }
 
 /// The same, where the routine wants the slot empty.
-#[tactic(auto, unfolding(crate::specs::Calls::lent_of))]
-fn put_lent_of(out: &mut Vec<u8>, place: &Place, r: u16, callee: &Routine, a: u8) -> Done
-    ensures { OnOk result (out.new.items ≡ out.old.items ++ lent_of (place_of place.now) r callee.now a) }
-{
+fn put_lent_of(out: &mut Vec<u8>, place: &Place, r: u16, callee: &Routine, a: u8) -> Done {
     if is_empty(slot_state(&callee.entry, a)) && !is_empty(slot_state(place.row, a)) {
         put_lent(out, place, r, callee, a)
     } else {
@@ -288,10 +255,7 @@ fn put_lent_of(out: &mut Vec<u8>, place: &Place, r: u16, callee: &Routine, a: u8
 }
 
 /// The same of each slot.
-#[tactic(auto, unfolding(geos_listing::specs::Rows::texts_below))]
-pub(crate) fn put_lent_items(out: &mut Vec<u8>, place: &Place, r: u16, callee: &Routine) -> Done
-    ensures { OnOk result (out.new.items ≡ out.old.items ++ lent_items (place_of place.now) r callee.now) }
-{
+pub(crate) fn put_lent_items(out: &mut Vec<u8>, place: &Place, r: u16, callee: &Routine) -> Done {
     for a in 0..4 {
         put_lent_of(out, place, r, callee, a)?;
     }

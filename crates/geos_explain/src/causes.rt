@@ -1,13 +1,7 @@
 //! Why no rows or no numbers of steps are found, in an author's words.
 
-ghost use Rattle.std.specs.Prelude.{◌≡◌, ◌++◌, OnOk, IfOk, ◌<◌, length, IfSome};
-ghost use Rattle.geos_explain.specs.Causes.{differing_item, differing_items, is_refusable, edge_text, coming_from, coming_text, call_text};
-ghost use Rattle.geos_explain.specs.Causes.{touched_text, touched_before_text, not_set_text, set_in_text, in_turn_text, in_ring_text};
-ghost use Rattle.geos_explain.specs.Causes.{by_word_text, dear_word_text, set_to_text, ways_text, apart_text, back_text, leads_text};
-ghost use Rattle.geos_explain.specs.Causes.{within_text, cause_words, cause_text, name_text, later_text, unsaid_text, emptied_text};
-ghost use Rattle.geos_explain.specs.Causes.{emptied_item, emptied_items};
-ghost use Rattle.geos_image.specs.Legal.{text_end};
-ghost use Rattle.geos_causes.specs.Slots.{slots_agree};
+ghost use Rattle.std.specs.Prelude.{◌≡◌, ◌<◌, length, IfSome};
+ghost use Rattle.geos_explain.specs.Causes.{is_refusable};
 
 use crate::Done;
 use crate::numbers::pc_part;
@@ -24,25 +18,19 @@ use std::alloc::{AllocError, Global};
 
 /// Where the text of a padded name ends, if zeros follow it.
 fn text_end(name: &[u8]) -> Option<usize>
-    ensures place { result ≡ text_end name.now }
-    ensures within { IfSome result (λ end. end < length name.now) }
+    ensures { IfSome result (λ end. end < length name.now) }
 {
     name.iter().position(|byte| *byte == 0)
 }
 
 /// A routine's name without the zeros behind it.
-fn name_text(name: &[u8; 16]) -> &[u8]
-    ensures { result.now ≡ name_text name.now }
-{
+fn name_text(name: &[u8; 16]) -> &[u8] {
     let end = text_end(name).unwrap_or(16);
     &name[..end]
 }
 
 /// A CALL leaves a slot empty, and is of a routine that does not stand before its own.
-#[tactic(auto, unfolding(crate::specs::Causes::later_text))]
-fn put_later(out: &mut Vec<u8>, lines: &[u32], a: usize, emptied: &Emptied) -> Done
-    ensures { OnOk result (out.new.items ≡ out.old.items ++ later_text lines.now a emptied.now) }
-{
+fn put_later(out: &mut Vec<u8>, lines: &[u32], a: usize, emptied: &Emptied) -> Done {
     put!(out;
         "; CALL at" (pc_part(lines, emptied.at)) " leaves s" {a} " empty: "
         bytes(name_text(&emptied.callee)) " does not stand before this routine"
@@ -51,10 +39,7 @@ fn put_later(out: &mut Vec<u8>, lines: &[u32], a: usize, emptied: &Emptied) -> D
 
 /// A CALL leaves a slot empty: that it is held is to be said in the lines of its routine, or, where that locks a block into the
 /// slot, another is to be taken.
-#[tactic(auto, unfolding(crate::specs::Causes::unsaid_text))]
-fn put_unsaid(out: &mut Vec<u8>, lines: &[u32], a: usize, emptied: &Emptied) -> Done
-    ensures { OnOk result (out.new.items ≡ out.old.items ++ unsaid_text lines.now a emptied.now) }
-{
+fn put_unsaid(out: &mut Vec<u8>, lines: &[u32], a: usize, emptied: &Emptied) -> Done {
     let name = name_text(&emptied.callee);
     put!(out;
         "; CALL at" (pc_part(lines, emptied.at)) " leaves what the out line of " bytes(name)
@@ -65,9 +50,7 @@ fn put_unsaid(out: &mut Vec<u8>, lines: &[u32], a: usize, emptied: &Emptied) -> 
 }
 
 /// What is to be said of a CALL that leaves a slot empty.
-fn put_emptied(out: &mut Vec<u8>, lines: &[u32], a: usize, emptied: &Emptied) -> Done
-    ensures { OnOk result (out.new.items ≡ out.old.items ++ emptied_text lines.now a emptied.now) }
-{
+fn put_emptied(out: &mut Vec<u8>, lines: &[u32], a: usize, emptied: &Emptied) -> Done {
     if emptied.stands_before {
         put_unsaid(out, lines, a, emptied)
     } else {
@@ -82,9 +65,7 @@ fn put_emptied_item(
     a: usize,
     named: Option<Emptied>,
     other: SlotState,
-) -> Done
-    ensures { OnOk result (out.new.items ≡ out.old.items ++ emptied_item lines.now a named other) }
-{
+) -> Done {
     match named {
         Some(emptied) if slots_agree(emptied.state, other) => put_emptied(out, lines, a, &emptied),
         _ => Ok(()),
@@ -92,15 +73,12 @@ fn put_emptied_item(
 }
 
 /// The same of each slot for which a CALL is named.
-#[tactic(auto, unfolding(geos_listing::specs::Rows::texts_below))]
 pub(crate) fn put_emptied_items(
     out: &mut Vec<u8>,
     lines: &[u32],
     named: &[Option<Emptied>; 4],
     others: &[SlotState; 4],
-) -> Done
-    ensures { OnOk result (out.new.items ≡ out.old.items ++ emptied_items 4 lines.now named.now others.now) }
-{
+) -> Done {
     for a in 0..named.len() {
         put_emptied_item(out, lines, a, named[a], others[a])?;
     }
@@ -108,9 +86,7 @@ pub(crate) fn put_emptied_items(
 }
 
 /// A slot, where two states of it differ in more than the mark, and what it holds in the first.
-fn put_differing(out: &mut Vec<u8>, i: usize, state: SlotState, other: SlotState) -> Done
-    ensures { OnOk result (out.new.items ≡ out.old.items ++ differing_item i state other) }
-{
+fn put_differing(out: &mut Vec<u8>, i: usize, state: SlotState, other: SlotState) -> Done {
     let slot = Part::Numbered(" s", i as u64);
     if slots_agree(state, other) {
         Ok(())
@@ -122,10 +98,7 @@ fn put_differing(out: &mut Vec<u8>, i: usize, state: SlotState, other: SlotState
 }
 
 /// The slots of a row that differ in more than marks from those of another.
-#[tactic(auto, unfolding(geos_listing::specs::Rows::texts_below))]
-fn put_all_differing(out: &mut Vec<u8>, slots: &[SlotState; 4], others: &[SlotState; 4]) -> Done
-    ensures { OnOk result (out.new.items ≡ out.old.items ++ differing_items 4 slots.now others.now) }
-{
+fn put_all_differing(out: &mut Vec<u8>, slots: &[SlotState; 4], others: &[SlotState; 4]) -> Done {
     for i in 0..slots.len() {
         put_differing(out, i, slots[i], others[i])?;
     }
@@ -143,9 +116,7 @@ fn is_refusable(instrs: &[Instr], from: u16) -> bool
 }
 
 /// Where an edge comes from, and that its instruction is refused there, if it is that of a refusal.
-fn put_edge(out: &mut Vec<u8>, lines: &[u32], instrs: &[Instr], edge: Edge) -> Done
-    ensures { OnOk result (out.new.items ≡ out.old.items ++ edge_text lines.now instrs.now edge) }
-{
+fn put_edge(out: &mut Vec<u8>, lines: &[u32], instrs: &[Instr], edge: Edge) -> Done {
     let place = pc_part(lines, edge.from);
     if edge.branch && is_refusable(instrs, edge.from) {
         put!(out; " where" (place) " is refused:")
@@ -155,10 +126,7 @@ fn put_edge(out: &mut Vec<u8>, lines: &[u32], instrs: &[Instr], edge: Edge) -> D
 }
 
 /// Where control comes from.
-#[tactic(auto, unfolding(crate::specs::Causes::coming_from))]
-fn put_coming_from(out: &mut Vec<u8>, lines: &[u32], instrs: &[Instr], coming: &Coming) -> Done
-    ensures { OnOk result (out.new.items ≡ out.old.items ++ coming_from lines.now instrs.now coming.now) }
-{
+fn put_coming_from(out: &mut Vec<u8>, lines: &[u32], instrs: &[Instr], coming: &Coming) -> Done {
     match coming.from {
         Some(edge) => put_edge(out, lines, instrs, edge),
         None => out.extend_from_slice(b" the in line:"),
@@ -166,26 +134,20 @@ fn put_coming_from(out: &mut Vec<u8>, lines: &[u32], instrs: &[Instr], coming: &
 }
 
 /// How control comes to a place, and the slots that differ from those of another way.
-#[tactic(auto, unfolding(crate::specs::Causes::coming_text))]
 fn put_coming(
     out: &mut Vec<u8>,
     lines: &[u32],
     instrs: &[Instr],
     coming: &Coming,
     other: &Coming,
-) -> Done
-    ensures { OnOk result (out.new.items ≡ out.old.items ++ coming_text lines.now instrs.now coming.now other.now) }
-{
+) -> Done {
     out.extend_from_slice(b" from")?;
     put_coming_from(out, lines, instrs, coming)?;
     put_all_differing(out, &coming.row.slots, &other.row.slots)
 }
 
 /// Slots differ where ways meet.
-#[tactic(auto, unfolding(crate::specs::Causes::ways_text))]
-fn put_ways(out: &mut Vec<u8>, lines: &[u32], instrs: &[Instr], apart: &Apart) -> Done
-    ensures { OnOk result (out.new.items ≡ out.old.items ++ ways_text lines.now instrs.now apart.now) }
-{
+fn put_ways(out: &mut Vec<u8>, lines: &[u32], instrs: &[Instr], apart: &Apart) -> Done {
     put!(out; "at" (pc_part(lines, apart.to)) ",")?;
     put_coming(out, lines, instrs, &apart.first, &apart.second)?;
     out.extend_from_slice(b";")?;
@@ -193,18 +155,14 @@ fn put_ways(out: &mut Vec<u8>, lines: &[u32], instrs: &[Instr], apart: &Apart) -
 }
 
 /// Slots differ where ways meet, and the CALLs by which they do.
-fn put_apart(out: &mut Vec<u8>, lines: &[u32], instrs: &[Instr], apart: &Apart) -> Done
-    ensures { OnOk result (out.new.items ≡ out.old.items ++ apart_text lines.now instrs.now apart.now) }
-{
+fn put_apart(out: &mut Vec<u8>, lines: &[u32], instrs: &[Instr], apart: &Apart) -> Done {
     put_ways(out, lines, instrs, apart)?;
     put_emptied_items(out, lines, &apart.first.emptied, &apart.second.row.slots)?;
     put_emptied_items(out, lines, &apart.second.emptied, &apart.first.row.slots)
 }
 
 /// What the way of a LOOP to its target does, which may lie ahead.
-fn leads_text(back: &BackWay) -> &'static str
-    ensures { result.now ≡ leads_text back.now }
-{
+fn leads_text(back: &BackWay) -> &'static str {
     if back.from < back.to {
         " leads on to"
     } else {
@@ -213,44 +171,29 @@ fn leads_text(back: &BackWay) -> &'static str
 }
 
 /// A text, and a way that leads back.
-#[tactic(auto, unfolding(crate::specs::Causes::back_text))]
-fn put_back(out: &mut Vec<u8>, text: &str, lines: &[u32], back: &BackWay) -> Done
-    ensures { OnOk result (out.new.items ≡ out.old.items ++ (text.now ++ back_text lines.now back.now)) }
-{
+fn put_back(out: &mut Vec<u8>, text: &str, lines: &[u32], back: &BackWay) -> Done {
     put!(out; [text] (pc_part(lines, back.from)) [leads_text(back)] (pc_part(lines, back.to)))
 }
 
 /// A counter is set within its loop.
-#[tactic(auto, unfolding(crate::specs::Causes::set_text, crate::specs::Causes::within_text))]
-fn put_within(out: &mut Vec<u8>, lines: &[u32], within: &Within) -> Done
-    ensures { OnOk result (out.new.items ≡ out.old.items ++ within_text lines.now within.now) }
-{
+fn put_within(out: &mut Vec<u8>, lines: &[u32], within: &Within) -> Done {
     put!(out; "k" {within.counter} " is set at" (pc_part(lines, within.at)))?;
     put_back(out, ", within its own loop:", lines, &within.back)
 }
 
 /// A call touches a counter.
-#[tactic(auto, unfolding(crate::specs::Causes::call_text))]
-fn put_call(out: &mut Vec<u8>, lines: &[u32], within: &Within) -> Done
-    ensures { OnOk result (out.new.items ≡ out.old.items ++ call_text lines.now within.now) }
-{
+fn put_call(out: &mut Vec<u8>, lines: &[u32], within: &Within) -> Done {
     put!(out; "the call at" (pc_part(lines, within.at)) " touches k" {within.counter})
 }
 
 /// A call touches a counter within its loop.
-#[tactic(auto, unfolding(crate::specs::Causes::touched_text))]
-fn put_touched(out: &mut Vec<u8>, lines: &[u32], within: &Within) -> Done
-    ensures { OnOk result (out.new.items ≡ out.old.items ++ touched_text lines.now within.now) }
-{
+fn put_touched(out: &mut Vec<u8>, lines: &[u32], within: &Within) -> Done {
     put_call(out, lines, within)?;
     put_back(out, ", within its own loop:", lines, &within.back)
 }
 
 /// A call touches a counter that is not set behind it.
-#[tactic(auto, unfolding(crate::specs::Causes::touched_before_text))]
-fn put_touched_before(out: &mut Vec<u8>, lines: &[u32], within: &Within) -> Done
-    ensures { OnOk result (out.new.items ≡ out.old.items ++ touched_before_text lines.now within.now) }
-{
+fn put_touched_before(out: &mut Vec<u8>, lines: &[u32], within: &Within) -> Done {
     put_call(out, lines, within)?;
     put_back(
         out,
@@ -261,28 +204,19 @@ fn put_touched_before(out: &mut Vec<u8>, lines: &[u32], within: &Within) -> Done
 }
 
 /// Nothing sets a counter on a way to its loop.
-#[tactic(auto, unfolding(crate::specs::Causes::not_set_text))]
-fn put_not_set(out: &mut Vec<u8>, lines: &[u32], own: &LoopOn) -> Done
-    ensures { OnOk result (out.new.items ≡ out.old.items ++ not_set_text lines.now own.now) }
-{
+fn put_not_set(out: &mut Vec<u8>, lines: &[u32], own: &LoopOn) -> Done {
     put!(out; "nothing sets k" {own.counter})?;
     put_back(out, " on a way to its loop:", lines, &own.back)
 }
 
 /// A counter is set in the loop of a way that leads back.
-#[tactic(auto, unfolding(crate::specs::Causes::set_at_text, crate::specs::Causes::set_in_text))]
-fn put_set_in(out: &mut Vec<u8>, lines: &[u32], counter: u8, at: u16, back: &BackWay) -> Done
-    ensures { OnOk result (out.new.items ≡ out.old.items ++ set_in_text lines.now counter at back.now) }
-{
+fn put_set_in(out: &mut Vec<u8>, lines: &[u32], counter: u8, at: u16, back: &BackWay) -> Done {
     put!(out; "k" {counter} " at" (pc_part(lines, at)))?;
     put_back(out, " in the loop where", lines, back)
 }
 
 /// Two loops set the counters of each other.
-#[tactic(auto, unfolding(crate::specs::Causes::in_turn_text))]
-fn put_in_turn(out: &mut Vec<u8>, lines: &[u32], both: &LoopPair) -> Done
-    ensures { OnOk result (out.new.items ≡ out.old.items ++ in_turn_text lines.now both.now) }
-{
+fn put_in_turn(out: &mut Vec<u8>, lines: &[u32], both: &LoopPair) -> Done {
     out.extend_from_slice(b"two loops set the counters of each other: ")?;
     put_set_in(out, lines, both.other_counter, both.at, &both.back)?;
     out.extend_from_slice(b", and ")?;
@@ -290,10 +224,7 @@ fn put_in_turn(out: &mut Vec<u8>, lines: &[u32], both: &LoopPair) -> Done
 }
 
 /// Loops set the counters of each other in a ring.
-#[tactic(auto, unfolding(crate::specs::Causes::in_ring_text))]
-fn put_in_ring(out: &mut Vec<u8>, lines: &[u32], ring: &LoopRing) -> Done
-    ensures { OnOk result (out.new.items ≡ out.old.items ++ in_ring_text lines.now ring.now) }
-{
+fn put_in_ring(out: &mut Vec<u8>, lines: &[u32], ring: &LoopRing) -> Done {
     out.extend_from_slice(b"loops set the counters of each other in a ring: ")?;
     put_set_in(out, lines, ring.next_counter, ring.at, &ring.back)?;
     out.extend_from_slice(b", ")?;
@@ -302,10 +233,7 @@ fn put_in_ring(out: &mut Vec<u8>, lines: &[u32], ring: &LoopRing) -> Done
 }
 
 /// The steps pass the limit where a word is so large as it may be.
-#[tactic(auto, unfolding(crate::specs::Causes::by_word_text))]
-fn put_by_word(out: &mut Vec<u8>, lines: &[u32], by_word: &ByWord) -> Done
-    ensures { OnOk result (out.new.items ≡ out.old.items ++ by_word_text lines.now by_word.now) }
-{
+fn put_by_word(out: &mut Vec<u8>, lines: &[u32], by_word: &ByWord) -> Done {
     put!(out;
         "the steps may pass 4,294,967,295, since w" {by_word.word} " may be " {by_word.most} " at"
         (pc_part(lines, by_word.at)) ": CHK it by a lower number"
@@ -313,10 +241,7 @@ fn put_by_word(out: &mut Vec<u8>, lines: &[u32], by_word: &ByWord) -> Done
 }
 
 /// No steps that fit were found where a word is so large as it may be.
-#[tactic(auto, unfolding(crate::specs::Causes::dear_word_text))]
-fn put_dear_word(out: &mut Vec<u8>, lines: &[u32], by_word: &ByWord) -> Done
-    ensures { OnOk result (out.new.items ≡ out.old.items ++ dear_word_text lines.now by_word.now) }
-{
+fn put_dear_word(out: &mut Vec<u8>, lines: &[u32], by_word: &ByWord) -> Done {
     put!(out;
         "no steps up to 4,294,967,295 were found; w" {by_word.word} " may be " {by_word.most} " at"
         (pc_part(lines, by_word.at)) ", which sets k" {by_word.counter} ": CHK it by a lower number"
@@ -324,10 +249,7 @@ fn put_dear_word(out: &mut Vec<u8>, lines: &[u32], by_word: &ByWord) -> Done
 }
 
 /// A text, and that a counter is set to a number.
-#[tactic(auto, unfolding(crate::specs::Causes::set_to_text))]
-fn put_set_to(out: &mut Vec<u8>, text: &str, lines: &[u32], by_number: &ByNumber) -> Done
-    ensures { OnOk result (out.new.items ≡ out.old.items ++ (text.now ++ set_to_text lines.now by_number.now)) }
-{
+fn put_set_to(out: &mut Vec<u8>, text: &str, lines: &[u32], by_number: &ByNumber) -> Done {
     put!(out;
         [text] "k" {by_number.counter} " is set to " {by_number.number} " at"
         (pc_part(lines, by_number.at))
@@ -335,9 +257,7 @@ fn put_set_to(out: &mut Vec<u8>, text: &str, lines: &[u32], by_number: &ByNumber
 }
 
 /// Why no rows or no numbers of steps are found.
-fn put_cause(out: &mut Vec<u8>, lines: &[u32], instrs: &[Instr], cause: &Cause) -> Done
-    ensures { OnOk result (out.new.items ≡ out.old.items ++ cause_words lines.now instrs.now cause.now) }
-{
+fn put_cause(out: &mut Vec<u8>, lines: &[u32], instrs: &[Instr], cause: &Cause) -> Done {
     match cause {
         Cause::SlotsDiffer(apart) => put_apart(out, lines, instrs, apart),
         Cause::NoLoop(back) => put_back(out, "nothing pays for the way back:", lines, back),
@@ -379,15 +299,12 @@ fn put_cause(out: &mut Vec<u8>, lines: &[u32], instrs: &[Instr], cause: &Cause) 
 
 /// The line that says why no rows or no numbers of steps are found for instructions. `lines` has the number of each one's line,
 /// as `geos_source::parse` gives them.
-#[tactic(auto, unfolding(crate::specs::Causes::cause_text))]
 pub fn explain_cause(
     alloc: Global,
     lines: &[u32],
     instrs: &[Instr],
     cause: &Cause,
-) -> Result<Vec<u8>, AllocError>
-    ensures { IfOk result (λ told. told.items ≡ cause_text lines.now instrs.now cause.now) }
-{
+) -> Result<Vec<u8>, AllocError> {
     let mut out = Vec::new(alloc);
     put_cause(&mut out, lines, instrs, cause)?;
     out.extend_from_slice(b"\n")?;

@@ -6,7 +6,7 @@ ghost use Rattle.geos_explain.specs.Led.{is_reached};
 ghost use Rattle.geos_explain.specs.Told.{most_told, IsFirstUntold};
 
 use crate::filled::Filled;
-use crate::finding::Findings;
+use crate::refusals::{first_untold, most_told};
 use geos_flow::Marks;
 use geos_verify::Rule;
 
@@ -20,10 +20,28 @@ pub(crate) struct Explained<'a> {
     pub marks: &'a Marks,
     /// For each pc the rule that is told there, if one is.
     pub refused: &'a [Option<Rule>],
-    /// For each pc what is found of the pointers that are not known there; else nothing.
-    pub findings: &'a [Findings],
     /// The first pc whose refusal is not told, since so many before it are.
     pub untold: usize,
     ghost marked: { Marking marks.now (is_reached image.now) },
     ghost told: { IsFirstUntold refused.now (most_told (length image.now.points)) untold },
+}
+
+impl<'a> Explained<'a> {
+    /// The image, with the line of each instruction or nothing, where control reaches what is marked, and these rules are told.
+    pub fn of(
+        image: &'a Filled<'a>,
+        lines: &'a [u32],
+        marks: &'a Marks,
+        told: &'a [Option<Rule>],
+    ) -> Explained<'a>
+        requires { Marking marks.now (is_reached image.now) }
+    {
+        Explained {
+            image,
+            lines,
+            marks,
+            refused: told,
+            untold: first_untold(told, most_told(image.len())),
+        }
+    }
 }

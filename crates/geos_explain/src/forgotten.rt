@@ -1,11 +1,12 @@
 //! Which call forgets what is to be known at a place, since behind it only what its routine's `out` line says is known; and which
 //! instruction moves an index going round a loop.
 
-ghost use Rattle.std.specs.Prelude.{◌≡◌, ◌<◌, Some, ◌++◌, OnOk, IfSome};
+ghost use Rattle.std.specs.Prelude.{◌≡◌, ◌<◌, Some, IfSome};
 ghost use Rattle.geos_flow.specs.Marks.{Marking};
 ghost use Rattle.geos_explain.specs.Places.{place_of, last_of};
 ghost use Rattle.geos_explain.specs.Forgotten.{knows, comes_lacked, is_lacked_from, forgets_at, forgetting_call, WhatIsSaidOfCallsHolds};
-ghost use Rattle.geos_explain.specs.Forgotten.{moves, moves_at, if_round, moved_words, moved_text, WhatIsSaidOfRoundsHolds, stays_lacked};
+ghost use Rattle.geos_explain.specs.Forgotten.{moves, moves_at, if_round, IsMovedRound, WhatIsSaidOfRoundsHolds, stays_lacked};
+ghost use Rattle.geos_explain.specs.declared.forgotten.Item.TheVariants.{Bound};
 
 use crate::Done;
 use crate::led::led_from;
@@ -197,30 +198,26 @@ fn if_round(place: &Place, item: Item, from: Option<u16>) -> Option<u16>
     }
 }
 
-/// The instruction moves the word going round, and it is not known then to be at most so much.
-#[tactic(auto, unfolding(crate::specs::Forgotten::moved_words))]
-fn put_moved_words(out: &mut Vec<u8>, place: &Place, w: u8, most: u16, from: u16, i: &Instr) -> Done
-    ensures { OnOk result (out.new.items ≡ out.old.items ++ moved_words (place_of place.now) w most from i.now) }
+/// The instruction at a pc moves the word going round, and it is not known then to be at most so much.
+fn put_moved(out: &mut Vec<u8>, place: &Place, w: u8, most: u16, from: u16) -> Done
+    requires { IsMovedRound (place_of place.now) (Bound w most) w from }
 {
-    put!(out;
-        "; " [i.opcode.word()] " at" (pc_part(place.lines, from)) " moves w" {w}
-        " going round, and w" {w} "<=" {most} " is not known then"
-    )
+    match place.image.place(from) {
+        Some(point) => put!(out;
+            "; " [point.instr.opcode.word()] " at" (pc_part(place.lines, from)) " moves w" {w}
+            " going round, and w" {w} "<=" {most} " is not known then"
+        ),
+        None => Ok(()),
+    }
 }
 
 /// Which instruction moves the index going round, where a bound of it is wanted, if one does.
-#[tactic(auto, unfolding(crate::specs::Forgotten::moved_text))]
-pub(crate) fn put_moved_round(out: &mut Vec<u8>, place: &Place, item: Item) -> Done
-    ensures { OnOk result (out.new.items ≡ out.old.items ++ moved_text (place_of place.now) item) }
-{
+pub(crate) fn put_moved_round(out: &mut Vec<u8>, place: &Place, item: Item) -> Done {
     let Item::Bound(w, most) = item else {
         return Ok(());
     };
     match if_round(place, item, last_moving(place, item, w)) {
-        Some(from) => match place.image.place(from) {
-            Some(point) => put_moved_words(out, place, w, most, from, &point.instr),
-            None => Ok(()),
-        },
+        Some(from) => put_moved(out, place, w, most, from),
         None => Ok(()),
     }
 }

@@ -1,10 +1,9 @@
 //! Which slots are held that must not be, and since where.
 
-ghost use Rattle.std.specs.Prelude.{◌≡◌, ◌≤◌, ◌++◌, OnOk, drop, length};
-ghost use Rattle.geos_text.specs.Parts.{part_text};
+ghost use Rattle.std.specs.Prelude.{◌≡◌};
 ghost use Rattle.geos_explain.specs.Places.{place_of};
-ghost use Rattle.geos_explain.specs.Held.{is_held_at, slot_at, slots_at, since_words, since_text, kept_wish, since_at, sinces_at};
-ghost use Rattle.geos_explain.specs.Held.{else_wanted, kept_behind, unmet_words, exit_words, has_borrowed, held_wish, written_behind, written_words};
+ghost use Rattle.geos_explain.specs.Held.{is_held_at, has_borrowed};
+ghost use Rattle.geos_explain.specs.Since.{IsSaidOf};
 
 use crate::Done;
 use crate::lacks::{lacking, put_lacking};
@@ -38,10 +37,7 @@ fn is_held_at(which: HeldAt, place: &Place, a: u8) -> bool
 }
 
 /// Such a slot, and what it holds.
-#[tactic(auto, unfolding(crate::specs::Held::slot_at))]
-fn put_slot_at(out: &mut Vec<u8>, which: HeldAt, place: &Place, a: u8) -> Done
-    ensures { OnOk result (out.new.items ≡ out.old.items ++ slot_at which (place_of place.now) a) }
-{
+fn put_slot_at(out: &mut Vec<u8>, which: HeldAt, place: &Place, a: u8) -> Done {
     if is_held_at(which, place, a) {
         put_state(out, a, place.row)
     } else {
@@ -50,10 +46,7 @@ fn put_slot_at(out: &mut Vec<u8>, which: HeldAt, place: &Place, a: u8) -> Done
 }
 
 /// The same of each slot.
-#[tactic(auto, unfolding(geos_listing::specs::Rows::texts_below))]
-pub(crate) fn put_slots_at(out: &mut Vec<u8>, which: HeldAt, place: &Place) -> Done
-    ensures { OnOk result (out.new.items ≡ out.old.items ++ slots_at which (place_of place.now)) }
-{
+pub(crate) fn put_slots_at(out: &mut Vec<u8>, which: HeldAt, place: &Place) -> Done {
     for a in 0..4 {
         put_slot_at(out, which, place, a)?;
     }
@@ -61,30 +54,26 @@ pub(crate) fn put_slots_at(out: &mut Vec<u8>, which: HeldAt, place: &Place) -> D
 }
 
 /// That a slot is held since a place, and whether since another one too.
-fn put_since_words(out: &mut Vec<u8>, a: u8, place: Part, other: bool) -> Done
-    ensures { OnOk result (out.new.items ≡ out.old.items ++ since_words a (part_text place.entry) other) }
-{
+fn put_since_words(out: &mut Vec<u8>, a: u8, place: Part, other: bool) -> Done {
     let another = either(other, " or another place", "");
     put!(out; "; s" {a} " is held since" (place) [another])
 }
 
 /// The same, if it is known since where; of several places, one.
-fn put_since(out: &mut Vec<u8>, lines: &[u32], a: u8, since: Since) -> Done
-    ensures { OnOk result (out.new.items ≡ out.old.items ++ since_text lines.now a since) }
+fn put_since(out: &mut Vec<u8>, place: &Place, a: u8, since: Since) -> Done
+    requires { IsSaidOf (place_of place.now) a since }
 {
     if since.entry {
         return put_since_words(out, a, Part::Text(" the in line"), since.from.is_some());
     }
     match since.from {
-        Some(from) => put_since_words(out, a, pc_part(lines, from), since.again),
+        Some(from) => put_since_words(out, a, pc_part(place.lines, from), since.again),
         None => Ok(()),
     }
 }
 
 /// What to do with a slot that a private routine holds at its return since the `in` line, and that is not borrowed.
-fn put_kept_wish(out: &mut Vec<u8>, which: HeldAt, place: &Place, a: u8, entry: bool) -> Done
-    ensures { OnOk result (out.new.items ≡ out.old.items ++ kept_wish which (place_of place.now) a entry) }
-{
+fn put_kept_wish(out: &mut Vec<u8>, which: HeldAt, place: &Place, a: u8, entry: bool) -> Done {
     let HeldAt::Return = which else {
         return Ok(());
     };
@@ -97,23 +86,17 @@ fn put_kept_wish(out: &mut Vec<u8>, which: HeldAt, place: &Place, a: u8, entry: 
 }
 
 /// Since where a slot is held that must not be, and what to do.
-#[tactic(auto, unfolding(crate::specs::Held::since_at))]
-fn put_since_at(out: &mut Vec<u8>, which: HeldAt, place: &Place, a: u8) -> Done
-    ensures { OnOk result (out.new.items ≡ out.old.items ++ since_at which (place_of place.now) a) }
-{
+fn put_since_at(out: &mut Vec<u8>, which: HeldAt, place: &Place, a: u8) -> Done {
     if !is_held_at(which, place, a) {
         return Ok(());
     }
     let since = held_since(place, a);
-    put_since(out, place.lines, a, since)?;
+    put_since(out, place, a, since)?;
     put_kept_wish(out, which, place, a, since.entry)
 }
 
 /// The same of each slot.
-#[tactic(auto, unfolding(geos_listing::specs::Rows::texts_below))]
-pub(crate) fn put_sinces_at(out: &mut Vec<u8>, which: HeldAt, place: &Place) -> Done
-    ensures { OnOk result (out.new.items ≡ out.old.items ++ sinces_at which (place_of place.now)) }
-{
+pub(crate) fn put_sinces_at(out: &mut Vec<u8>, which: HeldAt, place: &Place) -> Done {
     for a in 0..4 {
         put_since_at(out, which, place, a)?;
     }
@@ -121,10 +104,7 @@ pub(crate) fn put_sinces_at(out: &mut Vec<u8>, which: HeldAt, place: &Place) -> 
 }
 
 /// What else the exit row wants.
-#[tactic(auto, unfolding(crate::specs::Held::else_wanted))]
-fn put_else_wanted(out: &mut Vec<u8>, place: &Place) -> Done
-    ensures { OnOk result (out.new.items ≡ out.old.items ++ else_wanted (place_of place.now)) }
-{
+fn put_else_wanted(out: &mut Vec<u8>, place: &Place) -> Done {
     put_also(
         out,
         &lacking(place.row, &place.routine.exit),
@@ -133,12 +113,7 @@ fn put_else_wanted(out: &mut Vec<u8>, place: &Place) -> Done
 }
 
 /// Slots are still held at the return, since where, which of them are borrowed, and what else the exit row wants.
-#[tactic(auto, unfolding(crate::specs::Held::kept_words))]
-fn put_kept_words(out: &mut Vec<u8>, place: &Place, before: usize) -> Done
-    requires before { before ≤ length out.old.items }
-    requires kept { drop before out.old.items ≡ slots_at HeldAt.Return (place_of place.now) }
-    ensures { OnOk result (out.new.items ≡ out.old.items ++ kept_behind (place_of place.now)) }
-{
+fn put_kept_words(out: &mut Vec<u8>, place: &Place, before: usize) -> Done {
     put_are(out, before, " still held at the return")?;
     put_sinces_at(out, HeldAt::Return, place)?;
     put_missing(out, place.row, &place.routine.exit)?;
@@ -146,20 +121,14 @@ fn put_kept_words(out: &mut Vec<u8>, place: &Place, before: usize) -> Done
 }
 
 /// The exit row wants more than the row says.
-#[tactic(auto, unfolding(crate::specs::Held::unmet_words))]
-fn put_unmet(out: &mut Vec<u8>, place: &Place) -> Done
-    ensures { OnOk result (out.new.items ≡ out.old.items ++ unmet_words (place_of place.now)) }
-{
+fn put_unmet(out: &mut Vec<u8>, place: &Place) -> Done {
     let before = out.len();
     put_lacking(out, place.row, &place.routine.exit)?;
     put_are(out, before, " wanted by the out line, and not known here")
 }
 
 /// The row does not fit the exit row: slots are still held, or else it wants more.
-#[tactic(auto, unfolding(crate::specs::Held::exit_words))]
-pub(crate) fn put_exit(out: &mut Vec<u8>, place: &Place) -> Done
-    ensures { OnOk result (out.new.items ≡ out.old.items ++ exit_words (place_of place.now)) }
-{
+pub(crate) fn put_exit(out: &mut Vec<u8>, place: &Place) -> Done {
     let before = out.len();
     put_slots_at(out, HeldAt::Return, place)?;
     if out.len() == before {
@@ -176,9 +145,7 @@ fn has_borrowed(row: &Row) -> bool
 }
 
 /// What is to be done with the slots that are held there; what is borrowed stays held.
-fn held_wish(borrowed: bool, items: &[u8]) -> &'static str
-    ensures { result.now ≡ held_wish borrowed items.now }
-{
+fn held_wish(borrowed: bool, items: &[u8]) -> &'static str {
     if borrowed {
         return ": what is borrowed from the caller can't be unlocked here";
     }
@@ -190,11 +157,7 @@ fn held_wish(borrowed: bool, items: &[u8]) -> &'static str
 }
 
 /// That the slots that were written from a place on are held where the file is written; and whether one is borrowed.
-#[tactic(auto, unfolding(crate::specs::Held::written_behind))]
-fn put_written_behind(out: &mut Vec<u8>, before: usize, borrowed: bool) -> Done
-    requires { before ≤ length out.old.items }
-    ensures { OnOk result (out.new.items ≡ out.old.items ++ written_behind borrowed (drop before out.old.items)) }
-{
+fn put_written_behind(out: &mut Vec<u8>, before: usize, borrowed: bool) -> Done {
     let items = written_from(out, before);
     let verb = is_or_are(items);
     let wish = held_wish(borrowed, items);
@@ -202,10 +165,7 @@ fn put_written_behind(out: &mut Vec<u8>, before: usize, borrowed: bool) -> Done
 }
 
 /// The VM file is written while slots hold blocks of it.
-#[tactic(auto, unfolding(crate::specs::Held::written_words))]
-pub(crate) fn put_written(out: &mut Vec<u8>, place: &Place) -> Done
-    ensures { OnOk result (out.new.items ≡ out.old.items ++ written_words (place_of place.now)) }
-{
+pub(crate) fn put_written(out: &mut Vec<u8>, place: &Place) -> Done {
     let before = out.len();
     put_slots_at(out, HeldAt::Write, place)?;
     put_written_behind(out, before, has_borrowed(place.row))?;

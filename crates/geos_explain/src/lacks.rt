@@ -1,19 +1,16 @@
 //! What a row lacks to fit another, and what makes it known: an instruction that bounds a word, marks a block, or compares two, or
 //! more bytes asked for.
 
-ghost use Rattle.std.specs.Prelude.{◌≡◌, ◌++◌, OnOk, ◌<◌};
+ghost use Rattle.std.specs.Prelude.{◌≡◌, ◌<◌};
 ghost use Rattle.geos_verify.specs.Lists.{zip2};
-ghost use Rattle.geos_verify.specs.Pairs.{slot_pairs};
-ghost use Rattle.geos_explain.specs.Lacks.{lacking_bound, lacking_slot, lacking_pointer, lacking_pair, lacking, held_item, held_items};
-ghost use Rattle.geos_explain.specs.Lacks.{lacking_items, LacksNothingWhereItFits, bound_mend, lacks_mark, mark_mend};
-ghost use Rattle.geos_explain.specs.Lacks.{pointer_mend, mend_of, register_mends, may_compare, pair_mend, pair_mends, mends};
 ghost use Rattle.geos_verify.specs.Rows.{marked_state};
+ghost use Rattle.geos_explain.specs.Lacks.{lacking_bound, lacking_slot, lacking_pointer, lacking_pair, lacking, is_held_unwanted};
+ghost use Rattle.geos_explain.specs.Lacks.{LacksNothingWhereItFits, lacks_mark, may_compare};
 
 use crate::Done;
 use crate::uses::{mark_word, put_ask_wish, put_bounding};
 use geos_image::{Pointer, Row, SlotState};
 use geos_listing::put_items;
-use geos_text::put_numbered;
 use geos_verify::{are_alike, is_empty, pointer_at, pointer_fits, slot_fits, slot_state};
 
 /// The bound that is wanted where it is not kept, else that of any word.
@@ -91,21 +88,23 @@ pub(crate) fn lacking(known: &Row, wanted: &Row) -> Row
     }
 }
 
-/// A slot that is wanted empty and is held.
-fn put_held(out: &mut Vec<u8>, i: usize, known: SlotState, wanted: SlotState) -> Done
-    ensures { OnOk result (out.new.items ≡ out.old.items ++ held_item i known wanted) }
+/// Whether the slot is wanted empty and is held.
+fn is_held_unwanted(known: SlotState, wanted: SlotState) -> bool
+    ensures { result ≡ is_held_unwanted known wanted }
 {
-    if !is_empty(wanted) || is_empty(known) {
-        return Ok(());
-    }
-    put_numbered(out, " s", i as u64)?;
-    out.extend_from_slice(b"=empty")
+    is_empty(wanted) && !is_empty(known)
 }
 
-#[tactic(auto, unfolding(geos_listing::specs::Rows::texts_below))]
-fn put_all_held(out: &mut Vec<u8>, known: &[SlotState; 4], wanted: &[SlotState; 4]) -> Done
-    ensures { OnOk result (out.new.items ≡ out.old.items ++ held_items 4 known.now wanted.now) }
-{
+/// Such a slot.
+fn put_held(out: &mut Vec<u8>, i: usize, known: SlotState, wanted: SlotState) -> Done {
+    if is_held_unwanted(known, wanted) {
+        put!(out; " s" {i} "=empty")
+    } else {
+        Ok(())
+    }
+}
+
+fn put_all_held(out: &mut Vec<u8>, known: &[SlotState; 4], wanted: &[SlotState; 4]) -> Done {
     for i in 0..known.len() {
         put_held(out, i, known[i], wanted[i])?;
     }
@@ -114,10 +113,7 @@ fn put_all_held(out: &mut Vec<u8>, known: &[SlotState; 4], wanted: &[SlotState; 
 
 /// The items of the row that is wanted which the row that is known does not meet; none where it
 /// fits.
-#[tactic(auto, unfolding(crate::specs::Lacks::lacking_items))]
-pub(crate) fn put_lacking(out: &mut Vec<u8>, known: &Row, wanted: &Row) -> Done
-    ensures { OnOk result (out.new.items ≡ out.old.items ++ lacking_items known.now wanted.now) }
-{
+pub(crate) fn put_lacking(out: &mut Vec<u8>, known: &Row, wanted: &Row) -> Done {
     put_items(out, &lacking(known, wanted))?;
     put_all_held(out, &known.slots, &wanted.slots)
 }
@@ -131,7 +127,6 @@ pub fn rows_that_fit_lack_nothing()
 /// The same of a word whose bound is wanted, if it is.
 fn put_bound_mend(out: &mut Vec<u8>, lacked: &Row, k: u8) -> Done
     requires { k < 8 }
-    ensures { OnOk result (out.new.items ≡ out.old.items ++ bound_mend lacked.now k) }
 {
     let most = lacked.bounds[usize::from(k)];
     if most == u16::MAX {
@@ -165,10 +160,7 @@ fn lacks_mark(known: SlotState, wanted: SlotState) -> bool
 }
 
 /// The block of a slot is to be marked, if that is so.
-#[tactic(auto, unfolding(crate::specs::Lacks::mark_mend))]
-fn put_mark_mend(out: &mut Vec<u8>, a: u8, known: SlotState, wanted: SlotState) -> Done
-    ensures { OnOk result (out.new.items ≡ out.old.items ++ mark_mend a known wanted) }
-{
+fn put_mark_mend(out: &mut Vec<u8>, a: u8, known: SlotState, wanted: SlotState) -> Done {
     if !lacks_mark(known, wanted) {
         return Ok(());
     }
@@ -181,9 +173,7 @@ fn put_pointer_mend(
     p: u8,
     known: Option<Pointer>,
     wanted: Option<Pointer>,
-) -> Done
-    ensures { OnOk result (out.new.items ≡ out.old.items ++ pointer_mend p known wanted) }
-{
+) -> Done {
     match (known, wanted) {
         (Some(known), Some(wanted)) if known.slot == wanted.slot && known.least < wanted.least => {
             put_ask_wish(out, p, u32::from(wanted.least))
@@ -193,10 +183,8 @@ fn put_pointer_mend(
 }
 
 /// What helps of the word, the slot and the pointer with a number.
-#[tactic(auto, unfolding(crate::specs::Lacks::mend_of))]
 fn put_mend_of(out: &mut Vec<u8>, known: &Row, wanted: &Row, k: u8) -> Done
     requires { k < 8 }
-    ensures { OnOk result (out.new.items ≡ out.old.items ++ mend_of known.now wanted.now k) }
 {
     put_bound_mend(out, &lacking(known, wanted), k)?;
     put_mark_mend(out, k, slot_state(known, k), slot_state(wanted, k))?;
@@ -204,10 +192,7 @@ fn put_mend_of(out: &mut Vec<u8>, known: &Row, wanted: &Row, k: u8) -> Done
 }
 
 /// What makes known the bounds, the marks and the bytes behind pointers that the row lacks of those that the other wants.
-#[tactic(auto, unfolding(geos_listing::specs::Rows::texts_below))]
-fn put_register_mends(out: &mut Vec<u8>, known: &Row, wanted: &Row) -> Done
-    ensures { OnOk result (out.new.items ≡ out.old.items ++ register_mends known.now wanted.now) }
-{
+fn put_register_mends(out: &mut Vec<u8>, known: &Row, wanted: &Row) -> Done {
     for k in 0..8 {
         put_mend_of(out, known, wanted, k)?;
     }
@@ -222,10 +207,7 @@ fn may_compare(state: SlotState, other: SlotState) -> bool
 }
 
 /// Two slots are to be compared, if it is lacking that they differ, and they may be.
-#[tactic(auto, unfolding(crate::specs::Lacks::pair_mend))]
-fn put_pair_mend(out: &mut Vec<u8>, known: &Row, a: u8, b: u8, lacked: bool) -> Done
-    ensures { OnOk result (out.new.items ≡ out.old.items ++ pair_mend known.now (a, b) lacked) }
-{
+fn put_pair_mend(out: &mut Vec<u8>, known: &Row, a: u8, b: u8, lacked: bool) -> Done {
     if !(lacked && may_compare(slot_state(known, a), slot_state(known, b))) {
         return Ok(());
     }
@@ -233,9 +215,7 @@ fn put_pair_mend(out: &mut Vec<u8>, known: &Row, a: u8, b: u8, lacked: bool) -> 
 }
 
 /// What makes known the pairs that are lacking.
-fn put_pair_mends(out: &mut Vec<u8>, known: &Row, lacked: &[bool; 6]) -> Done
-    ensures { OnOk result (out.new.items ≡ out.old.items ++ pair_mends known.now slot_pairs lacked.now) }
-{
+fn put_pair_mends(out: &mut Vec<u8>, known: &Row, lacked: &[bool; 6]) -> Done {
     let [p01, p02, p03, p12, p13, p23] = *lacked;
     put_pair_mend(out, known, 0, 1, p01)?;
     put_pair_mend(out, known, 0, 2, p02)?;
@@ -246,9 +226,7 @@ fn put_pair_mends(out: &mut Vec<u8>, known: &Row, lacked: &[bool; 6]) -> Done
 }
 
 /// What makes known what the row lacks of the bounds, marks, pointers and pairs that the other wants.
-pub(crate) fn put_mends(out: &mut Vec<u8>, known: &Row, wanted: &Row) -> Done
-    ensures { OnOk result (out.new.items ≡ out.old.items ++ mends known.now wanted.now) }
-{
+pub(crate) fn put_mends(out: &mut Vec<u8>, known: &Row, wanted: &Row) -> Done {
     put_register_mends(out, known, wanted)?;
     put_pair_mends(out, known, &lacking(known, wanted).pairs)
 }

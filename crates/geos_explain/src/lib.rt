@@ -70,9 +70,7 @@ pub use budgets::{
     what_is_said_of_budgets_holds, what_is_said_of_counters_holds, what_is_said_of_words_holds,
 };
 pub use causes::explain_cause;
-pub use explanation::{
-    explain, explain_text, explanation_is_listing_with_notes, explanation_is_text_with_notes,
-};
+pub use explanation::{explain, explain_text};
 pub use forgotten::{what_is_said_of_calls_holds, what_is_said_of_rounds_holds};
 pub use lacks::rows_that_fit_lack_nothing;
 pub use public::rows_without_faults_may_be_public;

@@ -6,7 +6,6 @@ ghost use Rattle.geos_explain.specs.Led.{is_reached};
 ghost use Rattle.geos_explain.specs.Standing.{IsPlace, OperandFits-prop};
 
 use crate::filled::Filled;
-use crate::finding::Findings;
 use geos_flow::Marks;
 use geos_image::{Instr, Potential, Routine, Row};
 
@@ -22,8 +21,6 @@ pub(crate) struct Place<'a> {
     pub i: &'a Instr,
     pub row: &'a Row,
     pub potential: &'a Potential,
-    /// What is found of the pointers that are not known at each instruction; else nothing.
-    pub findings: &'a [Findings],
     /// What control reaches.
     pub marks: &'a Marks,
     ghost marked: { Marking marks.now (is_reached image.now) },

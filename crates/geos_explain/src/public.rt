@@ -1,10 +1,9 @@
 //! What the entry and exit rows of a public routine say and may not say.
 
-ghost use Rattle.std.specs.Prelude.{◌≡◌, ◌++◌, ◌&&◌, not, OnOk};
+ghost use Rattle.std.specs.Prelude.{◌≡◌, ◌&&◌, not};
 ghost use Rattle.geos_verify.specs.Rows.{is_empty};
-ghost use Rattle.geos_explain.specs.Public.{own_only, own_slots, marked_only, marked_slots, held_pairs};
-ghost use Rattle.geos_explain.specs.Public.{known_pointers, missing_only, missing_slots, kept_only, kept_slots};
-ghost use Rattle.geos_explain.specs.Public.{entry_faults, missing_words, exit_faults, public_words, NoFaultsWhereItMayEnterAndLeave};
+ghost use Rattle.geos_explain.specs.Public.{own_only, own_slots, marked_only, marked_slots, held_pairs, known_pointers};
+ghost use Rattle.geos_explain.specs.Public.{missing_only, missing_slots, kept_only, kept_slots, NoFaultsWhereItMayEnterAndLeave};
 
 use crate::Done;
 use crate::numbers::put_also;
@@ -136,10 +135,7 @@ fn kept_slots(entry: &Row, exit: &Row) -> Row
 }
 
 /// What the entry row wants that not every caller from outside has.
-#[tactic(auto, unfolding(crate::specs::Public::entry_faults))]
-fn put_entry_faults(out: &mut Vec<u8>, entry: &Row) -> Done
-    ensures { OnOk result (out.new.items ≡ out.old.items ++ entry_faults entry.now) }
-{
+fn put_entry_faults(out: &mut Vec<u8>, entry: &Row) -> Done {
     put_also(
         out,
         &own_slots(entry),
@@ -159,10 +155,7 @@ fn put_entry_faults(out: &mut Vec<u8>, entry: &Row) -> Done
 }
 
 /// Slots that the row has borrowed are missing in the exit row.
-#[tactic(auto, unfolding(crate::specs::Public::missing_words))]
-pub(crate) fn put_missing(out: &mut Vec<u8>, row: &Row, exit: &Row) -> Done
-    ensures { OnOk result (out.new.items ≡ out.old.items ++ missing_words row.now exit.now) }
-{
+pub(crate) fn put_missing(out: &mut Vec<u8>, row: &Row, exit: &Row) -> Done {
     put_also(
         out,
         &missing_slots(row, exit),
@@ -171,10 +164,7 @@ pub(crate) fn put_missing(out: &mut Vec<u8>, row: &Row, exit: &Row) -> Done
 }
 
 /// What the exit row lacks of what was borrowed, and what else it holds or knows.
-#[tactic(auto, unfolding(crate::specs::Public::exit_faults))]
-fn put_exit_faults(out: &mut Vec<u8>, entry: &Row, exit: &Row) -> Done
-    ensures { OnOk result (out.new.items ≡ out.old.items ++ exit_faults entry.now exit.now) }
-{
+fn put_exit_faults(out: &mut Vec<u8>, entry: &Row, exit: &Row) -> Done {
     put_missing(out, entry, exit)?;
     put_also(
         out,
@@ -185,10 +175,7 @@ fn put_exit_faults(out: &mut Vec<u8>, entry: &Row, exit: &Row) -> Done
 }
 
 /// How a public routine begins and ends, and what the rows of this one say otherwise.
-#[tactic(auto, unfolding(crate::specs::Public::public_words))]
-pub(crate) fn put_public(out: &mut Vec<u8>, routine: &Routine) -> Done
-    ensures { OnOk result (out.new.items ≡ out.old.items ++ public_words routine.now) }
-{
+pub(crate) fn put_public(out: &mut Vec<u8>, routine: &Routine) -> Done {
     out.extend_from_slice(
         b" a public routine begins and ends with empty or borrowed slots and stale pointers",
     )?;

@@ -1,9 +1,8 @@
 //! Which refusals are told at a place.
 
-ghost use Rattle.std.specs.Prelude.{◌≡◌, ◌<◌, ◌++◌, OnOk, Some, count_by, length};
-ghost use Rattle.geos_explain.specs.Places.{explained_of, place_of};
+ghost use Rattle.std.specs.Prelude.{◌≡◌, ◌<◌, count_by, length};
 ghost use Rattle.geos_explain.specs.Told.{is_of_budget, told_rule, is_told, rule_at, most_told, IsFirstUntold};
-ghost use Rattle.geos_explain.specs.Refusals.{more_line, refused_text, refusal_text, is_last, over_line, over_from, over_text, ToldWhereRefused};
+ghost use Rattle.geos_explain.specs.Refusals.{is_last, ToldWhereRefused};
 
 use crate::Done;
 use crate::explained::Explained;
@@ -82,19 +81,12 @@ pub(crate) fn first_untold(refused: &[Option<Rule>], most: usize) -> usize
 }
 
 /// How many more places are refused from here on.
-#[tactic(auto, unfolding(crate::specs::Refusals::more_line))]
-fn put_more(out: &mut Vec<u8>, more: usize) -> Done
-    ensures { OnOk result (out.new.items ≡ out.old.items ++ more_line more) }
-{
+fn put_more(out: &mut Vec<u8>, more: usize) -> Done {
     put!(out; "; .. and " {more} " more from here on\n")
 }
 
 /// What is told where the rule refuses the place: what is wrong, or that others are not told.
-fn put_refused(out: &mut Vec<u8>, explained: &Explained, place: &Place, rule: Rule) -> Done
-    requires image { place.now.image.now ≡ explained.now.image.now }
-    requires told { rule_at explained.now.refused.now place.now.pc ≡ Some rule }
-    ensures { OnOk result (out.new.items ≡ out.old.items ++ refused_text explained.now.refused.now (place_of place.now) rule) }
-{
+fn put_refused(out: &mut Vec<u8>, explained: &Explained, place: &Place, rule: Rule) -> Done {
     let pc = usize::from(place.pc);
     if pc < explained.untold {
         put_refusal_line(out, place, rule)
@@ -107,10 +99,7 @@ fn put_refused(out: &mut Vec<u8>, explained: &Explained, place: &Place, rule: Ru
 }
 
 /// The same, if a rule refuses the place.
-pub(crate) fn put_refusal(out: &mut Vec<u8>, explained: &Explained, place: &Place) -> Done
-    requires { place.now.image.now ≡ explained.now.image.now }
-    ensures { OnOk result (out.new.items ≡ out.old.items ++ refusal_text explained.now.refused.now (place_of place.now)) }
-{
+pub(crate) fn put_refusal(out: &mut Vec<u8>, explained: &Explained, place: &Place) -> Done {
     match rule_at(explained.refused, place.pc) {
         Some(rule) => put_refused(out, explained, place, rule),
         None => Ok(()),
@@ -125,9 +114,7 @@ fn is_last(start: u16, routine: &Routine, pc: u16) -> bool
 }
 
 /// The line of the refusal by the rule on the budget, where it refuses the first place of a routine.
-fn put_over_line(out: &mut Vec<u8>, first: &Place) -> Done
-    ensures { OnOk result (out.new.items ≡ out.old.items ++ over_line (place_of first.now)) }
-{
+fn put_over_line(out: &mut Vec<u8>, first: &Place) -> Done {
     if over_budget(first.pc, first.routine, first.pc, first.potential) {
         put_refusal_line(out, first, Rule::OverBudget)
     } else {
@@ -138,19 +125,13 @@ fn put_over_line(out: &mut Vec<u8>, first: &Place) -> Done
 /// The same of a routine, which begins at `start`.
 fn put_over_from(out: &mut Vec<u8>, within: &ExplainedRoutine, start: u16) -> Done
     requires { start < length within.now.explained.now.image.now.points }
-    ensures { OnOk result (out.new.items
-        ≡ out.old.items ++ over_from (explained_of within.now.explained.now) within.now.r within.now.routine.now start) }
 {
     let first = place_at(within, start);
     put_over_line(out, &first)
 }
 
 /// The same behind the last instruction of the routine.
-#[tactic(auto, unfolding(crate::specs::Refusals::over_text))]
-pub(crate) fn put_over_budget(out: &mut Vec<u8>, within: &ExplainedRoutine, pc: u16) -> Done
-    ensures { OnOk result (out.new.items
-        ≡ out.old.items ++ over_text (explained_of within.now.explained.now) within.now.r within.now.routine.now pc) }
-{
+pub(crate) fn put_over_budget(out: &mut Vec<u8>, within: &ExplainedRoutine, pc: u16) -> Done {
     let start = within.explained.image.start(within.r);
     if is_last(start, within.routine, pc) {
         put_over_from(out, within, start)

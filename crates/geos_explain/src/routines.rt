@@ -2,7 +2,7 @@
 
 ghost use Rattle.std.specs.Prelude.{◌≡◌, ◌<◌, length, slice_get, IfSome};
 ghost use Rattle.geos_explain.specs.Standing.{HasRoutine};
-ghost use Rattle.geos_explain.specs.Places.{agrees, comes_alike, explained_of, first_or, is_inside, place_at, place_of};
+ghost use Rattle.geos_explain.specs.Places.{agrees, comes_alike, first_or, is_inside, place_at, place_of};
 ghost use Rattle.geos_verify.specs.Places.{places};
 
 use crate::explained::Explained;
@@ -25,7 +25,7 @@ pub(crate) fn place_at<'a>(within: &ExplainedRoutine<'a>, pc: u16) -> Place<'a>
     requires { pc < length within.now.explained.now.image.now.points }
     ensures image { result.image.now ≡ within.now.explained.now.image.now }
     ensures known { IfSome (slice_get (places within.now.explained.now.image.now) pc)
-        (λ known. place_of result ≡ place_at (explained_of within.now.explained.now) within.now.r within.now.routine.now pc known) }
+        (λ known. place_of result ≡ place_at within.now.explained.now.image.now within.now.r within.now.routine.now pc known) }
 {
     let image = within.explained.image;
     Place {
@@ -37,7 +37,6 @@ pub(crate) fn place_at<'a>(within: &ExplainedRoutine<'a>, pc: u16) -> Place<'a>
         i: image.instr(pc),
         row: image.row(pc),
         potential: image.potential(pc),
-        findings: within.explained.findings,
         marks: within.explained.marks,
     }
 }

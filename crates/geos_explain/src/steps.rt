@@ -1,9 +1,8 @@
 //! What is said where an edge is not paid for.
 
-ghost use Rattle.std.specs.Prelude.{◌≡◌, ◌++◌, OnOk};
+ghost use Rattle.std.specs.Prelude.{◌≡◌};
 ghost use Rattle.geos_explain.specs.Places.{place_of};
-ghost use Rattle.geos_explain.specs.Steps.{whole_words, asked_words, asks_along, asks_branching};
-ghost use Rattle.geos_explain.specs.Steps.{paying_item, paying_items, touched_words, last_words, unpaid_words};
+ghost use Rattle.geos_explain.specs.Steps.{asks_along, asks_branching};
 
 use crate::Done;
 use crate::notes::put_steps;
@@ -14,9 +13,7 @@ use geos_text::put_numbered;
 use geos_verify::{Asked, asked_along, asked_branching, branches, falls_through};
 
 /// What is asked and left in whole, with what each counter must pay, and pays.
-fn put_whole(out: &mut Vec<u8>, asked: &Asked, p: &Potential) -> Done
-    ensures { OnOk result (out.new.items ≡ out.old.items ++ whole_words asked.now p.now) }
-{
+fn put_whole(out: &mut Vec<u8>, asked: &Asked, p: &Potential) -> Done {
     put_steps(out, asked.steps, &asked.coefficients)?;
     out.extend_from_slice(b" steps are owed from here, with")?;
     put_steps(out, asked.left(p), &p.coefficients)?;
@@ -24,9 +21,7 @@ fn put_whole(out: &mut Vec<u8>, asked: &Asked, p: &Potential) -> Done
 }
 
 /// What is asked and not left: steps, or else what counters pay, which is told with what each must pay, and pays.
-fn put_asked(out: &mut Vec<u8>, asked: &Asked, p: &Potential) -> Done
-    ensures { OnOk result (out.new.items ≡ out.old.items ++ asked_words asked.now p.now) }
-{
+fn put_asked(out: &mut Vec<u8>, asked: &Asked, p: &Potential) -> Done {
     let left = asked.left(p);
     if asked.steps <= left {
         return put_whole(out, asked, p);
@@ -65,9 +60,7 @@ fn asks_branching(place: &Place) -> Option<Asked>
 }
 
 /// Counter k, where it has a coefficient.
-fn put_paying(out: &mut Vec<u8>, k: usize, n: u32) -> Done
-    ensures { OnOk result (out.new.items ≡ out.old.items ++ paying_item k n) }
-{
+fn put_paying(out: &mut Vec<u8>, k: usize, n: u32) -> Done {
     if n == 0 {
         return Ok(());
     }
@@ -75,10 +68,7 @@ fn put_paying(out: &mut Vec<u8>, k: usize, n: u32) -> Done
 }
 
 /// The counters that have a coefficient.
-#[tactic(auto, unfolding(geos_listing::specs::Rows::texts_below))]
-fn put_all_paying(out: &mut Vec<u8>, coefficients: &[u32; 4]) -> Done
-    ensures { OnOk result (out.new.items ≡ out.old.items ++ paying_items 4 coefficients.now) }
-{
+fn put_all_paying(out: &mut Vec<u8>, coefficients: &[u32; 4]) -> Done {
     for k in 0..coefficients.len() {
         put_paying(out, k, coefficients[k])?;
     }
@@ -86,18 +76,14 @@ fn put_all_paying(out: &mut Vec<u8>, coefficients: &[u32; 4]) -> Done
 }
 
 /// The routine that is called touches one of the counters that pay behind the call.
-fn put_touched(out: &mut Vec<u8>, callee: &Routine, q: &Potential) -> Done
-    ensures { OnOk result (out.new.items ≡ out.old.items ++ touched_words callee.now q.now) }
-{
+fn put_touched(out: &mut Vec<u8>, callee: &Routine, q: &Potential) -> Done {
     put!(out; " " bytes(callee.name_text()) " touches a counter that still pays behind the call:")?;
     put_all_paying(out, &q.coefficients)
 }
 
 /// What is said where neither edge is unpaid: a return wants a step; a call wants no coefficient
 /// behind it on a counter that the routine touches.
-fn put_last(out: &mut Vec<u8>, place: &Place) -> Done
-    ensures { OnOk result (out.new.items ≡ out.old.items ++ last_words (place_of place.now) place.now.i.now.opcode) }
-{
+fn put_last(out: &mut Vec<u8>, place: &Place) -> Done {
     match place.i.opcode {
         Opcode::Ret => out.extend_from_slice(b" a return takes a step, and none is left"),
         Opcode::Call => match place.image.point(place.pc + 1) {
@@ -109,10 +95,7 @@ fn put_last(out: &mut Vec<u8>, place: &Place) -> Done
 }
 
 /// An edge, or the return, is not paid for: the edge to the next instruction is tried first.
-#[tactic(auto, unfolding(crate::specs::Steps::unpaid_words))]
-pub(crate) fn put_unpaid(out: &mut Vec<u8>, place: &Place) -> Done
-    ensures { OnOk result (out.new.items ≡ out.old.items ++ unpaid_words (place_of place.now)) }
-{
+pub(crate) fn put_unpaid(out: &mut Vec<u8>, place: &Place) -> Done {
     let p = place.potential;
     if let Some(asked) = asks_along(place) {
         if !asked.is_paid(p) {

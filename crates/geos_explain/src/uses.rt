@@ -1,14 +1,11 @@
 //! What is wrong with the slots and pointers that an instruction uses, and what helps.
 
-ghost use Rattle.std.specs.Prelude.{◌≡◌, ◌++◌, OnOk};
-ghost use Rattle.geos_opcodes.specs.Facts.{uses_of};
-ghost use Rattle.geos_explain.specs.Uses.{state_item, nowhere_only, leading_nowhere, nowhere_words, short_words, index_known, index_wanted};
-ghost use Rattle.geos_explain.specs.Uses.{known_bytes, index_words, slot_behind, changed_slot, mark_word, unmarked_words, not_empty};
-ghost use Rattle.geos_explain.specs.Uses.{held_words, kind_wish, mark_wish, unlock_wish, slot_wish, serving, other_item, slot_words};
-ghost use Rattle.geos_explain.specs.Uses.{bounding, load_tested, store_tested, past_along, past_at, past_words, leads_item, past_item};
-ghost use Rattle.geos_explain.specs.Uses.{ask_wish, index_wish, past_wish};
+ghost use Rattle.std.specs.Prelude.{◌≡◌};
 ghost use Rattle.geos_image.specs.Fields.{FieldsFit};
+ghost use Rattle.geos_opcodes.specs.Facts.{uses_of};
 ghost use Rattle.geos_verify.specs.Uses.{OffsetFits};
+ghost use Rattle.geos_explain.specs.Uses.{nowhere_only, leading_nowhere, slot_behind, changed_slot, load_tested, store_tested, past_along};
+ghost use Rattle.geos_explain.specs.Uses.{past_at, leads_item, past_item};
 
 use crate::Done;
 use crate::forgotten::Item;
@@ -19,10 +16,7 @@ use geos_opcodes::{Kind, Offset, PointerUse, SlotUse, Width};
 use geos_verify::{bytes_in, leads_nowhere, least_at, pointer_at, reach, slot_state, uses_at};
 
 /// A slot, and what the row says that it holds.
-#[tactic(auto, unfolding(crate::specs::Uses::state_item))]
-pub(crate) fn put_state(out: &mut Vec<u8>, a: u8, row: &Row) -> Done
-    ensures { OnOk result (out.new.items ≡ out.old.items ++ state_item a row.now) }
-{
+pub(crate) fn put_state(out: &mut Vec<u8>, a: u8, row: &Row) -> Done {
     put!(out; " s" {a} "=" [state_word(slot_state(row, a))])
 }
 
@@ -53,10 +47,7 @@ pub(crate) fn leading_nowhere(row: &Row) -> Row
 }
 
 /// The pointers of the row that lead into empty slots do so.
-#[tactic(auto, unfolding(crate::specs::Uses::nowhere_words, crate::specs::Uses::nowhere_items))]
-pub(crate) fn put_nowhere(out: &mut Vec<u8>, row: &Row) -> Done
-    ensures { OnOk result (out.new.items ≡ out.old.items ++ nowhere_words row.now) }
-{
+pub(crate) fn put_nowhere(out: &mut Vec<u8>, row: &Row) -> Done {
     let before = out.len();
     put_items(out, &leading_nowhere(row))?;
     let tail = either(
@@ -68,10 +59,7 @@ pub(crate) fn put_nowhere(out: &mut Vec<u8>, row: &Row) -> Done
 }
 
 /// So many bytes are wanted behind a pointer, and how many are known there.
-#[tactic(auto, unfolding(crate::specs::Uses::short_words))]
-fn put_short(out: &mut Vec<u8>, p: u8, wanted: u32, row: &Row) -> Done
-    ensures { OnOk result (out.new.items ≡ out.old.items ++ short_words p wanted row.now) }
-{
+fn put_short(out: &mut Vec<u8>, p: u8, wanted: u32, row: &Row) -> Done {
     let least = least_at(row, p);
     put!(out;
         " " {wanted} [either(wanted == 1, " byte", " bytes")] [either(wanted == 1, " is", " are")]
@@ -80,10 +68,7 @@ fn put_short(out: &mut Vec<u8>, p: u8, wanted: u32, row: &Row) -> Done
 }
 
 /// What is known of the word that is the index.
-#[tactic(auto, unfolding(crate::specs::Uses::index_known))]
-fn put_index_known(out: &mut Vec<u8>, w: u8, most: u16) -> Done
-    ensures { OnOk result (out.new.items ≡ out.old.items ++ index_known w most) }
-{
+fn put_index_known(out: &mut Vec<u8>, w: u8, most: u16) -> Done {
     if most == u16::MAX {
         return put!(out; " nothing is known of w" {w} ", the index");
     }
@@ -91,10 +76,7 @@ fn put_index_known(out: &mut Vec<u8>, w: u8, most: u16) -> Done
 }
 
 /// What must be known of it for a read or a write so wide; nothing serves where fewer bytes are there.
-#[tactic(auto, unfolding(crate::specs::Uses::index_wanted))]
-fn put_index_wanted(out: &mut Vec<u8>, w: u8, wide: u16, least: u16) -> Done
-    ensures { OnOk result (out.new.items ≡ out.old.items ++ index_wanted w wide least) }
-{
+fn put_index_wanted(out: &mut Vec<u8>, w: u8, wide: u16, least: u16) -> Done {
     if wide <= least {
         put!(out; ", and w" {w} "<=" {least - wide} " is wanted")
     } else {
@@ -103,18 +85,12 @@ fn put_index_wanted(out: &mut Vec<u8>, w: u8, wide: u16, least: u16) -> Done
 }
 
 /// How many bytes are known behind a pointer.
-#[tactic(auto, unfolding(crate::specs::Uses::known_bytes))]
-fn put_known_bytes(out: &mut Vec<u8>, p: u8, least: u16) -> Done
-    ensures { OnOk result (out.new.items ≡ out.old.items ++ known_bytes p least) }
-{
+fn put_known_bytes(out: &mut Vec<u8>, p: u8, least: u16) -> Done {
     put!(out; ": p" {p} " is known to have " {least} [either(least == 1, " byte", " bytes")])
 }
 
 /// An index may be too high for the bytes behind its pointer.
-#[tactic(auto, unfolding(crate::specs::Uses::index_words))]
-fn put_index_words(out: &mut Vec<u8>, w: u8, most: u16, wide: u16, p: u8, least: u16) -> Done
-    ensures { OnOk result (out.new.items ≡ out.old.items ++ index_words w most wide p least) }
-{
+fn put_index_words(out: &mut Vec<u8>, w: u8, most: u16, wide: u16, p: u8, least: u16) -> Done {
     put_index_known(out, w, most)?;
     put_index_wanted(out, w, wide, least)?;
     put_known_bytes(out, p, least)
@@ -142,9 +118,7 @@ pub(crate) fn changed_slot(i: &Instr, pointer: PointerUse, row: &Row) -> u8
 }
 
 /// The instruction that marks the block of a slot.
-pub(crate) fn mark_word(state: SlotState) -> &'static str
-    ensures { result.now ≡ mark_word state }
-{
+pub(crate) fn mark_word(state: SlotState) -> &'static str {
     match state {
         SlotState::Db { .. } => "IDIRTY",
         _ => "VDIRTY",
@@ -152,10 +126,7 @@ pub(crate) fn mark_word(state: SlotState) -> &'static str
 }
 
 /// A block is changed that may not be marked, and what marks it.
-#[tactic(auto, unfolding(crate::specs::Uses::unmarked_words))]
-pub(crate) fn put_unmarked(out: &mut Vec<u8>, i: &Instr, row: &Row) -> Done
-    ensures { OnOk result (out.new.items ≡ out.old.items ++ unmarked_words i.now (uses_of i.now.opcode).pointer row.now) }
-{
+pub(crate) fn put_unmarked(out: &mut Vec<u8>, i: &Instr, row: &Row) -> Done {
     let a = changed_slot(i, i.opcode.uses().pointer, row);
     let state = slot_state(row, a);
     put!(out;
@@ -165,9 +136,7 @@ pub(crate) fn put_unmarked(out: &mut Vec<u8>, i: &Instr, row: &Row) -> Done
 }
 
 /// That a slot is held, and not empty as is wanted.
-fn not_empty(state: SlotState) -> &'static str
-    ensures { result.now ≡ not_empty state }
-{
+fn not_empty(state: SlotState) -> &'static str {
     if state.is_own() {
         " is held here, and an empty slot is wanted"
     } else {
@@ -176,18 +145,13 @@ fn not_empty(state: SlotState) -> &'static str
 }
 
 /// A block is locked into a slot that is held.
-#[tactic(auto, unfolding(crate::specs::Uses::held_words, crate::specs::Uses::state_item))]
-pub(crate) fn put_held(out: &mut Vec<u8>, i: &Instr, row: &Row) -> Done
-    ensures { OnOk result (out.new.items ≡ out.old.items ++ held_words i.now row.now) }
-{
+pub(crate) fn put_held(out: &mut Vec<u8>, i: &Instr, row: &Row) -> Done {
     let state = slot_state(row, i.a);
     put!(out; " s" {i.a} "=" [state_word(state)] [not_empty(state)])
 }
 
 /// A block of this kind is wanted.
-fn kind_wish(kind: Kind) -> &'static str
-    ensures { result.now ≡ kind_wish kind }
-{
+fn kind_wish(kind: Kind) -> &'static str {
     match kind {
         Kind::MemBlock => " is known here, and mem is wanted",
         Kind::VmBlock => " is known here, and vm or vm! is wanted",
@@ -196,9 +160,7 @@ fn kind_wish(kind: Kind) -> &'static str
 }
 
 /// The same to mark it.
-fn mark_wish(kind: Kind) -> &'static str
-    ensures { result.now ≡ mark_wish kind }
-{
+fn mark_wish(kind: Kind) -> &'static str {
     match kind {
         Kind::VmBlock => " is known here, and vm, vm!, vm@ or vm@! is wanted",
         _ => kind_wish(kind),
@@ -206,9 +168,7 @@ fn mark_wish(kind: Kind) -> &'static str
 }
 
 /// The same to unlock it; what is borrowed is not unlocked.
-fn unlock_wish(kind: Kind, state: SlotState) -> &'static str
-    ensures { result.now ≡ unlock_wish kind state }
-{
+fn unlock_wish(kind: Kind, state: SlotState) -> &'static str {
     if state.is_own() {
         kind_wish(kind)
     } else {
@@ -217,10 +177,7 @@ fn unlock_wish(kind: Kind, state: SlotState) -> &'static str
 }
 
 /// What the instruction wants of its slot, or of two, where the first is in a state.
-#[tactic(auto, unfolding(crate::specs::Uses::slot_wish))]
-fn slot_wish(slot: SlotUse, state: SlotState) -> &'static str
-    ensures { result.now ≡ slot_wish slot state }
-{
+fn slot_wish(slot: SlotUse, state: SlotState) -> &'static str {
     match slot {
         SlotUse::Unlocks(kind) => unlock_wish(kind, state),
         SlotUse::Marks(kind) => mark_wish(kind),
@@ -231,10 +188,7 @@ fn slot_wish(slot: SlotUse, state: SlotState) -> &'static str
 
 /// The instruction that serves in the place of one that wants another kind: it unlocks or marks what the slot holds; none where
 /// it is empty, is to be unlocked and is borrowed, or is to be marked and holds a block that has no mark.
-#[tactic(auto, unfolding(crate::specs::Uses::serving))]
-fn serving(slot: SlotUse, state: SlotState) -> &'static str
-    ensures { result.now ≡ serving slot state }
-{
+fn serving(slot: SlotUse, state: SlotState) -> &'static str {
     match slot {
         SlotUse::Unlocks(_) => match state {
             SlotState::Empty => "",
@@ -255,10 +209,7 @@ fn serving(slot: SlotUse, state: SlotState) -> &'static str
 }
 
 /// The second slot, where there are two.
-#[tactic(auto, unfolding(crate::specs::Uses::other_item))]
-fn put_other(out: &mut Vec<u8>, i: &Instr, slot: SlotUse, row: &Row) -> Done
-    ensures { OnOk result (out.new.items ≡ out.old.items ++ other_item i.now slot row.now) }
-{
+fn put_other(out: &mut Vec<u8>, i: &Instr, slot: SlotUse, row: &Row) -> Done {
     match slot {
         SlotUse::Compares => put_state(out, i.b, row),
         _ => Ok(()),
@@ -266,10 +217,7 @@ fn put_other(out: &mut Vec<u8>, i: &Instr, slot: SlotUse, row: &Row) -> Done
 }
 
 /// A slot is not held as the instruction wants it, and what serves in its place.
-#[tactic(auto, unfolding(crate::specs::Uses::slot_words))]
-pub(crate) fn put_slot(out: &mut Vec<u8>, i: &Instr, row: &Row) -> Done
-    ensures { OnOk result (out.new.items ≡ out.old.items ++ slot_words i.now (uses_of i.now.opcode).slot row.now) }
-{
+pub(crate) fn put_slot(out: &mut Vec<u8>, i: &Instr, row: &Row) -> Done {
     let slot = i.opcode.uses().slot;
     put_state(out, i.a, row)?;
     put_other(out, i, slot, row)?;
@@ -280,10 +228,7 @@ pub(crate) fn put_slot(out: &mut Vec<u8>, i: &Instr, row: &Row) -> Done
 }
 
 /// The word is to be bounded in front of the instruction.
-#[tactic(auto, unfolding(crate::specs::Uses::bounding))]
-pub(crate) fn put_bounding(out: &mut Vec<u8>, w: u8, most: u16) -> Done
-    ensures { OnOk result (out.new.items ≡ out.old.items ++ bounding w most) }
-{
+pub(crate) fn put_bounding(out: &mut Vec<u8>, w: u8, most: u16) -> Done {
     put!(out; "; CHK w" {w} " " {most} " L in front of this bounds it")
 }
 
@@ -346,9 +291,7 @@ pub(crate) fn past_at(i: &Instr, row: &Row) -> Past
 }
 
 /// That it may reach past them.
-pub(crate) fn put_past(out: &mut Vec<u8>, i: &Instr, row: &Row, past: Past) -> Done
-    ensures { OnOk result (out.new.items ≡ out.old.items ++ past_words i.now row.now past) }
-{
+pub(crate) fn put_past(out: &mut Vec<u8>, i: &Instr, row: &Row, past: Past) -> Done {
     match past {
         Past::Bytes(p, wanted) => put_short(out, p, wanted, row),
         Past::Index(_, wide, most) => {
@@ -388,10 +331,7 @@ pub(crate) fn past_item(i: &Instr, row: &Row, past: Past) -> Item
 }
 
 /// More bytes are to be asked for where the pointer is set.
-#[tactic(auto, unfolding(crate::specs::Uses::ask_wish))]
-pub(crate) fn put_ask_wish(out: &mut Vec<u8>, p: u8, wanted: u32) -> Done
-    ensures { OnOk result (out.new.items ≡ out.old.items ++ ask_wish p wanted) }
-{
+pub(crate) fn put_ask_wish(out: &mut Vec<u8>, p: u8, wanted: u32) -> Done {
     if wanted >= 65_536 {
         return out.extend_from_slice(b"; no chunk is so long");
     }
@@ -399,10 +339,7 @@ pub(crate) fn put_ask_wish(out: &mut Vec<u8>, p: u8, wanted: u32) -> Done
 }
 
 /// The index is to be bounded, or else more bytes asked for; or an instruction that tests it serves.
-#[tactic(auto, unfolding(crate::specs::Uses::index_wish))]
-fn put_index_wish(out: &mut Vec<u8>, tested: &str, i: &Instr, wide: u16, least: u16) -> Done
-    ensures { OnOk result (out.new.items ≡ out.old.items ++ index_wish tested.now i.now wide least) }
-{
+fn put_index_wish(out: &mut Vec<u8>, tested: &str, i: &Instr, wide: u16, least: u16) -> Done {
     if wide <= least {
         put_bounding(out, i.c, least - wide)?;
         put!(out; ", " [tested] " tests it")
@@ -414,9 +351,7 @@ fn put_index_wish(out: &mut Vec<u8>, tested: &str, i: &Instr, wide: u16, least: 
 }
 
 /// What helps there.
-pub(crate) fn put_past_wish(out: &mut Vec<u8>, i: &Instr, row: &Row, past: Past) -> Done
-    ensures { OnOk result (out.new.items ≡ out.old.items ++ past_wish i.now row.now past) }
-{
+pub(crate) fn put_past_wish(out: &mut Vec<u8>, i: &Instr, row: &Row, past: Past) -> Done {
     match past {
         Past::Bytes(p, wanted) => put_ask_wish(out, p, wanted),
         Past::Index(tested, wide, _) => {

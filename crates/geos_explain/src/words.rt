@@ -1,11 +1,6 @@
 //! What is wrong at a point that is refused, rule by rule.
 
-ghost use Rattle.std.specs.Prelude.{◌≡◌, ◌≤◌, ◌+◌, ◌++◌, drop, length, OnOk};
-ghost use Rattle.geos_text.specs.Parts.{part_text};
-ghost use Rattle.geos_explain.specs.Places.{place_of};
-ghost use Rattle.geos_explain.specs.Words.{leaves_words, entry_words, call_here, wanted_behind};
-ghost use Rattle.geos_explain.specs.Words.{wanted_behind_items, branching_words, edge_words, edge_here, past_here};
-ghost use Rattle.geos_explain.specs.Words.{unmarked_here, slot_here, call_wish, exit_here, words, refusal_head, refusal_line};
+ghost use Rattle.std.specs.Prelude.{◌≡◌};
 ghost use Rattle.geos_verify.specs.RuleText.{rule_number};
 
 use crate::Done;
@@ -29,10 +24,7 @@ use geos_text::Part;
 use geos_verify::{Rule, after, falls_through, has_edge, has_place, is_empty, slot_state};
 
 /// Control leaves the routine.
-#[tactic(auto, unfolding(crate::specs::Words::leaves_words))]
-fn put_leaves(out: &mut Vec<u8>, place: &Place) -> Done
-    ensures { OnOk result (out.new.items ≡ out.old.items ++ leaves_words (place_of place.now)) }
-{
+fn put_leaves(out: &mut Vec<u8>, place: &Place) -> Done {
     let start = u32::from(place.image.start(place.r));
     let next = u32::from(place.pc) + 1;
     if falls_through(place.i.opcode) && !has_place(start, place.routine, next) {
@@ -44,10 +36,7 @@ fn put_leaves(out: &mut Vec<u8>, place: &Place) -> Done
 
 /// The row wants more than the routine's entry row says, or the routine is public and wants or
 /// leaves what a caller from outside does not have.
-#[tactic(auto, unfolding(crate::specs::Words::entry_words))]
-fn put_entry(out: &mut Vec<u8>, routine: &Routine, row: &Row) -> Done
-    ensures { OnOk result (out.new.items ≡ out.old.items ++ entry_words routine.now row.now) }
-{
+fn put_entry(out: &mut Vec<u8>, routine: &Routine, row: &Row) -> Done {
     let before = out.len();
     put_lacking(out, &routine.entry, row)?;
     if out.len() == before {
@@ -57,19 +46,13 @@ fn put_entry(out: &mut Vec<u8>, routine: &Routine, row: &Row) -> Done
 }
 
 /// The items that were written from a place on are wanted by a routine or at a pc.
-fn put_wanted<'a>(out: &mut Vec<u8>, before: usize, at: &'a str, what: Part<'a>) -> Done
-    requires { before ≤ length out.old.items }
-    ensures { OnOk result (out.new.items ≡ out.old.items ++ wanted_behind_items (drop before out.old.items) at.now (part_text what.entry)) }
-{
+fn put_wanted<'a>(out: &mut Vec<u8>, before: usize, at: &'a str, what: Part<'a>) -> Done {
     let verb = is_or_are(written_from(out, before));
     put!(out; [verb] [at] (what) ", and not known here")
 }
 
 /// The routine that a call names does not stand before that of the place, or its entry row wants more than the row says.
-#[tactic(auto, unfolding(crate::specs::Words::call_here))]
-fn put_call(out: &mut Vec<u8>, place: &Place) -> Done
-    ensures { OnOk result (out.new.items ≡ out.old.items ++ call_here (place_of place.now)) }
-{
+fn put_call(out: &mut Vec<u8>, place: &Place) -> Done {
     let Opcode::Call = place.i.opcode else {
         return Ok(());
     };
@@ -84,10 +67,7 @@ fn put_call(out: &mut Vec<u8>, place: &Place) -> Done
 
 /// What the row at the pc to which the instruction goes along an edge wants, and what is known behind it does not say; nothing
 /// where it has no such edge.
-#[tactic(auto, unfolding(crate::specs::Words::wanted_at, crate::specs::Words::wanted_behind))]
-fn put_wanted_behind(out: &mut Vec<u8>, place: &Place, branch: bool, to: u16) -> Done
-    ensures { OnOk result (out.new.items ≡ out.old.items ++ wanted_behind (place_of place.now) branch to) }
-{
+fn put_wanted_behind(out: &mut Vec<u8>, place: &Place, branch: bool, to: u16) -> Done {
     if !has_edge(place.i, branch) {
         return Ok(());
     }
@@ -102,10 +82,7 @@ fn put_wanted_behind(out: &mut Vec<u8>, place: &Place, branch: bool, to: u16) ->
 }
 
 /// A row does not fit that at the end of the edge to the target.
-#[tactic(auto, unfolding(crate::specs::Words::branching_words))]
-fn put_branching(out: &mut Vec<u8>, place: &Place) -> Done
-    ensures { OnOk result (out.new.items ≡ out.old.items ++ branching_words (place_of place.now)) }
-{
+fn put_branching(out: &mut Vec<u8>, place: &Place) -> Done {
     let before = out.len();
     put_wanted_behind(out, place, true, place.i.target)?;
     put_wanted(
@@ -117,10 +94,7 @@ fn put_branching(out: &mut Vec<u8>, place: &Place) -> Done
 }
 
 /// A row does not fit that at the end of an edge: the edge to the next instruction is tried first.
-#[tactic(auto, unfolding(crate::specs::Words::edge_words))]
-fn put_edge(out: &mut Vec<u8>, place: &Place) -> Done
-    ensures { OnOk result (out.new.items ≡ out.old.items ++ edge_words (place_of place.now)) }
-{
+fn put_edge(out: &mut Vec<u8>, place: &Place) -> Done {
     let before = out.len();
     put_wanted_behind(out, place, false, place.pc + 1)?;
     if out.len() == before {
@@ -136,10 +110,7 @@ fn put_edge(out: &mut Vec<u8>, place: &Place) -> Done
 }
 
 /// A row does not fit that at the end of an edge; where nothing leads to the instruction, it is to be taken out.
-#[tactic(auto, unfolding(crate::specs::Words::edge_here))]
-fn put_edge_here(out: &mut Vec<u8>, place: &Place) -> Done
-    ensures { OnOk result (out.new.items ≡ out.old.items ++ edge_here (place_of place.now)) }
-{
+fn put_edge_here(out: &mut Vec<u8>, place: &Place) -> Done {
     put_edge(out, place)?;
     if is_reached(place.image, place.marks, place.pc) {
         Ok(())
@@ -150,10 +121,7 @@ fn put_edge_here(out: &mut Vec<u8>, place: &Place) -> Done
 
 /// A read or a write may pass the end of what its pointer leads to; why that is not known to be wide enough: an instruction moves
 /// the index going round, or a call forgets it; and what helps.
-#[tactic(auto, unfolding(crate::specs::Words::past_here))]
-fn put_past_here(out: &mut Vec<u8>, place: &Place) -> Done
-    ensures { OnOk result (out.new.items ≡ out.old.items ++ past_here (place_of place.now)) }
-{
+fn put_past_here(out: &mut Vec<u8>, place: &Place) -> Done {
     let past = past_at(place.i, place.row);
     let item = past_item(place.i, place.row, past);
     put_past(out, place.i, place.row, past)?;
@@ -163,10 +131,7 @@ fn put_past_here(out: &mut Vec<u8>, place: &Place) -> Done
 }
 
 /// A block is changed that may not be marked, what marks it, and which call forgets the mark.
-#[tactic(auto, unfolding(crate::specs::Words::unmarked_here))]
-fn put_unmarked_here(out: &mut Vec<u8>, place: &Place) -> Done
-    ensures { OnOk result (out.new.items ≡ out.old.items ++ unmarked_here (place_of place.now)) }
-{
+fn put_unmarked_here(out: &mut Vec<u8>, place: &Place) -> Done {
     put_unmarked(out, place.i, place.row)?;
     let a = changed_slot(place.i, place.i.opcode.uses().pointer, place.row);
     let mark = Item::Slot(a, as_marked(slot_state(place.row, a)));
@@ -174,10 +139,7 @@ fn put_unmarked_here(out: &mut Vec<u8>, place: &Place) -> Done
 }
 
 /// A slot is not held as the instruction wants it, and which call forgets what it held.
-#[tactic(auto, unfolding(crate::specs::Words::slot_here))]
-fn put_slot_here(out: &mut Vec<u8>, place: &Place) -> Done
-    ensures { OnOk result (out.new.items ≡ out.old.items ++ slot_here (place_of place.now)) }
-{
+fn put_slot_here(out: &mut Vec<u8>, place: &Place) -> Done {
     put_slot(out, place.i, place.row)?;
     if is_empty(slot_state(place.row, place.i.a)) {
         put_forgotten(out, place, Item::Held(place.i.a))
@@ -188,10 +150,7 @@ fn put_slot_here(out: &mut Vec<u8>, place: &Place) -> Done
 
 /// What is to be said of the routine that a call names, which call forgets what that wants, what makes it known, and why a pointer is
 /// not.
-#[tactic(auto, unfolding(crate::specs::Words::call_wish))]
-fn put_call_wish(out: &mut Vec<u8>, place: &Place) -> Done
-    ensures { OnOk result (out.new.items ≡ out.old.items ++ call_wish (place_of place.now)) }
-{
+fn put_call_wish(out: &mut Vec<u8>, place: &Place) -> Done {
     let Opcode::Call = place.i.opcode else {
         return Ok(());
     };
@@ -206,10 +165,7 @@ fn put_call_wish(out: &mut Vec<u8>, place: &Place) -> Done
 }
 
 /// A row does not fit the exit row, which call forgets what that wants, what makes it known, and why a pointer is not.
-#[tactic(auto, unfolding(crate::specs::Words::exit_here))]
-fn put_exit_here(out: &mut Vec<u8>, place: &Place) -> Done
-    ensures { OnOk result (out.new.items ≡ out.old.items ++ exit_here (place_of place.now)) }
-{
+fn put_exit_here(out: &mut Vec<u8>, place: &Place) -> Done {
     put_exit(out, place)?;
     put_forgotten_items(out, place, &lacking(place.row, &place.routine.exit))?;
     put_mends(out, place.row, &place.routine.exit)?;
@@ -217,10 +173,7 @@ fn put_exit_here(out: &mut Vec<u8>, place: &Place) -> Done
 }
 
 /// What is wrong at the place, by the rule.
-#[tactic(auto, unfolding(crate::specs::Words::words))]
-fn put_words(out: &mut Vec<u8>, place: &Place, rule: Rule) -> Done
-    ensures { OnOk result (out.new.items ≡ out.old.items ++ words (place_of place.now) rule) }
-{
+fn put_words(out: &mut Vec<u8>, place: &Place, rule: Rule) -> Done {
     let (i, row) = (place.i, place.row);
     match rule {
         Rule::LeavesRoutine => put_leaves(out, place),
@@ -251,18 +204,13 @@ fn rule_number(rule: Rule) -> u64
 }
 
 /// How the line of the refusal by the rule begins.
-fn put_refusal_head(out: &mut Vec<u8>, rule: Rule) -> Done
-    ensures { OnOk result (out.new.items ≡ out.old.items ++ refusal_head rule) }
-{
+fn put_refusal_head(out: &mut Vec<u8>, rule: Rule) -> Done {
     let number = rule_number(rule);
     put!(out; "; refused by V" {number} ":")
 }
 
 /// The line of the refusal by the rule.
-#[tactic(auto, unfolding(crate::specs::Words::refusal_line))]
-pub(crate) fn put_refusal_line(out: &mut Vec<u8>, place: &Place, rule: Rule) -> Done
-    ensures { OnOk result (out.new.items ≡ out.old.items ++ refusal_line (place_of place.now) rule) }
-{
+pub(crate) fn put_refusal_line(out: &mut Vec<u8>, place: &Place, rule: Rule) -> Done {
     put_refusal_head(out, rule)?;
     put_words(out, place, rule)?;
     out.extend_from_slice(b"\n")

@@ -6,12 +6,8 @@ use Rattle.geos_image.specs.Parts.{Parts}
 use Rattle.geos_image.specs.Legal.{is_formed}
 use Rattle.geos_image.specs.Reading.{image_at}
 use Rattle.geos_verify.specs.declared.rule.Reject.{Reject}
-use Rattle.geos_verify.specs.declared.rule.Rule.{Rule}
 use Rattle.geos_listing.specs.Listing.{listing}
-use Rattle.geos_explain.specs.Explanation.{AreItsRefusals, IsExplanationOf, IsVerdict}
-use Rattle.geos_explain.specs.Texts.{IsTextExplanationOf}
-use Rattle.geos_source.specs.InstrLines.{instr_lines}
-use Rattle.geos_explain.specs.Causes.{cause_text}
+use Rattle.geos_explain.specs.Explanation.{IsVerdict}
 use Rattle.geos_causes.specs.declared.cause.Cause.{Cause}
 use Rattle.geos_source.specs.Coded.{IsTextOf}
 use Rattle.geos_asm.specs.Assembling.{IsAssembled, IsCauseIn, IsWhyNoImage}
@@ -30,24 +26,16 @@ TakesVersion2 text = (whole : Parts) × IsAssembled text whole × (whole.keyed �
 abbrev pub IsListed : List ℕ → List ℕ → Type 0
 IsListed bytes text = (image : Parts) × (image_at bytes ≡ Ok image) × (text ≡ listing image) × IsTextOf image text
 
--- the bytes spell an image, the refusal is its first, if there is one, and the text is its explanation with all refusals
-abbrev pub IsExplained : List ℕ → List ℕ → Option Reject → Type 0
-IsExplained bytes text reject =
-    (image : Parts) × (image_at bytes ≡ Ok image) × ((refused : List (Option Rule)) × AreItsRefusals image reject refused × IsExplanationOf image refused text)
+-- the text has an image, and the refusal is its first, or there is none
+abbrev pub IsJudgedText : List ℕ → Option Reject → Type 0
+IsJudgedText text reject = (image : Parts) × IsAssembled text image × IsVerdict image reject
 
--- the text has an image, the refusal is its first, if there is one, and what is told is the text with what is known at
--- each instruction, and with all refusals
-abbrev pub IsExplainedText : List ℕ → List ℕ → Option Reject → Type 0
-IsExplainedText text told reject =
-    (image : Parts) × IsAssembled text image
-    × ((refused : List (Option Rule)) × AreItsRefusals image reject refused × IsTextExplanationOf text (instr_lines text) image refused told)
-
--- the fault is the first one of the text; or a routine of it has no rows, and what is told is the cause
-abbrev pub IsFaultTold : List ℕ → AssembleError → List ℕ → Type 0
-IsFaultTold text (BadLine fault) told = IsWhyNoImage text (BadLine fault)
-IsFaultTold text (NoRows line) told = IsWhyNoImage text (NoRows line)
-    × ((cause : Cause) × (instrs : List Instr) × IsCauseIn text line cause instrs × (told ≡ cause_text (instr_lines text) instrs cause))
-IsFaultTold text Memory told = ⊥
+-- the fault is the first one of the text; or a routine of it has no rows, and there is a cause
+abbrev pub IsFaultTold : List ℕ → AssembleError → Type 0
+IsFaultTold text (BadLine fault) = IsWhyNoImage text (BadLine fault)
+IsFaultTold text (NoRows line) =
+    IsWhyNoImage text (NoRows line) × ((cause : Cause) × (instrs : List Instr) × IsCauseIn text line cause instrs)
+IsFaultTold text Memory = ⊥
 
 -- the bytes begin as an image does
 abbrev pub begins_as_image : List ℕ → Bool

@@ -3,9 +3,8 @@
 ghost use Rattle.std.specs.Prelude.{◌≡◌, true, false, IfOk, IfErr, IfSome, IfNone};
 ghost use Rattle.geos_asm.specs.Assembling.{IsAssembled, IsWhyNoImage};
 ghost use Rattle.geos_image.specs.Reading.{image_at, Fails};
-ghost use Rattle.geos_source.specs.InstrLines.{instr_lines};
 ghost use Rattle.geos_texts.specs.Commands.{IsAssembledAs, TakesVersion2, IsImageOf, IsWhyNoneOf, IsListed};
-ghost use Rattle.geos_texts.specs.Commands.{IsJudged, IsExplained, IsExplainedText, IsFaultTold, begins_as_image};
+ghost use Rattle.geos_texts.specs.Commands.{IsJudged, IsJudgedText, IsFaultTold, begins_as_image};
 
 use geos_asm::{
     AssembleError, Assembled, Unassembled, assemble, assemble_all_rows, assemble_or_tell,
@@ -80,7 +79,7 @@ pub(crate) struct Explained {
 /// The listing of the image that the bytes spell, with what is known at each instruction; and
 /// whether the verifier accepts it. `ReadError::BadImage` where they spell none.
 pub(crate) fn explain_bytes(alloc: Global, bytes: &[u8]) -> Result<Explained, ReadError>
-    ensures explained { IfOk result (λ explained. IsExplained bytes.now explained.text.items explained.reject) }
+    ensures explained { IfOk result (λ explained. IsJudged bytes.now explained.reject) }
     ensures fault { IfErr result (λ fault. Fails fault (image_at bytes.now)) }
 {
     let image = geos_image::read(alloc, bytes)?;
@@ -153,9 +152,8 @@ fn explain_assembled(
     text: &[u8],
     assembled: Assembled,
 ) -> Result<Explained, AllocError>
-    requires image { IsAssembled text.now assembled.image }
-    requires lines { assembled.lines.items ≡ instr_lines text.now }
-    ensures { IfOk result (λ explained. IsExplainedText text.now explained.text.items explained.reject) }
+    requires { IsAssembled text.now assembled.image }
+    ensures { IfOk result (λ explained. IsJudgedText text.now explained.reject) }
 {
     let Assembled { image, lines } = assembled;
     match check(image) {
@@ -185,8 +183,8 @@ pub(crate) fn explain_text_bytes(
     alloc: Global,
     text: &[u8],
 ) -> Result<Result<Explained, Faulty>, AllocError>
-    ensures explained { IfOk result (λ said. IfOk said (λ explained. IsExplainedText text.now explained.text.items explained.reject)) }
-    ensures told { IfOk result (λ said. IfErr said (λ faulty. IsFaultTold text.now faulty.fault faulty.told.items)) }
+    ensures explained { IfOk result (λ said. IfOk said (λ explained. IsJudgedText text.now explained.reject)) }
+    ensures told { IfOk result (λ said. IfErr said (λ faulty. IsFaultTold text.now faulty.fault)) }
 {
     match assemble_or_tell(alloc, text) {
         Ok(assembled) => Ok(Ok(explain_assembled(alloc, text, assembled)?)),

@@ -1,11 +1,8 @@
 -- What calls on texts and images give.
-use Rattle.std.specs.Prelude.{◌≡◌, ◌<◌, ◌⊎◌, ℕ, true, List, length, Option, Ok}
+use Rattle.std.specs.Prelude.{◌≡◌, ◌<◌, ◌⊎◌, ℕ, true, List, length, Ok}
 use Rattle.geos_image.specs.Parts.{Parts}
 use Rattle.geos_image.specs.Reading.{image_at}
-use Rattle.geos_verify.specs.declared.rule.Reject.{Reject}
-use Rattle.geos_verify.specs.declared.rule.Rule.{Rule}
 use Rattle.geos_listing.specs.Listing.{listing}
-use Rattle.geos_explain.specs.Explanation.{AreItsRefusals, IsExplanationOf}
 use Rattle.geos_source.specs.declared.fault.BadLine as fault
 use Rattle.geos_asm.specs.Assembling.{IsAssembled, IsWhyNoImage}
 use Rattle.geos_asm.specs.declared.error.AssembleError.TheVariants.{BadLine}
@@ -30,10 +27,6 @@ HasFaultAt text line = (bad : fault.BadLine) × IsWhyNoImage text (BadLine bad) 
 abbrev pub IsListedAs : List ℕ → List ℕ → Type 0
 IsListedAs bytes text = (image : Parts) × (image_at bytes ≡ Ok image) × (text ≡ listing image)
 
--- the text is the image's explanation with all its refusals, of which this is the first; or there is none
-abbrev pub IsExplanation : Parts → List ℕ → Option Reject → Type 0
-IsExplanation image text reject = (refused : List (Option Rule)) × AreItsRefusals image reject refused × IsExplanationOf image refused text
-
--- the bytes spell an image, and this is its explanation
-abbrev pub IsExplainedAs : List ℕ → List ℕ → Type 0
-IsExplainedAs bytes text = (image : Parts) × (reject : Option Reject) × (image_at bytes ≡ Ok image) × IsExplanation image text reject
+-- the bytes spell an image
+abbrev pub SpellsImage : List ℕ → Type 0
+SpellsImage bytes = (image : Parts) × (image_at bytes ≡ Ok image)

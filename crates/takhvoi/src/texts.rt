@@ -1,15 +1,15 @@
 //! Texts and images, as bytes.
 
-ghost use Rattle.std.specs.Prelude.{◌≡◌, ◌<◌, ◌⊎◌, Err, IfOk, length, take};
+ghost use Rattle.std.specs.Prelude.{◌≡◌, ◌<◌, ◌⊎◌, Err, length, take};
 ghost use Rattle.geos_asm.specs.Assembling.{HasNoRows};
 ghost use Rattle.geos_image.specs.Reading.{image_at};
-ghost use Rattle.takhvoi.specs.Texts.{GivesOrTells, HasFaultAt, IsExplainedAs, IsExplanation, IsImageOf, IsListedAs, IsLonger};
+ghost use Rattle.takhvoi.specs.Texts.{GivesOrTells, HasFaultAt, IsImageOf, IsListedAs, IsLonger, SpellsImage};
 
 use crate::status::{BAD_IMAGE, DONE, NO_MEMORY, REFUSED, SHORT_BUFFER};
 use geos_asm::{AssembleError, assemble};
 use geos_explain::explain;
 use geos_image::{Image, ReadError};
-use geos_verify::{Reject, check, refused_places};
+use geos_verify::{check, refused_places};
 use round_trip::list;
 use std::alloc::{AllocError, Global};
 
@@ -83,16 +83,11 @@ pub extern "C" fn takhvoi_list(alloc: Global, bytes: &[u8], into: &mut [u8], tol
     }
 }
 
-/// The explanation of an image, and its first refusal, if it has one.
-fn explained(alloc: Global, image: Image) -> Result<(Vec<u8>, Option<Reject>), AllocError>
-    ensures { IfOk result (λ told. IsExplanation image told.0.items told.1) }
-{
+/// The explanation of an image.
+fn explained(alloc: Global, image: Image) -> Result<Vec<u8>, AllocError> {
     match check(image) {
-        Ok(checked) => Ok((explain(alloc, checked.image(), &[])?, None)),
-        Err((image, reject)) => Ok((
-            explain(alloc, &image, &refused_places(&image))?,
-            Some(reject),
-        )),
+        Ok(checked) => explain(alloc, checked.image(), &[]),
+        Err((image, _reject)) => explain(alloc, &image, &refused_places(&image)),
     }
 }
 
@@ -104,9 +99,9 @@ pub extern "C" fn takhvoi_explain(
     into: &mut [u8],
     told: &mut u64,
 ) -> u32
-    ensures explained { result ≡ 0 → IsExplainedAs bytes.now (take told.new into.new) }
+    ensures explained { result ≡ 0 → SpellsImage bytes.now }
     ensures bad { result ≡ 112 → image_at bytes.now ≡ Err told.new }
-    ensures short { result ≡ 115 → IsLonger (IsExplainedAs bytes.now) told.new (length into.old) }
+    ensures short { result ≡ 115 → SpellsImage bytes.now × (length into.old < told.new) }
     ensures own { GivesOrTells result }
 {
     let image = match geos_image::read(alloc, bytes) {
@@ -118,7 +113,7 @@ pub extern "C" fn takhvoi_explain(
         Err(ReadError::Memory) => return NO_MEMORY,
     };
     match explained(alloc, image) {
-        Ok((text, _reject)) => give(&text, into, told),
+        Ok(text) => give(&text, into, told),
         Err(_) => NO_MEMORY,
     }
 }

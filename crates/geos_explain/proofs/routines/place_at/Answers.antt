@@ -1,6 +1,6 @@
 use Rattle.std.proofs.Common.{◌≡◌, refl}
 use Rattle.geos_explain.proofs.Below.{KnownPlace, by-parts, KeepsLimits-at}
-use Rattle.geos_explain.specs.Places.{Place, explained_of, place_at}
+use Rattle.geos_explain.specs.Places.{Place, place_at}
 use Rattle.geos_explain.proofs.routines.place_at.Goals as goal
 
 pub invariant_of-result-clause-is : goal.invariant_of-result-clause-is
@@ -22,8 +22,8 @@ invariant_of-result-clause-is c =
 pub returns-clause-known : goal.returns-clause-known
 returns-clause-known c =
     let within = c.args.within.now in
-    let explained = explained_of within.explained.now in
+    let image = within.explained.now.image.now in
     let known : KnownPlace = record { instr = c.instr.result.now; row = c.row.result.now; potential = c.potential.result.now } in
-    let of : KnownPlace → Place = place_at explained within.r within.routine.now c.args.pc in
-    by-parts explained.image c.args.pc known.instr known.row known.potential (λ (x : KnownPlace). of known ≡ of x)
+    let of : KnownPlace → Place = place_at image within.r within.routine.now c.args.pc in
+    by-parts image c.args.pc known.instr known.row known.potential (λ (x : KnownPlace). of known ≡ of x)
     c.instr.ensures.there c.row.ensures c.potential.ensures c.requires refl
