@@ -154,10 +154,9 @@ pub lacks_nothing : LacksNothingWhereItFits
 lacks_nothing known wanted shaped shaped_wanted words = (
   λ none.
       let items = none.items in
-      let met = λ (k : ℕ) lt. (slots_open.0 (ap (λ (row : Row). row.slots) items) k lt, none.slots k lt) in
       rw (
         b.0 (ap (λ (row : Row). row.bounds) items),
-        s.0 met,
+        s.0 (λ k lt. (slots_open.0 (ap (λ (row : Row). row.slots) items) k lt, none.slots k lt)),
         p.0 (ap (λ (row : Row). row.pointers) items),
         q.0 (ap (λ (row : Row). row.pairs) items),
       ) refl,

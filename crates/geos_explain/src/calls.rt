@@ -116,14 +116,6 @@ fn put_lines_of(out: &mut Vec<u8>, name: &[u8]) -> Done {
     put!(out; " in the in and out lines of " bytes(name))
 }
 
-/// A call of a routine leaves only what its `out` line says.
-fn put_call_head(out: &mut Vec<u8>, place: &Place, from: u16, r: u16) -> Done {
-    put!(out;
-        "; CALL at" (pc_part(place.lines, from)) " leaves what the out line of "
-        bytes(name_at(place.image, r)) " says"
-    )
-}
-
 /// What helps where a call of routine r forgets the item, which the row knows: to say it in the lines of that routine, unless the
 /// routine changes its slot: where it locks a block into it, to take another slot.
 fn put_kept_wish(out: &mut Vec<u8>, place: &Place, item: Item, r: u16, row: &Row) -> Done {
@@ -146,7 +138,10 @@ fn put_forgotten_at(
 ) -> Done
     requires { IsForgottenBy (place_of place.now) item from }
 {
-    put_call_head(out, place, from, point.instr.imm)?;
+    put!(out;
+        "; CALL at" (pc_part(place.lines, from)) " leaves what the out line of "
+        bytes(name_at(place.image, point.instr.imm)) " says"
+    )?;
     put_kept_wish(out, place, item, point.instr.imm, &point.row)
 }
 

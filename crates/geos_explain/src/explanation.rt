@@ -50,21 +50,16 @@ fn put_places(out: &mut Vec<u8>, targets: &Targets, within: &ExplainedRoutine, s
     Ok(())
 }
 
-/// The routine's line, its entry row and its exit row.
-fn put_head(out: &mut Vec<u8>, routine: &Routine) -> Done {
-    put_routine_line(out, routine)?;
-    put_row(out, "in", &routine.entry)?;
-    put_row(out, "out", &routine.exit)
-}
-
-/// The same, and its instructions.
+/// The routine's line, its entry row and its exit row, and its instructions.
 fn put_routine(out: &mut Vec<u8>, targets: &Targets, explained: &Explained, r: u16) -> Done
     requires within { r < length explained.now.image.now.routines }
     requires legal { is_image explained.now.image.now ≡ true }
     requires targets { MarksTargets explained.now.image.now.points targets.now }
 {
     let routine = explained.image.routine(r);
-    put_head(out, routine)?;
+    put_routine_line(out, routine)?;
+    put_row(out, "in", &routine.entry)?;
+    put_row(out, "out", &routine.exit)?;
     let start = explained.image.start(r);
     let within = ExplainedRoutine {
         explained,
@@ -147,23 +142,11 @@ fn is_line_of(lines: &[u32], pc: u16, number: usize) -> bool
     }
 }
 
-/// A line of an author's text.
-#[derive(Clone, Copy)]
-struct Line<'a> {
-    number: usize,
-    text: &'a [u8],
-}
-
-/// A line with its number.
-fn put_numbered_line(out: &mut Vec<u8>, line: &Line) -> Done {
-    put!(out; "" {line.number} "\t" bytes(line.text))
-}
-
 /// A line with its number, and what stands behind it, where `pc` is the next instruction: what is said of it, where the line is
 /// its own, or nothing.
-fn put_line(out: &mut Vec<u8>, explained: &Explained, pc: u16, line: &Line) -> Done {
-    put_numbered_line(out, line)?;
-    if is_line_of(explained.lines, pc, line.number) && pc < explained.image.len() {
+fn put_line(out: &mut Vec<u8>, explained: &Explained, pc: u16, number: usize, text: &[u8]) -> Done {
+    put!(out; "" {number} "\t" bytes(text))?;
+    if is_line_of(explained.lines, pc, number) && pc < explained.image.len() {
         put_noted_at(out, explained, pc)
     } else {
         out.extend_from_slice(b"\n")
@@ -192,7 +175,7 @@ fn all_lines(alloc: Global, text: &[u8], explained: &Explained) -> Result<Vec<u8
         let (text, behind) = first_line(rest);
         rest = behind;
         number += 1;
-        put_line(&mut out, explained, pc, &Line { number, text })?;
+        put_line(&mut out, explained, pc, number, text)?;
         pc = next_pc(explained.lines, pc, number);
     }
     Ok(out)

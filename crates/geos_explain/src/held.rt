@@ -36,19 +36,12 @@ fn is_held_at(which: HeldAt, place: &Place, a: u8) -> bool
     }
 }
 
-/// Such a slot, and what it holds.
-fn put_slot_at(out: &mut Vec<u8>, which: HeldAt, place: &Place, a: u8) -> Done {
-    if is_held_at(which, place, a) {
-        put_state(out, a, place.row)
-    } else {
-        Ok(())
-    }
-}
-
-/// The same of each slot.
+/// Each of these slots, and what it holds.
 pub(crate) fn put_slots_at(out: &mut Vec<u8>, which: HeldAt, place: &Place) -> Done {
     for a in 0..4 {
-        put_slot_at(out, which, place, a)?;
+        if is_held_at(which, place, a) {
+            put_state(out, a, place.row)?;
+        }
     }
     Ok(())
 }

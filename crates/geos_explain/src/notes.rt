@@ -45,16 +45,11 @@ fn put_potential(out: &mut Vec<u8>, potential: &Potential) -> Done {
     out.extend_from_slice(either(is_one(potential), " step", " steps").as_bytes())
 }
 
-/// The routine and the pc.
-fn put_where(out: &mut Vec<u8>, routine: &Routine, pc: u16) -> Done {
-    put!(out; " ; " bytes(routine.name_text()) " " {pc} ":")
-}
-
 /// How a note begins: in an author's text by nothing, else by the routine and the pc.
 fn put_note_head(out: &mut Vec<u8>, place: &Place) -> Done {
     match place.lines.get(usize::from(place.pc)) {
         Some(_) => out.extend_from_slice(b" ;"),
-        None => put_where(out, place.routine, place.pc),
+        None => put!(out; " ; " bytes(place.routine.name_text()) " " {place.pc} ":"),
     }
 }
 

@@ -183,8 +183,7 @@ pub(crate) fn put_public(out: &mut Vec<u8>, routine: &Routine) -> Done {
     put_exit_faults(out, &routine.entry, &routine.exit)
 }
 
-/// Something is said against the rows of a public routine exactly where a caller from outside may not enter or leave by them.
-#[tactic(auto, using(crate::proofs::Outside::no_faults))]
+/// A law: there is nothing to say against the rows of a public routine exactly where a caller from outside may enter and leave by them.
 pub fn rows_without_faults_may_be_public()
     ensures { NoFaultsWhereItMayEnterAndLeave }
 {}

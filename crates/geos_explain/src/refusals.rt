@@ -80,11 +80,6 @@ pub(crate) fn first_untold(refused: &[Option<Rule>], most: usize) -> usize
     refused.len()
 }
 
-/// How many more places are refused from here on.
-fn put_more(out: &mut Vec<u8>, more: usize) -> Done {
-    put!(out; "; .. and " {more} " more from here on\n")
-}
-
 /// What is told where the rule refuses the place: what is wrong, or that others are not told.
 fn put_refused(out: &mut Vec<u8>, explained: &Explained, place: &Place, rule: Rule) -> Done {
     let pc = usize::from(place.pc);
@@ -92,7 +87,8 @@ fn put_refused(out: &mut Vec<u8>, explained: &Explained, place: &Place, rule: Ru
         put_refusal_line(out, place, rule)
     } else if pc == explained.untold {
         let told = most_told(place.image.len());
-        put_more(out, count_all(explained.refused).saturating_sub(told))
+        let more = count_all(explained.refused).saturating_sub(told);
+        put!(out; "; .. and " {more} " more from here on\n")
     } else {
         Ok(())
     }
@@ -113,21 +109,16 @@ fn is_last(start: u16, routine: &Routine, pc: u16) -> bool
     start <= pc && u32::from(pc) + 1 == u32::from(start) + u32::from(routine.count)
 }
 
-/// The line of the refusal by the rule on the budget, where it refuses the first place of a routine.
-fn put_over_line(out: &mut Vec<u8>, first: &Place) -> Done {
-    if over_budget(first.pc, first.routine, first.pc, first.potential) {
-        put_refusal_line(out, first, Rule::OverBudget)
-    } else {
-        Ok(())
-    }
-}
-
-/// The same of a routine, which begins at `start`.
+/// The line of the refusal by the rule on the budget, where it refuses the first place of a routine, which begins at `start`.
 fn put_over_from(out: &mut Vec<u8>, within: &ExplainedRoutine, start: u16) -> Done
     requires { start < length within.now.explained.now.image.now.points }
 {
     let first = place_at(within, start);
-    put_over_line(out, &first)
+    if over_budget(first.pc, first.routine, first.pc, first.potential) {
+        put_refusal_line(out, &first, Rule::OverBudget)
+    } else {
+        Ok(())
+    }
 }
 
 /// The same behind the last instruction of the routine.

@@ -105,11 +105,6 @@ fn put_meeting_item(out: &mut Vec<u8>, place: &Place, p: u8, meeting: Option<Mee
     }
 }
 
-/// The instruction at a pc.
-fn put_named(out: &mut Vec<u8>, lines: &[u32], from: u16, point: &KnownPlace) -> Done {
-    put!(out; "; " [point.instr.opcode.word()] " at" (pc_part(lines, from)))
-}
-
 /// The name of a routine, if there is one.
 pub(crate) fn name_at<'a>(image: &'a Filled, r: u16) -> &'a [u8] {
     if r < image.count() {
@@ -117,14 +112,6 @@ pub(crate) fn name_at<'a>(image: &'a Filled, r: u16) -> &'a [u8] {
     } else {
         &[]
     }
-}
-
-/// A call leaves nothing but the exit row, which does not know the pointer.
-fn put_call_loss(out: &mut Vec<u8>, image: &Filled, p: u8, r: u16) -> Done {
-    put!(out;
-        " leaves what the out line of " bytes(name_at(image, r)) " says, and it does not say p" {p}
-        ": say it in the out line, or fetch it again"
-    )
 }
 
 /// An instruction that moves chunks moves what a pointer into slot b leads to, if the blocks of its slot a and of b may be one.
@@ -168,7 +155,10 @@ fn put_how_lost(
     let p = followed.p;
     let uses = i.opcode.uses();
     if forgets(i.opcode) {
-        put_call_loss(out, image, p, i.imm)
+        put!(out;
+            " leaves what the out line of " bytes(name_at(image, i.imm)) " says, and it does not say p" {p}
+            ": say it in the out line, or fetch it again"
+        )
     } else if branch && sets(i, uses.pointer, p) {
         put!(out;
             " goes to its label where it is refused, and has not set p" {p}
@@ -187,7 +177,7 @@ fn put_lost_by(out: &mut Vec<u8>, place: &Place, p: u8, loss: Loss) -> Done
     let edge = loss.edge;
     match place.image.place(edge.from) {
         Some(point) => {
-            put_named(out, place.lines, edge.from, point)?;
+            put!(out; "; " [point.instr.opcode.word()] " at" (pc_part(place.lines, edge.from)))?;
             let followed = Followed { p, hint: loss.hint };
             put_how_lost(out, place.image, followed, edge.branch, point)
         }

@@ -9,7 +9,6 @@ use crate::notes::put_steps;
 use crate::numbers::either;
 use crate::place::Place;
 use geos_image::{Opcode, Potential, Routine};
-use geos_text::put_numbered;
 use geos_verify::{Asked, asked_along, asked_branching, branches, falls_through};
 
 /// What is asked and left in whole, with what each counter must pay, and pays.
@@ -59,18 +58,12 @@ fn asks_branching(place: &Place) -> Option<Asked>
     }
 }
 
-/// Counter k, where it has a coefficient.
-fn put_paying(out: &mut Vec<u8>, k: usize, n: u32) -> Done {
-    if n == 0 {
-        return Ok(());
-    }
-    put_numbered(out, " k", k as u64)
-}
-
 /// The counters that have a coefficient.
 fn put_all_paying(out: &mut Vec<u8>, coefficients: &[u32; 4]) -> Done {
     for k in 0..coefficients.len() {
-        put_paying(out, k, coefficients[k])?;
+        if coefficients[k] != 0 {
+            put!(out; " k" {k})?;
+        }
     }
     Ok(())
 }

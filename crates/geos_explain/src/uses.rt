@@ -84,16 +84,11 @@ fn put_index_wanted(out: &mut Vec<u8>, w: u8, wide: u16, least: u16) -> Done {
     }
 }
 
-/// How many bytes are known behind a pointer.
-fn put_known_bytes(out: &mut Vec<u8>, p: u8, least: u16) -> Done {
-    put!(out; ": p" {p} " is known to have " {least} [either(least == 1, " byte", " bytes")])
-}
-
 /// An index may be too high for the bytes behind its pointer.
 fn put_index_words(out: &mut Vec<u8>, w: u8, most: u16, wide: u16, p: u8, least: u16) -> Done {
     put_index_known(out, w, most)?;
     put_index_wanted(out, w, wide, least)?;
-    put_known_bytes(out, p, least)
+    put!(out; ": p" {p} " is known to have " {least} [either(least == 1, " byte", " bytes")])
 }
 
 /// The slot that a pointer leads into.

@@ -203,15 +203,9 @@ fn rule_number(rule: Rule) -> u64
     rule as u64
 }
 
-/// How the line of the refusal by the rule begins.
-fn put_refusal_head(out: &mut Vec<u8>, rule: Rule) -> Done {
-    let number = rule_number(rule);
-    put!(out; "; refused by V" {number} ":")
-}
-
 /// The line of the refusal by the rule.
 pub(crate) fn put_refusal_line(out: &mut Vec<u8>, place: &Place, rule: Rule) -> Done {
-    put_refusal_head(out, rule)?;
+    put!(out; "; refused by V" {rule_number(rule)} ":")?;
     put_words(out, place, rule)?;
     out.extend_from_slice(b"\n")
 }
