@@ -43,6 +43,7 @@ mod arrivals;
 mod budgets;
 mod calls;
 mod causes;
+mod diagnostics;
 mod explained;
 mod explanation;
 mod filled;
@@ -70,6 +71,7 @@ pub use budgets::{
     what_is_said_of_budgets_holds, what_is_said_of_counters_holds, what_is_said_of_words_holds,
 };
 pub use causes::explain_cause;
+pub use diagnostics::diagnose;
 pub use explanation::{explain, explain_text};
 pub use forgotten::{what_is_said_of_calls_holds, what_is_said_of_rounds_holds};
 pub use lacks::rows_that_fit_lack_nothing;

@@ -173,7 +173,7 @@ fn put_exit_here(out: &mut Vec<u8>, place: &Place) -> Done {
 }
 
 /// What is wrong at the place, by the rule.
-fn put_words(out: &mut Vec<u8>, place: &Place, rule: Rule) -> Done {
+pub(crate) fn put_words(out: &mut Vec<u8>, place: &Place, rule: Rule) -> Done {
     let (i, row) = (place.i, place.row);
     match rule {
         Rule::LeavesRoutine => put_leaves(out, place),
@@ -197,7 +197,7 @@ fn put_words(out: &mut Vec<u8>, place: &Place, rule: Rule) -> Done {
 }
 
 /// The number of the rule.
-fn rule_number(rule: Rule) -> u64
+pub(crate) fn rule_number(rule: Rule) -> u64
     ensures { result ≡ rule_number rule }
 {
     rule as u64

@@ -1,0 +1,127 @@
+//! Refusals as diagnostics: a line for each, with the file and the line of the text, so that editors go there.
+
+ghost use Rattle.std.specs.Prelude.{◌≡◌, ◌<◌, ◌≤◌, ◌+◌, true, length};
+ghost use Rattle.geos_image.specs.Legal.{is_image};
+
+use crate::Done;
+use crate::explained::Explained;
+use crate::filled::Filled;
+use crate::led::reached;
+use crate::place::Place;
+use crate::refusals::rule_at;
+use crate::repeated::told_once;
+use crate::routines::{ExplainedRoutine, place_at};
+use crate::words::{put_words, rule_number};
+use geos_image::Image;
+use geos_verify::{Rule, over_budget};
+use std::alloc::{AllocError, Global};
+
+/// How many refusals have a line.
+const MOST: u32 = 20;
+
+/// Diagnostics that are being written.
+#[derive(Drop)]
+struct Diagnostics<'a> {
+    out: Vec<u8>,
+    file: &'a str,
+    /// How many refusals there are so far.
+    refusals: u32,
+}
+
+impl Diagnostics<'_> {
+    /// Appends where the instruction is: its line, or of an image without a text its routine and pc.
+    fn put_place(&mut self, place: &Place) -> Done {
+        match place.lines.get(usize::from(place.pc)) {
+            Some(line) => put!(&mut self.out; [self.file] ":" {*line}),
+            None => {
+                put!(&mut self.out; [self.file] ": routine " bytes(place.routine.name_text()) ", pc " {place.pc})
+            }
+        }
+    }
+
+    /// Appends the line of a refusal by the rule.
+    fn put_line(&mut self, place: &Place, rule: Rule) -> Done {
+        self.put_place(place)?;
+        put!(&mut self.out; ": error: V" {rule_number(rule)} ":")?;
+        put_words(&mut self.out, place, rule)?;
+        put!(&mut self.out; "\n")
+    }
+
+    /// Takes the next refusal, which has a line if it is one of the first.
+    fn take(&mut self, place: &Place, rule: Rule) -> Done {
+        self.refusals = self.refusals.saturating_add(1);
+        if self.refusals <= MOST {
+            self.put_line(place, rule)
+        } else {
+            Ok(())
+        }
+    }
+
+    /// Takes the refusal of the instruction at a pc, if a rule refuses it, and that of the routine's budget at its first one.
+    fn take_place(&mut self, within: &ExplainedRoutine, start: u16, pc: u16) -> Done
+        requires { pc < length within.now.explained.now.image.now.points }
+    {
+        let place = place_at(within, pc);
+        if let Some(rule) = rule_at(within.explained.refused, pc) {
+            self.take(&place, rule)?;
+        }
+        if pc == start && over_budget(pc, within.routine, pc, place.potential) {
+            self.take(&place, Rule::OverBudget)?;
+        }
+        Ok(())
+    }
+
+    /// Takes the refusals of a routine.
+    fn take_routine(&mut self, explained: &Explained, r: u16) -> Done
+        requires within { r < length explained.now.image.now.routines }
+        requires legal { is_image explained.now.image.now ≡ true }
+    {
+        let routine = explained.image.routine(r);
+        let start = explained.image.start(r);
+        let within = ExplainedRoutine {
+            explained,
+            r,
+            routine,
+        };
+        for k in 0..routine.count {
+            self.take_place(&within, start, start + k)?;
+        }
+        Ok(())
+    }
+
+    /// Takes the refusals of all routines, and appends how many have no line.
+    fn take_all(&mut self, explained: &Explained) -> Done {
+        for r in 0..explained.image.count() {
+            self.take_routine(explained, r)?;
+        }
+        if self.refusals > MOST {
+            let more = self.refusals - MOST;
+            put!(&mut self.out; [self.file] ": note: and " {more} " more\n")
+        } else {
+            Ok(())
+        }
+    }
+}
+
+/// The refusals of an image as diagnostics: for each of the first 20 a line `FILE:LINE: error: VK: SENTENCE`, and how many more there are.
+/// `lines` has the number of each instruction's line in the text FILE, as `geos_source::parse` gives them; if it is empty, a line begins with
+/// `FILE: routine NAME, pc N: error:`. `refused` is as for `explain`, and so is the time.
+pub fn diagnose(
+    alloc: Global,
+    file: &str,
+    lines: &[u32],
+    image: &Image,
+    refused: &[Option<Rule>],
+) -> Result<Vec<u8>, AllocError> {
+    let filled = Filled::of(alloc, image)?;
+    let told = told_once(alloc, &filled, refused)?;
+    let marks = reached(&filled);
+    let explained = Explained::of(&filled, lines, &marks, &told);
+    let mut diagnostics = Diagnostics {
+        out: Vec::new(alloc),
+        file,
+        refusals: 0,
+    };
+    diagnostics.take_all(&explained)?;
+    Ok(diagnostics.out)
+}
