@@ -36,7 +36,6 @@ pub(crate) enum Word {
     Text,
     NewImage,
     TextToBudget,
-    Image,
     ImageOrText,
     NewFile,
     File,
@@ -52,7 +51,7 @@ impl Word {
             Word::TracedName => "NAME",
             Word::NewImage => "OUT",
             Word::TextToBudget => "TEXT",
-            Word::Image | Word::ImageOrText => "IMAGE",
+            Word::ImageOrText => "IMAGE",
             Word::NewFile | Word::File => "FILE",
             Word::Script => "SCRIPT",
             Word::Handle => "H",
@@ -70,7 +69,6 @@ impl Word {
             Word::NewImage => "The file that the image goes to; `-` is the standard output",
             Word::TextToBudget =>
                 "A file of assembly text, whose budgets may each be a `?`; `-` is the standard input",
-            Word::Image => "A file of an image's bytes; `-` is the standard input",
             Word::ImageOrText =>
                 "A file of an image's bytes, or of assembly text; `-` is the standard input",
             Word::NewFile => "The VM file that is made; there is none of that name yet",

@@ -60,12 +60,12 @@ static COMMANDS: [CommandText; 13] = [
     },
     CommandText {
         name: "list",
-        args: &[Argument::Word(Word::Image)],
+        args: &[Argument::Word(Word::ImageOrText)],
         more: More::Listed,
     },
     CommandText {
         name: "check",
-        args: &[Argument::Word(Word::Image)],
+        args: &[Argument::Word(Word::ImageOrText)],
         more: More::Checked,
     },
     CommandText {

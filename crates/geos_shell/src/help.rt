@@ -66,13 +66,14 @@ A text to begin with:
 Example:
   geos call add.asm add 2 3         prints 5, where add.asm has that text
   geos help call                    says more
-  geos help DEREF                   says what an instruction does; so do help V4, help refused 4, help why 2
+  geos help DEREF                   says what an instruction does
+  geos help V4                      says what a rule refuses; so do help refused 4 and help why 2
 docs/AUTHORS.md says how to write a routine, docs/FORMATS.md has the form of texts, docs/INSTRUCTIONS.md
 the instructions, examples/README.md the routines of that folder in words.
 
 IN and TEXT are files of assembly text, IN of `call` and `trace` also of an image; OUT and IMAGE are files
-of an image's bytes, but OUT of `budget` is a text, and IMAGE of `explain` and `run` may be one; SCRIPT is
-a file of commands as of a session. `-` is the standard input, or for OUT the standard output, and `./-` a
+of an image's bytes, but OUT of `budget` is a text, and IMAGE may be one; SCRIPT is a file of commands as of
+a session. `-` is the standard input, or for OUT the standard output, and `./-` a
 file of that name. FILE is a VM file, and never a stream; H is the handle of a block there, C of a chunk
 in it, and AT counts its bytes from 0. FORM is --label, and one of --hex, --signed and --text.
 
@@ -90,7 +91,8 @@ the others print nothing, or `refused N`.
 A session has a VM file of its own, in memory; `call` and `run` run on one that lasts.
 
 Status: 0 where all was done, also where lines `refused N` say that something was not; 1 after a fault,
-which one line on standard error names; 2 where the words on the command line are none of these.
+which one line on standard error names; 2 where the words on the command line are none of these. On a
+terminal, and with --diagnostics, a fault has more lines: `FILE:LINE:COLUMN: error: ..` and `FILE: note: ..`.
 docs/FORMATS.md has the faults, and the digits of an image.";
 
 /// How one routine, or a script, is run.
@@ -208,8 +210,9 @@ how many more there are. Nothing else is printed, and nothing runs.";
 
 /// Why an image may not run.
 const RULES: &str = "\
-`bad image at N` names the first byte that no image has there; a text has `bad image at 0`: `geos asm` makes
-the image of it, and `geos explain` says what is wrong with either.
+IMAGE may be a text too: what does not begin as an image does is read as one, and its faults are those of
+`geos asm`. `bad image at N` names the first byte that no image has there. `geos explain` says what is wrong
+with either.
 `rejected at N by VK` names the first instruction, counted from 0, that may not stand as it does, and the
 lowest rule there; `geos explain` says more. The rules:
   V1   control stays within the routine
