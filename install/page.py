@@ -1,9 +1,10 @@
-"""Prints sections of a Markdown page as a man page.
+"""Prints sections of Markdown pages as a man page.
 
-usage: page NAME SECTION TITLE VERSION DATE SEE_ALSO PAGE HEADING..
+usage: page NAME SECTION TITLE VERSION DATE SEE_ALSO PAGE.md HEADING.. [PAGE.md HEADING..]..
 
-NAME(SECTION) is described by TITLE and has the sections of the file PAGE under these headings, each with all below it. Knows what the pages of
-docs/ use: headings, paragraphs, lists, tables, indented code, and in a line `code`, **bold**, *emphasis* and [links](..).
+NAME(SECTION) is described by TITLE and has the sections of each file PAGE.md under the headings after it, each with all below it. Knows what
+the pages of docs/ use: headings, paragraphs, lists, tables, indented and fenced code, and in a line `code`, **bold**, *emphasis* and
+[links](..).
 """
 
 from __future__ import annotations
@@ -11,7 +12,7 @@ from __future__ import annotations
 import re
 import sys
 from collections.abc import Iterator
-from itertools import groupby
+from itertools import groupby, takewhile
 from pathlib import Path
 
 INLINE = re.compile(r"`([^`]+)`|\*\*([^*]+)\*\*|\*([^*]+)\*|\[([^]]+)\]\([^)]*\)")
@@ -55,11 +56,21 @@ def sections(lines: list[str], headings: list[str]) -> Iterator[str]:
 ITEM = re.compile(r"( *)(-|[0-9]+\.) (.*)")
 
 
+def indented(lines: list[str]) -> Iterator[str]:
+    """The lines with fenced code as indented code."""
+    fenced = False
+    for line in lines:
+        if line.startswith("```"):
+            fenced = not fenced
+        else:
+            yield f"    {line}" if fenced else line
+
+
 def kinds(lines: list[str]) -> Iterator[tuple[str, str]]:
     """Each line with its kind. An indented line is code after a blank one, and otherwise goes on with an item."""
     before = "blank"
     for line in lines:
-        if ITEM.match(line):
+        if ITEM.match(line) and not (before == "code" and line.startswith("    ")):
             before = "item"
         elif not line.strip():
             before = "blank"
@@ -109,13 +120,16 @@ def roff(lines: list[str]) -> Iterator[str]:
 
 
 def main() -> None:
-    name, section, title, version, date, see_also, page, *headings = sys.argv[1:]
+    name, section, title, version, date, see_also, *words = sys.argv[1:]
     print(f'.TH {plain(name.upper())} {section} {date} "geos {version}" "Takhvoi"')
     print(f".SH NAME\n{plain(name)} \\- {plain(title)}")
-    lines = list(sections(Path(page).read_text().splitlines(), headings))
-    if not lines:
-        sys.exit(f"page: {page} has none of these headings")
-    print("\n".join(roff(lines)))
+    for at, page in enumerate(words):
+        if page.endswith(".md"):
+            headings = list(takewhile(lambda word: not word.endswith(".md"), words[at + 1 :]))
+            lines = list(sections(Path(page).read_text().splitlines(), headings))
+            if not lines:
+                sys.exit(f"page: {page} has none of these headings")
+            print("\n".join(roff(list(indented(lines)))))
     print(f'.SH "SEE ALSO"\n{see_also}')
 
 

@@ -6,6 +6,8 @@ here=$(dirname "$(readlink -f "$0")")
 top=$(dirname "$here")
 program=$1
 folder=$2
+formats=$top/docs/FORMATS.md
+errors=$top/docs/ERRORS.md
 
 # What the program says of itself; then of each command, after a paragraph of a form feed and its name.
 texts() {
@@ -23,12 +25,12 @@ made() {
     awk "$@" -f "$here/lists.awk" -f "$here/$file" "$folder/texts"
 }
 
-# page NAME TITLE HEADING..: the sections of docs/FORMATS.md under these headings as a page of section 5
+# page NAME TITLE PAGE HEADING..: the sections of pages of docs/ under these headings as a page of section 5
 page() {
     name=$1
     title=$2
     shift 2
-    python3 -B "$here/page.py" "$name" 5 "$title" "$version" "$date" "$(see_also "$name")" "$top/docs/FORMATS.md" "$@" >"$folder/$name.5"
+    python3 -B "$here/page.py" "$name" 5 "$title" "$version" "$date" "$(see_also "$name")" "$@" >"$folder/$name.5"
 }
 
 # see_also PAGE: the other pages, and where the documents are
@@ -44,9 +46,9 @@ texts && version=$("$program" --version) && version=${version#geos } &&
     date=$(date -u -d "@${SOURCE_DATE_EPOCH:-$(stat -c %Y "$program")}" +%Y-%m-%d) || exit
 made man.awk -v program=geos -v version="geos $version" -v date="$date" >"$folder/geos.1" && see_also geos |
     { echo '.SH "SEE ALSO"' && cat; } >>"$folder/geos.1" &&
-    page geos-text "assembly texts of geos" "Assembly texts" Faults &&
-    page geos-script "sessions and scripts of geos" "The session" &&
-    page geos-image "images and listings of geos" "The image" "The listing" || exit
+    page geos-text "assembly texts of geos" "$formats" "Assembly texts" "$errors" Messages "Faults of a text" "No rows" &&
+    page geos-script "sessions and scripts of geos" "$formats" "The session" &&
+    page geos-image "images and listings of geos" "$formats" "The image" "The listing" || exit
 for shell in bash zsh fish; do
     made completion.awk -v program=geos -v shell=$shell >"$folder/$shell" || exit
 done

@@ -3,10 +3,11 @@ export LC_ALL=C
 folder=$(mktemp -d)
 trap 'rm -rf "$folder"' EXIT
 awk -v folder="$folder" '
-    /^    routine / && !inside && last !~ /^    / { inside = 1; number++; file = sprintf("%s/%02d", folder, number) }
-    /^[^ ]/ { inside = 0 }
-    inside { print >file }
-    { last = $0 }' "$top/docs/AUTHORS.md"
+    /^```/ { inside = 0 }
+    /^```asm / { begins = 1; next }
+    begins && /^routine / { inside = 1; number++; file = sprintf("%s/%02d", folder, number) }
+    { begins = 0 }
+    inside { print >file }' "$top/docs/AUTHORS.md"
 number=0
 for text in "$folder"/*; do
     number=$((number + 1))

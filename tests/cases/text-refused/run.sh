@@ -1,0 +1,1 @@
+"$1" asm "$top/examples/refused.asm" - | "$1" check -
