@@ -22,7 +22,8 @@ uses() (
     PATH=/usr/bin:/bin
     ln -s "$1/bin/geos" geos && ln -s "$1/share/doc/takhvoi/examples" examples
     ./geos <examples/add.session
-    sed -n '/^## A first routine/,/^## /s/^    //p' "$1/share/doc/takhvoi/README.md" >commands
+    sed -n '/^```asm add.asm/,/^```$/{/^```/!p}' "$1/share/doc/takhvoi/README.md" >add.asm
+    sed -n '/^## A first routine/,/^## /s/^\$ //p' "$1/share/doc/takhvoi/README.md" >commands
     sh -e ./commands >printed || echo "status $?"
     sed -n '1p;$p' printed
     ./geos call examples/counter.asm --file counter.vm <examples/counter.script
