@@ -172,7 +172,7 @@ def commit() -> str:
 def potential() -> str:
     drawing = Drawing("The potential falls by at least one at each step of the loop example")
     listing = read("examples/README.md").split("## loop")[1].split("It prints")[0]
-    steps = re.findall(r"^ +([A-Z]+) ?[^;\n]*; (\d+)(?: \+ (\d+) k0)? steps?$", listing, re.M)
+    steps = re.findall(r"^\d+\s+([A-Z]+) ?[^;\n]*; (?:[^,\n]*, )?(\d+)(?: \+ (\d+) k0)? steps?$", listing, re.M)
     counter = int(re.findall(r"SETK k0 (\d+)", listing)[0])
     body = [(word, int(base), int(per)) for word, base, per in steps if per]
     path = [(word, int(base)) for word, base, per in steps if not per]
