@@ -70,7 +70,9 @@ def commands_of(block: Block) -> list[Command]:
     for number, line in enumerate(block.lines, block.number + 1):
         if line.startswith("$ "):
             commands.append(Command(number, line[2:], []))
-        elif line.startswith("> ") and commands and not commands[-1].output:
+        elif not commands:
+            raise SystemExit(f"line {number}: output without a command before it")
+        elif line.startswith("> ") and not commands[-1].output:
             commands[-1].text += "\n" + line[2:]
             commands[-1].line = number
         else:
