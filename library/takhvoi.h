@@ -135,8 +135,9 @@ uint32_t takhvoi_abi(void);
  *   - A run puts out at most 1,024 words. */
 
 /* Kernels. The region is all memory for blocks, 65,536 to 16,777,216 bytes. An area has room for the current and the saved blocks of a VM file
- * together, 512 to 16,777,216 bytes, a multiple of 512. `new` has its VM file in memory. For a file of the system take takhvoi_file_create and takhvoi_file_open, below,
- * which stand on `create`, where a host holds 1,024 zeros and two areas of them, and on `open`, where it holds these bytes. */
+ * together, 512 to 16,777,216 bytes, a multiple of 512. `new` has its VM file in memory. For a file of the system take takhvoi_file_create and
+ * takhvoi_file_open, below, which stand on `create`, where a host holds 1,024 zeros and two areas of them, and on `open`, where it holds these
+ * bytes. */
 TAKHVOI_CALL uint32_t takhvoi_new(takhvoi_kernel *kernel, uint32_t area, uint32_t region);
 TAKHVOI_CALL uint32_t takhvoi_create(takhvoi_kernel *kernel, uint32_t area, uint32_t region);
 TAKHVOI_CALL uint32_t takhvoi_open(takhvoi_kernel *kernel, const uint8_t *bytes, size_t len, uint32_t region, uint64_t *fault);
