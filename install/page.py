@@ -126,10 +126,10 @@ def main() -> None:
     for at, page in enumerate(words):
         if page.endswith(".md"):
             headings = list(takewhile(lambda word: not word.endswith(".md"), words[at + 1 :]))
-            lines = list(sections(Path(page).read_text().splitlines(), headings))
+            lines = list(sections(list(indented(Path(page).read_text().splitlines())), headings))
             if not lines:
                 sys.exit(f"page: {page} has none of these headings")
-            print("\n".join(roff(list(indented(lines)))))
+            print("\n".join(roff(lines)))
     print(f'.SH "SEE ALSO"\n{see_also}')
 
 
